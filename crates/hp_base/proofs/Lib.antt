@@ -1,0 +1,8 @@
+pub mod Rounding
+pub mod Powers
+pub mod ClassLemmas
+pub mod Places
+pub mod PageLemmas
+pub mod NameLemmas
+pub mod RequestLemmas
+pub mod StreamLemmas

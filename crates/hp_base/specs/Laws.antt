@@ -1,0 +1,38 @@
+-- Laws of classes, rounding and places over all numbers, which docs/HEAP.md states under these headings.
+use Rattle.std.specs.Prelude.{◌≡◌, ◌↔◌, ℕ, ◌%◌, ◌≤◌, MatchOption}
+use Rattle.hp_base.specs.Class.{IsClassOf, class_number}
+use Rattle.hp_base.specs.Round.{floor_of, ceil_of}
+use Rattle.hp_base.specs.Place.{IsPlace, HasNoPlace, place_of}
+use Rattle.hp_base.specs.declared.request.Request.{Request}
+
+-- the computed class of a size is its class, and its only one ("Size classes")
+abbrev pub ComputesClass : Type 0
+ComputesClass = (size class : ℕ) → IsClassOf size class ↔ (class ≡ class_number size)
+
+-- of two sizes the greater has no lower class ("Size classes")
+abbrev pub ClassesRise : Type 0
+ClassesRise = (size more : ℕ) → size ≤ more → class_number size ≤ class_number more
+
+-- the greatest multiple of a unit that is at most n ("Rounding")
+pub record IsFloor (n unit floor : ℕ) : Type 0 where
+  pub multiple : floor % unit ≡ 0
+  pub below : floor ≤ n
+  pub greatest : (other : ℕ) → other % unit ≡ 0 → other ≤ n → other ≤ floor
+
+-- the least multiple of a unit that is at least n ("Rounding")
+pub record IsCeiling (n unit ceiling : ℕ) : Type 0 where
+  pub multiple : ceiling % unit ≡ 0
+  pub above : n ≤ ceiling
+  pub least : (other : ℕ) → other % unit ≡ 0 → n ≤ other → ceiling ≤ other
+
+-- rounding is to the nearest multiple on its side, and rounding twice is rounding once ("Rounding")
+pub record Rounds (n unit : ℕ) : Type 0 where
+  pub down : IsFloor n unit (floor_of n unit)
+  pub up : IsCeiling n unit (ceil_of n unit)
+  pub down_twice : floor_of (floor_of n unit) unit ≡ floor_of n unit
+  pub up_twice : ceil_of (ceil_of n unit) unit ≡ ceil_of n unit
+
+-- the computed place of an accepted request is its place, and there is none where none is computed ("Place")
+abbrev pub ComputesPlace : Type 0
+ComputesPlace = (start end : ℕ) (request : Request)
+    → MatchOption (place_of start end request) (HasNoPlace start end request) (IsPlace start end request)

@@ -1,0 +1,10 @@
+pub mod Round
+pub mod Class
+pub mod Requests
+pub mod Place
+pub mod Pages
+pub mod Names
+pub mod Streams
+pub mod MemStreams
+pub mod Laws
+pub mod Exit

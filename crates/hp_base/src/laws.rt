@@ -1,0 +1,19 @@
+ghost use Rattle.std.specs.Prelude.{ℕ, ◌<◌};
+ghost use Rattle.hp_base.specs.Laws.{ComputesClass, ClassesRise, Rounds, ComputesPlace};
+
+/// Each size has one class, which the computed number is, and the classes rise with the sizes. This law and the
+/// others here are proved of all numbers; their functions have no code.
+pub fn class_law()
+    ensures computed { ComputesClass }
+    ensures monotone { ClassesRise }
+{}
+
+/// Rounding gives the nearest multiple of the unit on its side, and rounding twice is rounding once.
+pub fn rounding_law()
+    ensures { (n unit : ℕ) → 0 < unit → Rounds n unit }
+{}
+
+/// The place of an accepted request, as it is computed from the end of a range, is the greatest address with room.
+pub fn place_law()
+    ensures { ComputesPlace }
+{}

@@ -1,0 +1,65 @@
+ghost use Rattle.std.specs.Prelude.{◌≡◌, ◌↔◌, length, IsSome, IfSome};
+ghost use Rattle.hp_base.specs.Names.{IsNameText};
+
+use std::alloc::AllocError;
+use std::marker::Model;
+
+/// The name of a heap, a memzone, a watcher or a validator: 1 to 63 bytes. After rte_memzone's and rte_malloc's names.
+#[derive(Copy)]
+pub struct Name {
+    // The text, and zeros behind it.
+    bytes: [u8; 63],
+    len: usize,
+}
+
+impl Model for Name {
+    ghost use Rattle.std.specs.Prelude.{ℕ, List, length};
+    ghost use Rattle.hp_base.specs.Names.{padded, text_of, IsPadded};
+
+    ghost Value = { List ℕ };
+
+    ghost view = { λ a. text_of a.bytes a.len };
+
+    ghost invariant = { λ a. IsPadded a.bytes a.len };
+
+    ghost inverse = { λ text. record { bytes = padded text; len = length text } };
+}
+
+impl Clone for Name {
+    ghost use Rattle.std.specs.Prelude.{⊤};
+
+    ghost is_clone = { λ x y. y ≡ x };
+
+    ghost is_infallible = { λ _. ⊤ };
+
+    fn clone(&self) -> Result<Self, AllocError> {
+        Ok(*self)
+    }
+}
+
+impl Name {
+    /// The name with this text. It is `None` for an empty text and for one of more than 63 bytes.
+    pub fn new(text: &[u8]) -> Option<Name>
+        ensures accepted { IsSome result ↔ IsNameText text.now }
+        ensures text { IfSome result (λ name. name ≡ text.now) }
+    {
+        if text.is_empty() || text.len() > 63 {
+            return None;
+        }
+        let mut bytes = [0u8; 63];
+        let (front, _rest) = bytes.split_at_mut(text.len());
+        front.copy_from_slice(text);
+        Some(Name {
+            bytes,
+            len: text.len(),
+        })
+    }
+
+    /// Its text.
+    pub fn as_bytes(&self) -> &[u8]
+        ensures text { result.now ≡ self.now }
+        ensures accepted { IsNameText self.now }
+    {
+        &self.bytes[..self.len]
+    }
+}

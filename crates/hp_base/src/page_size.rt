@@ -1,0 +1,36 @@
+ghost use Rattle.std.specs.Prelude.{◌≡◌, ◌*◌, ◌^◌, ◌<◌, ◌≤◌, IsTrue};
+ghost use Rattle.hp_base.specs.Pages.{is_page_size, pages_of, HoldsRequest};
+
+use crate::request::Request;
+use crate::round::{HEADER, align_ceil};
+
+/// Whether a page of `page` bytes is one of the eight hugepage sizes: 256K, 2M, 16M, 256M, 512M, 1G, 4G and 16G.
+/// After the RTE_MEMZONE_ flags of rte_memzone.
+pub fn is_page_size(page: u64) -> bool
+    ensures { result ≡ is_page_size page }
+{
+    [
+        0x4_0000,
+        0x20_0000,
+        0x100_0000,
+        0x1000_0000,
+        0x2000_0000,
+        0x4000_0000,
+        0x1_0000_0000,
+        0x4_0000_0000,
+    ]
+    .contains(&page)
+}
+
+/// The number of pages of `page` bytes that are asked for a request: those that its rounded size and one header
+/// take. A request with a bound, or with an alignment above the page, may have no place in them. Own; after
+/// alloc_pages_on_heap of rte_malloc.
+pub fn pages_for(req: &Request, page: u64) -> u64
+    requires { IsTrue (is_page_size page) }
+    ensures number { result ≡ pages_of req.now page }
+    ensures enough { req.now.bound ≡ 0 → req.now.align ≤ page → HoldsRequest req.now page result }
+    ensures bytes { result * page < 2 ^ 64 }
+{
+    let data = align_ceil(req.size, req.align).unwrap();
+    (data + HEADER).div_ceil(page)
+}

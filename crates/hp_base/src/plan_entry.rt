@@ -1,0 +1,36 @@
+/// The kinds of message between the primary process and its secondaries. Own; after the requests and replies
+/// of Multi-process Support.
+#[derive(Clone, Copy, Debug, PartialEq, Eq)]
+pub enum MsgKind {
+    /// A request for memory.
+    Alloc,
+    /// A notice that memory may go back.
+    Free,
+    /// The coordinator's call to catch up with the log.
+    Sync,
+    /// The reply to a SYNC.
+    Reply,
+    /// The coordinator's answer to a request.
+    Answer,
+}
+
+/// One planned disturbance of a run. Messages and mapping calls are counted from 1, `line` is the line of the
+/// workload that plans it. Own.
+#[derive(Clone, Copy, Debug, PartialEq, Eq)]
+pub enum PlanEntry {
+    /// The k-th message of the kind that concerns the party is lost, or comes twice.
+    Message {
+        kind: MsgKind,
+        party: u8,
+        k: u64,
+        twice: bool,
+        line: u32,
+    },
+    /// The party's call-th mapping is refused, or comes out elsewhere.
+    Mapping {
+        party: u8,
+        call: u64,
+        elsewhere: bool,
+        line: u32,
+    },
+}

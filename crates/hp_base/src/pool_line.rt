@@ -1,0 +1,9 @@
+/// The hugepages of one size on one socket, and the slots of their segment list. `page` is bytes, `pages` and
+/// `slots` are counts. After the memory segment lists of EAL memory management.
+#[derive(Clone, Copy, Debug, PartialEq, Eq)]
+pub struct PoolLine {
+    pub socket: u32,
+    pub page: u64,
+    pub pages: u64,
+    pub slots: u32,
+}

@@ -1,0 +1,113 @@
+ghost use Rattle.std.specs.Prelude.{◌≡◌, ◌<◌, ℕ, List, [], Option, Some, length};
+ghost use Rattle.hp_base.specs.Streams.{Takes, HasCause, put_failed};
+
+use crate::failing_calls::FailingCalls;
+use std::alloc::Global;
+use std::marker::Model;
+
+/// What a write takes.
+#[derive(Clone, Copy, Debug, PartialEq, Eq)]
+pub enum Put {
+    /// The first bytes, so many.
+    Took(usize),
+    /// Writing failed, and nothing was taken.
+    Failed,
+}
+
+/// Where the report is written to, piece by piece. Own.
+pub trait Sink {
+    /// The bytes that it holds, where it tells them.
+    ghost held: { Self → Option (List ℕ) };
+
+    /// How often writing has failed.
+    ghost faults: { Self → ℕ };
+
+    /// Takes some of the bytes, from the first on.
+    fn write(&mut self, bytes: &[u8]) -> Put
+        requires { 0 < length bytes.now }
+        ensures bytes { Takes (held self.old) (held self.new) bytes.now result }
+        ensures cause { HasCause (faults self.old) (faults self.new) (put_failed result) };
+}
+
+/// A sink that keeps its bytes, takes at most `piece` of them at a time and fails at the calls that it is told,
+/// and where its memory ends.
+#[derive(Debug, Drop)]
+pub struct MemSink {
+    bytes: Vec<u8>,
+    piece: usize,
+    failing: FailingCalls,
+}
+
+impl Model for MemSink {
+    ghost use Rattle.hp_base.specs.MemStreams.{SinkState};
+    ghost use Rattle.std.specs.Prelude.{◌<◌};
+
+    ghost Value = { SinkState };
+
+    ghost view = { λ a. record {
+      held = a.bytes.items;
+      piece = a.piece;
+      fails = a.failing.fails.items;
+      calls = a.failing.calls;
+      faults = a.failing.faults;
+    } };
+
+    ghost invariant = { λ a. 0 < a.piece };
+}
+
+impl MemSink {
+    ghost use Rattle.hp_base.specs.MemStreams.{SinkState};
+
+    /// A sink that holds nothing yet.
+    pub fn new(alloc: Global, piece: usize, fails: Vec<u64>) -> MemSink
+        requires { 0 < piece }
+        ensures { result ≡ record { held = []; piece = piece; fails = fails.items; calls = 0; faults = 0 } }
+    {
+        MemSink {
+            bytes: Vec::new(alloc),
+            piece,
+            failing: FailingCalls {
+                fails,
+                calls: 0,
+                faults: 0,
+            },
+        }
+    }
+
+    /// What it holds.
+    pub fn bytes(&self) -> &[u8]
+        ensures { result.now ≡ self.now.held }
+    {
+        self.bytes.as_slice()
+    }
+}
+
+impl Sink for MemSink {
+    ghost use Rattle.hp_base.specs.MemStreams.{MayAnswer, after_write};
+
+    ghost held = { λ s. Some s.held };
+
+    ghost faults = { λ s. s.faults };
+
+    fn write(&mut self, bytes: &[u8]) -> Put
+        requires { 0 < length bytes.now }
+        ensures bytes { Takes (Some self.old.held) (Some self.new.held) bytes.now result }
+        ensures cause { HasCause self.old.faults self.new.faults (put_failed result) }
+
+        // Which answers there are, and the sink after each. It may also fail where its memory ends.
+        ensures answer { MayAnswer self.old bytes.now result }
+        ensures after { self.new ≡ after_write self.old bytes.now result }
+    {
+        if self.failing.next_fails() {
+            return Put::Failed;
+        }
+        let n = bytes.len().min(self.piece);
+        match self.bytes.extend_from_slice(&bytes[..n]) {
+            Ok(()) => Put::Took(n),
+            Err(_) => {
+                self.failing.add_fault();
+                Put::Failed
+            }
+        }
+    }
+}
