@@ -1,0 +1,4 @@
+pub mod FreeRunLemmas
+mod RunMoves
+pub mod RunValues
+mod Scans
