@@ -1,0 +1,4 @@
+pub mod PartLemmas
+pub mod SpellingLemmas
+pub mod FaultLemmas
+pub mod FrameLemmas

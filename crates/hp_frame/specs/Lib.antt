@@ -1,0 +1,4 @@
+pub mod Spelling
+pub mod FirstFault
+pub mod View
+pub mod Parts
