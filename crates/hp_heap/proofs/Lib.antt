@@ -1,0 +1,23 @@
+mod Worked
+pub mod RangeLemmas
+pub mod Counting
+pub mod PieceLemmas
+pub mod ChoiceLaw
+pub mod AllocLaw
+pub mod Stretches
+pub mod JoinedTiling
+pub mod GapTiling
+pub mod GrowLaw
+pub mod HistoryLaw
+pub mod SpliceLemmas
+pub mod SearchLemmas
+pub mod SummaryLemmas
+pub mod PlaceLemmas
+pub mod TakeLemmas
+pub mod SocketSearch
+pub mod Limits
+pub mod HeapLaw
+pub mod JoinLemmas
+pub mod Growths
+pub mod CutLaw
+pub mod ListLaw

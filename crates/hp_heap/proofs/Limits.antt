@@ -1,0 +1,67 @@
+-- Elements that tile segments end where segments do, so in the lower half of the addresses.
+use Rattle.std.proofs.Common.{◌≡◌, ℕ, zero, suc, ◌+◌, ◌-◌, ◌*◌, ◌^◌, ◌<◌, ◌≤◌, Bool, true, false, cond, List, [], ◌∷◌, ◌++◌, map, refl, sym, ap, subst, arith, All, count_by, append_assoc}
+use Rattle.std.proofs.lemmas.Bool.{and_parts, ltb-true}
+use Rattle.std.proofs.lemmas.Bool.Decides.{nat_tests}
+use Rattle.std.specs.List.{AllByRecursion, range_with_len}
+use Rattle.hp_base.specs.declared.span.Span.{Span}
+use Rattle.hp_base.specs.declared.row.Run.{Run}
+use Rattle.hp_heap.specs.PlainHeap.{Extent, end_of, page_extent}
+use Rattle.hp_heap.specs.Tiling.{IsTiling, IsElement, IsRisingFrom, in_range, in_segment}
+use Rattle.hp_heap.specs.Statistics.{total_bytes}
+use Rattle.hp_heap.specs.Growing.{run_page, run_pages, run_bytes}
+use Rattle.hp_heap.specs.Free.{HasSpace}
+use Rattle.hp_heap.specs.Inside.{IsInLimits}
+use Rattle.hp_heap.proofs.Counting.{count_by-append, count_by-cons, total-cons}
+
+-- a byte of some segment is within the limits
+in_limits : (byte : ℕ) (segments : List Extent) → AllByRecursion IsInLimits segments → 0 < count_by (in_segment byte) segments → byte < 2 ^ 63
+in_limits byte [] limits some = absurd (omega (arith, some))
+in_limits byte (s ∷ segments) limits some = by_test (in_segment byte s) refl (λ rest. in_limits byte segments limits.1 rest)
+  where
+    by_test : (b : Bool) → in_segment byte s ≡ b → (0 < count_by (in_segment byte) segments → byte < 2 ^ 63) → byte < 2 ^ 63
+    by_test true inside rest = let before : byte < s.addr + s.len = ltb-true byte (s.addr + s.len) (and_parts _ _ inside).1 in omega (arith, limits.0)
+    by_test false outside rest =
+        let weight : cond {A = ℕ} (in_segment byte s) 1 0 ≡ 0 = rw outside refl in
+        rest (omega (arith, some, count_by-cons (in_segment byte) s segments, weight))
+
+last_byte : (r : Span) → 192 ≤ r.whole → cond {A = ℕ} (in_range (end_of r - 1) r) 1 0 ≡ 1
+last_byte r size = grind (arith, nat_tests)
+
+spaces : (segments : List Extent) (insertions : ℕ) (before after : List Span) → AllByRecursion IsInLimits segments
+    → ((byte : ℕ) → count_by (in_range byte) (before ++ after) ≡ count_by (in_segment byte) segments) → AllByRecursion (IsElement insertions) after → AllByRecursion HasSpace after
+spaces segments insertions before [] limits once elements = tt
+spaces segments insertions before (r ∷ after) limits once elements = (
+  record { some = omega (arith, elements.0.size.least); end = ends (in_limits (end_of r - 1) segments limits here) },
+  spaces segments insertions (before ++ (r ∷ [])) after limits (λ byte. subst (λ zs. count_by (in_range byte) zs ≡ count_by (in_segment byte) segments) (sym (append_assoc before (r ∷ []) after)) (once byte)) elements.1,
+)
+  where
+    here : 0 < count_by (in_segment (end_of r - 1)) segments
+    here = omega (arith, once (end_of r - 1), count_by-append (in_range (end_of r - 1)) before (r ∷ after), count_by-cons (in_range (end_of r - 1)) r after, last_byte r elements.0.size.least)
+
+    ends : end_of r - 1 < 2 ^ 63 → end_of r ≤ 2 ^ 63
+    ends below = omega (arith, elements.0.size.least)
+
+pub tiled_spaces : (segments : List Extent) (insertions : ℕ) (ranges : List Span) → IsTiling segments insertions ranges → AllByRecursion IsInLimits segments → AllByRecursion HasSpace ranges
+tiled_spaces segments insertions ranges tiling limits = spaces segments insertions [] ranges limits tiling.once tiling.elements
+
+pub All-spaces : (ranges : List Span) → AllByRecursion HasSpace ranges → All HasSpace ranges
+All-spaces [] all k d within = absurd (omega arith)
+All-spaces (x ∷ xs) all zero d within = all.0
+All-spaces (x ∷ xs) all (suc k) d within = All-spaces xs all.1 k d (omega arith)
+
+-- elements that rise have no more bytes than their end
+pub total_below : (from limit : ℕ) (ranges : List Span) → from ≤ limit → IsRisingFrom from ranges → AllByRecursion (λ r. end_of r ≤ limit) ranges → from + total_bytes ranges ≤ limit
+total_below from limit [] within rising ends = omega arith
+total_below from limit (x ∷ xs) within rising ends = omega (arith, rising.0, total-cons x xs, total_below (end_of x) limit xs ends.0 rising.1 ends.1)
+
+-- the pages of a run are within the limits
+pages_from : (run : Run) (i n : ℕ) → run.addr + (i + n) * run.page ≤ 2 ^ 63 → AllByRecursion IsInLimits (map page_extent (map (run_page run) (range_with_len i n)))
+pages_from run i zero within = tt
+pages_from run i (suc n) within =
+    let whole : (i + suc n) * run.page ≡ i * run.page + run.page + n * run.page = grind arith in
+    let next : (i + 1 + n) * run.page ≡ (i + suc n) * run.page = ap (λ (m : ℕ). m * run.page) (omega arith) in
+    (omega (arith, whole), pages_from run (i + 1) n (omega (arith, next)))
+
+pub run_limits : (run : Run) → run.addr + run_bytes run ≤ 2 ^ 63 → AllByRecursion IsInLimits (map page_extent (run_pages run))
+unfolding run_pages
+run_limits run within = pages_from run 0 run.count (let same : 0 + run.count ≡ run.count = omega arith in subst (λ (m : ℕ). run.addr + m * run.page ≤ 2 ^ 63) (sym same) within)

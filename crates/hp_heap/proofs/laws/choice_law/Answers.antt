@@ -1,0 +1,5 @@
+use Rattle.hp_heap.proofs.ChoiceLaw.{chosen-is_choice}
+use Rattle.hp_heap.proofs.laws.choice_law.Goals as goal
+
+pub returns : goal.returns
+returns c = chosen-is_choice

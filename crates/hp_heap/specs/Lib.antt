@@ -1,0 +1,17 @@
+pub mod PlainHeap
+pub mod Tiling
+pub mod Lists
+pub mod Choice
+pub mod Placing
+pub mod Joining
+pub mod Resizing
+pub mod Cut
+pub mod Chunks
+pub mod Statistics
+pub mod Step
+pub mod History
+pub mod Growing
+pub mod Free
+pub mod Splice
+pub mod Inside
+pub mod Laws

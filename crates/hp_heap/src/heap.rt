@@ -1,0 +1,148 @@
+ghost use Rattle.std.specs.Prelude.{◌≡◌, ◌+◌, ◌≤◌, ◌<◌, ◌∷◌, ◌++◌, [], Some, OnOk, OnErr, vec_len, vec_capacity};
+ghost use Rattle.std.specs.Option.{option_copied};
+ghost use Rattle.hp_heap.specs.PlainHeap.{opening_heap};
+ghost use Rattle.hp_heap.specs.Lists.{free_lists};
+ghost use Rattle.hp_heap.specs.Statistics.{statistics_of};
+ghost use Rattle.hp_heap.specs.History.{IsSound, SameButSpare};
+
+use crate::entry::{Entry, HeapAnswer, HeapCall};
+use crate::socket_name::socket_name;
+use crate::summary::statistics;
+use hp_base::{Caller, Name, Span, Stats};
+use std::alloc::{AllocError, Global};
+use std::marker::Model;
+
+/// A heap, after malloc_heap of rte_malloc: its segments, tiled by its elements, their free lists, and the history of
+/// all its calls. Addresses and sizes are bytes. Each call with a `Caller` is one entry of the history, uses one of
+/// the calls that `reserve` made room for, and takes no memory.
+#[derive(Drop)]
+pub struct Heap {
+    pub(crate) index: u32,
+    pub(crate) serves: u32,
+    pub(crate) name: Option<Name>,
+    pub(crate) socket: u32,
+    // The elements by rising address, and the free ones among them.
+    pub(crate) ranges: Vec<Span>,
+    pub(crate) free: Vec<Span>,
+    // The insertions into free lists so far.
+    pub(crate) insertions: u64,
+    pub(crate) history: Vec<Entry>,
+    pub(crate) spare: usize,
+}
+
+impl Model for Heap {
+    ghost use Rattle.hp_heap.specs.History.{HeapView};
+
+    ghost Value = { HeapView };
+
+    ghost use Rattle.hp_heap.specs.Inside.{view_of, IsHeap};
+
+    ghost view = { view_of };
+
+    ghost invariant = { IsHeap };
+}
+
+impl Heap {
+    /// The heap of a socket, without memory, under the name `socket_<n>`. After the heaps that rte_eal_malloc_heap_init
+    /// makes.
+    pub fn socket(alloc: Global, index: u32, socket: u32) -> Heap
+        ensures plain { result.plain ≡ opening_heap index (Some socket) }
+        ensures lists { result.lists ≡ free_lists result.plain }
+        ensures history { result.history ≡ [] }
+        ensures spare { result.spare ≡ 0 }
+    {
+        Heap {
+            index,
+            serves: socket,
+            name: Some(socket_name(socket)),
+            socket,
+            ranges: Vec::new(alloc),
+            free: Vec::new(alloc),
+            insertions: 0,
+            history: Vec::new(alloc),
+            spare: 0,
+        }
+    }
+
+    /// Makes room for `calls` more calls. After a refusal there may be room for none.
+    pub fn reserve(&mut self, calls: usize) -> Result<(), AllocError>
+        ensures spare { OnOk result (calls ≤ self.new.spare) }
+        ensures same { SameButSpare self.old self.new }
+    {
+        self.spare = 0;
+        let Some(ranges) = calls.checked_mul(2) else {
+            return Err(AllocError);
+        };
+        self.ranges.reserve(ranges)?;
+        self.free.reserve(ranges)?;
+        self.history.reserve(calls)?;
+        self.spare = calls;
+        Ok(())
+    }
+
+    /// How many calls there is room for.
+    pub fn spare(&self) -> usize
+        ensures { result ≡ self.now.spare }
+    {
+        self.spare
+    }
+
+    /// Appends its elements, by address.
+    pub fn elements(&self, out: &mut Vec<Span>) -> Result<(), AllocError>
+        ensures elements { OnOk result (out.new.items ≡ out.old.items ++ self.now.plain.ranges) }
+        ensures err { OnErr result (out.new.items ≡ out.old.items) }
+    {
+        out.extend_from_slice(&self.ranges)
+    }
+
+    /// All calls so far, in their order.
+    pub fn history(&self) -> &[Entry]
+        ensures history { result.now ≡ self.now.history }
+        ensures sound { IsSound self.now }
+    {
+        &self.history
+    }
+
+    /// Its place among the heaps.
+    pub fn index(&self) -> u32
+        ensures { result ≡ self.now.plain.index }
+    {
+        self.index
+    }
+
+    /// Its name, where it has one.
+    pub fn name(&self) -> Option<&Name>
+        ensures { option_copied result ≡ self.now.plain.name }
+    {
+        self.name.as_ref()
+    }
+
+    /// Its socket number.
+    pub fn socket_number(&self) -> u32
+        ensures { result ≡ self.now.plain.socket }
+    {
+        self.socket
+    }
+
+    /// Its statistics, without an entry in the history.
+    pub fn summary(&self) -> Stats
+        ensures { result ≡ statistics_of self.now.plain }
+    {
+        statistics(&self.ranges)
+    }
+}
+
+// One more entry of the history, for which there is room.
+pub(crate) fn record(history: &mut Vec<Entry>, caller: Caller, call: HeapCall, answer: HeapAnswer)
+    requires { vec_len history.old < vec_capacity history.old }
+    ensures entry { history.new.items ≡ history.old.items
+        ++ record { caller = caller; call = call; answer = answer } ∷ [] }
+    ensures room { vec_capacity history.new ≡ vec_capacity history.old }
+    ensures len { vec_len history.new ≡ vec_len history.old + 1 }
+{
+    history.push_reserved(Entry {
+        caller,
+        call,
+        answer,
+    });
+}
