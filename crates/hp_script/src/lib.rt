@@ -1,0 +1,43 @@
+//! The text of a workload: its reader, and the answers that its lines get.
+#![tactic(auto)]
+
+mod answer;
+mod bad_kind;
+mod deadline;
+mod event;
+mod first_lines;
+mod first_text;
+mod given;
+mod judge;
+mod line;
+mod line_fault;
+mod line_list;
+mod makers;
+mod marks;
+mod numbers;
+mod options;
+mod parse_fault;
+mod parsing;
+mod party_count;
+mod plan_lines;
+mod pool_lines;
+mod reader;
+mod shape;
+mod stats_text;
+mod text;
+mod token;
+mod verb;
+mod workload;
+
+pub use answer::Answer;
+pub use bad_kind::BadKind;
+pub use first_text::{FirstForm, FormFault, first_form};
+pub use line::{Act, Line};
+pub use options::{Options, SocketChoice};
+pub use parse_fault::ParseFault;
+pub use parsing::parse;
+pub use token::Token;
+pub use workload::Workload;
+
+#[cfg(test)]
+mod tests;

@@ -1,0 +1,70 @@
+ghost use Rattle.std.specs.Prelude.{◌+◌, ◌<◌, ◌≤◌, ◌^◌, length, IfOk, IfErr};
+ghost use Rattle.hp_script.specs.Known.{known};
+ghost use Rattle.hp_script.specs.Limits.{IsWithinLimits, AreDeclared};
+ghost use Rattle.hp_script.specs.Setups.{nothing};
+ghost use Rattle.hp_script.specs.Spans.{AreSlices, all_tokens};
+ghost use Rattle.hp_script.specs.Workloads.{IsReadAs, IsRefusalOf, NamesFirstBad, Reads, read_from, reading_of};
+
+use crate::line_fault::LineFault;
+use crate::makers::KnownMakers;
+use crate::parse_fault::ParseFault;
+use crate::reader::Reader;
+use crate::text::lines;
+use crate::token::Token;
+use crate::workload::Workload;
+use std::alloc::Global;
+
+/// The workload that a text of at most 1,048,576 bytes describes, or the first bad line with its first kind of
+/// refusal. The tokens of the workload lend slices of the text. Own.
+#[tactic(auto, using(crate::proofs::SpanLemmas::reading_slices, crate::proofs::FirstBad::names_first_bad, crate::proofs::DeclaredLemmas::reading_declared))]
+pub fn parse<'a>(alloc: Global, bytes: &'a [u8]) -> Result<Workload<'a>, ParseFault>
+    requires { length bytes.now ≤ 1048576 }
+    // An accepted text is read whole, and its tokens are slices of it that rise.
+    ensures read { IfOk result (IsReadAs bytes.entry.now) }
+    ensures spans { IfOk result (λ workload. AreSlices bytes.entry.now 0 (length bytes.entry.now) (all_tokens workload.lines.items)) }
+
+    // There is room in a run for what it says, and each line is of a declared participant.
+    ensures limits { IfOk result IsWithinLimits }
+    ensures declared { IfOk result (λ workload. AreDeclared workload.participants workload.lines.items) }
+
+    // A fault is the first refusal of the text: that of its first bad line, behind lines that are all accepted.
+    ensures refused { IfErr result (IsRefusalOf (reading_of bytes.entry.now)) }
+    ensures first_bad { IfErr result (NamesFirstBad bytes.entry.now) }
+{
+    match read_text(alloc, bytes) {
+        Ok(reader) => Ok(reader.finish()),
+        Err(fault) => Err(fault),
+    }
+}
+
+// Reads the lines of a text.
+#[tactic(auto, unfolding(crate::specs::Workloads::reading_of))]
+fn read_text<'a>(alloc: Global, bytes: &'a [u8]) -> Result<Reader<'a>, ParseFault>
+    requires { length bytes.now ≤ 1048576 }
+    ensures { Reads result (reading_of bytes.entry.now) }
+{
+    let lines = lines(alloc, bytes)?;
+    let makers = KnownMakers::of(alloc, &lines)?;
+    read_all(alloc, &makers, &lines)
+}
+
+// Reads lines, numbered from 1.
+fn read_all<'a>(
+    alloc: Global,
+    makers: &KnownMakers<'a>,
+    lines: &[Token<'a>],
+) -> Result<Reader<'a>, ParseFault>
+    requires { length lines.now + 1 < 2 ^ 32 }
+    ensures { Reads result (read_from (known makers.now) nothing 1 lines.now) }
+{
+    let mut reader = Reader::new(alloc);
+    for (i, line) in lines.iter().enumerate() {
+        let number = i as u32 + 1;
+        match reader.read_line(alloc, makers, number, line) {
+            Ok(()) => {}
+            Err(LineFault::Bad { kind }) => return Err(ParseFault::Bad { line: number, kind }),
+            Err(LineFault::OutOfMemory) => return Err(ParseFault::OutOfMemory),
+        }
+    }
+    Ok(reader)
+}
