@@ -1,0 +1,13 @@
+pub mod Reading
+pub mod Writing
+pub mod Form
+pub mod End
+pub mod Pool
+pub mod Serving
+pub mod Labels
+pub mod LineTexts
+pub mod HeapTexts
+pub mod CallTexts
+pub mod EntryTexts
+pub mod Report
+pub mod Outcome

@@ -1,0 +1,97 @@
+-- How a run of the program ends: what each status says.
+use Rattle.std.specs.Prelude.{◌≡◌, ℕ, Bool, true, false, List, [], ◌∷◌, length, codes, Option, Some, None, is_some, nat_lt, if◌then◌else◌, ⊤}
+use Rattle.std.specs.Str.{bytes_eq}
+use Rattle.hp_base.specs.declared.status.Status.{Status}
+use Rattle.hp_base.specs.declared.status.Status.TheVariants as status
+use Rattle.hp_script.specs.FirstForm.{form_of}
+use Rattle.hp_run.specs.declared.reading.TheConstants.{LIMIT}
+use Rattle.hp_run.specs.Reading.{GaveAll, GaveTooMuch}
+use Rattle.hp_run.specs.Writing.{Holds, HoldsFront}
+use Rattle.hp_run.specs.declared.ended.Ended.{Ended}
+use Rattle.hp_run.specs.Form.{form_of_ended}
+use Rattle.hp_run.specs.End.{IsEnd}
+use Rattle.hp_run.specs.Report.{report_of}
+
+-- the words are the one word solo
+abbrev pub is_solo : List (List ℕ) → Bool
+is_solo [] = false
+is_solo (word ∷ []) = bytes_eq word (codes "solo")
+is_solo (word ∷ other ∷ others) = false
+
+-- what is written where the words are none that the program takes
+abbrev pub usage_text : List ℕ
+usage_text = codes "usage: heapsim solo|run|check|generate <start> <lines> [summary]\n"
+
+-- what is written where the workload is refused
+abbrev pub refused_text : List ℕ
+refused_text = codes "refused Later\n"
+
+-- the text is the report of an end of the workload that the input is
+pub record IsReportFor (input text : List ℕ) : Type 0 where
+  pub ended : Ended
+  pub workload : form_of input ≡ Some (form_of_ended ended)
+  pub end : IsEnd (form_of_ended ended) ended.answers.items ended.heap ended.pages_left
+  pub is : text ≡ report_of ended
+
+-- a text that is written, by the words and by what the source had left before and after, with the status that it goes with
+pub data IsText (words : List (List ℕ)) (left left' : Option (List ℕ)) : Status → List ℕ → Type 0 where
+  -- the words are none of the forms; nothing is read
+  usage : is_solo words ≡ false → left' ≡ left → IsText words left left' status.Usage usage_text
+  -- what was read is no workload
+  refused : (input : List ℕ) → is_solo words ≡ true → GaveAll left left' input → form_of input ≡ None
+      → IsText words left left' status.BadWorkload refused_text
+  -- what was read is a workload, and the text is the report of an end of it
+  report : (input text : List ℕ) → is_solo words ≡ true → GaveAll left left' input → IsReportFor input text
+      → IsText words left left' status.Ok text
+
+-- a text was written with a status, or a front of it before the sink failed
+pub data IsWritten (ended : Status) (text : List ℕ) (held held' : Option (List ℕ)) (sink_failed : Type 0) : Status → Type 0 where
+  whole : Holds held held' text → IsWritten ended text held held' sink_failed ended
+  front : HoldsFront held held' text → sink_failed → IsWritten ended text held held' sink_failed status.WriteFault
+
+-- the text of a status was written, behind what the sink held
+pub record Writes (words : List (List ℕ)) (left left' held held' : Option (List ℕ)) (ended : Status) : Type 0 where
+  pub text : List ℕ
+  pub is : IsText words left left' ended text
+  pub written : Holds held held' text
+
+-- a front of such a text was written, and then the sink failed
+pub record WritesFront (words : List (List ℕ)) (left left' held held' : Option (List ℕ)) (sink_failed : Type 0) : Type 0 where
+  pub ended : Status
+  pub text : List ℕ
+  pub is : IsText words left left' ended text
+  pub front : HoldsFront held held' text
+  pub failed : sink_failed
+
+-- reading did not come to an end, for a cause, and nothing was written
+pub record Reads (words : List (List ℕ)) (held held' : Option (List ℕ)) (cause : Type 0) : Type 0 where
+  pub solo : is_solo words ≡ true
+  pub because : cause
+  pub nothing : held' ≡ held
+
+-- what each status says of the words, the source and the sink, before and after
+abbrev pub Ends : List (List ℕ) → Option (List ℕ) → Option (List ℕ) → Option (List ℕ) → Option (List ℕ) → Type 0 → Type 0 → Status → Type 0
+Ends words left left' held held' source_failed sink_failed status.Ok = Writes words left left' held held' status.Ok
+Ends words left left' held held' source_failed sink_failed status.Usage = Writes words left left' held held' status.Usage
+Ends words left left' held held' source_failed sink_failed status.BadWorkload = Writes words left left' held held' status.BadWorkload
+Ends words left left' held held' source_failed sink_failed status.ReadFault = Reads words held held' source_failed
+Ends words left left' held held' source_failed sink_failed status.WriteFault = WritesFront words left left' held held' sink_failed
+Ends words left left' held held' source_failed sink_failed status.OutOfMemory = Reads words held held' ⊤
+Ends words left left' held held' source_failed sink_failed status.TooLong = Reads words held held' (GaveTooMuch left left')
+
+-- the status for words and an input, where reading, writing and memory do not fail
+abbrev pub status_of : List (List ℕ) → List ℕ → Status
+status_of words input =
+    if is_solo words
+    then (if nat_lt LIMIT (length input) then status.TooLong else (if is_some (form_of input) then status.Ok else status.BadWorkload))
+    else status.Usage
+
+-- the status is that one, or a failure
+abbrev pub IsUnlessFailure : Status → Status → Type 0
+IsUnlessFailure expected status.ReadFault = ⊤
+IsUnlessFailure expected status.WriteFault = ⊤
+IsUnlessFailure expected status.OutOfMemory = ⊤
+IsUnlessFailure expected status.Ok = expected ≡ status.Ok
+IsUnlessFailure expected status.Usage = expected ≡ status.Usage
+IsUnlessFailure expected status.BadWorkload = expected ≡ status.BadWorkload
+IsUnlessFailure expected status.TooLong = expected ≡ status.TooLong

@@ -1,0 +1,57 @@
+ghost use Rattle.std.specs.Prelude.{◌≡◌, ℕ, IfOk};
+ghost use Rattle.hp_script.specs.FirstForm.{label_of};
+ghost use Rattle.hp_run.specs.Labels.{known, label_at, shown};
+
+use hp_base::Tag;
+use hp_script::{Act, Line};
+use std::alloc::{AllocError, Global};
+use std::collections::HashMap;
+
+/// The labels of a workload's allocations, by the number of their line.
+#[derive(Drop)]
+pub struct Labels<'a> {
+    labels: HashMap<u32, &'a [u8]>,
+}
+
+impl<'a> Labels<'a> {
+    /// The labels of these lines.
+    pub fn new(alloc: Global, lines: &'a [Line<'a>]) -> Result<Labels<'a>, AllocError>
+        ensures { IfOk result (λ labels. (number : ℕ) → known labels number ≡ label_at lines.entry.now number) }
+    {
+        let mut labels = HashMap::new(alloc);
+        for line in lines {
+            labels.insert(line.line, label_of(line))?;
+        }
+        Ok(Labels { labels })
+    }
+
+    /// The label that a tag stands for, or an empty text.
+    pub fn of(&self, tag: Tag) -> &'a str
+        ensures { result.now ≡ shown (known self.now tag.number) }
+    {
+        match self.labels.get(&tag.number) {
+            Some(label) => text_of(label),
+            None => "",
+        }
+    }
+}
+
+// The label of an allocation, or nothing at another call.
+fn label_of<'a>(line: &Line<'a>) -> &'a [u8]
+    ensures { result.now ≡ label_of line.now }
+{
+    match &line.act {
+        Act::Alloc { label, .. } => label.as_bytes(),
+        _ => b"",
+    }
+}
+
+/// Bytes as text, or an empty text where they are none.
+pub fn text_of(bytes: &[u8]) -> &str
+    ensures { result.now ≡ shown bytes.now }
+{
+    match std::str::from_utf8(bytes) {
+        Ok(text) => text,
+        Err(_) => "",
+    }
+}
