@@ -1,0 +1,73 @@
+-- The first element that passes, by a walk over the list.
+use Rattle.std.proofs.Common.{◌≡◌, ℕ, zero, suc, ◌+◌, ◌<◌, ◌≤◌, Bool, true, false, List, [], ◌∷◌, length, get_or, drop, Option, Some, None, refl, add-one, arith, sum_by, take, map, cond, ap, ◌∙◌}
+use Rattle.std.proofs.Math.Seq.{drop-cons}
+use Rattle.std.proofs.lemmas.List.Sums.{sum_by_more_le}
+use Rattle.std.specs.List.{find, list_any, fold}
+use Rattle.std.specs.Option.{option_map}
+
+module _ {X : Type 0} (p : X → Bool) where
+  -- what fails is passed over
+  pub find_step : (xs : List X) (i : ℕ) (d : X) → i < length xs → p (get_or xs i d) ≡ false
+      → find p (drop i xs) ≡ find p (drop (i + 1) xs)
+  find_step xs i d within fails = rw (add-one, drop-cons xs i d within, fails) refl
+
+  -- what passes is found
+  pub find_here : (xs : List X) (i : ℕ) (d : X) → i < length xs → p (get_or xs i d) ≡ true
+      → find p (drop i xs) ≡ Some (get_or xs i d)
+  find_here xs i d within passes = rw (drop-cons xs i d within, passes) refl
+
+  -- nothing is found behind the end
+  pub find_end : (xs : List X) (i : ℕ) → length xs ≤ i → find p (drop i xs) ≡ None
+  find_end [] i past = find_nil i
+    where
+      find_nil : (i : ℕ) → find p (drop i []) ≡ None
+      find_nil zero = refl
+      find_nil (suc i) = refl
+  find_end (x ∷ xs) zero past = absurd (omega (arith, past))
+  find_end (x ∷ xs) (suc i) past = find_end xs i (omega arith)
+
+-- a sum so far with the next element is below what the whole sum is below
+pub sum_step : {X : Type 0} (f : X → ℕ) (xs : List X) (i : ℕ) (d : X) (total next bound : ℕ) → i < length xs
+    → total ≡ sum_by f (take i xs) → next ≡ f (get_or xs i d) → sum_by f xs < bound → total + next < bound
+sum_step f xs i d total next bound within so_far is all = omega (arith, so_far, is, all, sum_by_more_le f xs i d within)
+
+module _ {X : Type 0} (p : X → Bool) where
+  -- what fails is passed over
+  pub any_step : (xs : List X) (i : ℕ) (d : X) → i < length xs → p (get_or xs i d) ≡ false
+      → list_any p (drop i xs) ≡ list_any p (drop (i + 1) xs)
+  any_step xs i d within fails = rw (add-one, drop-cons xs i d within, fails) refl
+
+  -- what passes is among the elements
+  pub any_here : (xs : List X) (i : ℕ) (d : X) → i < length xs → p (get_or xs i d) ≡ true → list_any p (drop i xs) ≡ true
+  any_here xs i d within passes = rw (drop-cons xs i d within, passes) refl
+
+  -- nothing is behind the end
+  pub any_end : (xs : List X) (i : ℕ) → length xs ≤ i → list_any p (drop i xs) ≡ false
+  any_end [] zero past = refl
+  any_end [] (suc i) past = refl
+  any_end (x ∷ xs) zero past = absurd (omega (arith, past))
+  any_end (x ∷ xs) (suc i) past = any_end xs i (omega arith)
+
+find_by : {X Y : Type 0} (b : Bool) (x : X) (f : X → Y) (found : Option X) → cond b (Some (f x)) (option_map f found) ≡ option_map f (cond b (Some x) found)
+find_by true x f found = refl
+find_by false x f found = refl
+
+-- the first of mapped elements is that of the first element
+pub find_mapped : {X Y : Type 0} (p : Y → Bool) (f : X → Y) (xs : List X) → find p (map f xs) ≡ option_map f (find (λ x. p (f x)) xs)
+find_mapped p f [] = refl
+find_mapped p f (x ∷ xs) =
+    ap (λ found. cond (p (f x)) (Some (f x)) found) (find_mapped p f xs) ∙ find_by (p (f x)) x f (find (λ x. p (f x)) xs)
+
+-- a fold over what is left
+pub fold_step : {X Y : Type 0} (f : Y → X → Y) (a : Y) (xs : List X) (i : ℕ) (d : X) → i < length xs
+    → fold f a (drop i xs) ≡ fold f (f a (get_or xs i d)) (drop (i + 1) xs)
+fold_step f a xs i d within = rw (add-one, drop-cons xs i d within) refl
+
+pub drop_end : {X : Type 0} (xs : List X) (i : ℕ) → length xs ≤ i → drop i xs ≡ []
+drop_end [] zero past = refl
+drop_end [] (suc i) past = refl
+drop_end (x ∷ xs) zero past = absurd (omega (arith, past))
+drop_end (x ∷ xs) (suc i) past = drop_end xs i (omega arith)
+
+pub drop_here : {X : Type 0} (xs : List X) (i : ℕ) (d : X) → i < length xs → drop i xs ≡ get_or xs i d ∷ drop (i + 1) xs
+drop_here xs i d within = rw add-one (drop-cons xs i d within)

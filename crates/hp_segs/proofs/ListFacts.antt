@@ -1,0 +1,85 @@
+-- Facts on lists that many steps share.
+use Rattle.std.proofs.Common.{◌≡◌, ℕ, zero, suc, Bool, true, false, cond, List, [], ◌∷◌, ◌++◌, map, length, filter, get_or, Some, refl, ap, ◌∙◌}
+use Rattle.std.specs.List.{All, slice_get}
+use Rattle.std.proofs.lemmas.List.Elements.{All-head, All-tail, All-nil, All-cons, All-filter, filter_passes}
+
+-- what holds of what each element is mapped to
+pub all_unmap : {X Y : Type 0} (P : Y → Type 0) (f : X → Y) (xs : List X) → All P (map f xs) → All (λ x. P (f x)) xs
+all_unmap P f [] all = All-nil (λ x. P (f x))
+all_unmap P f (x ∷ xs) all =
+    All-cons (λ x. P (f x)) x xs (All-head P (f x) (map f xs) all) (all_unmap P f xs (All-tail P (f x) (map f xs) all))
+
+-- what a filter keeps has what held before and the test
+pub all_kept : {X : Type 0} (p : X → Bool) (P Q : X → Type 0) → ((x : X) → p x ≡ true → P x → Q x) → (xs : List X)
+    → All P xs → All Q (filter p xs)
+all_kept p P Q both xs all k d within =
+    both (get_or (filter p xs) k d) (filter_passes p xs k d within) (All-filter p P xs all k d within)
+
+-- the element behind others
+pub get_pushed : {X : Type 0} (xs : List X) (x : X) → slice_get (xs ++ x ∷ []) (length xs) ≡ Some x
+get_pushed [] x = refl
+get_pushed (y ∷ xs) x = get_pushed xs x
+
+-- an element stays where others come behind
+pub get_stays : {X : Type 0} (xs ys : List X) (i : ℕ) (x : X) → slice_get xs i ≡ Some x → slice_get (xs ++ ys) i ≡ Some x
+get_stays [] ys i x here = cc
+get_stays (y ∷ xs) ys zero x here = here
+get_stays (y ∷ xs) ys (suc i) x here = get_stays xs ys i x here
+
+get_nil : {Y : Type 0} {y : Y} (i : ℕ) → get_or [] i y ≡ y
+get_nil zero = refl
+get_nil (suc i) = refl
+
+-- the element at a place of a list that is mapped
+pub get_mapped : {X Y : Type 0} (f : X → Y) (xs : List X) (i : ℕ) (d : X) → get_or (map f xs) i (f d) ≡ f (get_or xs i d)
+get_mapped f [] i d = get_nil i
+get_mapped f (x ∷ xs) zero d = refl
+get_mapped f (x ∷ xs) (suc i) d = get_mapped f xs i d
+
+-- a filter that keeps all, or nothing
+pub filter_keeps : {X : Type 0} (p : X → Bool) (xs : List X) → All (λ x. p x ≡ true) xs → filter p xs ≡ xs
+filter_keeps p [] all = refl
+filter_keeps p (x ∷ xs) all =
+    ap (λ b. cond b (x ∷ filter p xs) (filter p xs)) (All-head (λ x. p x ≡ true) x xs all)
+    ∙ ap (λ rest. x ∷ rest) (filter_keeps p xs (All-tail (λ x. p x ≡ true) x xs all))
+
+pub filter_drops : {X : Type 0} (p : X → Bool) (xs : List X) → All (λ x. p x ≡ false) xs → filter p xs ≡ []
+filter_drops p [] all = refl
+filter_drops p (x ∷ xs) all =
+    ap (λ b. cond b (x ∷ filter p xs) (filter p xs)) (All-head (λ x. p x ≡ false) x xs all)
+    ∙ filter_drops p xs (All-tail (λ x. p x ≡ false) x xs all)
+
+map_by : {X : Type 0} (f : X → X) (b : Bool) (x : X) (xs ys : List X) → xs ≡ map f ys → cond b (f x ∷ xs) xs ≡ map f (cond b (x ∷ ys) ys)
+map_by f true x xs ys rest = ap (λ l. f x ∷ l) rest
+map_by f false x xs ys rest = rest
+
+-- a map that a test does not see
+pub filter_mapped : {X : Type 0} (p : X → Bool) (f : X → X) (xs : List X) → All (λ x. p (f x) ≡ p x) xs → filter p (map f xs) ≡ map f (filter p xs)
+filter_mapped p f [] same = refl
+filter_mapped p f (x ∷ xs) same =
+    ap (λ b. cond b (f x ∷ filter p (map f xs)) (filter p (map f xs))) (All-head (λ x. p (f x) ≡ p x) x xs same)
+    ∙ map_by f (p x) x (filter p (map f xs)) (filter p xs) (filter_mapped p f xs (All-tail (λ x. p (f x) ≡ p x) x xs same))
+
+pub append_nil : {X : Type 0} (xs : List X) → xs ++ [] ≡ xs
+append_nil [] = refl
+append_nil (x ∷ xs) = ap (λ rest. x ∷ rest) (append_nil xs)
+
+pub map_append : {X Y : Type 0} (f : X → Y) (xs ys : List X) → map f (xs ++ ys) ≡ map f xs ++ map f ys
+map_append f [] ys = refl
+map_append f (x ∷ xs) ys = ap (λ rest. f x ∷ rest) (map_append f xs ys)
+
+-- a map that changes nothing
+pub map_keeps : {X : Type 0} (f : X → X) (xs : List X) → All (λ x. f x ≡ x) xs → map f xs ≡ xs
+map_keeps f [] all = refl
+map_keeps f (x ∷ xs) all =
+    let here = All-head (λ x. f x ≡ x) x xs all in
+    let rest = map_keeps f xs (All-tail (λ x. f x ≡ x) x xs all) in
+    cc
+
+-- a map after another
+pub map_after : {X Y : Type 0} (f : Y → Y) (g h : X → Y) (xs : List X) → All (λ x. f (g x) ≡ h x) xs → map f (map g xs) ≡ map h xs
+map_after f g h [] all = refl
+map_after f g h (x ∷ xs) all =
+    let here = All-head (λ x. f (g x) ≡ h x) x xs all in
+    let rest = map_after f g h xs (All-tail (λ x. f (g x) ≡ h x) x xs all) in
+    cc

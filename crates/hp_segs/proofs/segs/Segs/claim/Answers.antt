@@ -1,0 +1,54 @@
+-- The grant's record adds the run, and its claim keeps the value sound.
+use Rattle.std.proofs.Common.{◌<◌, ◌-◌, ◌∙◌, ap, arith, sym, length}
+use Rattle.std.specs.Option.{option_and_then}
+use Rattle.hp_segs.specs.SegsView.{granted_by, run_of}
+use Rattle.hp_segs.proofs.ClaimLemmas.{grant_is, record_within, record_read}
+use Rattle.hp_segs.proofs.KeptLemmas.{kept_claim}
+use Rattle.hp_segs.proofs.segs.Segs.claim.Goals as goal
+
+pub overflow_sub-place : goal.overflow_sub-place
+overflow_sub-place c =
+    let s = c.self.inside in
+    let grant = ap (option_and_then granted_by) (sym c.grant_or_refusal.ensures) ∙ (sym c.granted_by.ensures ∙ c.in-Some.is) in
+    let granted = grant_is s.table.log s.asks.entries c.args.from c.args.number c.in-Some.generation c.self.invariant.sound.granted grant in
+    omega (arith, granted.0)
+
+pub bounds-records-place : goal.bounds-records-place
+bounds-records-place c =
+    let s = c.self.inside in
+    let grant = ap (option_and_then granted_by) (sym c.grant_or_refusal.ensures) ∙ (sym c.granted_by.ensures ∙ c.in-Some.is) in
+    let granted = grant_is s.table.log s.asks.entries c.args.from c.args.number c.in-Some.generation c.self.invariant.sound.granted grant in
+    rw c.records.ensures.records (record_within s.table.log c.in-Some.generation granted.1.0 granted.1.1)
+
+pub offset_bounds-records-place : goal.offset_bounds-records-place
+offset_bounds-records-place c =
+    let s = c.self.inside in
+    let grant = ap (option_and_then granted_by) (sym c.grant_or_refusal.ensures) ∙ (sym c.granted_by.ensures ∙ c.in-Some.is) in
+    let granted = grant_is s.table.log s.asks.entries c.args.from c.args.number c.in-Some.generation c.self.invariant.sound.granted grant in
+    let within : c.in-Some.generation - 1 < length c.records.result.now =
+    rw c.records.ensures.records (record_within s.table.log c.in-Some.generation granted.1.0 granted.1.1) in
+    omega (arith, within, c.records.type_inv.1)
+
+pub unreachable-requires-in_default-added_run : goal.unreachable-requires-in_default-added_run
+unreachable-requires-in_default-added_run c =
+    let s = c.self.inside in
+    let grant = ap (option_and_then granted_by) (sym c.grant_or_refusal.ensures) ∙ (sym c.granted_by.ensures ∙ c.in-Some.is) in
+    let granted = grant_is s.table.log s.asks.entries c.args.from c.args.number c.in-Some.generation c.self.invariant.sound.granted grant in
+    let within = record_within s.table.log c.in-Some.generation granted.1.0 granted.1.1 in
+    let read =
+    record_read s.table.log c.records.result.now c.in-Some.generation _ c.added_run.result c.added_run.ensures c.records.ensures.records within in
+    c.in_default-added_run.not-Some granted.1.0 (read ∙ granted.1.1)
+
+pub returns-clause-run : goal.returns-clause-run
+returns-clause-run c =
+    let s = c.self.inside in
+    let grant = ap (option_and_then granted_by) (sym c.grant_or_refusal.ensures) ∙ (sym c.granted_by.ensures ∙ c.in-Some.is) in
+    let granted = grant_is s.table.log s.asks.entries c.args.from c.args.number c.in-Some.generation c.self.invariant.sound.granted grant in
+    let within = record_within s.table.log c.in-Some.generation granted.1.0 granted.1.1 in
+    let read =
+    record_read s.table.log c.records.result.now c.in-Some.generation _ c.added_run.result c.added_run.ensures c.records.ensures.records within in
+    rw (← c.self.view_is)
+    (sym c.in-Some-added_run.is ∙ (read ∙ sym (ap (option_and_then (run_of s.table.log)) grant)))
+
+pub invariant_of-self : goal.invariant_of-self
+invariant_of-self c = rw c.claim.ensures (kept_claim _ c.self.invariant)

@@ -1,0 +1,90 @@
+-- Which values come from a value by calls: every call with its condition and what it leaves, and how many growth steps lists of
+-- calls may have.
+use Rattle.std.specs.Prelude.{◌≡◌, ℕ, ◌≤◌, List, [], ◌∷◌, length, Ok, Bool, true, false, IsTrue, count_by}
+use Rattle.hp_base.specs.declared.row.Row.{Row}
+use Rattle.hp_base.specs.declared.row.Run.{Run}
+use Rattle.hp_base.specs.declared.map_answer.MapAnswer.{MapAnswer}
+use Rattle.hp_segs.specs.SegsView.{SegsView}
+use Rattle.hp_segs.specs.Steps.{after_open, after_close, after_agree, after_cancel, after_claim, after_retire, after_drop, after_freed, after_reserve}
+use Rattle.hp_segs.specs.LaterSteps.{after_stale, after_note, after_arm, after_withdraw, after_join, after_leave}
+use Rattle.hp_segs.specs.Ranges.{range_plan, after_claim_range, after_release_range, is_claimed}
+use Rattle.hp_segs.specs.Calls.{MayOpen, MayClose, MayLogStale, MayLogFreed, MayNote, MayAgree, MayCancel, MayDrop, MayArm, MayWithdraw, MayJoin, MayLeave, OwnsRun, IsUnclaimedGrant}
+use Rattle.hp_segs.specs.declared.ask.Ask.{Ask}
+use Rattle.hp_segs.specs.declared.outcome.Cause.{Cause}
+
+-- a call that changes a segment value
+pub data SegsCall : Type 0 where
+  Reserve : ℕ → SegsCall
+  OpenRun : Ask → Run → SegsCall
+  CloseAsk : Ask → Cause → SegsCall
+  LogStale : ℕ → ℕ → SegsCall
+  NoteFailed : ℕ → ℕ → Row → MapAnswer → SegsCall
+  Agree : List ℕ → SegsCall
+  Cancel : Cause → SegsCall
+  Claim : ℕ → ℕ → SegsCall
+  Arm : Ask → SegsCall
+  Withdraw : ℕ → ℕ → ℕ → ℕ → SegsCall
+  Retire : ℕ → Run → SegsCall
+  DropRetiring : SegsCall
+  LogFreed : ℕ → ℕ → SegsCall
+  JoinRoster : ℕ → ℕ → SegsCall
+  LeaveRoster : ℕ → SegsCall
+  ClaimRange : ℕ → ℕ → ℕ → ℕ → ℕ → SegsCall
+  ReleaseRange : ℕ → SegsCall
+
+-- what a call leaves
+abbrev pub after : SegsCall → SegsView → SegsView
+after (Reserve n) segs = after_reserve n segs
+after (OpenRun ask run) segs = after_open ask run segs
+after (CloseAsk ask cause) segs = after_close ask cause segs
+after (LogStale from number) segs = after_stale from number segs
+after (NoteFailed participant call row got) segs = after_note participant call row got segs
+after (Agree acks) segs = after_agree acks segs
+after (Cancel cause) segs = after_cancel cause segs
+after (Claim from number) segs = after_claim from number segs
+after (Arm ask) segs = after_arm ask segs
+after (Withdraw from number since now) segs = after_withdraw from number since now segs
+after (Retire heap run) segs = after_retire run segs
+after DropRetiring segs = after_drop segs
+after (LogFreed from number) segs = after_freed from number segs
+after (JoinRoster participant acked) segs = after_join participant segs
+after (LeaveRoster participant) segs = after_leave participant segs
+after (ClaimRange list addr len page socket) segs = after_claim_range list addr len page socket segs
+after (ReleaseRange list) segs = after_release_range list segs
+
+-- the condition of a call
+abbrev pub May : SegsCall → SegsView → Type 0
+May (Reserve n) segs = Unit {0}
+May (OpenRun ask run) segs = MayOpen ask run segs
+May (CloseAsk ask cause) segs = MayClose ask cause segs
+May (LogStale from number) segs = MayLogStale from number segs
+May (NoteFailed participant call row got) segs = MayNote participant row got segs
+May (Agree acks) segs = MayAgree segs × (length acks ≡ 16)
+May (Cancel cause) segs = MayCancel cause segs
+May (Claim from number) segs = IsUnclaimedGrant from number segs
+May (Arm ask) segs = MayArm ask segs
+May (Withdraw from number since now) segs = MayWithdraw from number segs
+May (Retire heap run) segs = OwnsRun heap run segs
+May DropRetiring segs = MayDrop segs
+May (LogFreed from number) segs = MayLogFreed from number segs
+May (JoinRoster participant acked) segs = MayJoin participant acked segs
+May (LeaveRoster participant) segs = MayLeave participant segs
+May (ClaimRange list addr len page socket) segs = range_plan addr len page segs ≡ Ok list
+May (ReleaseRange list) segs = IsTrue (is_claimed segs list)
+
+-- the calls lead from one value to another, each under its condition
+abbrev pub Leads : List SegsCall → SegsView → SegsView → Type 0
+Leads [] old new = new ≡ old
+Leads (call ∷ calls) old new = May call old × Leads calls (after call old) new
+
+-- a call that opens or grants a growth
+abbrev pub is_growth_step : SegsCall → Bool
+is_growth_step (OpenRun ask run) = true
+is_growth_step (Agree acks) = true
+is_growth_step _ = false
+
+-- one value comes from another by calls under their conditions, at most one of which opens or grants a growth
+pub record IsMoved (old new : SegsView) : Type 0 where
+  pub calls : List SegsCall
+  pub leads : Leads calls old new
+  pub one : count_by is_growth_step calls ≤ 1

@@ -1,0 +1,36 @@
+-- The segment value at the beginning.
+use Rattle.std.specs.Prelude.{◌≡◌, ℕ, ◌%◌, ◌^◌, ◌<◌, ◌≤◌, Bool, ◌&&◌, ◌==◌, nat_lt, List, [], map, None, replicate}
+use Rattle.std.specs.List.{range_with_len}
+use Rattle.std.specs.Int.{bit_at}
+use Rattle.hp_base.specs.declared.pool_line.PoolLine.{PoolLine}
+use Rattle.hp_segs.specs.SegsView.{SegsView}
+
+-- there are 1 to 16 participants, and bits of participants from 1 to below that number alone are set
+pub record IsAbsent (participants absent : ℕ) : Type 0 where
+  pub some : 0 < participants
+  pub few : participants ≤ 16
+  pub primary : absent % 2 ≡ 0
+  pub declared : absent < 2 ^ participants
+
+-- the participant is declared and not absent
+abbrev pub is_present : ℕ → ℕ → ℕ → Bool
+is_present participants absent participant = nat_lt participant participants && (bit_at absent participant == 0)
+
+-- the declared participants without the absent ones
+abbrev pub opening_roster : ℕ → ℕ → List Bool
+opening_roster participants absent = map (is_present participants absent) (range_with_len 0 16)
+
+-- the value of pools without a record
+abbrev pub opening : List PoolLine → ℕ → ℕ → SegsView
+opening pools participants absent = record {
+  pools = pools;
+  log = [];
+  segments = [];
+  retiring = [];
+  asks = [];
+  growth = None;
+  roster = opening_roster participants absent;
+  armed = replicate 16 None;
+  ranges = [];
+  spare = 0;
+}

@@ -1,0 +1,31 @@
+//! Segment lists, the log of segments, and growth: the one value that knows which pages are a heap's.
+#![tactic(auto)]
+
+mod ask;
+mod asks;
+mod external_range;
+mod fault;
+mod growth;
+mod laws;
+mod list_info;
+mod log_record;
+mod outcome;
+mod plan_refusal;
+mod row_state;
+mod segs;
+mod table;
+#[cfg(test)]
+mod tests;
+
+pub use ask::Ask;
+pub use external_range::ExternalRange;
+pub use fault::{Closing, NotAll, RangeFault};
+pub use growth::Growth;
+pub use hp_base::PoolLine;
+pub use laws::segments_law;
+pub use list_info::ListInfo;
+pub use log_record::LogRecord;
+pub use outcome::{AskLog, Cause, Outcome};
+pub use plan_refusal::PlanRefusal;
+pub use row_state::{RowState, Segment};
+pub use segs::{PARTICIPANTS, Segs};

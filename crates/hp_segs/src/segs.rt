@@ -1,0 +1,102 @@
+//! The segment value and how it begins.
+ghost use Rattle.std.specs.Prelude.{◌≡◌, ◌≤◌, IfOk, OnErr, OnOk};
+ghost use Rattle.hp_segs.specs.Opening.{IsAbsent, opening};
+ghost use Rattle.hp_segs.specs.Steps.{after_reserve};
+ghost use Rattle.hp_segs.specs.Table.{ArePools};
+
+mod drops;
+mod growth;
+mod outcomes;
+mod owners;
+mod plan;
+mod queries;
+mod ranges;
+mod roster;
+
+use crate::ask::Ask;
+use crate::asks::Asks;
+use crate::external_range::ExternalRange;
+use crate::growth::Growth;
+use crate::table::Table;
+use hp_base::{PoolLine, Run};
+use std::alloc::{AllocError, Global};
+use std::marker::Model;
+
+/// The number of participants that there can be.
+pub const PARTICIPANTS: usize = 16;
+
+/// The segment lists of the pools, the log of what was mapped and unmapped, and the state of each mapped segment.
+/// Contracts see it as a `SegsView`. After the memory segment lists of EAL memory management, and the growth of
+/// rte_malloc under Multi-process Support.
+#[derive(Drop)]
+pub struct Segs {
+    table: Table,
+    asks: Asks,
+    // By rising address, with room for every slot.
+    retiring: Vec<Run>,
+    growth: Option<Growth>,
+    roster: [bool; 16],
+    armed: [Option<Ask>; 16],
+    ranges: Vec<ExternalRange>,
+    spare: usize,
+}
+
+impl Model for Segs {
+    ghost use Rattle.std.specs.Prelude.{vec_capacity};
+    ghost use Rattle.hp_segs.specs.SegsView.{SegsView};
+
+    ghost Value = { SegsView };
+
+    ghost use Rattle.hp_segs.specs.SegsLayout.{IsKept, view_of};
+
+    ghost view = { λ s. view_of s.table s.asks s.retiring.items s.growth s.roster s.armed s.ranges.items s.spare };
+
+    ghost invariant = { λ s. IsKept s.table s.asks s.retiring.items s.growth s.roster s.armed s.ranges.items
+        s.spare (vec_capacity s.retiring) };
+}
+
+impl Segs {
+    /// The value of pools without a record, for participants of which those with a bit in `absent` are not in the
+    /// roster.
+    pub fn new(
+        alloc: Global,
+        pools: &[PoolLine],
+        participants: u8,
+        absent: u16,
+    ) -> Result<Segs, AllocError>
+        requires pools { ArePools pools.now }
+        requires participants { IsAbsent participants absent }
+        ensures { IfOk result (λ segs. segs ≡ opening pools.now participants absent) }
+    {
+        let table = Table::new(alloc, pools)?;
+        let mut slots = 0;
+        for line in pools {
+            slots += line.slots as usize;
+        }
+        Ok(Segs {
+            table,
+            asks: Asks::new(alloc),
+            retiring: Vec::with_capacity(alloc, slots)?,
+            growth: None,
+            roster: roster::opening(participants, absent),
+            armed: [None; 16],
+            ranges: Vec::new(alloc),
+            spare: 0,
+        })
+    }
+
+    /// Takes memory, so that spare is at least `n`: each record and each logged outcome uses one. Own.
+    pub fn reserve_records(&mut self, n: usize) -> Result<(), AllocError>
+        ensures ok { OnOk result (self.new ≡ after_reserve n self.old) }
+        ensures err { OnErr result (self.new ≡ self.old) }
+    {
+        // Beside them stand the places that are set aside for armed asks, two for each participant.
+        let Some(places) = n.max(self.spare).checked_add(2 * PARTICIPANTS) else {
+            return Err(AllocError);
+        };
+        self.table.reserve(places)?;
+        self.asks.reserve(places)?;
+        self.spare = n.max(self.spare);
+        Ok(())
+    }
+}

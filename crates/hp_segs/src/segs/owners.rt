@@ -1,0 +1,91 @@
+//! Memory that a heap takes, and memory that it gives up.
+ghost use Rattle.std.specs.Prelude.{◌≡◌, ◌<◌, ◌≤◌, Some, length, insert, vec_capacity, vec_len};
+ghost use Rattle.hp_base.specs.declared.row.Run.{Run};
+ghost use Rattle.std.specs.Option.{option_and_then};
+ghost use Rattle.hp_segs.specs.SegsView.{added_run, granted_by};
+ghost use Rattle.hp_segs.specs.Calls.{IsUnclaimedGrant, OwnsRun};
+ghost use Rattle.hp_segs.specs.Steps.{after_claim, after_retire, claimed_run, insert_by_address};
+
+use crate::log_record::LogRecord;
+use crate::outcome::Outcome;
+use crate::segs::Segs;
+use hp_base::Run;
+
+// How many of the runs stand before a run of that address.
+fn runs_before(runs: &[Run], addr: u64) -> usize
+    ensures place { (run : Run) → run.addr ≡ addr
+        → insert_by_address run runs.now ≡ insert runs.now result run }
+    ensures within { result ≤ length runs.now }
+{
+    for (place, run) in runs.iter().enumerate() {
+        if addr < run.addr {
+            return place;
+        }
+    }
+    runs.len()
+}
+
+// The run comes among the others by rising address.
+fn insert_run(runs: &mut Vec<Run>, run: &Run)
+    requires { vec_len runs.old < vec_capacity runs.old }
+    ensures runs { runs.new.items ≡ insert_by_address run.now runs.old.items }
+    ensures room { vec_capacity runs.old ≤ vec_capacity runs.new }
+{
+    let place = runs_before(runs.as_slice(), run.addr);
+    let _ = runs.insert(place, *run);
+}
+
+// The generation of a grant.
+fn granted_by(outcome: Option<Outcome>) -> Option<u64>
+    ensures { result ≡ option_and_then granted_by outcome }
+{
+    match outcome {
+        Some(Outcome::Granted { generation }) => Some(generation),
+        _ => None,
+    }
+}
+
+// The run that a record adds.
+fn added_run(entry: &LogRecord) -> Option<Run>
+    ensures { result ≡ added_run entry.now }
+{
+    match entry {
+        LogRecord::Add { run, .. } => Some(*run),
+        LogRecord::Drop { .. } => None,
+    }
+}
+
+impl Segs {
+    /// The heap of a granted ask takes the rows of the grant: they become Owned. The answer is their run. Own.
+    pub fn claim(&mut self, from: u8, number: u64) -> Run
+        requires granted { IsUnclaimedGrant from number self.old }
+        ensures run { Some result ≡ claimed_run from number self.old }
+        ensures step { self.new ≡ after_claim from number self.old }
+    {
+        let Some(generation) = granted_by(self.asks.grant_or_refusal(from, number)) else {
+            unreachable!()
+        };
+        let place = generation as usize - 1;
+        let Some(run) = added_run(&self.table.records()[place]) else {
+            unreachable!()
+        };
+        self.table.claim(generation);
+        run
+    }
+
+    /// A heap gives up a run of its rows: they become Retiring. Own; after malloc_heap_free_pages of rte_malloc.
+    pub fn retire(&mut self, heap: u32, run: &Run)
+        requires owned { OwnsRun heap run.now self.old }
+        ensures step { self.new ≡ after_retire run.now self.old }
+    {
+        self.table.retire(run);
+        insert_run(&mut self.retiring, run);
+    }
+
+    /// The number of Retiring runs.
+    pub fn retiring(&self) -> usize
+        ensures { result ≡ length self.now.retiring }
+    {
+        self.retiring.len()
+    }
+}

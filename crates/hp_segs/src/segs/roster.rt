@@ -1,0 +1,69 @@
+//! Which participants are in the roster.
+ghost use Rattle.std.specs.Prelude.{◌≡◌, ◌<◌};
+ghost use Rattle.hp_segs.specs.Opening.{is_present, opening_roster};
+ghost use Rattle.hp_segs.specs.SegsView.{roster_bits};
+ghost use Rattle.hp_segs.specs.Steps.{is_below, lowest_member_below};
+
+use crate::fault::NotAll;
+use crate::segs::{PARTICIPANTS, Segs};
+
+// Whether a participant is declared and not absent.
+fn is_present(participant: u8, participants: u8, absent: u16) -> bool
+    requires { participant < 16 }
+    ensures { result ≡ is_present participants absent participant }
+{
+    participant < participants && (absent >> participant) % 2 == 0
+}
+
+// Whether the member of the roster has not acknowledged a generation.
+fn is_below(roster: &[bool; 16], acks: &[u64; 16], generation: u64, participant: u8) -> bool
+    requires { participant < 16 }
+    ensures { result ≡ is_below roster.now acks.now generation participant }
+{
+    roster[participant as usize] && acks[participant as usize] < generation
+}
+
+// The declared participants without the absent ones.
+#[tactic(auto, using(std::proofs::lemmas::List::FromFn::fill_by_all, std::proofs::lemmas::List::Edits::fill_by_more))]
+pub(crate) fn opening(participants: u8, absent: u16) -> [bool; 16]
+    ensures { result ≡ opening_roster participants absent }
+{
+    let mut roster = [false; 16];
+    for participant in 0..16u8 {
+        roster[participant as usize] = is_present(participant, participants, absent);
+    }
+    roster
+}
+
+// The lowest member of the roster that has not acknowledged a generation.
+#[tactic(auto, using(crate::proofs::Ranges::find_range_step, crate::proofs::Ranges::find_range_here, crate::proofs::Ranges::find_range_end))]
+pub(crate) fn lowest_member_below(
+    roster: &[bool; 16],
+    acks: &[u64; 16],
+    generation: u64,
+) -> Option<NotAll>
+    ensures { result ≡ lowest_member_below roster.now acks.now generation }
+{
+    for participant in 0..16u8 {
+        if is_below(roster, acks, generation, participant) {
+            return Some(NotAll {
+                participant,
+                acked: acks[participant as usize],
+            });
+        }
+    }
+    None
+}
+
+impl Segs {
+    /// The participants in the roster: bit p stands for participant p. Own.
+    pub fn roster(&self) -> u16
+        ensures { result ≡ roster_bits self.now.roster }
+    {
+        let mut bits = 0;
+        for place in 0..PARTICIPANTS {
+            bits = bits + bits + u16::from(self.roster[PARTICIPANTS - 1 - place]);
+        }
+        bits
+    }
+}

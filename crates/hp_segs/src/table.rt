@@ -1,0 +1,123 @@
+//! The table of mapped segments, as the log leaves it.
+ghost use Rattle.std.specs.Prelude.{◌≡◌, ◌^◌, ◌<◌, ◌≤◌, [], IfOk, OnOk};
+ghost use Rattle.hp_segs.specs.Table.{ArePools, IsLine, IsTable};
+ghost use Rattle.hp_segs.specs.Lists.{list_after};
+ghost use Rattle.hp_segs.specs.SegsView.{rows_in};
+ghost use Rattle.hp_segs.specs.TableLayout.{AddsLine};
+
+mod changes;
+mod queries;
+pub(crate) mod slots;
+mod states;
+
+use crate::list_info::ListInfo;
+use crate::log_record::LogRecord;
+use crate::row_state::Segment;
+use hp_base::PoolLine;
+use hp_fbarray::Mask;
+use hp_pool::Pools;
+use std::alloc::{AllocError, Global};
+use std::marker::Model;
+
+// Where the first list begins at the earliest.
+const FIRST: u64 = 1 << 32;
+
+// The pools with their lists, the log, and the segments that it leaves mapped.
+#[derive(Drop)]
+pub(crate) struct Table {
+    pools: Vec<PoolLine>,
+    // The list of each pool, and which of its slots are used.
+    lists: Vec<ListInfo>,
+    masks: Vec<Mask>,
+    // The free pages of each pool.
+    counts: Pools,
+    log: Vec<LogRecord>,
+    // In the order of the log, with room for every slot.
+    segments: Vec<Segment>,
+}
+
+impl Model for Table {
+    ghost use Rattle.std.specs.Prelude.{◌-◌, length, vec_capacity};
+    ghost use Rattle.hp_segs.specs.Table.{TableView};
+
+    ghost Value = { TableView };
+
+    ghost use Rattle.hp_segs.specs.SegsView.{rows_in};
+    ghost use Rattle.hp_segs.specs.TableLayout.{IsLaidOut};
+
+    ghost view = { λ t. record {
+      pools = t.pools.items;
+      log = t.log.items;
+      segments = t.segments.items;
+      room = vec_capacity t.log - length t.log.items;
+    } };
+
+    ghost invariant = { λ t. IsLaidOut t.pools.items t.lists.items t.masks.items t.counts t.log.items
+        (rows_in t.segments.items) (vec_capacity t.segments) };
+}
+
+// The list of a pool: from the first multiple of its page size at or above the end of the list before.
+fn list_after(line: &PoolLine, end: u64) -> ListInfo
+    requires line { IsLine line.now }
+    requires end { end < 2 ^ 62 }
+    ensures { result ≡ list_after line.now end }
+{
+    ListInfo {
+        socket: line.socket,
+        page: line.page,
+        base: end.div_ceil(line.page) * line.page,
+        slots: line.slots,
+    }
+}
+
+// A pool that is not there is added.
+fn add_pool(counts: &mut Pools, line: &PoolLine) -> Result<(), AllocError>
+    ensures { OnOk result (AddsLine counts.old counts.new line.now) }
+{
+    match counts.add(line.socket, line.page, line.pages) {
+        Ok(()) => Ok(()),
+        Err(_) => Err(AllocError),
+    }
+}
+
+impl Table {
+    // The table of pools without a record.
+    pub(crate) fn new(alloc: Global, pools: &[PoolLine]) -> Result<Table, AllocError>
+        requires { ArePools pools.now }
+        ensures pools { IfOk result (λ table. table.pools ≡ pools.now) }
+        ensures log { IfOk result (λ table. table.log ≡ []) }
+        ensures segments { IfOk result (λ table. table.segments ≡ []) }
+        ensures sound { IfOk result (λ table. IsTable table.pools table.log (rows_in table.segments)) }
+    {
+        let mut lists = Vec::with_capacity(alloc, pools.len())?;
+        let mut masks = Vec::with_capacity(alloc, pools.len())?;
+        let mut counts = Pools::new(alloc);
+        let mut slots: usize = 0;
+        let mut end = FIRST;
+        for line in pools {
+            let info = list_after(line, end);
+            end = info.base + u64::from(info.slots) * info.page;
+            slots += info.slots as usize;
+            lists.push(info)?;
+            masks.push(Mask::new(alloc, info.slots as usize)?)?;
+            add_pool(&mut counts, line)?;
+        }
+        Ok(Table {
+            pools: Vec::from_slice(alloc, pools)?,
+            lists,
+            masks,
+            counts,
+            log: Vec::new(alloc),
+            segments: Vec::with_capacity(alloc, slots)?,
+        })
+    }
+
+    // Room for n records more.
+    pub(crate) fn reserve(&mut self, n: usize) -> Result<(), AllocError>
+        ensures same { self.new ≡ record self.old { room = self.new.room } }
+        ensures never_falls { self.old.room ≤ self.new.room }
+        ensures room { OnOk result (n ≤ self.new.room) }
+    {
+        self.log.reserve(n)
+    }
+}
