@@ -2,8 +2,40 @@ ghost use Rattle.std.specs.Prelude.{◌≡◌, ◌+◌, ◌≤◌, length, take,
 ghost use Rattle.hp_frame.specs.Parts.{Puts};
 ghost use Rattle.hp_frame.specs.Spelling.{kind_of, param_len_of, param_of, spelling, FitsWidths, IsValid, Spells};
 
+use crate::kind::Kind;
 use crate::message::{Body, Message};
 use crate::numbers::{put, put_u8, put_u16, put_u32, put_u64};
+
+fn put_alloc(out: &mut [u8], at: usize, body: Body) -> usize
+    requires kind { kind_of body ≡ Kind.Alloc }
+    requires room { at + param_len_of Kind.Alloc ≤ length out.old }
+    ensures param { Puts out.old at (param_of body) out.new result }
+    ensures widths { FitsWidths body }
+{
+    let Body::Alloc {
+        from,
+        number,
+        heap,
+        socket,
+        page,
+        size,
+        align,
+        bound,
+        flags,
+    } = body
+    else {
+        unreachable!()
+    };
+    let at = put_u8(out, at, from);
+    let at = put_u64(out, at, number);
+    let at = put_u32(out, at, heap);
+    let at = put_u32(out, at, socket);
+    let at = put_u64(out, at, page);
+    let at = put_u64(out, at, size);
+    let at = put_u64(out, at, align);
+    let at = put_u64(out, at, bound);
+    put_u32(out, at, flags)
+}
 
 fn put_param(out: &mut [u8], at: usize, body: Body) -> usize
     requires { at + param_len_of (kind_of body) ≤ length out.old }
@@ -11,27 +43,7 @@ fn put_param(out: &mut [u8], at: usize, body: Body) -> usize
     ensures widths { FitsWidths body }
 {
     match body {
-        Body::Alloc {
-            from,
-            number,
-            heap,
-            socket,
-            page,
-            size,
-            align,
-            bound,
-            flags,
-        } => {
-            let at = put_u8(out, at, from);
-            let at = put_u64(out, at, number);
-            let at = put_u32(out, at, heap);
-            let at = put_u32(out, at, socket);
-            let at = put_u64(out, at, page);
-            let at = put_u64(out, at, size);
-            let at = put_u64(out, at, align);
-            let at = put_u64(out, at, bound);
-            put_u32(out, at, flags)
-        }
+        Body::Alloc { .. } => put_alloc(out, at, body),
         Body::Free {
             from,
             number,
