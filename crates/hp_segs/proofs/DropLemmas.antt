@@ -6,6 +6,7 @@ use Rattle.std.proofs.lemmas.List.Elements.{All-push, All-head, All-filter, All-
 use Rattle.hp_base.specs.declared.row.Row.{Row}
 use Rattle.hp_base.specs.declared.row.Run.{Run}
 use Rattle.hp_segs.specs.AsksView.{AsksView}
+use Rattle.hp_segs.specs.Causes.{IsCaused}
 use Rattle.hp_segs.specs.Lists.{lists_of}
 use Rattle.hp_segs.specs.Rows.{rows_at, at_slot, in_run, IsUsedRun}
 use Rattle.hp_segs.specs.SegsLayout.{IsKept}
@@ -20,11 +21,12 @@ use Rattle.hp_segs.specs.declared.list_info.ListInfo.{ListInfo}
 use Rattle.hp_segs.specs.declared.log_record.LogRecord.TheVariants.{Drop}
 use Rattle.hp_segs.specs.declared.outcome.AskLog.{AskLog}
 use Rattle.hp_segs.specs.declared.row_state.Segment.{Segment}
+use Rattle.hp_segs.proofs.CausedLemmas.{caused_push, caused_stays, grants_stay}
 use Rattle.hp_segs.proofs.ClosedLemmas.{aside_push}
 use Rattle.hp_segs.proofs.Counts.{count_filter, count_agree, count_cons}
+use Rattle.hp_segs.proofs.HeapRows.{IsOfHeap, heaps_stay}
 use Rattle.hp_segs.proofs.KeptLemmas.{logged_more, held_fewer}
 use Rattle.hp_segs.proofs.ListFacts.{all_kept}
-use Rattle.hp_segs.proofs.OpenLemmas.{grants_stay}
 use Rattle.hp_segs.proofs.RemoveLemmas.{rows_without}
 use Rattle.hp_segs.proofs.SlotLemmas.{in_run_by_slot}
 use Rattle.hp_segs.proofs.StateLemmas.{removed_rows}
@@ -102,7 +104,8 @@ not_opened segment run outside is =
 module _ {table : TableView} {asks : AsksView} {retiring : List Run} {roster : List Bool} {armed : List (Option Ask)} {ranges : List ExternalRange} {spare room : ℕ} where
   -- the open growth fails, and its ask is refused
   pub kept_failure : (growth : Growth) (entry : AskLog) → IsKept table asks retiring (Some growth) roster armed ranges spare room
-      → IsGranted (table.log ++ Drop growth.run ∷ []) entry.outcome → 2 ≤ spare
+      → IsGranted (table.log ++ Drop growth.run ∷ []) entry.outcome
+      → IsCaused table.pools (table.log ++ Drop growth.run ∷ []) asks.entries entry → 2 ≤ spare
       → IsTable table.pools (table.log ++ Drop growth.run ∷ []) (rows_in (without_run growth.run table.segments))
       → IsKept
       (record table {
@@ -118,7 +121,7 @@ module _ {table : TableView} {asks : AsksView} {retiring : List Run} {roster : L
       ranges
       (spare - 2)
       room
-  kept_failure growth entry kept granted some new =
+  kept_failure growth entry kept granted cause some new =
       let run : Run = growth.run in
       let fewer = aside_push asks.entries entry armed in
       let outside : Segment → Bool = λ segment. not (in_run run segment.row) in
@@ -134,10 +137,17 @@ module _ {table : TableView} {asks : AsksView} {retiring : List Run} {roster : L
           opened = opened;
           stamped = opened;
           retired = All-filter outside (λ segment. is_retiring segment.state ≡ in_runs retiring segment.row) table.segments kept.sound.retired;
+          heaps =
+              All-filter outside (λ segment. IsOfHeap (table.log ++ Drop run ∷ []) segment) table.segments
+              (heaps_stay table.log (Drop run ∷ []) table.segments kept.sound.heaps);
           logged = tt;
+          noted = tt;
           granted =
               All-push (λ entry. IsGranted (table.log ++ Drop run ∷ []) entry.outcome) asks.entries entry
               (grants_stay table.log (Drop run ∷ []) asks.entries kept.sound.granted) granted;
+          caused =
+              caused_push table.pools (table.log ++ Drop run ∷ []) [] asks.entries entry
+              (caused_stays table.pools table.log (Drop run ∷ []) [] asks.entries kept.sound.caused) cause;
           participants = kept.sound.participants;
           ranges = kept.sound.ranges;
         };

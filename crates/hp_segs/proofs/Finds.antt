@@ -2,7 +2,7 @@
 use Rattle.std.proofs.Common.{◌≡◌, ℕ, zero, suc, ◌+◌, ◌<◌, ◌≤◌, Bool, true, false, List, [], ◌∷◌, length, get_or, drop, Option, Some, None, refl, add-one, arith, sum_by, take, map, cond, ap, ◌∙◌}
 use Rattle.std.proofs.Math.Seq.{drop-cons}
 use Rattle.std.proofs.lemmas.List.Sums.{sum_by_more_le}
-use Rattle.std.specs.List.{find, list_any, fold}
+use Rattle.std.specs.List.{find, list_any}
 use Rattle.std.specs.Option.{option_map}
 
 module _ {X : Type 0} (p : X → Bool) where
@@ -57,17 +57,3 @@ pub find_mapped : {X Y : Type 0} (p : Y → Bool) (f : X → Y) (xs : List X) �
 find_mapped p f [] = refl
 find_mapped p f (x ∷ xs) =
     ap (λ found. cond (p (f x)) (Some (f x)) found) (find_mapped p f xs) ∙ find_by (p (f x)) x f (find (λ x. p (f x)) xs)
-
--- a fold over what is left
-pub fold_step : {X Y : Type 0} (f : Y → X → Y) (a : Y) (xs : List X) (i : ℕ) (d : X) → i < length xs
-    → fold f a (drop i xs) ≡ fold f (f a (get_or xs i d)) (drop (i + 1) xs)
-fold_step f a xs i d within = rw (add-one, drop-cons xs i d within) refl
-
-pub drop_end : {X : Type 0} (xs : List X) (i : ℕ) → length xs ≤ i → drop i xs ≡ []
-drop_end [] zero past = refl
-drop_end [] (suc i) past = refl
-drop_end (x ∷ xs) zero past = absurd (omega (arith, past))
-drop_end (x ∷ xs) (suc i) past = drop_end xs i (omega arith)
-
-pub drop_here : {X : Type 0} (xs : List X) (i : ℕ) (d : X) → i < length xs → drop i xs ≡ get_or xs i d ∷ drop (i + 1) xs
-drop_here xs i d within = rw add-one (drop-cons xs i d within)

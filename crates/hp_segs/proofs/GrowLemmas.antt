@@ -2,6 +2,8 @@
 use Rattle.std.proofs.Common.{◌≡◌, ◌==◌, ℕ, zero, suc, ◌-◌, ◌<◌, ◌≤◌, Bool, true, false, not, cond, List, [], ◌∷◌, ◌++◌, map, length, filter, get_or, Some, refl, ap, ◌∙◌, sym, subst, arith, inl, inr, slice_index}
 use Rattle.std.specs.List.{All, AllPairs, slice_get, slice_set}
 use Rattle.std.specs.Option.{option_map_or}
+use Rattle.std.proofs.lemmas.List.{map-append}
+use Rattle.std.proofs.lemmas.List.Folds.{map_fixed}
 use Rattle.std.proofs.lemmas.Bool.{cases_lt, eq-eqb, eqb-true, false_from_ne_true, and_parts, and_from}
 use Rattle.std.proofs.lemmas.List.Elements.{All-head, All-tail, All-map, filter-append, filter_passes}
 use Rattle.hp_base.specs.Pages.{pages_of}
@@ -22,7 +24,7 @@ use Rattle.hp_segs.specs.declared.growth.Growth.{Growth}
 use Rattle.hp_segs.specs.declared.row_state.RowState.{RowState}
 use Rattle.hp_segs.specs.declared.row_state.RowState.TheVariants.{Opened, Agreed}
 use Rattle.hp_segs.specs.declared.row_state.Segment.{Segment}
-use Rattle.hp_segs.proofs.ListFacts.{filter_keeps, map_append, map_keeps, map_after, all_kept}
+use Rattle.hp_segs.proofs.ListFacts.{filter_keeps, map_after, all_kept}
 use Rattle.hp_segs.proofs.ListsLemmas.{line_of_list}
 use Rattle.hp_segs.proofs.MachineLemmas.{free_at}
 use Rattle.hp_segs.proofs.PoolCounts.{added_count, run_of_pool}
@@ -105,7 +107,7 @@ grant_rows segs growth stamped behind =
     all_kept settled (λ segment. is_opened segment.state ≡ has_stamp (Some growth) segment.row) (λ segment. (segment.row.generation == generation) ≡ false)
     (λ segment kept stamp. sym stamp ∙ closed_state (is_opened segment.state) kept) segs.segments stamped in
     let kept : map agree old ≡ old =
-    map_keeps agree old (λ k d within. ap (λ b. cond b (segment_of (Agreed growth.ask.heap) (get_or old k d).row) (get_or old k d)) (other k d within)) in
+    map_fixed agree old (λ k d within. ap (λ b. cond b (segment_of (Agreed growth.ask.heap) (get_or old k d).row) (get_or old k d)) (other k d within)) in
     let changed : map agree (map (segment_of Opened) fresh) ≡ agreed =
     map_after agree (segment_of Opened) (segment_of (Agreed growth.ask.heap)) fresh
     (all_rows_below (λ row. agree (segment_of Opened row) ≡ segment_of (Agreed growth.ask.heap) row) growth.run generation growth.run.count
@@ -113,7 +115,7 @@ grant_rows segs growth stamped behind =
     ap (λ b. cond b (segment_of (Agreed growth.ask.heap) (row_of growth.run generation k)) (segment_of Opened (row_of growth.run generation k)))
     (eq-eqb generation generation refl))) in
     let whole : map agree segs.segments ≡ old ++ agreed =
-    ap (map agree) behind ∙ (map_append agree old (map (segment_of Opened) fresh) ∙ (ap (λ xs. xs ++ map agree (map (segment_of Opened) fresh)) kept ∙ ap (λ xs. old ++ xs) changed)) in
+    ap (map agree) behind ∙ (map-append agree old (map (segment_of Opened) fresh) ∙ (ap (λ xs. xs ++ map agree (map (segment_of Opened) fresh)) kept ∙ ap (λ xs. old ++ xs) changed)) in
     let old_stays : filter settled old ≡ old = filter_keeps settled old (filter_passes settled segs.segments) in
     let new_stays : filter settled agreed ≡ agreed =
     filter_keeps settled agreed

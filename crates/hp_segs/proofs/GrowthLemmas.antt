@@ -1,6 +1,7 @@
 -- The open growth stays where states of other rows change.
 use Rattle.std.proofs.Common.{◌≡◌, Bool, true, false, not, List, ◌++◌, map, if◌then◌else◌, ap, ◌∙◌, sym, subst, refl}
 use Rattle.std.specs.List.{All}
+use Rattle.std.proofs.lemmas.List.{map-append}
 use Rattle.hp_base.specs.declared.row.Row.{Row}
 use Rattle.hp_base.specs.declared.pool_line.PoolLine.{PoolLine}
 use Rattle.hp_segs.specs.Machine.{unopened}
@@ -14,7 +15,7 @@ use Rattle.hp_segs.specs.declared.growth.Growth.{Growth}
 use Rattle.hp_segs.specs.declared.log_record.LogRecord.{LogRecord}
 use Rattle.hp_segs.specs.declared.row_state.RowState.TheVariants.{Opened}
 use Rattle.hp_segs.specs.declared.row_state.Segment.{Segment}
-use Rattle.hp_segs.proofs.ListFacts.{filter_mapped, map_append, map_after}
+use Rattle.hp_segs.proofs.ListFacts.{filter_mapped, map_after}
 use Rattle.hp_segs.proofs.StateLemmas.{rows_stay}
 
 -- a test chooses between the same
@@ -35,10 +36,11 @@ growth_stays {pools} f segments growth row test own old =
     record {
       participant = old.participant;
       some = old.some;
+      last = old.last;
       added = old.added;
       behind =
           ap (map f) old.behind
-          ∙ (map_append f (unopened segments) (map (segment_of Opened) rows)
+          ∙ (map-append f (unopened segments) (map (segment_of Opened) rows)
           ∙ (ap (λ more. map f (unopened segments) ++ more) (map_after f (segment_of Opened) (segment_of Opened) rows own)
           ∙ ap (λ front. front ++ map (segment_of Opened) rows) (sym others)));
       first = subst (λ rows. IsFirstFor pools rows growth.ask growth.run) (sym same) old.first;

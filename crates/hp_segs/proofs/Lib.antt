@@ -1,11 +1,17 @@
 pub mod AddLemmas
+pub mod CausedLemmas
 pub mod ClaimLemmas
+pub mod CloseLemmas
 pub mod ClosedLemmas
 pub mod Counts
 pub mod DropLemmas
 pub mod Finds
+pub mod GrantLemmas
 pub mod GrowLemmas
+pub mod GrowthCauses
 pub mod GrowthLemmas
+pub mod HeapRows
+pub mod InsertLemmas
 pub mod KeptLemmas
 pub mod LeaveLemmas
 pub mod ListFacts
@@ -19,6 +25,7 @@ pub mod NewLemmas
 pub mod PageSizes
 pub mod OnePool
 pub mod OpenLemmas
+pub mod OwnedLemmas
 pub mod Pigeonhole
 pub mod PlanLemmas
 pub mod PlannedLemmas
@@ -26,8 +33,10 @@ pub mod PoolCounts
 pub mod QueryLemmas
 pub mod Ranges
 pub mod RangeLemmas
+pub mod RefusalLemmas
 pub mod RemoveAllLemmas
 pub mod RemoveLemmas
+pub mod RetireGrowth
 pub mod RetireLemmas
 pub mod RowLemmas
 pub mod SlotLemmas

@@ -9,6 +9,16 @@ all_unmap P f [] all = All-nil (λ x. P (f x))
 all_unmap P f (x ∷ xs) all =
     All-cons (λ x. P (f x)) x xs (All-head P (f x) (map f xs) all) (all_unmap P f xs (All-tail P (f x) (map f xs) all))
 
+-- what holds of all of two lists holds of each
+pub split_front : {X : Type 0} (P : X → Type 0) (xs ys : List X) → All P (xs ++ ys) → All P xs
+split_front P [] ys all = All-nil P
+split_front P (x ∷ xs) ys all =
+    All-cons P x xs (All-head P x (xs ++ ys) all) (split_front P xs ys (All-tail P x (xs ++ ys) all))
+
+pub split_back : {X : Type 0} (P : X → Type 0) (xs ys : List X) → All P (xs ++ ys) → All P ys
+split_back P [] ys all = all
+split_back P (x ∷ xs) ys all = split_back P xs ys (All-tail P x (xs ++ ys) all)
+
 -- what a filter keeps has what held before and the test
 pub all_kept : {X : Type 0} (p : X → Bool) (P Q : X → Type 0) → ((x : X) → p x ≡ true → P x → Q x) → (xs : List X)
     → All P xs → All Q (filter p xs)
@@ -25,16 +35,6 @@ pub get_stays : {X : Type 0} (xs ys : List X) (i : ℕ) (x : X) → slice_get xs
 get_stays [] ys i x here = cc
 get_stays (y ∷ xs) ys zero x here = here
 get_stays (y ∷ xs) ys (suc i) x here = get_stays xs ys i x here
-
-get_nil : {Y : Type 0} {y : Y} (i : ℕ) → get_or [] i y ≡ y
-get_nil zero = refl
-get_nil (suc i) = refl
-
--- the element at a place of a list that is mapped
-pub get_mapped : {X Y : Type 0} (f : X → Y) (xs : List X) (i : ℕ) (d : X) → get_or (map f xs) i (f d) ≡ f (get_or xs i d)
-get_mapped f [] i d = get_nil i
-get_mapped f (x ∷ xs) zero d = refl
-get_mapped f (x ∷ xs) (suc i) d = get_mapped f xs i d
 
 -- a filter that keeps all, or nothing
 pub filter_keeps : {X : Type 0} (p : X → Bool) (xs : List X) → All (λ x. p x ≡ true) xs → filter p xs ≡ xs
@@ -59,22 +59,6 @@ filter_mapped p f [] same = refl
 filter_mapped p f (x ∷ xs) same =
     ap (λ b. cond b (f x ∷ filter p (map f xs)) (filter p (map f xs))) (All-head (λ x. p (f x) ≡ p x) x xs same)
     ∙ map_by f (p x) x (filter p (map f xs)) (filter p xs) (filter_mapped p f xs (All-tail (λ x. p (f x) ≡ p x) x xs same))
-
-pub append_nil : {X : Type 0} (xs : List X) → xs ++ [] ≡ xs
-append_nil [] = refl
-append_nil (x ∷ xs) = ap (λ rest. x ∷ rest) (append_nil xs)
-
-pub map_append : {X Y : Type 0} (f : X → Y) (xs ys : List X) → map f (xs ++ ys) ≡ map f xs ++ map f ys
-map_append f [] ys = refl
-map_append f (x ∷ xs) ys = ap (λ rest. f x ∷ rest) (map_append f xs ys)
-
--- a map that changes nothing
-pub map_keeps : {X : Type 0} (f : X → X) (xs : List X) → All (λ x. f x ≡ x) xs → map f xs ≡ xs
-map_keeps f [] all = refl
-map_keeps f (x ∷ xs) all =
-    let here = All-head (λ x. f x ≡ x) x xs all in
-    let rest = map_keeps f xs (All-tail (λ x. f x ≡ x) x xs all) in
-    cc
 
 -- a map after another
 pub map_after : {X Y : Type 0} (f : Y → Y) (g h : X → Y) (xs : List X) → All (λ x. f (g x) ≡ h x) xs → map f (map g xs) ≡ map h xs

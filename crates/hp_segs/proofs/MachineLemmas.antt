@@ -1,6 +1,7 @@
 -- The calls of a segment value as steps of the plain machine.
 use Rattle.std.proofs.Common.{◌≡◌, ◌==◌, ℕ, zero, suc, ◌+◌, ◌≤◌, Bool, true, false, not, ◌&&◌, ◌||◌, cond, List, [], ◌∷◌, ◌++◌, map, length, filter, get_or, Option, Some, refl, ap, ◌∙◌, sym, subst, arith, count_by, slice_index}
 use Rattle.std.specs.List.{All, slice_get}
+use Rattle.std.proofs.lemmas.List.{append-nil}
 use Rattle.std.proofs.lemmas.List.Elements.{filter-append}
 use Rattle.std.proofs.lemmas.List.Sums.{count_by-le-length}
 use Rattle.std.proofs.lemmas.Bool.{not_from_true, not_from_false}
@@ -23,14 +24,14 @@ use Rattle.hp_segs.specs.declared.log_record.LogRecord.TheVariants.{Add, Drop}
 use Rattle.hp_segs.specs.declared.row_state.RowState.TheVariants.{Retiring}
 use Rattle.hp_segs.specs.declared.row_state.Segment.{Segment}
 use Rattle.hp_segs.proofs.Counts.{count_split, count_agree, count_cons}
-use Rattle.hp_segs.proofs.KeptLemmas.{chosen_test, claimed_opened}
+use Rattle.hp_segs.proofs.ClaimLemmas.{chosen_test, claimed_opened}
 use Rattle.hp_segs.proofs.LogLemmas.{table_of_push}
 use Rattle.hp_segs.proofs.OpenLemmas.{none_in_unused}
 use Rattle.hp_segs.proofs.RemoveAllLemmas.{filter_alike, filter_twice}
-use Rattle.hp_segs.proofs.RetireLemmas.{none_growth}
+use Rattle.hp_segs.proofs.OwnedLemmas.{none_growth}
 use Rattle.hp_segs.proofs.RowLemmas.{all_rows_below, in_run_from, row_at_place}
 use Rattle.hp_segs.proofs.StateLemmas.{claimed_rows, retired_rows, unopened_before}
-use Rattle.hp_segs.proofs.ListFacts.{append_nil, filter_keeps, filter_drops, filter_mapped}
+use Rattle.hp_segs.proofs.ListFacts.{filter_keeps, filter_drops, filter_mapped}
 use Rattle.hp_segs.proofs.TableUse.{at_place}
 
 and_swap : (a b : Bool) → (a && b) ≡ (b && a)
@@ -63,7 +64,7 @@ failed_growth_leaves log run heap unused =
     table_of_push (log ++ Add run heap ∷ []) (Drop run)
     ∙ (ap (filter outside) added
     ∙ (filter-append outside (table_of log) (rows_of run (length log + 1))
-    ∙ (ap (λ more. filter outside (table_of log) ++ more) gone ∙ (append_nil (filter outside (table_of log)) ∙ kept))))
+    ∙ (ap (λ more. filter outside (table_of log) ++ more) gone ∙ (append-nil (filter outside (table_of log)) ∙ kept))))
 
 pub calls_move : CallsMove
 calls_move call segs may = record {

@@ -75,17 +75,6 @@ pub record IsMade (pools : List PoolLine) (i : ℕ) (lists : List ListInfo) (mas
   pub its_counts : All (λ line. pool_of counts line.socket line.page ≡ Some (pool_beside [] line)) (take i pools)
   pub its_slots : slots ≡ sum_by (λ line. line.slots) (take i pools)
 
-pub made_none : (pools : List PoolLine) → IsMade pools 0 [] [] [] (2 ^ 32) 0
-made_none pools = record {
-  its_lists = refl;
-  its_masks = refl;
-  its_end = refl;
-  low = omega arith;
-  fit = All-nil IsFitList;
-  its_counts = All-nil (λ line. pool_of [] line.socket line.page ≡ Some (pool_beside [] line));
-  its_slots = refl;
-}
-
 other_count : (old new : List Pool) (line other : PoolLine) → AddsLine old new line → (other.socket ≡ line.socket) ⊎ (other.socket ≡ line.socket → ⊥)
     → (other.page ≡ line.page) ⊎ (other.page ≡ line.page → ⊥)
     → pool_of old other.socket other.page ≡ Some (pool_beside [] other)

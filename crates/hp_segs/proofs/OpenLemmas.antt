@@ -1,7 +1,6 @@
 -- A growth that opens keeps the value sound.
-use Rattle.std.proofs.Common.{◌≡◌, ◌==◌, ℕ, ◌+◌, ◌-◌, ◌<◌, ◌≤◌, Bool, true, false, ◌||◌, cond, List, [], ◌∷◌, ◌++◌, map, length, get_or, Option, Some, None, refl, ap, ◌∙◌, sym, subst, arith, count_by, not}
+use Rattle.std.proofs.Common.{◌≡◌, ◌==◌, ℕ, ◌+◌, ◌-◌, ◌<◌, ◌≤◌, Bool, true, false, ◌||◌, cond, List, [], ◌∷◌, ◌++◌, map, length, get_or, Option, Some, None, IfSome, refl, ap, ◌∙◌, sym, subst, arith, count_by, length-append, not}
 use Rattle.std.specs.List.{All, slice_get}
-use Rattle.std.specs.Option.{option_and_then}
 use Rattle.std.proofs.lemmas.Bool.{eq-eqb, ne_eqb, and_parts, eqb-true, leb-true, ltb-true, false_from_ne_true, and_from}
 use Rattle.std.proofs.lemmas.List.Elements.{All-append, All-cons, All-map, All-weaker}
 use Rattle.std.proofs.lemmas.List.Folds.{list_any_at, list_any_none}
@@ -11,8 +10,8 @@ use Rattle.hp_segs.specs.AsksView.{AsksView}
 use Rattle.hp_segs.specs.Lists.{lists_of}
 use Rattle.hp_segs.specs.Rows.{row_of, rows_of, rows_at, at_slot, in_run, IsUnusedRun, IsUsedRun}
 use Rattle.hp_segs.specs.SegsLayout.{IsKept}
-use Rattle.hp_segs.specs.SegsView.{rows_in, is_opened, is_retiring, run_of, added_run}
-use Rattle.hp_segs.specs.Sound.{AreHeld, IsGranted, has_slot, in_runs, has_stamp}
+use Rattle.hp_segs.specs.SegsView.{rows_in, is_opened, is_retiring}
+use Rattle.hp_segs.specs.Sound.{AreHeld, has_slot, in_runs, has_stamp}
 use Rattle.hp_segs.specs.Steps.{segment_of}
 use Rattle.hp_segs.specs.Table.{HasPages, TableView, IsTable, IsListRun, IsStamped}
 use Rattle.hp_segs.specs.declared.ask.Ask.{Ask}
@@ -21,15 +20,15 @@ use Rattle.hp_segs.specs.declared.growth.Growth.{Growth}
 use Rattle.hp_segs.specs.declared.list_info.ListInfo.{ListInfo}
 use Rattle.hp_segs.specs.declared.log_record.LogRecord.{LogRecord}
 use Rattle.hp_segs.specs.declared.log_record.LogRecord.TheVariants.{Add}
-use Rattle.hp_segs.specs.declared.outcome.AskLog.{AskLog}
-use Rattle.hp_segs.specs.declared.outcome.Outcome.{Outcome}
-use Rattle.hp_segs.specs.declared.outcome.Outcome.TheVariants.{Granted, Refused, Stale, Freed}
 use Rattle.hp_segs.specs.declared.row_state.RowState.TheVariants.{Opened}
 use Rattle.hp_segs.proofs.Counts.{count_append, count_cons, count_none, any_counts}
-use Rattle.hp_segs.proofs.ListFacts.{filter_keeps, all_unmap, get_pushed, get_stays}
+use Rattle.hp_segs.proofs.ListFacts.{filter_keeps, all_unmap, get_pushed}
 use Rattle.hp_segs.proofs.RowLemmas.{all_rows_below, run_slot_once, place_in_run, in_run_from, row_at_place}
 use Rattle.hp_segs.specs.Machine.{unopened}
 use Rattle.hp_segs.specs.Plan.{IsFirstFor}
+use Rattle.hp_segs.specs.Refusals.{IsNotedCause}
+use Rattle.hp_segs.proofs.CausedLemmas.{caused_stays, grants_stay}
+use Rattle.hp_segs.proofs.HeapRows.{heaps_open}
 use Rattle.hp_segs.proofs.StateLemmas.{opened_rows, unopened_before}
 
 -- a row of a table is counted at its slot
@@ -136,39 +135,10 @@ outside_runs rows run runs row list slot unused used its_list its_slot has =
     ∙ (ap (λ s. has_slot list s (get_or runs k d)) its_slot ∙ none_has rows run runs list slot unused used has k d within))
 
 -- a record behind others
-pub run_of_pushed : (log : List LogRecord) (run : Run) (heap : ℕ) → run_of (log ++ Add run heap ∷ []) (length log + 1) ≡ Some run
-run_of_pushed log run heap =
+pub record_pushed : (log : List LogRecord) (entry : LogRecord) → slice_get (log ++ entry ∷ []) (length log + 1 - 1) ≡ Some entry
+record_pushed log entry =
     let place : length log + 1 - 1 ≡ length log = omega arith in
-    ap (λ i. option_and_then added_run (slice_get (log ++ Add run heap ∷ []) i)) place
-    ∙ ap (option_and_then added_run) (get_pushed log (Add run heap))
-
-stays_by : (log more : List LogRecord) (i : ℕ) (run : Run) (entry : Option LogRecord) → slice_get log i ≡ entry → option_and_then added_run entry ≡ Some run
-    → option_and_then added_run (slice_get (log ++ more) i) ≡ Some run
-stays_by log more i run None here added = cc
-stays_by log more i run (Some entry) here added =
-    ap (option_and_then added_run) (get_stays log more i entry here) ∙ added
-
-pub run_of_stays : (log more : List LogRecord) (generation : ℕ) (run : Run) → run_of log generation ≡ Some run
-    → run_of (log ++ more) generation ≡ Some run
-run_of_stays log more generation run added = stays_by log more (generation - 1) run (slice_get log (generation - 1)) refl added
-
-granted_stays : (log more : List LogRecord) (outcome : Outcome) → IsGranted log outcome → IsGranted (log ++ more) outcome
-granted_stays log more (Granted generation) granted =
-    (granted.0, (granted.1.0, run_of_stays log more generation granted.1.0 granted.1.1))
-granted_stays log more (Refused cause) granted = tt
-granted_stays log more (Stale done) granted = tt
-granted_stays log more (Freed generation) granted = tt
-
--- grants stay where records come behind
-pub grants_stay : (log more : List LogRecord) (asks : List AskLog) → All (λ entry. IsGranted log entry.outcome) asks
-    → All (λ entry. IsGranted (log ++ more) entry.outcome) asks
-grants_stay log more asks granted =
-    All-weaker
-    (λ entry. IsGranted log entry.outcome)
-    (λ entry. IsGranted (log ++ more) entry.outcome)
-    (λ entry granted. granted_stays log more entry.outcome granted)
-    asks
-    granted
+    ap (slice_get (log ++ entry ∷ [])) place ∙ get_pushed log entry
 
 or_true : (b c : Bool) → b ≡ true → (b || c) ≡ true
 or_true b c is = ap (λ b. b || c) is
@@ -179,7 +149,7 @@ or_off b is = ap (λ b. b || false) is
 module _ {table : TableView} {asks : AsksView} {retiring : List Run} {roster : List Bool} {armed : List (Option Ask)} {ranges : List ExternalRange} {spare room : ℕ} where
   -- a growth opens by an unused run of a list
   pub kept_open : (growth : Growth) → IsKept table asks retiring None roster armed ranges spare room
-      → growth.generation ≡ length table.log + 1 → growth.ask.from < 16
+      → growth.generation ≡ length table.log + 1 → growth.noted ≡ None → growth.ask.from < 16
       → IsListRun (lists_of table.pools) growth.run → IsUnusedRun (rows_in table.segments) growth.run → 0 < spare
       → IsFirstFor table.pools (rows_in table.segments) growth.ask growth.run → HasPages table.pools (rows_in table.segments) growth.run
       → IsTable table.pools (table.log ++ Add growth.run growth.ask.heap ∷ [])
@@ -198,7 +168,7 @@ module _ {table : TableView} {asks : AsksView} {retiring : List Run} {roster : L
       ranges
       (spare - 1)
       room
-  kept_open growth kept stamp participant listed unused some first pages new =
+  kept_open growth kept stamp unnoted participant listed unused some first pages new =
       let run : Run = growth.run in
       let generation : ℕ = length table.log + 1 in
       let fresh : List Row = rows_of run generation in
@@ -246,18 +216,22 @@ module _ {table : TableView} {asks : AsksView} {retiring : List Run} {roster : L
               sym
               (outside_runs (rows_in table.segments) run retiring (row_of run generation k) run.list (run.first + k) unused kept.sound.held.used
               refl refl (in_run_from run k (row_of run generation k) below (row_at_place run generation k))))));
+          heaps = heaps_open table.log (Add run growth.ask.heap ∷ []) table.segments fresh kept.sound.heaps;
           logged = record {
             participant = participant;
             some = omega (arith, stamp);
+            last = omega (arith, stamp, length-append table.log (Add run growth.ask.heap ∷ []));
             added =
-                ap (λ g. run_of (table.log ++ Add run growth.ask.heap ∷ []) g) stamp ∙ run_of_pushed table.log run growth.ask.heap;
+                ap (λ g. slice_get (table.log ++ Add run growth.ask.heap ∷ []) (g - 1)) stamp ∙ record_pushed table.log (Add run growth.ask.heap);
             behind =
                 ap (λ front. front ++ map (segment_of Opened) fresh) (sym others)
                 ∙ ap (λ g. unopened (table.segments ++ map (segment_of Opened) fresh) ++ map (segment_of Opened) (rows_of run g)) (sym stamp);
             first = subst (λ segments. IsFirstFor table.pools (rows_in segments) growth.ask run) (sym others) first;
             pages = subst (λ segments. HasPages table.pools (rows_in segments) run) (sym others) pages;
           };
+          noted = subst (λ noted. IfSome noted (IsNotedCause asks.entries growth)) (sym unnoted) tt;
           granted = grants_stay table.log (Add run growth.ask.heap ∷ []) asks.entries kept.sound.granted;
+          caused = caused_stays table.pools table.log (Add run growth.ask.heap ∷ []) [] asks.entries kept.sound.caused;
           participants = kept.sound.participants;
           ranges = kept.sound.ranges;
         };

@@ -1,14 +1,12 @@
 -- External memory within its limits.
-use Rattle.std.proofs.Common.{◌≡◌, ◌==◌, nat_lt, ℕ, zero, suc, ◌+◌, ◌*◌, ◌/◌, ◌%◌, ◌^◌, ◌<◌, ◌≤◌, Bool, true, false, not, List, [], ◌∷◌, ◌++◌, length, filter, Option, Some, None, Ok, Err, refl, ap, ◌∙◌, subst, arith, sum_by, if◌then◌else◌}
-use Rattle.std.proofs.Math.Nat.{div-mul-le_self}
+use Rattle.std.proofs.Common.{◌≡◌, ◌==◌, nat_lt, ℕ, zero, suc, ◌+◌, ◌/◌, ◌%◌, ◌^◌, ◌<◌, ◌≤◌, Bool, true, false, not, List, [], ◌∷◌, ◌++◌, length, filter, Option, Some, None, Ok, Err, refl, ap, ◌∙◌, subst, arith, sum_by, if◌then◌else◌}
 use Rattle.std.specs.Int.{is_power_of_two}
 use Rattle.std.specs.List.{All, range_with_len}
 use Rattle.std.proofs.lemmas.Bool.{or_parts, ltb-false}
 use Rattle.std.proofs.lemmas.List.Elements.{All-push, All-filter, All-nil, All-cons}
 use Rattle.std.proofs.lemmas.List.Sums.{sum_by_push}
 use Rattle.std.proofs.lemmas.List.Filters.{sum_by-filter_both}
-use Rattle.hp_base.proofs.PageLemmas.{page_pos}
-use Rattle.hp_segs.specs.Ranges.{is_bad_range, info_of, range_segments, range_plan, range_apart, range_list, overlap_of, free_number, is_free_number, is_too_much, segment_count}
+use Rattle.hp_segs.specs.Ranges.{is_bad_range, range_segments, range_plan, range_apart, range_list, overlap_of, free_number, is_free_number, is_too_much, segment_count}
 use Rattle.hp_base.specs.declared.pool_line.PoolLine.{PoolLine}
 use Rattle.hp_base.specs.declared.row.Row.{Row}
 use Rattle.hp_base.specs.declared.row.Run.{Run}
@@ -21,9 +19,7 @@ use Rattle.hp_segs.specs.declared.growth.Growth.{Growth}
 use Rattle.hp_segs.specs.declared.fault.RangeFault.TheVariants.{BadRange, NoSpace}
 use Rattle.hp_segs.proofs.ClaimLemmas.{found_has}
 use Rattle.hp_segs.specs.Sound.{IsRange, AreRanges}
-use Rattle.hp_segs.specs.TableLayout.{IsFitList, IsExtent}
 use Rattle.hp_segs.specs.declared.external_range.ExternalRange.{ExternalRange}
-use Rattle.hp_segs.specs.declared.list_info.ListInfo.{ListInfo}
 
 -- good pages of external memory
 pub record IsGood (addr len page : ℕ) : Type 0 where
@@ -43,25 +39,6 @@ good_is addr len page good =
       page_low = ltb-false page 4096 low.0;
       page_high = ltb-false (2 ^ 34) page high.0;
       end = ltb-false (2 ^ 63) (addr + len) ends.1;
-    }
-
--- a list of a pool is an extent
-pub extent_of_list : (info : ListInfo) → IsFitList info → IsExtent info
-extent_of_list info fit = record {
-  some = page_pos info.page fit.page;
-  slots = omega (arith, fit.slots);
-  below = fit.below;
-}
-
--- the list of external memory is an extent
-pub extent_of_range : (range : ExternalRange) → IsRange range → IsExtent (info_of range)
-extent_of_range range is =
-    let good = good_is range.addr range.len range.page is.good in
-    let bytes : range.len / range.page * range.page ≤ range.len = div-mul-le_self range.len range.page in
-    record {
-      some = omega (arith, good.page_low);
-      slots = omega (arith, is.segments);
-      below = omega (arith, bytes, good.end);
     }
 
 -- a range that gets a list is good, has a number below 128, and leaves all segments few
@@ -150,8 +127,11 @@ kept_ranges others are kept = record {
     opened = kept.sound.opened;
     stamped = kept.sound.stamped;
     retired = kept.sound.retired;
+    heaps = kept.sound.heaps;
     logged = kept.sound.logged;
+    noted = kept.sound.noted;
     granted = kept.sound.granted;
+    caused = kept.sound.caused;
     participants = kept.sound.participants;
     ranges = are;
   };

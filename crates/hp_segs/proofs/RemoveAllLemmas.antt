@@ -3,6 +3,7 @@ use Rattle.std.proofs.Common.{◌≡◌, ℕ, ◌+◌, ◌-◌, ◌<◌, ◌≤�
 use Rattle.std.proofs.Math.Seq.{drop-cons}
 use Rattle.std.specs.List.{All}
 use Rattle.std.proofs.lemmas.Bool.{not-true}
+use Rattle.std.proofs.lemmas.List.{append-nil}
 use Rattle.std.proofs.lemmas.List.Elements.{All-head, All-tail, All-nil, All-filter}
 use Rattle.hp_base.specs.declared.row.Row.{Row}
 use Rattle.hp_base.specs.declared.row.Run.{Run}
@@ -20,8 +21,9 @@ use Rattle.hp_segs.specs.declared.external_range.ExternalRange.{ExternalRange}
 use Rattle.hp_segs.specs.declared.list_info.ListInfo.{ListInfo}
 use Rattle.hp_segs.specs.declared.log_record.LogRecord.TheVariants.{Drop}
 use Rattle.hp_segs.specs.declared.row_state.Segment.{Segment}
-use Rattle.hp_segs.proofs.ListFacts.{append_nil, all_kept}
-use Rattle.hp_segs.proofs.OpenLemmas.{grants_stay}
+use Rattle.hp_segs.proofs.CausedLemmas.{caused_stays, grants_stay}
+use Rattle.hp_segs.proofs.HeapRows.{IsOfHeap, heaps_stay}
+use Rattle.hp_segs.proofs.ListFacts.{all_kept}
 
 -- the run at a place stands before those behind it
 pub held_from : {lists : List ListInfo} {rows : List Row} (runs : List Run) (i : ℕ) (d : Run) → i < length runs → AreHeld lists rows (drop i runs)
@@ -74,7 +76,7 @@ pub removed_all_is : (runs : List Run) (table : TableView)
       room = table.room - length runs;
     }
 removed_all_is [] table =
-    let log : table.log ≡ table.log ++ [] = sym (append_nil table.log) in
+    let log : table.log ≡ table.log ++ [] = sym (append-nil table.log) in
     let room : table.room ≡ table.room - 0 = omega arith in
     let segments : table.segments ≡ filter (λ segment. true) table.segments = sym (filter_all table.segments) in
     ap (λ l. record { pools = table.pools; log = l; segments = table.segments; room = table.room }) log
@@ -153,8 +155,13 @@ module _ {table : TableView} {asks : AsksView} {retiring : List Run} {roster : L
           retired =
               all_kept stays (λ segment. is_retiring segment.state ≡ in_runs retiring segment.row) (λ segment. is_retiring segment.state ≡ in_runs [] segment.row)
               (λ segment out is. not-true (is_retiring segment.state) out) table.segments kept.sound.retired;
+          heaps =
+              All-filter stays (λ segment. IsOfHeap (table.log ++ map (λ run. Drop run) retiring) segment) table.segments
+              (heaps_stay table.log (map (λ run. Drop run) retiring) table.segments kept.sound.heaps);
           logged = tt;
+          noted = tt;
           granted = grants_stay table.log (map (λ run. Drop run) retiring) asks.entries kept.sound.granted;
+          caused = caused_stays table.pools table.log (map (λ run. Drop run) retiring) [] asks.entries kept.sound.caused;
           participants = kept.sound.participants;
           ranges = kept.sound.ranges;
         };

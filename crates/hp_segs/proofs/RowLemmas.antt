@@ -162,12 +162,3 @@ run_slot_once run generation (suc n) k within =
     (run_slot_once run generation n k)
     (cases_eq k n)
     (run_rows_at run generation n run.list (run.first + k))
-
--- the rows of a run at a slot are none where the slot is not the run's
-pub run_slot_none : (run : Run) (generation n list slot : ℕ) → ((k : ℕ) → k < n → list ≡ run.list → slot ≡ run.first + k → ⊥)
-    → rows_at (rows_below run generation n) list slot ≡ 0
-run_slot_none run generation n list slot outside =
-    elim (run_rows_at run generation n list slot) [
-      | inl none ↦ none
-      | inr at ↦ absurd (outside at.place at.within at.its_list at.its_slot)
-    ]

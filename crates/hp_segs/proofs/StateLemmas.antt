@@ -9,8 +9,8 @@ use Rattle.hp_segs.specs.declared.row_state.RowState.{RowState}
 use Rattle.hp_segs.specs.declared.row_state.Segment.{Segment}
 use Rattle.hp_segs.specs.Machine.{unopened}
 use Rattle.hp_segs.specs.declared.row_state.RowState.TheVariants.{Opened}
+use Rattle.std.proofs.lemmas.List.{append-nil}
 use Rattle.std.proofs.lemmas.List.Elements.{filter-append}
-use Rattle.hp_segs.proofs.ListFacts.{append_nil}
 use Rattle.hp_segs.proofs.RemoveLemmas.{rows_without}
 
 -- the rows stay where each row does
@@ -88,4 +88,4 @@ opened_gone (row ∷ rows) = opened_gone rows
 pub unopened_before : (segments : List Segment) (rows : List Row) → unopened (segments ++ map (segment_of Opened) rows) ≡ unopened segments
 unopened_before segments rows =
     filter-append (λ segment. not (is_opened segment.state)) segments (map (segment_of Opened) rows)
-    ∙ (ap (λ more. unopened segments ++ more) (opened_gone rows) ∙ append_nil (unopened segments))
+    ∙ (ap (λ more. unopened segments ++ more) (opened_gone rows) ∙ append-nil (unopened segments))

@@ -8,6 +8,7 @@ pub mod LaterSteps
 pub mod Ranges
 pub mod Calls
 pub mod Machine
+pub mod Refusals
 pub mod Causes
 pub mod Table
 pub mod Sound

@@ -1,5 +1,5 @@
 -- The log of records, and the table of rows that it leaves.
-use Rattle.std.specs.Prelude.{ℕ, ◌+◌, not, List, [], ◌∷◌, ◌++◌, take, filter}
+use Rattle.std.specs.Prelude.{◌≡◌, ℕ, ◌+◌, ◌-◌, not, List, [], ◌∷◌, ◌++◌, take, filter, Some, slice_get}
 use Rattle.hp_base.specs.declared.row.Row.{Row}
 use Rattle.hp_base.specs.declared.row.Run.{Run}
 use Rattle.hp_segs.specs.Rows.{rows_of, in_run, IsUnusedRun, IsUsedRun}
@@ -28,6 +28,11 @@ table_of log = table_from 0 [] log
 -- the table of the first n records
 abbrev pub table_at : List LogRecord → ℕ → List Row
 table_at log n = table_of (take n log)
+
+-- the record of that generation is an Add for the heap
+pub record IsAddFor (log : List LogRecord) (generation heap : ℕ) : Type 0 where
+  pub run : Run
+  pub added : slice_get log (generation - 1) ≡ Some (Add run heap)
 
 -- an Add may follow where the slots of its run are unused, a Drop where they are used
 abbrev pub MayFollow : List Row → LogRecord → Type 0

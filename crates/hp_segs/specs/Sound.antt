@@ -1,5 +1,5 @@
 -- What holds of every segment value.
-use Rattle.std.specs.Prelude.{◌≡◌, ℕ, ◌+◌, ◌/◌, ◌<◌, ◌≤◌, Bool, false, ◌&&◌, ◌==◌, nat_le, nat_lt, List, ◌++◌, length, map, Option, Some, None, count_by, sum_by}
+use Rattle.std.specs.Prelude.{◌≡◌, ℕ, ◌+◌, ◌-◌, ◌/◌, ◌<◌, ◌≤◌, Bool, false, ◌&&◌, ◌==◌, nat_le, nat_lt, List, [], ◌++◌, length, map, Option, Some, None, slice_get, count_by, sum_by}
 use Rattle.std.specs.List.{All, list_any}
 use Rattle.std.specs.Option.{option_map, option_to_list}
 use Rattle.hp_base.specs.declared.row.Row.{Row}
@@ -7,12 +7,16 @@ use Rattle.hp_base.specs.declared.row.Run.{Run}
 use Rattle.hp_base.specs.declared.pool_line.PoolLine.{PoolLine}
 use Rattle.hp_segs.specs.Rows.{in_run, rows_of, IsUsedRun}
 use Rattle.hp_segs.specs.Lists.{lists_of}
+use Rattle.hp_segs.specs.Log.{IsAddFor}
 use Rattle.hp_segs.specs.SegsView.{SegsView, rows_in, is_opened, is_retiring, run_of}
 use Rattle.hp_segs.specs.Ranges.{is_bad_range, range_segments}
 use Rattle.hp_segs.specs.Machine.{unopened}
+use Rattle.hp_segs.specs.Causes.{AllCaused}
 use Rattle.hp_segs.specs.Plan.{IsFirstFor}
+use Rattle.hp_segs.specs.Refusals.{IsNoted}
 use Rattle.hp_segs.specs.Steps.{segment_of}
-use Rattle.hp_segs.specs.declared.row_state.RowState.TheVariants.{Opened}
+use Rattle.hp_segs.specs.declared.row_state.RowState.{RowState}
+use Rattle.hp_segs.specs.declared.row_state.RowState.TheVariants.{Opened, Agreed, Owned, Retiring}
 use Rattle.hp_segs.specs.declared.row_state.Segment.{Segment}
 use Rattle.hp_segs.specs.Table.{HasPages, IsTable, IsListRun}
 use Rattle.hp_segs.specs.declared.ask.Ask.{Ask}
@@ -20,6 +24,7 @@ use Rattle.hp_segs.specs.declared.external_range.ExternalRange.{ExternalRange}
 use Rattle.hp_segs.specs.declared.growth.Growth.{Growth}
 use Rattle.hp_segs.specs.declared.list_info.ListInfo.{ListInfo}
 use Rattle.hp_segs.specs.declared.log_record.LogRecord.{LogRecord}
+use Rattle.hp_segs.specs.declared.log_record.LogRecord.TheVariants.{Add}
 use Rattle.hp_segs.specs.declared.outcome.Outcome.{Outcome}
 use Rattle.hp_segs.specs.declared.outcome.Outcome.TheVariants.{Granted, Refused, Stale, Freed}
 
@@ -46,12 +51,13 @@ abbrev pub has_stamp : Option Growth → Row → Bool
 has_stamp None row = false
 has_stamp (Some growth) row = row.generation == growth.generation
 
--- the growth is of a participant's ask; its record adds its run; its rows stand behind all others and are the Opened ones; and beside
--- the others its run is the first one of the pages asked, in a pool that has them
+-- the growth is of a participant's ask; the last record is its Add; its rows stand behind all others and are the Opened ones; and
+-- beside the others its run is the first one of the pages asked, in a pool that has them
 pub record IsGrowth (pools : List PoolLine) (log : List LogRecord) (segments : List Segment) (growth : Growth) : Type 0 where
   pub participant : growth.ask.from < 16
   pub some : 0 < growth.generation
-  pub added : run_of log growth.generation ≡ Some growth.run
+  pub last : growth.generation ≡ length log
+  pub added : slice_get log (growth.generation - 1) ≡ Some (Add growth.run growth.ask.heap)
   pub behind : segments ≡ unopened segments ++ map (segment_of Opened) (rows_of growth.run growth.generation)
   pub first : IsFirstFor pools (rows_in (unopened segments)) growth.ask growth.run
   pub pages : HasPages pools (rows_in (unopened segments)) growth.run
@@ -59,6 +65,13 @@ pub record IsGrowth (pools : List PoolLine) (log : List LogRecord) (segments : L
 abbrev pub IsLogged : List PoolLine → List LogRecord → List Segment → Option Growth → Type 0
 IsLogged pools log segments None = Unit {0}
 IsLogged pools log segments (Some growth) = IsGrowth pools log segments growth
+
+-- a row of that generation, where it is Agreed or Owned, was added for its heap
+abbrev pub IsStateOf : List LogRecord → ℕ → RowState → Type 0
+IsStateOf log generation Opened = Unit {0}
+IsStateOf log generation (Agreed heap) = IsAddFor log generation heap
+IsStateOf log generation (Owned heap) = IsAddFor log generation heap
+IsStateOf log generation Retiring = Unit {0}
 
 -- the record of a grant adds a run
 abbrev pub IsGranted : List LogRecord → Outcome → Type 0
@@ -94,7 +107,13 @@ pub record IsSound (segs : SegsView) : Type 0 where
   pub stamped : All (λ segment. is_opened segment.state ≡ has_stamp segs.growth segment.row) segs.segments
   -- the Retiring rows are those of the Retiring runs
   pub retired : All (λ segment. is_retiring segment.state ≡ in_runs segs.retiring segment.row) segs.segments
+  -- the rows of a heap were added for it
+  pub heaps : All (λ segment. IsStateOf segs.log segment.row.generation segment.state) segs.segments
   pub logged : IsLogged segs.pools segs.log segs.segments segs.growth
+  -- what is noted for the open growth is a failed mapping of one of its rows
+  pub noted : IsNoted segs.asks segs.growth
   pub granted : All (λ entry. IsGranted segs.log entry.outcome) segs.asks
+  -- each logged outcome has its cause
+  pub caused : AllCaused segs.pools segs.log [] segs.asks
   pub participants : ArePlaces segs.roster segs.armed
   pub ranges : AreRanges segs.pools segs.ranges

@@ -2,8 +2,7 @@
 use Rattle.std.proofs.Common.{◌<◌, ◌-◌, ◌∙◌, ap, arith, sym, length}
 use Rattle.std.specs.Option.{option_and_then}
 use Rattle.hp_segs.specs.SegsView.{granted_by, run_of}
-use Rattle.hp_segs.proofs.ClaimLemmas.{grant_is, record_within, record_read}
-use Rattle.hp_segs.proofs.KeptLemmas.{kept_claim}
+use Rattle.hp_segs.proofs.ClaimLemmas.{grant_is, kept_claim, record_within, record_read}
 use Rattle.hp_segs.proofs.segs.Segs.claim.Goals as goal
 
 pub overflow_sub-place : goal.overflow_sub-place

@@ -1,10 +1,10 @@
 -- Nothing is behind the last place.
 use Rattle.std.proofs.Common.{ap, sym, ◌≤◌, arith, length}
 use Rattle.hp_segs.specs.SegsView.{roster_bits}
-use Rattle.hp_segs.proofs.Finds.{drop_end}
+use Rattle.std.proofs.lemmas.List.{drop_all}
 use Rattle.hp_segs.proofs.segs.Segs.roster.Goals as goal
 
 pub loop-place-init : goal.loop-place-init
 loop-place-init c =
     let past : length c.self.inside.roster ≤ 16 = omega (arith, c.self.invariant.sound.participants.roster_places) in
-    record { bits = sym (ap roster_bits (drop_end c.self.inside.roster 16 past)); small = omega arith }
+    record { bits = sym (ap roster_bits (drop_all 16 c.self.inside.roster past)); small = omega arith }

@@ -1,0 +1,37 @@
+//! As many segments as there can be.
+
+use super::{PAGE, ask_for, take};
+use crate::{Ask, PoolLine, Segs};
+use hp_base::Row;
+use std::test::Fail;
+
+#[test]
+fn maps_all_segments_that_there_can_be(rt: HostRuntime) -> Result<(), Fail> {
+    let line = PoolLine {
+        socket: 0,
+        page: PAGE,
+        pages: 8192,
+        slots: 8192,
+    };
+    let pools = [line, PoolLine { socket: 1, ..line }];
+    let mut segs = Segs::new(rt.alloc(), pools.as_slice(), 1, 0)?;
+    let all = 8192 * PAGE - 128;
+    take(&mut segs, &ask_for(1, all, 0)?)?;
+    let ask = Ask {
+        socket: 1,
+        ..ask_for(2, all, 0)?
+    };
+    take(&mut segs, &ask)?;
+    let last = Row {
+        addr: 0x8_ffe0_0000,
+        page: PAGE,
+        socket: 1,
+        list: 1,
+        slot: 8191,
+        generation: 2,
+    };
+    assert_eq!(rt; segs.virt2row(0x8_ffff_ffff), Some(last));
+    assert_eq!(rt; segs.virt2row(0x9_0000_0000), None);
+    assert_eq!(rt; segs.total_of(1), 8192 * PAGE);
+    Ok(())
+}
