@@ -1,5 +1,5 @@
 -- A growth that has room for a request leaves an element to choose.
-use Rattle.std.proofs.Common.{◌≡◌, refl, ap, sym, ◌∙◌, ℕ, ◌+◌, ◌<◌, ◌≤◌, Bool, true, false, ◌&&◌, ◌||◌, ◌⊎◌, inl, inr, List, [], ◌∷◌, ◌++◌, Option, Some, None, IsSome, is_some, length, nat_lt, MatchOption, arith}
+use Rattle.std.proofs.Common.{◌≡◌, refl, ap, sym, ◌∙◌, ℕ, ◌+◌, ◌≤◌, Bool, true, false, ◌||◌, inl, inr, List, [], ◌∷◌, Option, Some, None, is_some, nat_lt, MatchOption, arith}
 use Rattle.std.specs.List.{list_any, filter}
 use Rattle.std.proofs.lemmas.Bool.{cases_Bool}
 use Rattle.std.proofs.lemmas.Grind.{common_steps}
@@ -11,9 +11,9 @@ use Rattle.hp_base.specs.Place.{place_of, HasRoom, IsPlace, HasNoPlace}
 use Rattle.hp_base.proofs.Places.{place_of-is-place}
 use Rattle.hp_heap.specs.PlainHeap.{PlainHeap, end_of, is_free, free_range}
 use Rattle.hp_heap.specs.Tiling.{joins}
-use Rattle.hp_heap.specs.Joining.{stretch_up, stretch_to, stretch_down, Stretch, joined_up, joined_down, with_stretch, after_insertion}
+use Rattle.hp_heap.specs.Joining.{stretch_up, stretch_to, stretch_down, joined_up, with_stretch, after_insertion}
 use Rattle.hp_heap.specs.Growing.{after_grow, run_bytes}
-use Rattle.hp_heap.specs.Choice.{eligible, candidates, fitting, fitting_or_hinted, is_candidate, is_attached, is_fitting_page, HasNoChoice, names_pages}
+use Rattle.hp_heap.specs.Choice.{eligible, candidates, fitting, fitting_or_hinted, is_candidate, is_attached, is_fitting_page, HasNoChoice}
 
 -- a free element with all bytes of another
 pub record Covers (range element : Span) : Type 0 where

@@ -1,6 +1,6 @@
 -- Labels by the number of their line.
-use Rattle.std.proofs.Common.{◌≡◌, ℕ, ◌+◌, ◌<◌, List, [], ◌∷◌, ◌++◌, length, take, get_or, reverse, Bool, true, false, cond, arith, refl, ap, sym, ◌∙◌}
-use Rattle.std.specs.Prelude.{◌==◌, nat_eq, Option, Some, None}
+use Rattle.std.proofs.Common.{◌≡◌, ℕ, ◌+◌, ◌<◌, List, [], ◌∷◌, ◌++◌, length, take, get_or, reverse, Bool, true, false, cond, refl, ap, sym, ◌∙◌}
+use Rattle.std.specs.Prelude.{◌==◌, nat_eq, Option, Some}
 use Rattle.std.specs.Option.{option_map_or}
 use Rattle.std.specs.List.{find}
 use Rattle.std.specs.HashMap.{HashMap, get, Updates}
@@ -8,7 +8,7 @@ use Rattle.std.specs.Str.{IsUtf8, is_utf8}
 use Rattle.std.proofs.lemmas.Str.{IsUtf8-from_is_utf8, is_utf8-from_IsUtf8}
 use Rattle.std.proofs.lemmas.List.{take_more, reverse-append}
 use denote.Ref.{Bor}
-use Rattle.hp_script.specs.FirstForm.{label_of}
+use Rattle.hp_script.specs.Lines.{label_of}
 use Rattle.hp_script.specs.declared.line.Line.{Line}
 use Rattle.hp_run.specs.Labels.{shown, label_at, kept_at}
 

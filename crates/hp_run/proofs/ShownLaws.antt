@@ -1,16 +1,16 @@
 -- What the report shows as it is.
-use Rattle.std.proofs.Common.{◌≡◌, ℕ, ◌+◌, ◌<◌, ◌^◌, List, length, get_or, Bool, true, false, ◌&&◌, ◌++◌, IsTrue, arith, refl}
+use Rattle.std.proofs.Common.{◌≡◌, ℕ, ◌<◌, ◌^◌, List, get_or, true, ◌++◌, arith, refl}
 use Rattle.std.specs.Prelude.{nat_lt, codes}
 use Rattle.std.specs.Fmt.{decimal}
 use Rattle.std.specs.Str.{IsAscii}
-use Rattle.std.specs.List.{All, list_all}
+use Rattle.std.specs.List.{list_all}
 use Rattle.std.proofs.lemmas.List.Sums.{AllPass-from_list_all}
 use Rattle.std.proofs.lemmas.Str.{IsUtf8-from_ascii, IsAscii-append}
 use Rattle.std.proofs.lemmas.Str.Ascii.{IsAscii-from_all}
 use Rattle.std.proofs.lemmas.Fmt.{IsAscii-decimal}
 use Rattle.std.proofs.lemmas.Bool.Decides.{nat_tests}
 use Rattle.std.proofs.lemmas.Bool.{ltb-true}
-use Rattle.hp_script.specs.FirstForm.{is_label, is_shown}
+use Rattle.hp_script.specs.Text.{is_plain}
 use Rattle.hp_heap.specs.PlainHeap.{socket_name}
 use Rattle.hp_run.specs.Labels.{shown}
 use Rattle.hp_run.proofs.LabelLemmas.{shown-text}
@@ -19,21 +19,14 @@ use Rattle.hp_run.proofs.LabelLemmas.{shown-text}
 below-ascii : (bytes : List ℕ) → list_all (λ b. nat_lt b 128) bytes ≡ true → IsAscii bytes
 below-ascii bytes h = IsAscii-from_all bytes (λ k d within. ltb-true _ _ (AllPass-from_list_all (λ b. nat_lt b 128) bytes h k d within))
 
--- a byte that shows is ASCII
-is_shown-ascii : (byte : ℕ) → is_shown byte ≡ true → byte < 128
-is_shown-ascii byte h = grind (arith, nat_tests)
+-- a byte that a line may have is ASCII
+is_plain-ascii : (byte : ℕ) → is_plain byte ≡ true → byte < 128
+is_plain-ascii byte plain = grind (arith, nat_tests)
 
--- the last of three tests
-third : (first second last : Bool) → (first && (second && last)) ≡ true → last ≡ true
-third true true last h = h
-third true false last h = cc
-third false second last h = cc
-
--- a label is shown as it is
-pub shown-label : (label : List ℕ) → IsTrue (is_label label) → label ≡ shown label
-shown-label label h =
-    let shows : list_all is_shown label ≡ true = third _ _ _ h in
-    shown-text label (IsUtf8-from_ascii label (IsAscii-from_all label (λ k d within. is_shown-ascii (get_or label k d) (AllPass-from_list_all is_shown label shows k d within))))
+-- a field is shown as it is
+pub shown-field : (text : List ℕ) → list_all is_plain text ≡ true → text ≡ shown text
+shown-field text plain =
+    shown-text text (IsUtf8-from_ascii text (IsAscii-from_all text (λ k d within. is_plain-ascii (get_or text k d) (AllPass-from_list_all is_plain text plain k d within))))
 
 -- the name of a socket's heap is shown as it is
 pub shown-socket_name : (socket : ℕ) → socket < 2 ^ 64 → socket_name socket ≡ shown (socket_name socket)

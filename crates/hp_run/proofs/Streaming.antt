@@ -1,6 +1,5 @@
 -- What several calls of a source or a sink give together.
-use Rattle.std.proofs.Common.{◌≡◌, refl, ap, sym, ◌∙◌, List, [], ◌++◌, append_assoc, append-nil, ℕ, take, Option, Some, None}
-use Rattle.std.specs.Option.{option_map}
+use Rattle.std.proofs.Common.{refl, ap, sym, List, [], ◌++◌, append_assoc, append-nil, ℕ, Option, Some, None}
 use Rattle.hp_run.specs.Writing.{Holds}
 use Rattle.hp_run.specs.Reading.{Took}
 

@@ -1,38 +1,51 @@
 -- Texts that grow by one part in each turn of a loop.
 use Rattle.std.proofs.Common.{◌≡◌, ℕ, ◌+◌, ◌<◌, ◌≤◌, List, [], ◌∷◌, ◌++◌, length, take, get_or, arith, refl, ap, sym, ◌∙◌, append_assoc, append-nil, length-take, zero, suc, add-one}
 use Rattle.std.specs.Prelude.{Option, Some, None}
-use Rattle.std.specs.List.{concat, flat_map, slice_get, HoldsAt}
+use Rattle.std.specs.List.{concat, flat_map, range_with_len, slice_get, HoldsAt}
 use Rattle.std.specs.Option.{option_copied, MatchOption}
 use Rattle.std.proofs.lemmas.Option.{slice_get_past}
 use denote.Ref.{Bor}
 use Rattle.std.proofs.lemmas.List.{take_more, flat_map_more}
-use Rattle.hp_heap.specs.declared.entry.Entry.{Entry}
 use Rattle.hp_script.specs.declared.line.Line.{Line}
 use Rattle.hp_script.specs.declared.answer.Answer.{Answer}
 use Rattle.hp_run.specs.LineTexts.{line_text, answered, lines_text}
-use Rattle.hp_run.specs.EntryTexts.{entry_text, entries_text}
 
--- one part more of a list's text
-pub parts-more : {X : Type 0} (f : X → List ℕ) (begin old new : List ℕ) (xs : List X) (i : ℕ) (x : X) → i < length xs → get_or xs i x ≡ x
-    → old ≡ begin ++ flat_map f (take i xs) → new ≡ old ++ f x → new ≡ begin ++ flat_map f (take (i + 1) xs)
-parts-more f begin old new xs i x within is so_far grown =
-    rw (take_more xs i x within, is) (grown ∙ ap (λ text. text ++ f x) so_far ∙ flat_map_more f begin (take i xs) x)
+-- parts that are numbered on
+module _ {X : Type 0} (part : ℕ → X → List ℕ) (text : ℕ → List X → List ℕ) (none : (number : ℕ) → text number [] ≡ [])
+    (some : (number : ℕ) (x : X) (xs : List X) → text number (x ∷ xs) ≡ part number x ++ text (number + 1) xs) where
+  -- one part more
+  numbered-push : (number : ℕ) (xs : List X) (x : X) → text number (xs ++ x ∷ []) ≡ text number xs ++ part (number + length xs) x
+  numbered-push number [] x =
+      let here : number ≡ number + 0 = omega arith in
+      some number x [] ∙ ap (λ rest. part number x ++ rest) (none (number + 1)) ∙ append-nil (part number x)
+      ∙ ap (λ n. part n x) here ∙ ap (λ front. front ++ part (number + 0) x) (sym (none number))
+  numbered-push number (first ∷ xs) x =
+      let there : number + 1 + length xs ≡ number + suc (length xs) = omega arith in
+      some number first (xs ++ x ∷ [])
+      ∙ ap (λ rest. part number first ++ rest) (numbered-push (number + 1) xs x)
+      ∙ sym (append_assoc (part number first) (text (number + 1) xs) (part (number + 1 + length xs) x))
+      ∙ ap (λ n. (part number first ++ text (number + 1) xs) ++ part n x) there
+      ∙ ap (λ front. front ++ part (number + suc (length xs)) x) (sym (some number first xs))
 
--- one entry more
-entries_text-push : (labels : ℕ → List ℕ) (heap number : ℕ) (entries : List Entry) (entry : Entry) → entries_text labels heap number (entries ++ entry ∷ []) ≡ entries_text labels heap number entries ++ entry_text labels heap (number + length entries) entry
-entries_text-push labels heap number [] entry =
-    append-nil (entry_text labels heap number entry) ∙ ap (λ n. entry_text labels heap n entry) (let e : number ≡ number + 0 = omega arith in e)
-entries_text-push labels heap number (first ∷ entries) entry =
-    ap (λ text. entry_text labels heap number first ++ text) (entries_text-push labels heap (number + 1) entries entry)
-    ∙ sym (append_assoc (entry_text labels heap number first) (entries_text labels heap (number + 1) entries) (entry_text labels heap (number + 1 + length entries) entry))
-    ∙ ap (λ n. entry_text labels heap number first ++ entries_text labels heap (number + 1) entries ++ entry_text labels heap n entry) (let e : number + 1 + length entries ≡ number + suc (length entries) = omega arith in e)
+  -- one part more of a list's text, with its number
+  pub numbered-more : (begin old new : List ℕ) (number : ℕ) (xs : List X) (i at : ℕ) (d x : X) → i < length xs → get_or xs i d ≡ x → at ≡ number + i
+      → old ≡ begin ++ text number (take i xs) → new ≡ old ++ part at x → new ≡ begin ++ text number (take (i + 1) xs)
+  numbered-more begin old new number xs i at d x within is here so_far grown =
+      let size : number + length (take i xs) ≡ at = omega (arith, length-take i xs, here) in
+      rw (take_more xs i d within, is, numbered-push number (take i xs) x, size)
+      (grown ∙ ap (λ front. front ++ part at x) so_far ∙ append_assoc begin (text number (take i xs)) (part at x))
 
-pub entries-more : (labels : ℕ → List ℕ) (heap : ℕ) (begin old new : List ℕ) (entries : List Entry) (i : ℕ) (entry : Entry) → i < length entries → get_or entries i entry ≡ entry
-    → old ≡ begin ++ entries_text labels heap 1 (take i entries) → new ≡ old ++ entry_text labels heap (i + 1) entry → new ≡ begin ++ entries_text labels heap 1 (take (i + 1) entries)
-entries-more labels heap begin old new entries i entry within is so_far grown =
-    let size : 1 + length (take i entries) ≡ i + 1 = omega (arith, length-take i entries) in
-    rw (take_more entries i entry within, is, entries_text-push labels heap 1 (take i entries) entry, size)
-    (grown ∙ ap (λ text. text ++ entry_text labels heap (i + 1) entry) so_far ∙ append_assoc begin (entries_text labels heap 1 (take i entries)) (entry_text labels heap (i + 1) entry))
+-- numbers from one on, and one more
+range-more : (a n j : ℕ) → a + n ≡ j → range_with_len a (suc n) ≡ range_with_len a n ++ j ∷ []
+range-more a zero j here = let same : a ≡ j = omega (arith, here) in ap (λ k. k ∷ []) same
+range-more a (suc n) j here = ap (λ rest. a ∷ rest) (range-more (a + 1) n j (omega (arith, here)))
+
+-- one part more of the text of all numbers below one
+pub range_parts-more : (f : ℕ → List ℕ) (begin old new : List ℕ) (n : ℕ) → old ≡ begin ++ flat_map f (range_with_len 0 n) → new ≡ old ++ f n
+    → new ≡ begin ++ flat_map f (range_with_len 0 (n + 1))
+range_parts-more f begin old new n so_far grown =
+    let more : range_with_len 0 (n + 1) ≡ range_with_len 0 n ++ n ∷ [] = ap (range_with_len 0) (add-one n) ∙ range-more 0 n n (omega arith) in
+    rw more (grown ∙ ap (λ text. text ++ f n) so_far ∙ flat_map_more f begin (range_with_len 0 n) n)
 
 -- one line more
 lines_text-more : (lines : List Line) (answers : List Answer) (i : ℕ) (line : Line) → i < length lines → get_or lines i line ≡ line → lines_text (take (i + 1) lines) answers ≡ lines_text (take i lines) answers ++ answered line (slice_get answers i)
@@ -65,6 +78,10 @@ got-is xs i None past = sym (slice_get_past xs i past)
 got-is xs i (Some x) there = slice_get-at xs i x.now there.0 there.1
 
 -- texts that were written one behind the other
-pub joined : (begin one two three four a b c d e : List ℕ) → one ≡ begin ++ a → two ≡ one ++ b → three ≡ two ++ c → four ≡ three ++ (d ++ e) → four ≡ concat (begin ∷ a ∷ b ∷ c ∷ d ∷ e ∷ [])
-joined begin one two three four a b c d e first second third last =
-    last ∙ ap (λ t. t ++ (d ++ e)) (third ∙ ap (λ t. t ++ c) (second ∙ ap (λ t. t ++ b) first)) ∙ simp (append_assoc, append-nil)
+pub joined : (begin one two three four five six seven a b c d e f g : List ℕ) → one ≡ begin ++ a → two ≡ one ++ b → three ≡ two ++ c → four ≡ three ++ d
+    → five ≡ four ++ e → six ≡ five ++ f → seven ≡ six ++ g → seven ≡ concat (begin ∷ a ∷ b ∷ c ∷ d ∷ (e ++ f) ∷ g ∷ [])
+joined begin one two three four five six seven a b c d e f g to_one to_two to_three to_four to_five to_six to_seven =
+    let at_two = to_two ∙ ap (λ t. t ++ b) to_one in
+    let at_four = to_four ∙ ap (λ t. t ++ d) (to_three ∙ ap (λ t. t ++ c) at_two) in
+    let at_six = to_six ∙ ap (λ t. t ++ f) (to_five ∙ ap (λ t. t ++ e) at_four) in
+    to_seven ∙ ap (λ t. t ++ g) at_six ∙ simp (append_assoc, append-nil)

@@ -39,7 +39,3 @@ state_label labels (Busy pad size tag) = shown (labels tag.number)
 -- an element, by the labels of the lines
 abbrev pub element_text : (ℕ → List ℕ) → Span → List ℕ
 element_text labels span = element_line (state_label labels span.state) span
-
--- the pool of 2 MiB pages of socket 0, with the pages left in it
-abbrev pub pool_line : ℕ → List ℕ
-pool_line pages_left = codes "pool 0 2097152 " ++ decimal pages_left ++ codes "\n"

@@ -5,7 +5,7 @@ use Rattle.std.specs.List.{find}
 use Rattle.std.specs.HashMap.{HashMap, get}
 use Rattle.std.specs.Str.{is_utf8}
 use denote.Ref.{Bor}
-use Rattle.hp_script.specs.FirstForm.{label_of}
+use Rattle.hp_script.specs.Lines.{label_of}
 use Rattle.hp_script.specs.declared.line.Line.{Line}
 use Rattle.hp_run.specs.declared.report.labels.Labels.{Labels}
 

@@ -3,14 +3,21 @@ use Rattle.std.specs.Prelude.{◌≡◌, ℕ, Bool, true, false, List, [], ◌�
 use Rattle.std.specs.Str.{bytes_eq}
 use Rattle.hp_base.specs.declared.status.Status.{Status}
 use Rattle.hp_base.specs.declared.status.Status.TheVariants as status
-use Rattle.hp_script.specs.FirstForm.{form_of}
+use Rattle.hp_script.specs.Workloads.{IsReadAs}
 use Rattle.hp_run.specs.declared.reading.TheConstants.{LIMIT}
 use Rattle.hp_run.specs.Reading.{GaveAll, GaveTooMuch}
 use Rattle.hp_run.specs.Writing.{Holds, HoldsFront}
 use Rattle.hp_run.specs.declared.ended.Ended.{Ended}
-use Rattle.hp_run.specs.Form.{form_of_ended}
 use Rattle.hp_run.specs.End.{IsEnd}
+use Rattle.hp_run.specs.Refusals.{refusal_of, refusal_text}
 use Rattle.hp_run.specs.Report.{report_of}
+use Rattle.hp_run.specs.declared.refusal.Refusal.{Refusal}
+use Rattle.hp_run.specs.declared.refusal.RunFault.{RunFault}
+use Rattle.hp_run.specs.declared.refusal.RunFault.TheVariants as fault
+use Rattle.hp_script.specs.Built.{IsBuilt}
+use Rattle.hp_script.specs.Limits.{IsWithinLimits}
+use Rattle.hp_script.specs.declared.workload.Workload.{Workload}
+use Rattle.hp_segs.specs.Table.{ArePools}
 
 -- the words are the one word solo
 abbrev pub is_solo : List (List ℕ) → Bool
@@ -22,24 +29,21 @@ is_solo (word ∷ other ∷ others) = false
 abbrev pub usage_text : List ℕ
 usage_text = codes "usage: heapsim solo|run|check|generate <start> <lines> [summary]\n"
 
--- what is written where the workload is refused
-abbrev pub refused_text : List ℕ
-refused_text = codes "refused Later\n"
-
 -- the text is the report of an end of the workload that the input is
 pub record IsReportFor (input text : List ℕ) : Type 0 where
   pub ended : Ended
-  pub workload : form_of input ≡ Some (form_of_ended ended)
-  pub end : IsEnd (form_of_ended ended) ended.answers.items ended.heap ended.pages_left
+  pub done : refusal_of input ≡ None
+  pub workload : IsReadAs input ended.workload
+  pub end : IsEnd ended.workload ended.answers.items ended.heaps.items ended.segs
   pub is : text ≡ report_of ended
 
 -- a text that is written, by the words and by what the source had left before and after, with the status that it goes with
 pub data IsText (words : List (List ℕ)) (left left' : Option (List ℕ)) : Status → List ℕ → Type 0 where
   -- the words are none of the forms; nothing is read
   usage : is_solo words ≡ false → left' ≡ left → IsText words left left' status.Usage usage_text
-  -- what was read is no workload
-  refused : (input : List ℕ) → is_solo words ≡ true → GaveAll left left' input → form_of input ≡ None
-      → IsText words left left' status.BadWorkload refused_text
+  -- what was read is refused
+  refused : (input : List ℕ) (refusal : Refusal) → is_solo words ≡ true → GaveAll left left' input → refusal_of input ≡ Some refusal
+      → IsText words left left' status.BadWorkload (refusal_text refusal)
   -- what was read is a workload, and the text is the report of an end of it
   report : (input text : List ℕ) → is_solo words ≡ true → GaveAll left left' input → IsReportFor input text
       → IsText words left left' status.Ok text
@@ -48,6 +52,19 @@ pub data IsText (words : List (List ℕ)) (left left' : Option (List ℕ)) : Sta
 pub data IsWritten (ended : Status) (text : List ℕ) (held held' : Option (List ℕ)) (sink_failed : Type 0) : Status → Type 0 where
   whole : Holds held held' text → IsWritten ended text held held' sink_failed ended
   front : HoldsFront held held' text → sink_failed → IsWritten ended text held held' sink_failed status.WriteFault
+
+-- the text is what there is to write for an input, with the status that it goes with
+pub data IsAnswer (input : List ℕ) : Status → List ℕ → Type 0 where
+  -- the input is refused
+  of_refusal : (reason : Refusal) → refusal_of input ≡ Some reason → IsAnswer input status.BadWorkload (refusal_text reason)
+  -- the input is a workload
+  of_workload : (text : List ℕ) → IsReportFor input text → IsAnswer input status.Ok text
+
+-- what there is to write for an input was written so, or nothing where memory ran out
+pub data IsAnswered (input : List ℕ) (held held' : Option (List ℕ)) (sink_failed : Type 0) : Status → Type 0 where
+  wrote : (ended result : Status) (text : List ℕ) → IsAnswer input ended text → IsWritten ended text held held' sink_failed result
+      → IsAnswered input held held' sink_failed result
+  wrote_nothing : held' ≡ held → IsAnswered input held held' sink_failed status.OutOfMemory
 
 -- the text of a status was written, behind what the sink held
 pub record Writes (words : List (List ℕ)) (left left' held held' : Option (List ℕ)) (ended : Status) : Type 0 where
@@ -83,7 +100,7 @@ Ends words left left' held held' source_failed sink_failed status.TooLong = Read
 abbrev pub status_of : List (List ℕ) → List ℕ → Status
 status_of words input =
     if is_solo words
-    then (if nat_lt LIMIT (length input) then status.TooLong else (if is_some (form_of input) then status.Ok else status.BadWorkload))
+    then (if nat_lt LIMIT (length input) then status.TooLong else (if is_some (refusal_of input) then status.BadWorkload else status.Ok))
     else status.Usage
 
 -- the status is that one, or a failure
@@ -95,3 +112,16 @@ IsUnlessFailure expected status.Ok = expected ≡ status.Ok
 IsUnlessFailure expected status.Usage = expected ≡ status.Usage
 IsUnlessFailure expected status.BadWorkload = expected ≡ status.BadWorkload
 IsUnlessFailure expected status.TooLong = expected ≡ status.TooLong
+
+-- a workload has no report: it is refused so, unless memory runs out
+abbrev pub IsFaultOf : Option Refusal → RunFault → Type 0
+IsFaultOf due (fault.Refused refusal) = due ≡ Some refusal
+IsFaultOf due fault.OutOfMemory = ⊤
+
+-- the text is accepted, and is read as the workload
+pub record IsAcceptedAs (input : List ℕ) (workload : Workload) : Type 0 where
+  pub done : refusal_of input ≡ None
+  pub read : IsReadAs input workload
+  pub built : IsBuilt workload
+  pub limits : IsWithinLimits workload
+  pub pools : ArePools workload.pools.items

@@ -2,7 +2,9 @@
 #![tactic(auto)]
 
 mod ended;
+mod growth;
 mod reading;
+mod refusal;
 mod report;
 mod session;
 mod top_call;

@@ -6,40 +6,51 @@ ghost use Rattle.hp_run.specs.Labels.{known};
 ghost use Rattle.hp_run.specs.LineTexts.{lines_text, answered};
 ghost use Rattle.hp_run.specs.HeapTexts.{element_text};
 ghost use Rattle.hp_run.specs.EntryTexts.{entries_text};
-ghost use Rattle.hp_run.specs.Report.{report_of, heap_text};
+ghost use Rattle.hp_run.specs.Report.{report_of, heap_text, history_text};
 
+mod ask_text;
 mod call_text;
+mod cause_text;
 mod element_text;
 mod entry_text;
 mod heap_text;
 mod labels;
 mod line_text;
+mod log;
 mod outcome_text;
+mod pool_text;
+mod record_text;
+mod segment_text;
+mod segments;
 
 use crate::ended::Ended;
 use element_text::ElementText;
 use entry_text::EntryText;
-use heap_text::{HeapText, PoolText};
+use heap_text::HeapText;
 use hp_heap::{Entry, Heap, Span};
 use hp_script::{Answer, Line};
 use labels::Labels;
 use line_text::LineText;
+use log::{write_asks, write_records};
+use segments::write_segments;
 use std::alloc::{AllocError, Global};
 
-/// The report: answers, the heap with its elements, its history, and the pool.
+/// The report: answers, heaps with their elements, histories, and the segments with their log.
 pub fn report(alloc: Global, ended: &Ended<'_>) -> Result<String, AllocError>
     ensures { IfOk result (λ text. string_bytes text ≡ report_of ended.now) }
 {
     let lines = ended.workload.lines.as_slice();
+    let heaps = ended.heaps.as_slice();
+    let records = ended.segs.records();
     let labels = Labels::new(alloc, lines)?;
     let mut text = String::from_str(alloc, "heapsim report 1\n")?;
     write_lines(&mut text, lines, ended.answers.as_slice())?;
-    write_heap(alloc, &mut text, &ended.heap, &labels)?;
-    write_history(&mut text, &ended.heap, &labels)?;
-    let pool = PoolText {
-        pages_left: ended.pages_left,
-    };
-    write!(text, "{pool}end\n")?;
+    write_heaps(alloc, &mut text, heaps, &labels)?;
+    write_histories(&mut text, heaps, &labels)?;
+    write_segments(&mut text, &ended.segs)?;
+    write_records(&mut text, records)?;
+    write_asks(&mut text, ended.segs.asks())?;
+    text.push_str("end\n")?;
     Ok(text)
 }
 
@@ -65,6 +76,21 @@ fn write_line(text: &mut String, line: &Line<'_>, answer: Option<&Answer>) -> Re
         answer: *answer,
     };
     write!(text, "{shown}")?;
+    Ok(())
+}
+
+fn write_heaps(
+    alloc: Global,
+    text: &mut String,
+    heaps: &[Heap],
+    labels: &Labels<'_>,
+) -> Result<(), AllocError>
+    ensures { OnOk result (string_bytes text.new
+        ≡ string_bytes text.old ++ flat_map (λ heap. heap_text (known labels.now) heap.plain) heaps.now) }
+{
+    for heap in heaps {
+        write_heap(alloc, text, heap, labels)?;
+    }
     Ok(())
 }
 
@@ -98,9 +124,19 @@ fn write_elements<'a>(
     Ok(())
 }
 
+fn write_histories(text: &mut String, heaps: &[Heap], labels: &Labels<'_>) -> Result<(), AllocError>
+    ensures { OnOk result (string_bytes text.new
+        ≡ string_bytes text.old ++ flat_map (history_text (known labels.now)) heaps.now) }
+{
+    for heap in heaps {
+        write_history(text, heap, labels)?;
+    }
+    Ok(())
+}
+
 fn write_history(text: &mut String, heap: &Heap, labels: &Labels<'_>) -> Result<(), AllocError>
     ensures { OnOk result (string_bytes text.new
-        ≡ string_bytes text.old ++ entries_text (known labels.now) heap.now.plain.index 1 heap.now.history) }
+        ≡ string_bytes text.old ++ history_text (known labels.now) heap.now) }
 {
     write_entries(text, heap.index(), heap.history(), labels)
 }

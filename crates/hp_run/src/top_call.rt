@@ -1,23 +1,21 @@
 //! The program as one call.
-ghost use Rattle.std.specs.Prelude.{◌≡◌, ◌≤◌, map, length, string_bytes, IfSome, MatchResult};
-ghost use Rattle.hp_script.specs.FirstForm.{form_of, IsFault};
+ghost use Rattle.std.specs.Prelude.{◌≡◌, ◌≤◌, map, length, string_bytes, IfOk, IfSome, MatchResult};
 ghost use Rattle.hp_base.specs.Streams.{HasRisen};
 ghost use Rattle.hp_run.specs.declared.reading.TheConstants.{LIMIT};
-ghost use Rattle.hp_run.specs.Outcome.{Ends, IsReportFor, IsUnlessFailure, IsWritten, is_solo, status_of};
+ghost use Rattle.hp_run.specs.Outcome.{Ends, IsAcceptedAs, IsAnswer, IsAnswered, IsFaultOf, IsReportFor, IsUnlessFailure, IsWritten, is_solo, status_of};
+ghost use Rattle.hp_run.specs.Refusals.{refusal_of};
 
 use crate::reading::{ReadFault, read_whole};
+use crate::refusal::{Refusal, RunFault};
 use crate::report::report;
 use crate::session::run;
 use crate::writing::write_whole;
 use hp_base::{Sink, Source, Status};
-use hp_script::{FormFault, first_form};
-use std::alloc::Global;
+use hp_script::{ParseFault, Workload, first_later, parse};
+use std::alloc::{AllocError, Global};
 
 /// What is written where the words are none that the program takes.
 const USAGE: &[u8] = b"usage: heapsim solo|run|check|generate <start> <lines> [summary]\n";
-
-/// What is written where the workload is refused.
-const REFUSED: &[u8] = b"refused Later\n";
 
 /// The program: its words, without its name, a workload, and where its report goes. Own.
 pub fn top<S: Source, K: Sink>(
@@ -44,14 +42,38 @@ pub fn top<S: Source, K: Sink>(
         return written(sink, USAGE, Status::Usage);
     }
     match read_whole(alloc, source) {
-        Ok(bytes) => match report_for(alloc, bytes.as_slice()) {
-            Ok(text) => written(sink, text.as_bytes(), Status::Ok),
-            Err(FormFault::Other) => written(sink, REFUSED, Status::BadWorkload),
-            Err(FormFault::OutOfMemory) => Status::OutOfMemory,
-        },
+        Ok(bytes) => answered(alloc, bytes.as_slice(), sink),
         Err(ReadFault::Failed) => Status::ReadFault,
         Err(ReadFault::TooLong) => Status::TooLong,
         Err(ReadFault::OutOfMemory) => Status::OutOfMemory,
+    }
+}
+
+// Writes what there is to write for the bytes.
+fn answered<K: Sink>(alloc: Global, bytes: &[u8], sink: &mut K) -> Status
+    requires { length bytes.now ≤ LIMIT }
+    ensures written { IsAnswered bytes.now (K.held sink.old) (K.held sink.new)
+        (HasRisen (K.faults sink.old) (K.faults sink.new)) result }
+    ensures faults { K.faults sink.old ≤ K.faults sink.new }
+{
+    match answer_for(alloc, bytes) {
+        Ok((status, text)) => written(sink, text.as_bytes(), status),
+        Err(_) => Status::OutOfMemory,
+    }
+}
+
+// The report of the workload that the bytes are, or why they are refused, and the status that goes with it.
+fn answer_for(alloc: Global, bytes: &[u8]) -> Result<(Status, String), AllocError>
+    requires { length bytes.now ≤ LIMIT }
+    ensures { IfOk result (λ answer. IsAnswer bytes.now answer.0 (string_bytes answer.1)) }
+{
+    match report_for(alloc, bytes) {
+        Ok(text) => Ok((Status::Ok, text)),
+        Err(RunFault::Refused { refusal }) => {
+            let text = format!(in alloc; "{refusal}")?;
+            Ok((Status::BadWorkload, text))
+        }
+        Err(RunFault::OutOfMemory) => Err(AllocError),
     }
 }
 
@@ -65,18 +87,32 @@ fn is_solo(words: &[String]) -> bool
 }
 
 // The report of the workload that the bytes are.
-fn report_for(alloc: Global, bytes: &[u8]) -> Result<String, FormFault>
+fn report_for(alloc: Global, bytes: &[u8]) -> Result<String, RunFault>
     requires { length bytes.now ≤ LIMIT }
-    ensures { MatchResult result
-        (λ text. IsReportFor bytes.now (string_bytes text)) (λ fault. IsFault fault (form_of bytes.now)) }
+    ensures { MatchResult result (λ text. IsReportFor bytes.now (string_bytes text)) (IsFaultOf (refusal_of bytes.now)) }
 {
-    let workload = first_form(alloc, bytes)?;
-    match run(alloc, workload) {
-        Ok(ended) => match report(alloc, &ended) {
-            Ok(text) => Ok(text),
-            Err(_) => Err(FormFault::OutOfMemory),
+    let workload = accepted(alloc, bytes)?;
+    let ended = run(alloc, workload)?;
+    Ok(report(alloc, &ended)?)
+}
+
+// The workload that the bytes are, where each of its lines is done by now.
+#[tactic(auto, using(crate::proofs::RefusalLemmas::accepted_as, crate::proofs::RefusalLemmas::refused_later, crate::proofs::RefusalLemmas::refused_bad))]
+fn accepted<'a>(alloc: Global, bytes: &'a [u8]) -> Result<Workload<'a>, RunFault>
+    requires { length bytes.now ≤ LIMIT }
+    ensures { MatchResult result (IsAcceptedAs bytes.entry.now) (IsFaultOf (refusal_of bytes.entry.now)) }
+{
+    match parse(alloc, bytes) {
+        Ok(workload) => match first_later(bytes) {
+            None => Ok(workload),
+            Some(line) => Err(RunFault::Refused {
+                refusal: Refusal::Later { line },
+            }),
         },
-        Err(_) => Err(FormFault::OutOfMemory),
+        Err(ParseFault::Bad { line, kind }) => Err(RunFault::Refused {
+            refusal: Refusal::Bad { line, kind },
+        }),
+        Err(ParseFault::OutOfMemory) => Err(RunFault::OutOfMemory),
     }
 }
 

@@ -8,9 +8,12 @@ pub mod TokenLemmas
 pub mod SpanLemmas
 pub mod FirstBad
 pub mod DeclaredLemmas
-mod FirstTextLemmas
-mod FormLabels
-mod FormLines
-mod FormReads
-mod FormShapes
-mod FormWhole
+pub mod LaterLemmas
+pub mod StepLemmas
+pub mod SetupRanges
+pub mod ActLemmas
+pub mod PoolLemmas
+pub mod LabelLemmas
+pub mod LineLemmas
+pub mod BuiltShapes
+pub mod BuiltLemmas

@@ -1,13 +1,14 @@
 -- What digits write, as far as a loop has come.
-use Rattle.std.proofs.Common.{◌≡◌, ℕ, suc, zero, ◌+◌, ◌*◌, ◌^◌, ◌<◌, ◌≤◌, Bool, true, false, List, [], ◌∷◌, length, get_or, take, refl, arith}
-use Rattle.std.specs.Prelude.{nat_lt, Option, Some, None, cond}
-use Rattle.std.specs.List.{list_all}
+use Rattle.std.proofs.Common.{◌≡◌, ℕ, suc, zero, ◌+◌, ◌-◌, ◌*◌, ◌^◌, ◌<◌, ◌≤◌, Bool, true, false, List, [], ◌∷◌, length, get_or, take, drop, refl, arith}
+use Rattle.std.specs.Prelude.{nat_lt, nat_eq, Option, Some, None, IfSome, cond, codes, slice_index}
+use Rattle.std.specs.List.{list_all, starts_with}
 use Rattle.std.specs.Char.{digit_value}
 use Rattle.std.specs.Str.Parse.{digits_value}
 use Rattle.std.proofs.lemmas.Int.Digits.{digits_value_more}
 use Rattle.std.proofs.lemmas.Str.Parse.{digits_value-take-le}
 use Rattle.hp_base.specs.Round.{fitting}
-use Rattle.hp_script.specs.Numbers.{is_numeral, numeral}
+use Rattle.std.proofs.lemmas.Bool.Decides.{nat_tests}
+use Rattle.hp_script.specs.Numbers.{is_numeral, numeral, number, units, scaled, unit_of}
 
 -- a test that one element fails is not passed by all
 list_all_fails : {X : Type 0} (p : X → Bool) (xs : List X) (i : ℕ) (d : X) → i < length xs → p (get_or xs i d) ≡ false → list_all p xs ≡ false
@@ -67,3 +68,36 @@ fits_is m n same = chosen_fits (nat_lt n (2 ^ 64)) refl same
     chosen_fits : (b : Bool) → nat_lt n (2 ^ 64) ≡ b → Some m ≡ cond b (Some n) None → (m ≡ n) × (n < 2 ^ 64)
     chosen_fits true below chosen = (cc, grind (arith, below))
     chosen_fits false below chosen = absurd cc
+
+-- a number of 64 bits, where there is one
+abbrev FitsIfSome : Option ℕ → Type 0
+FitsIfSome o = IfSome o (λ n. n < 2 ^ 64)
+
+fitting_fits : (n : ℕ) → FitsIfSome (fitting n)
+fitting_fits n = chosen (nat_lt n (2 ^ 64)) refl
+  where
+    chosen : (test : Bool) → nat_lt n (2 ^ 64) ≡ test → FitsIfSome (cond test (Some n) None)
+    chosen true is = grind (arith, nat_tests, is)
+    chosen false is = tt
+
+either_fits : (test : Bool) (first second : Option ℕ) → FitsIfSome first → FitsIfSome second → FitsIfSome (cond test first second)
+either_fits true first second fits other = fits
+either_fits false first second fits other = other
+
+numeral_fits : (radix : ℕ) (digits : List ℕ) → FitsIfSome (numeral radix digits)
+unfolding numeral
+numeral_fits radix digits = either_fits (is_numeral radix digits) (fitting (digits_value radix digits)) None (fitting_fits (digits_value radix digits)) tt
+
+units_fit : (count : Option ℕ) (unit : ℕ) → FitsIfSome (units count unit)
+units_fit None unit = tt
+units_fit (Some n) unit = fitting_fits (n * unit)
+
+scaled_fits : (text : List ℕ) (unit : Option ℕ) → FitsIfSome (scaled text unit)
+scaled_fits text None = numeral_fits 10 text
+scaled_fits text (Some unit) = units_fit (numeral 10 (take (length text - 1) text)) unit
+
+pub number_fits : (text : List ℕ) → FitsIfSome (number text)
+unfolding number
+number_fits text =
+    either_fits (starts_with nat_eq text (codes "0x")) (numeral 16 (drop 2 text)) (scaled text (unit_of (slice_index text (length text - 1))))
+    (numeral_fits 16 (drop 2 text)) (scaled_fits text (unit_of (slice_index text (length text - 1))))

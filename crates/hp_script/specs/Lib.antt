@@ -21,6 +21,7 @@ pub mod Acts
 pub mod Reading
 pub mod Workloads
 pub mod Spans
+pub mod Lines
 pub mod Limits
-pub mod FirstForm
-pub mod FormShape
+pub mod Later
+pub mod Built

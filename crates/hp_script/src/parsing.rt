@@ -1,6 +1,6 @@
 ghost use Rattle.std.specs.Prelude.{◌+◌, ◌<◌, ◌≤◌, ◌^◌, length, IfOk, IfErr};
 ghost use Rattle.hp_script.specs.Known.{known};
-ghost use Rattle.hp_script.specs.Limits.{IsWithinLimits, AreDeclared};
+ghost use Rattle.hp_script.specs.Limits.{IsWithinLimits, AreDeclared, ArePoolLines, AreParticipantLines};
 ghost use Rattle.hp_script.specs.Setups.{nothing};
 ghost use Rattle.hp_script.specs.Spans.{AreSlices, all_tokens};
 ghost use Rattle.hp_script.specs.Workloads.{IsReadAs, IsRefusalOf, NamesFirstBad, Reads, read_from, reading_of};
@@ -23,9 +23,11 @@ pub fn parse<'a>(alloc: Global, bytes: &'a [u8]) -> Result<Workload<'a>, ParseFa
     ensures read { IfOk result (IsReadAs bytes.entry.now) }
     ensures spans { IfOk result (λ workload. AreSlices bytes.entry.now 0 (length bytes.entry.now) (all_tokens workload.lines.items)) }
 
-    // There is room in a run for what it says, and each line is of a declared participant.
+    // There is room in a run for what it says, each line is of a declared participant, pools differ, and so do labels.
     ensures limits { IfOk result IsWithinLimits }
     ensures declared { IfOk result (λ workload. AreDeclared workload.participants workload.lines.items) }
+    ensures pools { IfOk result (λ workload. ArePoolLines workload.pools.items) }
+    ensures lines { IfOk result (λ workload. AreParticipantLines workload.lines.items) }
 
     // A fault is the first refusal of the text: that of its first bad line, behind lines that are all accepted.
     ensures refused { IfErr result (IsRefusalOf (reading_of bytes.entry.now)) }

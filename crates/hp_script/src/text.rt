@@ -1,15 +1,15 @@
-ghost use Rattle.std.specs.Prelude.{◌≡◌, ◌∷◌, ◌+◌, ◌<◌, ◌≤◌, ◌^◌, length, vec_len, position, IfOk, IfSome};
+ghost use Rattle.std.specs.Prelude.{◌≡◌, ◌==◌, ◌∷◌, ◌+◌, ◌<◌, ◌≤◌, ◌^◌, length, slice_index, vec_len, position, IfOk, IfSome};
 ghost use Rattle.hp_script.specs.Text.{is_separator, parts_of, parts_left, without_return, lines_of, fields_of, is_filled, is_skipped, is_plain, is_long};
 
 use crate::token::Token;
 use std::alloc::{AllocError, Global};
 
-// What stands between the parts of a text.
+/// What stands between the parts of a text.
 #[derive(Clone, Copy)]
 pub enum Separator {
-    // Between lines.
+    /// Between lines.
     Newline,
-    // Between fields: a space or a tab.
+    /// Between fields: a space or a tab.
     Blank,
 }
 
@@ -30,8 +30,8 @@ fn separator_at(separator: Separator, text: &[u8]) -> Option<usize>
     text.iter().position(|byte| is_separator(separator, *byte))
 }
 
-// The first part, and what stands behind the separator after it.
-fn cut<'a>(separator: Separator, whole: &Token<'a>) -> (Token<'a>, Option<Token<'a>>)
+/// The first part, and what stands behind the separator after it.
+pub fn cut<'a>(separator: Separator, whole: &Token<'a>) -> (Token<'a>, Option<Token<'a>>)
     ensures parts { parts_of separator whole.now ≡ result.0 ∷ parts_left separator result.1 }
     ensures shorter { IfSome result.1 (λ rest. length rest.text < length whole.now.text) }
 {
@@ -47,8 +47,8 @@ fn cut<'a>(separator: Separator, whole: &Token<'a>) -> (Token<'a>, Option<Token<
     }
 }
 
-// The line without a carriage return at its end.
-fn without_return<'a>(line: &Token<'a>) -> Token<'a>
+/// The line without a carriage return at its end.
+pub fn without_return<'a>(line: &Token<'a>) -> Token<'a>
     ensures { result ≡ without_return line.now }
 {
     let text = line.as_bytes();
@@ -100,8 +100,15 @@ pub fn is_skipped(fields: &[Token]) -> bool
 {
     match fields {
         [] => true,
-        [first, ..] => first.as_bytes().first() == Some(&b'#'),
+        [first, ..] => is_comment(first),
     }
+}
+
+/// Whether a line that begins with this field is a comment.
+pub fn is_comment(first: &Token) -> bool
+    ensures { result ≡ (slice_index first.now.text 0 == 35) }
+{
+    first.as_bytes().first() == Some(&b'#')
 }
 
 /// Whether the bytes of a line are printable ASCII or tabs.

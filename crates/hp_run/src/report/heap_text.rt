@@ -64,21 +64,3 @@ impl fmt::Display for HeapText<'_> {
         write!(f, "heap {index} {name} {socket} {stats}\n")
     }
 }
-
-/// The pool of 2 MiB pages of socket 0, with the pages left in it.
-#[derive(Drop)]
-pub struct PoolText {
-    pub pages_left: u64,
-}
-
-impl fmt::Display for PoolText {
-    ghost use Rattle.std.specs.Prelude.{Some};
-    ghost use Rattle.hp_run.specs.HeapTexts.{pool_line};
-
-    ghost output = { λ shown. Some (pool_line shown.pages_left) };
-
-    fn fmt<W: fmt::Write>(&self, f: &mut fmt::Formatter<W>) -> fmt::Result {
-        let pages_left = self.pages_left;
-        write!(f, "pool 0 2097152 {pages_left}\n")
-    }
-}

@@ -1,5 +1,5 @@
 ghost use Rattle.std.specs.Prelude.{◌≡◌, ℕ, IfOk};
-ghost use Rattle.hp_script.specs.FirstForm.{label_of};
+ghost use Rattle.hp_script.specs.Lines.{label_of};
 ghost use Rattle.hp_run.specs.Labels.{known, label_at, shown};
 
 use hp_base::Tag;

@@ -1,10 +1,17 @@
-use Rattle.std.proofs.Common.{Some, ap, sym, ◌∙◌}
+use Rattle.hp_run.proofs.RefusalLemmas.{fault_of_memory, read_as_same}
 use Rattle.hp_run.proofs.top_call.report_for.Goals as goal
 
-pub returns-in-Ok-report : goal.returns-in-Ok-report
-returns-in-Ok-report c = record {
-  ended = c.in-Ok.ended;
-  workload = c.in_ok-workload.ensures.read ∙ ap Some (sym c.in-Ok.ensures.workload);
-  end = c.in-Ok.ensures.end;
-  is = c.in-Ok-report.ensures;
+pub returns-in_err-ended : goal.returns-in_err-ended
+returns-in_err-ended c = fault_of_memory _ _ _ c.from_residual-in_err-ended.ensures.1
+
+pub returns-in_err-report : goal.returns-in_err-report
+returns-in_err-report c = fault_of_memory _ _ _ c.from_residual-in_err-report.ensures.1
+
+pub returns : goal.returns
+returns c = record {
+  ended = c.in_ok-ended.ended;
+  done = c.in_ok-workload.ensures.done;
+  workload = read_as_same _ _ _ c.in_ok-workload.ensures.read c.in_ok-ended.ensures.workload;
+  end = c.in_ok-ended.ensures.end;
+  is = c.in_ok-report.ensures;
 }

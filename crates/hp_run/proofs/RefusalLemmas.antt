@@ -1,0 +1,74 @@
+-- Why a text is not run, or that it is, by what reading it and looking for lines that are not built give.
+use Rattle.std.proofs.Common.{◌≡◌, ℕ, List, Option, Some, None, Result, Ok, Err, refl, ◌∙◌, sym, subst}
+use Rattle.std.specs.Result.{MatchResult, IsErrAnd}
+use Rattle.hp_script.proofs.BuiltLemmas.{built_when_none_later}
+use Rattle.hp_script.specs.Later.{later_line}
+use Rattle.hp_script.specs.Limits.{IsWithinLimits, ArePoolLines}
+use Rattle.hp_script.specs.Workloads.{IsReadAs, reading_of}
+use Rattle.hp_script.specs.declared.bad_kind.BadKind.{BadKind}
+use Rattle.hp_script.specs.declared.workload.Workload.{Workload}
+use Rattle.hp_base.specs.declared.pool_line.PoolLine.{PoolLine}
+use Rattle.hp_segs.specs.Table.{ArePools}
+use Rattle.hp_run.specs.Outcome.{IsAcceptedAs, IsFaultOf}
+use Rattle.hp_run.specs.Refusals.{refusal_of}
+use Rattle.hp_run.specs.Session.{IsSameWorkload}
+use Rattle.hp_run.specs.declared.refusal.Refusal.{Refusal}
+use Rattle.hp_run.specs.declared.refusal.Refusal.TheVariants.{Bad, Later}
+use Rattle.hp_run.specs.declared.refusal.RunFault.{RunFault}
+use Rattle.hp_run.specs.declared.refusal.RunFault.TheVariants.{OutOfMemory}
+
+-- the pools of an accepted text are within the limits of segment lists
+are_pools : (pools : List PoolLine) → ArePoolLines pools → ArePools pools
+are_pools pools accepted = record {
+  few = accepted.few;
+  lines = λ k d within. let line = accepted.lines k d within in
+      record { socket = line.socket; page = line.page; pages = line.pages; some = line.some; slots = line.slots };
+  distinct = accepted.distinct;
+  slots = accepted.slots;
+}
+
+-- a text that is read, and has no line that is not built
+pub accepted_as : (bytes : List ℕ) (workload : Workload) → IsReadAs bytes workload → IsWithinLimits workload → ArePoolLines workload.pools.items
+    → later_line bytes ≡ None → IsAcceptedAs bytes workload
+unfolding refusal_of
+accepted_as bytes workload read limits pools none = record {
+  done = rw (read.whole, none) refl;
+  read = read;
+  built = built_when_none_later bytes workload read none;
+  limits = limits;
+  pools = are_pools workload.pools.items pools;
+}
+
+-- a text that is read, and has a line that is not built
+pub refused_later : (bytes : List ℕ) (workload : Workload) (line : ℕ) → IsReadAs bytes workload → later_line bytes ≡ Some line
+    → refusal_of bytes ≡ Some (Later line)
+unfolding refusal_of
+refused_later bytes workload line read some = rw (read.whole, some) refl
+
+-- a text that is refused
+pub refused_bad : (bytes : List ℕ) (line : ℕ) (kind : BadKind) → reading_of bytes ≡ Err (record { line = line; kind = kind })
+    → refusal_of bytes ≡ Some (Bad line kind)
+unfolding refusal_of
+refused_bad bytes line kind refused = rw refused refl
+
+-- a text is read as any workload that says the same
+pub read_as_same : (bytes : List ℕ) (workload ended : Workload) → IsReadAs bytes workload → IsSameWorkload ended workload → IsReadAs bytes ended
+read_as_same bytes workload ended is same = record {
+  read = is.read;
+  whole = is.whole;
+  workload_is = record {
+    participants = same.participants ∙ is.workload_is.participants;
+    absent = same.absent ∙ is.workload_is.absent;
+    sockets = same.sockets ∙ is.workload_is.sockets;
+    deadline = same.deadline ∙ is.workload_is.deadline;
+    pools = same.pools ∙ is.workload_is.pools;
+    plan = same.plan ∙ is.workload_is.plan;
+    lines = same.lines ∙ is.workload_is.lines;
+  };
+}
+
+-- want of memory is the fault of any text
+pub fault_of_memory : {T : Type 0} (result : Result T RunFault) (P : T → Type 0) (due : Option Refusal) → IsErrAnd result (λ fault. fault ≡ OutOfMemory)
+    → MatchResult result P (IsFaultOf due)
+fault_of_memory (Ok text) P due memory = absurd memory
+fault_of_memory (Err fault) P due memory = subst (IsFaultOf due) (sym memory) tt

@@ -1,0 +1,29 @@
+use Rattle.std.proofs.Common.{◌<◌, ◌^◌, length, refl, rules, arith}
+use Rattle.std.proofs.Math.Facts.{Fits-of_lt}
+use Rattle.std.specs.Prelude.{string_bytes}
+use Rattle.hp_segs.specs.Lists.{lists_of}
+use Rattle.hp_segs.proofs.ListsLemmas.{length_lists_from}
+use Rattle.hp_run.specs.SegmentTexts.{used_text, all_used_text}
+use Rattle.hp_run.proofs.TextLemmas.{numbered-more}
+use Rattle.hp_run.proofs.ListEnds.{list_ends_low}
+use Rattle.hp_run.proofs.report.segments.write_used.Goals as goal
+
+pub overflow_cast-list : goal.overflow_cast-list
+overflow_cast-list c =
+    let pools = c.args.segs.now.pools in
+    let within : c.loop-list.list < length (lists_of pools) = search rules in
+    Fits-of_lt (omega (arith, within, length_lists_from (2 ^ 32) pools, c.requires.limits.few))
+
+pub write_used_in-requires : goal.write_used_in-requires
+write_used_in-requires c =
+    let pools = c.args.segs.now.pools in
+    let within : c.loop-list.list < length (lists_of pools) = search rules in
+    record { below = rw c.lists-info-items.ensures (list_ends_low pools c.loop-list.list _ c.requires.limits within) }
+
+pub loop-list-preserved : goal.loop-list-preserved
+loop-list-preserved c =
+    let segs = c.args.segs.now in
+    let list = c.loop-list.list in
+    let within : list < length (lists_of segs.pools) = search rules in
+    numbered-more (used_text segs.segments) (all_used_text segs.segments) (λ n. refl) (λ n x xs. refl) (string_bytes c.args.text.now) _ _ 0 (lists_of segs.pools)
+    list list _ _ within refl (omega arith) c.loop-list.invariant (rw c.lists-info-items.ensures at c.in_ok-write_used_in.ensures)

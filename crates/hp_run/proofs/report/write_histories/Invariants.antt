@@ -1,0 +1,10 @@
+use Rattle.std.proofs.Common.{◌≡◌, ◌++◌, take}
+use Rattle.std.specs.Prelude.{string_bytes}
+use Rattle.std.specs.List.{flat_map}
+use Rattle.hp_run.specs.Labels.{known}
+use Rattle.hp_run.specs.Report.{history_text}
+use Rattle.hp_run.proofs.report.write_histories.Given as goal
+
+-- the histories so far stand behind the text
+abbrev pub invariant-loop-heap : goal.invariant-loop-heap
+invariant-loop-heap l = string_bytes l.text ≡ string_bytes l.fn.text ++ flat_map (history_text (known l.labels)) (take l.heap-index l.heaps)

@@ -1,0 +1,64 @@
+-- The records of the log and the logged outcomes as the report shows them.
+use Rattle.std.specs.Prelude.{ℕ, ◌+◌, ◌*◌, false, List, [], ◌∷◌, ◌++◌, codes}
+use Rattle.std.specs.Fmt.{decimal, radix_digits}
+use Rattle.std.specs.List.{flat_map}
+use Rattle.hp_base.specs.declared.map_answer.MapAnswer.{MapAnswer}
+use Rattle.hp_base.specs.declared.map_answer.MapAnswer.TheVariants as got
+use Rattle.hp_script.specs.Answers.{address_text, number_text}
+use Rattle.hp_segs.specs.SegsView.{SegsView}
+use Rattle.hp_segs.specs.declared.log_record.LogRecord.{LogRecord}
+use Rattle.hp_segs.specs.declared.log_record.LogRecord.TheVariants.{Add, Drop}
+use Rattle.hp_segs.specs.declared.outcome.AskLog.{AskLog}
+use Rattle.hp_segs.specs.declared.outcome.Cause.{Cause}
+use Rattle.hp_segs.specs.declared.outcome.Cause.TheVariants as why
+use Rattle.hp_segs.specs.declared.outcome.Outcome.{Outcome}
+use Rattle.hp_segs.specs.declared.outcome.Outcome.TheVariants as outcome
+use Rattle.hp_run.specs.Labels.{shown}
+
+-- a record with its generation: the address and the length of its run, and the heap that it is added for
+abbrev pub record_line : ℕ → LogRecord → List ℕ
+record_line generation (Add run heap) =
+    codes "rec " ++ decimal generation ++ codes " add" ++ address_text run.addr ++ number_text (run.count * run.page) ++ number_text heap ++ codes "\n"
+record_line generation (Drop run) =
+    codes "rec " ++ decimal generation ++ codes " drop" ++ address_text run.addr ++ number_text (run.count * run.page) ++ codes "\n"
+
+-- what a mapping answered in place of the row's place
+abbrev pub got_text : MapAnswer → List ℕ
+got_text got.Refused = codes "refused"
+got_text (got.At addr page socket) = codes "0x" ++ radix_digits 16 false addr ++ number_text page ++ number_text socket
+
+-- why an ask was refused, with its numbers
+abbrev pub cause_text : Cause → List ℕ
+cause_text why.NoList = codes "nolist"
+cause_text (why.TooFew have need) = codes "toofew" ++ number_text have ++ number_text need
+cause_text (why.ListFull longest need) = codes "listfull" ++ number_text longest ++ number_text need
+cause_text (why.CannotHold addr len) = codes "cannothold" ++ address_text addr ++ number_text len
+cause_text (why.Denied validator limit total) = codes "denied " ++ shown validator ++ number_text limit ++ number_text total
+cause_text (why.MapFailed participant call addr answered) =
+    codes "mapfailed" ++ number_text participant ++ number_text call ++ address_text addr ++ codes " " ++ got_text answered
+cause_text (why.Late participant from to) = codes "late" ++ number_text participant ++ number_text from ++ number_text to
+cause_text (why.Withdrawn from to) = codes "withdrawn" ++ number_text from ++ number_text to
+
+-- how an ask ended
+abbrev pub ending_text : Outcome → List ℕ
+ending_text (outcome.Granted generation) = codes "granted" ++ number_text generation
+ending_text (outcome.Refused cause) = codes "refused " ++ cause_text cause
+ending_text (outcome.Stale done) = codes "stale" ++ number_text done
+ending_text (outcome.Freed generation) = codes "freed" ++ number_text generation
+
+-- a logged outcome
+abbrev pub ask_line : AskLog → List ℕ
+ask_line entry = codes "ask " ++ decimal entry.from ++ number_text entry.number ++ codes " " ++ ending_text entry.outcome ++ codes "\n"
+
+-- records from a generation on
+abbrev pub records_text : ℕ → List LogRecord → List ℕ
+records_text generation [] = []
+records_text generation (entry ∷ log) = record_line generation entry ++ records_text (generation + 1) log
+
+-- logged outcomes one behind the other
+abbrev pub asks_text : List AskLog → List ℕ
+asks_text asks = flat_map ask_line asks
+
+-- the records and the logged outcomes
+abbrev pub log_text : SegsView → List ℕ
+log_text segs = records_text 1 segs.log ++ asks_text segs.asks

@@ -1,0 +1,227 @@
+-- What an accepted participant line says: an allocation comes of the verb `alloc` alone, with the label, the size and the options that stand in its fields.
+use Rattle.std.proofs.Common.{◌≡◌, ℕ, ◌<◌, ◌^◌, Bool, true, false, List, [], ◌∷◌, length, refl, cond, ◌⊎◌, inl, inr}
+use Rattle.std.specs.Prelude.{Some, Result, Ok, Err, IfOk, nat_lt, not}
+use Rattle.hp_script.specs.Part.{Part}
+use Rattle.hp_script.specs.Numbers.{numeral, number}
+use Rattle.hp_script.specs.Judge.{is_within, number_field, party_field}
+use Rattle.hp_script.specs.Later.{is_alloc}
+use Rattle.hp_script.specs.Options.{options_of}
+use Rattle.hp_script.specs.Verbs.{verb_named}
+use Rattle.hp_script.specs.ShapesMemory.{alloc_line, zone_line, resize_line}
+use Rattle.hp_script.specs.ShapesHeaps.{name_act, name_line, range_act, range_line, add_line}
+use Rattle.hp_script.specs.ShapesMembers.{member_act, member_line, is_allow, limit_line, unlimit_line, await_line}
+use Rattle.hp_script.specs.Shapes.{is_participant_line, act_line, participant_line, setup_line, shape_of}
+use Rattle.hp_script.specs.declared.bad_kind.BadKind.{BadKind}
+use Rattle.hp_script.specs.declared.bad_kind.BadKind.TheVariants as bad
+use Rattle.hp_script.specs.declared.line.Act.{Act}
+use Rattle.hp_script.specs.declared.line.Act.TheVariants as act
+use Rattle.hp_script.specs.declared.options.Options.{Options}
+use Rattle.hp_script.specs.declared.verb.Verb.{Verb}
+use Rattle.hp_script.specs.declared.verb.Verb.TheVariants as verb
+use Rattle.hp_script.specs.declared.verb.NameCall.{NameCall}
+use Rattle.hp_script.specs.declared.verb.NameCall.TheVariants as name_call
+use Rattle.hp_script.specs.declared.verb.RangeCall.{RangeCall}
+use Rattle.hp_script.specs.declared.verb.RangeCall.TheVariants as range_call
+use Rattle.hp_script.specs.declared.verb.MemberCall.{MemberCall}
+use Rattle.hp_script.specs.declared.verb.MemberCall.TheVariants as member_call
+use Rattle.hp_script.specs.declared.shape.Shape.{Shape}
+use Rattle.hp_script.specs.declared.shape.Shape.TheVariants.{Setup, Does, Awaits}
+use Rattle.hp_script.proofs.NumberLemmas.{number_fits}
+use Rattle.hp_script.proofs.StepLemmas.{through, passed, present, answered}
+use Rattle.hp_script.proofs.SetupRanges.{SaysSetup, setup_line_says}
+
+-- the allocation that fields behind a participant say
+pub record IsAllocOf (p : Part) (v : Verb) (arguments : List Part) (party : ℕ) (label : Part) (size : ℕ) (options : Options) : Type 0 where
+  pub verb_is : v ≡ verb.Alloc
+  pub size_field : Part
+  pub words : List Part
+  pub arguments_are : arguments ≡ label ∷ size_field ∷ words
+  pub party_is : numeral 10 p.text ≡ Some party
+  pub fits : size < 2 ^ 64
+  pub given : options_of words ≡ Some options
+
+-- an act is such an allocation, or comes of another verb
+abbrev pub IsActOf : Part → Verb → List Part → ℕ → Act → Type 0
+IsActOf p v arguments party (act.Alloc label size options) = IsAllocOf p v arguments party label size options
+IsActOf p v arguments party _ = is_alloc (Some v) ≡ false
+
+-- a line says such an act, or awaits
+abbrev pub SaysAct : Part → Verb → List Part → Shape → Type 0
+SaysAct p v arguments (Setup setup) = ⊥
+SaysAct p v arguments (Does party deed) = IsActOf p v arguments party deed
+SaysAct p v arguments (Awaits party other k) = is_alloc (Some v) ≡ false
+
+module _ (p : Part) where
+  alloc_says : (arguments : List Part) → IfOk (alloc_line p arguments) (SaysAct p verb.Alloc arguments)
+  unfolding alloc_line
+  alloc_says [] = tt
+  alloc_says (label ∷ []) = tt
+  alloc_says (label ∷ n ∷ words) =
+      present (numeral 10 p.text) bad.Number _ _ (λ party party_is.
+      present (number n.text) bad.Number _ _ (λ size size_is.
+      present (options_of words) bad.Option _ _ (λ options given.
+      record {
+        verb_is = refl;
+        size_field = n;
+        words = words;
+        arguments_are = refl;
+        party_is = party_is;
+        fits = rw size_is at (number_fits n.text);
+        given = given;
+      })))
+
+  zone_says : (arguments : List Part) → IfOk (zone_line p arguments) (SaysAct p verb.Zone arguments)
+  unfolding zone_line
+  zone_says [] = tt
+  zone_says (name ∷ []) = tt
+  zone_says (name ∷ n ∷ words) =
+      through (party_field p) _ _ (λ party _.
+      through (number_field n) _ _ (λ len _.
+      passed (nat_lt len 1) bad.Range _ _ (λ some.
+      present (options_of words) bad.Option _ _ (λ options given. refl))))
+
+  resize_says : (arguments : List Part) → IfOk (resize_line p arguments) (SaysAct p verb.Resize arguments)
+  unfolding resize_line
+  resize_says [] = tt
+  resize_says (label ∷ []) = tt
+  resize_says (label ∷ n ∷ []) =
+      through (party_field p) _ _ (λ party _.
+      through (number_field n) _ _ (λ size _. refl))
+  resize_says (label ∷ n ∷ other ∷ others) = tt
+
+  name_act_is : (call : NameCall) (arguments : List Part) (party : ℕ) (name : Part) → IsActOf p (verb.Name call) arguments party (name_act call name)
+  name_act_is name_call.Free arguments party name = refl
+  name_act_is name_call.Lookup arguments party name = refl
+  name_act_is name_call.Unzone arguments party name = refl
+  name_act_is name_call.Heap arguments party name = refl
+  name_act_is name_call.Unheap arguments party name = refl
+  name_act_is name_call.Watch arguments party name = refl
+  name_act_is name_call.Unwatch arguments party name = refl
+  name_act_is name_call.Dump arguments party name = refl
+  name_act_is name_call.Stats arguments party name = refl
+
+  name_says : (call : NameCall) (arguments : List Part) → IfOk (name_line call p arguments) (SaysAct p (verb.Name call) arguments)
+  unfolding name_line
+  name_says call [] = tt
+  name_says call (name ∷ []) = through (party_field p) _ _ (λ party _. name_act_is call (name ∷ []) party name)
+  name_says call (name ∷ other ∷ others) = tt
+
+  range_act_is : (call : RangeCall) (arguments : List Part) (party : ℕ) (heap : Part) (addr len : ℕ) → IsActOf p (verb.Range call) arguments party (range_act call heap addr len)
+  range_act_is range_call.Remove arguments party heap addr len = refl
+  range_act_is range_call.Map arguments party heap addr len = refl
+  range_act_is range_call.Unmap arguments party heap addr len = refl
+
+  range_says : (call : RangeCall) (arguments : List Part) → IfOk (range_line call p arguments) (SaysAct p (verb.Range call) arguments)
+  unfolding range_line
+  range_says call [] = tt
+  range_says call (heap ∷ []) = tt
+  range_says call (heap ∷ a ∷ []) = tt
+  range_says call (heap ∷ a ∷ n ∷ []) =
+      through (party_field p) _ _ (λ party _.
+      through (number_field a) _ _ (λ addr _.
+      through (number_field n) _ _ (λ len _. range_act_is call (heap ∷ a ∷ n ∷ []) party heap addr len)))
+  range_says call (heap ∷ a ∷ n ∷ other ∷ others) = tt
+
+  add_says : (arguments : List Part) → IfOk (add_line p arguments) (SaysAct p verb.Add arguments)
+  unfolding add_line
+  add_says [] = tt
+  add_says (heap ∷ []) = tt
+  add_says (heap ∷ a ∷ []) = tt
+  add_says (heap ∷ a ∷ n ∷ []) = tt
+  add_says (heap ∷ a ∷ n ∷ size ∷ []) =
+      through (party_field p) _ _ (λ party _.
+      through (number_field a) _ _ (λ addr _.
+      through (number_field n) _ _ (λ len _.
+      through (number_field size) _ _ (λ page _. refl))))
+  add_says (heap ∷ a ∷ n ∷ size ∷ other ∷ others) = tt
+
+  member_says : (call : MemberCall) (arguments : List Part) → IfOk (member_line call p arguments) (SaysAct p (verb.Member call) arguments)
+  unfolding member_line
+  member_says call [] =
+      through (party_field p) _ _ (λ party _.
+      passed (not (is_within 1 15 party)) bad.Range _ _ (λ within. member_act_is call party))
+    where
+      member_act_is : (some : MemberCall) (party : ℕ) → IsActOf p (verb.Member call) [] party (member_act some)
+      member_act_is member_call.Attach party = refl
+      member_act_is member_call.Detach party = refl
+  member_says call (other ∷ others) = tt
+
+  limit_says : (arguments : List Part) → IfOk (limit_line p arguments) (SaysAct p verb.Limit arguments)
+  unfolding limit_line
+  limit_says [] = tt
+  limit_says (name ∷ []) = tt
+  limit_says (name ∷ s ∷ []) = tt
+  limit_says (name ∷ s ∷ n ∷ words) =
+      passed (nat_lt 1 (length words)) bad.Fields _ _ (λ few.
+      through (party_field p) _ _ (λ party _.
+      through (number_field s) _ _ (λ socket _.
+      through (number_field n) _ _ (λ bytes _.
+      passed (nat_lt 0 party) bad.Range _ _ (λ primary.
+      passed (nat_lt 31 socket) bad.Range _ _ (λ within.
+      through (is_allow words) _ _ (λ allow _. refl)))))))
+
+  unlimit_says : (arguments : List Part) → IfOk (unlimit_line p arguments) (SaysAct p verb.Unlimit arguments)
+  unfolding unlimit_line
+  unlimit_says [] = tt
+  unlimit_says (name ∷ []) = tt
+  unlimit_says (name ∷ s ∷ []) =
+      through (party_field p) _ _ (λ party _.
+      through (number_field s) _ _ (λ socket _.
+      passed (nat_lt 0 party) bad.Range _ _ (λ primary.
+      passed (nat_lt 31 socket) bad.Range _ _ (λ within. refl))))
+  unlimit_says (name ∷ s ∷ other ∷ others) = tt
+
+  await_says : (arguments : List Part) → IfOk (await_line p arguments) (SaysAct p verb.Await arguments)
+  unfolding await_line
+  await_says [] = tt
+  await_says (q ∷ []) = tt
+  await_says (q ∷ k ∷ []) =
+      through (party_field p) _ _ (λ party _.
+      through (party_field q) _ _ (λ other _.
+      through (number_field k) _ _ (λ lines _.
+      passed (nat_lt lines 1) bad.Range _ _ (λ some. refl))))
+  await_says (q ∷ k ∷ other ∷ others) = tt
+
+  act_line_says : (v : Verb) (arguments : List Part) → IfOk (act_line v p arguments) (SaysAct p v arguments)
+  act_line_says verb.Alloc arguments = alloc_says arguments
+  act_line_says verb.Zone arguments = zone_says arguments
+  act_line_says verb.Resize arguments = resize_says arguments
+  act_line_says (verb.Name call) arguments = name_says call arguments
+  act_line_says (verb.Member call) arguments = member_says call arguments
+  act_line_says verb.Add arguments = add_says arguments
+  act_line_says (verb.Range call) arguments = range_says call arguments
+  act_line_says verb.Limit arguments = limit_says arguments
+  act_line_says verb.Unlimit arguments = unlimit_says arguments
+  act_line_says verb.Await arguments = await_says arguments
+
+-- what a participant line says, by its word and the fields behind
+pub record IsCall (p : Part) (others : List Part) (said : Shape) : Type 0 where
+  pub word : Part
+  pub arguments : List Part
+  pub others_are : others ≡ word ∷ arguments
+  pub verb : Verb
+  pub named : verb_named word ≡ Some verb
+  pub says : SaysAct p verb arguments said
+
+participant_line_says : (p : Part) (others : List Part) → IfOk (participant_line p others) (IsCall p others)
+unfolding participant_line
+participant_line_says p [] = tt
+participant_line_says p (word ∷ arguments) =
+    present (verb_named word) bad.Verb _ _ (λ v named.
+    says v named (act_line v p arguments) (act_line_says p v arguments))
+  where
+    says : (v : Verb) → verb_named word ≡ Some v → (shape : Result Shape BadKind) → IfOk shape (SaysAct p v arguments) → IfOk shape (IsCall p (word ∷ arguments))
+    says v named (Ok said) holds = record { word = word; arguments = arguments; others_are = refl; verb = v; named = named; says = holds }
+    says v named (Err kind) holds = tt
+
+-- fields say a call of a participant, or a setup
+abbrev pub SaysBy : Part → List Part → Shape → Type 0
+SaysBy first others said =
+    ((is_participant_line first ≡ true) × IsCall first others said) ⊎ ((is_participant_line first ≡ false) × SaysSetup first others said)
+
+pub shape_says : (first : Part) (others : List Part) (said : Shape) → shape_of (first ∷ others) ≡ Ok said → SaysBy first others said
+shape_says first others said same = chosen (is_participant_line first) refl same
+  where
+    chosen : (test : Bool) → is_participant_line first ≡ test → cond test (participant_line first others) (setup_line first others) ≡ Ok said → SaysBy first others said
+    chosen true is shape = inl (is, answered (IsCall first others) (participant_line first others) said shape (participant_line_says first others))
+    chosen false is shape = inr (is, answered (SaysSetup first others) (setup_line first others) said shape (setup_line_says first others))

@@ -1,7 +1,0 @@
-use Rattle.std.proofs.Common.{◌≡◌, min, take}
-use Rattle.std.specs.Str.Parse.{digits_value}
-use Rattle.hp_script.proofs.first_text.value_up_to.Given as goal
-
--- the value of the digits so far, or the limit
-abbrev pub invariant-loop-digit : goal.invariant-loop-digit
-invariant-loop-digit l = l.value ≡ min (digits_value 10 (take l.digit-index l.digits)) l.limit

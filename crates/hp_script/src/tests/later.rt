@@ -1,0 +1,160 @@
+use super::outcome;
+use crate::first_later;
+use std::alloc::{AllocError, Global};
+use std::test::*;
+
+// Five setup lines that are built or skipped.
+const SETUP: &str = "pool 0 2M 4
+# participants 2
+socket 00 3
+deadline 100
+pool 1 1G 8 16
+";
+
+// Four participant lines that are built or skipped.
+const CALLS: &str = "0 alloc a 1000
+
+00 alloc b 0x10 socket=1
+ 0\talloc free 2M socket=any\r
+";
+
+// Participant lines that are not built.
+const FURTHER: &str = "0 free b
+0 alloc y 1 align=64
+";
+
+// Texts that are built to their end.
+const ALL_BUILT: [&str; 5] = [
+    "",
+    "\n\r\n \t\n# 0 free a",
+    "pool 0 2M 4\n",
+    "\tsocket\t00 31\r\n000 alloc a 1 socket=0x1f",
+    "deadline 1\n0 alloc socket 1",
+];
+
+// Setup lines that are not built.
+const SETUP_LINES: [&str; 9] = [
+    "participants 1",
+    "participants 3\nabsent 1\nsocket 1 4",
+    "lose alloc 0 1",
+    "repeat alloc 0 1",
+    "lose sync 0 1",
+    "refuse 0 1",
+    "elsewhere 0 1",
+    "  participants\t0x2\r",
+    "refuse 00 1",
+];
+
+// Setup lines that are not built, and that an accepted text has only behind another that is not.
+const DECLARED_LATER: [&str; 3] = ["absent 1", "socket 1 0", "socket 010 4"];
+
+// Participant lines that are not built.
+const CALL_LINES: [&str; 27] = [
+    "0 free a",
+    "0 resize a 10",
+    "0 zone z 100",
+    "0 zone z 100 socket=0",
+    "0 lookup z",
+    "0 unzone z",
+    "0 heap ext",
+    "0 unheap ext",
+    "0 add ext 0 2M 2M",
+    "0 remove ext 0 2M",
+    "0 map ext 0 2M",
+    "0 unmap ext 0 2M",
+    "0 watch w",
+    "0 unwatch w",
+    "0 limit v 0 1",
+    "0 unlimit v 0",
+    "0 await 0 1",
+    "0 dump socket_0",
+    "0 stats socket_0",
+    "0 alloc c 10 heap=ext",
+    "0 alloc c 10 align=0",
+    "0 alloc c 10 align=64",
+    "0 alloc c 10 bound=0",
+    "0 alloc c 10 flags=0",
+    "0 alloc c 10 socket=0 flags=1",
+    "0 alloc c 10 bound=4K socket=any",
+    "\t00 free\tb ",
+];
+
+// Lines of participants that are not there.
+const OTHERS: [&str; 4] = [
+    "1 attach",
+    "1 alloc c 10",
+    "10 alloc c 10",
+    "15 dump socket_0",
+];
+
+fn joined(alloc: Global, parts: &[&str]) -> Result<String, AllocError> {
+    let mut text = String::new(alloc);
+    for part in parts {
+        text.push_str(*part)?;
+    }
+    Ok(text)
+}
+
+fn later(text: &str) -> Option<u32> {
+    if text.len() > 1048576 {
+        return None;
+    }
+    first_later(text.as_bytes())
+}
+
+#[test]
+fn built_lines_alone_have_no_later_one(rt: HostRuntime) -> Result<(), Fail> {
+    let alloc = rt.alloc();
+    let both = joined(alloc, &[SETUP, CALLS])?;
+    assert_eq!(rt; outcome(alloc, both.as_bytes())?, 3);
+    assert_eq!(rt; later(both.as_str()), None);
+    for text in ALL_BUILT {
+        assert!(rt; outcome(alloc, text.as_bytes()).is_ok(), "{text}");
+        assert_eq!(rt; later(text), None, "{text}");
+    }
+    Ok(())
+}
+
+#[test]
+fn a_later_line_stands_between_built_ones_and_further_ones(rt: HostRuntime) -> Result<(), Fail> {
+    let alloc = rt.alloc();
+    for line in SETUP_LINES {
+        let text = joined(alloc, &[SETUP, line, "\n", CALLS, FURTHER])?;
+        assert!(rt; outcome(alloc, text.as_bytes()).is_ok(), "{line}");
+        assert_eq!(rt; later(text.as_str()), Some(6), "{line}");
+    }
+    for line in CALL_LINES {
+        let text = joined(alloc, &[SETUP, CALLS, line, "\n", FURTHER, "0 zone z 1"])?;
+        assert!(rt; outcome(alloc, text.as_bytes()).is_ok(), "{line}");
+        assert_eq!(rt; later(text.as_str()), Some(10), "{line}");
+    }
+    Ok(())
+}
+
+// Texts that no reader accepts have an answer too.
+#[test]
+fn other_participants_are_later(rt: HostRuntime) -> Result<(), Fail> {
+    let alloc = rt.alloc();
+    for line in DECLARED_LATER {
+        let text = joined(alloc, &[SETUP, line, "\n", CALLS])?;
+        assert_eq!(rt; later(text.as_str()), Some(6), "{line}");
+    }
+    for line in OTHERS {
+        let text = joined(alloc, &[SETUP, CALLS, line])?;
+        assert_eq!(rt; later(text.as_str()), Some(10), "{line}");
+    }
+    Ok(())
+}
+
+// The text is walked once: with 20,000 lines before the later one this takes milliseconds.
+#[test]
+fn the_last_of_many_lines_is_found(rt: HostRuntime) -> Result<(), Fail> {
+    let mut text = String::new(rt.alloc());
+    for number in 0..20_000u32 {
+        write!(text, "0 alloc l{number} 64 socket=1\n")?;
+    }
+    assert_eq!(rt; later(text.as_str()), None);
+    text.push_str("0 free l1")?;
+    assert_eq!(rt; later(text.as_str()), Some(20_001));
+    Ok(())
+}
