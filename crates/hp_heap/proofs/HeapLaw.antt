@@ -1,5 +1,5 @@
 -- One more call of a heap keeps what holds of it.
-use Rattle.std.proofs.Common.{◌≡◌, ℕ, zero, suc, ◌⊎◌, inl, inr, ◌+◌, ◌*◌, ◌^◌, ◌<◌, ◌≤◌, List, [], ◌∷◌, ◌++◌, map, refl, sym, ap, subst, ◌∙◌, arith, All, Option, Some, IsSome, is_some, true, vec_len, vec_capacity}
+use Rattle.std.proofs.Common.{◌≡◌, ℕ, zero, suc, ◌⊎◌, inl, inr, ◌+◌, ◌*◌, ◌^◌, ◌<◌, ◌≤◌, List, [], ◌∷◌, ◌++◌, length, map, refl, sym, ap, subst, ◌∙◌, arith, All, Option, Some, IsSome, is_some, true, vec_len, vec_capacity}
 use Rattle.std.specs.List.{filter, AllByRecursion}
 use Rattle.std.specs.Option.{option_and_then}
 use Rattle.hp_base.specs.declared.span.Span.{Span}
@@ -43,7 +43,7 @@ pub record IsNext (a b : Inside) (entry : Entry) (next : PlainHeap) : Type 0 whe
   pub tiled : IsTiled next
   pub limits : AllByRecursion IsInLimits (segments_of next)
   pub counted : b.insertions ≤ 2 * vec_len b.history
-  pub room : vec_len b.ranges + 2 * b.spare ≤ vec_capacity b.ranges
+  pub room : length b.ranges.items + 2 * b.spare ≤ b.ranges.capacity
   pub room_free : vec_len b.free + 2 * b.spare ≤ vec_capacity b.free
   pub room_history : vec_len b.history + b.spare ≤ vec_capacity b.history
 

@@ -10,6 +10,7 @@ pub mod GapTiling
 pub mod GrowLaw
 pub mod HistoryLaw
 pub mod SpliceLemmas
+pub mod KeyLemmas
 pub mod SearchLemmas
 pub mod SummaryLemmas
 pub mod PlaceLemmas

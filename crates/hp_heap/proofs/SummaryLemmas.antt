@@ -1,11 +1,13 @@
--- Sums over elements and over the free ones among them.
-use Rattle.std.proofs.Common.{◌≡◌, ℕ, ◌+◌, ◌<◌, ◌≤◌, Bool, true, false, cond, List, [], ◌∷◌, ◌++◌, length, get_or, take, ap, ◌∙◌, arith, max, append-nil}
-use Rattle.std.proofs.lemmas.List.Elements.{filter_more}
-use Rattle.std.proofs.lemmas.List.Sums.{sum_by-append, sum_by-cons, sum_by-take-le, fold-append}
+-- The statistics of elements and of one more, and their bounds.
+use Rattle.std.proofs.Common.{◌≡◌, ℕ, zero, suc, ◌+◌, ◌<◌, ◌≤◌, Bool, true, false, not, cond, List, [], ◌∷◌, ◌++◌, length, get_or, take, sym, ap, ◌∙◌, arith, max, append-nil}
+use Rattle.std.proofs.lemmas.List.{take_more}
+use Rattle.std.proofs.lemmas.List.Elements.{filter-append}
+use Rattle.std.proofs.lemmas.List.Sums.{sum_by_push, sum_by-cons, sum_by-take-le, fold-append}
 use Rattle.std.specs.List.{filter}
 use Rattle.hp_base.specs.declared.span.Span.{Span}
+use Rattle.hp_base.specs.declared.stats.Stats.{Stats}
 use Rattle.hp_heap.specs.PlainHeap.{is_free}
-use Rattle.hp_heap.specs.Statistics.{total_bytes, greatest_whole}
+use Rattle.hp_heap.specs.Statistics.{total_bytes, greatest_whole, statistics_of_ranges}
 
 -- free bytes are among all bytes
 free_by : (x : Span) (xs : List Span) (b : Bool) → total_bytes (filter is_free xs) ≤ total_bytes xs → total_bytes (cond b (x ∷ filter is_free xs) (filter is_free xs)) ≤ x.whole + total_bytes xs
@@ -16,18 +18,45 @@ pub free_within : (xs : List Span) → total_bytes (filter is_free xs) ≤ total
 free_within [] = omega arith
 free_within (x ∷ xs) = omega (arith, free_by x xs (is_free x) (free_within xs), sum_by-cons (λ (y : Span). y.whole) x xs)
 
-pub free_taken : (xs : List Span) (i : ℕ) → total_bytes (filter is_free (take i xs)) ≤ total_bytes xs
-free_taken xs i = omega (arith, free_within (take i xs), sum_by-take-le (λ (y : Span). y.whole) xs i)
+-- free elements and one more
+filter_push : (xs : List Span) (x : Span) → filter is_free (xs ++ (x ∷ [])) ≡ filter is_free xs ++ cond (is_free x) (x ∷ []) []
+filter_push xs x = filter-append is_free xs (x ∷ [])
 
--- one more element, free or not
-pub free_yes : (xs : List Span) (i : ℕ) (d : Span) → i < length xs → is_free (get_or xs i d) ≡ true → filter is_free (take (i + 1) xs) ≡ filter is_free (take i xs) ++ (get_or xs i d ∷ [])
-free_yes xs i d within free = filter_more is_free xs i d within ∙ ap (λ (b : Bool). filter is_free (take i xs) ++ cond b (get_or xs i d ∷ []) []) free
+stats_by : {total free used greatest busy frees total' free' used' greatest' busy' frees' : ℕ} → total ≡ total' → free ≡ free' → used ≡ used' → greatest ≡ greatest' → busy ≡ busy' → frees ≡ frees'
+    → ◌≡◌ {A = Stats} (record { total = total; free = free; used = used; greatest = greatest; busy = busy; frees = frees }) (record { total = total'; free = free'; used = used'; greatest = greatest'; busy = busy'; frees = frees' })
+stats_by first second third fourth fifth sixth = cc
 
-pub free_no : (xs : List Span) (i : ℕ) (d : Span) → i < length xs → is_free (get_or xs i d) ≡ false → filter is_free (take (i + 1) xs) ≡ filter is_free (take i xs)
-free_no xs i d within busy = filter_more is_free xs i d within ∙ ap (λ (b : Bool). filter is_free (take i xs) ++ cond b (get_or xs i d ∷ []) []) busy ∙ append-nil (filter is_free (take i xs))
+pub free_more : (stats : Stats) (xs : List Span) (x : Span) → is_free x ≡ true → stats ≡ statistics_of_ranges xs
+    → record { total = stats.total + x.whole; free = stats.free + x.whole; used = stats.used; greatest = max stats.greatest x.whole; busy = stats.busy; frees = stats.frees + 1 } ≡ statistics_of_ranges (xs ++ (x ∷ []))
+free_more stats xs x free is =
+    let kept : filter is_free (xs ++ (x ∷ [])) ≡ filter is_free xs ++ (x ∷ []) = filter_push xs x ∙ ap (λ (b : Bool). filter is_free xs ++ cond b (x ∷ []) []) free in
+    let total = ap (λ z. z.total) is in
+    let free_total : total_bytes (filter is_free (xs ++ (x ∷ []))) ≡ total_bytes (filter is_free xs) + x.whole = ap total_bytes kept ∙ sum_by_push (λ (y : Span). y.whole) (filter is_free xs) x in
+    let yes : cond (is_free x) 1 0 ≡ suc zero = ap (λ (b : Bool). cond b 1 0) free in
+    let no : cond (not (is_free x)) 1 0 ≡ zero = ap (λ (b : Bool). cond (not b) 1 0) free in
+    stats_by
+    (omega (arith, ap (λ z. z.total) is, sum_by_push (λ (y : Span). y.whole) xs x))
+    (omega (arith, ap (λ z. z.free) is, free_total))
+    (omega (arith, ap (λ z. z.used) is, free_total, sum_by_push (λ (y : Span). y.whole) xs x))
+    (ap (λ z. max z.greatest x.whole) is ∙ sym (ap greatest_whole kept ∙ fold-append (λ most (range : Span). max most range.whole) 0 (filter is_free xs) (x ∷ [])))
+    (omega (arith, ap (λ z. z.busy) is, sum_by_push (λ (y : Span). cond (not (is_free y)) 1 0) xs x, no))
+    (omega (arith, ap (λ z. z.frees) is, sum_by_push (λ (y : Span). cond (is_free y) 1 0) xs x, yes))
 
-pub total_yes : (xs : List Span) (i : ℕ) (d : Span) → i < length xs → is_free (get_or xs i d) ≡ true → total_bytes (filter is_free (take (i + 1) xs)) ≡ total_bytes (filter is_free (take i xs)) + (get_or xs i d).whole
-total_yes xs i d within free = ap (λ zs. total_bytes zs) (free_yes xs i d within free) ∙ omega (arith, sum_by-append (λ (y : Span). y.whole) (filter is_free (take i xs)) (get_or xs i d ∷ []))
+pub busy_more : (stats : Stats) (xs : List Span) (x : Span) → is_free x ≡ false → stats ≡ statistics_of_ranges xs
+    → record { total = stats.total + x.whole; free = stats.free; used = stats.used + x.whole; greatest = stats.greatest; busy = stats.busy + 1; frees = stats.frees } ≡ statistics_of_ranges (xs ++ (x ∷ []))
+busy_more stats xs x busy is =
+    let kept : filter is_free (xs ++ (x ∷ [])) ≡ filter is_free xs = filter_push xs x ∙ ap (λ (b : Bool). filter is_free xs ++ cond b (x ∷ []) []) busy ∙ append-nil (filter is_free xs) in
+    let yes : cond (is_free x) 1 0 ≡ zero = ap (λ (b : Bool). cond b 1 0) busy in
+    let no : cond (not (is_free x)) 1 0 ≡ suc zero = ap (λ (b : Bool). cond (not b) 1 0) busy in
+    stats_by
+    (omega (arith, ap (λ z. z.total) is, sum_by_push (λ (y : Span). y.whole) xs x))
+    (ap (λ z. z.free) is ∙ sym (ap total_bytes kept))
+    (omega (arith, ap (λ z. z.used) is, ap total_bytes kept, sum_by_push (λ (y : Span). y.whole) xs x, free_within xs))
+    (ap (λ z. z.greatest) is ∙ sym (ap greatest_whole kept))
+    (omega (arith, ap (λ z. z.busy) is, sum_by_push (λ (y : Span). cond (not (is_free y)) 1 0) xs x, no))
+    (omega (arith, ap (λ z. z.frees) is, sum_by_push (λ (y : Span). cond (is_free y) 1 0) xs x, yes))
 
-pub greatest_yes : (xs : List Span) (i : ℕ) (d : Span) → i < length xs → is_free (get_or xs i d) ≡ true → greatest_whole (filter is_free (take (i + 1) xs)) ≡ max (greatest_whole (filter is_free (take i xs))) (get_or xs i d).whole
-greatest_yes xs i d within free = ap (λ zs. greatest_whole zs) (free_yes xs i d within free) ∙ fold-append (λ most (range : Span). max most range.whole) 0 (filter is_free (take i xs)) (get_or xs i d ∷ [])
+-- bounds of the first elements' statistics
+pub total_taken : (xs : List Span) (i : ℕ) (d : Span) → i < length xs → total_bytes (take i xs) + (get_or xs i d).whole ≤ total_bytes xs
+total_taken xs i d within =
+    omega (arith, ap total_bytes (take_more xs i d within), sum_by_push (λ (y : Span). y.whole) (take i xs) (get_or xs i d), sum_by-take-le (λ (y : Span). y.whole) xs (i + 1))

@@ -1,5 +1,5 @@
 -- How a heap is kept: the heap that its history leaves, and the fields that say the same. No public clause cites this module.
-use Rattle.std.specs.Prelude.{◌≡◌, ◌+◌, ◌*◌, ◌^◌, ◌≤◌, Some, vec_len, vec_capacity}
+use Rattle.std.specs.Prelude.{◌≡◌, ◌+◌, ◌*◌, ◌^◌, ◌≤◌, Some, length, vec_len, vec_capacity}
 use Rattle.std.specs.List.{filter, AllByRecursion}
 use Rattle.hp_heap.specs.declared.heap.Heap.TheInside.{Inside}
 use Rattle.hp_heap.specs.PlainHeap.{PlainHeap, Extent, opening_heap, is_free, segments_of}
@@ -35,6 +35,6 @@ pub record IsHeap (a : Inside) : Type 0 where
   pub tiled : IsTiled (plain_of a)
   pub limits : AllByRecursion IsInLimits (segments_of (plain_of a))
   pub counted : a.insertions ≤ 2 * vec_len a.history
-  pub room : vec_len a.ranges + 2 * a.spare ≤ vec_capacity a.ranges
+  pub room : length a.ranges.items + 2 * a.spare ≤ a.ranges.capacity
   pub room_free : vec_len a.free + 2 * a.spare ≤ vec_capacity a.free
   pub room_history : vec_len a.history + a.spare ≤ vec_capacity a.history

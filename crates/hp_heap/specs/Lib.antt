@@ -13,5 +13,6 @@ pub mod History
 pub mod Growing
 pub mod Free
 pub mod Splice
+pub mod Elements
 pub mod Inside
 pub mod Laws

@@ -1,4 +1,4 @@
-ghost use Rattle.std.specs.Prelude.{◌≡◌, ◌+◌, ◌<◌, ◌≤◌, ◌^◌, None, IfNone, IfSome, All, MatchOption, vec_len, vec_capacity};
+ghost use Rattle.std.specs.Prelude.{◌≡◌, ◌+◌, ◌<◌, ◌≤◌, ◌^◌, None, IfNone, IfSome, All, MatchOption, length, vec_len, vec_capacity};
 ghost use Rattle.std.specs.List.{filter};
 ghost use Rattle.std.specs.Option.{option_and_then};
 ghost use Rattle.hp_heap.specs.PlainHeap.{is_free};
@@ -10,10 +10,10 @@ ghost use Rattle.hp_heap.specs.Step.{address_answer};
 ghost use Rattle.hp_heap.specs.History.{IsCall};
 
 use crate::choice::choose;
+use crate::elements::Elements;
 use crate::entry::{HeapAnswer, HeapCall};
 use crate::heap::{Heap, record};
 use crate::pieces::{cut_out, put_free_pieces, put_pieces};
-use crate::ranges::place_of;
 use hp_base::{Caller, Request, Span, Tag, place};
 
 impl Heap {
@@ -63,7 +63,7 @@ fn address_answer(address: Option<u64>) -> HeapAnswer
 
 // Cuts a request out of the free element that the search meets first.
 fn allocate(
-    ranges: &mut Vec<Span>,
+    ranges: &mut Elements,
     free: &mut Vec<Span>,
     insertions: &mut u64,
     req: &Request,
@@ -71,7 +71,7 @@ fn allocate(
 ) -> Option<u64>
     requires kept { IsKept ranges.old.items free.old.items }
     requires insertions { insertions.old + 2 < 2 ^ 64 }
-    requires room { vec_len ranges.old + 2 ≤ vec_capacity ranges.old }
+    requires room { length ranges.old.items + 2 ≤ ranges.old.capacity }
     requires room_free { vec_len free.old < vec_capacity free.old }
     ensures address { result
         ≡ option_and_then (place_in req.now) (first_with_place free.old.items req.now) }
@@ -80,9 +80,9 @@ fn allocate(
     ensures insertions { insertions.new
         ≡ insertions_after insertions.old req.now (first_with_place free.old.items req.now) }
     ensures free { free.new.items ≡ filter is_free ranges.new.items }
-    ensures room { vec_capacity ranges.new ≡ vec_capacity ranges.old }
+    ensures room { ranges.new.capacity ≡ ranges.old.capacity }
     ensures room_free { vec_capacity free.new ≡ vec_capacity free.old }
-    ensures len { vec_len ranges.new ≤ vec_len ranges.old + 2 }
+    ensures len { length ranges.new.items ≤ length ranges.old.items + 2 }
     ensures len_free { vec_len free.new ≤ vec_len free.old + 1 }
 {
     let found = search(free, req)?;
@@ -114,7 +114,7 @@ fn search(free: &[Span], req: &Request) -> Option<Found>
 
 // Puts the pieces of a free element into its place, and gives the number of insertions.
 fn take(
-    ranges: &mut Vec<Span>,
+    ranges: &mut Elements,
     free: &mut Vec<Span>,
     insertions: u64,
     found: &Found,
@@ -125,18 +125,18 @@ fn take(
     requires item { IsItem free.old.items found.now.at found.now.range }
     requires within { IsWithin found.now.range found.now.address size }
     requires insertions { insertions + 2 < 2 ^ 64 }
-    requires room { vec_len ranges.old + 2 ≤ vec_capacity ranges.old }
+    requires room { length ranges.old.items + 2 ≤ ranges.old.capacity }
     requires room_free { vec_len free.old < vec_capacity free.old }
     ensures ranges { ranges.new.items ≡ replaced found.now.range.addr
         (pieces_of found.now.range found.now.address size tag insertions) ranges.old.items }
     ensures insertions { result ≡ insertions_of found.now.range found.now.address size insertions }
     ensures free { free.new.items ≡ filter is_free ranges.new.items }
-    ensures room { vec_capacity ranges.new ≡ vec_capacity ranges.old }
+    ensures room { ranges.new.capacity ≡ ranges.old.capacity }
     ensures room_free { vec_capacity free.new ≡ vec_capacity free.old }
-    ensures len { vec_len ranges.new ≤ vec_len ranges.old + 2 }
+    ensures len { length ranges.new.items ≤ length ranges.old.items + 2 }
     ensures len_free { vec_len free.new ≤ vec_len free.old + 1 }
 {
-    let at = place_of(ranges, found.range.addr);
+    let at = ranges.place_of(found.range.addr);
     let pieces = cut_out(&found.range, found.address, size, tag, insertions);
     put_pieces(ranges, at, &pieces);
     put_free_pieces(free, found.at, &pieces);

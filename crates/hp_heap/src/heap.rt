@@ -5,6 +5,7 @@ ghost use Rattle.hp_heap.specs.Lists.{free_lists};
 ghost use Rattle.hp_heap.specs.Statistics.{statistics_of};
 ghost use Rattle.hp_heap.specs.History.{IsSound, SameButSpare};
 
+use crate::elements::Elements;
 use crate::entry::{Entry, HeapAnswer, HeapCall};
 use crate::socket_name::socket_name;
 use crate::summary::statistics;
@@ -22,7 +23,7 @@ pub struct Heap {
     pub(crate) name: Option<Name>,
     pub(crate) socket: u32,
     // The elements by rising address, and the free ones among them.
-    pub(crate) ranges: Vec<Span>,
+    pub(crate) ranges: Elements,
     pub(crate) free: Vec<Span>,
     // The insertions into free lists so far.
     pub(crate) insertions: u64,
@@ -56,7 +57,7 @@ impl Heap {
             serves: socket,
             name: Some(socket_name(socket)),
             socket,
-            ranges: Vec::new(alloc),
+            ranges: Elements::new(alloc),
             free: Vec::new(alloc),
             insertions: 0,
             history: Vec::new(alloc),
@@ -92,7 +93,7 @@ impl Heap {
         ensures elements { OnOk result (out.new.items ≡ out.old.items ++ self.now.plain.ranges) }
         ensures err { OnErr result (out.new.items ≡ out.old.items) }
     {
-        out.extend_from_slice(&self.ranges)
+        self.ranges.append_to(out)
     }
 
     /// All calls so far, in their order.

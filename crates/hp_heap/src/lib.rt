@@ -3,6 +3,7 @@
 
 mod alloc;
 mod choice;
+mod elements;
 mod entry;
 mod heap;
 mod joining;

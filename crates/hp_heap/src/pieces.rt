@@ -1,9 +1,10 @@
-ghost use Rattle.std.specs.Prelude.{◌≡◌, ◌+◌, ◌-◌, ◌<◌, ◌≤◌, ◌++◌, ◌∷◌, ◌^◌, [], Some, None, IsTrue, length, vec_len, vec_capacity, if◌then◌else◌};
+ghost use Rattle.std.specs.Prelude.{◌≡◌, ◌+◌, ◌-◌, ◌<◌, ◌≤◌, ◌++◌, ◌∷◌, ◌^◌, Some, None, length, vec_len, vec_capacity, if◌then◌else◌};
 ghost use Rattle.std.specs.Option.{option_to_list};
-ghost use Rattle.hp_heap.specs.PlainHeap.{end_of, free_range};
-ghost use Rattle.hp_heap.specs.Placing.{has_rest_before, has_rest_behind, rest_before, rest_behind, busy_piece, busy_start, busy_end, pieces_of, insertions_of, count_if};
+ghost use Rattle.hp_heap.specs.PlainHeap.{end_of};
+ghost use Rattle.hp_heap.specs.Placing.{has_rest_before, has_rest_behind, rest_before, rest_behind, busy_piece, busy_start, busy_end, insertions_of, count_if};
 ghost use Rattle.hp_heap.specs.Splice.{spliced, IsWithin};
 
+use crate::elements::Elements;
 use hp_base::{HEADER, Span, SpanState, Tag};
 
 /// The least whole size of an element: a header and the least data, in bytes.
@@ -132,43 +133,46 @@ fn busy_end(behind: bool, range: &Span, address: u64, size: u64) -> u64
 }
 
 /// Puts pieces into the place of the element that they were cut out of.
-pub fn put_pieces(ranges: &mut Vec<Span>, at: usize, pieces: &Pieces)
-    requires within { at < vec_len ranges.old }
-    requires room { vec_len ranges.old + 2 ≤ vec_capacity ranges.old }
+pub fn put_pieces(ranges: &mut Elements, at: usize, pieces: &Pieces)
+    requires within { at < length ranges.old.items }
+    requires room { length ranges.old.items + 2 ≤ ranges.old.capacity }
     ensures items { ranges.new.items ≡ spliced ranges.old.items at 1 (option_to_list pieces.now.before
         ++ (pieces.now.busy ∷ option_to_list pieces.now.behind)) }
-    ensures room { vec_capacity ranges.new ≡ vec_capacity ranges.old }
-    ensures len { vec_len ranges.new ≤ vec_len ranges.old + 2 }
+    ensures room { ranges.new.capacity ≡ ranges.old.capacity }
+    ensures len { length ranges.new.items ≤ length ranges.old.items + 2 }
 {
-    ranges[at] = pieces.busy;
-    put_behind(ranges, at, pieces.behind);
+    put_busy(ranges, at, pieces.busy, pieces.behind);
     put_before(ranges, at, pieces.before);
 }
 
-// Inserts an element, if there is one, behind a place.
-fn put_behind(ranges: &mut Vec<Span>, at: usize, range: Option<Span>)
-    requires within { at < vec_len ranges.old }
-    requires room { vec_len ranges.old < vec_capacity ranges.old }
-    ensures items { ranges.new.items ≡ spliced ranges.old.items (at + 1) 0 (option_to_list range) }
-    ensures room { vec_capacity ranges.new ≡ vec_capacity ranges.old }
-    ensures len { vec_len ranges.new ≤ vec_len ranges.old + 1 }
-    ensures more { vec_len ranges.old ≤ vec_len ranges.new }
+// Puts a busy element, and the free one behind it if there is one, into the place of an element.
+fn put_busy(ranges: &mut Elements, at: usize, busy: Span, behind: Option<Span>)
+    requires within { at < length ranges.old.items }
+    requires room { length ranges.old.items < ranges.old.capacity }
+    ensures items { ranges.new.items ≡ spliced ranges.old.items at 1 (busy ∷ option_to_list behind) }
+    ensures room { ranges.new.capacity ≡ ranges.old.capacity }
+    ensures len { length ranges.new.items ≤ length ranges.old.items + 1 }
+    ensures more { length ranges.old.items ≤ length ranges.new.items }
 {
-    if let Some(range) = range {
-        let _ = ranges.insert(at + 1, range);
+    match behind {
+        None => ranges.set(at, busy),
+        Some(behind) => {
+            ranges.set(at, behind);
+            ranges.insert(at, busy);
+        }
     }
 }
 
 // Inserts an element, if there is one, at a place.
-fn put_before(ranges: &mut Vec<Span>, at: usize, range: Option<Span>)
-    requires within { at < vec_len ranges.old }
-    requires room { vec_len ranges.old < vec_capacity ranges.old }
+fn put_before(ranges: &mut Elements, at: usize, range: Option<Span>)
+    requires within { at < length ranges.old.items }
+    requires room { length ranges.old.items < ranges.old.capacity }
     ensures items { ranges.new.items ≡ spliced ranges.old.items at 0 (option_to_list range) }
-    ensures room { vec_capacity ranges.new ≡ vec_capacity ranges.old }
-    ensures len { vec_len ranges.new ≤ vec_len ranges.old + 1 }
+    ensures room { ranges.new.capacity ≡ ranges.old.capacity }
+    ensures len { length ranges.new.items ≤ length ranges.old.items + 1 }
 {
     if let Some(range) = range {
-        let _ = ranges.insert(at, range);
+        ranges.insert(at, range);
     }
 }
 
@@ -187,6 +191,19 @@ pub fn put_free_pieces(free: &mut Vec<Span>, at: usize, pieces: &Pieces)
             put_behind(free, at, pieces.behind);
         }
         None => put_or_remove(free, at, pieces.behind),
+    }
+}
+
+// Inserts a free element, if there is one, behind a place.
+fn put_behind(free: &mut Vec<Span>, at: usize, range: Option<Span>)
+    requires within { at < vec_len free.old }
+    requires room { vec_len free.old < vec_capacity free.old }
+    ensures items { free.new.items ≡ spliced free.old.items (at + 1) 0 (option_to_list range) }
+    ensures room { vec_capacity free.new ≡ vec_capacity free.old }
+    ensures len { vec_len free.new ≤ vec_len free.old + 1 }
+{
+    if let Some(range) = range {
+        let _ = free.insert(at + 1, range);
     }
 }
 

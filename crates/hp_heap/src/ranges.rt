@@ -1,5 +1,4 @@
-ghost use Rattle.std.specs.Prelude.{◌≡◌, ◌+◌, ◌<◌, ◌≤◌, ◌++◌, ◌∷◌, ◌^◌, [], length, take, drop, vec_len, vec_capacity, if◌then◌else◌, insert, remove};
-ghost use Rattle.std.specs.Option.{option_to_list};
+ghost use Rattle.std.specs.Prelude.{◌≡◌, ◌+◌, ◌<◌, ◌≤◌, ◌∷◌, ◌^◌, [], vec_len, vec_capacity, insert, remove};
 ghost use Rattle.hp_heap.specs.PlainHeap.{is_free, stamp_of, end_of};
 ghost use Rattle.hp_heap.specs.Tiling.{joins, IsRisingFrom};
 ghost use Rattle.hp_heap.specs.Splice.{spliced, IsPlaceOf};
@@ -42,17 +41,7 @@ pub fn place_of(ranges: &[Span], addr: u64) -> usize
     requires { IsRisingFrom 0 ranges.now }
     ensures { IsPlaceOf ranges.now addr result }
 {
-    let mut low = 0;
-    let mut high = ranges.len();
-    while low < high {
-        let middle = low + (high - low) / 2;
-        if ranges[middle].addr < addr {
-            low = middle + 1;
-        } else {
-            high = middle;
-        }
-    }
-    low
+    ranges.partition_point(|range| range.addr < addr)
 }
 
 /// Puts an element into the place of `count` elements, at most two of them.

@@ -2,6 +2,7 @@ ghost use Rattle.std.specs.Prelude.{◌≡◌, ◌+◌, ◌*◌, ◌^◌, ◌<�
 ghost use Rattle.hp_base.specs.declared.row.Run.{Run};
 ghost use Rattle.hp_heap.specs.Growing.{IsGrownTo};
 
+use crate::elements::Elements;
 use crate::heap::Heap;
 use crate::socket_name::socket_name;
 use crate::{HeapAnswer, HeapCall, Span, SpanState};
@@ -140,6 +141,43 @@ fn joins_a_run_with_the_free_element_below_it(rt: HostRuntime) -> Result<(), Fai
     assert_eq!(rt; elements.len(), 1);
     assert_eq!(rt; elements[0].whole, 2 * PAGE);
     assert!(rt; matches!(elements[0].state, SpanState::Free { stamp: 2 }));
+    Ok(())
+}
+
+// A free page of 2M, the one with this number.
+fn page(number: u64) -> Span
+    requires few { number < 16 }
+    ensures addr { result.addr ≡ BASE + number * PAGE }
+    ensures whole { result.whole ≡ PAGE }
+{
+    Span {
+        addr: BASE + number * PAGE,
+        whole: PAGE,
+        list: 0,
+        page: PAGE,
+        state: SpanState::Free { stamp: number },
+    }
+}
+
+#[test]
+fn keeps_elements_in_order(rt: HostRuntime) -> Result<(), Fail> {
+    let mut elements = Elements::new(rt.alloc());
+    elements.reserve(4)?;
+    elements.insert(0, page(3));
+    elements.insert(0, page(0));
+    elements.insert(1, page(2));
+    let mut out = Vec::new(rt.alloc());
+    elements.append_to(&mut out)?;
+    assert_eq!(rt; out.as_slice(), [page(0), page(2), page(3)].as_slice());
+    for (number, place) in [(0, 0), (1, 1), (2, 1), (3, 2), (4, 3)] {
+        assert_eq!(rt; elements.place_of(BASE + number * PAGE), place, "{number}");
+    }
+    elements.remove(1);
+    elements.insert(0, page(5));
+    elements.splice(1, 2, page(1));
+    out.clear();
+    elements.append_to(&mut out)?;
+    assert_eq!(rt; out.as_slice(), [page(5), page(1)].as_slice());
     Ok(())
 }
 

@@ -10,24 +10,24 @@ use Rattle.hp_heap.proofs.joining.insert_free.Goals.{After-splice}
 
 pub place_of-free_at-requires : goal.place_of-free_at-requires
 place_of-free_at-requires c =
-    subst (λ zs. IsRisingFrom 0 zs) (sym (c.deref-2.ensures.value ∙ c.requires.kept.free)) (filter-rising is_free 0 c.args.ranges.now.items c.requires.kept.rising)
+    subst (λ zs. IsRisingFrom 0 zs) (sym (c.deref.ensures.value ∙ c.requires.kept.free)) (filter-rising is_free 0 c.args.ranges.now.items c.requires.kept.rising)
 
 pub joined_up-upper-requires-clause-sum : goal.joined_up-upper-requires-clause-sum
 joined_up-upper-requires-clause-sum c =
-    omega (arith, down_end c.deref-3.result.now c.place_of-at.result c.args.range c.joined_down-lower.result.took c.joined_down-lower.result.range c.joined_down-lower.ensures.down, c.requires.insertable.end)
+    omega (arith, down_end c.args.ranges.now.items c.place_of-at.result c.args.range c.joined_down-lower.result.took c.joined_down-lower.result.range c.joined_down-lower.ensures.down, c.requires.insertable.end)
 
 -- what is known once the first splice is made
 place_of : (c : After-splice) → IsPlaceOf c.args.ranges.now.items c.args.range.addr c.place_of-at.result
-place_of c = subst (λ zs. IsPlaceOf zs c.args.range.addr c.place_of-at.result) c.deref.ensures.value c.place_of-at.ensures
+place_of c = c.place_of-at.ensures
 
 unused_place_of : (c : After-splice) → IsPlaceOf c.args.free.now.items c.args.range.addr c.place_of-free_at.result
-unused_place_of c = subst (λ zs. IsPlaceOf zs c.args.range.addr c.place_of-free_at.result) c.deref-2.ensures.value c.place_of-free_at.ensures
+unused_place_of c = subst (λ zs. IsPlaceOf zs c.args.range.addr c.place_of-free_at.result) c.deref.ensures.value c.place_of-free_at.ensures
 
 down_of : (c : After-splice) → IsDown c.args.ranges.now.items c.place_of-at.result c.args.range c.joined_down-lower.result.took c.joined_down-lower.result.range
-down_of c = subst (λ zs. IsDown zs c.place_of-at.result c.args.range c.joined_down-lower.result.took c.joined_down-lower.result.range) c.deref-3.ensures.value c.joined_down-lower.ensures.down
+down_of c = c.joined_down-lower.ensures.down
 
 up_of : (c : After-splice) → IsUp c.args.ranges.now.items c.place_of-at.result c.joined_down-lower.result.range c.joined_up-upper.result.took c.joined_up-upper.result.range
-up_of c = subst (λ zs. IsUp zs c.place_of-at.result c.joined_down-lower.result.range c.joined_up-upper.result.took c.joined_up-upper.result.range) c.deref-4.ensures.value c.joined_up-upper.ensures.up
+up_of c = c.joined_up-upper.ensures.up
 
 -- the numbers of elements taken
 down_is : (c : After-splice) → c.from-down.result ≡ one_if c.joined_down-lower.result.took
@@ -53,7 +53,7 @@ unused_high c = omega (
 )
 
 -- the elements after the first splice
-ranges_is : (c : After-splice) → c.splice.new.ranges.items
+ranges_is : (c : After-splice) → c.splice.new.self.items
     ≡ take (c.place_of-at.result - one_if c.joined_down-lower.result.took) c.args.ranges.now.items ++ (c.joined_up-upper.result.range ∷ drop (c.place_of-at.result + one_if c.joined_up-upper.result.took) c.args.ranges.now.items)
 ranges_is c =
     c.splice.ensures.items

@@ -1,20 +1,12 @@
-use Rattle.std.proofs.Common.{◌+◌, ◌-◌, ◌/◌, arith}
-use Rattle.hp_heap.proofs.RangeLemmas.{rising_take, rising_drop}
+-- A search by address gives the place: elements that rise are parted by an address.
+use Rattle.std.proofs.Common.{nat_lt, rules}
+use Rattle.std.proofs.lemmas.List.Sorted.{IsPartitionPoint-from_clause, IsPartitionedBy-ltb}
+use Rattle.hp_base.specs.declared.span.Span.{Span}
+use Rattle.hp_heap.proofs.RangeLemmas.{rising_ordered, place_at_point}
 use Rattle.hp_heap.proofs.ranges.place_of.Goals as goal
 
-pub loop-low-preserved-then-ranges-middle : goal.loop-low-preserved-then-ranges-middle
-loop-low-preserved-then-ranges-middle c =
-    record {
-      ordered = omega (arith, c.loop-low-test.true);
-      within = c.loop-low.invariant.within;
-      before = rising_take 0 c.args.addr (c.loop-low.low + (c.loop-low.high - c.loop-low.low) / 2) c.args.ranges.now _ c.requires (omega (arith, c.loop-low-test.true, c.loop-low.invariant.within)) c.if-ranges-middle.true;
-      behind = c.loop-low.invariant.behind;
-    }
-
-pub loop-low-preserved : goal.loop-low-preserved
-loop-low-preserved c = record {
-  ordered = omega (arith, c.loop-low-test.true);
-  within = omega (arith, c.loop-low-test.true, c.loop-low.invariant.within);
-  before = c.loop-low.invariant.before;
-  behind = rising_drop 0 c.args.addr (c.loop-low.low + (c.loop-low.high - c.loop-low.low) / 2) c.args.ranges.now _ c.requires (omega (arith, c.loop-low-test.true, c.loop-low.invariant.within)) c.if-ranges-middle.false;
-}
+pub returns : goal.returns
+returns c =
+    place_at_point c.args.addr c.partition_point.result c.args.ranges.now c.partition_point.ensures.bound
+    (IsPartitionPoint-from_clause (λ (range : Span). nat_lt range.addr c.args.addr) _ _ c.partition_point.ensures.partitioned
+    (IsPartitionedBy-ltb (λ (range : Span). range.addr) _ c.args.addr (rising_ordered 0 c.args.ranges.now c.requires)) (λ a r f k. search rules))

@@ -1,13 +1,11 @@
-use Rattle.std.proofs.Common.{◌≤◌, ◌^◌, sym, ap, subst, ◌∙◌}
-use Rattle.hp_heap.specs.Statistics.{statistics_of, statistics_of_ranges, total_bytes}
+use Rattle.std.proofs.Common.{ap, ◌∙◌}
+use Rattle.hp_heap.specs.Statistics.{statistics_of, statistics_of_ranges}
 use Rattle.hp_heap.proofs.HeapLaw.{total_within}
 use Rattle.hp_heap.proofs.heap.Heap.summary.Goals as goal
 
 pub statistics-requires : goal.statistics-requires
-statistics-requires c = subst (λ zs. total_bytes zs ≤ 2 ^ 63) (sym c.deref.ensures.value) (total_within c.self.inside c.self.invariant)
+statistics-requires c = total_within c.self.inside c.self.invariant
 
 pub returns : goal.returns
 unfolding statistics_of
-returns c =
-    c.statistics.ensures
-    ∙ ap (λ zs. statistics_of_ranges zs) (c.deref.ensures.value ∙ c.self.invariant.ranges ∙ ap (λ v. v.plain.ranges) c.self.view_is)
+returns c = c.statistics.ensures ∙ ap (λ zs. statistics_of_ranges zs) (c.self.invariant.ranges ∙ ap (λ v. v.plain.ranges) c.self.view_is)
