@@ -9,7 +9,7 @@ ghost use Rattle.hp_segs.specs.Sound.{IsSound};
 
 use crate::list_info::ListInfo;
 use crate::log_record::LogRecord;
-use crate::row_state::RowState;
+use crate::row_state::{RowState, Segment};
 use crate::segs::Segs;
 use crate::table::slots::{contains, row_of};
 use hp_base::{PoolLine, Row, Run};
@@ -43,6 +43,13 @@ impl Segs {
         ensures { result ≡ state_at self.now.segments list slot }
     {
         Some(self.table.at(list, slot)?.state)
+    }
+
+    /// The mapped segments with their states, in the order of the log. Own.
+    pub fn segments(&self) -> &[Segment]
+        ensures { result.now ≡ self.now.segments }
+    {
+        self.table.segments()
     }
 
     /// The log of what was mapped and unmapped. Own.
