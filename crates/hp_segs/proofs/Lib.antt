@@ -38,9 +38,11 @@ pub mod RemoveAllLemmas
 pub mod RemoveLemmas
 pub mod RetireGrowth
 pub mod RetireLemmas
+pub mod RisingLemmas
 pub mod RowLemmas
 pub mod SlotLemmas
 pub mod StateLemmas
+pub mod StretchLemmas
 pub mod TableLemmas
 pub mod TakeLemmas
 pub mod TableUse

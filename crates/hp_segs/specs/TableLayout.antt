@@ -1,6 +1,6 @@
 -- How the table keeps masks and counts beside its segments. No public clause cites this module.
-use Rattle.std.specs.Prelude.{◌≡◌, ℕ, ◌+◌, ◌-◌, ◌*◌, ◌^◌, ◌≤◌, ◌<◌, Bool, List, [], ◌∷◌, ◌++◌, Some, None, IsTrue, sum_by}
-use Rattle.std.specs.List.{All}
+use Rattle.std.specs.Prelude.{◌≡◌, ℕ, ◌+◌, ◌-◌, ◌*◌, ◌^◌, ◌≤◌, ◌<◌, Bool, List, [], ◌∷◌, ◌++◌, Some, None, IsTrue, length, sum_by}
+use Rattle.std.specs.List.{All, AllWithin}
 use Rattle.hp_base.specs.Pages.{is_page_size}
 use Rattle.hp_base.specs.declared.row.Row.{Row}
 use Rattle.hp_base.specs.declared.pool_line.PoolLine.{PoolLine}
@@ -14,6 +14,7 @@ use Rattle.hp_segs.specs.Lists.{lists_of, free_pages}
 use Rattle.hp_segs.specs.Table.{IsTable, TableView}
 use Rattle.hp_segs.specs.declared.list_info.ListInfo.{ListInfo}
 use Rattle.hp_segs.specs.declared.log_record.LogRecord.{LogRecord}
+use Rattle.hp_segs.specs.declared.row_state.Segment.{Segment}
 
 -- the used masks of lists, where so many lists stand before them
 abbrev pub masks_from : ℕ → List Row → List ListInfo → List (List Bool)
@@ -39,6 +40,15 @@ pub record IsLaidOut (pools : List PoolLine) (lists : List ListInfo) (masks : Li
   pub its_masks : masks ≡ masks_from 0 rows lists
   pub its_counts : All (λ line. pool_of counts line.socket line.page ≡ Some (pool_beside rows line)) pools
   pub room : sum_by (λ line. line.slots) pools ≤ rows_room
+
+-- the segments of a generation stand from the first place on and before the end, those of earlier ones before them, and those of
+-- later ones behind
+pub record IsStretch (segments : List Segment) (generation first end : ℕ) : Type 0 where
+  pub ordered : first ≤ end
+  pub within : end ≤ length segments
+  pub earlier : AllWithin (λ segment. segment.row.generation < generation) segments 0 first
+  pub its_own : AllWithin (λ segment. segment.row.generation ≡ generation) segments first end
+  pub later : AllWithin (λ segment. generation < segment.row.generation) segments end (length segments)
 
 -- a pool that was not there, and no other, is added
 pub record AddsLine (old new : List Pool) (line : PoolLine) : Type 0 where

@@ -32,7 +32,7 @@ pub(crate) struct Table {
     // The free pages of each pool.
     counts: Pools,
     log: Vec<LogRecord>,
-    // In the order of the log, with room for every slot.
+    // In the order of the log, and so by rising generation, with room for every slot.
     segments: Vec<Segment>,
 }
 

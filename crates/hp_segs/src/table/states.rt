@@ -1,6 +1,8 @@
 //! Rows that change their state.
 ghost use Rattle.std.specs.Prelude.{◌≡◌, map, vec_capacity};
+ghost use Rattle.std.specs.List.Sorted.{IsNonDecreasingBy};
 ghost use Rattle.hp_segs.specs.Steps.{agreed_segment, claimed_segment, claimed_state, retired_segment};
+ghost use Rattle.hp_segs.specs.TableLayout.{IsStretch};
 
 use crate::row_state::{RowState, Segment};
 use crate::table::Table;
@@ -13,32 +15,6 @@ fn claimed_state(state: RowState) -> RowState
     match state {
         RowState::Agreed { heap } => RowState::Owned { heap },
         other => other,
-    }
-}
-
-fn agreed(segment: &Segment, generation: u64, heap: u32) -> Segment
-    ensures { result ≡ agreed_segment generation heap segment.now }
-{
-    if segment.row.generation == generation {
-        Segment {
-            row: segment.row,
-            state: RowState::Agreed { heap },
-        }
-    } else {
-        *segment
-    }
-}
-
-fn claimed(segment: &Segment, generation: u64) -> Segment
-    ensures { result ≡ claimed_segment generation segment.now }
-{
-    if segment.row.generation == generation {
-        Segment {
-            row: segment.row,
-            state: claimed_state(segment.state),
-        }
-    } else {
-        *segment
     }
 }
 
@@ -55,25 +31,38 @@ fn retired(segment: &Segment, run: &Run) -> Segment
     }
 }
 
-#[tactic(auto, using(std::proofs::lemmas::List::Edits::map_over_more))]
+// The segments of a generation stand from the first place on and before the second one.
+fn stretch(segments: &[Segment], generation: u64) -> (usize, usize)
+    requires rising { IsNonDecreasingBy (λ segment. segment.row.generation) segments.now }
+    ensures { IsStretch segments.now generation result.0 result.1 }
+{
+    let first = segments.partition_point(|segment| segment.row.generation < generation);
+    let end = segments.partition_point(|segment| segment.row.generation <= generation);
+    (first, end)
+}
+
 fn agree_all(segments: &mut Vec<Segment>, generation: u64, heap: u32)
+    requires rising { IsNonDecreasingBy (λ segment. segment.row.generation) segments.old.items }
     ensures segments { segments.new.items
         ≡ map (agreed_segment generation heap) segments.old.items }
     ensures room { vec_capacity segments.new ≡ vec_capacity segments.old }
 {
-    for segment in segments.iter_mut() {
-        *segment = agreed(segment, generation, heap);
+    let (first, end) = stretch(segments.as_slice(), generation);
+    for place in first..end {
+        segments[place].state = RowState::Agreed { heap };
     }
 }
 
-#[tactic(auto, using(std::proofs::lemmas::List::Edits::map_over_more))]
 fn claim_all(segments: &mut Vec<Segment>, generation: u64)
+    requires rising { IsNonDecreasingBy (λ segment. segment.row.generation) segments.old.items }
     ensures segments { segments.new.items
         ≡ map (claimed_segment generation) segments.old.items }
     ensures room { vec_capacity segments.new ≡ vec_capacity segments.old }
 {
-    for segment in segments.iter_mut() {
-        *segment = claimed(segment, generation);
+    let (first, end) = stretch(segments.as_slice(), generation);
+    for place in first..end {
+        let segment = &mut segments[place];
+        segment.state = claimed_state(segment.state);
     }
 }
 

@@ -3,6 +3,6 @@ use Rattle.std.proofs.Common.{◌≡◌, ◌++◌, map, take, drop}
 use Rattle.hp_segs.specs.Steps.{claimed_segment}
 use Rattle.hp_segs.proofs.table.states.claim_all.Given as goal
 
-abbrev pub invariant-loop-segment : goal.invariant-loop-segment
-invariant-loop-segment l =
-    l.segment-items ≡ map (claimed_segment l.generation) (take l.segment-index l.initial.segment-items) ++ drop l.segment-index l.initial.segment-items
+abbrev pub invariant-loop-place : goal.invariant-loop-place
+invariant-loop-place l =
+    l.segments.items ≡ map (claimed_segment l.generation) (take l.place l.initial.segments.items) ++ drop l.place l.initial.segments.items
