@@ -146,6 +146,8 @@ module _ {table : TableView} {asks : AsksView} {retiring : List Run} {roster : L
           logged = claimed_growth _ _ generation growth table.segments kept.sound.logged;
           noted = kept.sound.noted;
           granted = kept.sound.granted;
+          once = kept.sound.once;
+          unanswered = kept.sound.unanswered;
           caused = kept.sound.caused;
           participants = kept.sound.participants;
           ranges = kept.sound.ranges;

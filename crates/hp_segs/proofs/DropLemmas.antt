@@ -27,6 +27,7 @@ use Rattle.hp_segs.proofs.Counts.{count_filter, count_agree, count_cons}
 use Rattle.hp_segs.proofs.HeapRows.{IsOfHeap, heaps_stay}
 use Rattle.hp_segs.proofs.KeptLemmas.{logged_more, held_fewer}
 use Rattle.hp_segs.proofs.ListFacts.{all_kept}
+use Rattle.hp_segs.proofs.OnceLemmas.{once_more}
 use Rattle.hp_segs.proofs.RemoveLemmas.{rows_without}
 use Rattle.hp_segs.proofs.SlotLemmas.{in_run_by_slot}
 use Rattle.hp_segs.proofs.StateLemmas.{removed_rows}
@@ -105,7 +106,8 @@ module _ {table : TableView} {asks : AsksView} {retiring : List Run} {roster : L
   -- the open growth fails, and its ask is refused
   pub kept_failure : (growth : Growth) (entry : AskLog) → IsKept table asks retiring (Some growth) roster armed ranges spare room
       → IsGranted (table.log ++ Drop growth.run ∷ []) entry.outcome
-      → IsCaused table.pools (table.log ++ Drop growth.run ∷ []) asks.entries entry → 2 ≤ spare
+      → IsCaused table.pools (table.log ++ Drop growth.run ∷ []) asks.entries entry
+      → entry.from ≡ growth.ask.from → entry.number ≡ growth.ask.number → 2 ≤ spare
       → IsTable table.pools (table.log ++ Drop growth.run ∷ []) (rows_in (without_run growth.run table.segments))
       → IsKept
       (record table {
@@ -121,7 +123,7 @@ module _ {table : TableView} {asks : AsksView} {retiring : List Run} {roster : L
       ranges
       (spare - 2)
       room
-  kept_failure growth entry kept granted cause some new =
+  kept_failure growth entry kept granted cause who which some new =
       let run : Run = growth.run in
       let fewer = aside_push asks.entries entry armed in
       let outside : Segment → Bool = λ segment. not (in_run run segment.row) in
@@ -145,6 +147,8 @@ module _ {table : TableView} {asks : AsksView} {retiring : List Run} {roster : L
           granted =
               All-push (λ entry. IsGranted (table.log ++ Drop run ∷ []) entry.outcome) asks.entries entry
               (grants_stay table.log (Drop run ∷ []) asks.entries kept.sound.granted) granted;
+          once = once_more asks.entries entry growth.ask who which kept.sound.unanswered kept.sound.once;
+          unanswered = tt;
           caused =
               caused_push table.pools (table.log ++ Drop run ∷ []) [] asks.entries entry
               (caused_stays table.pools table.log (Drop run ∷ []) [] asks.entries kept.sound.caused) cause;

@@ -1,8 +1,10 @@
 -- The first element that passes, by a walk over the list.
-use Rattle.std.proofs.Common.{◌≡◌, ℕ, zero, suc, ◌+◌, ◌<◌, ◌≤◌, Bool, true, false, List, [], ◌∷◌, length, get_or, drop, Option, Some, None, refl, add-one, arith, sum_by, take, map, cond, ap, ◌∙◌}
+use Rattle.std.proofs.Common.{◌≡◌, ℕ, zero, suc, ◌+◌, ◌<◌, ◌≤◌, Bool, true, false, List, [], ◌∷◌, length, get_or, drop, Option, Some, None, refl, add-one, arith, sum_by, count_by, take, map, cond, ◌++◌, ◌||◌, ap, ◌∙◌}
 use Rattle.std.proofs.Math.Seq.{drop-cons}
 use Rattle.std.proofs.lemmas.List.Sums.{sum_by_more_le}
 use Rattle.std.specs.List.{find, list_any}
+use Rattle.std.proofs.lemmas.Bool.{false_from_ne_true}
+use Rattle.hp_segs.proofs.Counts.{count_append, count_cons}
 use Rattle.std.specs.Option.{option_map}
 
 module _ {X : Type 0} (p : X → Bool) where
@@ -47,6 +49,38 @@ module _ {X : Type 0} (p : X → Bool) where
   any_end [] (suc i) past = refl
   any_end (x ∷ xs) zero past = absurd (omega (arith, past))
   any_end (x ∷ xs) (suc i) past = any_end xs i (omega arith)
+
+module _ {X : Type 0} (p : X → Bool) where
+  -- from the back too what fails is passed over
+  pub find_back_step : (xs : List X) (x : X) → p x ≡ false → find p (xs ++ x ∷ []) ≡ find p xs
+  find_back_step [] x fails = rw fails refl
+  find_back_step (y ∷ xs) x fails = ap (cond (p y) (Some y)) (find_back_step xs x fails)
+
+  -- where at most one element passes, the first from the back is the first
+  pub find_back_here : (xs : List X) (x : X) → count_by p (xs ++ x ∷ []) ≤ 1 → p x ≡ true → find p (xs ++ x ∷ []) ≡ Some x
+  find_back_here xs x few passes =
+      let one : ◌≡◌ {A = ℕ} (cond (p x) 1 0) 1 = ap (λ b. cond b 1 0) passes in
+      let none : count_by p xs ≡ 0 = omega (arith, few, one, count_append p xs (x ∷ []), count_cons p x []) in
+      find_last xs none
+    where
+      find_last : (xs : List X) → count_by p xs ≡ 0 → find p (xs ++ x ∷ []) ≡ Some x
+      find_last [] none = rw passes refl
+      find_last (y ∷ ys) none =
+          let fails : p y ≡ false =
+          false_from_ne_true (p y) (λ first.
+          let more : ◌≡◌ {A = ℕ} (cond (p y) 1 0) 1 = ap (λ b. cond b 1 0) first in
+          absurd (omega (arith, none, more, count_cons p y ys))) in
+          rw (fails, find_last ys (omega (arith, none, count_cons p y ys))) refl
+
+any_by : {X : Type 0} (p : X → Bool) (x : X) (xs : List X) (passes : Bool) → cond passes (Some x) (find p xs) ≡ None
+    → (find p xs ≡ None → list_any p xs ≡ false) → (passes || list_any p xs) ≡ false
+any_by p x xs true none rest = cc
+any_by p x xs false none rest = rest none
+
+-- where nothing is found nothing passes
+pub any_found : {X : Type 0} (p : X → Bool) (xs : List X) → find p xs ≡ None → list_any p xs ≡ false
+any_found p [] none = refl
+any_found p (x ∷ xs) none = any_by p x xs (p x) none (any_found p xs)
 
 find_by : {X Y : Type 0} (b : Bool) (x : X) (f : X → Y) (found : Option X) → cond b (Some (f x)) (option_map f found) ≡ option_map f (cond b (Some x) found)
 find_by true x f found = refl

@@ -1,8 +1,9 @@
 -- Steps that keep a value sound: outcomes and grants.
-use Rattle.std.proofs.Common.{◌≡◌, ◌==◌, ℕ, ◌-◌, ◌<◌, Bool, true, false, if◌then◌else◌, List, [], ◌∷◌, ◌++◌, map, get_or, Option, Some, None, refl, ap, ◌∙◌, sym, subst, arith}
+use Rattle.std.proofs.Common.{◌≡◌, ◌==◌, ℕ, ◌+◌, ◌-◌, ◌<◌, ◌≤◌, Bool, true, false, if◌then◌else◌, List, [], ◌∷◌, ◌++◌, map, get_or, Option, Some, None, refl, ap, ◌∙◌, sym, subst, arith}
 use Rattle.std.specs.List.{All}
 use Rattle.std.specs.Option.{option_and_then}
 use Rattle.std.proofs.lemmas.List.Elements.{All-push, All-tail, All-map}
+use Rattle.std.proofs.lemmas.List.Sums.{count_by-le-length}
 use Rattle.hp_base.specs.declared.row.Row.{Row}
 use Rattle.hp_base.specs.declared.row.Run.{Run}
 use Rattle.hp_segs.specs.AsksView.{AsksView}
@@ -10,8 +11,8 @@ use Rattle.hp_segs.specs.Causes.{IsCaused}
 use Rattle.hp_segs.specs.Refusals.{IsNoted}
 use Rattle.hp_segs.specs.Lists.{lists_of}
 use Rattle.hp_segs.specs.SegsLayout.{IsKept}
-use Rattle.hp_segs.specs.SegsView.{rows_in, is_opened, is_retiring, added_run}
-use Rattle.hp_segs.specs.Sound.{AreHeld, IsGranted, has_slot, in_runs}
+use Rattle.hp_segs.specs.SegsView.{rows_in, is_opened, is_retiring, is_unanswered, added_run}
+use Rattle.hp_segs.specs.Sound.{AreAnsweredOnce, AreHeld, IsGranted, HasUnansweredAsk, has_slot, in_runs}
 use Rattle.hp_segs.specs.Rows.{IsUsedRun}
 use Rattle.hp_segs.specs.Steps.{segment_of, agreed_segment}
 use Rattle.hp_segs.specs.Table.{TableView, IsTable, IsListRun}
@@ -28,6 +29,7 @@ use Rattle.hp_segs.proofs.CausedLemmas.{caused_push}
 use Rattle.hp_segs.proofs.ClosedLemmas.{aside_push}
 use Rattle.hp_segs.proofs.Counts.{count_cons}
 use Rattle.hp_segs.proofs.HeapRows.{heaps_agreed}
+use Rattle.hp_segs.proofs.OnceLemmas.{once_more}
 use Rattle.hp_segs.proofs.StateLemmas.{agreed_rows}
 
 -- an outcome behind the others
@@ -64,9 +66,9 @@ module _ {table : TableView} {asks : AsksView} {retiring : List Run} {roster : L
   -- an outcome that grants nothing new is logged
   pub kept_outcome : {growth : Option Growth} (entry : AskLog) → IsKept table asks retiring growth roster armed ranges spare room
       → IsGranted table.log entry.outcome → IsCaused table.pools table.log asks.entries entry → IsNoted (asks.entries ++ entry ∷ []) growth
-      → 0 < spare
+      → AreAnsweredOnce (asks.entries ++ entry ∷ []) → HasUnansweredAsk (asks.entries ++ entry ∷ []) growth → 0 < spare
       → IsKept table (logged_more asks entry) retiring growth roster armed ranges (spare - 1) room
-  kept_outcome entry kept granted cause noted some =
+  kept_outcome entry kept granted cause noted once unanswered some =
       let fewer = aside_push asks.entries entry armed in
       record {
         sound = record {
@@ -79,6 +81,8 @@ module _ {table : TableView} {asks : AsksView} {retiring : List Run} {roster : L
           logged = kept.sound.logged;
           noted = noted;
           granted = All-push (λ entry. IsGranted table.log entry.outcome) asks.entries entry kept.sound.granted granted;
+          once = once;
+          unanswered = unanswered;
           caused = caused_push table.pools table.log [] asks.entries entry kept.sound.caused cause;
           participants = kept.sound.participants;
           ranges = kept.sound.ranges;
@@ -88,9 +92,38 @@ module _ {table : TableView} {asks : AsksView} {retiring : List Run} {roster : L
         runs = kept.runs;
       }
 
+  -- there is room for more records and outcomes
+  pub kept_rooms : {growth : Option Growth} (more records outcomes : ℕ) → IsKept table asks retiring growth roster armed ranges spare room
+      → more + 32 ≤ records → more + 32 ≤ outcomes
+      → IsKept (record table { room = records }) (record asks { room = outcomes }) retiring growth roster armed ranges more room
+  kept_rooms more records outcomes kept for_records for_outcomes =
+      let few = count_by-le-length (is_unanswered asks.entries) armed in
+      record {
+        sound = record {
+          table = kept.sound.table;
+          held = kept.sound.held;
+          opened = kept.sound.opened;
+          stamped = kept.sound.stamped;
+          retired = kept.sound.retired;
+          heaps = kept.sound.heaps;
+          logged = kept.sound.logged;
+          noted = kept.sound.noted;
+          granted = kept.sound.granted;
+          once = kept.sound.once;
+          unanswered = kept.sound.unanswered;
+          caused = kept.sound.caused;
+          participants = kept.sound.participants;
+          ranges = kept.sound.ranges;
+        };
+        records = omega (arith, few, kept.sound.participants.armed_places, for_records);
+        outcomes = omega (arith, few, kept.sound.participants.armed_places, for_outcomes);
+        runs = kept.runs;
+      }
+
   -- the open growth is granted
   pub kept_grant : (growth : Growth) (entry : AskLog) → IsKept table asks retiring (Some growth) roster armed ranges spare room
-      → entry.outcome ≡ Granted growth.generation → IsCaused table.pools table.log asks.entries entry → 0 < spare
+      → entry.outcome ≡ Granted growth.generation → IsCaused table.pools table.log asks.entries entry
+      → entry.from ≡ growth.ask.from → entry.number ≡ growth.ask.number → 0 < spare
       → IsKept
       (record table { segments = map (agreed_segment growth.generation growth.ask.heap) table.segments })
       (logged_more asks entry)
@@ -101,7 +134,7 @@ module _ {table : TableView} {asks : AsksView} {retiring : List Run} {roster : L
       ranges
       (spare - 1)
       room
-  kept_grant growth entry kept grants cause some =
+  kept_grant growth entry kept grants cause who which some =
       let fewer = aside_push asks.entries entry armed in
       let f : Segment → Segment = agreed_segment growth.generation growth.ask.heap in
       let rows : rows_in (map f table.segments) ≡ rows_in table.segments = agreed_rows growth.generation growth.ask.heap table.segments in
@@ -129,6 +162,8 @@ module _ {table : TableView} {asks : AsksView} {retiring : List Run} {roster : L
               All-push (λ entry. IsGranted table.log entry.outcome) asks.entries entry kept.sound.granted
               (subst (IsGranted table.log) (sym grants)
               (kept.sound.logged.some, (growth.run, ap (option_and_then added_run) kept.sound.logged.added)));
+          once = once_more asks.entries entry growth.ask who which kept.sound.unanswered kept.sound.once;
+          unanswered = tt;
           caused = caused_push table.pools table.log [] asks.entries entry kept.sound.caused cause;
           participants = kept.sound.participants;
           ranges = kept.sound.ranges;

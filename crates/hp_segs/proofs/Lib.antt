@@ -23,6 +23,7 @@ pub mod MaskLemmas
 pub mod MaskStepLemmas
 pub mod NewLemmas
 pub mod PageSizes
+pub mod OnceLemmas
 pub mod OnePool
 pub mod OpenLemmas
 pub mod OwnedLemmas

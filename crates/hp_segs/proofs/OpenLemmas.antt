@@ -1,5 +1,5 @@
 -- A growth that opens keeps the value sound.
-use Rattle.std.proofs.Common.{◌≡◌, ◌==◌, ℕ, ◌+◌, ◌-◌, ◌<◌, ◌≤◌, Bool, true, false, ◌||◌, cond, List, [], ◌∷◌, ◌++◌, map, length, get_or, Option, Some, None, IfSome, refl, ap, ◌∙◌, sym, subst, arith, count_by, length-append, not}
+use Rattle.std.proofs.Common.{◌≡◌, ◌==◌, ℕ, ◌+◌, ◌-◌, ◌<◌, ◌≤◌, Bool, true, false, ◌||◌, cond, List, [], ◌∷◌, ◌++◌, map, length, get_or, Option, Some, None, IfSome, IsTrue, refl, ap, ◌∙◌, sym, subst, arith, count_by, length-append, not}
 use Rattle.std.specs.List.{All, slice_get}
 use Rattle.std.proofs.lemmas.Bool.{eq-eqb, ne_eqb, and_parts, eqb-true, leb-true, ltb-true, false_from_ne_true, and_from}
 use Rattle.std.proofs.lemmas.List.Elements.{All-append, All-cons, All-map, All-weaker}
@@ -10,7 +10,7 @@ use Rattle.hp_segs.specs.AsksView.{AsksView}
 use Rattle.hp_segs.specs.Lists.{lists_of}
 use Rattle.hp_segs.specs.Rows.{row_of, rows_of, rows_at, at_slot, in_run, IsUnusedRun, IsUsedRun}
 use Rattle.hp_segs.specs.SegsLayout.{IsKept}
-use Rattle.hp_segs.specs.SegsView.{rows_in, is_opened, is_retiring}
+use Rattle.hp_segs.specs.SegsView.{rows_in, is_opened, is_retiring, is_unanswered}
 use Rattle.hp_segs.specs.Sound.{AreHeld, has_slot, in_runs, has_stamp}
 use Rattle.hp_segs.specs.Steps.{segment_of}
 use Rattle.hp_segs.specs.Table.{HasPages, TableView, IsTable, IsListRun, IsStamped}
@@ -152,6 +152,7 @@ module _ {table : TableView} {asks : AsksView} {retiring : List Run} {roster : L
       → growth.generation ≡ length table.log + 1 → growth.noted ≡ None → growth.ask.from < 16
       → IsListRun (lists_of table.pools) growth.run → IsUnusedRun (rows_in table.segments) growth.run → 0 < spare
       → IsFirstFor table.pools (rows_in table.segments) growth.ask growth.run → HasPages table.pools (rows_in table.segments) growth.run
+      → IsTrue (is_unanswered asks.entries (Some growth.ask))
       → IsTable table.pools (table.log ++ Add growth.run growth.ask.heap ∷ [])
       (rows_in (table.segments ++ map (segment_of Opened) (rows_of growth.run (length table.log + 1))))
       → IsKept
@@ -168,7 +169,7 @@ module _ {table : TableView} {asks : AsksView} {retiring : List Run} {roster : L
       ranges
       (spare - 1)
       room
-  kept_open growth kept stamp unnoted participant listed unused some first pages new =
+  kept_open growth kept stamp unnoted participant listed unused some first pages unanswered new =
       let run : Run = growth.run in
       let generation : ℕ = length table.log + 1 in
       let fresh : List Row = rows_of run generation in
@@ -231,6 +232,8 @@ module _ {table : TableView} {asks : AsksView} {retiring : List Run} {roster : L
           };
           noted = subst (λ noted. IfSome noted (IsNotedCause asks.entries growth)) (sym unnoted) tt;
           granted = grants_stay table.log (Add run growth.ask.heap ∷ []) asks.entries kept.sound.granted;
+          once = kept.sound.once;
+          unanswered = unanswered;
           caused = caused_stays table.pools table.log (Add run growth.ask.heap ∷ []) [] asks.entries kept.sound.caused;
           participants = kept.sound.participants;
           ranges = kept.sound.ranges;

@@ -161,6 +161,8 @@ module _ {table : TableView} {asks : AsksView} {retiring : List Run} {roster : L
           logged = tt;
           noted = tt;
           granted = grants_stay table.log (map (λ run. Drop run) retiring) asks.entries kept.sound.granted;
+          once = kept.sound.once;
+          unanswered = tt;
           caused = caused_stays table.pools table.log (map (λ run. Drop run) retiring) [] asks.entries kept.sound.caused;
           participants = kept.sound.participants;
           ranges = kept.sound.ranges;

@@ -142,6 +142,8 @@ module _ {table : TableView} {asks : AsksView} {retiring : List Run} {growth : O
           logged = logged_retired segs kept.sound heap run owns growth refl kept.sound.logged;
           noted = kept.sound.noted;
           granted = kept.sound.granted;
+          once = kept.sound.once;
+          unanswered = kept.sound.unanswered;
           caused = kept.sound.caused;
           participants = kept.sound.participants;
           ranges = kept.sound.ranges;

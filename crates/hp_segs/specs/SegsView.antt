@@ -162,7 +162,7 @@ abbrev pub roster_bits : List Bool → ℕ
 roster_bits [] = 0
 roster_bits (member ∷ roster) = (if member then 1 else 0) + (roster_bits roster + roster_bits roster)
 
--- the armed ask has neither a grant nor a refusal
+-- there is an ask, and it has neither a grant nor a refusal
 abbrev pub is_unanswered : List AskLog → Option Ask → Bool
 is_unanswered asks None = false
 is_unanswered asks (Some ask) = not (list_any (grants_or_refuses ask.from ask.number) asks)

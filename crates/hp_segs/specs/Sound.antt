@@ -1,5 +1,5 @@
 -- What holds of every segment value.
-use Rattle.std.specs.Prelude.{◌≡◌, ℕ, ◌+◌, ◌-◌, ◌/◌, ◌<◌, ◌≤◌, Bool, false, ◌&&◌, ◌==◌, nat_le, nat_lt, List, [], ◌++◌, length, map, Option, Some, None, slice_get, count_by, sum_by}
+use Rattle.std.specs.Prelude.{◌≡◌, ℕ, ◌+◌, ◌-◌, ◌/◌, ◌<◌, ◌≤◌, Bool, false, ◌&&◌, ◌==◌, nat_le, nat_lt, List, [], ◌++◌, length, map, Option, Some, None, IfSome, IsTrue, slice_get, count_by, sum_by}
 use Rattle.std.specs.List.{All, list_any}
 use Rattle.std.specs.Option.{option_map, option_to_list}
 use Rattle.hp_base.specs.declared.row.Row.{Row}
@@ -8,7 +8,7 @@ use Rattle.hp_base.specs.declared.pool_line.PoolLine.{PoolLine}
 use Rattle.hp_segs.specs.Rows.{in_run, rows_of, IsUsedRun}
 use Rattle.hp_segs.specs.Lists.{lists_of}
 use Rattle.hp_segs.specs.Log.{IsAddFor}
-use Rattle.hp_segs.specs.SegsView.{SegsView, rows_in, is_opened, is_retiring, run_of}
+use Rattle.hp_segs.specs.SegsView.{SegsView, rows_in, grants_or_refuses, is_opened, is_retiring, is_unanswered, run_of}
 use Rattle.hp_segs.specs.Ranges.{is_bad_range, range_segments}
 use Rattle.hp_segs.specs.Machine.{unopened}
 use Rattle.hp_segs.specs.Causes.{AllCaused}
@@ -25,6 +25,7 @@ use Rattle.hp_segs.specs.declared.growth.Growth.{Growth}
 use Rattle.hp_segs.specs.declared.list_info.ListInfo.{ListInfo}
 use Rattle.hp_segs.specs.declared.log_record.LogRecord.{LogRecord}
 use Rattle.hp_segs.specs.declared.log_record.LogRecord.TheVariants.{Add}
+use Rattle.hp_segs.specs.declared.outcome.AskLog.{AskLog}
 use Rattle.hp_segs.specs.declared.outcome.Outcome.{Outcome}
 use Rattle.hp_segs.specs.declared.outcome.Outcome.TheVariants.{Granted, Refused, Stale, Freed}
 
@@ -96,6 +97,14 @@ pub record ArePlaces (roster : List Bool) (armed : List (Option Ask)) : Type 0 w
   pub roster_places : length roster ≡ 16
   pub armed_places : length armed ≡ 16
 
+-- each ask is granted or refused at most once
+abbrev pub AreAnsweredOnce : List AskLog → Type 0
+AreAnsweredOnce asks = (from number : ℕ) → count_by (grants_or_refuses from number) asks ≤ 1
+
+-- the ask of the open growth has neither a grant nor a refusal yet
+abbrev pub HasUnansweredAsk : List AskLog → Option Growth → Type 0
+HasUnansweredAsk asks growth = IfSome growth (λ growth. IsTrue (is_unanswered asks (Some growth.ask)))
+
 -- the value is sound
 pub record IsSound (segs : SegsView) : Type 0 where
   -- its rows are the table of its log
@@ -113,6 +122,9 @@ pub record IsSound (segs : SegsView) : Type 0 where
   -- what is noted for the open growth is a failed mapping of one of its rows
   pub noted : IsNoted segs.asks segs.growth
   pub granted : All (λ entry. IsGranted segs.log entry.outcome) segs.asks
+  -- each ask is answered at most once, and that of the open growth not yet
+  pub once : AreAnsweredOnce segs.asks
+  pub unanswered : HasUnansweredAsk segs.asks segs.growth
   -- each logged outcome has its cause
   pub caused : AllCaused segs.pools segs.log [] segs.asks
   pub participants : ArePlaces segs.roster segs.armed

@@ -1,5 +1,5 @@
 //! The logged outcomes, with the closed number of each participant.
-ghost use Rattle.std.specs.Prelude.{◌≡◌, ◌+◌, ◌-◌, ◌<◌, ◌≤◌, [], ◌∷◌, ◌++◌, IfOk, OnOk, length, vec_capacity};
+ghost use Rattle.std.specs.Prelude.{◌≡◌, ◌+◌, ◌-◌, ◌<◌, ◌≤◌, [], ◌∷◌, ◌++◌, IfOk, OnOk, count_by, length, vec_capacity};
 ghost use Rattle.hp_segs.specs.SegsView.{closed_number, grant_or_refusal_of, grants_or_refuses, is_grant_or_refusal, is_outcome_for, is_stale, outcome_of};
 ghost use Rattle.hp_segs.specs.AsksView.{closed_after};
 
@@ -144,12 +144,12 @@ impl Asks {
         None
     }
 
-    // The first grant or refusal of an ask.
-    #[tactic(auto, using(crate::proofs::Finds::find_step, crate::proofs::Finds::find_here, crate::proofs::Finds::find_end))]
+    // The grant or refusal of an ask, looked for from the newest outcome back.
     pub(crate) fn grant_or_refusal(&self, from: u8, number: u64) -> Option<Outcome>
+        requires once { count_by (grants_or_refuses from number) self.now.entries ≤ 1 }
         ensures { result ≡ grant_or_refusal_of self.now.entries from number }
     {
-        for entry in &self.entries {
+        for entry in self.entries.iter().rev() {
             if grants_or_refuses(from, number, entry) {
                 return Some(entry.outcome);
             }

@@ -17,4 +17,4 @@ invariant_of-self c =
     let cause =
     granted_caused c.in-Some.growth kept.sound.logged c.self.inside.asks.entries _ kept.sound.table refl (ap length log)
     (record { kept = refl; who = refl; which = refl }) in
-    rw (c.agree.ensures, c.push.ensures) (kept_grant c.in-Some.growth _ kept refl cause may.spare)
+    rw (c.agree.ensures, c.push.ensures) (kept_grant c.in-Some.growth _ kept refl cause refl refl may.spare)

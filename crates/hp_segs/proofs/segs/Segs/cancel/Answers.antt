@@ -45,4 +45,4 @@ invariant_of-self c =
     refl
     at
     (record { kept = refl; who = refl; which = refl }) in
-    rw (c.remove.ensures, c.push.ensures) (kept_failure c.in-Some.growth _ kept tt cause may.spare new)
+    rw (c.remove.ensures, c.push.ensures) (kept_failure c.in-Some.growth _ kept tt cause refl refl may.spare new)

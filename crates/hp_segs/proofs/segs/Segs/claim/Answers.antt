@@ -5,6 +5,9 @@ use Rattle.hp_segs.specs.SegsView.{granted_by, run_of}
 use Rattle.hp_segs.proofs.ClaimLemmas.{grant_is, kept_claim, record_within, record_read}
 use Rattle.hp_segs.proofs.segs.Segs.claim.Goals as goal
 
+pub grant_or_refusal-requires : goal.grant_or_refusal-requires
+grant_or_refusal-requires c = record { once = c.self.invariant.sound.once c.args.from c.args.number }
+
 pub overflow_sub-place : goal.overflow_sub-place
 overflow_sub-place c =
     let s = c.self.inside in

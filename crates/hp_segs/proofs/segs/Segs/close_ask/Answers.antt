@@ -3,6 +3,7 @@ use Rattle.std.proofs.Common.{ap, length, refl}
 use Rattle.hp_segs.specs.SegsLayout.{view_of}
 use Rattle.hp_segs.proofs.CloseLemmas.{closed_caused}
 use Rattle.hp_segs.proofs.KeptLemmas.{kept_outcome}
+use Rattle.hp_segs.proofs.OnceLemmas.{above_unanswered, once_more}
 use Rattle.hp_segs.proofs.segs.Segs.close_ask.Goals as goal
 
 pub invariant_of-self : goal.invariant_of-self
@@ -23,4 +24,6 @@ invariant_of-self c =
     refl
     (ap length c.records.ensures.records)
     (record { kept = refl; who = refl; which = refl }) in
-    rw (c.push.ensures, may.alone) (kept_outcome _ kept tt cause tt may.spare)
+    rw (c.push.ensures, may.alone) (kept_outcome _ kept tt cause tt
+    (once_more s.asks.entries _ c.args.ask.now refl refl (above_unanswered s.asks.entries c.args.ask.now may.above) kept.sound.once)
+    tt may.spare)

@@ -2,6 +2,7 @@
 use Rattle.std.proofs.Common.{◌≡◌, ◌+◌, ◌∙◌, ap, arith, length, length-append, None, refl}
 use Rattle.hp_segs.specs.SegsLayout.{view_of}
 use Rattle.hp_segs.specs.declared.growth.Growth.{Growth}
+use Rattle.hp_segs.proofs.OnceLemmas.{above_unanswered}
 use Rattle.hp_segs.proofs.OpenLemmas.{kept_open}
 use Rattle.hp_segs.proofs.PlannedLemmas.{open_plan}
 use Rattle.hp_segs.proofs.segs.Segs.open_run.Goals as goal
@@ -40,4 +41,5 @@ invariant_of-self c =
     let log = c.records.ensures.records ∙ ap (λ t. t.log) c.add.ensures in
     let stamp : length c.records.result.now ≡ length s.table.log + 1 = ap length log ∙ length-append s.table.log _ in
     let growth : Growth = record { generation = length c.records.result.now; ask = c.args.ask.now; run = c.args.run.now; noted = None } in
-    rw c.add.ensures (kept_open growth kept stamp refl may.participant plan.planned.listed plan.planned.unused may.spare plan.planned.first plan.planned.pages new)
+    rw c.add.ensures (kept_open growth kept stamp refl may.participant plan.planned.listed plan.planned.unused may.spare plan.planned.first plan.planned.pages
+    (above_unanswered s.asks.entries c.args.ask.now plan.above) new)
