@@ -12,6 +12,7 @@ pub mod ShapesMembers
 pub mod ShapesSetup
 pub mod Shapes
 pub mod Makers
+pub mod Made
 pub mod Known
 pub mod Counts
 pub mod EventIndex

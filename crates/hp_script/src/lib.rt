@@ -13,6 +13,7 @@ mod later;
 mod line;
 mod line_fault;
 mod line_list;
+mod made;
 mod makers;
 mod marks;
 mod numbers;

@@ -1,7 +1,9 @@
-ghost use Rattle.std.specs.Prelude.{◌≡◌, ◌<◌, ◌^◌, ◌+◌, length, IfOk};
+ghost use Rattle.std.specs.Prelude.{◌≡◌, ◌<◌, ◌^◌, ◌+◌, length, codes, IfOk, OnOk};
+ghost use Rattle.hp_script.specs.Made.{Notes};
 ghost use Rattle.hp_script.specs.Makers.{makers_of, is_taken, is_unmade, is_earlier};
 
 use crate::first_lines::FirstLines;
+use crate::made::{Made, made_in};
 use crate::token::Token;
 use std::alloc::{AllocError, Global};
 
@@ -20,9 +22,26 @@ impl<'a> KnownMakers<'a> {
         requires { length lines.now + 1 < 2 ^ 32 }
         ensures { IfOk result (λ makers. known makers ≡ makers_of lines.now) }
     {
-        let allocs = FirstLines::of(alloc, b"alloc", lines)?;
-        let zones = FirstLines::of(alloc, b"zone", lines)?;
-        Ok(KnownMakers { allocs, zones })
+        let mut makers = KnownMakers {
+            allocs: FirstLines::new(alloc),
+            zones: FirstLines::new(alloc),
+        };
+        for (i, line) in lines.iter().enumerate() {
+            makers.note_line(line, i as u32 + 1)?;
+        }
+        Ok(makers)
+    }
+
+    // Notes the number of a line at the name that it makes.
+    fn note_line(&mut self, line: &Token<'a>, number: u32) -> Result<(), AllocError>
+        ensures allocs { OnOk result (Notes (codes "alloc") line.now number (known self.old).alloc_line (known self.new).alloc_line) }
+        ensures zones { OnOk result (Notes (codes "zone") line.now number (known self.old).zone_line (known self.new).zone_line) }
+    {
+        match made_in(line) {
+            None => Ok(()),
+            Some(Made::Label { name }) => self.allocs.note(name.as_bytes(), number),
+            Some(Made::Zone { name }) => self.zones.note(name.as_bytes(), number),
+        }
     }
 
     /// Whether the label on this `alloc` line is taken: by an earlier one, or by any `zone` line.

@@ -69,7 +69,11 @@ pub enum SetupVerb {
 pub fn verb_named(word: &Token) -> Option<Verb>
     ensures { result ≡ verb_named word.now }
 {
-    memory_verb(word).or(heap_verb(word)).or(member_verb(word))
+    // Most lines have a verb of memory, so the others are compared only where it is none.
+    if let Some(verb) = memory_verb(word) {
+        return Some(verb);
+    }
+    heap_verb(word).or(member_verb(word))
 }
 
 fn memory_verb(word: &Token) -> Option<Verb>

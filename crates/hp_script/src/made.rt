@@ -1,0 +1,48 @@
+ghost use Rattle.std.specs.Prelude.{◌≡◌, Some, None, if◌then◌else◌, codes};
+ghost use Rattle.hp_script.specs.Made.{label_in, zone_in};
+ghost use Rattle.hp_script.specs.Makers.{made_by};
+ghost use Rattle.hp_script.specs.Part.{is_word};
+ghost use Rattle.hp_script.specs.Text.{fields_of};
+
+use crate::fields_left::FieldsLeft;
+use crate::shape::is_participant_line;
+use crate::token::Token;
+
+/// The name that a line makes.
+#[derive(Drop)]
+pub enum Made<'a> {
+    /// The label of an allocation.
+    Label { name: Token<'a> },
+    /// The name of a memzone.
+    Zone { name: Token<'a> },
+}
+
+/// What a line makes, by its first three fields. It takes no memory.
+pub fn made_in<'a>(line: &Token<'a>) -> Option<Made<'a>>
+    ensures label { label_in result ≡ made_by (codes "alloc") (fields_of line.now) }
+    ensures zone { zone_in result ≡ made_by (codes "zone") (fields_of line.now) }
+{
+    let mut fields = FieldsLeft::of(line);
+    let first = fields.take()?;
+    let word = fields.take()?;
+    let name = fields.take()?;
+    if is_participant_line(&first) {
+        made_with(&word, name)
+    } else {
+        None
+    }
+}
+
+// What a participant line makes by a verb and the field behind it.
+fn made_with<'a>(word: &Token, name: Token<'a>) -> Option<Made<'a>>
+    ensures label { label_in result ≡ (if is_word (codes "alloc") word.now then Some name.entry.text else None) }
+    ensures zone { zone_in result ≡ (if is_word (codes "zone") word.now then Some name.entry.text else None) }
+{
+    if word.is(b"alloc") {
+        Some(Made::Label { name })
+    } else if word.is(b"zone") {
+        Some(Made::Zone { name })
+    } else {
+        None
+    }
+}
