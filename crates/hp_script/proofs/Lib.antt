@@ -4,6 +4,7 @@ pub mod OptionLemmas
 pub mod MakerLemmas
 pub mod SliceLemmas
 pub mod HeapTokens
+pub mod CallTokens
 pub mod TokenLemmas
 pub mod SpanLemmas
 pub mod FirstBad

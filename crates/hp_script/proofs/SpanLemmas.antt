@@ -27,7 +27,8 @@ use Rattle.hp_script.specs.declared.shape.Shape.{Shape}
 use Rattle.hp_script.specs.declared.shape.Shape.TheVariants.{Setup, Does, Awaits}
 use Rattle.hp_script.specs.declared.reader.Reader.{Reader}
 use Rattle.hp_script.proofs.SliceLemmas.{raise, lower, join, lines_slices, fields_slices}
-use Rattle.hp_script.proofs.TokenLemmas.{outcome, SaysSlices, said_slices}
+use Rattle.hp_script.proofs.CallTokens.{outcome, SaysSlices}
+use Rattle.hp_script.proofs.TokenLemmas.{said_slices}
 
 -- a setup line adds no participant line
 abbrev pub KeepsLines : Reader → Reader → Type 0

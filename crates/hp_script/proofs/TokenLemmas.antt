@@ -1,204 +1,27 @@
--- The tokens that a line's shape lends stand among its fields.
-use Rattle.std.proofs.Common.{◌≡◌, ℕ, ◌+◌, ◌≤◌, Bool, true, false, List, [], ◌∷◌, length, refl, cond, ◌⊎◌, inl, inr}
-use Rattle.std.specs.Prelude.{Option, Some, None, Result, Ok, Err, IfOk, nat_lt, not}
+-- The tokens that a line lends stand among its fields, by its verb.
+use Rattle.std.proofs.Common.{ℕ, ◌≤◌, Bool, true, false, List, [], ◌∷◌, length, cond, inl, inr}
+use Rattle.std.specs.Prelude.{Result, IfOk, nat_lt, not}
 use Rattle.std.specs.Option.{ok_or}
 use Rattle.hp_script.specs.Part.{Part}
 use Rattle.hp_script.specs.Judge.{refuse, is_within, number_field, party_field}
-use Rattle.hp_script.specs.Options.{options_of}
 use Rattle.hp_script.specs.Verbs.{verb_named, setup_named}
-use Rattle.hp_script.specs.ShapesMemory.{alloc_line, zone_line, resize_line}
-use Rattle.hp_script.specs.ShapesHeaps.{name_act, name_line, range_act, range_line, add_line}
 use Rattle.hp_script.specs.ShapesMembers.{member_act, member_line, is_allow, limit_line, unlimit_line, await_line}
 use Rattle.hp_script.specs.Shapes.{is_participant_line, act_line, participant_line, setup_act, setup_line, shape_of}
-use Rattle.hp_script.specs.Spans.{AreSlices, heap_tokens, tokens_of}
+use Rattle.hp_script.specs.Spans.{AreSlices, tokens_of}
 use Rattle.hp_script.specs.declared.bad_kind.BadKind.{BadKind}
 use Rattle.hp_script.specs.declared.bad_kind.BadKind.TheVariants as bad
-use Rattle.hp_script.specs.declared.options.Options.{Options}
 use Rattle.hp_script.specs.declared.verb.Verb.{Verb}
 use Rattle.hp_script.specs.declared.verb.Verb.TheVariants as verb
-use Rattle.hp_script.specs.declared.verb.NameCall.{NameCall}
-use Rattle.hp_script.specs.declared.verb.NameCall.TheVariants as name_call
-use Rattle.hp_script.specs.declared.verb.RangeCall.{RangeCall}
-use Rattle.hp_script.specs.declared.verb.RangeCall.TheVariants as range_call
 use Rattle.hp_script.specs.declared.verb.MemberCall.{MemberCall}
 use Rattle.hp_script.specs.declared.verb.MemberCall.TheVariants as member_call
 use Rattle.hp_script.specs.declared.shape.Shape.{Shape}
-use Rattle.hp_script.specs.declared.shape.Shape.TheVariants.{Setup, Does, Awaits}
 use Rattle.hp_script.proofs.SliceLemmas.{bounds, skip}
-use Rattle.hp_script.proofs.HeapTokens.{heap_slices}
-
--- a step refuses, or goes on
-pub outcome : {A : Type 0} (step : Result A BadKind) → ((x : A) × (step ≡ Ok x)) ⊎ ((kind : BadKind) × (step ≡ Err kind))
-outcome (Ok x) = inl (x, refl)
-outcome (Err kind) = inr (kind, refl)
-
--- what there is, where a step that asks for it goes on
-from_ok_or : {A : Type 0} (o : Option A) (x : A) (kind : BadKind) → ok_or o kind ≡ Ok x → o ≡ Some x
-from_ok_or None x kind same = absurd cc
-from_ok_or (Some y) x kind same = cc
-
--- the tokens of what a line says
-abbrev pub shape_tokens : Shape → List Part
-shape_tokens (Setup setup) = []
-shape_tokens (Does party act) = tokens_of act
-shape_tokens (Awaits party other lines) = []
-
--- its tokens are slices between two places
-abbrev pub SaysSlices : List ℕ → ℕ → ℕ → Shape → Type 0
-SaysSlices bytes a b said = AreSlices bytes a b (shape_tokens said)
+use Rattle.hp_script.proofs.CallTokens.{outcome, SaysSlices, only_first, alloc_slices, zone_slices, resize_slices, range_slices, add_slices, name_slices}
 
 module _ (bytes : List ℕ) (a b : ℕ) where
-  -- the only token is the first field
-  only_first : (first : Part) (others : List Part) → AreSlices bytes a b (first ∷ others) → AreSlices bytes a b (first ∷ [])
-  only_first first others slices = (slices.0, slices.1, bounds bytes (first.start + length first.text) b others slices.2)
-
-  -- the first field, and an external heap among the words behind the second
-  first_and_heap : (first second : Part) (words : List Part) (options : Options) → options_of words ≡ Some options
-      → AreSlices bytes a b (first ∷ second ∷ words) → AreSlices bytes a b (first ∷ heap_tokens options.heap)
-  first_and_heap first second words options given slices =
-      (slices.0, slices.1, heap_slices bytes (first.start + length first.text) b words options given (skip bytes (first.start + length first.text) b second words slices.2))
-
-  name_first : (call : NameCall) (name : Part) → AreSlices bytes a b (name ∷ []) → AreSlices bytes a b (tokens_of (name_act call name))
-  name_first name_call.Free name slices = slices
-  name_first name_call.Lookup name slices = slices
-  name_first name_call.Unzone name slices = slices
-  name_first name_call.Heap name slices = slices
-  name_first name_call.Unheap name slices = slices
-  name_first name_call.Watch name slices = slices
-  name_first name_call.Unwatch name slices = slices
-  name_first name_call.Dump name slices = slices
-  name_first name_call.Stats name slices = slices
-
-  range_first : (call : RangeCall) (heap : Part) (addr len : ℕ) → AreSlices bytes a b (heap ∷ []) → AreSlices bytes a b (tokens_of (range_act call heap addr len))
-  range_first range_call.Remove heap addr len slices = slices
-  range_first range_call.Map heap addr len slices = slices
-  range_first range_call.Unmap heap addr len slices = slices
-
   no_token : (call : MemberCall) → a ≤ b → AreSlices bytes a b (tokens_of (member_act call))
   no_token member_call.Attach le = le
   no_token member_call.Detach le = le
-
-  alloc_slices : (p : Part) (arguments : List Part) → AreSlices bytes a b arguments → IfOk (alloc_line p arguments) (SaysSlices bytes a b)
-  unfolding alloc_line
-  alloc_slices p [] slices = tt
-  alloc_slices p (label ∷ []) slices = tt
-  alloc_slices p (label ∷ n ∷ words) slices =
-      elim (outcome (party_field p)) [
-        | inr refused ↦ rw refused.1 tt
-        | inl party ↦ rw party.1 (
-            elim (outcome (number_field n)) [
-              | inr refused ↦ rw refused.1 tt
-              | inl size ↦ rw size.1 (
-                  elim (outcome (ok_or (options_of words) bad.Option)) [
-                    | inr refused ↦ rw refused.1 tt
-                    | inl options ↦ rw options.1 (
-                        first_and_heap label n words options.0 (from_ok_or (options_of words) options.0 bad.Option options.1) slices
-                        )
-                  ])
-            ])
-      ]
-
-  zone_slices : (p : Part) (arguments : List Part) → AreSlices bytes a b arguments → IfOk (zone_line p arguments) (SaysSlices bytes a b)
-  unfolding zone_line
-  zone_slices p [] slices = tt
-  zone_slices p (name ∷ []) slices = tt
-  zone_slices p (name ∷ n ∷ words) slices =
-      elim (outcome (party_field p)) [
-        | inr refused ↦ rw refused.1 tt
-        | inl party ↦ rw party.1 (
-            elim (outcome (number_field n)) [
-              | inr refused ↦ rw refused.1 tt
-              | inl len ↦ rw len.1 (
-                  elim (outcome (refuse (nat_lt len.0 1) bad.Range)) [
-                    | inr refused ↦ rw refused.1 tt
-                    | inl some ↦ rw some.1 (
-                        elim (outcome (ok_or (options_of words) bad.Option)) [
-                          | inr refused ↦ rw refused.1 tt
-                          | inl options ↦ rw options.1 (
-                              first_and_heap name n words options.0 (from_ok_or (options_of words) options.0 bad.Option options.1) slices
-                              )
-                        ])
-                  ])
-            ])
-      ]
-
-  resize_slices : (p : Part) (arguments : List Part) → AreSlices bytes a b arguments → IfOk (resize_line p arguments) (SaysSlices bytes a b)
-  unfolding resize_line
-  resize_slices p [] slices = tt
-  resize_slices p (label ∷ []) slices = tt
-  resize_slices p (label ∷ n ∷ []) slices =
-      elim (outcome (party_field p)) [
-        | inr refused ↦ rw refused.1 tt
-        | inl party ↦ rw party.1 (
-            elim (outcome (number_field n)) [
-              | inr refused ↦ rw refused.1 tt
-              | inl size ↦ rw size.1 (
-                  only_first label (n ∷ []) slices
-                  )
-            ])
-      ]
-  resize_slices p (label ∷ n ∷ more ∷ others) slices = tt
-
-  range_slices : (call : RangeCall) (p : Part) (arguments : List Part) → AreSlices bytes a b arguments → IfOk (range_line call p arguments) (SaysSlices bytes a b)
-  unfolding range_line
-  range_slices call p [] slices = tt
-  range_slices call p (heap ∷ []) slices = tt
-  range_slices call p (heap ∷ s ∷ []) slices = tt
-  range_slices call p (heap ∷ s ∷ n ∷ []) slices =
-      elim (outcome (party_field p)) [
-        | inr refused ↦ rw refused.1 tt
-        | inl party ↦ rw party.1 (
-            elim (outcome (number_field s)) [
-              | inr refused ↦ rw refused.1 tt
-              | inl addr ↦ rw addr.1 (
-                  elim (outcome (number_field n)) [
-                    | inr refused ↦ rw refused.1 tt
-                    | inl len ↦ rw len.1 (
-                        range_first call heap addr.0 len.0 (only_first heap (s ∷ n ∷ []) slices)
-                        )
-                  ])
-            ])
-      ]
-  range_slices call p (heap ∷ s ∷ n ∷ more ∷ others) slices = tt
-
-  add_slices : (p : Part) (arguments : List Part) → AreSlices bytes a b arguments → IfOk (add_line p arguments) (SaysSlices bytes a b)
-  unfolding add_line
-  add_slices p [] slices = tt
-  add_slices p (heap ∷ []) slices = tt
-  add_slices p (heap ∷ s ∷ []) slices = tt
-  add_slices p (heap ∷ s ∷ n ∷ []) slices = tt
-  add_slices p (heap ∷ s ∷ n ∷ size ∷ []) slices =
-      elim (outcome (party_field p)) [
-        | inr refused ↦ rw refused.1 tt
-        | inl party ↦ rw party.1 (
-            elim (outcome (number_field s)) [
-              | inr refused ↦ rw refused.1 tt
-              | inl addr ↦ rw addr.1 (
-                  elim (outcome (number_field n)) [
-                    | inr refused ↦ rw refused.1 tt
-                    | inl len ↦ rw len.1 (
-                        elim (outcome (number_field size)) [
-                          | inr refused ↦ rw refused.1 tt
-                          | inl page ↦ rw page.1 (
-                              only_first heap (s ∷ n ∷ size ∷ []) slices
-                              )
-                        ])
-                  ])
-            ])
-      ]
-  add_slices p (heap ∷ s ∷ n ∷ size ∷ more ∷ others) slices = tt
-
-  name_slices : (call : NameCall) (p : Part) (arguments : List Part) → AreSlices bytes a b arguments → IfOk (name_line call p arguments) (SaysSlices bytes a b)
-  unfolding name_line
-  name_slices call p [] slices = tt
-  name_slices call p (name ∷ []) slices =
-      elim (outcome (party_field p)) [
-        | inr refused ↦ rw refused.1 tt
-        | inl party ↦ rw party.1 (
-            name_first call name slices
-            )
-      ]
-  name_slices call p (name ∷ more ∷ others) slices = tt
 
   member_slices : (call : MemberCall) (p : Part) (arguments : List Part) → AreSlices bytes a b arguments → IfOk (member_line call p arguments) (SaysSlices bytes a b)
   unfolding member_line
@@ -242,7 +65,7 @@ module _ (bytes : List ℕ) (a b : ℕ) where
                                           elim (outcome (is_allow words)) [
                                             | inr refused ↦ rw refused.1 tt
                                             | inl allow ↦ rw allow.1 (
-                                                only_first name (s ∷ n ∷ words) slices
+                                                only_first bytes a b name (s ∷ n ∷ words) slices
                                                 )
                                           ])
                                     ])
@@ -269,7 +92,7 @@ module _ (bytes : List ℕ) (a b : ℕ) where
                         elim (outcome (refuse (nat_lt 31 socket.0) bad.Range)) [
                           | inr refused ↦ rw refused.1 tt
                           | inl within ↦ rw within.1 (
-                              only_first name (s ∷ []) slices
+                              only_first bytes a b name (s ∷ []) slices
                               )
                         ])
                   ])
@@ -303,13 +126,13 @@ module _ (bytes : List ℕ) (a b : ℕ) where
   await_slices p (q ∷ k ∷ more ∷ others) slices = tt
 
   act_slices : (word : Verb) (p : Part) (arguments : List Part) → AreSlices bytes a b arguments → IfOk (act_line word p arguments) (SaysSlices bytes a b)
-  act_slices verb.Alloc p arguments slices = alloc_slices p arguments slices
-  act_slices verb.Zone p arguments slices = zone_slices p arguments slices
-  act_slices verb.Resize p arguments slices = resize_slices p arguments slices
-  act_slices (verb.Name call) p arguments slices = name_slices call p arguments slices
+  act_slices verb.Alloc p arguments slices = alloc_slices bytes a b p arguments slices
+  act_slices verb.Zone p arguments slices = zone_slices bytes a b p arguments slices
+  act_slices verb.Resize p arguments slices = resize_slices bytes a b p arguments slices
+  act_slices (verb.Name call) p arguments slices = name_slices bytes a b call p arguments slices
   act_slices (verb.Member call) p arguments slices = member_slices call p arguments slices
-  act_slices verb.Add p arguments slices = add_slices p arguments slices
-  act_slices (verb.Range call) p arguments slices = range_slices call p arguments slices
+  act_slices verb.Add p arguments slices = add_slices bytes a b p arguments slices
+  act_slices (verb.Range call) p arguments slices = range_slices bytes a b call p arguments slices
   act_slices verb.Limit p arguments slices = limit_slices p arguments slices
   act_slices verb.Unlimit p arguments slices = unlimit_slices p arguments slices
   act_slices verb.Await p arguments slices = await_slices p arguments slices
