@@ -1,6 +1,6 @@
 -- What calls leave of heaps whose pages are at used slots of the lists.
-use Rattle.std.proofs.Common.{◌≡◌, refl, ap, sym, ◌∙◌, subst, ℕ, zero, suc, ◌+◌, ◌*◌, ◌≤◌, Bool, true, false, List, [], ◌∷◌, ◌++◌, map, Option, Some, None, Ok, Err, MatchOption, is_some, nat_le, nat_lt, ◌==◌, if◌then◌else◌, append-nil, arith}
-use Rattle.std.specs.List.{AllByRecursion, list_any, range_with_len, slice_get, slice_set}
+use Rattle.std.proofs.Common.{◌≡◌, refl, ap, sym, ◌∙◌, ℕ, zero, suc, ◌+◌, ◌*◌, ◌≤◌, Bool, true, false, List, [], ◌++◌, map, Option, Some, None, Ok, Err, MatchOption, is_some, nat_le, nat_lt, ◌==◌, if◌then◌else◌, append-nil, arith}
+use Rattle.std.specs.List.{AllByRecursion, list_any, range_with_len, slice_get}
 use Rattle.std.proofs.Math.Nat.{add-mul}
 use Rattle.std.proofs.lemmas.Bool.{eq-eqb, and_from, or_left, or_right, le-leb, lt-ltb}
 use Rattle.std.proofs.lemmas.List.Folds.{list_any-append}
@@ -16,7 +16,7 @@ use Rattle.hp_heap.specs.declared.entry.HeapCall.TheVariants as call
 use Rattle.hp_heap.specs.PlainHeap.{PlainHeap, HeapPage}
 use Rattle.hp_heap.specs.Choice.{HasNoChoice, chosen}
 use Rattle.hp_heap.specs.Growing.{after_grow, run_pages, run_page}
-use Rattle.hp_heap.specs.History.{HeapView, opening_of}
+use Rattle.hp_heap.specs.History.{HeapView}
 use Rattle.hp_heap.specs.Joining.{after_insertion}
 use Rattle.hp_heap.specs.Placing.{after_alloc, after_choice, placed}
 use Rattle.hp_heap.specs.Step.{after}
@@ -29,7 +29,6 @@ use Rattle.hp_segs.specs.declared.plan_refusal.PlanRefusal.{PlanRefusal}
 use Rattle.hp_segs.specs.declared.plan_refusal.PlanRefusal.TheVariants.{CannotHold}
 use Rattle.hp_segs.proofs.SlotLemmas.{any_added}
 use Rattle.hp_run.specs.Held.{IsHeldPage, IsHeldHeap, AreHeld}
-use Rattle.hp_run.specs.Session.{opening}
 use Rattle.hp_run.proofs.Granted.{granted_has_choice}
 use Rattle.hp_run.proofs.HeldLemmas.{LiesFree, first_lies_free}
 use Rattle.hp_run.proofs.StepLemmas.{all_at}

@@ -2,6 +2,7 @@ mod Streaming
 mod Granted
 mod LabelLemmas
 mod TextLemmas
+mod SlotStateLemmas
 pub mod ShownLaws
 mod OutcomeLemmas
 mod RefusalLemmas

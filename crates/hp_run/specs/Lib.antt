@@ -14,6 +14,7 @@ pub mod HeapTexts
 pub mod CallTexts
 pub mod EntryTexts
 pub mod SegmentTexts
+pub mod SlotStates
 pub mod LogTexts
 pub mod Report
 pub mod Refusals

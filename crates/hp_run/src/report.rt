@@ -22,6 +22,7 @@ mod pool_text;
 mod record_text;
 mod segment_text;
 mod segments;
+mod slot_states;
 
 use crate::ended::Ended;
 use element_text::ElementText;
@@ -47,7 +48,7 @@ pub fn report(alloc: Global, ended: &Ended<'_>) -> Result<String, AllocError>
     write_lines(&mut text, lines, ended.answers.as_slice())?;
     write_heaps(alloc, &mut text, heaps, &labels)?;
     write_histories(&mut text, heaps, &labels)?;
-    write_segments(&mut text, &ended.segs)?;
+    write_segments(alloc, &mut text, &ended.segs)?;
     write_records(&mut text, records)?;
     write_asks(&mut text, ended.segs.asks())?;
     text.push_str("end\n")?;

@@ -26,4 +26,4 @@ loop-list-preserved c =
     let list = c.loop-list.list in
     let within : list < length (lists_of segs.pools) = search rules in
     numbered-more (used_text segs.segments) (all_used_text segs.segments) (λ n. refl) (λ n x xs. refl) (string_bytes c.args.text.now) _ _ 0 (lists_of segs.pools)
-    list list _ _ within refl (omega arith) c.loop-list.invariant (rw c.lists-info-items.ensures at c.in_ok-write_used_in.ensures)
+    list list _ _ within refl (omega arith) c.loop-list.invariant (rw (c.lists-info-items.ensures, c.segments.ensures) at c.in_ok-write_used_in.ensures)
