@@ -6,7 +6,6 @@ mod SlotStateLemmas
 pub mod ShownLaws
 mod OutcomeLemmas
 mod RefusalLemmas
-mod ListEnds
 mod EffectsLemmas
 mod StepLemmas
 mod ServingLemmas

@@ -1,11 +1,13 @@
-use Rattle.std.proofs.Common.{◌<◌, ◌^◌, length, refl, rules, arith}
+use Rattle.std.proofs.Common.{◌<◌, ◌^◌, length, get_or, refl, rules, arith}
 use Rattle.std.proofs.Math.Facts.{Fits-of_lt}
 use Rattle.std.specs.Prelude.{string_bytes}
+use Rattle.std.proofs.lemmas.Option.{slice_get-get_or}
 use Rattle.hp_segs.specs.Lists.{lists_of}
+use Rattle.hp_segs.specs.declared.list_info.ListInfo.{ListInfo}
 use Rattle.hp_segs.proofs.ListsLemmas.{length_lists_from}
 use Rattle.hp_run.specs.SegmentTexts.{used_text, all_used_text}
 use Rattle.hp_run.proofs.TextLemmas.{numbered-more}
-use Rattle.hp_run.proofs.ListEnds.{list_ends_low}
+use Rattle.hp_run.proofs.ListsApart.{list_fits}
 use Rattle.hp_run.proofs.report.segments.write_used.Goals as goal
 
 pub overflow_cast-list : goal.overflow_cast-list
@@ -17,8 +19,11 @@ overflow_cast-list c =
 pub write_used_in-requires : goal.write_used_in-requires
 write_used_in-requires c =
     let pools = c.args.segs.now.pools in
-    let within : c.loop-list.list < length (lists_of pools) = search rules in
-    record { below = rw c.lists-info-items.ensures (list_ends_low pools c.loop-list.list _ c.requires.limits within) }
+    let list = c.loop-list.list in
+    let within : list < length (lists_of pools) = search rules in
+    let none : ListInfo = record { socket = 0; page = 0; base = 0; slots = 0 } in
+    let fit = list_fits pools list (get_or (lists_of pools) list none) c.requires.limits (slice_get-get_or (lists_of pools) list none within) in
+    record { below = rw c.lists-info-items.ensures (omega (arith, fit.below)) }
 
 pub loop-list-preserved : goal.loop-list-preserved
 loop-list-preserved c =
