@@ -23,13 +23,13 @@ HasNoChoiceAt heaps place request = (heap : HeapView) → slice_get heaps place 
 abbrev pub CanGrowAt : List HeapView → ℕ → Run → Type 0
 CanGrowAt heaps place run = (heap : HeapView) → slice_get heaps place ≡ Some heap → CanGrow heap.plain run
 
--- the heap at a place alone is another one, and the segments and the count stay
+-- the heap at a place alone is another one, and the segments stay
 pub record ReplacesHeap (old new : Session) (place : ℕ) (before after : HeapView) : Type 0 where
   pub here : slice_get old.heaps.items place ≡ Some before
   pub heaps : new.heaps.items ≡ slice_set old.heaps.items place after
   pub segs : new.segs ≡ old.segs
 
--- participant 0's next call was one of the heap at a place
+-- participant 0's next call was one of the heap at a place, and changed nothing else
 pub record IsCallAt (old new : Session) (place : ℕ) (call : HeapCall) (answer : HeapAnswer) : Type 0 where
   pub before : HeapView
   pub after : HeapView

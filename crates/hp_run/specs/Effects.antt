@@ -24,6 +24,7 @@ pub record Effects : Type 0 where
   pub records : List LogRecord
   pub asks : List AskLog
 
+-- no call, no record and no outcome
 abbrev pub no_effect : Effects
 no_effect = record { calls = []; records = []; asks = [] }
 
@@ -45,7 +46,7 @@ entries_of heap number [] = []
 entries_of heap number (own ∷ calls) =
     if own.heap == heap then entry_of number own ∷ entries_of heap (number + 1) calls else entries_of heap (number + 1) calls
 
--- the runs of growths among calls
+-- the run that a call grows its heap by, where it does
 abbrev pub run_grown : HeapCall → List Run
 run_grown (call.Grow run) = run ∷ []
 run_grown _ = []
@@ -62,16 +63,16 @@ is_grant_of generation (outcome.Refused cause) = false
 is_grant_of generation (outcome.Stale done) = false
 is_grant_of generation (outcome.Freed at) = false
 
--- the growth of the record of that generation was granted, and so not cancelled
+-- one of the outcomes is a grant by the record of that generation
 abbrev pub is_granted : List AskLog → ℕ → Bool
 is_granted asks generation = list_any (λ entry. is_grant_of generation entry.outcome) asks
 
--- the run that a record adds for a heap, where its growth was not cancelled
+-- the run that a record adds for a heap, where it is granted
 abbrev pub run_added : ℕ → Bool → LogRecord → List Run
 run_added heap granted (Add run for) = if granted && (for == heap) then run ∷ [] else []
 run_added heap granted (Drop run) = []
 
--- the runs that were added for a heap by growths that were not cancelled, of the records from a generation on
+-- the runs that records, numbered from a generation on, add for a heap, where they are granted
 abbrev pub added_runs : ℕ → List AskLog → ℕ → List LogRecord → List Run
 added_runs heap asks generation [] = []
 added_runs heap asks generation (entry ∷ log) =

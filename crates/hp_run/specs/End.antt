@@ -15,14 +15,14 @@ use Rattle.hp_run.specs.Session.{IsOwnedSegment}
 abbrev pub KeepCalls : List HeapView → Effects → Type 0
 KeepCalls heaps did = (index : ℕ) (heap : HeapView) → slice_get heaps index ≡ Some heap → heap.history ≡ entries_of index 1 did.calls
 
--- the growths of each heap are the growths of the log that were not cancelled, in their order
+-- each heap grew by the runs that the log adds for it and outcomes grant, in their order
 abbrev pub AreGrown : List HeapView → SegsView → Type 0
 AreGrown heaps segs =
     (index : ℕ) (heap : HeapView) → slice_get heaps index ≡ Some heap → grown_runs heap.history ≡ added_runs index segs.asks 1 segs.log
 
 -- an end of a workload
 pub record IsEnd (workload : Workload) (answers : List Answer) (heaps : List HeapView) (segs : SegsView) : Type 0 where
-  -- what the lines do, in their order, each answered as that goes
+  -- what the lines do, in their order, each answered as that goes, where the heap of participant 0's socket is tried first
   pub did : Effects
   pub served : DoesLines workload.pools.items (own_first (slice_index workload.sockets 0) (heaps_of workload.pools.items)) workload.lines.items answers did
   -- the heaps are those of the sockets; each is tiled, has exact free lists and stands for its legal history
@@ -32,10 +32,11 @@ pub record IsEnd (workload : Workload) (answers : List Answer) (heaps : List Hea
   pub calls : KeepCalls heaps did
   pub log : segs.log ≡ did.records
   pub asks : segs.asks ≡ did.asks
-  -- the log is well formed, pools and slots are those of the log, and each logged outcome has its cause
+  -- the segments are sound: the log is well formed, its table is what is mapped, and each logged outcome has its cause, among others;
+  -- their pools are the workload's
   pub segs_sound : segments.IsSound segs
   pub pools : segs.pools ≡ workload.pools.items
-  -- no growth is under way, each used segment is a heap's, and the growths are those of the heaps
+  -- no growth is under way, each used segment is a heap's, and the heaps grew by what was granted
   pub settled : segs.growth ≡ None
   pub owned : AllByRecursion IsOwnedSegment segs.segments
   pub grown : AreGrown heaps segs

@@ -13,13 +13,13 @@ use Rattle.hp_run.specs.declared.session.heaps.SocketHeap.{SocketHeap}
 use Rattle.hp_run.specs.Serving.{Asks, IsPlanCause, refused_entry, granted_entry}
 use Rattle.hp_run.specs.Session.{IsQuiet, IsGrantedRun}
 
--- the ask is the next one of participant 0, and nothing else is under way
+-- the segments are quiet, and the ask is participant 0's, with the number behind those of all logged outcomes
 pub record IsOpenAsk (segs : SegsView) (ask : Ask) : Type 0 where
   pub quiet : IsQuiet segs.pools segs
   pub from : ask.from ≡ 0
   pub number : ask.number ≡ length segs.asks + 1
 
--- the plan of an open ask is refused by a cause
+-- the refusal of a plan is for a cause, and not for a stale ask or an open growth
 abbrev pub IsCauseOf : PlanRefusal → Type 0
 IsCauseOf (StaleAsk number done) = ⊥
 IsCauseOf (GrowthOpen generation) = ⊥
@@ -28,14 +28,14 @@ IsCauseOf (TooFew have need) = ⊤
 IsCauseOf (ListFull longest need) = ⊤
 IsCauseOf (CannotHold addr len) = ⊤
 
--- the segments stay as they were, but for these outcomes
+-- the log and the rows of the segments stay, these outcomes are logged, and the segments are then quiet
 pub record IsLogged (old new : SegsView) (logged : List AskLog) : Type 0 where
   pub quiet : IsQuiet old.pools new
   pub log : new.log ≡ old.log
   pub rows : rows_in new.segments ≡ rows_in old.segments
   pub asks : new.asks ≡ old.asks ++ logged
 
--- behind these outcomes a run is added for the ask's heap
+-- a run is added for the ask's heap, these outcomes are logged, and the segments are then quiet
 pub record IsGrantAfter (old new : SegsView) (logged : List AskLog) (ask : Ask) (run : Run) : Type 0 where
   pub quiet : IsQuiet old.pools new
   pub log : new.log ≡ old.log ++ Add run ask.heap ∷ []
@@ -46,12 +46,12 @@ pub record IsGrantAfter (old new : SegsView) (logged : List AskLog) (ask : Ask) 
 abbrev pub IsGrantOf : SegsView → SegsView → Ask → Run → Type 0
 IsGrantOf old new ask run = IsGrantAfter old new (granted_entry ask (length old.log + 1) ∷ []) ask run
 
--- the ask is settled: refused by a cause, or granted a run
+-- the ask is settled: refused by a cause of a plan, or granted a run
 abbrev pub IsSettled : SegsView → SegsView → Ask → Option Run → Type 0
 IsSettled old new ask None = (cause : Cause) × IsPlanCause cause × IsLogged old new (refused_entry ask (length old.log) cause ∷ [])
 IsSettled old new ask (Some run) = IsGrantOf old new ask run
 
--- a heap has asked for memory, page size by page size
+-- a heap has asked for memory, page size by page size, until it was granted a run or none was left
 abbrev pub HasAsked : SegsView → SegsView → SocketHeap → Request → List ℕ → Option Run → Type 0
 HasAsked old new heap request pages None =
     (logged : List AskLog) × Asks heap request (length old.asks) (length old.log) pages logged None × IsLogged old new logged

@@ -13,7 +13,7 @@ use Rattle.hp_run.specs.declared.session.heaps.SocketHeap.{SocketHeap}
 abbrev pub names_socket : List PoolLine → ℕ → Bool
 names_socket pools socket = list_any (λ line. line.socket == socket) pools
 
--- the sockets that pool lines name, by rising number; a pool line names one below 32
+-- the sockets below 32 that pool lines name, by rising number
 abbrev pub sockets_of : List PoolLine → List ℕ
 sockets_of pools = filter (names_socket pools) (range_with_len 0 32)
 
@@ -22,7 +22,7 @@ abbrev pub heaps_from : ℕ → List ℕ → List SocketHeap
 heaps_from index [] = []
 heaps_from index (socket ∷ sockets) = record { index = index; socket = socket } ∷ heaps_from (index + 1) sockets
 
--- the heap of each socket that a pool line names
+-- the heaps of those sockets, by index from 0 on
 abbrev pub heaps_of : List PoolLine → List SocketHeap
 heaps_of pools = heaps_from 0 (sockets_of pools)
 

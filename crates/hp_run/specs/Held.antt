@@ -9,7 +9,7 @@ use Rattle.hp_segs.specs.Lists.{lists_of}
 use Rattle.hp_segs.specs.Rows.{at_slot}
 use Rattle.hp_segs.specs.declared.list_info.ListInfo.{ListInfo}
 
--- the page lies at a used slot of a pool's list
+-- the page lies at a used slot of a pool's list, with the list's page size and socket
 pub record IsHeldPage (pools : List PoolLine) (rows : List Row) (page : HeapPage) : Type 0 where
   pub info : ListInfo
   pub its_list : slice_get (lists_of pools) page.list ≡ Some info
@@ -19,7 +19,7 @@ pub record IsHeldPage (pools : List PoolLine) (rows : List Row) (page : HeapPage
   pub socket : page.socket ≡ info.socket
   pub used : IsTrue (list_any (at_slot page.list page.slot) rows)
 
--- the heap of a socket has such pages, and nothing else
+-- the heap is of a socket, and has such pages alone and no external memory
 pub record IsHeldHeap (pools : List PoolLine) (rows : List Row) (heap : PlainHeap) : Type 0 where
   pub socket : ℕ
   pub serves : heap.serves ≡ Some socket

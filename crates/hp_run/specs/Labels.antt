@@ -13,7 +13,7 @@ use Rattle.hp_run.specs.declared.report.labels.Labels.{Labels}
 abbrev pub shown : List ℕ → List ℕ
 shown bytes = if is_utf8 bytes then bytes else []
 
--- the label of the last allocation line with a number, or nothing where there is none
+-- the label of the last line with a number, or nothing where there is none or it is no allocation
 abbrev pub label_at : List Line → ℕ → List ℕ
 label_at lines number = option_map_or label_of (find (λ line. line.line == number) (reverse lines)) []
 

@@ -15,7 +15,7 @@ line_text number participant answer =
 abbrev pub answered : Line → Option Answer → List ℕ
 answered line answer = option_map_or (λ a. line_text line.line line.participant a) answer []
 
--- the lines of a workload, each with its answer
+-- the lines of a workload, each with its answer, as far as there are answers
 abbrev pub lines_text : List Line → List Answer → List ℕ
 lines_text [] answers = []
 lines_text (line ∷ lines) [] = []

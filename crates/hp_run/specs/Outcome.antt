@@ -80,7 +80,7 @@ pub record WritesFront (words : List (List ℕ)) (left left' held held' : Option
   pub front : HoldsFront held held' text
   pub failed : sink_failed
 
--- reading did not come to an end, for a cause, and nothing was written
+-- the words are the one word solo, the cause holds, and nothing was written
 pub record Reads (words : List (List ℕ)) (held held' : Option (List ℕ)) (cause : Type 0) : Type 0 where
   pub solo : is_solo words ≡ true
   pub because : cause
@@ -118,7 +118,7 @@ abbrev pub IsFaultOf : Option Refusal → RunFault → Type 0
 IsFaultOf due (fault.Refused refusal) = due ≡ Some refusal
 IsFaultOf due fault.OutOfMemory = ⊤
 
--- the text is accepted, and is read as the workload
+-- the text is not refused and is read as the workload, which is of what is built so far and within its limits, as its pools are
 pub record IsAcceptedAs (input : List ℕ) (workload : Workload) : Type 0 where
   pub done : refusal_of input ≡ None
   pub read : IsReadAs input workload

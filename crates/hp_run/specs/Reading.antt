@@ -9,13 +9,13 @@ use Rattle.hp_run.specs.declared.reading.TheConstants.{LIMIT}
 abbrev pub Took : Option (List ℕ) → Option (List ℕ) → List ℕ → Type 0
 Took old new bytes = old ≡ option_map (λ rest. bytes ++ rest) new
 
--- the source gave these bytes, and nothing is left
+-- the source gave these bytes, no more than a workload may have, and nothing is left
 pub record GaveAll (old new : Option (List ℕ)) (bytes : List ℕ) : Type 0 where
   pub took : Took old new bytes
   pub nothing : new ≡ option_map (λ rest. []) new
   pub short : length bytes ≤ LIMIT
 
--- the source gave one byte more than a workload may have, and none behind that
+-- of the source exactly one byte more than a workload may have was taken
 pub record GaveTooMuch (old new : Option (List ℕ)) : Type 0 where
   pub bytes : List ℕ
   pub took : Took old new bytes

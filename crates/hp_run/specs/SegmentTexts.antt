@@ -57,7 +57,7 @@ abbrev pub all_used_text : List Segment → ℕ → List ListInfo → List ℕ
 all_used_text segments list [] = []
 all_used_text segments list (info ∷ lists) = used_text segments list info ++ all_used_text segments (list + 1) lists
 
--- pools, lists and used segments; the lists lie by rising address, so the segments do too
+-- pools, lists, and the used segments list by list
 abbrev pub segments_text : SegsView → List ℕ
 segments_text segs =
     pools_text segs 0 segs.pools ++ lists_text 0 (lists_of segs.pools) ++ all_used_text segs.segments 0 (lists_of segs.pools)

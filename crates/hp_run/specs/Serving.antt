@@ -78,7 +78,7 @@ found_at heap request tag address = record {
   asks = [];
 }
 
--- a growth of a heap by a run
+-- a growth of a heap by a run, and the record that adds it
 abbrev pub grown_by : SocketHeap → Run → Effects
 grown_by heap run = record {
   calls = record { heap = heap.index; call = call.Grow run; answer = gives.Done } ∷ [];
@@ -121,7 +121,7 @@ pub record IsRequestFor (size : ℕ) (request : Request) : Type 0 where
 abbrev pub tag_of : Line → Tag
 tag_of line = record { who = line.participant; zone = false; number = line.line }
 
--- the same, where there may be no heap to try
+-- what an allocation does and is answered, where there may be no heap to try
 abbrev pub ServesChosen : List PoolLine → Request → Tag → ℕ → ℕ → List SocketHeap → Answer → Effects → Type 0
 ServesChosen pools request tag asks records [] given did = (given ≡ answer.NoHeap) × (did ≡ no_effect)
 ServesChosen pools request tag asks records (heap ∷ heaps) given did = Serves pools request tag asks records (heap ∷ heaps) given did
@@ -133,7 +133,7 @@ pub data Allocates (pools : List PoolLine) (size : ℕ) (tag : Tag) (asks record
   served : (request : Request) (given : Answer) (did : Effects) → IsRequestFor size request
       → ServesChosen pools request tag asks records heaps given did → Allocates pools size tag asks records heaps given did
 
--- what a line does and is answered, by the heaps in the order in which participant 0 tries them
+-- what an allocation line does and is answered, by the heaps in the order in which they are tried; no other line is done
 abbrev pub DoesAct : List PoolLine → List SocketHeap → Act → Tag → ℕ → ℕ → Answer → Effects → Type 0
 DoesAct pools order (act.Alloc label size options) tag asks records given did =
     Allocates pools size tag asks records (chosen_heaps order options.socket) given did

@@ -32,7 +32,8 @@ use Rattle.hp_run.specs.Held.{AreHeld}
 abbrev pub IsOwnedSegment : Segment → Type 0
 IsOwnedSegment segment = (heap : ℕ) × (segment.state ≡ Owned heap)
 
--- participant 0 is alone, each of its asks is settled, no growth is under way, and each segment is a heap's
+-- the pools are these, within their limits; participant 0 is alone; no growth is under way; its greatest number with an outcome
+-- other than Stale is how many outcomes are logged; and each segment is a heap's
 pub record IsQuiet (pools : List PoolLine) (segs : SegsView) : Type 0 where
   pub limits : ArePools pools
   pub pools_are : segs.pools ≡ pools
@@ -41,7 +42,8 @@ pub record IsQuiet (pools : List PoolLine) (segs : SegsView) : Type 0 where
   pub closed : closed_number segs.asks 0 ≡ length segs.asks
   pub owned : AllByRecursion IsOwnedSegment segs.segments
 
--- the run that a grant adds to the segments
+-- the run is the first one for the ask beside the old segments, the request has a place in it, and its rows come behind theirs, of
+-- the next record
 pub record IsGrantedRun (pools : List PoolLine) (old new : SegsView) (ask : Ask) (run : Run) : Type 0 where
   pub first : IsFirstFor pools (rows_in old.segments) ask run
   pub place : planned_run ask run ≡ Ok run
@@ -51,30 +53,32 @@ pub record IsGrantedRun (pools : List PoolLine) (old new : SegsView) (ask : Ask)
 abbrev pub opening : HeapView → PlainHeap
 opening heap = opening_of heap.plain
 
--- the history of the heap at a place
+-- the history of the heap at a place, or nothing where there is none
 abbrev pub history_at : List HeapView → ℕ → List Entry
 history_at heaps index = option_map_or (λ heap. heap.history) (slice_get heaps index) []
 
--- each heap's history goes on with its own of these calls, numbered on over all heaps
+-- each heap's history goes on with its own of these calls, which are numbered over all heaps from a number on
 abbrev pub GoOn : List HeapView → List HeapView → ℕ → List OwnCall → Type 0
 GoOn old new number calls =
     (index : ℕ) → index < length old → history_at new index ≡ history_at old index ++ entries_of index number calls
 
--- these effects were had
+-- these effects were had: the calls by the histories and the count of calls, the records by the log, the outcomes by the asks
 pub record Has (old new : Session) (did : Effects) : Type 0 where
   pub histories : GoOn old.heaps.items new.heaps.items (old.calls + 1) did.calls
   pub counted : new.calls ≡ old.calls + length did.calls
   pub log : new.segs.log ≡ old.segs.log ++ did.records
   pub asks : new.segs.asks ≡ old.segs.asks ++ did.asks
 
--- the heaps are those of the sockets, their pages are used segments, and participant 0 may make so many calls more
+-- the segments are quiet with these pools; the heaps opened so, are of sockets, and have pages at used slots and nothing else; and
+-- with so many calls more the count is below 2^62
 pub record IsRunning (pools : List PoolLine) (openings : List PlainHeap) (session : Session) (calls : ℕ) : Type 0 where
   pub quiet : IsQuiet pools session.segs
   pub openings_are : map opening session.heaps.items ≡ openings
   pub held : AreHeld pools (rows_in session.segs.segments) session.heaps.items
   pub counted : session.calls + calls < 2 ^ 62
 
--- how a session goes on: with these effects, from the same pools and heaps, and with so many calls less to make
+-- how a session goes on: with these effects, to segments that are quiet with the old pools, and to heaps that opened as the old ones
+-- did, are of sockets, and have pages at used slots and nothing else
 pub record GoesOn (old new : Session) (did : Effects) : Type 0 where
   pub has : Has old new did
   pub quiet : IsQuiet old.segs.pools new.segs
@@ -92,7 +96,7 @@ DoesTry old new heap request tag (Some address) =
     × Asks heap request (length old.segs.asks) (length old.segs.log) (page_sizes_of old.segs.pools heap.socket) logged (Some run)
     × GoesOn old new (and_then (passed heap request tag logged) (and_then (grown_by heap run) (found_at heap request tag address))))
 
--- an allocation over heaps was served
+-- an allocation over heaps, of which there may be none, was served, with at most two calls more than there are heaps
 abbrev pub DoesAllocate : Session → Session → List SocketHeap → Request → Tag → Answer → Type 0
 DoesAllocate old new heaps request tag given =
     (did : Effects) × ServesChosen old.segs.pools request tag (length old.segs.asks) (length old.segs.log) heaps given did
