@@ -12,7 +12,7 @@ use Rattle.std.proofs.lemmas.Bool.Decides.{nat_tests}
 use Rattle.std.proofs.lemmas.Bool.{ltb-true}
 use Rattle.hp_script.specs.Text.{is_plain}
 use Rattle.hp_heap.specs.PlainHeap.{socket_name}
-use Rattle.hp_run.specs.Labels.{shown}
+use Rattle.hp_run.specs.Shown.{shown}
 use Rattle.hp_run.proofs.LabelLemmas.{shown-text}
 
 -- bytes below 128 are ASCII

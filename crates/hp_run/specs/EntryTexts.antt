@@ -5,7 +5,7 @@ use Rattle.std.specs.Fmt.{decimal}
 use Rattle.hp_heap.specs.declared.entry.Entry.{Entry}
 use Rattle.hp_heap.specs.declared.entry.HeapCall.{HeapCall}
 use Rattle.hp_heap.specs.declared.entry.HeapCall.TheVariants as call
-use Rattle.hp_run.specs.Labels.{shown}
+use Rattle.hp_run.specs.Shown.{shown}
 use Rattle.hp_run.specs.CallTexts.{call_text, outcome_text}
 
 -- the label or the name that a call speaks of, by the labels of the lines

@@ -35,7 +35,8 @@ pub record IsLogged (old new : SegsView) (logged : List AskLog) : Type 0 where
   pub rows : rows_in new.segments ≡ rows_in old.segments
   pub asks : new.asks ≡ old.asks ++ logged
 
--- a run is added for the ask's heap, these outcomes are logged, and the segments are then quiet
+-- the first run for the ask is added for its heap, its rows come behind the others, these outcomes are logged, and the segments are
+-- then quiet
 pub record IsGrantAfter (old new : SegsView) (logged : List AskLog) (ask : Ask) (run : Run) : Type 0 where
   pub quiet : IsQuiet old.pools new
   pub log : new.log ≡ old.log ++ Add run ask.heap ∷ []

@@ -8,7 +8,7 @@ use Rattle.hp_base.specs.declared.span.SpanState.{SpanState}
 use Rattle.hp_base.specs.declared.span.SpanState.TheVariants.{Free, Busy}
 use Rattle.hp_base.specs.declared.stats.Stats.{Stats}
 use Rattle.hp_script.specs.Answers.{stats_text}
-use Rattle.hp_run.specs.Labels.{shown}
+use Rattle.hp_run.specs.Shown.{shown}
 
 -- the name of a heap, where it has one
 abbrev pub name_shown : Option (List ℕ) → List ℕ

@@ -22,7 +22,7 @@ abbrev pub heaps_from : ℕ → List ℕ → List SocketHeap
 heaps_from index [] = []
 heaps_from index (socket ∷ sockets) = record { index = index; socket = socket } ∷ heaps_from (index + 1) sockets
 
--- the heaps of those sockets, by index from 0 on
+-- the heaps of the sockets that pool lines name, by index from 0 on
 abbrev pub heaps_of : List PoolLine → List SocketHeap
 heaps_of pools = heaps_from 0 (sockets_of pools)
 

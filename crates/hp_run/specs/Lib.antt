@@ -8,6 +8,7 @@ pub mod Held
 pub mod Session
 pub mod Growth
 pub mod Calling
+pub mod Shown
 pub mod Labels
 pub mod LineTexts
 pub mod HeapTexts

@@ -13,7 +13,7 @@ use Rattle.hp_segs.specs.declared.outcome.Cause.{Cause}
 use Rattle.hp_segs.specs.declared.outcome.Cause.TheVariants as why
 use Rattle.hp_segs.specs.declared.outcome.Outcome.{Outcome}
 use Rattle.hp_segs.specs.declared.outcome.Outcome.TheVariants as outcome
-use Rattle.hp_run.specs.Labels.{shown}
+use Rattle.hp_run.specs.Shown.{shown}
 
 -- a record with its generation: the address and the length of its run, and the heap that it is added for
 abbrev pub record_line : ℕ → LogRecord → List ℕ

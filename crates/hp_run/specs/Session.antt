@@ -69,7 +69,7 @@ pub record Has (old new : Session) (did : Effects) : Type 0 where
   pub log : new.segs.log ≡ old.segs.log ++ did.records
   pub asks : new.segs.asks ≡ old.segs.asks ++ did.asks
 
--- the segments are quiet with these pools; the heaps opened so, are of sockets, and have pages at used slots and nothing else; and
+-- the segments are quiet with these pools; the heaps opened as these, are of sockets, and have pages at used slots and nothing else; and
 -- with so many calls more the count is below 2^62
 pub record IsRunning (pools : List PoolLine) (openings : List PlainHeap) (session : Session) (calls : ℕ) : Type 0 where
   pub quiet : IsQuiet pools session.segs

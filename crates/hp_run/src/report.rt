@@ -14,6 +14,7 @@ mod cause_text;
 mod element_text;
 mod entry_text;
 mod heap_text;
+mod label;
 mod labels;
 mod line_text;
 mod log;
@@ -22,6 +23,7 @@ mod pool_text;
 mod record_text;
 mod segment_text;
 mod segments;
+mod shown;
 mod slot_states;
 
 use crate::ended::Ended;

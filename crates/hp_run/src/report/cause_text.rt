@@ -1,4 +1,4 @@
-use super::labels::text_of;
+use super::shown::text_of;
 use hp_base::MapAnswer;
 use hp_segs::Cause;
 use std::fmt;

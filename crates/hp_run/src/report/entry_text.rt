@@ -3,8 +3,9 @@ ghost use Rattle.hp_run.specs.Labels.{known};
 ghost use Rattle.hp_run.specs.EntryTexts.{call_label};
 
 use super::call_text::CallText;
-use super::labels::{Labels, text_of};
+use super::labels::Labels;
 use super::outcome_text::OutcomeText;
+use super::shown::text_of;
 use hp_heap::{Entry, HeapCall};
 use std::fmt;
 

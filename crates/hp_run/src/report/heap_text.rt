@@ -1,7 +1,7 @@
 ghost use Rattle.std.specs.Prelude.{◌≡◌};
 ghost use Rattle.hp_run.specs.HeapTexts.{name_shown};
 
-use super::labels::text_of;
+use super::shown::text_of;
 use hp_base::Stats;
 use hp_heap::Heap;
 use hp_script::Answer;

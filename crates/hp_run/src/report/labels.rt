@@ -1,7 +1,9 @@
 ghost use Rattle.std.specs.Prelude.{◌≡◌, ℕ, IfOk};
 ghost use Rattle.hp_script.specs.Lines.{label_of};
-ghost use Rattle.hp_run.specs.Labels.{known, label_at, shown};
+ghost use Rattle.hp_run.specs.Labels.{known, label_at};
+ghost use Rattle.hp_run.specs.Shown.{shown};
 
+use super::label::Label;
 use hp_base::Tag;
 use hp_script::{Act, Line};
 use std::alloc::{AllocError, Global};
@@ -10,7 +12,7 @@ use std::collections::HashMap;
 /// The labels of a workload's allocations, by the number of their line.
 #[derive(Drop)]
 pub struct Labels<'a> {
-    labels: HashMap<u32, &'a [u8]>,
+    labels: HashMap<u32, Label<'a>>,
 }
 
 impl<'a> Labels<'a> {
@@ -20,7 +22,7 @@ impl<'a> Labels<'a> {
     {
         let mut labels = HashMap::new(alloc);
         for line in lines {
-            labels.insert(line.line, label_of(line))?;
+            labels.insert(line.line, Label::new(label_of(line)))?;
         }
         Ok(Labels { labels })
     }
@@ -30,7 +32,7 @@ impl<'a> Labels<'a> {
         ensures { result.now ≡ shown (known self.now tag.number) }
     {
         match self.labels.get(&tag.number) {
-            Some(label) => text_of(label),
+            Some(label) => label.text(),
             None => "",
         }
     }
@@ -43,15 +45,5 @@ fn label_of<'a>(line: &Line<'a>) -> &'a [u8]
     match &line.act {
         Act::Alloc { label, .. } => label.as_bytes(),
         _ => b"",
-    }
-}
-
-/// Bytes as text, or an empty text where they are none.
-pub fn text_of(bytes: &[u8]) -> &str
-    ensures { result.now ≡ shown bytes.now }
-{
-    match std::str::from_utf8(bytes) {
-        Ok(text) => text,
-        Err(_) => "",
     }
 }

@@ -11,7 +11,7 @@ use super::slot_states::slot_states;
 use hp_segs::{ListInfo, PoolLine, RowState, Segment, Segs};
 use std::alloc::{AllocError, Global};
 
-/// Writes the pools with their pages left, the lists, and the used segments by address.
+/// Writes the pools with their pages left, the lists, and the used segments list by list and by rising slot.
 pub fn write_segments(alloc: Global, text: &mut String, segs: &Segs) -> Result<(), AllocError>
     requires limits { ArePools segs.now.pools }
     ensures { OnOk result (string_bytes text.new ≡ string_bytes text.old ++ segments_text segs.now) }

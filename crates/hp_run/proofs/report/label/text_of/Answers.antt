@@ -1,6 +1,6 @@
 use Rattle.std.proofs.Common.{◌∙◌}
 use Rattle.hp_run.proofs.LabelLemmas.{shown-text, shown-other}
-use Rattle.hp_run.proofs.report.labels.text_of.Goals as goal
+use Rattle.hp_run.proofs.report.shown.text_of.Goals as goal
 
 pub returns-in-Ok : goal.returns-in-Ok
 returns-in-Ok c = c.in-Ok.ensures.cases.0 ∙ shown-text c.args.bytes.now c.in-Ok.ensures.cases.1
