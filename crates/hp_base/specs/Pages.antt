@@ -6,7 +6,7 @@ use Rattle.hp_base.specs.Round.{ceil_of}
 use Rattle.hp_base.specs.Place.{IsPlace}
 use Rattle.hp_base.specs.declared.request.Request.{Request}
 
--- 256K, 2M, 16M, 256M, 512M, 1G, 4G and 16G ("Pages asked")
+-- the eight page sizes, ascending: 256K, 2M, 16M, 256M, 512M, 1G, 4G and 16G ("Pages asked")
 abbrev pub page_sizes : List ℕ
 page_sizes = 2 ^ 18 ∷ 2 ^ 21 ∷ 2 ^ 24 ∷ 2 ^ 28 ∷ 2 ^ 29 ∷ 2 ^ 30 ∷ 2 ^ 32 ∷ 2 ^ 34 ∷ []
 

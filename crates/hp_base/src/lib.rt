@@ -29,7 +29,7 @@ pub use data_place::place;
 pub use laws::{class_law, place_law, rounding_law};
 pub use map_answer::MapAnswer;
 pub use name::Name;
-pub use page_size::{is_page_size, pages_for};
+pub use page_size::{GREATEST_PAGE, PAGE_SIZES, is_page_size, pages_for};
 pub use plan_entry::{MsgKind, PlanEntry};
 pub use pool_line::PoolLine;
 pub use request::{BadRequest, Request};

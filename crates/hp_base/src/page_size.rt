@@ -4,22 +4,29 @@ ghost use Rattle.hp_base.specs.Pages.{is_page_size, pages_of, HoldsRequest};
 use crate::request::Request;
 use crate::round::{HEADER, align_ceil};
 
-/// Whether a page of `page` bytes is one of the eight hugepage sizes: 256K, 2M, 16M, 256M, 512M, 1G, 4G and 16G.
-/// After the RTE_MEMZONE_ flags of rte_memzone.
+/// The sizes of a hugepage, in bytes, ascending: 256K, 2M, 16M, 256M, 512M, 1G, 4G and 16G. The pages of pools and of
+/// segment lists have no other size, and a heap asks for memory in this order. After DPDK's hugepage sizes on Linux,
+/// as the RTE_MEMZONE_ flags of rte_memzone name them; the order is own.
+pub const PAGE_SIZES: [u64; 8] = [
+    0x4_0000,
+    0x20_0000,
+    0x100_0000,
+    0x1000_0000,
+    0x2000_0000,
+    0x4000_0000,
+    0x1_0000_0000,
+    0x4_0000_0000,
+];
+
+/// The greatest page size, in bytes: what is asked for a request has to round up to it.
+pub const GREATEST_PAGE: u64 = PAGE_SIZES[7];
+
+/// Whether a page of `page` bytes has one of the eight hugepage sizes, `PAGE_SIZES`. After the RTE_MEMZONE_ flags of
+/// rte_memzone.
 pub fn is_page_size(page: u64) -> bool
     ensures { result ≡ is_page_size page }
 {
-    [
-        0x4_0000,
-        0x20_0000,
-        0x100_0000,
-        0x1000_0000,
-        0x2000_0000,
-        0x4000_0000,
-        0x1_0000_0000,
-        0x4_0000_0000,
-    ]
-    .contains(&page)
+    PAGE_SIZES.contains(&page)
 }
 
 /// The number of pages of `page` bytes that are asked for a request: those that its rounded size and one header

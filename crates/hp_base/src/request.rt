@@ -4,10 +4,8 @@ ghost use Rattle.std.specs.Result.{result_err};
 ghost use Rattle.hp_base.specs.Round.{ceil_of, fitting};
 ghost use Rattle.hp_base.specs.Requests.{IsAccepted, refusal_of, rounded_size, raised_align, is_align, is_bound, is_too_large, bytes_asked};
 
+use crate::page_size::GREATEST_PAGE;
 use crate::round::{HEADER, LINE, align_ceil, round_up, round64};
-
-/// The greatest page size, in bytes: what is asked for a request has to round up to it.
-const GREATEST_PAGE: u64 = 0x4_0000_0000;
 
 /// Why a request is refused, in the order in which it is judged.
 #[derive(Clone, Copy, Debug, PartialEq, Eq)]

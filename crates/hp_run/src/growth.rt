@@ -10,21 +10,9 @@ ghost use Rattle.hp_run.specs.Growth.{IsOpenAsk, IsCauseOf, IsSettled, IsGrantOf
 ghost use Rattle.hp_run.specs.Session.{IsQuiet};
 
 use crate::session::heaps::SocketHeap;
-use hp_base::{Request, Run};
+use hp_base::{PAGE_SIZES, Request, Run};
 use hp_segs::{Ask, Cause, PlanRefusal, Segs};
 use std::alloc::AllocError;
-
-/// The page sizes, ascending, in bytes.
-pub const PAGE_SIZES: [u64; 8] = [
-    0x4_0000,
-    0x20_0000,
-    0x100_0000,
-    0x1000_0000,
-    0x2000_0000,
-    0x4000_0000,
-    0x1_0000_0000,
-    0x4_0000_0000,
-];
 
 /// The places of the log that an ask uses at most.
 const PLACES: usize = 2;
