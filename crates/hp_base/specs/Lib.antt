@@ -3,6 +3,7 @@ pub mod Class
 pub mod Requests
 pub mod Place
 pub mod Pages
+pub mod PoolLines
 pub mod Names
 pub mod Streams
 pub mod MemStreams

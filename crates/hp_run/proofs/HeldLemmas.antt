@@ -6,6 +6,7 @@ use Rattle.std.proofs.lemmas.Bool.{cases_lt}
 use Rattle.std.proofs.lemmas.Grind.{common_steps}
 use Rattle.std.proofs.lemmas.List.FromFn.{length-map-range_with_len, get_or-map-range_with_len}
 use Rattle.std.proofs.lemmas.List.Sums.{sum_by-cons}
+use Rattle.hp_base.specs.PoolLines.{ArePoolLines}
 use Rattle.hp_base.specs.declared.pool_line.PoolLine.{PoolLine}
 use Rattle.hp_base.specs.declared.row.Row.{Row}
 use Rattle.hp_base.specs.declared.row.Run.{Run}
@@ -17,7 +18,6 @@ use Rattle.hp_heap.specs.Growing.{CanGrow, IsAlike, run_bytes}
 use Rattle.hp_segs.specs.Lists.{lists_of, end_of}
 use Rattle.hp_segs.specs.Plan.{IsFirstFor}
 use Rattle.hp_segs.specs.Rows.{at_slot}
-use Rattle.hp_segs.specs.Table.{ArePools}
 use Rattle.hp_segs.specs.TableLayout.{IsFitList}
 use Rattle.hp_segs.specs.declared.ask.Ask.{Ask}
 use Rattle.hp_segs.specs.declared.list_info.ListInfo.{ListInfo}
@@ -38,7 +38,7 @@ pub record LiesFree (pools : List PoolLine) (rows : List Row) (run : Run) : Type
   pub clear : (slot : ℕ) → run.first ≤ slot → slot < run.first + run.count → list_any (at_slot run.list slot) rows ≡ false
 
 -- the first run for an ask lies so
-pub first_lies_free : (pools : List PoolLine) (rows : List Row) (ask : Ask) (run : Run) → ArePools pools → IsFirstFor pools rows ask run
+pub first_lies_free : (pools : List PoolLine) (rows : List Row) (ask : Ask) (run : Run) → ArePoolLines pools → IsFirstFor pools rows ask run
     → LiesFree pools rows run
 first_lies_free pools rows ask run limits found =
     let info : ListInfo = found.info in
@@ -76,7 +76,7 @@ not_below start len byte below = grind (arith, common_steps, below)
 not_behind : (start len byte : ℕ) → start + len ≤ byte → is_within start len byte ≡ false
 not_behind start len byte behind = grind (arith, common_steps, behind)
 
-module _ (pools : List PoolLine) (rows : List Row) (run : Run) (limits : ArePools pools) (lies : LiesFree pools rows run) where
+module _ (pools : List PoolLine) (rows : List Row) (run : Run) (limits : ArePoolLines pools) (lies : LiesFree pools rows run) where
   -- the bytes of the run end where the slots of its list end
   run_ends : run.addr + run_bytes run ≡ lies.info.base + (run.first + run.count) * lies.info.page
   run_ends =
@@ -186,7 +186,7 @@ module _ (pools : List PoolLine) (rows : List Row) (run : Run) (limits : ArePool
       }
 
 -- the first run for an ask may come to a heap of pages at used slots
-pub can_grow : (pools : List PoolLine) (rows : List Row) (heap : PlainHeap) (ask : Ask) (run : Run) → ArePools pools → IsHeldHeap pools rows heap
+pub can_grow : (pools : List PoolLine) (rows : List Row) (heap : PlainHeap) (ask : Ask) (run : Run) → ArePoolLines pools → IsHeldHeap pools rows heap
     → IsFirstFor pools rows ask run → CanGrow heap run
 can_grow pools rows heap ask run limits held first =
     free_run_can_grow pools rows run limits (first_lies_free pools rows ask run limits first) heap held

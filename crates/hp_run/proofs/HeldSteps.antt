@@ -4,6 +4,7 @@ use Rattle.std.specs.List.{AllByRecursion, list_any, range_with_len, slice_get}
 use Rattle.std.proofs.Math.Nat.{add-mul}
 use Rattle.std.proofs.lemmas.Bool.{eq-eqb, and_from, or_left, or_right, le-leb, lt-ltb}
 use Rattle.std.proofs.lemmas.List.Folds.{list_any-append}
+use Rattle.hp_base.specs.PoolLines.{ArePoolLines}
 use Rattle.hp_base.specs.declared.pool_line.PoolLine.{PoolLine}
 use Rattle.hp_base.specs.declared.request.Request.{Request}
 use Rattle.hp_base.specs.declared.row.Row.{Row}
@@ -23,7 +24,6 @@ use Rattle.hp_heap.specs.Step.{after}
 use Rattle.hp_heap.proofs.RangeLemmas.{AllByRecursion-append, AllByRecursion-weaker}
 use Rattle.hp_segs.specs.Plan.{IsFirstFor, planned_run}
 use Rattle.hp_segs.specs.Rows.{at_slot, rows_of}
-use Rattle.hp_segs.specs.Table.{ArePools}
 use Rattle.hp_segs.specs.declared.ask.Ask.{Ask}
 use Rattle.hp_segs.specs.declared.plan_refusal.PlanRefusal.{PlanRefusal}
 use Rattle.hp_segs.specs.declared.plan_refusal.PlanRefusal.TheVariants.{CannotHold}
@@ -118,7 +118,7 @@ run_held pools rows run generation lies from (suc len) within =
     )
 
 -- a growth by the first run for an ask adds pages at slots that its rows make used
-pub held_after_grow : (pools : List PoolLine) (rows : List Row) (ask : Ask) (run : Run) (generation participant : ℕ) (heap : PlainHeap) → ArePools pools
+pub held_after_grow : (pools : List PoolLine) (rows : List Row) (ask : Ask) (run : Run) (generation participant : ℕ) (heap : PlainHeap) → ArePoolLines pools
     → IsHeldHeap pools rows heap → IsFirstFor pools rows ask run
     → IsHeldHeap pools (rows ++ rows_of run generation) (after participant (call.Grow run) heap)
 held_after_grow pools rows ask run generation participant heap limits held first =

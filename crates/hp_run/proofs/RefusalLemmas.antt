@@ -3,12 +3,11 @@ use Rattle.std.proofs.Common.{◌≡◌, ℕ, List, Option, Some, None, Result, 
 use Rattle.std.specs.Result.{MatchResult, IsErrAnd}
 use Rattle.hp_script.proofs.BuiltLemmas.{built_when_none_later}
 use Rattle.hp_script.specs.Later.{later_line}
-use Rattle.hp_script.specs.Limits.{IsWithinLimits, ArePoolLines}
+use Rattle.hp_script.specs.Limits.{IsWithinLimits}
 use Rattle.hp_script.specs.Workloads.{IsReadAs, reading_of}
 use Rattle.hp_script.specs.declared.bad_kind.BadKind.{BadKind}
 use Rattle.hp_script.specs.declared.workload.Workload.{Workload}
-use Rattle.hp_base.specs.declared.pool_line.PoolLine.{PoolLine}
-use Rattle.hp_segs.specs.Table.{ArePools}
+use Rattle.hp_base.specs.PoolLines.{ArePoolLines}
 use Rattle.hp_run.specs.Outcome.{IsAcceptedAs, IsFaultOf}
 use Rattle.hp_run.specs.Refusals.{refusal_of}
 use Rattle.hp_run.specs.Session.{IsSameWorkload}
@@ -16,16 +15,6 @@ use Rattle.hp_run.specs.declared.refusal.Refusal.{Refusal}
 use Rattle.hp_run.specs.declared.refusal.Refusal.TheVariants.{Bad, Later}
 use Rattle.hp_run.specs.declared.refusal.RunFault.{RunFault}
 use Rattle.hp_run.specs.declared.refusal.RunFault.TheVariants.{OutOfMemory}
-
--- the pools of an accepted text are within the limits of segment lists
-are_pools : (pools : List PoolLine) → ArePoolLines pools → ArePools pools
-are_pools pools accepted = record {
-  few = accepted.few;
-  lines = λ k d within. let line = accepted.lines k d within in
-      record { socket = line.socket; page = line.page; pages = line.pages; some = line.some; slots = line.slots };
-  distinct = accepted.distinct;
-  slots = accepted.slots;
-}
 
 -- a text that is read, and has no line that is not built
 pub accepted_as : (bytes : List ℕ) (workload : Workload) → IsReadAs bytes workload → IsWithinLimits workload → ArePoolLines workload.pools.items
@@ -36,7 +25,7 @@ accepted_as bytes workload read limits pools none = record {
   read = read;
   built = built_when_none_later bytes workload read none;
   limits = limits;
-  pools = are_pools workload.pools.items pools;
+  pools = pools;
 }
 
 -- a text that is read, and has a line that is not built

@@ -3,6 +3,7 @@ use Rattle.std.proofs.Common.{◌≡◌, refl, ap, sym, ◌∙◌, subst, ℕ, z
 use Rattle.std.specs.List.{All, AllByRecursion}
 use Rattle.std.proofs.lemmas.List.{length-map}
 use Rattle.std.proofs.lemmas.Option.{same_Some, slice_get_within}
+use Rattle.hp_base.specs.PoolLines.{ArePoolLines}
 use Rattle.hp_base.specs.declared.pool_line.PoolLine.{PoolLine}
 use Rattle.hp_heap.specs.PlainHeap.{PlainHeap}
 use Rattle.hp_heap.specs.History.{HeapView, IsSound, opening_of}
@@ -12,7 +13,6 @@ use Rattle.hp_script.specs.declared.workload.Workload.{Workload}
 use Rattle.hp_segs.specs.Opening as segments
 use Rattle.hp_segs.specs.SegsView.{SegsView, rows_in}
 use Rattle.hp_segs.specs.Sound as sound
-use Rattle.hp_segs.specs.Table.{ArePools}
 use Rattle.hp_run.specs.declared.session.Session.{Session}
 use Rattle.hp_run.specs.declared.session.heaps.SocketHeap.{SocketHeap}
 use Rattle.hp_run.specs.Effects.{Effects, no_effect, and_then, entries_of, grown_runs, added_runs}
@@ -58,7 +58,7 @@ none_at (view ∷ views) zero all = all.0
 none_at (view ∷ views) (suc index) all = none_at views index all.1
 
 -- no line was done yet
-pub done_none : (pools : List PoolLine) (heaps order : List SocketHeap) (session : Session) → ArePools pools → AreOpened session.heaps.items heaps
+pub done_none : (pools : List PoolLine) (heaps order : List SocketHeap) (session : Session) → ArePoolLines pools → AreOpened session.heaps.items heaps
     → session.segs ≡ segments.opening pools 1 0 → session.calls ≡ 0 → HasDone pools heaps order session [] []
 done_none pools heaps order session limits opens segs calls =
     let are = opened_are pools session.heaps.items heaps opens.plain in

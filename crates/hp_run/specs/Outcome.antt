@@ -1,6 +1,7 @@
 -- How a run of the program ends: what each status says.
 use Rattle.std.specs.Prelude.{◌≡◌, ℕ, Bool, true, false, List, [], ◌∷◌, length, codes, Option, Some, None, is_some, nat_lt, if◌then◌else◌, ⊤}
 use Rattle.std.specs.Str.{bytes_eq}
+use Rattle.hp_base.specs.PoolLines.{ArePoolLines}
 use Rattle.hp_base.specs.declared.status.Status.{Status}
 use Rattle.hp_base.specs.declared.status.Status.TheVariants as status
 use Rattle.hp_script.specs.Workloads.{IsReadAs}
@@ -17,7 +18,6 @@ use Rattle.hp_run.specs.declared.refusal.RunFault.TheVariants as fault
 use Rattle.hp_script.specs.Built.{IsBuilt}
 use Rattle.hp_script.specs.Limits.{IsWithinLimits}
 use Rattle.hp_script.specs.declared.workload.Workload.{Workload}
-use Rattle.hp_segs.specs.Table.{ArePools}
 
 -- the words are the one word solo
 abbrev pub is_solo : List (List ℕ) → Bool
@@ -124,4 +124,4 @@ pub record IsAcceptedAs (input : List ℕ) (workload : Workload) : Type 0 where
   pub read : IsReadAs input workload
   pub built : IsBuilt workload
   pub limits : IsWithinLimits workload
-  pub pools : ArePools workload.pools.items
+  pub pools : ArePoolLines workload.pools.items

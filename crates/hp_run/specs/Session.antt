@@ -2,6 +2,7 @@
 use Rattle.std.specs.Prelude.{◌≡◌, ℕ, ◌+◌, ◌^◌, ◌<◌, ◌≤◌, List, [], ◌++◌, map, length, Option, Some, None, Ok, slice_get, ◌⊎◌}
 use Rattle.std.specs.Option.{option_map_or}
 use Rattle.std.specs.List.{AllByRecursion}
+use Rattle.hp_base.specs.PoolLines.{ArePoolLines}
 use Rattle.hp_base.specs.declared.pool_line.PoolLine.{PoolLine}
 use Rattle.hp_base.specs.declared.row.Run.{Run}
 use Rattle.hp_base.specs.declared.request.Request.{Request}
@@ -12,7 +13,6 @@ use Rattle.hp_segs.specs.Opening.{opening_roster}
 use Rattle.hp_segs.specs.Plan.{IsFirstFor, planned_run}
 use Rattle.hp_segs.specs.Rows.{rows_of}
 use Rattle.hp_segs.specs.SegsView.{SegsView, closed_number, rows_in}
-use Rattle.hp_segs.specs.Table.{ArePools}
 use Rattle.hp_segs.specs.declared.ask.Ask.{Ask}
 use Rattle.hp_segs.specs.declared.outcome.AskLog.{AskLog}
 use Rattle.hp_segs.specs.declared.row_state.RowState.TheVariants.{Owned}
@@ -35,7 +35,7 @@ IsOwnedSegment segment = (heap : ℕ) × (segment.state ≡ Owned heap)
 -- the pools are these, within their limits; participant 0 is alone; no growth is under way; its greatest number with an outcome
 -- other than Stale is how many outcomes are logged; and each segment is a heap's
 pub record IsQuiet (pools : List PoolLine) (segs : SegsView) : Type 0 where
-  pub limits : ArePools pools
+  pub limits : ArePoolLines pools
   pub pools_are : segs.pools ≡ pools
   pub alone : segs.roster ≡ opening_roster 1 0
   pub settled : segs.growth ≡ None

@@ -3,7 +3,7 @@ ghost use Rattle.std.specs.Prelude.{IfOk};
 ghost use Rattle.std.specs.List.{All};
 ghost use Rattle.hp_heap.specs.History.{IsSound};
 ghost use Rattle.hp_script.specs.Built.{IsBuilt};
-ghost use Rattle.hp_segs.specs.Table.{ArePools};
+ghost use Rattle.hp_base.specs.PoolLines.{ArePoolLines};
 ghost use Rattle.hp_script.specs.Limits.{IsWithinLimits};
 ghost use Rattle.hp_run.specs.End.{IsEnd};
 ghost use Rattle.hp_run.specs.Session.{IsSameWorkload};
@@ -34,7 +34,7 @@ pub struct Session {
 pub fn run(alloc: Global, workload: Workload<'_>) -> Result<Ended<'_>, AllocError>
     requires built { IsBuilt workload }
     requires limits { IsWithinLimits workload }
-    requires pools { ArePools workload.pools.items }
+    requires pools { ArePoolLines workload.pools.items }
     ensures end { IfOk result (λ ended. IsEnd ended.workload ended.answers.items ended.heaps.items ended.segs) }
     ensures workload { IfOk result (λ ended. IsSameWorkload ended.workload workload.entry) }
 {

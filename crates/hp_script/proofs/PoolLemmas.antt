@@ -6,12 +6,12 @@ use Rattle.std.proofs.lemmas.List.Elements.{All-push}
 use Rattle.std.proofs.lemmas.List.Quantifiers.{all_pairs_push}
 use Rattle.std.proofs.lemmas.Grind.{common_steps}
 use Rattle.std.proofs.lemmas.Bool.Decides.{nat_tests}
+use Rattle.hp_base.specs.PoolLines.{IsPoolLine, IsOtherPool, ArePoolLines}
 use Rattle.hp_base.specs.declared.pool_line.PoolLine.{PoolLine}
 use Rattle.hp_script.specs.Part.{Part}
 use Rattle.hp_script.specs.Text.{lines_of, fields_of}
 use Rattle.hp_script.specs.Marks.{is_marked}
 use Rattle.hp_script.specs.Counts.{segments_of, is_same_pool, message_event, mapping_event, is_planned}
-use Rattle.hp_script.specs.Limits.{IsPoolLine, IsOtherPool, ArePoolLines}
 use Rattle.hp_script.specs.Makers.{Makers, makers_of}
 use Rattle.hp_script.specs.Setups.{nothing, is_strange, set_participants, set_absent, set_socket, set_deadline, add_pool, add_message, add_mapping, setup_step}
 use Rattle.hp_script.specs.Shapes.{shape_of}

@@ -3,10 +3,10 @@ use Rattle.std.proofs.Common.{◌≡◌, ℕ, ◌<◌, Bool, true, false, List, 
 use Rattle.std.specs.Prelude.{Some, Ok, IfOk, IsTrue, nat_lt, not}
 use Rattle.std.proofs.lemmas.Bool.Decides.{nat_tests}
 use Rattle.hp_base.specs.Pages.{is_page_size}
+use Rattle.hp_base.specs.PoolLines.{IsPoolLine}
 use Rattle.hp_script.specs.Part.{Part}
 use Rattle.hp_script.specs.Numbers.{numeral}
 use Rattle.hp_script.specs.Judge.{is_within, number_field, party_field}
-use Rattle.hp_script.specs.Limits.{IsPoolLine}
 use Rattle.hp_script.specs.ShapesSetup.{slots_field, pool_line, participants_line, absent_line, socket_line, deadline_line, message_line, counted_line, mapping_line}
 use Rattle.hp_script.specs.Shapes.{setup_act, setup_line}
 use Rattle.hp_script.specs.Verbs.{setup_named, kind_named}

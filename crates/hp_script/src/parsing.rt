@@ -1,6 +1,7 @@
 ghost use Rattle.std.specs.Prelude.{◌+◌, ◌<◌, ◌≤◌, ◌^◌, length, IfOk, IfErr};
 ghost use Rattle.hp_script.specs.Known.{known};
-ghost use Rattle.hp_script.specs.Limits.{IsWithinLimits, AreDeclared, ArePoolLines, AreParticipantLines};
+ghost use Rattle.hp_base.specs.PoolLines.{ArePoolLines};
+ghost use Rattle.hp_script.specs.Limits.{IsWithinLimits, AreDeclared, AreParticipantLines};
 ghost use Rattle.hp_script.specs.Setups.{nothing};
 ghost use Rattle.hp_script.specs.Spans.{AreSlices, all_tokens};
 ghost use Rattle.hp_script.specs.Workloads.{IsReadAs, IsRefusalOf, NamesFirstBad, Reads, read_from, reading_of};

@@ -7,6 +7,7 @@ use Rattle.std.proofs.lemmas.List.Folds.{map_fixed}
 use Rattle.std.proofs.lemmas.Bool.{cases_lt, eq-eqb, eqb-true, false_from_ne_true, and_parts, and_from}
 use Rattle.std.proofs.lemmas.List.Elements.{All-head, All-tail, All-map, filter-append, filter_passes}
 use Rattle.hp_base.specs.Pages.{pages_of}
+use Rattle.hp_base.specs.PoolLines.{IsOtherPool}
 use Rattle.hp_base.specs.declared.row.Row.{Row}
 use Rattle.hp_base.specs.declared.row.Run.{Run}
 use Rattle.hp_base.specs.declared.pool_line.PoolLine.{PoolLine}
@@ -18,7 +19,6 @@ use Rattle.hp_segs.specs.Rows.{row_of, rows_of}
 use Rattle.hp_segs.specs.SegsView.{SegsView, rows_in, is_opened}
 use Rattle.hp_segs.specs.Sound.{IsGrowth, IsLogged, has_stamp}
 use Rattle.hp_segs.specs.Steps.{segment_of, agreed_segment}
-use Rattle.hp_segs.specs.Table.{IsOtherPool}
 use Rattle.hp_segs.specs.declared.ask.Ask.{Ask}
 use Rattle.hp_segs.specs.declared.growth.Growth.{Growth}
 use Rattle.hp_segs.specs.declared.row_state.RowState.{RowState}

@@ -5,11 +5,12 @@ use Rattle.std.specs.List.{All, range_with_len}
 use Rattle.std.specs.Option.{option_map}
 use Rattle.std.proofs.lemmas.Bool.{cases_eq}
 use Rattle.std.proofs.lemmas.List.Elements.{All-push, All-nil, All-weaker}
+use Rattle.hp_base.specs.PoolLines.{ArePoolLines, IsPoolLine}
 use Rattle.hp_base.specs.declared.pool_line.PoolLine.{PoolLine}
 use Rattle.hp_pool.specs.Pools.{pool_of}
 use Rattle.hp_pool.specs.declared.pool.Pool.{Pool}
 use Rattle.hp_segs.specs.Lists.{list_after, end_of, lists_from, lists_of}
-use Rattle.hp_segs.specs.Table.{ArePools, IsLine, IsPlaced, IsStamped, IsListRun}
+use Rattle.hp_segs.specs.Table.{IsPlaced, IsStamped, IsListRun}
 use Rattle.hp_segs.specs.TableLayout.{IsLaidOut, IsFitList, AddsLine, masks_from, pool_beside}
 use Rattle.hp_segs.specs.declared.list_info.ListInfo.{ListInfo}
 use Rattle.hp_segs.specs.Log.{run_in}
@@ -58,7 +59,7 @@ masks_clear n (info ∷ lists) =
     cc
 
 -- one list more ends not much later
-pub end_grows : (line : PoolLine) (end : ℕ) → IsLine line → end_of (list_after line end) ≤ end + 2 ^ 48
+pub end_grows : (line : PoolLine) (end : ℕ) → IsPoolLine line → end_of (list_after line end) ≤ end + 2 ^ 48
 end_grows line end is =
     let small = page_small line.page is.page in
     let bytes : line.slots * line.page ≤ 8192 * line.page = mul-le-mul_right line.page is.slots in
@@ -97,13 +98,13 @@ own_count old new line added =
     added.adds.this_pool ∙ ap (λ n. Some (record { socket = line.socket; page = line.page; pages = line.pages; free = n })) all
 
 pub made_more : {pools : List PoolLine} {i : ℕ} {lists : List ListInfo} {masks : List (List Bool)} {counts : List Pool} {end slots : ℕ}
-    (counts' : List Pool) (info : ListInfo) (d : PoolLine) → IsMade pools i lists masks counts end slots → ArePools pools → i < length pools
+    (counts' : List Pool) (info : ListInfo) (d : PoolLine) → IsMade pools i lists masks counts end slots → ArePoolLines pools → i < length pools
     → info ≡ list_after (get_or pools i d) end → AddsLine counts counts' (get_or pools i d)
     → IsMade pools (i + 1) (lists ++ info ∷ []) (masks ++ replicate info.slots false ∷ []) counts' (info.base + info.slots * info.page) (slots + info.slots)
 made_more {pools} {i} {lists} {masks} {counts} {end} {slots} counts' info d made limits within is added =
     let line : PoolLine = get_or pools i d in
     let more : take (i + 1) pools ≡ take i pools ++ line ∷ [] = rw add-one (take-suc pools i d within) in
-    let is_line : IsLine line = limits.lines i d within in
+    let is_line : IsPoolLine line = limits.lines i d within in
     let ends : info.base + info.slots * info.page ≡ end_of (list_after line end) = ap end_of is in
     let grows = end_grows line end is_line in
     let few = limits.few in
@@ -149,7 +150,7 @@ made_more {pools} {i} {lists} {masks} {counts} {end} {slots} counts' info d made
 
 -- the table of pools without a record
 pub laid_out_new : {pools : List PoolLine} {lists : List ListInfo} {masks : List (List Bool)} {counts : List Pool} {end slots : ℕ} (i room : ℕ)
-    → IsMade pools i lists masks counts end slots → ArePools pools → length pools ≤ i → slots ≤ room
+    → IsMade pools i lists masks counts end slots → ArePoolLines pools → length pools ≤ i → slots ≤ room
     → IsLaidOut pools lists masks counts [] [] room
 laid_out_new {pools} {lists} {masks} {counts} {end} {slots} i room made limits all fits =
     let whole : take i pools ≡ pools = take_all pools i all in

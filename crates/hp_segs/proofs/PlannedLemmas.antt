@@ -5,6 +5,7 @@ use Rattle.std.proofs.lemmas.Bool.{ltb-false, leb-false}
 use Rattle.std.proofs.lemmas.List.FromFn.{get_or-map-range_with_len}
 use Rattle.hp_base.specs.Pages.{is_page_size, pages_of}
 use Rattle.hp_base.specs.Place.{place_of}
+use Rattle.hp_base.specs.PoolLines.{ArePoolLines, IsPoolLine}
 use Rattle.hp_base.specs.declared.row.Row.{Row}
 use Rattle.hp_base.specs.declared.row.Run.{Run}
 use Rattle.hp_base.specs.declared.pool_line.PoolLine.{PoolLine}
@@ -15,7 +16,7 @@ use Rattle.hp_segs.specs.Lists.{lists_of, list_number, pages_beside, run_at}
 use Rattle.hp_segs.specs.Plan.{planned_in, planned_list, planned_slots, planned_alone, plan_of, IsFirstFor}
 use Rattle.hp_segs.specs.Rows.{at_slot, slots_of, IsUnusedRun}
 use Rattle.hp_segs.specs.SegsView.{SegsView, closed_number, rows_in}
-use Rattle.hp_segs.specs.Table.{ArePools, IsLine, IsListRun, HasPages}
+use Rattle.hp_segs.specs.Table.{IsListRun, HasPages}
 use Rattle.hp_segs.specs.declared.ask.Ask.{Ask}
 use Rattle.hp_segs.specs.declared.growth.Growth.{Growth}
 use Rattle.hp_segs.specs.declared.list_info.ListInfo.{ListInfo}
@@ -34,14 +35,14 @@ pub record IsPlanned (pools : List PoolLine) (rows : List Row) (ask : Ask) (run 
   pub unused : IsUnusedRun rows run
 
 -- the page size of a list is one of the eight
-pub list_page : (pools : List PoolLine) (list : ℕ) (info : ListInfo) → ArePools pools → slice_get (lists_of pools) list ≡ Some info
+pub list_page : (pools : List PoolLine) (list : ℕ) (info : ListInfo) → ArePoolLines pools → slice_get (lists_of pools) list ≡ Some info
     → IsTrue (is_page_size info.page)
 list_page pools list info limits here =
     let found = line_of_list pools list info here in
-    let line : IsLine found.line = at_place IsLine pools list found.line limits.lines found.its_line in
+    let line : IsPoolLine found.line = at_place IsPoolLine pools list found.line limits.lines found.its_line in
     subst (λ page. IsTrue (is_page_size page)) (sym found.alike.page) line.page
 
-module _ (pools : List PoolLine) (rows : List Row) (ask : Ask) (run : Run) (limits : ArePools pools) where
+module _ (pools : List PoolLine) (rows : List Row) (ask : Ask) (run : Run) (limits : ArePoolLines pools) where
   of_slot : (list : ℕ) (info : ListInfo) (first : ℕ) → list_number (lists_of pools) ask.socket ask.page ≡ Some list
       → slice_get (lists_of pools) list ≡ Some info → info.page ≡ ask.page
       → pages_of ask.request ask.page ≤ pages_beside pools rows list
@@ -116,13 +117,13 @@ module _ (pools : List PoolLine) (rows : List Row) (ask : Ask) (run : Run) (limi
   of_number (Some list) is plan = of_info list is (slice_get (lists_of pools) list) refl plan
 
 -- a plan beside rows is a planned run
-pub planned_is : (pools : List PoolLine) (rows : List Row) (ask : Ask) (run : Run) → ArePools pools
+pub planned_is : (pools : List PoolLine) (rows : List Row) (ask : Ask) (run : Run) → ArePoolLines pools
     → planned_in ask pools rows (list_number (lists_of pools) ask.socket ask.page) ≡ Ok run → IsPlanned pools rows ask run
 planned_is pools rows ask run limits plan =
     of_number pools rows ask run limits (list_number (lists_of pools) ask.socket ask.page) refl plan
 
 -- where the plan gives a run, that is the first of the pages asked
-pub first_if_ok : (pools : List PoolLine) (rows : List Row) (ask : Ask) (result : Result Run PlanRefusal) → ArePools pools
+pub first_if_ok : (pools : List PoolLine) (rows : List Row) (ask : Ask) (result : Result Run PlanRefusal) → ArePoolLines pools
     → result ≡ planned_in ask pools rows (list_number (lists_of pools) ask.socket ask.page) → IfOk result (IsFirstFor pools rows ask)
 first_if_ok pools rows ask (Ok run) limits plan = (planned_is pools rows ask run limits (sym plan)).first
 first_if_ok pools rows ask (Err refusal) limits plan = tt
@@ -133,7 +134,7 @@ pub record IsOpenPlan (segs : SegsView) (ask : Ask) (run : Run) : Type 0 where
   pub alone : segs.growth ≡ None
   pub planned : IsPlanned segs.pools (rows_in segs.segments) ask run
 
-open_alone : (segs : SegsView) (ask : Ask) (run : Run) (growth : Option Growth) → ArePools segs.pools → segs.growth ≡ growth
+open_alone : (segs : SegsView) (ask : Ask) (run : Run) (growth : Option Growth) → ArePoolLines segs.pools → segs.growth ≡ growth
     → closed_number segs.asks ask.from < ask.number → planned_alone ask segs growth ≡ Ok run → IsOpenPlan segs ask run
 open_alone segs ask run None limits alone above plan = record {
   above = above;
@@ -142,7 +143,7 @@ open_alone segs ask run None limits alone above plan = record {
 }
 open_alone segs ask run (Some growth) limits alone above plan = cc
 
-open_above : (segs : SegsView) (ask : Ask) (run : Run) (stale : Bool) → ArePools segs.pools
+open_above : (segs : SegsView) (ask : Ask) (run : Run) (stale : Bool) → ArePoolLines segs.pools
     → nat_le ask.number (closed_number segs.asks ask.from) ≡ stale
     → (if stale then Err (StaleAsk ask.number (closed_number segs.asks ask.from)) else planned_alone ask segs segs.growth) ≡ Ok run
     → IsOpenPlan segs ask run
@@ -150,6 +151,6 @@ open_above segs ask run true limits stale plan = cc
 open_above segs ask run false limits fresh plan =
     open_alone segs ask run segs.growth limits refl (leb-false ask.number (closed_number segs.asks ask.from) fresh) plan
 
-pub open_plan : (segs : SegsView) (ask : Ask) (run : Run) → ArePools segs.pools → plan_of ask segs ≡ Ok run → IsOpenPlan segs ask run
+pub open_plan : (segs : SegsView) (ask : Ask) (run : Run) → ArePoolLines segs.pools → plan_of ask segs ≡ Ok run → IsOpenPlan segs ask run
 open_plan segs ask run limits plan =
     open_above segs ask run (nat_le ask.number (closed_number segs.asks ask.from)) limits refl plan

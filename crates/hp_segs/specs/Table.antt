@@ -1,7 +1,7 @@
 -- The table of mapped segments, as the log leaves it, with the masks of the lists and the counts of the pools beside it.
-use Rattle.std.specs.Prelude.{◌≡◌, ℕ, ◌+◌, ◌*◌, ◌<◌, ◌≤◌, List, Some, IsTrue, slice_get, length, sum_by, count_by}
-use Rattle.std.specs.List.{All, AllPairs}
-use Rattle.hp_base.specs.Pages.{is_page_size}
+use Rattle.std.specs.Prelude.{◌≡◌, ℕ, ◌+◌, ◌*◌, ◌<◌, ◌≤◌, List, Some, slice_get, length, count_by}
+use Rattle.std.specs.List.{All}
+use Rattle.hp_base.specs.PoolLines.{ArePoolLines}
 use Rattle.hp_base.specs.declared.row.Row.{Row}
 use Rattle.hp_base.specs.declared.row.Run.{Run}
 use Rattle.hp_base.specs.declared.pool_line.PoolLine.{PoolLine}
@@ -11,25 +11,6 @@ use Rattle.hp_segs.specs.Lists.{lists_of, run_at, pages_beside, is_of_pool}
 use Rattle.hp_segs.specs.declared.list_info.ListInfo.{ListInfo}
 use Rattle.hp_segs.specs.declared.log_record.LogRecord.{LogRecord}
 use Rattle.hp_segs.specs.declared.row_state.Segment.{Segment}
-
--- a pool is within its limits: sockets below 32, a page size of the eight, at most 8,192 pages, and 1 to 8,192 slots
-pub record IsLine (line : PoolLine) : Type 0 where
-  pub socket : line.socket < 32
-  pub page : IsTrue (is_page_size line.page)
-  pub pages : line.pages ≤ 8192
-  pub some : 0 < line.slots
-  pub slots : line.slots ≤ 8192
-
--- two pools differ in socket or page size
-abbrev pub IsOtherPool : PoolLine → PoolLine → Type 0
-IsOtherPool line other = ¬ ((line.socket ≡ other.socket) × (line.page ≡ other.page))
-
--- at most 128 pools with at most 16,384 slots in all, no two of the same socket and page size
-pub record ArePools (pools : List PoolLine) : Type 0 where
-  pub few : length pools ≤ 128
-  pub lines : All IsLine pools
-  pub distinct : AllPairs IsOtherPool pools
-  pub slots : sum_by (λ line. line.slots) pools ≤ 16384
 
 -- the row is a slot of its list, at that slot's place
 pub record IsPlaced (lists : List ListInfo) (row : Row) : Type 0 where
@@ -59,7 +40,7 @@ pub record IsStamped (log : List LogRecord) (row : Row) : Type 0 where
 
 -- the rows are the table of the log, which is well formed; each is at a slot of its own, and no pool has more than its pages
 pub record IsTable (pools : List PoolLine) (log : List LogRecord) (rows : List Row) : Type 0 where
-  pub limits : ArePools pools
+  pub limits : ArePoolLines pools
   pub formed : IsWellFormed log
   pub listed : All (λ entry. IsListRun (lists_of pools) (run_in entry)) log
   pub table : rows ≡ table_of log

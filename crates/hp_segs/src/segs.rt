@@ -2,7 +2,7 @@
 ghost use Rattle.std.specs.Prelude.{◌≡◌, ◌≤◌, IfOk, OnErr, OnOk};
 ghost use Rattle.hp_segs.specs.Opening.{IsAbsent, opening};
 ghost use Rattle.hp_segs.specs.Steps.{after_reserve};
-ghost use Rattle.hp_segs.specs.Table.{ArePools};
+ghost use Rattle.hp_base.specs.PoolLines.{ArePoolLines};
 
 mod drops;
 mod growth;
@@ -64,7 +64,7 @@ impl Segs {
         participants: u8,
         absent: u16,
     ) -> Result<Segs, AllocError>
-        requires pools { ArePools pools.now }
+        requires pools { ArePoolLines pools.now }
         requires participants { IsAbsent participants absent }
         ensures { IfOk result (λ segs. segs ≡ opening pools.now participants absent) }
     {

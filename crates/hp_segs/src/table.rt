@@ -1,6 +1,7 @@
 //! The table of mapped segments, as the log leaves it.
 ghost use Rattle.std.specs.Prelude.{◌≡◌, ◌^◌, ◌<◌, ◌≤◌, [], IfOk, OnOk};
-ghost use Rattle.hp_segs.specs.Table.{ArePools, IsLine, IsTable};
+ghost use Rattle.hp_base.specs.PoolLines.{ArePoolLines, IsPoolLine};
+ghost use Rattle.hp_segs.specs.Table.{IsTable};
 ghost use Rattle.hp_segs.specs.Lists.{list_after};
 ghost use Rattle.hp_segs.specs.SegsView.{rows_in};
 ghost use Rattle.hp_segs.specs.TableLayout.{AddsLine};
@@ -58,7 +59,7 @@ impl Model for Table {
 
 // The list of a pool: from the first multiple of its page size at or above the end of the list before.
 fn list_after(line: &PoolLine, end: u64) -> ListInfo
-    requires line { IsLine line.now }
+    requires line { IsPoolLine line.now }
     requires end { end < 2 ^ 62 }
     ensures { result ≡ list_after line.now end }
 {
@@ -83,7 +84,7 @@ fn add_pool(counts: &mut Pools, line: &PoolLine) -> Result<(), AllocError>
 impl Table {
     // The table of pools without a record.
     pub(crate) fn new(alloc: Global, pools: &[PoolLine]) -> Result<Table, AllocError>
-        requires { ArePools pools.now }
+        requires { ArePoolLines pools.now }
         ensures pools { IfOk result (λ table. table.pools ≡ pools.now) }
         ensures log { IfOk result (λ table. table.log ≡ []) }
         ensures segments { IfOk result (λ table. table.segments ≡ []) }

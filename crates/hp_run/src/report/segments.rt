@@ -2,7 +2,7 @@
 ghost use Rattle.std.specs.Prelude.{◌≡◌, ◌+◌, ◌*◌, ◌<◌, ◌^◌, ◌++◌, [], OnOk, string_bytes};
 ghost use Rattle.std.specs.Option.{option_map_or};
 ghost use Rattle.hp_segs.specs.Lists.{end_of, lists_of};
-ghost use Rattle.hp_segs.specs.Table.{ArePools};
+ghost use Rattle.hp_base.specs.PoolLines.{ArePoolLines};
 ghost use Rattle.hp_run.specs.SegmentTexts.{segments_text, pools_text, lists_text, all_used_text, used_text, segment_line};
 
 use super::pool_text::{ListText, PoolText};
@@ -13,7 +13,7 @@ use std::alloc::{AllocError, Global};
 
 /// Writes the pools with their pages left, the lists, and the used segments list by list and by rising slot.
 pub fn write_segments(alloc: Global, text: &mut String, segs: &Segs) -> Result<(), AllocError>
-    requires limits { ArePools segs.now.pools }
+    requires limits { ArePoolLines segs.now.pools }
     ensures { OnOk result (string_bytes text.new ≡ string_bytes text.old ++ segments_text segs.now) }
 {
     write_pools(text, segs)?;
@@ -50,7 +50,7 @@ fn write_lists(text: &mut String, lists: &[ListInfo]) -> Result<(), AllocError>
 
 // The used segments, list by list.
 fn write_used(alloc: Global, text: &mut String, segs: &Segs) -> Result<(), AllocError>
-    requires limits { ArePools segs.now.pools }
+    requires limits { ArePoolLines segs.now.pools }
     ensures { OnOk result (string_bytes text.new
         ≡ string_bytes text.old ++ all_used_text segs.now.segments 0 (lists_of segs.now.pools)) }
 {
