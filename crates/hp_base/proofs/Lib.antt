@@ -3,6 +3,7 @@ pub mod Powers
 pub mod ClassLemmas
 pub mod Places
 pub mod PageLemmas
+pub mod MemoryLemmas
 pub mod NameLemmas
 pub mod RequestLemmas
 pub mod StreamLemmas

@@ -1,8 +1,9 @@
--- Laws of classes, rounding and places over all numbers, which docs/HEAP.md states under these headings.
-use Rattle.std.specs.Prelude.{◌≡◌, ◌↔◌, ℕ, ◌%◌, ◌≤◌, MatchOption}
+-- Laws of classes, rounding, places and external memory over all numbers, which docs/HEAP.md states under these headings.
+use Rattle.std.specs.Prelude.{◌≡◌, ◌↔◌, ℕ, ◌%◌, ◌≤◌, false, MatchOption}
 use Rattle.hp_base.specs.Class.{IsClassOf, class_number}
 use Rattle.hp_base.specs.Round.{floor_of, ceil_of}
 use Rattle.hp_base.specs.Place.{IsPlace, HasNoPlace, place_of}
+use Rattle.hp_base.specs.ExternalMemory.{IsExternalMemory, is_bad_range}
 use Rattle.hp_base.specs.declared.request.Request.{Request}
 
 -- the computed class of a size is its class, and its only one ("Size classes")
@@ -36,3 +37,7 @@ pub record Rounds (n unit : ℕ) : Type 0 where
 abbrev pub ComputesPlace : Type 0
 ComputesPlace = (start end : ℕ) (request : Request)
     → MatchOption (place_of start end request) (HasNoPlace start end request) (IsPlace start end request)
+
+-- memory is judged good exactly where it may be external memory ("External memory")
+abbrev pub JudgesMemory : Type 0
+JudgesMemory = (addr len page : ℕ) → (is_bad_range addr len page ≡ false) ↔ IsExternalMemory addr len page

@@ -4,6 +4,7 @@ pub mod Requests
 pub mod Place
 pub mod Pages
 pub mod PoolLines
+pub mod ExternalMemory
 pub mod Names
 pub mod Streams
 pub mod MemStreams

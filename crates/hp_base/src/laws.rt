@@ -1,5 +1,5 @@
 ghost use Rattle.std.specs.Prelude.{ℕ, ◌<◌};
-ghost use Rattle.hp_base.specs.Laws.{ComputesClass, ClassesRise, Rounds, ComputesPlace};
+ghost use Rattle.hp_base.specs.Laws.{ComputesClass, ClassesRise, Rounds, ComputesPlace, JudgesMemory};
 
 /// Each size has one class, which the computed number is, and the classes rise with the sizes. This law and the
 /// others here are proved of all numbers; their functions have no code.
@@ -16,4 +16,9 @@ pub fn rounding_law()
 /// The place of an accepted request, as it is computed from the end of a range, is the greatest address with room.
 pub fn place_law()
     ensures { ComputesPlace }
+{}
+
+/// Memory that isn't judged bad is the memory that may be external memory.
+pub fn memory_law()
+    ensures { JudgesMemory }
 {}

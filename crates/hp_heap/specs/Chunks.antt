@@ -1,7 +1,7 @@
 -- Chunks, and the marks of the participants that have attached them: the rule "External memory" of docs/HEAP.md.
-use Rattle.std.specs.Prelude.{◌≡◌, ◌≢◌, ℕ, ◌+◌, ◌-◌, ◌%◌, ◌^◌, ◌<◌, ◌≤◌, Bool, true, not, IsTrue, Contains, count_by, ◌&&◌, ◌==◌, nat_lt, List, ◌∷◌, ◌++◌, map, Option, Some, None, if◌then◌else◌}
+use Rattle.std.specs.Prelude.{◌≡◌, ◌≢◌, ℕ, ◌+◌, ◌-◌, ◌^◌, ◌<◌, ◌≤◌, Bool, true, not, Contains, count_by, ◌&&◌, ◌==◌, nat_lt, List, ◌∷◌, ◌++◌, map, Option, Some, None, if◌then◌else◌}
 use Rattle.std.specs.List.{filter, find, AllByRecursion}
-use Rattle.std.specs.Int.{is_power_of_two}
+use Rattle.hp_base.specs.ExternalMemory.{IsExternalMemory}
 use Rattle.hp_base.specs.declared.span.Span.{Span}
 use Rattle.hp_base.specs.declared.chunk.Chunk.{Chunk}
 use Rattle.hp_heap.specs.PlainHeap.{PlainHeap, free_range, is_free, segments_of}
@@ -62,20 +62,10 @@ after_share participant addr len heap = with_marks (with_mark participant) addr 
 unfoldable pub after_unshare : ℕ → ℕ → ℕ → PlainHeap → PlainHeap
 after_unshare participant addr len heap = with_marks (without_mark participant) addr len heap
 
--- memory for a chunk: whole pages of a power of two from 4,096 to 2^34 bytes, in the lower half of the addresses
-pub record IsChunkMemory (chunk : Chunk) : Type 0 where
-  pub power : IsTrue (is_power_of_two chunk.page)
-  pub least : 4096 ≤ chunk.page
-  pub greatest : chunk.page ≤ 2 ^ 34
-  pub aligned : chunk.addr % chunk.page ≡ 0
-  pub whole : chunk.len % chunk.page ≡ 0
-  pub some : 0 < chunk.len
-  pub end : chunk.addr + chunk.len ≤ 2 ^ 63
-
 -- a chunk may come to a heap for external memory: without marks, with a list of its own, and no byte of it is in the heap
 pub record CanAddChunk (heap : PlainHeap) (chunk : Chunk) : Type 0 where
   pub external : heap.serves ≡ None
-  pub memory : IsChunkMemory chunk
+  pub memory : IsExternalMemory chunk.addr chunk.len chunk.page
   pub unmarked : chunk.attached ≡ 0
   pub own_list : AllByRecursion (λ other. other.list ≢ chunk.list) heap.chunks
   pub fresh : (byte : ℕ) → chunk.addr ≤ byte → byte < chunk.addr + chunk.len

@@ -1,12 +1,12 @@
 -- External memory within its limits.
-use Rattle.std.proofs.Common.{◌≡◌, ◌==◌, nat_lt, ℕ, zero, suc, ◌+◌, ◌/◌, ◌%◌, ◌^◌, ◌<◌, ◌≤◌, Bool, true, false, not, List, [], ◌∷◌, ◌++◌, length, filter, Option, Some, None, Ok, Err, refl, ap, ◌∙◌, subst, arith, sum_by, if◌then◌else◌}
-use Rattle.std.specs.Int.{is_power_of_two}
+use Rattle.std.proofs.Common.{◌≡◌, nat_lt, ℕ, zero, suc, ◌+◌, ◌/◌, ◌<◌, ◌≤◌, Bool, true, false, not, List, [], ◌∷◌, ◌++◌, length, filter, Option, Some, None, Ok, Err, refl, ap, ◌∙◌, subst, arith, sum_by, if◌then◌else◌}
 use Rattle.std.specs.List.{All, range_with_len}
 use Rattle.std.proofs.lemmas.Bool.{or_parts, ltb-false}
 use Rattle.std.proofs.lemmas.List.Elements.{All-push, All-filter, All-nil, All-cons}
 use Rattle.std.proofs.lemmas.List.Sums.{sum_by_push}
 use Rattle.std.proofs.lemmas.List.Filters.{sum_by-filter_both}
-use Rattle.hp_segs.specs.Ranges.{is_bad_range, range_segments, range_plan, range_apart, range_list, overlap_of, free_number, is_free_number, is_too_much, segment_count}
+use Rattle.hp_segs.specs.Ranges.{range_segments, range_plan, range_apart, range_list, overlap_of, free_number, is_free_number, is_too_much, segment_count}
+use Rattle.hp_base.specs.ExternalMemory.{is_bad_range}
 use Rattle.hp_base.specs.declared.pool_line.PoolLine.{PoolLine}
 use Rattle.hp_base.specs.declared.row.Row.{Row}
 use Rattle.hp_base.specs.declared.row.Run.{Run}
@@ -20,26 +20,6 @@ use Rattle.hp_segs.specs.declared.fault.RangeFault.TheVariants.{BadRange, NoSpac
 use Rattle.hp_segs.proofs.ClaimLemmas.{found_has}
 use Rattle.hp_segs.specs.Sound.{IsRange, AreRanges}
 use Rattle.hp_segs.specs.declared.external_range.ExternalRange.{ExternalRange}
-
--- good pages of external memory
-pub record IsGood (addr len page : ℕ) : Type 0 where
-  pub page_low : 4096 ≤ page
-  pub page_high : page ≤ 2 ^ 34
-  pub end : addr + len ≤ 2 ^ 63
-
-pub good_is : (addr len page : ℕ) → is_bad_range addr len page ≡ false → IsGood addr len page
-good_is addr len page good =
-    let power = or_parts (not (is_power_of_two page)) _ good in
-    let low = or_parts (nat_lt page 4096) _ power.1 in
-    let high = or_parts (nat_lt (2 ^ 34) page) _ low.1 in
-    let whole_addr = or_parts (not (addr % page == 0)) _ high.1 in
-    let whole_len = or_parts (not (len % page == 0)) _ whole_addr.1 in
-    let ends = or_parts (len == 0) (nat_lt (2 ^ 63) (addr + len)) whole_len.1 in
-    record {
-      page_low = ltb-false page 4096 low.0;
-      page_high = ltb-false (2 ^ 34) page high.0;
-      end = ltb-false (2 ^ 63) (addr + len) ends.1;
-    }
 
 -- a range that gets a list is good, has a number below 128, and leaves all segments few
 pub record IsPlannedRange (segs : SegsView) (addr len page list : ℕ) : Type 0 where

@@ -1,8 +1,8 @@
 -- External memory: which ranges get a list, and which rows they have.
-use Rattle.std.specs.Prelude.{◌≡◌, ◌⊎◌, ℕ, ◌+◌, ◌-◌, ◌*◌, ◌/◌, ◌%◌, ◌^◌, max, Bool, not, ◌&&◌, ◌||◌, ◌==◌, nat_lt, nat_le, List, [], ◌∷◌, ◌++◌, map, length, filter, find, Option, Some, None, Result, Ok, Err, if◌then◌else◌, sum_by, unwrap_or}
+use Rattle.std.specs.Prelude.{◌≡◌, ◌⊎◌, ℕ, ◌+◌, ◌-◌, ◌*◌, ◌/◌, max, Bool, not, ◌&&◌, ◌||◌, ◌==◌, nat_lt, nat_le, List, [], ◌∷◌, ◌++◌, map, length, filter, find, Option, Some, None, Result, Ok, Err, if◌then◌else◌, sum_by, unwrap_or}
 use Rattle.std.specs.List.{fold, list_any, range_with_len, enumerate_from}
 use Rattle.std.specs.Option.{option_map, option_or}
-use Rattle.std.specs.Int.{is_power_of_two}
+use Rattle.hp_base.specs.ExternalMemory.{is_bad_range}
 use Rattle.hp_base.specs.declared.row.Row.{Row}
 use Rattle.hp_segs.specs.Rows.{row_contains, at_slot}
 use Rattle.hp_segs.specs.Lists.{lists_of}
@@ -11,13 +11,6 @@ use Rattle.hp_segs.specs.declared.list_info.ListInfo.{ListInfo}
 use Rattle.hp_segs.specs.declared.external_range.ExternalRange.{ExternalRange}
 use Rattle.hp_segs.specs.declared.fault.RangeFault.{RangeFault}
 use Rattle.hp_segs.specs.declared.fault.RangeFault.TheVariants.{BadRange, Overlaps, NoSpace, OutOfMemory}
-
--- no page size, address and length of external memory: the page size is no power of two from 4,096 to 2^34, the address or the
--- length is not in whole pages, the length is 0, or the end lies above 2^63
-abbrev pub is_bad_range : ℕ → ℕ → ℕ → Bool
-is_bad_range addr len page =
-    not (is_power_of_two page) || (nat_lt page 4096 || (nat_lt (2 ^ 34) page
-    || (not (addr % page == 0) || (not (len % page == 0) || ((len == 0) || nat_lt (2 ^ 63) (addr + len))))))
 
 -- the list of a range
 abbrev pub info_of : ExternalRange → ListInfo

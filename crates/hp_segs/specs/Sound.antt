@@ -2,6 +2,7 @@
 use Rattle.std.specs.Prelude.{◌≡◌, ℕ, ◌+◌, ◌-◌, ◌/◌, ◌<◌, ◌≤◌, Bool, false, ◌&&◌, ◌==◌, nat_le, nat_lt, List, [], ◌++◌, length, map, Option, Some, None, IfSome, IsTrue, slice_get, count_by, sum_by}
 use Rattle.std.specs.List.{All, list_any}
 use Rattle.std.specs.Option.{option_map, option_to_list}
+use Rattle.hp_base.specs.ExternalMemory.{is_bad_range}
 use Rattle.hp_base.specs.declared.row.Row.{Row}
 use Rattle.hp_base.specs.declared.row.Run.{Run}
 use Rattle.hp_base.specs.declared.pool_line.PoolLine.{PoolLine}
@@ -9,7 +10,7 @@ use Rattle.hp_segs.specs.Rows.{in_run, rows_of, IsUsedRun}
 use Rattle.hp_segs.specs.Lists.{lists_of}
 use Rattle.hp_segs.specs.Log.{IsAddFor}
 use Rattle.hp_segs.specs.SegsView.{SegsView, rows_in, grants_or_refuses, is_opened, is_retiring, is_unanswered, run_of}
-use Rattle.hp_segs.specs.Ranges.{is_bad_range, range_segments}
+use Rattle.hp_segs.specs.Ranges.{range_segments}
 use Rattle.hp_segs.specs.Machine.{unopened}
 use Rattle.hp_segs.specs.Causes.{AllCaused}
 use Rattle.hp_segs.specs.Plan.{IsFirstFor}
