@@ -8,7 +8,9 @@ use Rattle.std.proofs.lemmas.Nat.{pow_pos}
 use Rattle.hp_base.specs.Round.{ceil_of}
 use Rattle.hp_base.specs.Place.{HasRoom, computed_address}
 use Rattle.hp_base.specs.Pages.{is_page_size, page_sizes, pages_of, HoldsRequest}
+use Rattle.hp_base.specs.declared.page_size.TheConstants.{GREATEST_PAGE}
 use Rattle.hp_base.specs.declared.request.Request.{Request}
+use Rattle.hp_base.specs.declared.round.TheConstants.{HEADER}
 use Rattle.hp_base.proofs.Rounding.{multiple_is, ceil_above, ceil_aligned, ceil_least}
 use Rattle.hp_base.proofs.Powers.{power_of, multiple_of_power}
 use Rattle.hp_base.proofs.Places.{computed, is_roomy-from, roomy_is_place}
@@ -26,7 +28,7 @@ of_listed P n (m ∷ numbers) (here, rest) is = elim (or_cases (m == n) (list_an
 ]
 
 abbrev IsPage : ℕ → Type 0
-IsPage page = IsPowerOfTwo page × (page ≤ 2 ^ 34)
+IsPage page = IsPowerOfTwo page × (page ≤ GREATEST_PAGE)
 
 -- a page size is a power of two up to the greatest
 pub page_is_power : (page : ℕ) → IsTrue (is_page_size page) → IsPage page
@@ -48,21 +50,21 @@ pub page_pos : (page : ℕ) → IsTrue (is_page_size page) → 0 < page
 page_pos page is = let ((exponent, power), _) = page_is_power page is in subst (λ (n : ℕ). 0 < n) (sym power) (pow_pos exponent)
 
 -- a multiple of the greatest page size is one of each
-of_greatest : (page n : ℕ) → IsTrue (is_page_size page) → n % 2 ^ 34 ≡ 0 → n % page ≡ 0
+of_greatest : (page n : ℕ) → IsTrue (is_page_size page) → n % GREATEST_PAGE ≡ 0 → n % page ≡ 0
 of_greatest page n is aligned =
     let (power, at_most) = page_is_power page is in
-    let (m, greatest_is) = multiple_of_power page (2 ^ 34) power (34, refl) at_most in
-    let as_multiple : (n / 2 ^ 34 * m) * page ≡ n =
-    mul_assoc (n / 2 ^ 34) m page ∙ ap (λ (greatest : ℕ). n / 2 ^ 34 * greatest) (sym greatest_is) ∙ multiple_is n (2 ^ 34) aligned in
-    subst (λ (k : ℕ). k % page ≡ 0) as_multiple (mul-mod_left (n / 2 ^ 34 * m) page)
+    let (m, greatest_is) = multiple_of_power page GREATEST_PAGE power (34, refl) at_most in
+    let as_multiple : (n / GREATEST_PAGE * m) * page ≡ n =
+    mul_assoc (n / GREATEST_PAGE) m page ∙ ap (λ (greatest : ℕ). n / GREATEST_PAGE * greatest) (sym greatest_is) ∙ multiple_is n GREATEST_PAGE aligned in
+    subst (λ (k : ℕ). k % page ≡ 0) as_multiple (mul-mod_left (n / GREATEST_PAGE * m) page)
 
 -- the bytes of the pages asked are a number of 64 bits
 pub pages_bytes : (request : Request) (page : ℕ) → IsTrue (is_page_size page) → pages_of request page * page < 2 ^ 64
 unfolding pages_of
 pages_bytes request page is =
-    let need : ℕ = ceil_of request.size request.align + 128 in
-    let least : ceil_of need page ≤ ceil_of need (2 ^ 34) =
-    ceil_least need page (ceil_of need (2 ^ 34)) (page_pos page is) (of_greatest page (ceil_of need (2 ^ 34)) is (ceil_aligned need (2 ^ 34))) (ceil_above need (2 ^ 34) (omega arith)) in
+    let need : ℕ = ceil_of request.size request.align + HEADER in
+    let least : ceil_of need page ≤ ceil_of need GREATEST_PAGE =
+    ceil_least need page (ceil_of need GREATEST_PAGE) (page_pos page is) (of_greatest page (ceil_of need GREATEST_PAGE) is (ceil_aligned need GREATEST_PAGE)) (ceil_above need GREATEST_PAGE (omega arith)) in
     omega (arith, least, request.accepted.fits)
 
 -- a difference of multiples is a multiple
@@ -89,7 +91,7 @@ room_in_pages request page start is unbound at_most aligned =
     let (power, _) = page_is_power page is in
     let (m, page_is) = multiple_of_power request.align page (power_of request.align request.accepted.power) power at_most in
     let aligns : 0 < request.align = omega (arith, request.accepted.line) in
-    let holds : ceil_of request.size request.align + 128 ≤ pages_of request page * page = ceil_above (ceil_of request.size request.align + 128) page (page_pos page is) in
+    let holds : ceil_of request.size request.align + HEADER ≤ pages_of request page * page = ceil_above (ceil_of request.size request.align + HEADER) page (page_pos page is) in
     let rounded : request.size ≤ ceil_of request.size request.align = ceil_above request.size request.align aligns in
     record {
       aligned = difference_aligned (start + pages_of request page * page) (ceil_of request.size request.align) request.align

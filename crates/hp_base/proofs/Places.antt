@@ -8,6 +8,7 @@ use Rattle.std.specs.Prelude.{nat_le}
 use Rattle.hp_base.specs.Round.{floor_of}
 use Rattle.hp_base.specs.Place.{last_address, lowered_end, computed_address, is_one_block, is_roomy, HasRoom, IsPlace, HasNoPlace, place_of}
 use Rattle.hp_base.specs.declared.request.Request.{Request}
+use Rattle.hp_base.specs.declared.round.TheConstants.{HEADER}
 use Rattle.hp_base.proofs.Rounding.{floor_below, floor_above, floor_aligned, floor_greatest, quotient_is}
 use Rattle.hp_base.proofs.Powers.{multiple_of_power, power_of}
 
@@ -128,18 +129,18 @@ module _ (start end : ℕ) (request : Request) where
 
   -- an address with room has room's tests
   pub is_roomy-from : (address : ℕ) → HasRoom start end request address → is_roomy start end request address ≡ true
-  is_roomy-from address room = and_from (nat_le (start + 128) address) (nat_le (address + request.size) end && is_one_block request.bound address (address + request.size))
-      (le-leb (start + 128) address room.behind)
+  is_roomy-from address room = and_from (nat_le (start + HEADER) address) (nat_le (address + request.size) end && is_one_block request.bound address (address + request.size))
+      (le-leb (start + HEADER) address room.behind)
       (and_from (nat_le (address + request.size) end) (is_one_block request.bound address (address + request.size))
       (le-leb (address + request.size) end room.before) (one_block_is request.bound address (address + request.size) room.block))
 
   pub HasRoom-from : (address : ℕ) → address % request.align ≡ 0 → is_roomy start end request address ≡ true → HasRoom start end request address
   HasRoom-from address aligned is =
-      let (behind, rest) = and_parts (nat_le (start + 128) address) (nat_le (address + request.size) end && is_one_block request.bound address (address + request.size)) is in
+      let (behind, rest) = and_parts (nat_le (start + HEADER) address) (nat_le (address + request.size) end && is_one_block request.bound address (address + request.size)) is in
       let (before, block) = and_parts (nat_le (address + request.size) end) (is_one_block request.bound address (address + request.size)) rest in
       record {
         aligned = aligned;
-        behind = leb-true (start + 128) address behind;
+        behind = leb-true (start + HEADER) address behind;
         before = leb-true (address + request.size) end before;
         block = is_one_block-tells request.bound address (address + request.size) block;
       }

@@ -9,6 +9,7 @@ use Rattle.std.proofs.Math.Nat.{div-add-mod'}
 use Rattle.std.specs.Prelude.{bit_and}
 use Rattle.hp_base.specs.Round.{floor_of}
 use Rattle.hp_base.specs.Requests.{is_align}
+use Rattle.hp_base.specs.declared.round.TheConstants.{LINE}
 
 below_power : (n : ℕ) → n < 2 ^ n
 below_power zero = omega arith
@@ -22,7 +23,7 @@ none_of_zero : ones 0 ≡ 0
 unfolding ones
 none_of_zero = refl
 
-pub line_is_power : IsTrue (is_power_of_two 64)
+pub line_is_power : IsTrue (is_power_of_two LINE)
 unfolding ones
 line_is_power = refl
 
@@ -59,15 +60,15 @@ multiple_of_power a b (i, a_is) (j, b_is) at_most =
     let bound : 2 ^ i ≤ 2 ^ j = omega (arith, a_is, b_is) in
     (2 ^ (j - i), b_is ∙ powers_divide i j bound ∙ ap (λ (m : ℕ). 2 ^ (j - i) * m) (sym a_is))
 
-above_is_power : (align : ℕ) → 64 < align → IsTrue (is_align align) → IsTrue (is_power_of_two align)
+above_is_power : (align : ℕ) → LINE < align → IsTrue (is_align align) → IsTrue (is_power_of_two align)
 above_is_power align above is = elim (or_cases (align == 0) (is_power_of_two align) is) [
   | inl is_zero ↦ absurd (omega (arith, eqb-true align 0 is_zero))
   | inr power ↦ power
 ]
 
-pub raised_is_power : (align : ℕ) → IsTrue (is_align align) → IsTrue (is_power_of_two (max align 64))
+pub raised_is_power : (align : ℕ) → IsTrue (is_align align) → IsTrue (is_power_of_two (max align LINE))
 raised_is_power align is =
-    elim (cases_lt 64 align) [
+    elim (cases_lt LINE align) [
       | inl above ↦ subst (λ (m : ℕ). IsTrue (is_power_of_two m)) (sym (max-eq_left (omega arith))) (above_is_power align above is)
       | inr below ↦ subst (λ (m : ℕ). IsTrue (is_power_of_two m)) (sym (max-eq_right below)) line_is_power
     ]

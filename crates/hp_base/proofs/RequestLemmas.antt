@@ -5,6 +5,7 @@ use Rattle.std.proofs.lemmas.Bool.{leb-false}
 use Rattle.std.specs.Int.{is_power_of_two}
 use Rattle.hp_base.specs.Round.{ceil_of, fitting}
 use Rattle.hp_base.specs.Requests.{IsAccepted, is_align, is_bound, bytes_asked, rounded_size, raised_align}
+use Rattle.hp_base.specs.declared.round.TheConstants.{LINE}
 use Rattle.hp_base.proofs.Rounding.{ceil_above, ceil_aligned}
 use Rattle.hp_base.proofs.Powers.{raised_is_power}
 
@@ -25,10 +26,10 @@ pub accepted_is : (size rounded align raised bound : ℕ) → 0 < size → Some 
     → is_align align ≡ true → is_bound rounded bound ≡ true → (is_align align && nat_le (2 ^ 64) (bytes_asked rounded (raised_align align))) ≡ false
     → IsAccepted rounded raised bound
 accepted_is size rounded align raised bound some rounds raises power block fits =
-    let is : rounded ≡ ceil_of size 64 = fitting_is (ceil_of size 64) rounded rounds in
+    let is : rounded ≡ ceil_of size LINE = fitting_is (ceil_of size LINE) rounded rounds in
     record {
-      some = omega (arith, is, ceil_above size 64 (omega arith));
-      lines = subst (λ (n : ℕ). n % 64 ≡ 0) (sym is) (ceil_aligned size 64);
+      some = omega (arith, is, ceil_above size LINE (omega arith));
+      lines = subst (λ (n : ℕ). n % LINE ≡ 0) (sym is) (ceil_aligned size LINE);
       power = subst (λ (n : ℕ). IsTrue (is_power_of_two n)) (sym raises) (raised_is_power align power);
       line = omega (arith, raises);
       block = block;

@@ -2,13 +2,14 @@
 use Rattle.std.specs.Prelude.{◌≡◌, ℕ, ◌+◌, ◌-◌, ◌/◌, ◌%◌, ◌<◌, ◌≤◌, Bool, ◌&&◌, ◌||◌, ◌==◌, nat_le, Option, Some, None, if◌then◌else◌}
 use Rattle.hp_base.specs.Round.{floor_of}
 use Rattle.hp_base.specs.declared.request.Request.{Request}
+use Rattle.hp_base.specs.declared.round.TheConstants.{HEADER}
 
 -- the data of a request may begin at an address of the range from start to end ("Place")
 pub record HasRoom (start end : ℕ) (request : Request) (address : ℕ) : Type 0 where
   -- at its alignment
   pub aligned : address % request.align ≡ 0
   -- behind a header
-  pub behind : start + 128 ≤ address
+  pub behind : start + HEADER ≤ address
   -- before the end
   pub before : address + request.size ≤ end
   -- in one block of its bound
@@ -44,7 +45,7 @@ computed_address end request = last_address (lowered_end end request) request.si
 -- whether an address has room ("Place")
 abbrev pub is_roomy : ℕ → ℕ → Request → ℕ → Bool
 is_roomy start end request address =
-    nat_le (start + 128) address
+    nat_le (start + HEADER) address
     && (nat_le (address + request.size) end && is_one_block request.bound address (address + request.size))
 
 -- the computed place: the address computed from the end, if it has room ("Place")

@@ -2,6 +2,7 @@ use Rattle.std.proofs.Common.{◌≡◌, ℕ, ◌+◌, ◌*◌, ◌^◌, ◌<◌
 use Rattle.std.specs.Int.{div_ceil}
 use Rattle.hp_base.specs.Round.{ceil_of}
 use Rattle.hp_base.specs.Pages.{pages_of, HoldsRequest}
+use Rattle.hp_base.specs.declared.round.TheConstants.{HEADER}
 use Rattle.hp_base.proofs.RequestLemmas.{fitting_is}
 use Rattle.hp_base.proofs.PageLemmas.{pages_of-holds, pages_bytes}
 use Rattle.hp_base.proofs.page_size.pages_for.Goals as goal
@@ -11,7 +12,7 @@ unfolding pages_of
 returns c =
     let rounded : c.unwrap-data.result ≡ ceil_of c.args.req.now.size c.args.req.now.align =
     fitting_is (ceil_of c.args.req.now.size c.args.req.now.align) c.unwrap-data.result (sym c.unwrap-data.ensures ∙ c.align_ceil.ensures) in
-    let number : c.div_ceil.result ≡ pages_of c.args.req.now c.args.page = c.div_ceil.ensures ∙ ap (λ (n : ℕ). div_ceil (n + 128) c.args.page) rounded in
+    let number : c.div_ceil.result ≡ pages_of c.args.req.now c.args.page = c.div_ceil.ensures ∙ ap (λ (n : ℕ). div_ceil (n + HEADER) c.args.page) rounded in
     record {
       number = number;
       enough = λ unbound at_most. subst (λ (count : ℕ). HoldsRequest c.args.req.now c.args.page count) (sym number)
