@@ -1,10 +1,20 @@
--- Laws of classes, rounding, places and external memory over all numbers, which docs/HEAP.md states under these headings.
-use Rattle.std.specs.Prelude.{◌≡◌, ◌↔◌, ℕ, ◌%◌, ◌≤◌, false, MatchOption}
+-- Laws of numbers, classes, rounding, places and external memory, which docs/HEAP.md states under these headings.
+use Rattle.std.specs.Prelude.{◌≡◌, ◌↔◌, ℕ, ◌%◌, ◌^◌, ◌≤◌, false, MatchOption}
 use Rattle.hp_base.specs.Class.{IsClassOf, class_number}
 use Rattle.hp_base.specs.Round.{floor_of, ceil_of}
 use Rattle.hp_base.specs.Place.{IsPlace, HasNoPlace, place_of}
 use Rattle.hp_base.specs.ExternalMemory.{IsExternalMemory, is_bad_range}
+use Rattle.hp_base.specs.Pages.{page_sizes}
+use Rattle.hp_base.specs.declared.page_size.TheConstants.{GREATEST_PAGE, PAGE_SIZES}
 use Rattle.hp_base.specs.declared.request.Request.{Request}
+use Rattle.hp_base.specs.declared.round.TheConstants.{HEADER, LINE}
+
+-- the constants of the code are the numbers of the rules ("Requests", "Pages asked")
+pub record HasNumbers : Type 0 where
+  pub line : LINE ≡ 64
+  pub header : HEADER ≡ 128
+  pub sizes : PAGE_SIZES ≡ page_sizes
+  pub greatest : GREATEST_PAGE ≡ 2 ^ 34
 
 -- the computed class of a size is its class, and its only one ("Size classes")
 abbrev pub ComputesClass : Type 0

@@ -1,5 +1,5 @@
 ghost use Rattle.std.specs.Prelude.{ℕ, ◌<◌};
-ghost use Rattle.hp_base.specs.Laws.{ComputesClass, ClassesRise, Rounds, ComputesPlace, JudgesMemory};
+ghost use Rattle.hp_base.specs.Laws.{HasNumbers, ComputesClass, ClassesRise, Rounds, ComputesPlace, JudgesMemory};
 
 /// Each size has one class, which the computed number is, and the classes rise with the sizes. This law and the
 /// others here are proved of all numbers; their functions have no code.
@@ -21,4 +21,10 @@ pub fn place_law()
 /// Memory that isn't judged bad is the memory that may be external memory.
 pub fn memory_law()
     ensures { JudgesMemory }
+{}
+
+/// The constants are the numbers of the rules: a cache line of 64 bytes, a header of 128, the eight page sizes, and the
+/// greatest of them.
+pub fn numbers_law()
+    ensures { HasNumbers }
 {}

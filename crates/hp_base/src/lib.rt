@@ -26,7 +26,7 @@ mod tests;
 pub use chunk::Chunk;
 pub use class::class_of;
 pub use data_place::place;
-pub use laws::{class_law, memory_law, place_law, rounding_law};
+pub use laws::{class_law, memory_law, numbers_law, place_law, rounding_law};
 pub use map_answer::MapAnswer;
 pub use name::Name;
 pub use page_size::{GREATEST_PAGE, PAGE_SIZES, is_page_size, pages_for};

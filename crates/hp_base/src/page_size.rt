@@ -4,9 +4,9 @@ ghost use Rattle.hp_base.specs.Pages.{is_page_size, pages_of, HoldsRequest};
 use crate::request::Request;
 use crate::round::{HEADER, align_ceil};
 
-/// The sizes of a hugepage, in bytes, ascending: 256K, 2M, 16M, 256M, 512M, 1G, 4G and 16G. The pages of pools and of
-/// segment lists have no other size, and a heap asks for memory in this order. After DPDK's hugepage sizes on Linux,
-/// as the RTE_MEMZONE_ flags of rte_memzone name them; the order is own.
+/// The sizes of a hugepage, in bytes, ascending: 256K, 2M, 16M, 256M, 512M, 1G, 4G and 16G. Pools and their segment
+/// lists have pages of these sizes alone; external memory may have others. After DPDK's hugepage sizes on Linux, as
+/// the RTE_MEMZONE_ flags of rte_memzone name them.
 pub const PAGE_SIZES: [u64; 8] = [
     0x4_0000,
     0x20_0000,
@@ -18,7 +18,8 @@ pub const PAGE_SIZES: [u64; 8] = [
     0x4_0000_0000,
 ];
 
-/// The greatest page size, in bytes: what is asked for a request has to round up to it.
+/// The greatest page size, in bytes. What is asked for a request, rounded up to it, has to be a number of 64 bits, and
+/// pages of external memory are no greater. Own.
 pub const GREATEST_PAGE: u64 = PAGE_SIZES[7];
 
 /// Whether a page of `page` bytes has one of the eight hugepage sizes, `PAGE_SIZES`. After the RTE_MEMZONE_ flags of
