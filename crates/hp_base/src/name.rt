@@ -1,11 +1,13 @@
-ghost use Rattle.std.specs.Prelude.{◌≡◌, ◌↔◌, length, IsSome, IfSome};
+ghost use Rattle.std.specs.Prelude.{◌≡◌, ◌↔◌, length, nat_eq, IsTrue, IsSome, IfSome};
+ghost use Rattle.std.specs.Cmp.{partial_equiv_from_equiv};
+ghost use Rattle.std.specs.Cmp.Lexicographic.{nat_list_eq_equiv, pointwise};
 ghost use Rattle.hp_base.specs.Names.{IsNameText};
 
 use std::alloc::AllocError;
 use std::marker::Model;
 
 /// The name of a heap, a memzone, a watcher or a validator: 1 to 63 bytes. After rte_memzone's and rte_malloc's names.
-#[derive(Copy)]
+#[derive(Copy, Debug)]
 pub struct Name {
     // The text, and zeros behind it.
     bytes: [u8; 63],
@@ -35,6 +37,24 @@ impl Clone for Name {
     fn clone(&self) -> Result<Self, AllocError> {
         Ok(*self)
     }
+}
+
+impl PartialEq for Name {
+    ghost eq = { pointwise nat_eq };
+
+    ghost laws = { partial_equiv_from_equiv nat_list_eq_equiv };
+
+    /// Whether the two have the same text.
+    fn eq(&self, other: &Name) -> bool
+        ensures test { result ≡ pointwise nat_eq self.now other.now }
+        ensures text { IsTrue result ↔ (self.now ≡ other.now) }
+    {
+        self.as_bytes() == other.as_bytes()
+    }
+}
+
+impl Eq for Name {
+    ghost laws = { nat_list_eq_equiv };
 }
 
 impl Name {

@@ -136,6 +136,8 @@ fn names_have_1_to_63_bytes(rt: HostRuntime) {
     for len in [1, 31, 63] {
         let kept = Name::new(&text[..len]).map(|name| name.as_bytes().len());
         assert_eq!(rt; kept, Some(len));
+        assert_eq!(rt; Name::new(&text[..len]), Name::new(&text[64 - len..]));
+        assert!(rt; Name::new(&text[..len]) != Name::new(b"zy"), "at {len}");
     }
 }
 
