@@ -7,3 +7,5 @@ pub mod MemoryLemmas
 pub mod NameLemmas
 pub mod RequestLemmas
 pub mod StreamLemmas
+mod PlanLemmas
+mod MappingLemmas

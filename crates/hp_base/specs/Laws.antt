@@ -5,6 +5,7 @@ use Rattle.hp_base.specs.Round.{floor_of, ceil_of}
 use Rattle.hp_base.specs.Place.{IsPlace, HasNoPlace, place_of}
 use Rattle.hp_base.specs.ExternalMemory.{IsExternalMemory, is_bad_range}
 use Rattle.hp_base.specs.Pages.{page_sizes}
+use Rattle.hp_base.specs.declared.limits.TheConstants.{MAX_PARTICIPANTS, MAX_HEAPS, MAX_SOCKETS, MAX_LISTS, MAX_LIST_SEGMENTS, MAX_SEGMENTS, MAX_LINES, MAX_WORKLOAD_BYTES, MAX_COUNT, MAX_DEADLINE}
 use Rattle.hp_base.specs.declared.page_size.TheConstants.{GREATEST_PAGE, PAGE_SIZES}
 use Rattle.hp_base.specs.declared.request.Request.{Request}
 use Rattle.hp_base.specs.declared.round.TheConstants.{HEADER, LINE}
@@ -15,6 +16,19 @@ pub record HasNumbers : Type 0 where
   pub header : HEADER ≡ 128
   pub sizes : PAGE_SIZES ≡ page_sizes
   pub greatest : GREATEST_PAGE ≡ 2 ^ 34
+
+-- the limits of the code are those of the rules ("Limits" of docs/OUTSIDE.md)
+pub record HasLimits : Type 0 where
+  pub participants : MAX_PARTICIPANTS ≡ 16
+  pub heaps : MAX_HEAPS ≡ 32
+  pub sockets : MAX_SOCKETS ≡ 32
+  pub lists : MAX_LISTS ≡ 128
+  pub list_segments : MAX_LIST_SEGMENTS ≡ 8192
+  pub segments : MAX_SEGMENTS ≡ 16384
+  pub lines : MAX_LINES ≡ 20000
+  pub bytes : MAX_WORKLOAD_BYTES ≡ 2 ^ 20
+  pub count : MAX_COUNT ≡ 1000000
+  pub deadline : MAX_DEADLINE ≡ 3600000
 
 -- the computed class of a size is its class, and its only one ("Size classes")
 abbrev pub ComputesClass : Type 0

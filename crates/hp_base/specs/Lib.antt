@@ -8,5 +8,14 @@ pub mod ExternalMemory
 pub mod Names
 pub mod Streams
 pub mod MemStreams
+pub mod Mapping
+pub mod MemMapping
+pub mod Answered
+pub mod Plans
+pub mod PlanIndex
+pub mod Participants
+pub mod Telling
+pub mod Clocks
+pub mod Extents
 pub mod Laws
 pub mod Exit

@@ -11,10 +11,16 @@ use Rattle.hp_base.specs.declared.sink.Put.TheVariants as put
 abbrev pub HasRisen : ℕ → ℕ → Type 0
 HasRisen old new = min (old + 1) (2 ^ 64 - 1) ≤ new
 
--- a count of faults never falls, and has risen where the call failed
+-- a run of calls: a count of faults never falls, and has risen where the run failed
 pub record HasCause (old new : ℕ) (failed : Bool) : Type 0 where
   pub never_falls : old ≤ new
   pub rose : IsTrue failed → HasRisen old new
+
+-- a call of a source, a sink or a mapper: its count of faults has risen where the call failed, and stands as it was where it did not
+pub record CountsFault (old new : ℕ) (failed : Bool) : Type 0 where
+  pub never_falls : old ≤ new
+  pub rose : IsTrue failed → HasRisen old new
+  pub same : failed ≡ false → new ≡ old
 
 -- n bytes at the front of a buffer are the next of what was left
 pub record GivesBytes (old new : Option (List ℕ)) (room : ℕ) (buf : List ℕ) (n : ℕ) : Type 0 where

@@ -1,7 +1,7 @@
 ghost use Rattle.std.specs.Prelude.{◌≡◌, ◌+◌, ◌-◌, ◌^◌, min, if◌then◌else◌};
 ghost use Rattle.hp_base.specs.Streams.{list_has};
 
-/// Which calls of a source or a sink in memory fail, by their number from 1, and how many calls there were.
+/// Which calls of a source, a sink or a mapper in memory fail, by their number from 1, and how many calls there were.
 #[derive(Debug, Drop)]
 pub struct FailingCalls {
     pub fails: Vec<u64>,

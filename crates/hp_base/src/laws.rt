@@ -1,5 +1,5 @@
 ghost use Rattle.std.specs.Prelude.{ℕ, ◌<◌};
-ghost use Rattle.hp_base.specs.Laws.{HasNumbers, ComputesClass, ClassesRise, Rounds, ComputesPlace, JudgesMemory};
+ghost use Rattle.hp_base.specs.Laws.{HasLimits, HasNumbers, ComputesClass, ClassesRise, Rounds, ComputesPlace, JudgesMemory};
 
 /// Each size has one class, which the computed number is, and the classes rise with the sizes. This law and the
 /// others here are proved of all numbers; their functions have no code.
@@ -27,4 +27,10 @@ pub fn memory_law()
 /// greatest of them.
 pub fn numbers_law()
     ensures { HasNumbers }
+{}
+
+/// The limits are the numbers of the rules: participants, heaps, sockets, lists, their segments, lines, bytes, counts of
+/// a plan, and the deadline.
+pub fn limits_law()
+    ensures { HasLimits }
 {}

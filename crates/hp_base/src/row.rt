@@ -1,3 +1,5 @@
+ghost use Rattle.std.specs.Prelude.{◌≡◌, ◌^◌, ◌<◌};
+
 /// A mapped segment: a slot of a segment list with the generation of the record that mapped it (0 for external
 /// memory). `addr` and `page` are bytes. After rte_memseg.
 #[derive(Clone, Copy, Debug, PartialEq, Eq)]
@@ -20,4 +22,24 @@ pub struct Run {
     pub addr: u64,
     pub page: u64,
     pub socket: u32,
+}
+
+impl Run {
+    ghost use Rattle.hp_base.specs.Extents.{run_bytes, run_end};
+
+    /// Its bytes: those of all its pages.
+    pub fn bytes(&self) -> u64
+        requires { run_bytes self.now < 2 ^ 64 }
+        ensures { result ≡ run_bytes self.now }
+    {
+        u64::from(self.count) * self.page
+    }
+
+    /// The address behind its last byte.
+    pub fn end(&self) -> u64
+        requires { run_end self.now < 2 ^ 64 }
+        ensures { result ≡ run_end self.now }
+    {
+        self.addr + self.bytes()
+    }
 }

@@ -1,5 +1,5 @@
 ghost use Rattle.std.specs.Prelude.{◌≡◌, ◌<◌, ℕ, List, [], Option, Some, length};
-ghost use Rattle.hp_base.specs.Streams.{Takes, HasCause, put_failed};
+ghost use Rattle.hp_base.specs.Streams.{Takes, CountsFault, put_failed};
 
 use crate::failing_calls::FailingCalls;
 use std::alloc::Global;
@@ -26,7 +26,7 @@ pub trait Sink {
     fn write(&mut self, bytes: &[u8]) -> Put
         requires { 0 < length bytes.now }
         ensures bytes { Takes (held self.old) (held self.new) bytes.now result }
-        ensures cause { HasCause (faults self.old) (faults self.new) (put_failed result) };
+        ensures cause { CountsFault (faults self.old) (faults self.new) (put_failed result) };
 }
 
 /// A sink that keeps its bytes, takes at most `piece` of them at a time and fails at the calls that it is told,
@@ -92,7 +92,7 @@ impl Sink for MemSink {
     fn write(&mut self, bytes: &[u8]) -> Put
         requires { 0 < length bytes.now }
         ensures bytes { Takes (Some self.old.held) (Some self.new.held) bytes.now result }
-        ensures cause { HasCause self.old.faults self.new.faults (put_failed result) }
+        ensures cause { CountsFault self.old.faults self.new.faults (put_failed result) }
 
         // Which answers there are, and the sink after each. It may also fail where its memory ends.
         ensures answer { MayAnswer self.old bytes.now result }

@@ -1,5 +1,5 @@
 ghost use Rattle.std.specs.Prelude.{◌≡◌, ◌<◌, ℕ, List, Option, Some, length};
-ghost use Rattle.hp_base.specs.Streams.{Gives, HasCause, got_failed};
+ghost use Rattle.hp_base.specs.Streams.{Gives, CountsFault, got_failed};
 
 use crate::failing_calls::FailingCalls;
 use std::marker::Model;
@@ -27,7 +27,7 @@ pub trait Source {
     fn read(&mut self, buf: &mut [u8]) -> Got
         requires { 0 < length buf.old }
         ensures bytes { Gives (left self.old) (left self.new) (length buf.old) buf.new result }
-        ensures cause { HasCause (faults self.old) (faults self.new) (got_failed result) };
+        ensures cause { CountsFault (faults self.old) (faults self.new) (got_failed result) };
 }
 
 /// A source over bytes in memory, which gives pieces of at most `piece` bytes and fails at the calls that it is told.
@@ -88,7 +88,7 @@ impl Source for MemSource {
     fn read(&mut self, buf: &mut [u8]) -> Got
         requires { 0 < length buf.old }
         ensures bytes { Gives (Some self.old.left) (Some self.new.left) (length buf.old) buf.new result }
-        ensures cause { HasCause self.old.faults self.new.faults (got_failed result) }
+        ensures cause { CountsFault self.old.faults self.new.faults (got_failed result) }
 
         // Which answer it is, and the source after it.
         ensures answer { result ≡ read_of self.old (length buf.old) }

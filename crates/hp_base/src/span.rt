@@ -1,3 +1,5 @@
+ghost use Rattle.std.specs.Prelude.{◌≡◌, ◌^◌, ◌<◌};
+
 use crate::tag::Tag;
 
 /// An element of a heap: a header of 128 bytes and what follows it, `whole` bytes from `addr` on, in a segment
@@ -18,4 +20,16 @@ pub enum SpanState {
     Free { stamp: u64 },
     /// Busy: `pad` bytes lie in front of the header, and the data are `size` bytes.
     Busy { pad: u64, size: u64, tag: Tag },
+}
+
+impl Span {
+    ghost use Rattle.hp_base.specs.Extents.{span_end};
+
+    /// The address behind its last byte.
+    pub fn end(&self) -> u64
+        requires { span_end self.now < 2 ^ 64 }
+        ensures { result ≡ span_end self.now }
+    {
+        self.addr + self.whole
+    }
 }

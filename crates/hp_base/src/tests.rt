@@ -1,3 +1,5 @@
+mod outside;
+
 use super::*;
 use std::test::Fail;
 

@@ -1,0 +1,71 @@
+-- What a mapper holds, when it may map, and what each call leaves: the rule "The mapper" of docs/OUTSIDE.md.
+use Rattle.std.specs.Prelude.{◌≡◌, ℕ, ◌+◌, ◌-◌, ◌*◌, ◌^◌, ◌<◌, Bool, true, false, not, ◌&&◌, ◌==◌, List, [], ◌∷◌, ◌++◌, length, filter, map, All}
+use Rattle.std.specs.List.{list_any}
+use Rattle.hp_base.specs.declared.caught.Caught.{Caught}
+use Rattle.hp_base.specs.declared.caught.Caught.TheVariants as caught
+use Rattle.hp_base.specs.declared.row.Row.{Row}
+use Rattle.hp_base.specs.declared.map_answer.MapAnswer.{MapAnswer}
+use Rattle.hp_base.specs.declared.map_answer.MapAnswer.TheVariants.{At, Refused}
+
+-- a row that is held, and the answer that it was mapped by
+pub record Held : Type 0 where
+  pub row : Row
+  pub got : MapAnswer
+
+-- a row's own place
+abbrev pub own_place : Row → MapAnswer
+own_place row = At row.addr row.page row.socket
+
+-- a row that is held at its own place
+abbrev pub at_own_place : Row → Held
+at_own_place row = record { row = row; got = own_place row }
+
+-- rows that are held, each at its own place, in the order of mapping
+abbrev pub owned : List Row → List Held
+owned rows = map at_own_place rows
+
+-- each row that is held is at its own place
+abbrev pub ArePlaced : List Held → Type 0
+ArePlaced held = All (λ one. one.got ≡ own_place one.row) held
+
+-- nothing was mapped
+abbrev pub is_refused : MapAnswer → Bool
+is_refused (At addr page socket) = false
+is_refused Refused = true
+
+-- the row has that address
+abbrev pub has_addr : ℕ → Row → Bool
+has_addr addr row = row.addr == addr
+
+-- the other row is this one, in all six fields
+abbrev pub is_row : Row → Row → Bool
+is_row row other =
+    (other.addr == row.addr) && ((other.page == row.page) && ((other.socket == row.socket)
+    && ((other.list == row.list) && ((other.slot == row.slot) && (other.generation == row.generation)))))
+
+-- what is held after an answer to the mapping of a row: that row too, at the place of the answer, or what was held before
+abbrev pub held_after : Row → MapAnswer → List Held → List Held
+held_after row (At addr page socket) held = held ++ record { row = row; got = At addr page socket } ∷ []
+held_after row Refused held = held
+
+-- what is held once a row is unmapped: all others, in their order
+abbrev pub without_row : Row → List Held → List Held
+without_row row held = filter (λ one. not (is_row row one.row)) held
+
+-- when a mapper may be asked to map a row, by what it holds, its capacity and the number of its mapping calls so far
+pub record CanMap (row : Row) (held : List Held) (capacity calls : ℕ) : Type 0 where
+  -- no row of that address is held
+  pub apart : list_any (λ one. has_addr row.addr one.row) held ≡ false
+  -- it has room: it holds fewer rows than its capacity, each at its own place
+  pub placed : ArePlaced held
+  pub room : length held < capacity
+  -- the call can be counted in 64 bits
+  pub countable : calls < 2 ^ 64 - 1
+  -- the row could come out one page further on
+  pub within : row.addr + 2 * row.page < 2 ^ 64
+
+-- catching up, or attaching a chunk, mapped all its rows
+abbrev pub is_done : Caught → Bool
+is_done caught.Done = true
+is_done (caught.Refused row call) = false
+is_done (caught.Elsewhere row call got) = false

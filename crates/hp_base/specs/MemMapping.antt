@@ -1,0 +1,51 @@
+-- A mapper in memory, as contracts see it, and what one call of it does.
+use Rattle.std.specs.Prelude.{◌≡◌, ℕ, ◌+◌, ◌≤◌, not, List, [], ◌∷◌, ◌++◌, length, filter, if◌then◌else◌}
+use Rattle.hp_base.specs.Mapping.{own_place, is_refused, is_row}
+use Rattle.hp_base.specs.MemStreams.{counted}
+use Rattle.hp_base.specs.Streams.{list_has}
+use Rattle.hp_base.specs.declared.row.Row.{Row}
+use Rattle.hp_base.specs.declared.map_answer.MapAnswer.{MapAnswer}
+use Rattle.hp_base.specs.declared.map_answer.MapAnswer.TheVariants.{At, Refused}
+
+-- the rows that it holds, its capacity, the mapping calls that fail, counted from 1, its answers so far, and its faults so far
+pub record MapperState : Type 0 where
+  pub rows : List Row
+  pub capacity : ℕ
+  pub fails : List ℕ
+  pub answers : List MapAnswer
+  pub faults : ℕ
+
+-- what it answers to a row: nothing is mapped where the next call is to fail, else the row's own place
+abbrev pub answer_to : MapperState → Row → MapAnswer
+answer_to mapper row = if list_has (length mapper.answers + 1) mapper.fails then Refused else own_place row
+
+-- the rows after an answer
+abbrev pub rows_after : List Row → Row → MapAnswer → List Row
+rows_after rows row (At addr page socket) = rows ++ row ∷ []
+rows_after rows row Refused = rows
+
+-- the mapper after an answer to a row
+abbrev pub after_map : MapperState → Row → MapAnswer → MapperState
+after_map mapper row answer = record {
+  rows = rows_after mapper.rows row answer;
+  capacity = mapper.capacity;
+  fails = mapper.fails;
+  answers = mapper.answers ++ answer ∷ [];
+  faults = if is_refused answer then counted mapper.faults else mapper.faults;
+}
+
+-- the mapper without a row
+abbrev pub after_unmap : MapperState → Row → MapperState
+after_unmap mapper row = record {
+  rows = filter (λ other. not (is_row row other)) mapper.rows;
+  capacity = mapper.capacity;
+  fails = mapper.fails;
+  answers = mapper.answers;
+  faults = mapper.faults;
+}
+
+-- the mapping calls are counted, and there is memory for as many rows as the mapper may hold
+pub record IsMapper (rows capacity room calls : ℕ) (answers : List MapAnswer) : Type 0 where
+  pub counts : calls ≡ length answers
+  pub holds : rows ≤ capacity
+  pub fits : capacity ≤ room

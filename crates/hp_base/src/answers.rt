@@ -1,0 +1,56 @@
+ghost use Rattle.std.specs.Prelude.{◌≡◌, [], ◌∷◌, ◌++◌};
+
+use crate::map_answer::MapAnswer;
+use std::marker::Model;
+use std::snapshot::Snapshot;
+
+/// All answers that a mapper gave, in their order. Contracts see the list; of its bytes it keeps the last answer alone,
+/// behind which the earlier ones stand as a snapshot, which has none.
+#[cycle(answers)]
+#[derive(Drop)]
+pub struct Answers {
+    past: Past,
+}
+
+#[cycle(answers)]
+#[derive(Drop)]
+enum Past {
+    Nothing,
+    Behind(Snapshot<Answers>, MapAnswer),
+}
+
+impl Model for Answers {
+    ghost use Rattle.std.specs.Prelude.{List, length};
+    ghost use Rattle.std.proofs.Common.{arith, length-append};
+    ghost use Rattle.hp_base.specs.declared.map_answer.MapAnswer.{MapAnswer};
+
+    ghost Value = { List MapAnswer };
+
+    ghost use Rattle.hp_base.specs.Answered.{answers_in};
+
+    ghost view = { λ a. answers_in a.past };
+
+    ghost size = { length };
+
+    ghost size_decreases = { λ a h. Prim.grind (arith, length-append) };
+}
+
+impl Answers {
+    /// No answer yet.
+    pub fn new() -> Answers
+        ensures { result ≡ [] }
+    {
+        Answers {
+            past: Past::Nothing,
+        }
+    }
+
+    /// These answers, and another one.
+    pub fn with(&self, answer: MapAnswer) -> Answers
+        ensures { result ≡ self.now ++ answer ∷ [] }
+    {
+        Answers {
+            past: Past::Behind(Snapshot::of(self), answer),
+        }
+    }
+}

@@ -1,0 +1,14 @@
+use crate::map_answer::MapAnswer;
+use crate::row::Row;
+
+/// How catching up with the log of segments, or attaching a chunk, ended. `call` is the mapper's number of the mapping
+/// call that failed, from 1. Own; after the synchronisation of memory maps between processes in Multi-process Support.
+#[derive(Clone, Copy, Debug, PartialEq, Eq)]
+pub enum Caught {
+    /// All rows are mapped.
+    Done,
+    /// The mapper refused this row.
+    Refused { row: Row, call: u64 },
+    /// The mapper answered another place than the row's own.
+    Elsewhere { row: Row, call: u64, got: MapAnswer },
+}

@@ -1,0 +1,181 @@
+ghost use Rattle.std.specs.Prelude.{◌≡◌, ◌≤◌, ◌∷◌, ◌++◌, [], ℕ, List, filter, length, not, vec_capacity, vec_len};
+ghost use Rattle.hp_base.specs.Mapping.{Held, CanMap, held_after, is_refused, is_row, own_place, without_row};
+ghost use Rattle.hp_base.specs.Streams.{CountsFault};
+ghost use Rattle.hp_base.specs.declared.map_answer.MapAnswer.{MapAnswer};
+
+use crate::answers::Answers;
+use crate::failing_calls::FailingCalls;
+use crate::map_answer::MapAnswer;
+use crate::row::Row;
+use std::alloc::{AllocError, Global};
+use std::marker::Model;
+
+/// What maps the pages of a process, one row at a time. It stands for what mmap and munmap do in EAL memory
+/// management. Own.
+pub trait Mapper: Drop {
+    /// The rows that it holds, in the order of mapping, each with the answer that it was mapped by.
+    ghost held: { Self → List Held };
+
+    /// How many rows it may hold.
+    ghost capacity: { Self → ℕ };
+
+    /// All answers that it gave, in their order. The number of its mapping calls is their number.
+    ghost answers: { Self → List MapAnswer };
+
+    /// How often mapping has failed.
+    ghost faults: { Self → ℕ };
+
+    /// Maps a row, at its own place or another, or refuses it.
+    fn map(&mut self, row: &Row) -> MapAnswer
+        requires { CanMap row.now (held self.old) (capacity self.old) (length (answers self.old)) }
+        ensures held { held self.new ≡ held_after row.now result (held self.old) }
+        ensures capacity { capacity self.new ≡ capacity self.old }
+        ensures answers { answers self.new ≡ answers self.old ++ result ∷ [] }
+        ensures cause { CountsFault (faults self.old) (faults self.new) (is_refused result) };
+
+    /// Unmaps a row, if it is held.
+    fn unmap(&mut self, row: &Row)
+        ensures held { held self.new ≡ without_row row.now (held self.old) }
+        ensures capacity { capacity self.new ≡ capacity self.old }
+        ensures answers { answers self.new ≡ answers self.old }
+        ensures faults { faults self.new ≡ faults self.old };
+}
+
+/// A mapper that keeps its rows, each at its own place, and refuses at the calls that it is told.
+#[derive(Drop)]
+pub struct MemMapper {
+    rows: Vec<Row>,
+    capacity: usize,
+    answers: Answers,
+    failing: FailingCalls,
+}
+
+impl Model for MemMapper {
+    ghost use Rattle.std.specs.Prelude.{vec_len, vec_capacity};
+    ghost use Rattle.hp_base.specs.MemMapping.{MapperState, IsMapper};
+
+    ghost Value = { MapperState };
+
+    ghost view = { λ a. record {
+      rows = a.rows.items;
+      capacity = a.capacity;
+      fails = a.failing.fails.items;
+      answers = a.answers;
+      faults = a.failing.faults;
+    } };
+
+    ghost invariant = { λ a. IsMapper (vec_len a.rows) a.capacity (vec_capacity a.rows) a.failing.calls a.answers };
+}
+
+impl MemMapper {
+    ghost use Rattle.std.specs.Prelude.{IfOk};
+    ghost use Rattle.hp_base.specs.MemMapping.{MapperState};
+
+    /// A mapper with room for so many rows, which holds none and refuses no call.
+    pub fn new(alloc: Global, capacity: usize) -> Result<MemMapper, AllocError>
+        ensures { IfOk result (λ mapper. mapper
+            ≡ record { rows = []; capacity = capacity; fails = []; answers = []; faults = 0 }) }
+    {
+        Ok(MemMapper {
+            rows: Vec::with_capacity(alloc, capacity)?,
+            capacity,
+            answers: Answers::new(),
+            failing: FailingCalls {
+                fails: Vec::new(alloc),
+                calls: 0,
+                faults: 0,
+            },
+        })
+    }
+
+    /// From now on these mapping calls are refused, and no others. Calls are counted from 1, over the whole life of the
+    /// mapper.
+    pub fn fail_at(&mut self, calls: Vec<u64>)
+        ensures { self.new ≡ record self.old { fails = calls.items } }
+    {
+        self.failing.fails = calls;
+    }
+
+    /// The rows that it holds.
+    pub fn rows(&self) -> &[Row]
+        ensures { result.now ≡ self.now.rows }
+    {
+        self.rows.as_slice()
+    }
+}
+
+impl Mapper for MemMapper {
+    ghost use Rattle.hp_base.specs.Mapping.{owned};
+    ghost use Rattle.hp_base.specs.MemMapping.{after_map, after_unmap, answer_to};
+
+    ghost held = { λ m. owned m.rows };
+
+    ghost capacity = { λ m. m.capacity };
+
+    ghost answers = { λ m. m.answers };
+
+    ghost faults = { λ m. m.faults };
+
+    fn map(&mut self, row: &Row) -> MapAnswer
+        requires { CanMap row.now (owned self.old.rows) self.old.capacity (length self.old.answers) }
+        ensures held { owned self.new.rows ≡ held_after row.now result (owned self.old.rows) }
+        ensures capacity { self.new.capacity ≡ self.old.capacity }
+        ensures answers { self.new.answers ≡ self.old.answers ++ result ∷ [] }
+        ensures cause { CountsFault self.old.faults self.new.faults (is_refused result) }
+
+        // Which answer it is, and the mapper after it.
+        ensures answer { result ≡ answer_to self.old row.now }
+        ensures after { self.new ≡ after_map self.old row.now result }
+    {
+        if self.failing.next_fails() {
+            self.answers = self.answers.with(MapAnswer::Refused);
+            return MapAnswer::Refused;
+        }
+        let answer = own_place(row);
+        self.rows.push(*row).unwrap();
+        self.answers = self.answers.with(answer);
+        answer
+    }
+
+    fn unmap(&mut self, row: &Row)
+        ensures held { owned self.new.rows ≡ without_row row.now (owned self.old.rows) }
+        ensures capacity { self.new.capacity ≡ self.old.capacity }
+        ensures answers { self.new.answers ≡ self.old.answers }
+        ensures faults { self.new.faults ≡ self.old.faults }
+
+        // The mapper without it.
+        ensures after { self.new ≡ after_unmap self.old row.now }
+    {
+        without_row(&mut self.rows, row);
+    }
+}
+
+// Takes a row out of rows.
+fn without_row(rows: &mut Vec<Row>, row: &Row)
+    ensures rows { rows.new.items ≡ filter (λ other. not (is_row row.now other)) rows.old.items }
+    ensures len { vec_len rows.new ≤ vec_len rows.old }
+    ensures capacity { vec_capacity rows.new ≡ vec_capacity rows.old }
+{
+    rows.retain(|other: &Row| !is_row(row, other));
+}
+
+fn own_place(row: &Row) -> MapAnswer
+    ensures { result ≡ own_place row.now }
+{
+    MapAnswer::At {
+        addr: row.addr,
+        page: row.page,
+        socket: row.socket,
+    }
+}
+
+fn is_row(row: &Row, other: &Row) -> bool
+    ensures { result ≡ is_row row.now other.now }
+{
+    other.addr == row.addr
+        && other.page == row.page
+        && other.socket == row.socket
+        && other.list == row.list
+        && other.slot == row.slot
+        && other.generation == row.generation
+}

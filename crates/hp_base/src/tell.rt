@@ -1,0 +1,35 @@
+ghost use Rattle.std.specs.Prelude.{◌≡◌, ◌+◌, ◌<◌, ◌≤◌, ℕ, List};
+ghost use Rattle.hp_base.specs.Telling.{told_after};
+ghost use Rattle.hp_base.specs.declared.event.Event.{Event};
+
+use crate::event::Event;
+
+/// What is told of memory that comes and goes. It keeps lists of events, one for each that listens. After the memory
+/// event callbacks of rte_memory.
+pub trait Tell {
+    /// Its lists, each with the events that it was told, in their order.
+    ghost told: { Self → List (List Event) };
+
+    /// How many events more it has room for.
+    ghost spare: { Self → ℕ };
+
+    /// Tells each of the lists an event.
+    fn tell(&mut self, event: Event)
+        requires { 0 < spare self.old }
+        ensures told { told self.new ≡ told_after event (told self.old) }
+        ensures spare { spare self.old ≤ spare self.new + 1 };
+}
+
+/// It has no list, and keeps nothing. Own.
+#[derive(Clone, Copy, Debug, PartialEq, Eq)]
+pub struct Silent;
+
+impl Tell for Silent {
+    ghost use Rattle.std.specs.Prelude.{[], ◌^◌};
+
+    ghost told = { λ _. [] };
+
+    ghost spare = { λ _. 2 ^ 64 };
+
+    fn tell(&mut self, _event: Event) {}
+}
