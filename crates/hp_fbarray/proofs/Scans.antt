@@ -1,17 +1,10 @@
--- What a search through the places of a mask knows part of the way, and its steps.
-use Rattle.std.proofs.Common.{◌≡◌, ◌≢◌, ℕ, ◌+◌, ◌-◌, ◌<◌, ◌≤◌, max, Bool, true, false, List, length, get_or, arith, inl, inr}
+-- What a search for runs knows part of the way, and its steps.
+use Rattle.std.proofs.Common.{◌≡◌, ℕ, ◌+◌, ◌-◌, ◌<◌, ◌≤◌, max, min, Bool, true, false, List, length, get_or, arith, inl, inr}
 use Rattle.std.proofs.lemmas.Bool.{cases_lt}
 use Rattle.std.proofs.lemmas.List.{get_or_default, get_or_past}
-use Rattle.hp_fbarray.specs.Mask.{IsClear, IsUsed, IsFreeRun, HasNoFreeRun, IsLongestFree, HasNoUsed}
+use Rattle.hp_fbarray.specs.Mask.{IsClear, IsUsed, IsFreeRun, IsFirstFreeRun, HasNoUsed}
+use Rattle.hp_fbarray.specs.Searches.{IsNextPlace, IsTooShort}
 use Rattle.hp_fbarray.proofs.FreeRunLemmas.{shorter_run}
-
--- a place of the mask that is not used is clear
-clear_inside : (mask : List Bool) (place : ℕ) → place < length mask
-    → get_or mask place false ≡ false → IsClear mask place
-clear_inside mask place inside unused =
-    let same : get_or mask place true ≡ get_or mask place false
-    = get_or_default mask place true false inside in
-    cc
 
 -- no place of the mask is both used and clear
 not_both : (mask : List Bool) (place : ℕ) → place < length mask → IsUsed mask place
@@ -27,140 +20,110 @@ used_in_no_run : (mask : List Bool) (start n place : ℕ) → IsUsed mask place 
 used_in_no_run mask start n place used after before run =
     not_both mask place (omega (arith, run.within)) used (run.clear place after before)
 
--- clear up to i and at i is clear up to i + 1
-one_more_clear : (mask : List Bool) (start i : ℕ)
-    → ((place : ℕ) → start ≤ place → place < i → IsClear mask place) → IsClear mask i
-    → (place : ℕ) → start ≤ place → place < i + 1 → IsClear mask place
-one_more_clear mask start i before here place after within =
-    elim (cases_lt place i) [
-      | inl earlier ↦ before place after earlier
-      | inr not_earlier ↦ let same : place ≡ i = omega arith in rw same here
+-- no run that begins from `from` up to `place` is longer than `longest`, which is shorter than n and found
+pub record SeeksRun (mask : List Bool) (from n longest place : ℕ) : Type 0 where
+  pub not_before : from ≤ place
+  pub shorter : longest < n
+  pub found : (start : ℕ) × (from ≤ start) × IsFreeRun mask start longest
+  pub no_longer : (start len : ℕ) → from ≤ start → start < place → IsFreeRun mask start len → len ≤ longest
+
+-- the clear places from the next clear one up to the used one behind it, or up to n of them
+stretch : (mask : List Bool) (start n end : ℕ) → start ≤ length mask
+    → IsNextPlace mask start (start + min n (length mask - start)) true end
+    → IsFreeRun mask start (end - start)
+stretch mask start n end inside next = record {
+  within = omega (arith, next.within, next.not_before);
+  clear = λ place after before. next.passed place after (omega arith);
+}
+
+-- a run that begins before the end of a stretch that is too short is no longer than it, or was seen before
+no_run_over : (mask : List Bool) (from n longest place start end : ℕ)
+    → SeeksRun mask from n longest place → IsNextPlace mask place (length mask) false start
+    → IsNextPlace mask start (start + min n (length mask - start)) true end → end - start < n
+    → (begin len : ℕ) → from ≤ begin → begin < end → IsFreeRun mask begin len → len ≤ max longest (end - start)
+no_run_over mask from n longest place start end seeks clear used short begin len after before run =
+    elim (cases_lt begin place) [
+      | inl old ↦ omega (arith, seeks.no_longer begin len after old run)
+      | inr new ↦
+          elim (cases_lt begin start) [
+            | inl passed ↦
+                elim (cases_lt 0 len) [
+                  | inl some ↦
+                      absurd
+                      (used_in_no_run mask begin len begin (clear.passed begin new passed) (omega arith) (omega arith) run)
+                  | inr none ↦ omega arith
+                ]
+            | inr inside ↦
+                elim (cases_lt end (begin + len)) [
+                  | inl over ↦
+                      absurd
+                      (used_in_no_run mask begin len end (used.here (omega (arith, run.within, used.not_before))) (omega arith) over run)
+                  | inr fits ↦ omega arith
+                ]
+          ]
     ]
 
--- the places from start up to i are clear and at most n, and no run of n begins before start
-pub record SeeksRun (mask : List Bool) (from n start i : ℕ) : Type 0 where
-  pub not_before : from ≤ start
-  pub reached : start ≤ i
-  pub short : i ≤ start + n
-  pub clear : (place : ℕ) → start ≤ place → place < i → IsClear mask place
-  pub none_earlier : (earlier : ℕ) → from ≤ earlier → earlier < start → ¬ IsFreeRun mask earlier n
+-- a stretch that is too short was passed
+pub SeeksRun-stretch : (mask : List Bool) (from n longest place start end : ℕ)
+    → SeeksRun mask from n longest place → IsNextPlace mask place (length mask) false start
+    → IsNextPlace mask start (start + min n (length mask - start)) true end → end - start < n
+    → SeeksRun mask from n (max longest (end - start)) end
+SeeksRun-stretch mask from n longest place start end seeks clear used short = record {
+  not_before = omega (arith, seeks.not_before, clear.not_before, used.not_before);
+  shorter = omega (arith, seeks.shorter);
+  found = elim (cases_lt longest (end - start)) [
+    | inl longer ↦
+        let is : max longest (end - start) ≡ end - start = omega arith in
+        rw is (start, omega (arith, seeks.not_before, clear.not_before), stretch mask start n end clear.within used)
+    | inr not_longer ↦
+        let is : max longest (end - start) ≡ longest = omega arith in
+        rw is seeks.found
+  ];
+  no_longer = no_run_over mask from n longest place start end seeks clear used short;
+}
 
--- behind a used place a run can begin at the next one
-pub SeeksRun-used : (mask : List Bool) (from n start i : ℕ) → SeeksRun mask from n start i
-    → (i - start ≢ n) → IsUsed mask i → SeeksRun mask from n (i + 1) (i + 1)
-SeeksRun-used mask from n start i seeks too_short used = record {
-  not_before = omega arith;
-  reached = omega arith;
-  short = omega arith;
-  clear = λ place after before. absurd (omega arith);
-  none_earlier = λ earlier later before. elim (cases_lt earlier start) [
-    | inl passed ↦ seeks.none_earlier earlier later passed
-    | inr kept ↦ used_in_no_run mask earlier n i used (omega arith) (omega arith)
+-- the start of a stretch that is long enough is the first
+pub IsFirstFreeRun-stretch : (mask : List Bool) (from n longest place start end : ℕ)
+    → SeeksRun mask from n longest place → IsNextPlace mask place (length mask) false start
+    → IsNextPlace mask start (start + min n (length mask - start)) true end → n ≤ end - start
+    → IsFirstFreeRun mask from n start
+IsFirstFreeRun-stretch mask from n longest place start end seeks clear used long = record {
+  not_before = omega (arith, seeks.not_before, clear.not_before);
+  free = shorter_run mask start (end - start) n (stretch mask start n end clear.within used) long;
+  least = λ earlier after before run. elim (cases_lt earlier place) [
+    | inl old ↦ absurd (omega (arith, seeks.shorter, seeks.no_longer earlier n after old run))
+    | inr new ↦
+        used_in_no_run mask earlier n earlier (clear.passed earlier new before) (omega arith)
+        (omega (arith, seeks.shorter)) run
   ];
 }
 
--- a clear place makes the run longer
-pub SeeksRun-clear : (mask : List Bool) (from n start i : ℕ) → SeeksRun mask from n start i
-    → (i - start ≢ n) → i < length mask → get_or mask i false ≡ false
-    → SeeksRun mask from n start (i + 1)
-SeeksRun-clear mask from n start i seeks too_short inside unused = record {
-  not_before = seeks.not_before;
-  reached = omega arith;
-  short = omega arith;
-  clear = one_more_clear mask start i seeks.clear (clear_inside mask i inside unused);
-  none_earlier = seeks.none_earlier;
+-- at the end no run was long enough
+pub IsTooShort-at_end : (mask : List Bool) (from n longest place : ℕ)
+    → SeeksRun mask from n longest place → length mask ≤ place → IsTooShort mask from n longest
+IsTooShort-at_end mask from n longest place seeks ended = record {
+  shorter = seeks.shorter;
+  is_longest = record {
+    start = seeks.found.0;
+    not_before = seeks.found.1;
+    found = seeks.found.2;
+    no_longer = λ longer more. record {
+      nowhere = λ start after run. elim (cases_lt start place) [
+        | inl old ↦ absurd (omega (arith, seeks.no_longer start longer after old run))
+        | inr past ↦ absurd (omega (arith, run.within))
+      ];
+    };
+  };
 }
 
--- at the end, with a run too short, there is none
-pub HasNoFreeRun-at_end : (mask : List Bool) (from n start i : ℕ) → SeeksRun mask from n start i
-    → length mask - start < n → HasNoFreeRun mask from n
-HasNoFreeRun-at_end mask from n start i seeks too_short = record {
-  nowhere = λ first later run. elim (cases_lt first start) [
-    | inl passed ↦ seeks.none_earlier first later passed run
-    | inr kept ↦ absurd (omega (arith, run.within))
-  ];
-}
-
--- at the end, with no used place met, there is none
-pub HasNoUsed-at_end : (mask : List Bool) (from i : ℕ)
-    → ((place : ℕ) → from ≤ place → place < i → IsClear mask place) → length mask ≤ i
-    → HasNoUsed mask from
-HasNoUsed-at_end mask from i clear ended = record {
-  nowhere = λ place later used. elim (cases_lt place (length mask)) [
-    | inl inside ↦ not_both mask place inside used (clear place later (omega arith))
+-- with no used place before the end there is none
+pub HasNoUsed-behind : (mask : List Bool) (from place : ℕ) → IsNextPlace mask from (length mask) true place
+    → length mask ≤ place → HasNoUsed mask from
+HasNoUsed-behind mask from place next ended = record {
+  nowhere = λ other later used. elim (cases_lt other (length mask)) [
+    | inl inside ↦ not_both mask other inside used (next.passed other later (omega arith))
     | inr past ↦
-        let none : get_or mask place false ≡ false = get_or_past mask place false past in
+        let none : get_or mask other false ≡ false = get_or_past mask other false past in
         cc
   ];
-}
-
--- the stretch of clear places that ends at i begins at start, and longest is the most before i
-pub record SeeksLongest (mask : List Bool) (start longest i : ℕ) : Type 0 where
-  pub reached : start ≤ i
-  pub clear : (place : ℕ) → start ≤ place → place < i → IsClear mask place
-  pub no_wider : (earlier : ℕ) → earlier < start → ¬ IsFreeRun mask earlier (i - earlier)
-  pub found : (first : ℕ) × (first + longest ≤ i) × IsFreeRun mask first longest
-  pub no_longer : (first longer : ℕ) → longest < longer → first + longer ≤ i
-      → ¬ IsFreeRun mask first longer
-
--- behind a used place a stretch begins at the next one
-pub SeeksLongest-used : (mask : List Bool) (start longest i : ℕ)
-    → SeeksLongest mask start longest i → IsUsed mask i
-    → SeeksLongest mask (i + 1) longest (i + 1)
-SeeksLongest-used mask start longest i seeks used = record {
-  reached = omega arith;
-  clear = λ place after before. absurd (omega arith);
-  no_wider = λ earlier before.
-      used_in_no_run mask earlier (i + 1 - earlier) i used (omega arith) (omega arith);
-  found = (seeks.found.0, omega arith, seeks.found.2);
-  no_longer = λ first longer more within. elim (cases_lt i (first + longer)) [
-    | inl over ↦ used_in_no_run mask first longer i used (omega arith) over
-    | inr before ↦ seeks.no_longer first longer more before
-  ];
-}
-
--- a clear place makes the stretch longer, and it may be the longest now
-pub SeeksLongest-clear : (mask : List Bool) (start longest i : ℕ)
-    → SeeksLongest mask start longest i → i < length mask → get_or mask i false ≡ false
-    → SeeksLongest mask start (max longest (i + 1 - start)) (i + 1)
-SeeksLongest-clear mask start longest i seeks inside unused =
-    let clear : (place : ℕ) → start ≤ place → place < i + 1 → IsClear mask place
-    = one_more_clear mask start i seeks.clear (clear_inside mask i inside unused) in
-    record {
-      reached = omega arith;
-      clear = clear;
-      no_wider = λ earlier before run.
-          seeks.no_wider earlier before (shorter_run mask earlier (i + 1 - earlier) (i - earlier) run (omega arith));
-      found = elim (cases_lt longest (i + 1 - start)) [
-        | inl longer ↦
-            let is : max longest (i + 1 - start) ≡ i + 1 - start = omega arith in
-            rw is (
-              start,
-              omega arith,
-              record {
-                within = omega arith;
-                clear = λ place after before. clear place after (omega arith);
-              },
-            )
-        | inr not_longer ↦
-            let is : max longest (i + 1 - start) ≡ longest = omega arith in
-            rw is (seeks.found.0, omega arith, seeks.found.2)
-      ];
-      no_longer = λ first longer more within run. elim (cases_lt i (first + longer)) [
-        | inl over ↦
-            seeks.no_wider first (omega arith)
-            (shorter_run mask first longer (i - first) run (omega arith))
-        | inr before ↦ seeks.no_longer first longer (omega arith) before run
-      ];
-    }
-
--- at the end the longest so far is the longest
-pub IsLongestFree-at_end : (mask : List Bool) (start longest i : ℕ)
-    → SeeksLongest mask start longest i → length mask ≤ i → IsLongestFree mask longest
-IsLongestFree-at_end mask start longest i seeks ended = record {
-  found = (seeks.found.0, seeks.found.2);
-  no_longer = λ longer more. record {
-    nowhere = λ first _ run.
-        seeks.no_longer first longer more (omega (arith, run.within)) run;
-  };
 }

@@ -1,2 +1,5 @@
+pub mod Answers
 pub mod FreeRuns
 pub mod Mask
+pub mod Searches
+pub mod Words

@@ -2,7 +2,10 @@
 ghost use Rattle.std.specs.Prelude.{◌≡◌, ◌<◌, ◌≤◌, ◌↔◌, IfNone, IfOk, IfSome, IsTrue, count_by, false, length, replicate, slice_set, true};
 ghost use Rattle.hp_fbarray.specs.Mask.{HasNoFreeRun, HasNoUsed, IsFirstFreeRun, IsLongestFree, IsNextUsed, IsUsed};
 ghost use Rattle.hp_fbarray.specs.FreeRuns.{first_free_run, longest_free_run};
+ghost use Rattle.hp_fbarray.specs.Answers.{free_run, IfFound, IfTooShort};
 
+use crate::free_run::FreeRun;
+use crate::places::Places;
 use crate::runs;
 use std::alloc::{AllocError, Global};
 use std::marker::Model;
@@ -16,15 +19,20 @@ pub const MAX_PLACES: usize = 16_384;
 /// is used and `false` where it is clear. No call but `new` takes memory.
 #[derive(Debug, Drop)]
 pub struct Mask {
-    places: Vec<bool>,
+    places: Places,
+    // The number of places where none is clear. No search looks at a place below it.
+    first_clear: usize,
 }
 
 impl Model for Mask {
     ghost use Rattle.std.specs.Prelude.{Bool, List};
+    ghost use Rattle.hp_fbarray.specs.Searches.{IsFirstClear};
 
     ghost Value = { List Bool };
 
-    ghost view = { λ mask. mask.places.items };
+    ghost view = { λ mask. mask.places };
+
+    ghost invariant = { λ mask. IsFirstClear mask.places mask.first_clear };
 }
 
 impl Mask {
@@ -33,8 +41,11 @@ impl Mask {
         requires within_limit { n ≤ MAX_PLACES }
         ensures clear { IfOk result (λ mask. mask ≡ replicate n false) }
     {
-        let places = vec![in alloc; false; n]?;
-        Ok(Mask { places })
+        let places = Places::new(alloc, n)?;
+        Ok(Mask {
+            places,
+            first_clear: 0,
+        })
     }
 
     /// Marks place `i` as used (`rte_fbarray_set_used`). A place that is used already stays so.
@@ -42,7 +53,10 @@ impl Mask {
         requires { i < length self.old }
         ensures { self.new ≡ slice_set self.old i true }
     {
-        self.places[i] = true;
+        self.places.put(i, true);
+        if i == self.first_clear {
+            self.first_clear = self.places.next(i, self.places.len(), false);
+        }
     }
 
     /// Marks place `i` as clear (`rte_fbarray_set_free`). A place that is clear already stays so.
@@ -50,7 +64,8 @@ impl Mask {
         requires { i < length self.old }
         ensures { self.new ≡ slice_set self.old i false }
     {
-        self.places[i] = false;
+        self.places.put(i, false);
+        self.first_clear = self.first_clear.min(i);
     }
 
     /// Whether place `i` is used (`rte_fbarray_is_used`).
@@ -58,7 +73,7 @@ impl Mask {
         requires { i < length self.now }
         ensures { IsTrue result ↔ IsUsed self.now i }
     {
-        self.places[i]
+        self.places.get(i)
     }
 
     /// The least start, at `from` or later, of `n` clear places that follow one another
@@ -74,11 +89,27 @@ impl Mask {
         // The same as a value that definitions above can compute with.
         ensures value { result ≡ first_free_run self.now from n }
     {
-        if from <= self.places.len() {
-            runs::first_free_run(self.places.as_slice(), from, n)
-        } else {
-            None
+        if from > self.places.len() {
+            return None;
         }
+        match runs::search(&self.places, self.first_clear, from, n) {
+            FreeRun::Found { start } => Some(start),
+            FreeRun::TooShort { .. } => None,
+        }
+    }
+
+    /// The least start of `n` clear places that follow one another, or, where there is no such run,
+    /// how long the longest one is. One search answers both, as `find_n_free` from 0 and
+    /// `longest_free` do (own).
+    pub fn find_run(&self, n: usize) -> FreeRun
+        ensures first { IfFound result (IsFirstFreeRun self.now 0 n) }
+        ensures none { IfTooShort result (λ _. HasNoFreeRun self.now 0 n) }
+        ensures longest { IfTooShort result (IsLongestFree self.now) }
+
+        // The same as a value that definitions above can compute with.
+        ensures value { result ≡ free_run self.now n }
+    {
+        runs::search(&self.places, self.first_clear, 0, n)
     }
 
     /// The least used place at `from` or later (`rte_fbarray_find_next_used`), and none where `from`
@@ -87,14 +118,19 @@ impl Mask {
         ensures next { IfSome result (IsNextUsed self.now from) }
         ensures none { IfNone result (HasNoUsed self.now from) }
     {
-        runs::next_used(self.places.as_slice(), from)
+        let len = self.places.len();
+        if from >= len {
+            return None;
+        }
+        let place = self.places.next(from, len, true);
+        if place < len { Some(place) } else { None }
     }
 
     /// How many places are used.
     pub fn count_used(&self) -> usize
         ensures { result ≡ count_by (λ used. used) self.now }
     {
-        self.places.iter().filter(|used| **used).count()
+        self.places.count_used()
     }
 
     /// The length, in places, of the longest stretch of clear places, and 0 where none is clear
@@ -105,6 +141,10 @@ impl Mask {
         // The same as a value that definitions above can compute with.
         ensures value { result ≡ longest_free_run self.now }
     {
-        runs::longest_free_run(self.places.as_slice())
+        // No run is longer than the mask.
+        match runs::search(&self.places, self.first_clear, 0, self.places.len() + 1) {
+            FreeRun::Found { .. } => self.places.len(),
+            FreeRun::TooShort { longest } => longest,
+        }
     }
 }

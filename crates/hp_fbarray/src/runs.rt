@@ -1,56 +1,35 @@
-//! Searches over places as a slice: `true` is used, `false` is clear.
-ghost use Rattle.std.specs.Prelude.{◌≤◌, IfNone, IfSome, length};
-ghost use Rattle.hp_fbarray.specs.Mask.{HasNoFreeRun, HasNoUsed, IsFirstFreeRun, IsLongestFree, IsNextUsed};
+//! The search for runs of clear places.
+ghost use Rattle.std.specs.Prelude.{◌≤◌, length};
+ghost use Rattle.hp_fbarray.specs.Mask.{IsFirstFreeRun};
+ghost use Rattle.hp_fbarray.specs.Searches.{IsFirstClear, IsTooShort};
+ghost use Rattle.hp_fbarray.specs.Answers.{IfFound, IfTooShort};
 
-/// The least start, at `from` or later, of `n` clear places.
-pub(crate) fn first_free_run(places: &[bool], from: usize, n: usize) -> Option<usize>
-    requires { from ≤ length places.now }
-    ensures first { IfSome result (IsFirstFreeRun places.now from n) }
-    ensures none { IfNone result (HasNoFreeRun places.now from n) }
-{
-    // The places from `start` up to `i` are clear, and no run of `n` begins before `start`.
-    let mut start = from;
-    for i in from..places.len() {
-        if i - start == n {
-            return Some(start);
-        }
-        if places[i] {
-            start = i + 1;
-        }
-    }
-    if places.len() - start < n {
-        None
-    } else {
-        Some(start)
-    }
-}
+use crate::free_run::FreeRun;
+use crate::places::Places;
 
-/// The least used place at `from` or later.
-pub(crate) fn next_used(places: &[bool], from: usize) -> Option<usize>
-    ensures next { IfSome result (IsNextUsed places.now from) }
-    ensures none { IfNone result (HasNoUsed places.now from) }
+// The first run of `n` clear places from `from` on, or the length of the longest one there. Nothing
+// is looked at below the first clear place.
+pub(crate) fn search(places: &Places, first_clear: usize, from: usize, n: usize) -> FreeRun
+    requires within { from ≤ length places.now }
+    requires first_clear { IsFirstClear places.now first_clear }
+    ensures found { IfFound result (IsFirstFreeRun places.now from n) }
+    ensures short { IfTooShort result (IsTooShort places.now from n) }
 {
-    for i in from..places.len() {
-        if places[i] {
-            return Some(i);
-        }
+    if n == 0 {
+        return FreeRun::Found { start: from };
     }
-    None
-}
-
-/// The length of the longest stretch of clear places.
-pub(crate) fn longest_free_run(places: &[bool]) -> usize
-    ensures { IsLongestFree places.now result }
-{
+    let len = places.len();
     let mut longest: usize = 0;
-    // The places from `start` up to `i` are clear, and none just before them.
-    let mut start = 0;
-    for i in 0..places.len() {
-        if places[i] {
-            start = i + 1;
-        } else {
-            longest = longest.max(i + 1 - start);
+    // No run that begins from `from` up to `place` is longer than `longest`.
+    let mut place = from.max(first_clear);
+    while place < len {
+        let start = places.next(place, len, false);
+        // No more than n places are looked at.
+        place = places.next(start, start + n.min(len - start), true);
+        if place - start >= n {
+            return FreeRun::Found { start };
         }
+        longest = longest.max(place - start);
     }
-    longest
+    FreeRun::TooShort { longest }
 }

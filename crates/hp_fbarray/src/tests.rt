@@ -1,4 +1,6 @@
 //! Worked values of the mask's calls, and a table from a plain search that was written apart.
+mod words;
+
 use crate::Mask;
 use std::alloc::AllocError;
 use std::test::Fail;

@@ -1,10 +1,15 @@
-use Rattle.std.proofs.Common.{◌≡◌}
+use Rattle.std.proofs.Common.{Some, ap, ◌∙◌}
 use Rattle.hp_fbarray.specs.FreeRuns.{first_free_run}
+use Rattle.hp_fbarray.proofs.AnswerLemmas.{none_if_short}
 use Rattle.hp_fbarray.proofs.RunValues.{is_first_free_run}
 use Rattle.hp_fbarray.proofs.mask.Mask.find_n_free.Goals as goal
 
-pub returns-then-from-len-clause-value : goal.returns-then-from-len-clause-value
-returns-then-from-len-clause-value c =
-    let value : c.first_free_run.result ≡ first_free_run c.as_slice.result.now c.args.from c.args.n
-    = is_first_free_run _ _ _ _ c.first_free_run.ensures.first c.first_free_run.ensures.none in
-    cc
+pub returns-in-Found-clause-value : goal.returns-in-Found-clause-value
+returns-in-Found-clause-value c =
+    is_first_free_run c.self.inside.places c.args.from c.args.n (Some c.in-Found.start) c.in-Found.ensures.found tt
+    ∙ ap (λ mask. first_free_run mask c.args.from c.args.n) c.self.view_is
+
+pub returns-in-TooShort-clause-value : goal.returns-in-TooShort-clause-value
+returns-in-TooShort-clause-value c =
+    none_if_short c.self.inside.places c.args.from c.args.n c.in-TooShort.longest c.in-TooShort.ensures.short
+    ∙ ap (λ mask. first_free_run mask c.args.from c.args.n) c.self.view_is

@@ -1,10 +1,9 @@
-use Rattle.std.proofs.Common.{◌≡◌}
+use Rattle.std.proofs.Common.{ap, ◌∙◌}
 use Rattle.hp_fbarray.specs.FreeRuns.{longest_free_run}
-use Rattle.hp_fbarray.proofs.RunValues.{is_longest_free_run}
+use Rattle.hp_fbarray.proofs.AnswerLemmas.{longest_if_short}
 use Rattle.hp_fbarray.proofs.mask.Mask.longest_free.Goals as goal
 
-pub returns-clause-value : goal.returns-clause-value
-returns-clause-value c =
-    let value : c.longest_free_run.result ≡ longest_free_run c.as_slice.result.now
-    = is_longest_free_run _ _ c.longest_free_run.ensures in
-    cc
+pub returns-in-TooShort-clause-value : goal.returns-in-TooShort-clause-value
+returns-in-TooShort-clause-value c =
+    longest_if_short c.self.inside.places _ c.in-TooShort.longest c.in-TooShort.ensures.short
+    ∙ ap longest_free_run c.self.view_is
