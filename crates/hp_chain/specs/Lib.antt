@@ -1,0 +1,4 @@
+pub mod Chain
+pub mod Writes
+pub mod Edits
+pub mod Laws

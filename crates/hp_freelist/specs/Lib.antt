@@ -1,0 +1,7 @@
+pub mod Lists
+pub mod Search
+pub mod Greatest
+pub mod Links
+pub mod Heads
+pub mod Best
+pub mod Laws

@@ -1,0 +1,14 @@
+//! A heap's thirteen free lists, one for each size class, linked by the keys of the elements.
+#![tactic(auto)]
+
+mod heads;
+mod laws;
+mod link;
+mod linked;
+mod lists;
+mod search;
+#[cfg(test)]
+mod tests;
+
+pub use laws::search_law;
+pub use lists::Lists;

@@ -1,0 +1,110 @@
+ghost use Rattle.std.specs.Prelude.{◌≡◌, ℕ, ◌+◌, ◌<◌, ◌≤◌, true, false, [], length, IfSome, IfNone, OnOk, OnErr};
+ghost use Rattle.hp_freelist.specs.Lists.{empty_lists, is_listed, with_head, without};
+ghost use Rattle.hp_freelist.specs.Search.{keys_from, IsFirstPassing};
+ghost use Rattle.hp_freelist.specs.Greatest.{all_elements, IsGreatest};
+
+use crate::heads::Heads;
+use crate::link::{Link, grow};
+use crate::linked::{insert, take_out};
+use crate::search::{first_in, greatest_in};
+use hp_base::{HEADER, LINE};
+use std::alloc::{AllocError, Global};
+use std::marker::Model;
+
+/// The thirteen free lists of a heap, one for each size class: keys of elements with their whole sizes in bytes, the one
+/// inserted last at the head. After the array `free_head` of `struct malloc_heap` in rte_malloc, where the links stand in the
+/// headers; the number of classes is own.
+#[derive(Drop)]
+pub struct Lists {
+    links: Vec<Link>,
+    heads: Heads,
+}
+
+impl Model for Lists {
+    ghost use Rattle.std.specs.Prelude.{vec_len};
+    ghost use Rattle.hp_freelist.specs.Lists.{FreeLists};
+    ghost use Rattle.hp_freelist.specs.Links.{lists_of, IsLinked};
+
+    ghost Value = { FreeLists };
+
+    ghost view = { λ l. record { lists = lists_of l.links.items l.heads; room = vec_len l.links } };
+
+    ghost invariant = { λ l. IsLinked l.links.items l.heads (lists_of l.links.items l.heads) };
+}
+
+impl Lists {
+    /// Empty lists, which take no memory, and no room for any key.
+    pub fn new(alloc: Global) -> Lists
+        ensures lists { result.lists ≡ empty_lists }
+        ensures room { result.room ≡ 0 }
+        ensures count { length result.lists ≡ 13 }
+    {
+        Lists {
+            links: Vec::new(alloc),
+            heads: Heads::new(),
+        }
+    }
+
+    /// Makes room for the keys below `n`.
+    pub fn reserve(&mut self, n: usize) -> Result<(), AllocError>
+        ensures room { OnOk result (n ≤ self.new.room) }
+        ensures kept { self.old.room ≤ self.new.room }
+        ensures lists { self.new.lists ≡ self.old.lists }
+        ensures count { length self.new.lists ≡ 13 }
+        ensures err { OnErr result (self.new.room ≡ self.old.room) }
+    {
+        grow(&mut self.links, n)
+    }
+
+    /// Inserts a key at the head of the list of its class, in constant time. After malloc_elem_free_list_insert of
+    /// rte_malloc.
+    pub fn insert_head(&mut self, key: usize, whole: u64)
+        requires room { key < self.old.room }
+        requires unlisted { is_listed key self.old.lists ≡ false }
+        requires least { HEADER + LINE ≤ whole }
+        ensures lists { self.new.lists ≡ with_head key whole self.old.lists }
+        ensures room { self.new.room ≡ self.old.room }
+        ensures count { length self.new.lists ≡ 13 }
+    {
+        insert(&mut self.links, &mut self.heads, key, whole);
+    }
+
+    /// Removes a key from its list, in constant time. After malloc_elem_free_list_remove of rte_malloc.
+    pub fn remove(&mut self, key: usize)
+        requires { is_listed key self.old.lists ≡ true }
+        ensures lists { self.new.lists ≡ without key self.old.lists }
+        ensures room { self.new.room ≡ self.old.room }
+        ensures count { length self.new.lists ≡ 13 }
+    {
+        take_out(&mut self.links, &mut self.heads, key);
+    }
+
+    /// The first key that passes the test, from the list of a class upwards and in each list from its head. It looks at keys
+    /// of those classes alone, and passes over empty lists. After find_suitable_element of rte_malloc.
+    pub fn first_from<F: Fn(usize) -> bool>(&self, class: u8, test: F) -> Option<usize>
+        requires class { class ≤ 12 }
+        requires callable { (key : ℕ) → is_listed key self.now.lists ≡ true → F.pre test key }
+        ensures { IsFirstPassing (F.post test) (keys_from class self.now.lists) result }
+    {
+        let mut from = class;
+        while let Some(next) = self.heads.next_from(from) {
+            let found = first_in(&self.links, self.heads.first(next), &test);
+            if found.is_some() {
+                return found;
+            }
+            from = next + 1;
+        }
+        None
+    }
+
+    /// The key of the greatest whole size, and of several the first, from class 0 on. It looks at one list alone. Own.
+    pub fn greatest(&self) -> Option<usize>
+        ensures greatest { IfSome result (IsGreatest (all_elements self.now.lists)) }
+        ensures none { IfNone result (all_elements self.now.lists ≡ []) }
+    {
+        match self.heads.last() {
+            Some(class) => greatest_in(&self.links, self.heads.first(class)),
+            None => None,
+        }
+    }
+}
