@@ -1,0 +1,10 @@
+use Rattle.slab.specs.Slab.{slab_len}
+use Rattle.std.proofs.Common.{◌≡◌, ◌-◌}
+use Rattle.hp_chain.specs.Chain.{walk}
+use Rattle.hp_elem.specs.Items.{first_tagged}
+use Rattle.hp_elem.specs.Links.{place_at}
+use Rattle.hp_elem.proofs.search.find_tag.Given as goal
+
+abbrev pub invariant-loop-i : goal.invariant-loop-i
+invariant-loop-i l = first_tagged l.tag.zone l.tag.number (walk (place_at l.slots) (l._i-end - l._i) l.at)
+    ≡ first_tagged l.tag.zone l.tag.number (walk (place_at l.slots) (slab_len l.slots) l.fn.from)

@@ -1,0 +1,10 @@
+pub mod Items
+pub mod Order
+pub mod View
+pub mod Links
+pub mod Index
+pub mod Gaps
+pub mod Tags
+pub mod Lowest
+pub mod Laws
+pub mod Worked

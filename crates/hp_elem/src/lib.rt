@@ -1,0 +1,21 @@
+//! The elements of a heap under keys, each linked to its neighbours in address order.
+#![tactic(auto)]
+
+mod chain;
+mod edits;
+mod elems;
+mod filing;
+mod gaps;
+mod laws;
+mod link;
+mod lowest;
+mod node;
+mod search;
+mod starts;
+mod tags;
+#[cfg(test)]
+mod tests;
+
+pub use elems::Elems;
+pub use laws::split_law;
+pub use node::Node;
