@@ -10,20 +10,20 @@ use Rattle.hp_base.specs.declared.row.Run.{Run}
 use Rattle.hp_base.specs.declared.pool_line.PoolLine.{PoolLine}
 use Rattle.hp_pool.specs.Pools.{pool_of, with_fewer, Takes}
 use Rattle.hp_pool.specs.declared.pool.Pool.{Pool}
-use Rattle.hp_segs.specs.Log.{run_in}
+use Rattle.hp_log.specs.Log.{run_in}
 use Rattle.hp_segs.specs.Lists.{lists_of, is_of_pool, free_pages}
 use Rattle.hp_segs.specs.Masks.{with_places}
-use Rattle.hp_segs.specs.Rows.{row_of, rows_of, rows_at, at_slot, IsUnusedRun}
+use Rattle.hp_log.specs.Rows.{row_of, rows_of, rows_at, at_slot, IsUnusedRun}
 use Rattle.hp_segs.specs.Table.{IsTable, IsPlaced, IsStamped, IsListRun}
 use Rattle.hp_segs.specs.TableLayout.{IsLaidOut, pool_beside}
 use Rattle.hp_segs.specs.declared.list_info.ListInfo.{ListInfo}
-use Rattle.hp_segs.specs.declared.log_record.LogRecord.{LogRecord}
-use Rattle.hp_segs.specs.declared.log_record.LogRecord.TheVariants.{Add}
-use Rattle.hp_segs.proofs.Counts.{count_append}
-use Rattle.hp_segs.proofs.LogLemmas.{table_of_push, well_formed_push}
+use Rattle.hp_log.specs.declared.log_record.LogRecord.{LogRecord}
+use Rattle.hp_log.specs.declared.log_record.LogRecord.TheVariants.{Add}
+use Rattle.hp_log.proofs.Counts.{count_append}
+use Rattle.hp_log.proofs.LogLemmas.{table_of_push, well_formed_push}
 use Rattle.hp_segs.proofs.MaskStepLemmas.{masks_marked, slots_added, others_added}
 use Rattle.hp_segs.proofs.PoolCounts.{added_count, run_of_pool}
-use Rattle.hp_segs.proofs.RowLemmas.{all_rows_below, run_rows_at}
+use Rattle.hp_log.proofs.RowLemmas.{all_rows_below, run_rows_at}
 
 -- each slot still has one row at most
 pub once_added : (rows : List Row) (run : Run) (generation : ℕ) → IsUnusedRun rows run

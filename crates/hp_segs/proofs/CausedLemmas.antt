@@ -2,24 +2,26 @@
 use Rattle.std.proofs.Common.{◌≡◌, ◌∙◌, ℕ, ◌-◌, ◌≤◌, false, ◌||◌, List, [], ◌∷◌, ◌++◌, length, Option, Some, None, IfSome, refl, ap, sym, subst, arith, append_assoc, append-nil, length-append}
 use Rattle.std.specs.List.{All, slice_get}
 use Rattle.std.specs.Option.{option_and_then}
-use Rattle.std.proofs.lemmas.List.Elements.{All-weaker}
+use Rattle.std.specs.List.Sorted.{IsNonDecreasingBy}
+use Rattle.std.proofs.lemmas.List.Elements.{All-cons, All-nil, All-weaker}
+use Rattle.std.proofs.lemmas.List.Sorted.{IsNonDecreasingBy-push}
 use Rattle.hp_segs.specs.SegsView.{added_run, run_of}
-use Rattle.hp_segs.specs.Sound.{IsGranted}
+use Rattle.hp_segs.specs.SoundAsks.{IsGranted}
 use Rattle.std.proofs.lemmas.Bool.{or_from}
 use Rattle.std.proofs.lemmas.List.{take-append-le}
 use Rattle.std.proofs.lemmas.List.Folds.{list_any-append}
 use Rattle.hp_base.specs.declared.row.Run.{Run}
 use Rattle.hp_base.specs.declared.pool_line.PoolLine.{PoolLine}
 use Rattle.hp_base.specs.declared.map_answer.MapAnswer.{MapAnswer}
-use Rattle.hp_segs.specs.Causes.{IsGrant, HasCause, IsCaused, AllCaused}
+use Rattle.hp_segs.specs.Causes.{HasCause, IsCaused, AllCaused}
 use Rattle.hp_segs.specs.LaterSteps.{outcome_fails_from, has_failed_from}
 use Rattle.hp_segs.specs.Lists.{pages_beside}
-use Rattle.hp_segs.specs.Log.{table_of, table_at}
+use Rattle.hp_log.specs.Log.{table_of, table_at}
 use Rattle.hp_segs.specs.Plan.{IsFirstFor}
-use Rattle.hp_segs.specs.Refusals.{IsShort, IsFull, IsUnfit, IsDenied, IsFailedGrowth, IsFailedMapping, HasRefusalCause, IsNotedCause, IsNoted}
+use Rattle.hp_segs.specs.Refusals.{IsAddOf, IsShort, IsFull, IsUnfit, IsDenied, IsFailedGrowth, IsFailedMapping, HasRefusalCause, IsNotedCause, IsNoted}
 use Rattle.hp_segs.specs.declared.ask.Ask.{Ask}
 use Rattle.hp_segs.specs.declared.growth.Growth.{Growth}
-use Rattle.hp_segs.specs.declared.log_record.LogRecord.{LogRecord}
+use Rattle.hp_log.specs.declared.log_record.LogRecord.{LogRecord}
 use Rattle.hp_segs.specs.declared.outcome.AskLog.{AskLog}
 use Rattle.hp_segs.specs.declared.outcome.Cause.{Cause}
 use Rattle.hp_segs.specs.declared.outcome.Cause.TheVariants.{NoList, TooFew, ListFull, CannotHold, Denied, MapFailed, Late, Withdrawn}
@@ -60,17 +62,28 @@ pub table_at_stays : (log more : List LogRecord) (at : ℕ) → at ≤ length lo
 table_at_stays log more at within = sym (ap table_of (take-append-le at log more within))
 
 module _ (pools : List PoolLine) (log more : List LogRecord) where
-  failed_stays : (at : ℕ) (ask : Ask) (run : Run) → IsFailedGrowth log at ask run → IsFailedGrowth (log ++ more) at ask run
-  failed_stays at ask run failed = record {
-    some = failed.some;
-    added = get_stays log more (at - 1) _ failed.added;
+  pub grown_stays : (at : ℕ) (ask : Ask) (run : Run) → at ≤ length log → IsAddOf pools log at ask run → IsAddOf pools (log ++ more) at ask run
+  grown_stays at ask run within grown =
+      let table = table_at_stays log more (at - 1) (omega (arith, within)) in
+      record {
+        some = grown.some;
+        added = get_stays log more (at - 1) _ grown.added;
+        first = subst (λ table. IsFirstFor pools table ask run) table grown.first;
+        enough = subst (λ table. run.count ≤ pages_beside pools table run.list) table grown.enough;
+      }
+
+  failed_stays : (at : ℕ) (ask : Ask) (run : Run) → at ≤ length log → IsFailedGrowth pools log at ask run
+      → IsFailedGrowth pools (log ++ more) at ask run
+  failed_stays at ask run within failed = record {
+    grown = grown_stays at ask run within failed.grown;
     dropped = get_stays log more at _ failed.dropped;
   }
 
-  mapping_stays : (at : ℕ) (ask : Ask) (addr : ℕ) (got : MapAnswer) → IsFailedMapping log at ask addr got → IsFailedMapping (log ++ more) at ask addr got
-  mapping_stays at ask addr got mapping = record {
+  mapping_stays : (at : ℕ) (ask : Ask) (addr : ℕ) (got : MapAnswer) → at ≤ length log → IsFailedMapping pools log at ask addr got
+      → IsFailedMapping pools (log ++ more) at ask addr got
+  mapping_stays at ask addr got within mapping = record {
     run = mapping.run;
-    failed = failed_stays at ask mapping.run mapping.failed;
+    failed = failed_stays at ask mapping.run within mapping.failed;
     row = mapping.row;
   }
 
@@ -85,23 +98,13 @@ module _ (pools : List PoolLine) (log more : List LogRecord) where
       subst (λ table. IsUnfit pools table ask addr len) (table_at_stays log more at within) has
   refusal_stays before at ask (Denied validator limit total) within has =
       subst (λ table. IsDenied pools table ask limit total) (table_at_stays log more at within) has
-  refusal_stays before at ask (MapFailed participant call addr got) within has = (mapping_stays at ask addr got has.0, has.1)
-  refusal_stays before at ask (Late participant from to) within has = (has.0, failed_stays at ask has.0 has.1)
+  refusal_stays before at ask (MapFailed participant call addr got) within has = (mapping_stays at ask addr got within has.0, has.1)
+  refusal_stays before at ask (Late participant from to) within has = (has.0, failed_stays at ask has.0 within has.1)
   refusal_stays before at ask (Withdrawn from to) within has = has
-
-  grant_stays : (at : ℕ) (ask : Ask) (run : Run) → at ≤ length log → IsGrant pools log at ask run → IsGrant pools (log ++ more) at ask run
-  grant_stays at ask run within grant =
-      let table = table_at_stays log more (at - 1) (omega (arith, within)) in
-      record {
-        some = grant.some;
-        added = get_stays log more (at - 1) _ grant.added;
-        first = subst (λ table. IsFirstFor pools table ask run) table grant.first;
-        enough = subst (λ table. run.count ≤ pages_beside pools table run.list) table grant.enough;
-      }
 
   cause_stays : (before : List AskLog) (entry : AskLog) (outcome : Outcome) → entry.at ≤ length log
       → HasCause pools log before entry outcome → HasCause pools (log ++ more) before entry outcome
-  cause_stays before entry (Granted generation) within has = (has.0, has.1, has.2, has.3, grant_stays entry.at has.0 has.1 within has.4)
+  cause_stays before entry (Granted generation) within has = (has.0, has.1, has.2, has.3, grown_stays entry.at has.0 has.1 within has.4)
   cause_stays before entry (Refused cause) within has = (has.0, has.1, refusal_stays before entry.at has.0 cause within has.2)
   cause_stays before entry (Stale done) within has = has
   cause_stays before entry (Freed generation) within has = has
@@ -160,3 +163,19 @@ pub noted_stays : (asks : List AskLog) (entry : AskLog) (growth : Option Growth)
     → IsNoted (asks ++ entry ∷ []) growth
 noted_stays asks entry None other old = tt
 noted_stays asks entry (Some growth) other old = noted_by asks entry growth growth.noted other old
+
+within_from : (pools : List PoolLine) (log : List LogRecord) (before asks : List AskLog) → AllCaused pools log before asks
+    → All (λ entry. entry.at ≤ length log) asks
+within_from pools log before [] caused = All-nil (λ (entry : AskLog). entry.at ≤ length log)
+within_from pools log before (entry ∷ asks) caused =
+    All-cons (λ (entry : AskLog). entry.at ≤ length log) entry asks caused.0.within (within_from pools log (before ++ entry ∷ []) asks caused.1)
+
+-- the numbers that the outcomes keep do not fall where one is logged beside all records
+pub in_time_push : (pools : List PoolLine) (log : List LogRecord) (asks : List AskLog) (entry : AskLog) → AllCaused pools log [] asks
+    → length log ≤ entry.at → IsNonDecreasingBy (λ (entry : AskLog). entry.at) asks
+    → IsNonDecreasingBy (λ (entry : AskLog). entry.at) (asks ++ entry ∷ [])
+in_time_push pools log asks entry caused at rising =
+    IsNonDecreasingBy-push (λ (entry : AskLog). entry.at) asks entry rising
+    (λ d some.
+    let last = within_from pools log [] asks caused (length asks - 1) d (omega (arith, some)) in
+    omega (arith, last, at))

@@ -1,33 +1,27 @@
 -- Grants that are claimed, and that a claim keeps a value sound.
-use Rattle.std.proofs.Common.{◌≡◌, ℕ, ◌-◌, ◌<◌, Bool, true, false, List, [], ◌∷◌, length, get_or, Option, Some, None, refl, ap, ◌∙◌, sym, subst, cond, ◌==◌, if◌then◌else◌, ◌++◌, map, not}
+use Rattle.std.proofs.Common.{◌≡◌, ℕ, ◌-◌, ◌<◌, Bool, true, false, List, [], ◌∷◌, length, get_or, Option, Some, None, refl, ap, ◌∙◌, sym, subst, cond, ◌==◌, if◌then◌else◌, map, not}
 use Rattle.std.specs.List.{All, find, slice_get}
 use Rattle.std.specs.Option.{option_map, option_and_then}
 use Rattle.std.proofs.lemmas.Option.{slice_get_within}
-use Rattle.std.proofs.lemmas.List.Elements.{All-head, All-tail, All-map}
+use Rattle.std.proofs.lemmas.List.Elements.{All-head, All-tail}
 use Rattle.hp_base.specs.declared.row.Run.{Run}
-use Rattle.hp_segs.specs.SegsView.{added_run, granted_by, grant_of, grants_or_refuses, run_of, rows_in, is_opened, is_retiring}
-use Rattle.hp_segs.specs.Sound.{IsGranted, IsLogged, AreHeld, in_runs, has_stamp, growth_run}
-use Rattle.hp_segs.specs.declared.log_record.LogRecord.{LogRecord}
+use Rattle.hp_segs.specs.SegsView.{added_run, granted_by, grant_of, grants_or_refuses, run_of, is_opened, is_retiring}
+use Rattle.hp_segs.specs.SoundRows.{IsLogged}
+use Rattle.hp_segs.specs.SoundAsks.{IsGranted}
+use Rattle.hp_log.specs.declared.log_record.LogRecord.{LogRecord}
 use Rattle.hp_segs.specs.declared.outcome.AskLog.{AskLog}
 use Rattle.hp_segs.specs.declared.outcome.Outcome.{Outcome}
 use Rattle.hp_segs.specs.declared.outcome.Outcome.TheVariants.{Granted, Refused, Stale, Freed}
 use Rattle.hp_segs.proofs.QueryLemmas.{get_within}
-use Rattle.hp_segs.proofs.StateLemmas.{claimed_rows, chosen_row}
-use Rattle.hp_segs.proofs.HeapRows.{heaps_claimed}
+use Rattle.hp_segs.proofs.StateLemmas.{chosen_row}
 use Rattle.hp_segs.proofs.GrowthLemmas.{chosen_same, growth_stays}
 use Rattle.hp_base.specs.declared.pool_line.PoolLine.{PoolLine}
 use Rattle.hp_segs.specs.declared.row_state.Segment.{Segment}
 use Rattle.hp_segs.specs.declared.row_state.RowState.TheVariants.{Opened, Agreed, Owned, Retiring}
 use Rattle.hp_segs.specs.declared.row_state.RowState.{RowState}
 use Rattle.hp_segs.specs.declared.growth.Growth.{Growth}
-use Rattle.hp_segs.specs.declared.external_range.ExternalRange.{ExternalRange}
-use Rattle.hp_segs.specs.declared.ask.Ask.{Ask}
-use Rattle.hp_segs.specs.Table.{TableView, IsTable}
 use Rattle.hp_segs.specs.Steps.{segment_of, claimed_segment, claimed_state}
-use Rattle.hp_segs.specs.Rows.{rows_of}
-use Rattle.hp_segs.specs.SegsLayout.{IsKept}
-use Rattle.hp_segs.specs.Lists.{lists_of}
-use Rattle.hp_segs.specs.AsksView.{AsksView}
+use Rattle.hp_log.specs.Rows.{rows_of}
 
 found_by : {X : Type 0} (p : X → Bool) (P : X → Type 0) (x : X) (xs : List X) (b : Bool) (y : X) → All P (x ∷ xs)
     → (find p xs ≡ Some y → P y) → cond b (Some x) (find p xs) ≡ Some y → P y
@@ -91,7 +85,7 @@ claimed_opened (Agreed heap) = refl
 claimed_opened (Owned heap) = refl
 claimed_opened Retiring = refl
 
-claimed_retired : (state : RowState) → is_retiring (claimed_state state) ≡ is_retiring state
+pub claimed_retired : (state : RowState) → is_retiring (claimed_state state) ≡ is_retiring state
 claimed_retired Opened = refl
 claimed_retired (Agreed heap) = refl
 claimed_retired (Owned heap) = refl
@@ -102,7 +96,7 @@ pub chosen_test : (test : RowState → Bool) → ((state : RowState) → test (c
 chosen_test test same true segment = same segment.state
 chosen_test test same false segment = refl
 
-claimed_growth : (pools : List PoolLine) (log : List LogRecord) (generation : ℕ) (growth : Option Growth) (segments : List Segment)
+pub claimed_growth : (pools : List PoolLine) (log : List LogRecord) (generation : ℕ) (growth : Option Growth) (segments : List Segment)
     → IsLogged pools log segments growth → IsLogged pools log (map (claimed_segment generation) segments) growth
 claimed_growth pools log generation None segments old = tt
 claimed_growth pools log generation (Some growth) segments old =
@@ -113,46 +107,3 @@ claimed_growth pools log generation (Some growth) segments old =
     (λ k d within.
     chosen_same ((get_or (rows_of growth.run growth.generation) k d).generation == generation) (segment_of Opened (get_or (rows_of growth.run growth.generation) k d)))
     old
-
-module _ {table : TableView} {asks : AsksView} {retiring : List Run} {roster : List Bool} {armed : List (Option Ask)} {ranges : List ExternalRange} {spare room : ℕ} where
-  -- the rows of a grant are claimed
-  pub kept_claim : {growth : Option Growth} (generation : ℕ) → IsKept table asks retiring growth roster armed ranges spare room
-      → IsKept (record table { segments = map (claimed_segment generation) table.segments }) asks retiring growth roster armed ranges spare room
-  kept_claim {growth} generation kept =
-      let f : Segment → Segment = claimed_segment generation in
-      let rows : rows_in (map f table.segments) ≡ rows_in table.segments = claimed_rows generation table.segments in
-      let row : (segment : Segment) → (f segment).row ≡ segment.row =
-      λ segment. chosen_row (segment.row.generation == generation) _ segment refl in
-      record {
-        sound = record {
-          table = subst (IsTable table.pools table.log) (sym rows) kept.sound.table;
-          held = subst (λ rows. AreHeld (lists_of table.pools) rows (growth_run growth ++ retiring)) (sym rows) kept.sound.held;
-          opened =
-              All-map (λ segment. is_opened segment.state ≡ in_runs (growth_run growth) segment.row) f table.segments
-              (λ k d within.
-              chosen_test is_opened claimed_opened ((get_or table.segments k d).row.generation == generation) (get_or table.segments k d)
-              ∙ (kept.sound.opened k d within ∙ ap (in_runs (growth_run growth)) (sym (row (get_or table.segments k d)))));
-          stamped =
-              All-map (λ segment. is_opened segment.state ≡ has_stamp growth segment.row) f table.segments
-              (λ k d within.
-              chosen_test is_opened claimed_opened ((get_or table.segments k d).row.generation == generation) (get_or table.segments k d)
-              ∙ (kept.sound.stamped k d within ∙ ap (has_stamp growth) (sym (row (get_or table.segments k d)))));
-          retired =
-              All-map (λ segment. is_retiring segment.state ≡ in_runs retiring segment.row) f table.segments
-              (λ k d within.
-              chosen_test is_retiring claimed_retired ((get_or table.segments k d).row.generation == generation) (get_or table.segments k d)
-              ∙ (kept.sound.retired k d within ∙ ap (in_runs retiring) (sym (row (get_or table.segments k d)))));
-          heaps = heaps_claimed table.log generation table.segments kept.sound.heaps;
-          logged = claimed_growth _ _ generation growth table.segments kept.sound.logged;
-          noted = kept.sound.noted;
-          granted = kept.sound.granted;
-          once = kept.sound.once;
-          unanswered = kept.sound.unanswered;
-          caused = kept.sound.caused;
-          participants = kept.sound.participants;
-          ranges = kept.sound.ranges;
-        };
-        records = kept.records;
-        outcomes = kept.outcomes;
-        runs = kept.runs;
-      }

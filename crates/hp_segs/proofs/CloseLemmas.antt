@@ -8,11 +8,12 @@ use Rattle.hp_base.specs.declared.row.Row.{Row}
 use Rattle.hp_base.specs.declared.row.Run.{Run}
 use Rattle.hp_segs.specs.Calls.{IsCloseCause, IsRefusalOf, IsDenial}
 use Rattle.hp_segs.specs.Causes.{HasCause, IsCaused, IsKeptAsk}
-use Rattle.hp_segs.specs.Log.{table_of, table_at}
+use Rattle.hp_log.specs.Log.{table_of, table_at}
 use Rattle.hp_segs.specs.Plan.{IsFirstFor, plan_of}
-use Rattle.hp_segs.specs.Refusals.{IsShort, IsFull, IsUnfit, HasRefusalCause, bytes_on}
+use Rattle.hp_segs.specs.Refusals.{IsShort, IsFull, IsUnfit, IsPlanRefusal, HasRefusalCause, bytes_on}
 use Rattle.hp_segs.specs.SegsView.{SegsView, rows_in, is_opened, is_retiring, is_counted, counted_bytes, total_of}
-use Rattle.hp_segs.specs.Sound.{IsSound, in_runs, growth_run}
+use Rattle.hp_segs.specs.Sound.{IsSound}
+use Rattle.hp_segs.specs.SoundRows.{in_runs, growth_run}
 use Rattle.hp_segs.specs.declared.ask.Ask.{Ask}
 use Rattle.hp_segs.specs.declared.outcome.AskLog.{AskLog}
 use Rattle.hp_segs.specs.declared.outcome.Cause.{Cause}
@@ -24,7 +25,7 @@ use Rattle.hp_segs.specs.declared.row_state.RowState.{RowState}
 use Rattle.hp_segs.specs.declared.row_state.RowState.TheVariants.{Opened, Agreed, Owned, Retiring}
 use Rattle.hp_segs.specs.declared.row_state.Segment.{Segment}
 use Rattle.hp_segs.proofs.PlannedLemmas.{open_plan}
-use Rattle.hp_segs.proofs.RefusalLemmas.{IsPlanCause, refused_plan}
+use Rattle.hp_segs.proofs.RefusalLemmas.{refused_plan}
 
 counts : (state : RowState) → is_opened state ≡ false → is_retiring state ≡ false → is_counted state ≡ true
 counts Opened settled stays = cc
@@ -53,10 +54,10 @@ all_bytes (segment ∷ segments) socket settled stays =
 module _ (segs : SegsView) (ask : Ask) (before : List AskLog) (sound : IsSound segs) where
   -- the rows are the table of all records
   rows_now : rows_in segs.segments ≡ table_at segs.log (length segs.log)
-  rows_now = sound.table.table ∙ ap table_of (sym (take-length segs.log))
+  rows_now = sound.rows.table.table ∙ ap table_of (sym (take-length segs.log))
 
   refusal_cause : (refusal : PlanRefusal) (cause : Cause) → IsRefusalOf refusal cause
-      → IsPlanCause segs.pools (rows_in segs.segments) ask refusal
+      → IsPlanRefusal ask segs refusal
       → HasRefusalCause segs.pools segs.log before (length segs.log) ask cause
   refusal_cause (StaleAsk number done) cause is has = absurd is
   refusal_cause (GrowthOpen generation) cause is has = absurd is
@@ -79,16 +80,16 @@ module _ (segs : SegsView) (ask : Ask) (before : List AskLog) (sound : IsSound s
   denial_cause run (why.CannotHold addr len) alone plan is = absurd is
   denial_cause run (why.Denied validator limit total) alone plan is =
       let settled : All (λ segment. is_opened segment.state ≡ false) segs.segments =
-      λ k d within. sound.opened k d within ∙ ap (λ g. in_runs (growth_run g) (get_or segs.segments k d).row) alone in
+      λ k d within. sound.rows.opened k d within ∙ ap (λ g. in_runs (growth_run g) (get_or segs.segments k d).row) alone in
       let stays : All (λ segment. is_retiring segment.state ≡ false) segs.segments =
-      λ k d within. sound.retired k d within ∙ ap (λ runs. in_runs runs (get_or segs.segments k d).row) is.0 in
+      λ k d within. sound.rows.retired k d within ∙ ap (λ runs. in_runs runs (get_or segs.segments k d).row) is.0 in
       let bytes : total_of segs.segments ask.socket ≡ bytes_on (table_at segs.log (length segs.log)) ask.socket =
       all_bytes segs.segments ask.socket settled stays ∙ ap (λ rows. bytes_on rows ask.socket) rows_now in
       record {
         run = run;
         first =
             subst (λ table. IsFirstFor segs.pools table ask run) rows_now
-            (open_plan segs ask run sound.table.limits plan).planned.first;
+            (open_plan segs ask run sound.rows.table.limits plan).planned.first;
         sum = is.1 ∙ ap (λ bytes. bytes + run.count * run.page) bytes;
         above = is.2;
       }

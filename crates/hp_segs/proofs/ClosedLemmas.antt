@@ -1,7 +1,7 @@
 -- Closed numbers and set-aside places, as outcomes are logged.
-use Rattle.std.proofs.Common.{◌≡◌, ◌≢◌, ◌==◌, ℕ, ◌<◌, ◌≤◌, max, Bool, true, false, not, ◌&&◌, ◌||◌, cond, if◌then◌else◌, List, [], ◌∷◌, ◌++◌, length, get_or, set, Option, Some, None, refl, ap, ◌∙◌, sym, arith, inl, inr, count_by, get_or-set_same, get_or-set_other, slice_index, eq-eqb}
+use Rattle.std.proofs.Common.{◌≡◌, ◌≢◌, ◌==◌, ℕ, zero, suc, ◌+◌, ◌<◌, ◌≤◌, max, Bool, true, false, not, ◌&&◌, ◌||◌, cond, if◌then◌else◌, List, [], ◌∷◌, ◌++◌, length, get_or, set, Option, Some, None, refl, ap, ◌∙◌, sym, arith, inl, inr, count_by, get_or-set_same, get_or-set_other, slice_index, eq-eqb}
 use Rattle.std.proofs.Math.ListN.{length-set}
-use Rattle.std.specs.List.{list_any}
+use Rattle.std.specs.List.{list_any, slice_get}
 use Rattle.std.proofs.lemmas.Bool.{cases_eq, and_left, ne_eqb}
 use Rattle.std.proofs.lemmas.List.Folds.{list_any-append}
 use Rattle.std.proofs.lemmas.List.FromFn.{fill_by_all, get_or-map-range_with_len}
@@ -10,7 +10,7 @@ use Rattle.hp_segs.specs.AsksView.{AreClosed, closed_after}
 use Rattle.hp_segs.specs.SegsView.{closed_number, is_stale, is_unanswered, grants_or_refuses}
 use Rattle.hp_segs.specs.declared.ask.Ask.{Ask}
 use Rattle.hp_segs.specs.declared.outcome.AskLog.{AskLog}
-use Rattle.hp_segs.proofs.Counts.{count_cons}
+use Rattle.hp_log.proofs.Counts.{count_cons}
 
 and_false : (b : Bool) → (b && false) ≡ false
 and_false true = refl
@@ -94,6 +94,42 @@ aside_push asks entry (one ∷ armed) =
       arith,
       unanswered_fewer asks entry one,
       aside_push asks entry armed,
+      count_cons (is_unanswered (asks ++ entry ∷ [])) one armed,
+      count_cons (is_unanswered asks) one armed,
+    )
+
+or_last : (a b : Bool) → b ≡ true → (a || (b || false)) ≡ true
+or_last true b is = refl
+or_last false true is = refl
+or_last false false is = cc
+
+-- an outcome that answers an armed ask sets two places fewer aside
+pub aside_falls : (asks : List AskLog) (entry : AskLog) (armed : List (Option Ask)) (place : ℕ) (ask : Ask) → slice_get armed place ≡ Some (Some ask)
+    → grants_or_refuses ask.from ask.number entry ≡ true → is_unanswered asks (Some ask) ≡ true
+    → count_by (is_unanswered (asks ++ entry ∷ [])) armed + 1 ≤ count_by (is_unanswered asks) armed
+aside_falls asks entry [] place ask here answers unanswered = cc
+aside_falls asks entry (one ∷ armed) zero ask here answers unanswered =
+    let same : one ≡ Some ask = cc in
+    let now : is_unanswered (asks ++ entry ∷ []) (Some ask) ≡ false =
+    ap not (list_any-append (grants_or_refuses ask.from ask.number) asks (entry ∷ [])
+    ∙ or_last (list_any (grants_or_refuses ask.from ask.number) asks) (grants_or_refuses ask.from ask.number entry) answers) in
+    let none : ◌≡◌ {A = ℕ} (cond (is_unanswered (asks ++ entry ∷ []) one) 1 0) 0 =
+    ap (λ o. cond (is_unanswered (asks ++ entry ∷ []) o) 1 0) same ∙ ap (λ b. cond b 1 0) now in
+    let some : ◌≡◌ {A = ℕ} (cond (is_unanswered asks one) 1 0) 1 =
+    ap (λ o. cond (is_unanswered asks o) 1 0) same ∙ ap (λ b. cond b 1 0) unanswered in
+    omega (
+      arith,
+      none,
+      some,
+      aside_push asks entry armed,
+      count_cons (is_unanswered (asks ++ entry ∷ [])) one armed,
+      count_cons (is_unanswered asks) one armed,
+    )
+aside_falls asks entry (one ∷ armed) (suc place) ask here answers unanswered =
+    omega (
+      arith,
+      unanswered_fewer asks entry one,
+      aside_falls asks entry armed place ask here answers unanswered,
       count_cons (is_unanswered (asks ++ entry ∷ [])) one armed,
       count_cons (is_unanswered asks) one armed,
     )

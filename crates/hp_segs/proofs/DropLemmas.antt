@@ -1,36 +1,20 @@
 -- Steps that keep a value sound: a growth that fails.
-use Rattle.std.proofs.Common.{◌≡◌, ◌==◌, nat_le, ℕ, ◌+◌, ◌-◌, ◌<◌, ◌≤◌, Bool, true, false, not, ◌&&◌, ◌||◌, cond, List, [], ◌∷◌, ◌++◌, get_or, Option, Some, None, refl, ap, ◌∙◌, sym, subst, arith, count_by}
+use Rattle.std.proofs.Common.{◌≡◌, ◌==◌, nat_le, ℕ, ◌+◌, ◌<◌, Bool, true, false, not, ◌&&◌, ◌||◌, cond, List, [], ◌∷◌, get_or, refl, ap, ◌∙◌, sym, arith, count_by}
 use Rattle.std.specs.List.{All}
 use Rattle.std.proofs.lemmas.Bool.{false_from_ne_true, not-true, and_from, eq-eqb, le-leb, lt-ltb}
-use Rattle.std.proofs.lemmas.List.Elements.{All-push, All-head, All-filter, All-cons, All-nil}
+use Rattle.std.proofs.lemmas.List.Elements.{All-head, All-cons, All-nil}
 use Rattle.hp_base.specs.declared.row.Row.{Row}
 use Rattle.hp_base.specs.declared.row.Run.{Run}
-use Rattle.hp_segs.specs.AsksView.{AsksView}
-use Rattle.hp_segs.specs.Causes.{IsCaused}
-use Rattle.hp_segs.specs.Lists.{lists_of}
-use Rattle.hp_segs.specs.Rows.{rows_at, at_slot, in_run, IsUsedRun}
-use Rattle.hp_segs.specs.SegsLayout.{IsKept}
-use Rattle.hp_segs.specs.SegsView.{rows_in, is_opened, is_retiring}
-use Rattle.hp_segs.specs.Sound.{AreHeld, IsGranted, has_slot, in_runs}
-use Rattle.hp_segs.specs.Steps.{without_run}
-use Rattle.hp_segs.specs.Table.{TableView, IsTable, IsListRun}
-use Rattle.hp_segs.specs.declared.ask.Ask.{Ask}
-use Rattle.hp_segs.specs.declared.external_range.ExternalRange.{ExternalRange}
-use Rattle.hp_segs.specs.declared.growth.Growth.{Growth}
+use Rattle.hp_log.specs.Rows.{rows_at, at_slot, in_run, IsUsedRun}
+use Rattle.hp_segs.specs.SegsView.{is_opened}
+use Rattle.hp_segs.specs.SoundRows.{AreHeld, has_slot, in_runs}
+use Rattle.hp_segs.specs.Table.{IsListRun}
 use Rattle.hp_segs.specs.declared.list_info.ListInfo.{ListInfo}
-use Rattle.hp_segs.specs.declared.log_record.LogRecord.TheVariants.{Drop}
-use Rattle.hp_segs.specs.declared.outcome.AskLog.{AskLog}
 use Rattle.hp_segs.specs.declared.row_state.Segment.{Segment}
-use Rattle.hp_segs.proofs.CausedLemmas.{caused_push, caused_stays, grants_stay}
-use Rattle.hp_segs.proofs.ClosedLemmas.{aside_push}
-use Rattle.hp_segs.proofs.Counts.{count_filter, count_agree, count_cons}
-use Rattle.hp_segs.proofs.HeapRows.{IsOfHeap, heaps_stay}
-use Rattle.hp_segs.proofs.KeptLemmas.{logged_more, held_fewer}
-use Rattle.hp_segs.proofs.ListFacts.{all_kept}
-use Rattle.hp_segs.proofs.OnceLemmas.{once_more}
+use Rattle.hp_log.proofs.Counts.{count_filter, count_agree, count_cons}
+use Rattle.hp_segs.proofs.KeptLemmas.{held_fewer}
 use Rattle.hp_segs.proofs.RemoveLemmas.{rows_without}
 use Rattle.hp_segs.proofs.SlotLemmas.{in_run_by_slot}
-use Rattle.hp_segs.proofs.StateLemmas.{removed_rows}
 
 kept_at : (at : Bool) (inside : Bool) → (at ≡ true → inside ≡ false) → (not inside && at) ≡ at
 kept_at true inside out = ap (λ b. not b && true) (out refl)
@@ -97,65 +81,7 @@ pub held_first : {lists : List ListInfo} {rows : List Row} (run : Run) (runs : L
 held_first {lists} {rows} run runs held =
     (All-head (IsListRun lists) run runs held.listed, All-head (IsUsedRun rows) run runs held.used)
 
-not_opened : (segment : Segment) (run : Run) → not (in_run run segment.row) ≡ true → is_opened segment.state ≡ in_runs (run ∷ []) segment.row
+pub not_opened : (segment : Segment) (run : Run) → not (in_run run segment.row) ≡ true → is_opened segment.state ≡ in_runs (run ∷ []) segment.row
     → is_opened segment.state ≡ false
 not_opened segment run outside is =
     is ∙ ap (λ b. b || false) (not-true (in_run run segment.row) outside)
-
-module _ {table : TableView} {asks : AsksView} {retiring : List Run} {roster : List Bool} {armed : List (Option Ask)} {ranges : List ExternalRange} {spare room : ℕ} where
-  -- the open growth fails, and its ask is refused
-  pub kept_failure : (growth : Growth) (entry : AskLog) → IsKept table asks retiring (Some growth) roster armed ranges spare room
-      → IsGranted (table.log ++ Drop growth.run ∷ []) entry.outcome
-      → IsCaused table.pools (table.log ++ Drop growth.run ∷ []) asks.entries entry
-      → entry.from ≡ growth.ask.from → entry.number ≡ growth.ask.number → 2 ≤ spare
-      → IsTable table.pools (table.log ++ Drop growth.run ∷ []) (rows_in (without_run growth.run table.segments))
-      → IsKept
-      (record table {
-        log = table.log ++ Drop growth.run ∷ [];
-        segments = without_run growth.run table.segments;
-        room = table.room - 1;
-      })
-      (logged_more asks entry)
-      retiring
-      None
-      roster
-      armed
-      ranges
-      (spare - 2)
-      room
-  kept_failure growth entry kept granted cause who which some new =
-      let run : Run = growth.run in
-      let fewer = aside_push asks.entries entry armed in
-      let outside : Segment → Bool = λ segment. not (in_run run segment.row) in
-      let opened : All (λ segment. is_opened segment.state ≡ false) (without_run run table.segments) =
-      all_kept outside (λ segment. is_opened segment.state ≡ in_runs (run ∷ []) segment.row) (λ segment. is_opened segment.state ≡ false)
-      (λ segment out is. not_opened segment run out is) table.segments kept.sound.opened in
-      record {
-        sound = record {
-          table = new;
-          held =
-              subst (λ rows. AreHeld (lists_of table.pools) rows retiring) (sym (removed_rows run table.segments))
-              (held_without run retiring kept.sound.held);
-          opened = opened;
-          stamped = opened;
-          retired = All-filter outside (λ segment. is_retiring segment.state ≡ in_runs retiring segment.row) table.segments kept.sound.retired;
-          heaps =
-              All-filter outside (λ segment. IsOfHeap (table.log ++ Drop run ∷ []) segment) table.segments
-              (heaps_stay table.log (Drop run ∷ []) table.segments kept.sound.heaps);
-          logged = tt;
-          noted = tt;
-          granted =
-              All-push (λ entry. IsGranted (table.log ++ Drop run ∷ []) entry.outcome) asks.entries entry
-              (grants_stay table.log (Drop run ∷ []) asks.entries kept.sound.granted) granted;
-          once = once_more asks.entries entry growth.ask who which kept.sound.unanswered kept.sound.once;
-          unanswered = tt;
-          caused =
-              caused_push table.pools (table.log ++ Drop run ∷ []) [] asks.entries entry
-              (caused_stays table.pools table.log (Drop run ∷ []) [] asks.entries kept.sound.caused) cause;
-          participants = kept.sound.participants;
-          ranges = kept.sound.ranges;
-        };
-        records = omega (arith, kept.records, fewer, some);
-        outcomes = omega (arith, kept.outcomes, fewer, some);
-        runs = kept.runs;
-      }

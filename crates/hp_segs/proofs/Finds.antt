@@ -1,10 +1,10 @@
 -- The first element that passes, by a walk over the list.
-use Rattle.std.proofs.Common.{◌≡◌, ℕ, zero, suc, ◌+◌, ◌<◌, ◌≤◌, Bool, true, false, List, [], ◌∷◌, length, get_or, drop, Option, Some, None, refl, add-one, arith, sum_by, count_by, take, map, cond, ◌++◌, ◌||◌, ap, ◌∙◌}
+use Rattle.std.proofs.Common.{◌≡◌, ℕ, zero, suc, ◌+◌, ◌<◌, ◌≤◌, Bool, true, false, List, [], ◌∷◌, length, get_or, drop, Option, Some, None, refl, add-one, arith, sum_by, count_by, take, map, cond, ◌++◌, ◌||◌, ap, ◌∙◌, sym}
 use Rattle.std.proofs.Math.Seq.{drop-cons}
 use Rattle.std.proofs.lemmas.List.Sums.{sum_by_more_le}
 use Rattle.std.specs.List.{find, list_any}
 use Rattle.std.proofs.lemmas.Bool.{false_from_ne_true}
-use Rattle.hp_segs.proofs.Counts.{count_append, count_cons}
+use Rattle.hp_log.proofs.Counts.{count_append, count_cons}
 use Rattle.std.specs.Option.{option_map}
 
 module _ {X : Type 0} (p : X → Bool) where
@@ -91,3 +91,9 @@ pub find_mapped : {X Y : Type 0} (p : Y → Bool) (f : X → Y) (xs : List X) �
 find_mapped p f [] = refl
 find_mapped p f (x ∷ xs) =
     ap (λ found. cond (p (f x)) (Some (f x)) found) (find_mapped p f xs) ∙ find_by (p (f x)) x f (find (λ x. p (f x)) xs)
+
+-- mapped elements are counted as the elements are
+pub count_mapped : {X Y : Type 0} (p : Y → Bool) (f : X → Y) (xs : List X) → count_by p (map f xs) ≡ count_by (λ x. p (f x)) xs
+count_mapped p f [] = refl
+count_mapped p f (x ∷ xs) =
+    count_cons p (f x) (map f xs) ∙ (ap (λ n. cond (p (f x)) 1 0 + n) (count_mapped p f xs) ∙ sym (count_cons (λ x. p (f x)) x xs))

@@ -7,12 +7,12 @@ use Rattle.std.proofs.lemmas.List.Folds.{find-append, list_any-append}
 use Rattle.hp_base.specs.declared.row.Row.{Row}
 use Rattle.hp_base.specs.declared.row.Run.{Run}
 use Rattle.hp_segs.specs.Calls.{IsUnclaimedGrant, OwnsRun, is_owned_at}
-use Rattle.hp_segs.specs.Rows.{row_of, rows_below, rows_of}
+use Rattle.hp_log.specs.Rows.{row_of, rows_below, rows_of}
 use Rattle.hp_segs.specs.SegsView.{SegsView, closed_number, grant_of, granted_by, grants_or_refuses, is_agreed, is_grant_or_refusal, is_stale, is_unclaimed}
 use Rattle.hp_segs.specs.Steps.{after_agree, after_claim, after_grant, after_open, agreed_segment, claimed_grant, claimed_segment, granted_unless, lowest_below, segment_of}
 use Rattle.hp_segs.specs.declared.ask.Ask.{Ask}
 use Rattle.hp_segs.specs.declared.growth.Growth.{Growth}
-use Rattle.hp_segs.specs.declared.log_record.LogRecord.TheVariants.{Add}
+use Rattle.hp_log.specs.declared.log_record.LogRecord.TheVariants.{Add}
 use Rattle.hp_segs.specs.declared.outcome.AskLog.{AskLog}
 use Rattle.hp_segs.specs.declared.outcome.Outcome.{Outcome}
 use Rattle.hp_segs.specs.declared.outcome.Outcome.TheVariants.{Granted, Refused, Stale, Freed}

@@ -15,9 +15,9 @@ use Rattle.hp_segs.specs.Laws.{GrantIsStep}
 use Rattle.hp_segs.specs.Lists.{free_pages, pages_beside}
 use Rattle.hp_segs.specs.Machine.{free_beside, unopened}
 use Rattle.hp_segs.specs.Plan.{IsFirstFor}
-use Rattle.hp_segs.specs.Rows.{row_of, rows_of}
+use Rattle.hp_log.specs.Rows.{row_of, rows_of}
 use Rattle.hp_segs.specs.SegsView.{SegsView, rows_in, is_opened}
-use Rattle.hp_segs.specs.Sound.{IsGrowth, IsLogged, has_stamp}
+use Rattle.hp_segs.specs.SoundRows.{IsGrowth, IsLogged, has_stamp}
 use Rattle.hp_segs.specs.Steps.{segment_of, agreed_segment}
 use Rattle.hp_segs.specs.declared.ask.Ask.{Ask}
 use Rattle.hp_segs.specs.declared.growth.Growth.{Growth}
@@ -28,7 +28,7 @@ use Rattle.hp_segs.proofs.ListFacts.{filter_keeps, map_after, all_kept}
 use Rattle.hp_segs.proofs.ListsLemmas.{line_of_list}
 use Rattle.hp_segs.proofs.MachineLemmas.{free_at}
 use Rattle.hp_segs.proofs.PoolCounts.{added_count, run_of_pool}
-use Rattle.hp_segs.proofs.RowLemmas.{all_rows_below}
+use Rattle.hp_log.proofs.RowLemmas.{all_rows_below}
 use Rattle.hp_segs.proofs.StateLemmas.{opened_rows}
 
 map_alike : {X Y : Type 0} (f g : X → Y) (xs : List X) → All (λ x. f x ≡ g x) xs → map f xs ≡ map g xs
@@ -146,9 +146,9 @@ grant_free pools segments state ask run generation first distinct =
 pub grant_is_step : GrantIsStep
 grant_is_step segs growth sound open_now =
     let logged : IsGrowth segs.pools segs.log segs.segments growth =
-    subst (λ g. IsLogged segs.pools segs.log segs.segments g) open_now sound.logged in
+    subst (λ g. IsLogged segs.pools segs.log segs.segments g) open_now sound.rows.logged in
     let stamped : All (λ segment. is_opened segment.state ≡ has_stamp (Some growth) segment.row) segs.segments =
-    subst (λ g. All (λ segment. is_opened segment.state ≡ has_stamp g segment.row) segs.segments) open_now sound.stamped in
+    subst (λ g. All (λ segment. is_opened segment.state ≡ has_stamp g segment.row) segs.segments) open_now sound.rows.stamped in
     let first = logged.first in
     let count : growth.run.count ≡ pages_of growth.ask.request growth.ask.page = ap (λ r. r.count) first.its_run in
     let has = line_of_list segs.pools first.list first.info first.its_info in
@@ -174,7 +174,7 @@ grant_is_step segs growth sound open_now =
           ∙ ap (λ r. unopened segs.segments ++ map (segment_of (Agreed growth.ask.heap)) (rows_of r growth.generation)) first.its_run;
       free =
           ap (free_beside segs.pools) rows
-          ∙ (grant_free segs.pools (unopened segs.segments) (Agreed growth.ask.heap) growth.ask growth.run growth.generation first sound.table.limits.distinct
+          ∙ (grant_free segs.pools (unopened segs.segments) (Agreed growth.ask.heap) growth.ask growth.run growth.generation first sound.rows.table.limits.distinct
           ∙ ap
           (λ n. slice_set (free_beside segs.pools (unopened segs.segments)) first.list (slice_index (free_beside segs.pools (unopened segs.segments)) first.list - n))
           count);

@@ -8,27 +8,28 @@ use Rattle.hp_base.specs.declared.row.Row.{Row}
 use Rattle.hp_base.specs.declared.row.Run.{Run}
 use Rattle.hp_base.specs.declared.pool_line.PoolLine.{PoolLine}
 use Rattle.hp_segs.specs.Calls.{IsFailureCause, IsLateMember}
-use Rattle.hp_segs.specs.Causes.{HasCause, IsCaused, IsGrant, IsKeptAsk}
+use Rattle.hp_segs.specs.Causes.{HasCause, IsCaused, IsKeptAsk}
 use Rattle.hp_segs.specs.Lists.{pages_beside}
-use Rattle.hp_segs.specs.Log.{table_after, table_of, table_at}
+use Rattle.hp_log.specs.Log.{table_after, table_of, table_at}
 use Rattle.hp_segs.specs.Machine.{unopened}
 use Rattle.hp_segs.specs.Plan.{IsFirstFor}
-use Rattle.hp_segs.specs.Refusals.{IsFailedGrowth, HasRefusalCause, IsNotedCause, IsNoted}
-use Rattle.hp_segs.specs.Rows.{rows_of}
+use Rattle.hp_segs.specs.Refusals.{IsAddOf, IsFailedGrowth, HasRefusalCause, IsNotedCause, IsNoted}
+use Rattle.hp_log.specs.Rows.{rows_of}
 use Rattle.hp_segs.specs.SegsView.{SegsView, rows_in}
-use Rattle.hp_segs.specs.Sound.{IsGrowth}
+use Rattle.hp_segs.specs.SoundRows.{IsGrowth}
 use Rattle.hp_segs.specs.Table.{IsTable}
 use Rattle.hp_segs.specs.declared.growth.Growth.{Growth}
-use Rattle.hp_segs.specs.declared.log_record.LogRecord.{LogRecord}
-use Rattle.hp_segs.specs.declared.log_record.LogRecord.TheVariants.{Add, Drop}
+use Rattle.hp_log.specs.declared.log_record.LogRecord.{LogRecord}
+use Rattle.hp_log.specs.declared.log_record.LogRecord.TheVariants.{Add, Drop}
 use Rattle.hp_segs.specs.declared.outcome.AskLog.{AskLog}
 use Rattle.hp_segs.specs.declared.outcome.Cause.{Cause}
 use Rattle.hp_segs.specs.declared.outcome.Cause.TheVariants.{NoList, TooFew, ListFull, CannotHold, Denied, MapFailed, Late, Withdrawn}
 use Rattle.hp_segs.specs.declared.outcome.Outcome.TheVariants.{Granted, Refused}
 use Rattle.hp_segs.specs.declared.row_state.RowState.TheVariants.{Opened}
 use Rattle.hp_segs.specs.declared.row_state.Segment.{Segment}
-use Rattle.hp_segs.proofs.ListFacts.{get_pushed, get_stays}
-use Rattle.hp_segs.proofs.LogLemmas.{table_of_more}
+use Rattle.hp_segs.proofs.CausedLemmas.{grown_stays}
+use Rattle.hp_segs.proofs.ListFacts.{get_pushed}
+use Rattle.hp_log.proofs.LogLemmas.{table_of_more}
 use Rattle.hp_segs.proofs.StateLemmas.{opened_rows}
 
 -- where the last record adds a run, the rows beside the run's are the table before it
@@ -62,7 +63,7 @@ module _ {pools : List PoolLine} {log : List LogRecord} {segments : List Segment
       table_before log growth.run growth.ask.heap (rows_in (unopened segments)) some last split
       ∙ ap (λ n. table_at log (n - 1)) (sym old.last)
 
-  growth_grant : IsTable pools log (rows_in segments) → IsGrant pools log growth.generation growth.ask growth.run
+  growth_grant : IsTable pools log (rows_in segments) → IsAddOf pools log growth.generation growth.ask growth.run
   growth_grant table =
       let before = others_before table in
       record {
@@ -81,51 +82,51 @@ module _ {pools : List PoolLine} {log : List LogRecord} {segments : List Segment
         within = omega (arith, at);
         cause =
             subst (HasCause pools log before entry) (sym grants)
-            (growth.ask, growth.run, kept, same, subst (λ at. IsGrant pools log at growth.ask growth.run) same (growth_grant table));
+            (growth.ask, growth.run, kept, same, subst (λ at. IsAddOf pools log at growth.ask growth.run) same (growth_grant table));
       }
 
-  growth_failed : IsFailedGrowth (log ++ Drop growth.run ∷ []) growth.generation growth.ask growth.run
-  growth_failed = record {
-    some = old.some;
-    added = get_stays log (Drop growth.run ∷ []) (growth.generation - 1) _ old.added;
+  growth_failed : IsTable pools log (rows_in segments)
+      → IsFailedGrowth pools (log ++ Drop growth.run ∷ []) growth.generation growth.ask growth.run
+  growth_failed table = record {
+    grown = grown_stays pools log (Drop growth.run ∷ []) growth.generation growth.ask growth.run (omega (arith, old.last)) (growth_grant table);
     dropped = ap (slice_get (log ++ Drop growth.run ∷ [])) old.last ∙ get_pushed log (Drop growth.run);
   }
 
-  late_cause : (segs : SegsView) (before : List AskLog) (cause : Cause) → IsLateMember segs cause
+  late_cause : IsTable pools log (rows_in segments) → (segs : SegsView) (before : List AskLog) (cause : Cause) → IsLateMember segs cause
       → HasRefusalCause pools (log ++ Drop growth.run ∷ []) before growth.generation growth.ask cause
-  late_cause segs before NoList is = absurd is
-  late_cause segs before (TooFew have need) is = absurd is
-  late_cause segs before (ListFull longest need) is = absurd is
-  late_cause segs before (CannotHold addr len) is = absurd is
-  late_cause segs before (Denied validator limit total) is = absurd is
-  late_cause segs before (MapFailed participant call addr got) is = absurd is
-  late_cause segs before (Late participant from to) is = (growth.run, growth_failed)
-  late_cause segs before (Withdrawn from to) is = absurd is
+  late_cause table segs before NoList is = absurd is
+  late_cause table segs before (TooFew have need) is = absurd is
+  late_cause table segs before (ListFull longest need) is = absurd is
+  late_cause table segs before (CannotHold addr len) is = absurd is
+  late_cause table segs before (Denied validator limit total) is = absurd is
+  late_cause table segs before (MapFailed participant call addr got) is = absurd is
+  late_cause table segs before (Late participant from to) is = (growth.run, growth_failed table)
+  late_cause table segs before (Withdrawn from to) is = absurd is
 
-  noted_cause : (before : List AskLog) (cause : Cause) → IsNotedCause before growth cause
+  noted_cause : IsTable pools log (rows_in segments) → (before : List AskLog) (cause : Cause) → IsNotedCause before growth cause
       → HasRefusalCause pools (log ++ Drop growth.run ∷ []) before growth.generation growth.ask cause
-  noted_cause before NoList is = absurd is
-  noted_cause before (TooFew have need) is = absurd is
-  noted_cause before (ListFull longest need) is = absurd is
-  noted_cause before (CannotHold addr len) is = absurd is
-  noted_cause before (Denied validator limit total) is = absurd is
-  noted_cause before (MapFailed participant call addr got) is =
-      (record { run = growth.run; failed = growth_failed; row = is.0 }, is.1)
-  noted_cause before (Late participant from to) is = absurd is
-  noted_cause before (Withdrawn from to) is = absurd is
+  noted_cause table before NoList is = absurd is
+  noted_cause table before (TooFew have need) is = absurd is
+  noted_cause table before (ListFull longest need) is = absurd is
+  noted_cause table before (CannotHold addr len) is = absurd is
+  noted_cause table before (Denied validator limit total) is = absurd is
+  noted_cause table before (MapFailed participant call addr got) is =
+      (record { run = growth.run; failed = growth_failed table; row = is.0 }, is.1)
+  noted_cause table before (Late participant from to) is = absurd is
+  noted_cause table before (Withdrawn from to) is = absurd is
 
-  failure_cause : (segs : SegsView) (before : List AskLog) (cause : Cause) (noted : Option Cause) → growth.noted ≡ noted
+  failure_cause : IsTable pools log (rows_in segments) → (segs : SegsView) (before : List AskLog) (cause : Cause) (noted : Option Cause) → growth.noted ≡ noted
       → IsNoted before (Some growth) → IsFailureCause segs cause noted
       → HasRefusalCause pools (log ++ Drop growth.run ∷ []) before growth.generation growth.ask cause
-  failure_cause segs before cause None none known is = late_cause segs before cause is
-  failure_cause segs before cause (Some noted) some known is =
-      noted_cause before cause (subst (IsNotedCause before growth) (sym is) (rw some at known))
+  failure_cause table segs before cause None none known is = late_cause table segs before cause is
+  failure_cause table segs before cause (Some noted) some known is =
+      noted_cause table before cause (subst (IsNotedCause before growth) (sym is) (rw some at known))
 
   -- a failure has its cause
-  pub failed_caused : (segs : SegsView) (before : List AskLog) (cause : Cause) (entry : AskLog) → IsNoted before (Some growth)
+  pub failed_caused : IsTable pools log (rows_in segments) → (segs : SegsView) (before : List AskLog) (cause : Cause) (entry : AskLog) → IsNoted before (Some growth)
       → IsFailureCause segs cause growth.noted → entry.outcome ≡ Refused cause → entry.at ≡ length log → IsKeptAsk entry growth.ask
       → IsCaused pools (log ++ Drop growth.run ∷ []) before entry
-  failed_caused segs before cause entry known is refuses at kept =
+  failed_caused table segs before cause entry known is refuses at kept =
       let same : growth.generation ≡ entry.at = old.last ∙ sym at in
       record {
         within = omega (arith, at, length-append log (Drop growth.run ∷ []));
@@ -134,6 +135,6 @@ module _ {pools : List PoolLine} {log : List LogRecord} {segments : List Segment
               growth.ask,
               kept,
               subst (λ at. HasRefusalCause pools (log ++ Drop growth.run ∷ []) before at growth.ask cause) same
-                  (failure_cause segs before cause growth.noted refl known is),
+                  (failure_cause table segs before cause growth.noted refl known is),
             );
       }

@@ -5,12 +5,12 @@ use Rattle.std.proofs.lemmas.Bool.{eqb-true}
 use Rattle.std.proofs.lemmas.List.Elements.{All-append, All-map, All-weaker}
 use Rattle.hp_base.specs.declared.row.Row.{Row}
 use Rattle.hp_base.specs.declared.row.Run.{Run}
-use Rattle.hp_segs.specs.Log.{IsAddFor}
-use Rattle.hp_segs.specs.Rows.{in_run}
-use Rattle.hp_segs.specs.Sound.{IsStateOf}
+use Rattle.hp_log.specs.Log.{IsAddFor}
+use Rattle.hp_log.specs.Rows.{in_run}
+use Rattle.hp_segs.specs.SoundRows.{IsStateOf}
 use Rattle.hp_segs.specs.Steps.{segment_of, agreed_segment, claimed_segment, claimed_state, retired_segment}
-use Rattle.hp_segs.specs.declared.log_record.LogRecord.{LogRecord}
-use Rattle.hp_segs.specs.declared.log_record.LogRecord.TheVariants.{Add}
+use Rattle.hp_log.specs.declared.log_record.LogRecord.{LogRecord}
+use Rattle.hp_log.specs.declared.log_record.LogRecord.TheVariants.{Add}
 use Rattle.hp_segs.specs.declared.row_state.RowState.{RowState}
 use Rattle.hp_segs.specs.declared.row_state.RowState.TheVariants.{Opened, Agreed, Owned, Retiring}
 use Rattle.hp_segs.specs.declared.row_state.Segment.{Segment}
@@ -20,7 +20,7 @@ use Rattle.hp_segs.proofs.ListFacts.{get_stays}
 abbrev pub IsOfHeap : List LogRecord → Segment → Type 0
 IsOfHeap log segment = IsStateOf log segment.row.generation segment.state
 
-add_stays : (log more : List LogRecord) (generation heap : ℕ) → IsAddFor log generation heap → IsAddFor (log ++ more) generation heap
+pub add_stays : (log more : List LogRecord) (generation heap : ℕ) → IsAddFor log generation heap → IsAddFor (log ++ more) generation heap
 add_stays log more generation heap old = record { run = old.run; added = get_stays log more (generation - 1) _ old.added }
 
 state_stays : (log more : List LogRecord) (generation : ℕ) (state : RowState) → IsStateOf log generation state

@@ -1,14 +1,16 @@
 -- A run among others by rising address.
-use Rattle.std.proofs.Common.{◌≡◌, nat_lt, ◌+◌, Bool, true, false, ◌||◌, cond, if◌then◌else◌, List, [], ◌∷◌, ◌++◌, length, refl, ap, ◌∙◌, arith, count_by}
+use Rattle.std.proofs.Common.{◌≡◌, nat_lt, ℕ, zero, suc, ◌+◌, ◌<◌, ◌≤◌, Bool, true, false, ◌||◌, cond, if◌then◌else◌, List, [], ◌∷◌, ◌++◌, length, refl, ap, ◌∙◌, arith, count_by}
 use Rattle.std.specs.List.{All}
-use Rattle.std.proofs.lemmas.List.Elements.{All-append, All-cons, All-head, All-tail}
+use Rattle.std.specs.List.Sorted.{IsNonDecreasingBy}
+use Rattle.std.proofs.lemmas.Bool.{ltb-false, ltb-true}
+use Rattle.std.proofs.lemmas.List.Elements.{All-append, All-cons, All-head, All-nil, All-tail}
 use Rattle.std.proofs.lemmas.List.Folds.{list_any-append}
 use Rattle.hp_base.specs.declared.row.Row.{Row}
 use Rattle.hp_base.specs.declared.row.Run.{Run}
-use Rattle.hp_segs.specs.Rows.{in_run}
-use Rattle.hp_segs.specs.Sound.{in_runs}
+use Rattle.hp_log.specs.Rows.{in_run}
+use Rattle.hp_segs.specs.SoundRows.{in_runs}
 use Rattle.hp_segs.specs.Steps.{insert_by_address}
-use Rattle.hp_segs.proofs.Counts.{count_cons}
+use Rattle.hp_log.proofs.Counts.{count_cons}
 use Rattle.hp_segs.proofs.ListFacts.{split_back, split_front}
 
 -- a row in one of two groups of runs
@@ -48,7 +50,7 @@ all_insert_by : (P : Run → Type 0) (lower : Bool) (run other : Run) (runs : Li
 all_insert_by P true run other runs one all rest = All-cons P run (other ∷ runs) one all
 all_insert_by P false run other runs one all rest = All-cons P other (insert_by_address run runs) (All-head P other runs all) rest
 
-all_insert : (P : Run → Type 0) (run : Run) (runs : List Run) → P run → All P runs → All P (insert_by_address run runs)
+pub all_insert : (P : Run → Type 0) (run : Run) (runs : List Run) → P run → All P runs → All P (insert_by_address run runs)
 all_insert P run [] one all = All-cons P run [] one all
 all_insert P run (other ∷ runs) one all =
     all_insert_by P (nat_lt run.addr other.addr) run other runs one all (all_insert P run runs one (All-tail P other runs all))
@@ -70,3 +72,40 @@ pub insert_held : (P : Run → Type 0) (run : Run) (front runs : List Run) → P
 insert_held P run front runs one all =
     All-append P front (insert_by_address run runs) (split_front P front runs all)
     (all_insert P run runs one (split_back P front runs all))
+
+-- an element no greater than all others stands before them
+pub rising_cons : {X : Type 0} (n : X → ℕ) (x : X) (xs : List X) → All (λ y. n x ≤ n y) xs → IsNonDecreasingBy n xs → IsNonDecreasingBy n (x ∷ xs)
+rising_cons n x xs least rising zero zero d le within = omega arith
+rising_cons n x xs least rising zero (suc j) d le within = least j d (omega arith)
+rising_cons n x xs least rising (suc i) zero d le within = absurd (omega (arith, le))
+rising_cons n x xs least rising (suc i) (suc j) d le within = rising i j d (omega arith) (omega arith)
+
+rising_tail : {X : Type 0} (n : X → ℕ) (x : X) (xs : List X) → IsNonDecreasingBy n (x ∷ xs) → IsNonDecreasingBy n xs
+rising_tail n x xs rising i j d le within = rising (suc i) (suc j) d (omega arith) (omega arith)
+
+rising_head : {X : Type 0} (n : X → ℕ) (x : X) (xs : List X) → IsNonDecreasingBy n (x ∷ xs) → All (λ y. n x ≤ n y) xs
+rising_head n x xs rising k d within = rising zero (suc k) d (omega arith) (omega arith)
+
+insert_rises_by : (lower : Bool) (run other : Run) (runs : List Run) → nat_lt run.addr other.addr ≡ lower
+    → IsNonDecreasingBy (λ (run : Run). run.addr) (other ∷ runs) → IsNonDecreasingBy (λ (run : Run). run.addr) (insert_by_address run runs)
+    → IsNonDecreasingBy (λ (run : Run). run.addr) (if lower then run ∷ other ∷ runs else other ∷ insert_by_address run runs)
+insert_rises_by true run other runs is rising rest =
+    let below : run.addr < other.addr = ltb-true run.addr other.addr is in
+    rising_cons (λ (run : Run). run.addr) run (other ∷ runs)
+    (All-cons (λ (next : Run). run.addr ≤ next.addr) other runs (omega (arith, below))
+    (λ k d within. let more = rising_head (λ (run : Run). run.addr) other runs rising k d within in omega (arith, below, more)))
+    rising
+insert_rises_by false run other runs is rising rest =
+    let above : other.addr ≤ run.addr = ltb-false run.addr other.addr is in
+    rising_cons (λ (run : Run). run.addr) other (insert_by_address run runs)
+    (all_insert (λ (next : Run). other.addr ≤ next.addr) run runs above (rising_head (λ (run : Run). run.addr) other runs rising))
+    rest
+
+-- runs that rise by address rise with one more
+pub insert_rises : (run : Run) (runs : List Run) → IsNonDecreasingBy (λ (run : Run). run.addr) runs
+    → IsNonDecreasingBy (λ (run : Run). run.addr) (insert_by_address run runs)
+insert_rises run [] rising =
+    rising_cons (λ (run : Run). run.addr) run [] (All-nil (λ (next : Run). run.addr ≤ next.addr)) rising
+insert_rises run (other ∷ runs) rising =
+    insert_rises_by (nat_lt run.addr other.addr) run other runs refl rising
+    (insert_rises run runs (rising_tail (λ (run : Run). run.addr) other runs rising))

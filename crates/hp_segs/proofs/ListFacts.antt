@@ -1,6 +1,6 @@
 -- Facts on lists that many steps share.
-use Rattle.std.proofs.Common.{◌≡◌, ℕ, zero, suc, Bool, true, false, cond, List, [], ◌∷◌, ◌++◌, map, length, filter, get_or, Some, refl, ap, ◌∙◌}
-use Rattle.std.specs.List.{All, slice_get}
+use Rattle.std.proofs.Common.{◌≡◌, ℕ, zero, suc, Bool, true, false, ◌&&◌, ◌||◌, cond, List, [], ◌∷◌, ◌++◌, map, length, filter, get_or, Some, refl, ap, ◌∙◌, sym}
+use Rattle.std.specs.List.{All, list_any, slice_get}
 use Rattle.std.proofs.lemmas.List.Elements.{All-head, All-tail, All-nil, All-cons, All-filter, filter_passes}
 
 -- what holds of what each element is mapped to
@@ -67,3 +67,45 @@ map_after f g h (x ∷ xs) all =
     let here = All-head (λ x. f (g x) ≡ h x) x xs all in
     let rest = map_after f g h xs (All-tail (λ x. f (g x) ≡ h x) x xs all) in
     cc
+
+-- two tests that agree on a list keep the same of it
+pub filter_alike : {X : Type 0} (p q : X → Bool) (xs : List X) → All (λ x. p x ≡ q x) xs → filter p xs ≡ filter q xs
+filter_alike p q [] same = refl
+filter_alike p q (x ∷ xs) same =
+    ap (λ b. cond b (x ∷ filter p xs) (filter p xs)) (All-head (λ x. p x ≡ q x) x xs same)
+    ∙ ap (λ rest. cond (q x) (x ∷ rest) rest) (filter_alike p q xs (All-tail (λ x. p x ≡ q x) x xs same))
+
+twice_by : {X : Type 0} (first second : Bool) (x : X) (once both : List X) (q : X → Bool) → q x ≡ second → filter q once ≡ both
+    → filter q (cond first (x ∷ once) once) ≡ cond (first && second) (x ∷ both) both
+twice_by true true x once both q is rest = rw is (ap (λ l. x ∷ l) rest)
+twice_by true false x once both q is rest = rw is rest
+twice_by false second x once both q is rest = rest
+
+-- two filters are one
+pub filter_twice : {X : Type 0} (p q : X → Bool) (xs : List X) → filter q (filter p xs) ≡ filter (λ x. p x && q x) xs
+filter_twice p q [] = refl
+filter_twice p q (x ∷ xs) = twice_by (p x) (q x) x (filter p xs) (filter (λ x. p x && q x) xs) q refl (filter_twice p q xs)
+
+and_swap : (a b : Bool) → (a && b) ≡ (b && a)
+and_swap true true = refl
+and_swap true false = refl
+and_swap false true = refl
+and_swap false false = refl
+
+-- filters swap
+pub filter_swap : {X : Type 0} (p q : X → Bool) (xs : List X) → filter q (filter p xs) ≡ filter p (filter q xs)
+filter_swap p q xs =
+    filter_twice p q xs
+    ∙ (filter_alike (λ x. p x && q x) (λ x. q x && p x) xs (λ k d within. and_swap (p (get_or xs k d)) (q (get_or xs k d)))
+    ∙ sym (filter_twice q p xs))
+
+pub or_off_parts : (a b : Bool) → (a || b) ≡ false → (a ≡ false) × (b ≡ false)
+or_off_parts true b off = cc
+or_off_parts false b off = (refl, off)
+
+-- where no element passes, each fails
+pub any_off : {X : Type 0} (p : X → Bool) (xs : List X) → list_any p xs ≡ false → All (λ x. p x ≡ false) xs
+any_off p [] off = All-nil (λ x. p x ≡ false)
+any_off p (x ∷ xs) off =
+    let parts = or_off_parts (p x) (list_any p xs) off in
+    All-cons (λ x. p x ≡ false) x xs parts.0 (any_off p xs parts.1)

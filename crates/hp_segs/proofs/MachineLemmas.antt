@@ -3,53 +3,35 @@ use Rattle.std.proofs.Common.{◌≡◌, ◌==◌, ℕ, zero, suc, ◌+◌, ◌�
 use Rattle.std.specs.List.{All, slice_get}
 use Rattle.std.proofs.lemmas.List.{append-nil}
 use Rattle.std.proofs.lemmas.List.Elements.{filter-append}
-use Rattle.std.proofs.lemmas.List.Sums.{count_by-le-length}
 use Rattle.std.proofs.lemmas.Bool.{not_from_true, not_from_false}
 use Rattle.hp_base.specs.declared.row.Row.{Row}
 use Rattle.hp_base.specs.declared.row.Run.{Run}
 use Rattle.hp_base.specs.declared.pool_line.PoolLine.{PoolLine}
-use Rattle.hp_segs.specs.Laws.{FailedGrowthLeaves, CallsMove, ClaimIsStep, RetireIsStep, DropIsStep}
+use Rattle.hp_segs.specs.Laws.{FailedGrowthLeaves, ClaimIsStep, RetireIsStep, DropIsStep}
 use Rattle.hp_segs.specs.Lists.{free_pages, is_of_pool}
-use Rattle.hp_segs.specs.Log.{table_of}
+use Rattle.hp_log.specs.Log.{table_of}
 use Rattle.hp_segs.specs.Machine.{Claims, machine_of, free_beside, unopened, is_retiring_of}
-use Rattle.hp_segs.specs.Moved.{is_growth_step}
-use Rattle.hp_segs.specs.Rows.{row_of, rows_of, in_run}
+use Rattle.hp_log.specs.Rows.{row_of, rows_of, in_run}
 use Rattle.hp_segs.specs.SegsView.{SegsView, rows_in, is_opened, is_retiring}
-use Rattle.hp_segs.specs.Sound.{IsSound, in_runs, growth_run}
+use Rattle.hp_segs.specs.Sound.{IsSound}
+use Rattle.hp_segs.specs.SoundRows.{in_runs, growth_run}
 use Rattle.hp_segs.specs.Steps.{segment_of, claimed_segment, retired_segment, without_run, claimed_grant, after_open, after_failure}
 use Rattle.hp_segs.specs.declared.ask.Ask.{Ask}
 use Rattle.hp_segs.specs.declared.outcome.Cause.{Cause}
 use Rattle.hp_segs.specs.declared.growth.Growth.{Growth}
-use Rattle.hp_segs.specs.declared.log_record.LogRecord.TheVariants.{Add, Drop}
+use Rattle.hp_log.specs.declared.log_record.LogRecord.TheVariants.{Add, Drop}
 use Rattle.hp_segs.specs.declared.row_state.RowState.TheVariants.{Retiring}
 use Rattle.hp_segs.specs.declared.row_state.Segment.{Segment}
-use Rattle.hp_segs.proofs.Counts.{count_split, count_agree, count_cons}
+use Rattle.hp_log.proofs.Counts.{count_split, count_agree}
 use Rattle.hp_segs.proofs.ClaimLemmas.{chosen_test, claimed_opened}
-use Rattle.hp_segs.proofs.LogLemmas.{table_of_push}
+use Rattle.hp_log.proofs.LogLemmas.{table_of_push}
 use Rattle.hp_segs.proofs.OpenLemmas.{none_in_unused}
-use Rattle.hp_segs.proofs.RemoveAllLemmas.{filter_alike, filter_twice}
 use Rattle.hp_segs.proofs.OwnedLemmas.{none_growth}
-use Rattle.hp_segs.proofs.RowLemmas.{all_rows_below, in_run_from, row_at_place}
+use Rattle.hp_log.proofs.RowLemmas.{all_rows_below, in_run_from, row_at_place}
 use Rattle.hp_segs.proofs.StateLemmas.{claimed_rows, retired_rows, unopened_before}
-use Rattle.hp_segs.proofs.ListFacts.{filter_keeps, filter_drops, filter_mapped}
+use Rattle.hp_segs.proofs.Finds.{count_mapped}
+use Rattle.hp_segs.proofs.ListFacts.{filter_alike, filter_twice, filter_swap, filter_keeps, filter_drops, filter_mapped}
 use Rattle.hp_segs.proofs.TableUse.{at_place}
-
-and_swap : (a b : Bool) → (a && b) ≡ (b && a)
-and_swap true true = refl
-and_swap true false = refl
-and_swap false true = refl
-and_swap false false = refl
-
-filter_swap : {X : Type 0} (p q : X → Bool) (xs : List X) → filter q (filter p xs) ≡ filter p (filter q xs)
-filter_swap p q xs =
-    filter_twice p q xs
-    ∙ (filter_alike (λ x. p x && q x) (λ x. q x && p x) xs (λ k d within. and_swap (p (get_or xs k d)) (q (get_or xs k d)))
-    ∙ sym (filter_twice q p xs))
-
-count_mapped : {X Y : Type 0} (p : Y → Bool) (f : X → Y) (xs : List X) → count_by p (map f xs) ≡ count_by (λ x. p (f x)) xs
-count_mapped p f [] = refl
-count_mapped p f (x ∷ xs) =
-    count_cons p (f x) (map f xs) ∙ (ap (λ n. cond (p (f x)) 1 0 + n) (count_mapped p f xs) ∙ sym (count_cons (λ x. p (f x)) x xs))
 
 pub failed_growth_leaves : FailedGrowthLeaves
 failed_growth_leaves log run heap unused =
@@ -65,13 +47,6 @@ failed_growth_leaves log run heap unused =
     ∙ (ap (filter outside) added
     ∙ (filter-append outside (table_of log) (rows_of run (length log + 1))
     ∙ (ap (λ more. filter outside (table_of log) ++ more) gone ∙ (append-nil (filter outside (table_of log)) ∙ kept))))
-
-pub calls_move : CallsMove
-calls_move call segs may = record {
-  calls = call ∷ [];
-  leads = (may, refl);
-  one = count_by-le-length is_growth_step (call ∷ []);
-}
 
 claim_machine : (segs : SegsView) (generation : ℕ)
     → Claims generation (machine_of segs) (machine_of (record segs { segments = map (claimed_segment generation) segs.segments }))
@@ -102,7 +77,7 @@ retire_is_step segs heap run sound owns =
     filter_mapped (λ segment. not (is_opened segment.state)) (retired_segment run) segs.segments
     (λ k d within.
     retire_settled (in_run run (get_or segs.segments k d).row) (get_or segs.segments k d)
-    (λ inside. sound.opened k d within ∙ none_growth segs sound heap run owns (get_or segs.segments k d).row inside)) in
+    (λ inside. sound.rows.opened k d within ∙ none_growth segs sound heap run owns (get_or segs.segments k d).row inside)) in
     record {
       rows = rows;
       free =
@@ -128,7 +103,7 @@ failure_rows : (segs : SegsView) (growth : Growth) → IsSound segs → segs.gro
     → unopened (without_run growth.run segs.segments) ≡ unopened segs.segments
 failure_rows segs growth sound open_now =
     let opened : All (λ segment. is_opened segment.state ≡ in_runs (growth.run ∷ []) segment.row) segs.segments =
-    subst (λ g. All (λ segment. is_opened segment.state ≡ in_runs (growth_run g) segment.row) segs.segments) open_now sound.opened in
+    subst (λ g. All (λ segment. is_opened segment.state ≡ in_runs (growth_run g) segment.row) segs.segments) open_now sound.rows.opened in
     filter_twice (λ segment. not (in_run growth.run segment.row)) (λ segment. not (is_opened segment.state)) segs.segments
     ∙ filter_alike
     (λ segment. not (in_run growth.run segment.row) && not (is_opened segment.state))
@@ -178,6 +153,6 @@ drop_is_step segs sound alone =
           (λ k d within. retiring_by (is_retiring (get_or (unopened segs.segments) k d).state) (of (get_or (unopened segs.segments) k d))) in
           let few = count_split of settled segs.segments in
           let paged : count_by (is_of_pool line) (rows_in segs.segments) ≤ line.pages =
-          at_place (λ line. count_by (is_of_pool line) (rows_in segs.segments) ≤ line.pages) segs.pools pool line sound.table.paged here in
+          at_place (λ line. count_by (is_of_pool line) (rows_in segs.segments) ≤ line.pages) segs.pools pool line sound.rows.table.paged here in
           omega (arith, old_free, new_free, old_count, new_count, all_count, same, split, gone, few, paged);
     }

@@ -6,8 +6,8 @@ use Rattle.std.proofs.lemmas.List.FromFn.{fill_by_all, length-map-range_with_len
 use Rattle.hp_base.specs.declared.row.Row.{Row}
 use Rattle.hp_base.specs.declared.row.Run.{Run}
 use Rattle.hp_segs.specs.Masks.{with_places}
-use Rattle.hp_segs.specs.Rows.{rows_of, in_run, at_slot, slots_of}
-use Rattle.hp_segs.specs.Sound.{has_slot}
+use Rattle.hp_log.specs.Rows.{rows_of, in_run, at_slot, slots_of}
+use Rattle.hp_segs.specs.SoundRows.{has_slot}
 use Rattle.hp_segs.specs.TableLayout.{masks_from}
 use Rattle.hp_segs.specs.declared.list_info.ListInfo.{ListInfo}
 use Rattle.hp_segs.proofs.MaskLemmas.{length_with_places}

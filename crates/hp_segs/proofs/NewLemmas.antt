@@ -13,7 +13,7 @@ use Rattle.hp_segs.specs.Lists.{list_after, end_of, lists_from, lists_of}
 use Rattle.hp_segs.specs.Table.{IsPlaced, IsStamped, IsListRun}
 use Rattle.hp_segs.specs.TableLayout.{IsLaidOut, IsFitList, AddsLine, masks_from, pool_beside}
 use Rattle.hp_segs.specs.declared.list_info.ListInfo.{ListInfo}
-use Rattle.hp_segs.specs.Log.{run_in}
+use Rattle.hp_log.specs.Log.{run_in}
 use Rattle.hp_segs.proofs.PageSizes.{page_small}
 use Rattle.hp_base.proofs.Rounding.{ceil_below}
 use Rattle.hp_base.proofs.PageLemmas.{page_pos}
@@ -25,7 +25,7 @@ map_push : {X Y : Type 0} (f : X → Y) (xs : List X) (x : X) → map f (xs ++ x
 map_push f [] x = refl
 map_push f (y ∷ xs) x = ap (λ rest. f y ∷ rest) (map_push f xs x)
 
-take_all : {X : Type 0} (xs : List X) (n : ℕ) → length xs ≤ n → take n xs ≡ xs
+pub take_all : {X : Type 0} (xs : List X) (n : ℕ) → length xs ≤ n → take n xs ≡ xs
 take_all [] zero all = refl
 take_all [] (suc n) all = refl
 take_all (x ∷ xs) zero all = absurd (omega (arith, all))

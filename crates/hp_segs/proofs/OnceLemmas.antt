@@ -5,11 +5,11 @@ use Rattle.std.proofs.lemmas.Bool.{and_parts, eqb-true, false_from_ne_true, not-
 use Rattle.std.proofs.lemmas.List.Folds.{list_any-append}
 use Rattle.std.proofs.lemmas.List.Sums.{sum_by_push}
 use Rattle.hp_segs.specs.SegsView.{closed_number, grants_or_refuses, is_grant_or_refusal, is_unanswered}
-use Rattle.hp_segs.specs.Sound.{AreAnsweredOnce, HasUnansweredAsk}
+use Rattle.hp_segs.specs.SoundAsks.{AreAnsweredOnce, HasUnansweredAsk}
 use Rattle.hp_segs.specs.declared.ask.Ask.{Ask}
 use Rattle.hp_segs.specs.declared.growth.Growth.{Growth}
 use Rattle.hp_segs.specs.declared.outcome.AskLog.{AskLog}
-use Rattle.hp_segs.proofs.Counts.{none_counts}
+use Rattle.hp_log.proofs.Counts.{none_counts}
 use Rattle.hp_segs.proofs.Finds.{any_found}
 use Rattle.hp_segs.proofs.GrantLemmas.{unanswered_above}
 

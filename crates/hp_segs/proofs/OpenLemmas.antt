@@ -1,35 +1,19 @@
 -- A growth that opens keeps the value sound.
-use Rattle.std.proofs.Common.{◌≡◌, ◌==◌, ℕ, ◌+◌, ◌-◌, ◌<◌, ◌≤◌, Bool, true, false, ◌||◌, cond, List, [], ◌∷◌, ◌++◌, map, length, get_or, Option, Some, None, IfSome, IsTrue, refl, ap, ◌∙◌, sym, subst, arith, count_by, length-append, not}
+use Rattle.std.proofs.Common.{◌≡◌, ◌==◌, ℕ, ◌+◌, ◌-◌, ◌<◌, ◌≤◌, Bool, true, false, ◌||◌, cond, List, [], ◌∷◌, ◌++◌, length, get_or, Some, refl, ap, ◌∙◌, arith, count_by}
 use Rattle.std.specs.List.{All, slice_get}
-use Rattle.std.proofs.lemmas.Bool.{eq-eqb, ne_eqb, and_parts, eqb-true, leb-true, ltb-true, false_from_ne_true, and_from}
-use Rattle.std.proofs.lemmas.List.Elements.{All-append, All-cons, All-map, All-weaker}
+use Rattle.std.proofs.lemmas.Bool.{eq-eqb, and_parts, eqb-true, leb-true, ltb-true, false_from_ne_true, and_from}
+use Rattle.std.proofs.lemmas.List.Elements.{All-cons, All-weaker}
 use Rattle.std.proofs.lemmas.List.Folds.{list_any_at, list_any_none}
 use Rattle.hp_base.specs.declared.row.Row.{Row}
 use Rattle.hp_base.specs.declared.row.Run.{Run}
-use Rattle.hp_segs.specs.AsksView.{AsksView}
-use Rattle.hp_segs.specs.Lists.{lists_of}
-use Rattle.hp_segs.specs.Rows.{row_of, rows_of, rows_at, at_slot, in_run, IsUnusedRun, IsUsedRun}
-use Rattle.hp_segs.specs.SegsLayout.{IsKept}
-use Rattle.hp_segs.specs.SegsView.{rows_in, is_opened, is_retiring, is_unanswered}
-use Rattle.hp_segs.specs.Sound.{AreHeld, has_slot, in_runs, has_stamp}
-use Rattle.hp_segs.specs.Steps.{segment_of}
-use Rattle.hp_segs.specs.Table.{HasPages, TableView, IsTable, IsListRun, IsStamped}
-use Rattle.hp_segs.specs.declared.ask.Ask.{Ask}
-use Rattle.hp_segs.specs.declared.external_range.ExternalRange.{ExternalRange}
-use Rattle.hp_segs.specs.declared.growth.Growth.{Growth}
+use Rattle.hp_log.specs.Rows.{rows_of, rows_at, at_slot, in_run, IsUnusedRun, IsUsedRun}
+use Rattle.hp_segs.specs.SoundRows.{AreHeld, has_slot, in_runs}
+use Rattle.hp_segs.specs.Table.{IsListRun}
 use Rattle.hp_segs.specs.declared.list_info.ListInfo.{ListInfo}
-use Rattle.hp_segs.specs.declared.log_record.LogRecord.{LogRecord}
-use Rattle.hp_segs.specs.declared.log_record.LogRecord.TheVariants.{Add}
-use Rattle.hp_segs.specs.declared.row_state.RowState.TheVariants.{Opened}
-use Rattle.hp_segs.proofs.Counts.{count_append, count_cons, count_none, any_counts}
-use Rattle.hp_segs.proofs.ListFacts.{filter_keeps, all_unmap, get_pushed}
-use Rattle.hp_segs.proofs.RowLemmas.{all_rows_below, run_slot_once, place_in_run, in_run_from, row_at_place}
-use Rattle.hp_segs.specs.Machine.{unopened}
-use Rattle.hp_segs.specs.Plan.{IsFirstFor}
-use Rattle.hp_segs.specs.Refusals.{IsNotedCause}
-use Rattle.hp_segs.proofs.CausedLemmas.{caused_stays, grants_stay}
-use Rattle.hp_segs.proofs.HeapRows.{heaps_open}
-use Rattle.hp_segs.proofs.StateLemmas.{opened_rows, unopened_before}
+use Rattle.hp_log.specs.declared.log_record.LogRecord.{LogRecord}
+use Rattle.hp_log.proofs.Counts.{count_append, count_cons, count_none, any_counts}
+use Rattle.hp_segs.proofs.ListFacts.{get_pushed}
+use Rattle.hp_log.proofs.RowLemmas.{run_slot_once, place_in_run}
 
 -- a row of a table is counted at its slot
 pub counted_at : (rows : List Row) (k : ℕ) (d : Row) (list slot : ℕ) → k < length rows → at_slot list slot (get_or rows k d) ≡ true
@@ -140,105 +124,8 @@ record_pushed log entry =
     let place : length log + 1 - 1 ≡ length log = omega arith in
     ap (slice_get (log ++ entry ∷ [])) place ∙ get_pushed log entry
 
-or_true : (b c : Bool) → b ≡ true → (b || c) ≡ true
+pub or_true : (b c : Bool) → b ≡ true → (b || c) ≡ true
 or_true b c is = ap (λ b. b || c) is
 
-or_off : (b : Bool) → b ≡ false → (b || false) ≡ false
+pub or_off : (b : Bool) → b ≡ false → (b || false) ≡ false
 or_off b is = ap (λ b. b || false) is
-
-module _ {table : TableView} {asks : AsksView} {retiring : List Run} {roster : List Bool} {armed : List (Option Ask)} {ranges : List ExternalRange} {spare room : ℕ} where
-  -- a growth opens by an unused run of a list
-  pub kept_open : (growth : Growth) → IsKept table asks retiring None roster armed ranges spare room
-      → growth.generation ≡ length table.log + 1 → growth.noted ≡ None → growth.ask.from < 16
-      → IsListRun (lists_of table.pools) growth.run → IsUnusedRun (rows_in table.segments) growth.run → 0 < spare
-      → IsFirstFor table.pools (rows_in table.segments) growth.ask growth.run → HasPages table.pools (rows_in table.segments) growth.run
-      → IsTrue (is_unanswered asks.entries (Some growth.ask))
-      → IsTable table.pools (table.log ++ Add growth.run growth.ask.heap ∷ [])
-      (rows_in (table.segments ++ map (segment_of Opened) (rows_of growth.run (length table.log + 1))))
-      → IsKept
-      (record table {
-        log = table.log ++ Add growth.run growth.ask.heap ∷ [];
-        segments = table.segments ++ map (segment_of Opened) (rows_of growth.run (length table.log + 1));
-        room = table.room - 1;
-      })
-      asks
-      retiring
-      (Some growth)
-      roster
-      armed
-      ranges
-      (spare - 1)
-      room
-  kept_open growth kept stamp unnoted participant listed unused some first pages unanswered new =
-      let run : Run = growth.run in
-      let generation : ℕ = length table.log + 1 in
-      let fresh : List Row = rows_of run generation in
-      let rows : rows_in (table.segments ++ map (segment_of Opened) fresh) ≡ rows_in table.segments ++ fresh = opened_rows table.segments Opened fresh in
-      let once : (list slot : ℕ) → rows_at (rows_in table.segments ++ fresh) list slot ≤ 1 =
-      subst (λ rows. (list slot : ℕ) → rows_at rows list slot ≤ 1) rows new.once in
-      let others : unopened (table.segments ++ map (segment_of Opened) fresh) ≡ table.segments =
-      unopened_before table.segments fresh
-      ∙ filter_keeps (λ segment. not (is_opened segment.state)) table.segments (λ k d within. ap not (kept.sound.opened k d within)) in
-      let old_out : All (λ segment. in_run run segment.row ≡ false) table.segments =
-      all_unmap (λ row. in_run run row ≡ false) (λ segment. segment.row) table.segments (none_in_unused (rows_in table.segments) run unused) in
-      let old_stamp : All (λ segment. IsStamped table.log segment.row) table.segments =
-      all_unmap (IsStamped table.log) (λ segment. segment.row) table.segments kept.sound.table.stamped in
-      record {
-        sound = record {
-          table = new;
-          held =
-              subst (λ rows. AreHeld (lists_of table.pools) rows (run ∷ retiring)) (sym rows)
-              (held_more run generation kept.sound.held listed unused once);
-          opened =
-              All-append (λ segment. is_opened segment.state ≡ in_runs (run ∷ []) segment.row) table.segments (map (segment_of Opened) fresh)
-              (λ k d within. kept.sound.opened k d within ∙ sym (or_off (in_run run (get_or table.segments k d).row) (old_out k d within)))
-              (All-map (λ segment. is_opened segment.state ≡ in_runs (run ∷ []) segment.row) (segment_of Opened) fresh
-              (all_rows_below (λ row. true ≡ in_runs (run ∷ []) row) run generation run.count
-              (λ k below.
-              sym
-              (or_true (in_run run (row_of run generation k)) false
-              (in_run_from run k (row_of run generation k) below (row_at_place run generation k))))));
-          stamped =
-              All-append (λ segment. is_opened segment.state ≡ has_stamp (Some growth) segment.row) table.segments (map (segment_of Opened) fresh)
-              (λ k d within.
-              kept.sound.opened k d within
-              ∙ sym
-              (ne_eqb (get_or table.segments k d).row.generation growth.generation
-              (λ same. omega (arith, (old_stamp k d within).within, stamp, same))))
-              (All-map (λ segment. is_opened segment.state ≡ has_stamp (Some growth) segment.row) (segment_of Opened) fresh
-              (all_rows_below (λ row. true ≡ has_stamp (Some growth) row) run generation run.count
-              (λ k below. sym (eq-eqb generation growth.generation (sym stamp)))));
-          retired =
-              All-append (λ segment. is_retiring segment.state ≡ in_runs retiring segment.row) table.segments (map (segment_of Opened) fresh)
-              kept.sound.retired
-              (All-map (λ segment. is_retiring segment.state ≡ in_runs retiring segment.row) (segment_of Opened) fresh
-              (all_rows_below (λ row. false ≡ in_runs retiring row) run generation run.count
-              (λ k below.
-              sym
-              (outside_runs (rows_in table.segments) run retiring (row_of run generation k) run.list (run.first + k) unused kept.sound.held.used
-              refl refl (in_run_from run k (row_of run generation k) below (row_at_place run generation k))))));
-          heaps = heaps_open table.log (Add run growth.ask.heap ∷ []) table.segments fresh kept.sound.heaps;
-          logged = record {
-            participant = participant;
-            some = omega (arith, stamp);
-            last = omega (arith, stamp, length-append table.log (Add run growth.ask.heap ∷ []));
-            added =
-                ap (λ g. slice_get (table.log ++ Add run growth.ask.heap ∷ []) (g - 1)) stamp ∙ record_pushed table.log (Add run growth.ask.heap);
-            behind =
-                ap (λ front. front ++ map (segment_of Opened) fresh) (sym others)
-                ∙ ap (λ g. unopened (table.segments ++ map (segment_of Opened) fresh) ++ map (segment_of Opened) (rows_of run g)) (sym stamp);
-            first = subst (λ segments. IsFirstFor table.pools (rows_in segments) growth.ask run) (sym others) first;
-            pages = subst (λ segments. HasPages table.pools (rows_in segments) run) (sym others) pages;
-          };
-          noted = subst (λ noted. IfSome noted (IsNotedCause asks.entries growth)) (sym unnoted) tt;
-          granted = grants_stay table.log (Add run growth.ask.heap ∷ []) asks.entries kept.sound.granted;
-          once = kept.sound.once;
-          unanswered = unanswered;
-          caused = caused_stays table.pools table.log (Add run growth.ask.heap ∷ []) [] asks.entries kept.sound.caused;
-          participants = kept.sound.participants;
-          ranges = kept.sound.ranges;
-        };
-        records = omega (arith, kept.records, some);
-        outcomes = omega (arith, kept.outcomes, some);
-        runs = kept.runs;
-      }

@@ -8,9 +8,10 @@ use Rattle.hp_base.specs.declared.row.Row.{Row}
 use Rattle.hp_base.specs.declared.row.Run.{Run}
 use Rattle.hp_segs.specs.Calls.{OwnsRun, is_owned_at}
 use Rattle.hp_segs.specs.Lists.{lists_of, run_at}
-use Rattle.hp_segs.specs.Rows.{at_slot, in_run, is_row_at, IsUsedRun}
+use Rattle.hp_log.specs.Rows.{at_slot, in_run, is_row_at, IsUsedRun}
 use Rattle.hp_segs.specs.SegsView.{SegsView, rows_in, is_opened, is_owned_by, is_retiring}
-use Rattle.hp_segs.specs.Sound.{IsSound, has_slot, in_runs, growth_run}
+use Rattle.hp_segs.specs.Sound.{IsSound}
+use Rattle.hp_segs.specs.SoundRows.{has_slot, in_runs, growth_run}
 use Rattle.hp_segs.specs.Table.{IsPlaced, IsListRun}
 use Rattle.hp_segs.specs.declared.list_info.ListInfo.{ListInfo}
 use Rattle.hp_segs.specs.declared.row_state.RowState.{RowState}
@@ -79,7 +80,7 @@ module _ (segs : SegsView) (sound : IsSound segs) (heap : ℕ) (run : Run) (owns
   placed_at n below =
       let one = at n below in
       let all : All (λ segment. IsPlaced (lists_of segs.pools) segment.row) segs.segments =
-      all_unmap (IsPlaced (lists_of segs.pools)) (λ segment. segment.row) segs.segments sound.table.placed in
+      all_unmap (IsPlaced (lists_of segs.pools)) (λ segment. segment.row) segs.segments sound.rows.table.placed in
       subst (λ segment. IsPlaced (lists_of segs.pools) segment.row) one.here (all one.place one.segment one.within)
 
   -- the run is of a list
@@ -125,7 +126,7 @@ module _ (segs : SegsView) (sound : IsSound segs) (heap : ℕ) (run : Run) (owns
         ∙ and_from (one.segment.row.list == run.list) _ (eq-eqb one.segment.row.list run.list one.its_list)
         (eq-eqb one.segment.row.slot (run.first + n) one.its_slot) in
         let some = counted_at (rows_in segs.segments) one.place one.segment.row run.list (run.first + n) (omega (arith, one.within, long)) passes in
-        omega (arith, some, sound.table.once run.list (run.first + n));
+        omega (arith, some, sound.rows.table.once run.list (run.first + n));
   }
 
   -- no held run has a slot of the run
@@ -143,10 +144,10 @@ module _ (segs : SegsView) (sound : IsSound segs) (heap : ℕ) (run : Run) (owns
       let held : in_runs runs one.segment.row ≡ true = list_any_at (λ run. in_run run one.segment.row) runs k d within here in
       let opened : is_opened one.segment.state ≡ in_runs (growth_run segs.growth) one.segment.row =
       subst (λ segment. is_opened segment.state ≡ in_runs (growth_run segs.growth) segment.row) one.here
-      (sound.opened one.place one.segment one.within) in
+      (sound.rows.opened one.place one.segment one.within) in
       let retired : is_retiring one.segment.state ≡ in_runs segs.retiring one.segment.row =
       subst (λ segment. is_retiring segment.state ≡ in_runs segs.retiring segment.row) one.here
-      (sound.retired one.place one.segment one.within) in
+      (sound.rows.retired one.place one.segment one.within) in
       let off : (in_runs (growth_run segs.growth) one.segment.row || in_runs segs.retiring one.segment.row) ≡ false =
       or_from _ _ (sym opened ∙ alone.0) (sym retired ∙ alone.1) in
       let wrong : true ≡ false = sym held ∙ (in_runs_append (growth_run segs.growth) segs.retiring one.segment.row ∙ off) in

@@ -8,11 +8,11 @@ use Rattle.std.proofs.lemmas.List.FromFn.{length-map-range_with_len, get_or-map-
 use Rattle.std.proofs.lemmas.List.Sums.{sum_by-cons, sum_by-le}
 use Rattle.hp_base.specs.declared.row.Row.{Row}
 use Rattle.hp_base.specs.declared.pool_line.PoolLine.{PoolLine}
-use Rattle.hp_segs.specs.Rows.{at_slot, rows_at}
+use Rattle.hp_log.specs.Rows.{at_slot, rows_at}
 use Rattle.hp_segs.specs.Lists.{list_after, end_of, lists_from, lists_of}
 use Rattle.hp_segs.specs.Table.{IsPlaced}
 use Rattle.hp_segs.specs.declared.list_info.ListInfo.{ListInfo}
-use Rattle.hp_segs.proofs.Counts.{any_counts, count_cons}
+use Rattle.hp_log.proofs.Counts.{any_counts, count_cons}
 
 sum_add : {K : Type 0} (f g h : K → ℕ) → ((k : K) → h k ≡ f k + g k) → (keys : List K) → sum_by h keys ≡ sum_by f keys + sum_by g keys
 sum_add f g h parts [] = refl

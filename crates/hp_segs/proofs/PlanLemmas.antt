@@ -1,5 +1,5 @@
 -- Planned runs.
-use Rattle.std.proofs.Common.{◌≡◌, ◌==◌, ℕ, zero, suc, ◌+◌, ◌*◌, ◌^◌, ◌<◌, ◌≤◌, List, [], length, get_or, Option, Some, Err, IsTrue, refl, ap, ◌∙◌, sym, arith}
+use Rattle.std.proofs.Common.{◌≡◌, ◌==◌, ℕ, zero, suc, ◌+◌, ◌*◌, ◌^◌, ◌<◌, ◌≤◌, List, [], length, get_or, Some, Err, IsTrue, refl, ap, ◌∙◌, sym, arith}
 use Rattle.std.proofs.Math.Nat.{add-mul, mul-le-mul_right, le-mul_of_pos_right}
 use Rattle.std.specs.Int.{div_ceil}
 use Rattle.std.specs.List.{slice_get, list_any}
@@ -14,11 +14,15 @@ use Rattle.hp_base.specs.declared.row.Row.{Row}
 use Rattle.hp_base.specs.declared.pool_line.PoolLine.{PoolLine}
 use Rattle.hp_base.proofs.Rounding.{ceil_above}
 use Rattle.hp_base.proofs.PageLemmas.{page_pos}
-use Rattle.hp_fbarray.specs.FreeRuns.{first_free_run}
+use Rattle.hp_fbarray.specs.Answers.{free_run}
+use Rattle.hp_fbarray.specs.FreeRuns.{first_free_run, longest_free_run}
+use Rattle.hp_fbarray.specs.declared.free_run.FreeRun.{FreeRun}
+use Rattle.hp_fbarray.specs.declared.free_run.FreeRun.TheVariants.{Found}
+use Rattle.hp_fbarray.proofs.AnswerLemmas.{first_of_found}
 use Rattle.hp_fbarray.proofs.RunValues.{first_free_run-holds}
 use Rattle.hp_segs.specs.Lists.{lists_of, list_number, is_list_of, pages_beside, slots_beside}
 use Rattle.hp_segs.specs.Plan.{planned_list, planned_slots}
-use Rattle.hp_segs.specs.Rows.{at_slot, slots_of}
+use Rattle.hp_log.specs.Rows.{at_slot, slots_of}
 use Rattle.hp_segs.specs.declared.ask.Ask.{Ask}
 use Rattle.hp_segs.specs.declared.plan_refusal.PlanRefusal.TheVariants.{TooFew}
 use Rattle.hp_segs.proofs.QueryLemmas.{get_within}
@@ -71,14 +75,22 @@ plan_fits info first need fit within some =
       some = omega (arith, one, some);
     }
 
+-- the first free run of a list that the search found
+pub found_here : (pools : List PoolLine) (rows : List Row) (list : ℕ) (info : ListInfo) (need first : ℕ) (answer : FreeRun)
+    → slice_get (lists_of pools) list ≡ Some info → answer ≡ free_run (slots_beside pools rows list) need → answer ≡ Found first
+    → first_free_run (slots_of rows list info.slots) 0 need ≡ Some first
+found_here pools rows list info need first answer here search found =
+    ap (λ slots. first_free_run slots 0 need) (sym (slots_here pools rows list info here))
+    ∙ first_of_found (first_free_run (slots_beside pools rows list) 0 need) (longest_free_run (slots_beside pools rows list)) first
+    (sym found ∙ search)
+
 -- what a planned run's numbers fit, from the search
-pub slot_fits : (pools : List PoolLine) (rows : List Row) (list : ℕ) (info : ListInfo) (need first : ℕ) (answer : Option ℕ)
+pub slot_fits : (pools : List PoolLine) (rows : List Row) (list : ℕ) (info : ListInfo) (need first : ℕ) (answer : FreeRun)
     → slice_get (lists_of pools) list ≡ Some info → IsFitList info → 0 < need
-    → answer ≡ first_free_run (slots_beside pools rows list) 0 need → answer ≡ Some first → PlanFits info first need
+    → answer ≡ free_run (slots_beside pools rows list) need → answer ≡ Found first → PlanFits info first need
 slot_fits pools rows list info need first answer here fit some search found =
-    let run : first_free_run (slots_of rows list info.slots) 0 need ≡ Some first =
-    ap (λ slots. first_free_run slots 0 need) (sym (slots_here pools rows list info here)) ∙ (sym search ∙ found) in
-    plan_fits info first need fit (first_within rows list info.slots need first run) some
+    plan_fits info first need fit
+    (first_within rows list info.slots need first (found_here pools rows list info need first answer here search found)) some
 
 -- where the pages are too few no slot is looked at
 pub planned_few : (ask : Ask) (pools : List PoolLine) (rows : List Row) (list : ℕ) (info : ListInfo) → slice_get (lists_of pools) list ≡ Some info

@@ -1,5 +1,6 @@
 -- What a planned run is: the first of the pages asked, within its list and its pool.
-use Rattle.std.proofs.Common.{◌≡◌, ℕ, ◌+◌, ◌*◌, ◌<◌, ◌≤◌, Bool, true, false, List, get_or, Option, Some, None, Result, Ok, Err, IfOk, IsTrue, refl, ap, ◌∙◌, sym, subst, arith, nat_lt, nat_le, is_some, if◌then◌else◌}
+use Rattle.std.proofs.Common.{◌≡◌, ℕ, ◌+◌, ◌*◌, ◌^◌, ◌<◌, ◌≤◌, Bool, true, false, List, get_or, Option, Some, None, Result, Ok, Err, IfOk, IsTrue, refl, ap, ◌∙◌, sym, subst, arith, nat_lt, nat_le, is_some, if◌then◌else◌}
+use Rattle.std.proofs.Math.Nat.{mul-le-mul_right}
 use Rattle.std.specs.List.{slice_get, list_any}
 use Rattle.std.proofs.lemmas.Bool.{ltb-false, leb-false}
 use Rattle.std.proofs.lemmas.List.FromFn.{get_or-map-range_with_len}
@@ -14,7 +15,7 @@ use Rattle.hp_fbarray.specs.FreeRuns.{first_free_run}
 use Rattle.hp_fbarray.proofs.RunValues.{first_free_run-holds}
 use Rattle.hp_segs.specs.Lists.{lists_of, list_number, pages_beside, run_at}
 use Rattle.hp_segs.specs.Plan.{planned_in, planned_list, planned_slots, planned_alone, plan_of, IsFirstFor}
-use Rattle.hp_segs.specs.Rows.{at_slot, slots_of, IsUnusedRun}
+use Rattle.hp_log.specs.Rows.{at_slot, slots_of, IsUnusedRun}
 use Rattle.hp_segs.specs.SegsView.{SegsView, closed_number, rows_in}
 use Rattle.hp_segs.specs.Table.{IsListRun, HasPages}
 use Rattle.hp_segs.specs.declared.ask.Ask.{Ask}
@@ -22,9 +23,10 @@ use Rattle.hp_segs.specs.declared.growth.Growth.{Growth}
 use Rattle.hp_segs.specs.declared.list_info.ListInfo.{ListInfo}
 use Rattle.hp_segs.specs.declared.plan_refusal.PlanRefusal.{PlanRefusal}
 use Rattle.hp_segs.specs.declared.plan_refusal.PlanRefusal.TheVariants.{StaleAsk, TooFew, CannotHold}
-use Rattle.hp_segs.proofs.Counts.{none_counts}
+use Rattle.hp_log.proofs.Counts.{none_counts}
 use Rattle.hp_segs.proofs.ListsLemmas.{line_of_list}
 use Rattle.hp_segs.proofs.PlanLemmas.{pages_some, first_within, numbered_list}
+use Rattle.hp_segs.proofs.PageSizes.{page_small}
 use Rattle.hp_segs.proofs.TableUse.{at_place}
 
 -- a planned run
@@ -122,12 +124,6 @@ pub planned_is : (pools : List PoolLine) (rows : List Row) (ask : Ask) (run : Ru
 planned_is pools rows ask run limits plan =
     of_number pools rows ask run limits (list_number (lists_of pools) ask.socket ask.page) refl plan
 
--- where the plan gives a run, that is the first of the pages asked
-pub first_if_ok : (pools : List PoolLine) (rows : List Row) (ask : Ask) (result : Result Run PlanRefusal) → ArePoolLines pools
-    → result ≡ planned_in ask pools rows (list_number (lists_of pools) ask.socket ask.page) → IfOk result (IsFirstFor pools rows ask)
-first_if_ok pools rows ask (Ok run) limits plan = (planned_is pools rows ask run limits (sym plan)).first
-first_if_ok pools rows ask (Err refusal) limits plan = tt
-
 -- the plan of an ask that gives a run: the ask is not closed, no growth is open, and the run is planned
 pub record IsOpenPlan (segs : SegsView) (ask : Ask) (run : Run) : Type 0 where
   pub above : closed_number segs.asks ask.from < ask.number
@@ -154,3 +150,23 @@ open_above segs ask run false limits fresh plan =
 pub open_plan : (segs : SegsView) (ask : Ask) (run : Run) → ArePoolLines segs.pools → plan_of ask segs ≡ Ok run → IsOpenPlan segs ask run
 open_plan segs ask run limits plan =
     open_above segs ask run (nat_le ask.number (closed_number segs.asks ask.from)) limits refl plan
+
+-- a planned run has few bytes
+pub planned_fits : (segs : SegsView) (ask : Ask) (result : Result Run PlanRefusal) → ArePoolLines segs.pools → result ≡ plan_of ask segs
+    → IfOk result (λ run. run.count * run.page ≤ 2 ^ 47)
+planned_fits segs ask (Ok run) limits plan =
+    let planned = (open_plan segs ask run limits (sym plan)).planned in
+    let found = line_of_list segs.pools run.list planned.listed.info planned.listed.its_list in
+    let line : IsPoolLine found.line = at_place IsPoolLine segs.pools run.list found.line limits.lines found.its_line in
+    let page : run.page ≡ found.line.page = ap (λ (r : Run). r.page) planned.listed.is_run ∙ found.alike.page in
+    let small : run.page ≤ 2 ^ 34 = omega (arith, page, page_small found.line.page line.page) in
+    let few : run.count ≤ 8192 = omega (arith, planned.listed.within, found.alike.slots, line.slots) in
+    let bytes : run.count * run.page ≤ 8192 * run.page = mul-le-mul_right run.page few in
+    omega (arith, bytes, small)
+planned_fits segs ask (Err refusal) limits plan = tt
+
+-- and is the first one
+pub planned_first : (segs : SegsView) (ask : Ask) (result : Result Run PlanRefusal) → ArePoolLines segs.pools → result ≡ plan_of ask segs
+    → IfOk result (IsFirstFor segs.pools (rows_in segs.segments) ask)
+planned_first segs ask (Ok run) limits plan = (open_plan segs ask run limits (sym plan)).planned.first
+planned_first segs ask (Err refusal) limits plan = tt

@@ -4,10 +4,10 @@ use Rattle.std.proofs.lemmas.Bool.{cases_eq, cases_lt, and_right, and_left, eq-e
 use Rattle.hp_base.specs.declared.row.Row.{Row}
 use Rattle.hp_base.specs.declared.row.Run.{Run}
 use Rattle.hp_base.specs.declared.pool_line.PoolLine.{PoolLine}
-use Rattle.hp_segs.specs.Rows.{rows_of, in_run, at_slot, rows_at, IsUsedRun}
+use Rattle.hp_log.specs.Rows.{rows_of, in_run, at_slot, rows_at, IsUsedRun}
 use Rattle.hp_segs.specs.Lists.{is_of_pool}
-use Rattle.hp_segs.proofs.Counts.{count_append, count_cons, count_none}
-use Rattle.hp_segs.proofs.RowLemmas.{count_rows_below}
+use Rattle.hp_log.proofs.Counts.{count_append, count_cons, count_none}
+use Rattle.hp_log.proofs.RowLemmas.{count_rows_below}
 
 -- the run is of the pool
 abbrev pub run_of_pool : PoolLine → Run → Bool

@@ -1,15 +1,15 @@
 -- What is read off a laid out table.
-use Rattle.std.proofs.Common.{◌≡◌, ℕ, zero, suc, ◌+◌, ◌^◌, ◌<◌, ◌≤◌, Bool, true, false, if◌then◌else◌, ◌==◌, ◌&&◌, List, [], ◌∷◌, length, get_or, Some, refl, ap, ◌∙◌, sym, subst, arith, sum_by}
+use Rattle.std.proofs.Common.{◌≡◌, ℕ, zero, suc, ◌+◌, ◌^◌, ◌<◌, ◌≤◌, Bool, true, false, if◌then◌else◌, ◌==◌, ◌&&◌, List, [], ◌∷◌, length, get_or, take, Some, refl, ap, ◌∙◌, sym, subst, arith, sum_by}
 use Rattle.std.specs.List.{All, slice_get}
 use Rattle.std.specs.Option.{option_map, option_map_or, unwrap_or}
 use Rattle.std.proofs.lemmas.List.Elements.{All-get_or, All-head, All-tail, All-cons, All-nil}
-use Rattle.std.proofs.lemmas.List.Sums.{sum_by-le}
+use Rattle.std.proofs.lemmas.List.Sums.{sum_by-cons, sum_by-le}
 use Rattle.hp_base.specs.declared.row.Row.{Row}
 use Rattle.hp_base.specs.declared.pool_line.PoolLine.{PoolLine}
 use Rattle.hp_pool.specs.Pools.{pool_of, free_pages as free_of}
 use Rattle.hp_pool.specs.declared.pool.Pool.{Pool}
 use Rattle.hp_segs.specs.Lists.{lists_of, free_pages, pages_beside, slots_beside}
-use Rattle.hp_segs.specs.Rows.{slots_of}
+use Rattle.hp_log.specs.Rows.{slots_of}
 use Rattle.hp_segs.specs.Table.{IsPlaced}
 use Rattle.hp_segs.specs.SegsView.{counted_bytes, is_counted, rows_in}
 use Rattle.hp_segs.specs.declared.row_state.Segment.{Segment}
@@ -19,7 +19,7 @@ use Rattle.hp_segs.proofs.StateLemmas.{length_rows_in}
 use Rattle.hp_segs.proofs.TableUse.{at_place}
 use Rattle.hp_segs.specs.TableLayout.{IsLaidOut, IsFitList, pool_beside}
 use Rattle.hp_segs.specs.declared.list_info.ListInfo.{ListInfo}
-use Rattle.hp_segs.specs.declared.log_record.LogRecord.{LogRecord}
+use Rattle.hp_log.specs.declared.log_record.LogRecord.{LogRecord}
 use Rattle.hp_segs.proofs.MaskStepLemmas.{masks_from_at, length_masks_from}
 
 -- a place within a list has an element
@@ -27,6 +27,13 @@ pub get_within : {X : Type 0} (xs : List X) (i : ℕ) (d : X) → i < length xs 
 get_within [] i d within = absurd (omega (arith, within))
 get_within (x ∷ xs) zero d within = refl
 get_within (x ∷ xs) (suc i) d within = get_within xs i d (omega arith)
+
+-- the sum of the first elements is at most that of all
+pub sum_take : {X : Type 0} (f : X → ℕ) (xs : List X) (n : ℕ) → sum_by f (take n xs) ≤ sum_by f xs
+sum_take f [] zero = omega arith
+sum_take f [] (suc n) = omega arith
+sum_take f (x ∷ xs) zero = omega arith
+sum_take f (x ∷ xs) (suc n) = omega (arith, sum_by-cons f x (take n xs), sum_by-cons f x xs, sum_take f xs n)
 
 bytes_by : (b : Bool) (page : ℕ) → page ≤ 2 ^ 34 → (if b then page else 0) ≤ 2 ^ 34
 bytes_by true page small = small
@@ -76,7 +83,7 @@ module _ {pools : List PoolLine} {lists : List ListInfo} {masks : List (List Boo
       ∙ ap (λ o. option_map_or (λ info. slots_of rows list info.slots) o []) (sym here)))
 
   -- no more segments than slots, each of a page at most
-  pub total_fits : (segments : List Segment) (socket : ℕ) → rows_in segments ≡ rows → sum_by (counted_bytes socket) segments < 2 ^ 64
+  pub total_fits : (segments : List Segment) (socket : ℕ) → rows_in segments ≡ rows → sum_by (counted_bytes socket) segments ≤ 2 ^ 48
   total_fits segments socket same =
       let few = rows_within (lists_of pools) rows old.table.placed old.table.once in
       let long : length segments ≡ length rows = sym (length_rows_in segments) ∙ ap length same in

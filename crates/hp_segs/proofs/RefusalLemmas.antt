@@ -1,8 +1,8 @@
 -- The cause of a refused plan, and of a denial.
 use Rattle.std.proofs.Common.{◌≡◌, ℕ, ◌+◌, ◌*◌, Bool, true, false, if◌then◌else◌, List, Option, Some, None, Ok, Err, refl, ap, subst, nat_lt, nat_le, is_some}
 use Rattle.std.specs.List.{slice_get}
-use Rattle.std.specs.Option.{option_map_or}
-use Rattle.std.proofs.lemmas.Bool.{ltb-true}
+use Rattle.std.specs.Option.{option_map, option_map_or}
+use Rattle.std.proofs.lemmas.Bool.{leb-true, ltb-true}
 use Rattle.hp_base.specs.Pages.{pages_of}
 use Rattle.hp_base.specs.Place.{place_of}
 use Rattle.hp_base.specs.declared.row.Row.{Row}
@@ -13,8 +13,8 @@ use Rattle.hp_fbarray.proofs.FreeRunLemmas.{longest_below}
 use Rattle.hp_fbarray.proofs.RunValues.{first_free_run-holds, longest_free_run-holds}
 use Rattle.hp_segs.specs.Lists.{lists_of, list_number, free_pages, pages_beside, run_at}
 use Rattle.hp_segs.specs.Plan.{planned_in, planned_list, planned_slots, planned_alone, plan_of}
-use Rattle.hp_segs.specs.Refusals.{IsShort, IsFull, IsUnfit}
-use Rattle.hp_segs.specs.Rows.{slots_of}
+use Rattle.hp_segs.specs.Refusals.{IsPlanCause, IsPlanRefusal}
+use Rattle.hp_log.specs.Rows.{slots_of}
 use Rattle.hp_segs.specs.SegsView.{SegsView, closed_number, rows_in}
 use Rattle.hp_segs.specs.declared.ask.Ask.{Ask}
 use Rattle.hp_segs.specs.declared.growth.Growth.{Growth}
@@ -23,15 +23,6 @@ use Rattle.hp_segs.specs.declared.plan_refusal.PlanRefusal.{PlanRefusal}
 use Rattle.hp_segs.specs.declared.plan_refusal.PlanRefusal.TheVariants.{StaleAsk, GrowthOpen, NoList, TooFew, ListFull, CannotHold}
 use Rattle.hp_segs.proofs.ListsLemmas.{line_of_list}
 use Rattle.hp_segs.proofs.PlanLemmas.{numbered_list}
-
--- what a refusal of a plan says beside rows, where it looks at them
-abbrev pub IsPlanCause : List PoolLine → List Row → Ask → PlanRefusal → Type 0
-IsPlanCause pools rows ask (StaleAsk number done) = Unit {0}
-IsPlanCause pools rows ask (GrowthOpen generation) = Unit {0}
-IsPlanCause pools rows ask NoList = list_number (lists_of pools) ask.socket ask.page ≡ None
-IsPlanCause pools rows ask (TooFew have need) = IsShort pools rows ask have need
-IsPlanCause pools rows ask (ListFull longest need) = IsFull pools rows ask longest need
-IsPlanCause pools rows ask (CannotHold addr len) = IsUnfit pools rows ask addr len
 
 module _ (pools : List PoolLine) (rows : List Row) (ask : Ask) (refusal : PlanRefusal) where
   by_place : (list : ℕ) (info : ListInfo) (first : ℕ) → list_number (lists_of pools) ask.socket ask.page ≡ Some list
@@ -124,23 +115,31 @@ module _ (pools : List PoolLine) (rows : List Row) (ask : Ask) (refusal : PlanRe
       subst (IsPlanCause pools rows ask) same none
   by_number (Some list) is plan = by_info list is (slice_get (lists_of pools) list) refl plan
 
-by_growth : (segs : SegsView) (ask : Ask) (refusal : PlanRefusal) (growth : Option Growth) → planned_alone ask segs growth ≡ Err refusal
-    → IsPlanCause segs.pools (rows_in segs.segments) ask refusal
-by_growth segs ask refusal None plan =
-    by_number segs.pools (rows_in segs.segments) ask refusal (list_number (lists_of segs.pools) ask.socket ask.page) refl plan
-by_growth segs ask refusal (Some growth) plan =
+says : (segs : SegsView) (ask : Ask) (refusal : PlanRefusal) → IsPlanCause segs.pools (rows_in segs.segments) ask refusal → IsPlanRefusal ask segs refusal
+says segs ask (StaleAsk number done) has = absurd has
+says segs ask (GrowthOpen generation) has = absurd has
+says segs ask NoList has = has
+says segs ask (TooFew have need) has = has
+says segs ask (ListFull longest need) has = has
+says segs ask (CannotHold addr len) has = has
+
+by_growth : (segs : SegsView) (ask : Ask) (refusal : PlanRefusal) (growth : Option Growth) → segs.growth ≡ growth
+    → planned_alone ask segs growth ≡ Err refusal → IsPlanRefusal ask segs refusal
+by_growth segs ask refusal None is plan =
+    says segs ask refusal
+    (by_number segs.pools (rows_in segs.segments) ask refusal (list_number (lists_of segs.pools) ask.socket ask.page) refl plan)
+by_growth segs ask refusal (Some growth) is plan =
     let same : GrowthOpen growth.generation ≡ refusal = cc in
-    subst (IsPlanCause segs.pools (rows_in segs.segments) ask) same tt
+    subst (IsPlanRefusal ask segs) same (ap (option_map (λ (growth : Growth). growth.generation)) is)
 
-by_closed : (segs : SegsView) (ask : Ask) (refusal : PlanRefusal) (stale : Bool)
+by_closed : (segs : SegsView) (ask : Ask) (refusal : PlanRefusal) (stale : Bool) → nat_le ask.number (closed_number segs.asks ask.from) ≡ stale
     → (if stale then Err (StaleAsk ask.number (closed_number segs.asks ask.from)) else planned_alone ask segs segs.growth) ≡ Err refusal
-    → IsPlanCause segs.pools (rows_in segs.segments) ask refusal
-by_closed segs ask refusal true plan =
+    → IsPlanRefusal ask segs refusal
+by_closed segs ask refusal true closed plan =
     let same : StaleAsk ask.number (closed_number segs.asks ask.from) ≡ refusal = cc in
-    subst (IsPlanCause segs.pools (rows_in segs.segments) ask) same tt
-by_closed segs ask refusal false plan = by_growth segs ask refusal segs.growth plan
+    subst (IsPlanRefusal ask segs) same (refl, refl, leb-true ask.number (closed_number segs.asks ask.from) closed)
+by_closed segs ask refusal false closed plan = by_growth segs ask refusal segs.growth refl plan
 
--- a refused plan has its cause beside the rows
-pub refused_plan : (segs : SegsView) (ask : Ask) (refusal : PlanRefusal) → plan_of ask segs ≡ Err refusal
-    → IsPlanCause segs.pools (rows_in segs.segments) ask refusal
-refused_plan segs ask refusal plan = by_closed segs ask refusal (nat_le ask.number (closed_number segs.asks ask.from)) plan
+-- a refused plan says what stands
+pub refused_plan : (segs : SegsView) (ask : Ask) (refusal : PlanRefusal) → plan_of ask segs ≡ Err refusal → IsPlanRefusal ask segs refusal
+refused_plan segs ask refusal plan = by_closed segs ask refusal (nat_le ask.number (closed_number segs.asks ask.from)) refl plan

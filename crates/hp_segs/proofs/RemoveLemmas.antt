@@ -9,20 +9,20 @@ use Rattle.hp_base.specs.declared.row.Run.{Run}
 use Rattle.hp_base.specs.declared.pool_line.PoolLine.{PoolLine}
 use Rattle.hp_pool.specs.Pools.{pool_of, with_more, Gives, HasOut}
 use Rattle.hp_pool.specs.declared.pool.Pool.{Pool}
-use Rattle.hp_segs.specs.Log.{run_in}
+use Rattle.hp_log.specs.Log.{run_in}
 use Rattle.hp_segs.specs.Lists.{lists_of, is_of_pool, free_pages}
 use Rattle.hp_segs.specs.Masks.{with_places}
-use Rattle.hp_segs.specs.Rows.{at_slot, in_run, IsUsedRun}
+use Rattle.hp_log.specs.Rows.{at_slot, in_run, IsUsedRun}
 use Rattle.hp_segs.specs.Table.{IsTable, IsPlaced, IsStamped, IsListRun}
 use Rattle.hp_segs.specs.TableLayout.{IsLaidOut, pool_beside}
 use Rattle.hp_segs.specs.declared.list_info.ListInfo.{ListInfo}
-use Rattle.hp_segs.specs.declared.log_record.LogRecord.{LogRecord}
-use Rattle.hp_segs.specs.declared.log_record.LogRecord.TheVariants.{Drop}
-use Rattle.hp_segs.proofs.Counts.{count_split, count_agree, count_none}
-use Rattle.hp_segs.proofs.LogLemmas.{table_of_push, well_formed_push}
+use Rattle.hp_log.specs.declared.log_record.LogRecord.{LogRecord}
+use Rattle.hp_log.specs.declared.log_record.LogRecord.TheVariants.{Drop}
+use Rattle.hp_log.proofs.Counts.{count_split, count_agree, count_none}
+use Rattle.hp_log.proofs.LogLemmas.{table_of_push, well_formed_push}
 use Rattle.hp_segs.proofs.MaskStepLemmas.{masks_marked, slots_removed, others_removed}
 use Rattle.hp_segs.proofs.PoolCounts.{run_of_pool, run_count}
-use Rattle.hp_segs.proofs.RowLemmas.{place_in_run}
+use Rattle.hp_log.proofs.RowLemmas.{place_in_run}
 
 -- the rows that are left
 abbrev pub rows_without : Run → List Row → List Row

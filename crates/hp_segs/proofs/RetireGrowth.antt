@@ -6,16 +6,17 @@ use Rattle.std.proofs.lemmas.List.Elements.{All-map}
 use Rattle.hp_base.specs.declared.row.Row.{Row}
 use Rattle.hp_base.specs.declared.row.Run.{Run}
 use Rattle.hp_segs.specs.Calls.{OwnsRun}
-use Rattle.hp_segs.specs.Rows.{row_of, in_run}
+use Rattle.hp_log.specs.Rows.{row_of, in_run}
 use Rattle.hp_segs.specs.SegsView.{SegsView, is_opened}
-use Rattle.hp_segs.specs.Sound.{IsLogged, IsSound, in_runs, has_stamp, growth_run}
+use Rattle.hp_segs.specs.Sound.{IsSound}
+use Rattle.hp_segs.specs.SoundRows.{IsLogged, in_runs, has_stamp, growth_run}
 use Rattle.hp_segs.specs.Steps.{segment_of, retired_segment}
 use Rattle.hp_segs.specs.declared.growth.Growth.{Growth}
 use Rattle.hp_segs.specs.declared.row_state.RowState.TheVariants.{Opened, Retiring}
 use Rattle.hp_segs.specs.declared.row_state.Segment.{Segment}
 use Rattle.hp_segs.proofs.GrowthLemmas.{growth_stays}
 use Rattle.hp_segs.proofs.OwnedLemmas.{none_growth}
-use Rattle.hp_segs.proofs.RowLemmas.{all_rows_below, in_run_from, row_at_place}
+use Rattle.hp_log.proofs.RowLemmas.{all_rows_below, in_run_from, row_at_place}
 use Rattle.hp_segs.proofs.StateLemmas.{chosen_row}
 
 module _ (segs : SegsView) (sound : IsSound segs) (heap : ℕ) (run : Run) (owns : OwnsRun heap run segs) where
@@ -40,7 +41,7 @@ module _ (segs : SegsView) (sound : IsSound segs) (heap : ℕ) (run : Run) (owns
   pub opened_retired : All (λ segment. is_opened segment.state ≡ in_runs (growth_run segs.growth) segment.row) (map (retired_segment run) segs.segments)
   opened_retired =
       All-map (λ segment. is_opened segment.state ≡ in_runs (growth_run segs.growth) segment.row) (retired_segment run) segs.segments
-      (λ k d within. opened_by (in_run run (get_or segs.segments k d).row) (get_or segs.segments k d) refl (sound.opened k d within))
+      (λ k d within. opened_by (in_run run (get_or segs.segments k d).row) (get_or segs.segments k d) refl (sound.rows.opened k d within))
 
   growth_row_out : (growth : Growth) → segs.growth ≡ Some growth → (k : ℕ) → k < growth.run.count
       → in_run run (row_of growth.run growth.generation k) ≡ false
@@ -70,7 +71,7 @@ module _ (segs : SegsView) (sound : IsSound segs) (heap : ℕ) (run : Run) (owns
   logged_retired (Some growth) is old =
       growth_stays (retired_segment run) segs.segments growth
       (λ segment. chosen_row (in_run run segment.row) _ segment refl)
-      (λ k d within. settled_stays (in_run run (get_or segs.segments k d).row) (get_or segs.segments k d) refl (sound.opened k d within))
+      (λ k d within. settled_stays (in_run run (get_or segs.segments k d).row) (get_or segs.segments k d) refl (sound.rows.opened k d within))
       (all_rows_below (λ row. retired_segment run (segment_of Opened row) ≡ segment_of Opened row) growth.run growth.generation growth.run.count
       (λ k below.
       own_stays (in_run run (row_of growth.run growth.generation k)) (row_of growth.run growth.generation k) (growth_row_out growth is k below)))
@@ -81,4 +82,4 @@ module _ (segs : SegsView) (sound : IsSound segs) (heap : ℕ) (run : Run) (owns
   stamped_retired =
       All-map (λ segment. is_opened segment.state ≡ has_stamp segs.growth segment.row) (retired_segment run) segs.segments
       (λ k d within.
-      stamped_by (in_run run (get_or segs.segments k d).row) (get_or segs.segments k d) refl (sound.opened k d within) (sound.stamped k d within))
+      stamped_by (in_run run (get_or segs.segments k d).row) (get_or segs.segments k d) refl (sound.rows.opened k d within) (sound.rows.stamped k d within))

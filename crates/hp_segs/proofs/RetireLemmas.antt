@@ -1,30 +1,28 @@
 -- A run of a heap that is given up.
-use Rattle.std.proofs.Common.{◌≡◌, ℕ, ◌+◌, ◌<◌, ◌≤◌, Bool, true, false, ◌||◌, cond, if◌then◌else◌, List, ◌++◌, map, length, get_or, Option, refl, ap, ◌∙◌, sym, subst, arith, count_by, length-append}
+use Rattle.std.proofs.Common.{◌≡◌, ℕ, ◌+◌, ◌<◌, ◌≤◌, Bool, true, false, ◌||◌, cond, if◌then◌else◌, List, ◌++◌, map, length, get_or, refl, ap, ◌∙◌, sym, subst, arith, count_by, sum_by, length-append}
 use Rattle.std.specs.List.{All, list_any}
 use Rattle.std.proofs.lemmas.Bool.{false_from_ne_true, true_from_ne_false}
 use Rattle.std.proofs.lemmas.List.Elements.{All-map}
 use Rattle.std.proofs.lemmas.List.Folds.{list_any_at}
 use Rattle.hp_base.specs.declared.row.Row.{Row}
 use Rattle.hp_base.specs.declared.row.Run.{Run}
-use Rattle.hp_segs.specs.AsksView.{AsksView}
 use Rattle.hp_segs.specs.Calls.{OwnsRun}
 use Rattle.hp_segs.specs.Lists.{lists_of}
-use Rattle.hp_segs.specs.Rows.{rows_at, at_slot, in_run, IsUsedRun}
-use Rattle.hp_segs.specs.SegsLayout.{IsKept, view_of}
+use Rattle.hp_log.specs.Rows.{rows_at, at_slot, in_run, IsUsedRun}
 use Rattle.hp_segs.specs.SegsView.{SegsView, rows_in, is_retiring}
-use Rattle.hp_segs.specs.Sound.{IsSound, AreHeld, has_slot, in_runs, growth_run}
+use Rattle.hp_segs.specs.Sound.{IsSound}
+use Rattle.hp_segs.specs.SoundRows.{AreHeld, AreRows, IsOfOneHeap, has_slot, in_runs, growth_run}
 use Rattle.hp_segs.specs.Steps.{segment_of, retired_segment, insert_by_address}
-use Rattle.hp_segs.specs.Table.{TableView, IsTable, IsListRun}
-use Rattle.hp_segs.specs.declared.ask.Ask.{Ask}
-use Rattle.hp_segs.specs.declared.external_range.ExternalRange.{ExternalRange}
-use Rattle.hp_segs.specs.declared.growth.Growth.{Growth}
+use Rattle.hp_segs.specs.Table.{IsTable, IsListRun}
 use Rattle.hp_segs.specs.declared.list_info.ListInfo.{ListInfo}
 use Rattle.hp_segs.specs.declared.row_state.RowState.TheVariants.{Retiring}
 use Rattle.hp_segs.specs.declared.row_state.Segment.{Segment}
-use Rattle.hp_segs.proofs.Counts.{count_append, count_none}
+use Rattle.hp_log.proofs.Counts.{count_append, count_none}
 use Rattle.hp_segs.proofs.DropLemmas.{own_slot}
+use Rattle.hp_segs.proofs.GivenUp.{owned_none_agreed, owned_one_heap}
 use Rattle.hp_segs.proofs.HeapRows.{heaps_retired}
-use Rattle.hp_segs.proofs.InsertLemmas.{count_insert, in_runs_insert, insert_held, length_insert}
+use Rattle.hp_segs.proofs.WholeGrants.{whole_retired}
+use Rattle.hp_segs.proofs.InsertLemmas.{all_insert, count_insert, insert_rises, in_runs_insert, insert_held, length_insert}
 use Rattle.hp_segs.proofs.OwnedLemmas.{listed_owned, none_held, used_owned}
 use Rattle.hp_segs.proofs.Pigeonhole.{length_by_keys, rows_within, slots_of_lists}
 use Rattle.hp_segs.proofs.RetireGrowth.{logged_retired, opened_retired, stamped_retired}
@@ -59,7 +57,7 @@ module _ (segs : SegsView) (sound : IsSound segs) (heap : ℕ) (run : Run) (owns
       omega (
         arith,
         zero_more,
-        sound.held.apart list slot,
+        sound.rows.held.apart list slot,
         count_append (has_slot list slot) (growth_run segs.growth) segs.retiring,
         count_append (has_slot list slot) (growth_run segs.growth) (insert_by_address run segs.retiring),
         count_insert (has_slot list slot) run segs.retiring,
@@ -68,8 +66,8 @@ module _ (segs : SegsView) (sound : IsSound segs) (heap : ℕ) (run : Run) (owns
   -- the held runs with the run among the Retiring ones
   pub held_retired : AreHeld (lists_of segs.pools) (rows_in segs.segments) (growth_run segs.growth ++ insert_by_address run segs.retiring)
   held_retired = record {
-    listed = insert_held (IsListRun (lists_of segs.pools)) run (growth_run segs.growth) segs.retiring (listed_owned segs sound heap run owns) sound.held.listed;
-    used = insert_held (IsUsedRun (rows_in segs.segments)) run (growth_run segs.growth) segs.retiring (used_owned segs sound heap run owns) sound.held.used;
+    listed = insert_held (IsListRun (lists_of segs.pools)) run (growth_run segs.growth) segs.retiring (listed_owned segs sound heap run owns) sound.rows.held.listed;
+    used = insert_held (IsUsedRun (rows_in segs.segments)) run (growth_run segs.growth) segs.retiring (used_owned segs sound heap run owns) sound.rows.held.used;
     apart = λ list slot.
         apart_retired (has_slot list slot run) list slot refl;
   }
@@ -78,7 +76,7 @@ module _ (segs : SegsView) (sound : IsSound segs) (heap : ℕ) (run : Run) (owns
   pub retired_retired : All (λ segment. is_retiring segment.state ≡ in_runs (insert_by_address run segs.retiring) segment.row) (map (retired_segment run) segs.segments)
   retired_retired =
       All-map (λ segment. is_retiring segment.state ≡ in_runs (insert_by_address run segs.retiring) segment.row) (retired_segment run) segs.segments
-      (λ k d within. retired_by (in_run run (get_or segs.segments k d).row) (get_or segs.segments k d) refl (sound.retired k d within))
+      (λ k d within. retired_by (in_run run (get_or segs.segments k d).row) (get_or segs.segments k d) refl (sound.rows.retired k d within))
 
 outside_at : (at inside : Bool) → (at ≡ true → inside ≡ true) → inside ≡ false → at ≡ false
 outside_at true inside is out = let wrong : true ≡ false = sym (is refl) ∙ out in cc
@@ -112,70 +110,41 @@ runs_within {lists} {rows} runs held =
     any_in_run rows run run.list (run.first + 0) (own_slot run 0 (held.listed k d within).some) one)
     (λ k d within. held.apart (get_or rows k d).list (get_or rows k d).slot)
 
-module _ {table : TableView} {asks : AsksView} {retiring : List Run} {growth : Option Growth} {roster : List Bool} {armed : List (Option Ask)} {ranges : List ExternalRange} {spare room : ℕ} where
-  -- a run of a heap is given up
-  pub kept_retire : (heap : ℕ) (run : Run) (kept : IsKept table asks retiring growth roster armed ranges spare room)
-      → OwnsRun heap run (view_of table asks retiring growth roster armed ranges spare)
-      → IsKept
-      (record table { segments = map (retired_segment run) table.segments })
-      asks
-      (insert_by_address run retiring)
-      growth
-      roster
-      armed
-      ranges
-      spare
-      room
-  kept_retire heap run kept owns =
-      let segs : SegsView = view_of table asks retiring growth roster armed ranges spare in
-      let rows : rows_in (map (retired_segment run) table.segments) ≡ rows_in table.segments = retired_rows run table.segments in
+module _ (segs : SegsView) (sound : IsSound segs) (heap : ℕ) (run : Run) (owns : OwnsRun heap run segs) where
+  -- the rows with the run among the Retiring ones
+  pub rows_retired : AreRows segs.pools segs.log (map (retired_segment run) segs.segments) (insert_by_address run segs.retiring) segs.growth
+  rows_retired =
+      let rows : rows_in (map (retired_segment run) segs.segments) ≡ rows_in segs.segments = retired_rows run segs.segments in
       record {
-        sound = record {
-          table = subst (IsTable table.pools table.log) (sym rows) kept.sound.table;
-          held =
-              subst (λ rows. AreHeld (lists_of table.pools) rows (growth_run growth ++ insert_by_address run retiring)) (sym rows)
-              (held_retired segs kept.sound heap run owns);
-          opened = opened_retired segs kept.sound heap run owns;
-          stamped = stamped_retired segs kept.sound heap run owns;
-          retired = retired_retired segs kept.sound heap run owns;
-          heaps = heaps_retired table.log run table.segments kept.sound.heaps;
-          logged = logged_retired segs kept.sound heap run owns growth refl kept.sound.logged;
-          noted = kept.sound.noted;
-          granted = kept.sound.granted;
-          once = kept.sound.once;
-          unanswered = kept.sound.unanswered;
-          caused = kept.sound.caused;
-          participants = kept.sound.participants;
-          ranges = kept.sound.ranges;
-        };
-        records = kept.records;
-        outcomes = kept.outcomes;
-        runs = kept.runs;
+        table = subst (IsTable segs.pools segs.log) (sym rows) sound.rows.table;
+        held =
+            subst (λ rows. AreHeld (lists_of segs.pools) rows (growth_run segs.growth ++ insert_by_address run segs.retiring)) (sym rows)
+            (held_retired segs sound heap run owns);
+        opened = opened_retired segs sound heap run owns;
+        stamped = stamped_retired segs sound heap run owns;
+        retired = retired_retired segs sound heap run owns;
+        rising = insert_rises run segs.retiring sound.rows.rising;
+        given_up =
+            subst (λ rows. All (IsOfOneHeap segs.log rows) (insert_by_address run segs.retiring)) (sym rows)
+            (all_insert (IsOfOneHeap segs.log (rows_in segs.segments)) run segs.retiring
+            (owned_one_heap segs.segments heap run sound.rows.table.once owns.owned segs.log sound.rows.heaps) sound.rows.given_up);
+        heaps = heaps_retired segs.log run segs.segments sound.rows.heaps;
+        whole =
+            whole_retired segs.log segs.segments sound.rows.whole run
+            (owned_none_agreed segs.segments heap run sound.rows.table.once owns.owned);
+        logged = logged_retired segs sound heap run owns segs.growth refl sound.rows.logged;
       }
 
-  -- there is room for one Retiring run more
-  pub room_to_retire : (heap : ℕ) (run : Run) (kept : IsKept table asks retiring growth roster armed ranges spare room)
-      → OwnsRun heap run (view_of table asks retiring growth roster armed ranges spare) → length retiring < room
-  room_to_retire heap run kept owns =
-      let segs : SegsView = view_of table asks retiring growth roster armed ranges spare in
-      let runs = runs_within (growth_run growth ++ insert_by_address run retiring) (held_retired segs kept.sound heap run owns) in
-      let rows = rows_within (lists_of table.pools) (rows_in table.segments) kept.sound.table.placed kept.sound.table.once in
+  -- fewer Retiring runs than slots
+  pub retiring_within : length segs.retiring < sum_by (λ line. line.slots) segs.pools
+  retiring_within =
+      let runs = runs_within (growth_run segs.growth ++ insert_by_address run segs.retiring) (held_retired segs sound heap run owns) in
+      let rows = rows_within (lists_of segs.pools) (rows_in segs.segments) sound.rows.table.placed sound.rows.table.once in
       omega (
         arith,
         runs,
         rows,
-        slots_of_lists table.pools,
-        kept.runs,
-        length-append (growth_run growth) (insert_by_address run retiring),
-        length_insert run retiring,
+        slots_of_lists segs.pools,
+        length-append (growth_run segs.growth) (insert_by_address run segs.retiring),
+        length_insert run segs.retiring,
       )
-
-  -- more room for Retiring runs does no harm
-  pub kept_room : {more : ℕ} → room ≤ more → IsKept table asks retiring growth roster armed ranges spare room
-      → IsKept table asks retiring growth roster armed ranges spare more
-  kept_room enough kept = record {
-    sound = kept.sound;
-    records = kept.records;
-    outcomes = kept.outcomes;
-    runs = omega (arith, kept.runs, enough);
-  }

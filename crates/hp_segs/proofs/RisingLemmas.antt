@@ -8,11 +8,11 @@ use Rattle.std.proofs.lemmas.List.Kept.{IsNonDecreasingBy-filter}
 use Rattle.std.proofs.lemmas.List.Sorted.{IsNonDecreasingBy-push, IsNonDecreasingBy-short}
 use Rattle.hp_base.specs.declared.row.Row.{Row}
 use Rattle.hp_base.specs.declared.row.Run.{Run}
-use Rattle.hp_segs.specs.Log.{table_after, table_from, table_of}
-use Rattle.hp_segs.specs.Rows.{row_of, rows_below, in_run}
+use Rattle.hp_log.specs.Log.{table_after, table_from, table_of}
+use Rattle.hp_log.specs.Rows.{row_of, rows_below, in_run}
 use Rattle.hp_segs.specs.SegsView.{rows_in}
-use Rattle.hp_segs.specs.declared.log_record.LogRecord.{LogRecord}
-use Rattle.hp_segs.specs.declared.log_record.LogRecord.TheVariants.{Add, Drop}
+use Rattle.hp_log.specs.declared.log_record.LogRecord.{LogRecord}
+use Rattle.hp_log.specs.declared.log_record.LogRecord.TheVariants.{Add, Drop}
 use Rattle.hp_segs.specs.declared.row_state.Segment.{Segment}
 
 -- the rows rise by generation, up to that one

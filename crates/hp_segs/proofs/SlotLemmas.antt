@@ -7,11 +7,11 @@ use Rattle.std.proofs.lemmas.Map.Views.{any-filter_same}
 use Rattle.hp_base.specs.declared.row.Row.{Row}
 use Rattle.hp_base.specs.declared.row.Run.{Run}
 use Rattle.hp_segs.specs.Masks.{with_places}
-use Rattle.hp_segs.specs.Rows.{rows_of, in_run, at_slot, rows_at}
-use Rattle.hp_segs.specs.Sound.{has_slot}
-use Rattle.hp_segs.proofs.Counts.{any_counts, none_counts}
+use Rattle.hp_log.specs.Rows.{rows_of, in_run, at_slot, rows_at}
+use Rattle.hp_segs.specs.SoundRows.{has_slot}
+use Rattle.hp_log.proofs.Counts.{any_counts, none_counts}
 use Rattle.hp_segs.proofs.MaskLemmas.{length_with_places}
-use Rattle.hp_segs.proofs.RowLemmas.{run_rows_at, run_slot_once}
+use Rattle.hp_log.proofs.RowLemmas.{run_rows_at, run_slot_once}
 
 -- the place is among n from first on
 abbrev pub is_between : ℕ → ℕ → ℕ → Bool

@@ -2,7 +2,7 @@
 use Rattle.std.proofs.Common.{◌≡◌, ◌==◌, ◌∙◌, ℕ, suc, Bool, true, false, not, ◌++◌, length, List, [], ◌∷◌, map, if◌then◌else◌, refl, ap}
 use Rattle.hp_base.specs.declared.row.Row.{Row}
 use Rattle.hp_base.specs.declared.row.Run.{Run}
-use Rattle.hp_segs.specs.Rows.{in_run}
+use Rattle.hp_log.specs.Rows.{in_run}
 use Rattle.hp_segs.specs.SegsView.{is_opened, rows_in}
 use Rattle.hp_segs.specs.Steps.{segment_of, agreed_segment, claimed_segment, retired_segment, without_run}
 use Rattle.hp_segs.specs.declared.row_state.RowState.{RowState}

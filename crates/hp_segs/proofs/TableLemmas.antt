@@ -5,7 +5,7 @@ use Rattle.hp_base.specs.declared.pool_line.PoolLine.{PoolLine}
 use Rattle.hp_pool.specs.declared.pool.Pool.{Pool}
 use Rattle.hp_segs.specs.TableLayout.{IsLaidOut}
 use Rattle.hp_segs.specs.declared.list_info.ListInfo.{ListInfo}
-use Rattle.hp_segs.specs.declared.log_record.LogRecord.{LogRecord}
+use Rattle.hp_log.specs.declared.log_record.LogRecord.{LogRecord}
 
 module _ {pools : List PoolLine} {lists : List ListInfo} {masks : List (List Bool)} {counts : List Pool} {log : List LogRecord} where
   -- the same rows in the same room are laid out alike

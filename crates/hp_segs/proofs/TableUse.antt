@@ -13,18 +13,19 @@ use Rattle.hp_base.specs.declared.pool_line.PoolLine.{PoolLine}
 use Rattle.hp_pool.specs.Pools.{pool_of, free_pages as free_of, HasOut}
 use Rattle.hp_pool.specs.declared.pool.Pool.{Pool}
 use Rattle.hp_segs.specs.Lists.{lists_of, is_of_pool, free_pages, pages_beside}
-use Rattle.hp_segs.specs.Rows.{at_slot, rows_of, IsUnusedRun, IsUsedRun}
-use Rattle.hp_segs.specs.Log.{run_in}
+use Rattle.hp_log.specs.Rows.{at_slot, rows_of, IsUnusedRun, IsUsedRun}
+use Rattle.hp_log.specs.Log.{run_in}
 use Rattle.hp_segs.specs.Table.{IsPlaced, IsListRun, HasPages}
-use Rattle.hp_segs.specs.TableLayout.{IsLaidOut, IsFitList, IsSmallRun, pool_beside}
+use Rattle.hp_segs.specs.TableLayout.{IsLaidOut, IsFitList, pool_beside}
+use Rattle.hp_log.specs.Rows.{IsSmallRun}
 use Rattle.hp_segs.specs.declared.list_info.ListInfo.{ListInfo}
-use Rattle.hp_segs.specs.declared.log_record.LogRecord.{LogRecord}
+use Rattle.hp_log.specs.declared.log_record.LogRecord.{LogRecord}
 use Rattle.hp_segs.proofs.AddLemmas.{once_added, placed_run}
 use Rattle.hp_segs.proofs.ListsLemmas.{line_of_list, HasLine}
 use Rattle.hp_segs.proofs.MaskStepLemmas.{masks_from_at, length_masks_from}
 use Rattle.hp_segs.proofs.Pigeonhole.{rows_within, slots_of_lists}
 use Rattle.hp_segs.proofs.RemoveLemmas.{has_out}
-use Rattle.hp_segs.proofs.RowLemmas.{all_rows_below, length_rows_below}
+use Rattle.hp_log.proofs.RowLemmas.{all_rows_below, length_rows_below}
 use Rattle.std.proofs.lemmas.List.Elements.{All-append}
 
 -- what holds of all holds of the one at a place

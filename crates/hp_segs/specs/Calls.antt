@@ -7,7 +7,7 @@ use Rattle.hp_base.specs.declared.map_answer.MapAnswer.{MapAnswer}
 use Rattle.hp_segs.specs.SegsView.{SegsView, closed_number, total_of, grant_of, is_unclaimed, is_member, is_owned_by}
 use Rattle.hp_segs.specs.Plan.{plan_of}
 use Rattle.hp_segs.specs.LaterSteps.{armed_ask, is_failure}
-use Rattle.hp_segs.specs.Rows.{is_row_at, HasSlots}
+use Rattle.hp_log.specs.Rows.{is_row_at, HasSlots}
 use Rattle.hp_segs.specs.declared.ask.Ask.{Ask}
 use Rattle.hp_segs.specs.declared.outcome.Cause.{Cause}
 use Rattle.hp_segs.specs.declared.outcome.Cause.TheVariants as why

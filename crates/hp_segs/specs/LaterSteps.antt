@@ -3,9 +3,10 @@ use Rattle.std.specs.Prelude.{ℕ, ◌+◌, ◌-◌, ◌*◌, Bool, true, false,
 use Rattle.std.specs.List.{list_any}
 use Rattle.std.specs.Option.{option_and_then}
 use Rattle.hp_base.specs.declared.row.Row.{Row}
+use Rattle.hp_base.specs.declared.row.Run.{Run}
 use Rattle.hp_base.specs.declared.map_answer.MapAnswer.{MapAnswer}
 use Rattle.hp_base.specs.declared.map_answer.MapAnswer.TheVariants as answer
-use Rattle.hp_segs.specs.Rows.{in_run}
+use Rattle.hp_log.specs.Rows.{in_run}
 use Rattle.hp_segs.specs.SegsView.{SegsView, closed_number, grant_or_refusal_of}
 use Rattle.hp_segs.specs.Steps.{with_outcome, after_failure}
 use Rattle.hp_segs.specs.declared.ask.Ask.{Ask}
@@ -90,6 +91,14 @@ after_arm ask segs = record segs { armed = slice_set segs.armed ask.from (Some a
 -- the growth is of that ask
 abbrev pub grows_for : ℕ → ℕ → Growth → Bool
 grows_for from number growth = (growth.ask.from == from) && (growth.ask.number == number)
+
+-- the run of a growth, where it is of that ask
+abbrev pub own_run : ℕ → ℕ → Growth → Option Run
+own_run from number growth = if grows_for from number growth then Some growth.run else None
+
+-- the run of the open growth, where it is of that ask
+abbrev pub run_for : ℕ → ℕ → Option Growth → Option Run
+run_for from number growth = option_and_then (own_run from number) growth
 
 abbrev pub withdrawn_growth : ℕ → ℕ → Cause → SegsView → Option Growth → SegsView
 withdrawn_growth from number cause segs None =

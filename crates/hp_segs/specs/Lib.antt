@@ -1,5 +1,3 @@
-pub mod Rows
-pub mod Log
 pub mod Lists
 pub mod SegsView
 pub mod Plan
@@ -11,9 +9,13 @@ pub mod Machine
 pub mod Refusals
 pub mod Causes
 pub mod Table
+pub mod SoundRows
+pub mod SoundAsks
+pub mod SoundPlaces
 pub mod Sound
 pub mod Moved
 pub mod Laws
+pub mod PlaceLaws
 pub mod Opening
 pub mod AsksView
 pub mod Masks

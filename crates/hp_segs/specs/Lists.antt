@@ -1,7 +1,7 @@
 -- The segment lists of the pools: where they lie, and which pages of a pool are free.
 use Rattle.std.specs.Prelude.{ℕ, ◌+◌, ◌-◌, ◌*◌, ◌^◌, Bool, ◌&&◌, ◌==◌, List, [], ◌∷◌, Option, slice_get, count_by}
 use Rattle.std.specs.Option.{option_map_or}
-use Rattle.hp_segs.specs.Rows.{slots_of}
+use Rattle.hp_log.specs.Rows.{slots_of}
 use Rattle.std.specs.List.{position}
 use Rattle.hp_base.specs.Round.{ceil_of}
 use Rattle.hp_base.specs.declared.row.Row.{Row}

@@ -3,7 +3,7 @@ use Rattle.std.specs.Prelude.{◌≡◌, ℕ, ◌+◌, ◌-◌, ◌≤◌, Bool,
 use Rattle.hp_base.specs.declared.row.Run.{Run}
 use Rattle.hp_base.specs.declared.pool_line.PoolLine.{PoolLine}
 use Rattle.hp_base.specs.Pages.{pages_of}
-use Rattle.hp_segs.specs.Rows.{rows_of}
+use Rattle.hp_log.specs.Rows.{rows_of}
 use Rattle.hp_segs.specs.Lists.{lists_of, list_number, run_at, free_pages, is_of_pool}
 use Rattle.hp_segs.specs.SegsView.{SegsView, rows_in, is_opened, is_retiring}
 use Rattle.hp_segs.specs.Plan.{IsFirstRun}

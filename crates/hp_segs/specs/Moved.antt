@@ -1,6 +1,7 @@
 -- Which values come from a value by calls: every call with its condition and what it leaves, and how many growth steps lists of
 -- calls may have.
 use Rattle.std.specs.Prelude.{◌≡◌, ℕ, ◌≤◌, List, [], ◌∷◌, length, Ok, Bool, true, false, IsTrue, count_by}
+use Rattle.std.specs.List.{All}
 use Rattle.hp_base.specs.declared.row.Row.{Row}
 use Rattle.hp_base.specs.declared.row.Run.{Run}
 use Rattle.hp_base.specs.declared.map_answer.MapAnswer.{MapAnswer}
@@ -83,8 +84,48 @@ is_growth_step (OpenRun ask run) = true
 is_growth_step (Agree acks) = true
 is_growth_step _ = false
 
--- one value comes from another by calls under their conditions, at most one of which opens or grants a growth
-pub record IsMoved (old new : SegsView) : Type 0 where
+-- the calls that one form of a give allows, each beside calls that only take memory: those that log, those on the roster, those by
+-- which a heap takes and gives up rows, and those on external memory
+abbrev pub is_log_call : SegsCall → Bool
+is_log_call (Reserve n) = true
+is_log_call (OpenRun ask run) = true
+is_log_call (CloseAsk ask cause) = true
+is_log_call (LogStale from number) = true
+is_log_call (NoteFailed participant call row got) = true
+is_log_call (Agree acks) = true
+is_log_call (Cancel cause) = true
+is_log_call (Arm ask) = true
+is_log_call (Withdraw from number since now) = true
+is_log_call DropRetiring = true
+is_log_call (LogFreed from number) = true
+is_log_call _ = false
+
+abbrev pub is_roster_call : SegsCall → Bool
+is_roster_call (Reserve n) = true
+is_roster_call (JoinRoster participant acked) = true
+is_roster_call (LeaveRoster participant) = true
+is_roster_call _ = false
+
+abbrev pub is_owner_call : SegsCall → Bool
+is_owner_call (Reserve n) = true
+is_owner_call (Claim from number) = true
+is_owner_call (Retire heap run) = true
+is_owner_call _ = false
+
+abbrev pub is_range_call : SegsCall → Bool
+is_range_call (Reserve n) = true
+is_range_call (ClaimRange list addr len page socket) = true
+is_range_call (ReleaseRange list) = true
+is_range_call _ = false
+
+-- one value comes from another by calls under their conditions, each of which is allowed, and so many of which open or grant a growth
+-- at most
+pub record IsMovedBy (allowed : SegsCall → Bool) (steps : ℕ) (old new : SegsView) : Type 0 where
   pub calls : List SegsCall
   pub leads : Leads calls old new
-  pub one : count_by is_growth_step calls ≤ 1
+  pub only : All (λ call. IsTrue (allowed call)) calls
+  pub few : count_by is_growth_step calls ≤ steps
+
+-- one value comes from another by any calls under their conditions, at most one of which opens or grants a growth
+abbrev pub IsMoved : SegsView → SegsView → Type 0
+IsMoved old new = IsMovedBy (λ call. true) 1 old new

@@ -1,16 +1,9 @@
 -- The segment value at the beginning.
-use Rattle.std.specs.Prelude.{◌≡◌, ℕ, ◌%◌, ◌^◌, ◌<◌, ◌≤◌, Bool, ◌&&◌, ◌==◌, nat_lt, List, [], map, None, replicate}
+use Rattle.std.specs.Prelude.{ℕ, Bool, ◌&&◌, ◌==◌, nat_lt, List, [], map, None, replicate}
 use Rattle.std.specs.List.{range_with_len}
 use Rattle.std.specs.Int.{bit_at}
 use Rattle.hp_base.specs.declared.pool_line.PoolLine.{PoolLine}
 use Rattle.hp_segs.specs.SegsView.{SegsView}
-
--- there are 1 to 16 participants, and bits of participants from 1 to below that number alone are set
-pub record IsAbsent (participants absent : ℕ) : Type 0 where
-  pub some : 0 < participants
-  pub few : participants ≤ 16
-  pub primary : absent % 2 ≡ 0
-  pub declared : absent < 2 ^ participants
 
 -- the participant is declared and not absent
 abbrev pub is_present : ℕ → ℕ → ℕ → Bool

@@ -7,7 +7,7 @@ use Rattle.hp_base.specs.Pages.{pages_of}
 use Rattle.hp_base.specs.Place.{place_of}
 use Rattle.hp_fbarray.specs.Mask.{IsFirstFreeRun, HasNoFreeRun}
 use Rattle.hp_fbarray.specs.FreeRuns.{first_free_run, longest_free_run}
-use Rattle.hp_segs.specs.Rows.{slots_of}
+use Rattle.hp_log.specs.Rows.{slots_of}
 use Rattle.hp_segs.specs.Lists.{lists_of, list_number, pages_beside, run_at}
 use Rattle.hp_segs.specs.SegsView.{SegsView, closed_number, rows_in}
 use Rattle.hp_segs.specs.declared.ask.Ask.{Ask}

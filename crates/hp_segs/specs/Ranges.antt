@@ -4,7 +4,7 @@ use Rattle.std.specs.List.{fold, list_any, range_with_len, enumerate_from}
 use Rattle.std.specs.Option.{option_map, option_or}
 use Rattle.hp_base.specs.ExternalMemory.{is_bad_range}
 use Rattle.hp_base.specs.declared.row.Row.{Row}
-use Rattle.hp_segs.specs.Rows.{row_contains, at_slot}
+use Rattle.hp_log.specs.Rows.{row_contains, at_slot}
 use Rattle.hp_segs.specs.Lists.{lists_of}
 use Rattle.hp_segs.specs.SegsView.{SegsView, rows_in}
 use Rattle.hp_segs.specs.declared.list_info.ListInfo.{ListInfo}

@@ -5,11 +5,11 @@ use Rattle.hp_base.specs.PoolLines.{ArePoolLines}
 use Rattle.hp_base.specs.declared.row.Row.{Row}
 use Rattle.hp_base.specs.declared.row.Run.{Run}
 use Rattle.hp_base.specs.declared.pool_line.PoolLine.{PoolLine}
-use Rattle.hp_segs.specs.Rows.{rows_at, HasSlots}
-use Rattle.hp_segs.specs.Log.{run_in, table_of, IsWellFormed}
+use Rattle.hp_log.specs.Rows.{rows_at, HasSlots}
+use Rattle.hp_log.specs.Log.{run_in, table_of, IsWellFormed}
 use Rattle.hp_segs.specs.Lists.{lists_of, run_at, pages_beside, is_of_pool}
 use Rattle.hp_segs.specs.declared.list_info.ListInfo.{ListInfo}
-use Rattle.hp_segs.specs.declared.log_record.LogRecord.{LogRecord}
+use Rattle.hp_log.specs.declared.log_record.LogRecord.{LogRecord}
 use Rattle.hp_segs.specs.declared.row_state.Segment.{Segment}
 
 -- the row is a slot of its list, at that slot's place

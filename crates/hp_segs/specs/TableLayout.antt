@@ -8,12 +8,12 @@ use Rattle.hp_pool.specs.Pools.{pool_of, free_pages as free_of, Adds}
 use Rattle.hp_pool.specs.declared.pool.Pool.{Pool}
 use Rattle.hp_base.specs.declared.row.Run.{Run}
 use Rattle.hp_segs.specs.Steps.{without_run}
-use Rattle.hp_segs.specs.declared.log_record.LogRecord.TheVariants.{Drop}
-use Rattle.hp_segs.specs.Rows.{slots_of}
+use Rattle.hp_log.specs.declared.log_record.LogRecord.TheVariants.{Drop}
+use Rattle.hp_log.specs.Rows.{slots_of}
 use Rattle.hp_segs.specs.Lists.{lists_of, free_pages}
 use Rattle.hp_segs.specs.Table.{IsTable, TableView}
 use Rattle.hp_segs.specs.declared.list_info.ListInfo.{ListInfo}
-use Rattle.hp_segs.specs.declared.log_record.LogRecord.{LogRecord}
+use Rattle.hp_log.specs.declared.log_record.LogRecord.{LogRecord}
 use Rattle.hp_segs.specs.declared.row_state.Segment.{Segment}
 
 -- the used masks of lists, where so many lists stand before them
@@ -64,11 +64,6 @@ removed_one run table =
 abbrev pub removed_all : List Run → TableView → TableView
 removed_all [] table = table
 removed_all (run ∷ runs) table = removed_all runs (removed_one run table)
-
--- the numbers of a run are within their types
-pub record IsSmallRun (run : Run) : Type 0 where
-  pub slots : run.first + run.count < 2 ^ 32
-  pub addr : run.addr + run.count * run.page < 2 ^ 64
 
 -- a list has pages, and lies below 2^63
 pub record IsExtent (info : ListInfo) : Type 0 where

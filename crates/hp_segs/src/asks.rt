@@ -2,6 +2,7 @@
 ghost use Rattle.std.specs.Prelude.{◌≡◌, ◌+◌, ◌-◌, ◌<◌, ◌≤◌, [], ◌∷◌, ◌++◌, IfOk, OnOk, count_by, length, vec_capacity};
 ghost use Rattle.hp_segs.specs.SegsView.{closed_number, grant_or_refusal_of, grants_or_refuses, is_grant_or_refusal, is_outcome_for, is_stale, outcome_of};
 ghost use Rattle.hp_segs.specs.AsksView.{closed_after};
+ghost use Rattle.hp_segs.specs.LaterSteps.{fails_from, has_failed_from, outcome_fails_from};
 
 use crate::outcome::{AskLog, Cause, Outcome};
 use std::alloc::{AllocError, Global};
@@ -61,6 +62,30 @@ fn grants_or_refuses(from: u8, number: u64, entry: &AskLog) -> bool
     ensures { result ≡ grants_or_refuses from number entry.now }
 {
     entry.from == from && entry.number == number && is_grant_or_refusal(&entry.outcome)
+}
+
+// Whether the cause is a failed mapping of that participant, by this call of its mapper or a later one.
+fn fails_from(participant: u8, call: u64, cause: &Cause) -> bool
+    ensures { result ≡ fails_from participant call cause.now }
+{
+    match cause {
+        Cause::MapFailed {
+            participant: who,
+            call: of,
+            ..
+        } => *who == participant && call <= *of,
+        _ => false,
+    }
+}
+
+// Whether the outcome is a failed mapping of that participant, by this call of its mapper or a later one.
+fn outcome_fails_from(participant: u8, call: u64, outcome: &Outcome) -> bool
+    ensures { result ≡ outcome_fails_from participant call outcome.now }
+{
+    match outcome {
+        Outcome::Refused { cause } => fails_from(participant, call, cause),
+        _ => false,
+    }
 }
 
 // The entry's number closes all up to it, unless it is Stale.
@@ -142,6 +167,19 @@ impl Asks {
             }
         }
         None
+    }
+
+    // Whether a failed mapping of that participant is logged, by this call of its mapper or a later one.
+    #[tactic(auto, using(crate::proofs::Finds::any_step, crate::proofs::Finds::any_here, crate::proofs::Finds::any_end))]
+    pub(crate) fn has_failed_from(&self, participant: u8, call: u64) -> bool
+        ensures { result ≡ has_failed_from self.now.entries participant call }
+    {
+        for entry in &self.entries {
+            if outcome_fails_from(participant, call, &entry.outcome) {
+                return true;
+            }
+        }
+        false
     }
 
     // The grant or refusal of an ask, looked for from the newest outcome back.

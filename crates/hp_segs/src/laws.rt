@@ -1,8 +1,9 @@
 //! Laws of the segment value, above the definitions that the calls cite.
-ghost use Rattle.hp_segs.specs.Laws.{CallsMove, ClaimIsStep, DropIsStep, FailedGrowthLeaves, GrantIsStep, OthersLeave, RetireIsStep};
+ghost use Rattle.hp_segs.specs.Laws.{CallsKeep, CallsMove, ClaimIsStep, ClaimOwnsAll, DropIsStep, FailedGrowthLeaves, GrantIsStep, MovesCompose, MovesKeep, MovesStay, MovesWiden, OthersLeave, RetireIsStep, RowsAreGranted};
+ghost use Rattle.hp_segs.specs.PlaceLaws.{ListsApart, OverlapIsLowest, SlotsApart};
 
 /// A failed growth leaves the table of the log; grants, claims, retirements and drops are steps of the plain machine, and the
-/// other calls leave the machine as it was; each call under its condition is a move. Own.
+/// other calls leave the machine as it was; a claim takes all rows of its grant, and what no growth has open was granted. Own.
 pub fn segments_law()
     ensures failed_growth { FailedGrowthLeaves }
     ensures grant { GrantIsStep }
@@ -10,5 +11,24 @@ pub fn segments_law()
     ensures retire { RetireIsStep }
     ensures drop { DropIsStep }
     ensures others { OthersLeave }
-    ensures moves { CallsMove }
+    ensures claimed_whole { ClaimOwnsAll }
+    ensures granted { RowsAreGranted }
+{}
+
+/// Each call under its condition keeps a sound value sound, and is a move; moves compose, and their growth steps add up. Own.
+pub fn moves_law()
+    ensures calls_keep { CallsKeep }
+    ensures calls_move { CallsMove }
+    ensures stay { MovesStay }
+    ensures compose { MovesCompose }
+    ensures keep { MovesKeep }
+    ensures widen { MovesWiden }
+{}
+
+/// The pools' lists share no byte, rows at different slots have different addresses, and the slot that is named as the overlap
+/// of external memory is the lowest one. Own.
+pub fn places_law()
+    ensures lists { ListsApart }
+    ensures slots { SlotsApart }
+    ensures overlap { OverlapIsLowest }
 {}

@@ -1,10 +1,13 @@
 //! The segment value and how it begins.
 ghost use Rattle.std.specs.Prelude.{◌≡◌, ◌≤◌, IfOk, OnErr, OnOk};
-ghost use Rattle.hp_segs.specs.Opening.{IsAbsent, opening};
+ghost use Rattle.hp_base.specs.Participants.{IsAbsent};
+ghost use Rattle.hp_segs.specs.Opening.{opening};
 ghost use Rattle.hp_segs.specs.Steps.{after_reserve};
 ghost use Rattle.hp_base.specs.PoolLines.{ArePoolLines};
 
+mod armed;
 mod drops;
+mod failures;
 mod growth;
 mod outcomes;
 mod owners;

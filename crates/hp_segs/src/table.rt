@@ -12,10 +12,10 @@ pub(crate) mod slots;
 mod states;
 
 use crate::list_info::ListInfo;
-use crate::log_record::LogRecord;
 use crate::row_state::Segment;
 use hp_base::PoolLine;
 use hp_fbarray::Mask;
+use hp_log::LogRecord;
 use hp_pool::Pools;
 use std::alloc::{AllocError, Global};
 use std::marker::Model;

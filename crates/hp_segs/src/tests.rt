@@ -5,12 +5,14 @@ ghost use Rattle.hp_segs.specs.Opening.{opening};
 ghost use Rattle.hp_segs.specs.Plan.{plan_of};
 ghost use Rattle.hp_segs.specs.Steps.{after_claim, after_open, after_reserve};
 
+mod asking;
 mod endings;
 mod growths;
 mod limits;
 mod lists;
 mod ranges;
 mod refusals;
+mod withdrawals;
 
 use crate::*;
 use hp_base::{Request, Row, Run};

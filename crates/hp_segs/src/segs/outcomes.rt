@@ -1,8 +1,9 @@
 //! Outcomes that are logged without a growth, and what was logged.
-ghost use Rattle.std.specs.Prelude.{◌≡◌};
-ghost use Rattle.hp_segs.specs.Calls.{MayClose, MayLogFreed};
-ghost use Rattle.hp_segs.specs.SegsView.{outcome_of};
+ghost use Rattle.std.specs.Prelude.{◌≡◌, ◌<◌};
+ghost use Rattle.hp_segs.specs.Calls.{MayClose, MayLogFreed, MayLogStale};
+ghost use Rattle.hp_segs.specs.SegsView.{closed_number, outcome_of};
 ghost use Rattle.hp_segs.specs.Steps.{after_close, after_freed};
+ghost use Rattle.hp_segs.specs.LaterSteps.{after_stale};
 
 use crate::ask::Ask;
 use crate::outcome::{AskLog, Cause, Outcome};
@@ -21,6 +22,23 @@ impl Segs {
             outcome: Outcome::Refused { cause },
             at,
             ask: Some(*ask),
+        });
+        self.spare -= 1;
+    }
+
+    /// Logs an ask that is closed as Stale, beside the participant's closed number. Own.
+    pub fn log_stale(&mut self, from: u8, number: u64)
+        requires may { MayLogStale from number self.old }
+        ensures step { self.new ≡ after_stale from number self.old }
+    {
+        let at = self.table.records().len() as u64;
+        let done = self.asks.closed(from);
+        self.asks.push(AskLog {
+            from,
+            number,
+            outcome: Outcome::Stale { done },
+            at,
+            ask: None,
         });
         self.spare -= 1;
     }
@@ -46,6 +64,14 @@ impl Segs {
         ensures { result ≡ outcome_of self.now.asks from number }
     {
         self.asks.outcome(from, number)
+    }
+
+    /// The closed number of a participant: its greatest number with an outcome other than Stale, and 0 before that. Own.
+    pub fn closed(&self, participant: u8) -> u64
+        requires participant { participant < 16 }
+        ensures { result ≡ closed_number self.now.asks participant }
+    {
+        self.asks.closed(participant)
     }
 
     /// The logged outcomes, in the order in which they were logged.

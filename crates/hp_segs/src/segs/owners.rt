@@ -6,10 +6,10 @@ ghost use Rattle.hp_segs.specs.SegsView.{added_run, granted_by};
 ghost use Rattle.hp_segs.specs.Calls.{IsUnclaimedGrant, OwnsRun};
 ghost use Rattle.hp_segs.specs.Steps.{after_claim, after_retire, claimed_run, insert_by_address};
 
-use crate::log_record::LogRecord;
 use crate::outcome::Outcome;
 use crate::segs::Segs;
 use hp_base::Run;
+use hp_log::LogRecord;
 
 // How many of the runs stand before a run of that address.
 fn runs_before(runs: &[Run], addr: u64) -> usize

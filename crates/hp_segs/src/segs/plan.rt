@@ -1,11 +1,14 @@
 //! The run that is planned for an ask.
-ghost use Rattle.std.specs.Prelude.{◌≡◌, ◌+◌, ◌*◌, ◌^◌, ◌<◌, IfOk, Some, slice_get};
+ghost use Rattle.std.specs.Prelude.{◌≡◌, ◌+◌, ◌*◌, ◌^◌, ◌<◌, ◌≤◌, ℕ, IfOk, None, Some, Err, slice_get};
+ghost use Rattle.hp_base.specs.PoolLines.{ArePoolLines};
 ghost use Rattle.hp_fbarray.specs.FreeRuns.{first_free_run};
-ghost use Rattle.hp_segs.specs.Rows.{slots_of};
+ghost use Rattle.hp_log.specs.Rows.{slots_of};
 ghost use Rattle.hp_segs.specs.TableLayout.{IsFitList};
 ghost use Rattle.hp_segs.specs.Lists.{list_number, lists_of, run_at};
 ghost use Rattle.hp_segs.specs.Plan.{plan_of, planned_in, planned_run, planned_slots, IsFirstFor};
-ghost use Rattle.hp_segs.specs.SegsView.{rows_in};
+ghost use Rattle.hp_segs.specs.Refusals.{IsFull, IsShort, IsUnfit};
+ghost use Rattle.hp_segs.specs.SegsView.{closed_number, rows_in};
+ghost use Rattle.std.specs.Option.{option_map};
 
 use crate::ask::Ask;
 use crate::list_info::ListInfo;
@@ -13,6 +16,7 @@ use crate::plan_refusal::PlanRefusal;
 use crate::segs::Segs;
 use crate::table::Table;
 use hp_base::{Run, pages_for, place};
+use hp_fbarray::FreeRun;
 
 // The run is judged by itself alone.
 fn judged(ask: &Ask, run: Run) -> Result<Run, PlanRefusal>
@@ -59,12 +63,12 @@ fn plan_slots(
     ensures { result ≡ planned_slots ask.now (rows_in table.now.segments) list info.now need
         (first_free_run (slots_of (rows_in table.now.segments) list info.now.slots) 0 need) }
 {
-    match table.first_free(list as usize, need as usize) {
-        None => Err(PlanRefusal::ListFull {
-            longest: table.longest_free(list as usize) as u64,
+    match table.free_run(list as usize, need as usize) {
+        FreeRun::Found { start } => judged(ask, run_at(info, list, start as u32, need as u32)),
+        FreeRun::TooShort { longest } => Err(PlanRefusal::ListFull {
+            longest: longest as u64,
             need,
         }),
-        Some(first) => judged(ask, run_at(info, list, first as u32, need as u32)),
     }
 }
 
@@ -94,6 +98,30 @@ impl Segs {
 
         // A planned run is the first one of the pages asked in the ask's list.
         ensures first { IfOk result (IsFirstFor self.now.pools (rows_in self.now.segments) ask.now) }
+        ensures fits { IfOk result (λ run. run.count * run.page ≤ 2 ^ 47) }
+
+        // What each refusal says.
+        ensures stale { (number done : ℕ) → result ≡ Err (PlanRefusal.StaleAsk number done)
+            → (number ≡ ask.now.number) × (done ≡ closed_number self.now.asks ask.now.from) × (number ≤ done) }
+        ensures growing { (generation : ℕ) → result ≡ Err (PlanRefusal.GrowthOpen generation)
+            → option_map (λ growth. growth.generation) self.now.growth ≡ Some generation }
+        ensures no_list { result ≡ Err PlanRefusal.NoList
+            → list_number (lists_of self.now.pools) ask.now.socket ask.now.page ≡ None }
+        ensures too_few { (have need : ℕ) → result ≡ Err (PlanRefusal.TooFew have need)
+            → IsShort self.now.pools (rows_in self.now.segments) ask.now have need }
+        ensures list_full { (longest need : ℕ) → result ≡ Err (PlanRefusal.ListFull longest need)
+            → IsFull self.now.pools (rows_in self.now.segments) ask.now longest need }
+        ensures no_place { (addr len : ℕ) → result ≡ Err (PlanRefusal.CannotHold addr len)
+            → IsUnfit self.now.pools (rows_in self.now.segments) ask.now addr len }
+    {
+        self.plan(ask)
+    }
+
+    // The run or the first refusal.
+    fn plan(&self, ask: &Ask) -> Result<Run, PlanRefusal>
+        requires participant { ask.now.from < 16 }
+        ensures plan { result ≡ plan_of ask.now self.now }
+        ensures limits { ArePoolLines self.now.pools }
     {
         let done = self.asks.closed(ask.from);
         if ask.number <= done {

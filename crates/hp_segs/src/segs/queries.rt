@@ -1,18 +1,18 @@
 //! What is read off the segment value.
 ghost use Rattle.std.specs.Prelude.{◌≡◌, ◌+◌, ◌*◌, ◌^◌, ◌<◌, ◌≤◌, ◌++◌, OnErr, OnOk, length};
 ghost use Rattle.hp_segs.specs.Lists.{lists_of};
-ghost use Rattle.hp_segs.specs.Log.{run_in, table_after, table_at};
+ghost use Rattle.std.specs.List.{All};
+ghost use Rattle.hp_log.specs.Log.{run_in, table_at};
+ghost use Rattle.hp_log.specs.Rows.{IsSmallRun};
 ghost use Rattle.hp_segs.specs.Ranges.{row_containing};
-ghost use Rattle.hp_segs.specs.Rows.{rows_of};
 ghost use Rattle.hp_segs.specs.SegsView.{pages_left, state_at, total_of};
 ghost use Rattle.hp_segs.specs.Sound.{IsSound};
 
 use crate::list_info::ListInfo;
-use crate::log_record::LogRecord;
 use crate::row_state::{RowState, Segment};
 use crate::segs::Segs;
-use crate::table::slots::{contains, row_of};
-use hp_base::{PoolLine, Row, Run};
+use hp_base::{PoolLine, Row};
+use hp_log::LogRecord;
 use std::alloc::{AllocError, Global};
 
 impl Segs {
@@ -58,6 +58,9 @@ impl Segs {
 
         // What holds of every segment value.
         ensures sound { IsSound self.now }
+
+        // The numbers of each run are within their types.
+        ensures small { All (λ entry. IsSmallRun (run_in entry)) self.now.log }
     {
         self.table.records()
     }
@@ -75,7 +78,8 @@ impl Segs {
 
     /// The bytes of the Agreed and Owned rows of a socket.
     pub fn total_of(&self, socket: u32) -> u64
-        ensures { result ≡ total_of self.now.segments socket }
+        ensures total { result ≡ total_of self.now.segments socket }
+        ensures fits { result ≤ 2 ^ 48 }
     {
         self.table.total_of(socket)
     }
@@ -86,38 +90,6 @@ impl Segs {
         ensures ok { OnOk result (out.new.items ≡ out.old.items ++ table_at self.now.log n) }
         ensures err { OnErr result (out.new.items ≡ out.old.items) }
     {
-        let mut rows = Vec::new(alloc);
-        let records = &self.table.records()[..n as usize];
-        for (place, entry) in records.iter().enumerate() {
-            take_in(&mut rows, place as u64 + 1, entry)?;
-        }
-        out.extend_from_slice(rows.as_slice())
+        hp_log::table_at(alloc, self.table.records(), n, out)
     }
-}
-
-// The table takes in a record of that generation.
-fn take_in(rows: &mut Vec<Row>, generation: u64, entry: &LogRecord) -> Result<(), AllocError>
-    requires slots { (run_in entry.now).first + (run_in entry.now).count < 2 ^ 32 }
-    requires addr { (run_in entry.now).addr + (run_in entry.now).count * (run_in entry.now).page < 2 ^ 64 }
-    ensures ok { OnOk result (rows.new.items ≡ table_after rows.old.items generation entry.now) }
-{
-    match entry {
-        LogRecord::Add { run, .. } => push_rows(rows, generation, run),
-        LogRecord::Drop { run } => {
-            rows.retain(|row: &Row| !contains(run, row));
-            Ok(())
-        }
-    }
-}
-
-#[tactic(auto, using(crate::proofs::RowLemmas::slot_addr_fits, crate::proofs::RowLemmas::rows_below_more))]
-fn push_rows(rows: &mut Vec<Row>, generation: u64, run: &Run) -> Result<(), AllocError>
-    requires slots { run.now.first + run.now.count < 2 ^ 32 }
-    requires addr { run.now.addr + run.now.count * run.now.page < 2 ^ 64 }
-    ensures ok { OnOk result (rows.new.items ≡ rows.old.items ++ rows_of run.now generation) }
-{
-    for n in 0..run.count {
-        rows.push(row_of(run, generation, n))?;
-    }
-    Ok(())
 }

@@ -6,7 +6,7 @@ ghost use Rattle.hp_base.specs.ExternalMemory.{is_bad_range};
 ghost use Rattle.hp_segs.specs.Lists.{lists_of};
 ghost use Rattle.hp_segs.specs.Ranges.{after_claim_range, after_release_range, first_shared, free_number, info_of, is_claimed, is_free_number, is_too_much, lower_of, lower_shared, range_contains, range_entry, range_plan, range_row, range_segments, row_at, shares_byte, unlogged_row, IsRangeAnswer};
 ghost use Rattle.hp_segs.specs.SegsView.{rows_in};
-ghost use Rattle.hp_segs.specs.Sound.{IsRange};
+ghost use Rattle.hp_segs.specs.SoundPlaces.{IsRange};
 ghost use Rattle.hp_segs.specs.TableLayout.{IsExtent};
 
 use crate::external_range::ExternalRange;

@@ -1,6 +1,8 @@
 //! Which participants are in the roster.
 ghost use Rattle.std.specs.Prelude.{◌≡◌, ◌<◌};
 ghost use Rattle.hp_segs.specs.Opening.{is_present, opening_roster};
+ghost use Rattle.hp_segs.specs.Calls.{MayJoin, MayLeave};
+ghost use Rattle.hp_segs.specs.LaterSteps.{after_join, after_leave};
 ghost use Rattle.hp_segs.specs.SegsView.{roster_bits};
 ghost use Rattle.hp_segs.specs.Steps.{is_below, lowest_member_below};
 
@@ -65,5 +67,29 @@ impl Segs {
             bits = bits + bits + u16::from(self.roster[PARTICIPANTS - 1 - place]);
         }
         bits
+    }
+    /// The lowest member of the roster whose number in `acks` is below a generation, and that number: `acks` are the
+    /// numbers of the participants 0 to 15. Own.
+    pub fn lowest_behind(&self, acks: &[u64; 16], generation: u64) -> Option<NotAll>
+        ensures { result ≡ lowest_member_below self.now.roster acks.now generation }
+    {
+        lowest_member_below(&self.roster, acks, generation)
+    }
+
+    /// A participant that has taken in all records comes into the roster: `acked` is its number of records. Own; after
+    /// rte_mp_channel_init of a secondary.
+    pub fn join_roster(&mut self, participant: u8, acked: u64)
+        requires may { MayJoin participant acked self.old }
+        ensures step { self.new ≡ after_join participant self.old }
+    {
+        self.roster[participant as usize] = true;
+    }
+
+    /// A secondary leaves the roster. Own; after rte_mp_channel_cleanup.
+    pub fn leave_roster(&mut self, participant: u8)
+        requires may { MayLeave participant self.old }
+        ensures step { self.new ≡ after_leave participant self.old }
+    {
+        self.roster[participant as usize] = false;
     }
 }

@@ -2,24 +2,24 @@
 ghost use Rattle.std.specs.Prelude.{◌≡◌, ◌+◌, ◌-◌, ◌*◌, ◌^◌, ◌<◌, ◌≤◌, [], ◌∷◌, ◌++◌, map, length, slice_index_or, slice_set, vec_capacity, vec_len, IsSomeAnd};
 ghost use Rattle.hp_pool.specs.Pools.{free_pages as free_of, Takes};
 ghost use Rattle.hp_segs.specs.Masks.{with_places};
-ghost use Rattle.hp_segs.specs.Rows.{IsUnusedRun, IsUsedRun, rows_of};
+ghost use Rattle.hp_log.specs.Rows.{IsUnusedRun, IsUsedRun, rows_of};
 ghost use Rattle.hp_segs.specs.Lists.{lists_of};
 ghost use Rattle.hp_segs.specs.SegsView.{rows_in};
 ghost use Rattle.hp_segs.specs.Steps.{segment_of, without_run};
-ghost use Rattle.hp_segs.specs.Sound.{AreHeld};
+ghost use Rattle.hp_segs.specs.SoundRows.{AreHeld};
 ghost use Rattle.hp_segs.specs.Table.{HasPages, IsListRun};
 ghost use Rattle.hp_segs.specs.TableLayout.{removed_all};
 
-use crate::log_record::LogRecord;
 use crate::row_state::{RowState, Segment};
 use crate::table::Table;
-use crate::table::slots::{contains, mark, row_of};
+use crate::table::slots::mark;
 use hp_base::Run;
 use hp_fbarray::Mask;
+use hp_log::{LogRecord, contains, row_of};
 use hp_pool::Pools;
 
 // The segments of the run's rows, Opened, come behind the others.
-#[tactic(auto, using(crate::proofs::RowLemmas::slot_addr_fits, crate::proofs::RowLemmas::rows_below_more, crate::proofs::RowLemmas::length_rows_below))]
+#[tactic(auto, using(hp_log::proofs::RowLemmas::slot_addr_fits, hp_log::proofs::RowLemmas::rows_below_more, hp_log::proofs::RowLemmas::length_rows_below))]
 fn push_rows(segments: &mut Vec<Segment>, run: &Run, generation: u64)
     requires slots { run.now.first + run.now.count < 2 ^ 32 }
     requires addr { run.now.addr + run.now.count * run.now.page < 2 ^ 64 }

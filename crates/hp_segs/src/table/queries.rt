@@ -1,19 +1,21 @@
 //! What is read off the table.
-ghost use Rattle.std.specs.Prelude.{◌≡◌, ◌<◌, ◌≤◌, length, find, sum_by};
+ghost use Rattle.std.specs.Prelude.{◌≡◌, ◌<◌, ◌≤◌, ◌^◌, length, find, sum_by};
 ghost use Rattle.std.specs.List.{All};
 ghost use Rattle.hp_segs.specs.Table.{IsTable};
-ghost use Rattle.hp_segs.specs.TableLayout.{IsFitList, IsSmallRun};
-ghost use Rattle.hp_segs.specs.Log.{run_in};
-ghost use Rattle.hp_fbarray.specs.FreeRuns.{first_free_run, longest_free_run};
-ghost use Rattle.hp_segs.specs.Rows.{at_slot, row_contains};
+ghost use Rattle.hp_segs.specs.TableLayout.{IsFitList};
+ghost use Rattle.hp_log.specs.Rows.{IsSmallRun};
+ghost use Rattle.hp_log.specs.Log.{run_in};
+ghost use Rattle.hp_log.specs.Rows.{at_slot, row_contains};
+ghost use Rattle.hp_fbarray.specs.Answers.{free_run};
 ghost use Rattle.hp_segs.specs.Lists.{list_number, lists_of, pages_beside, slots_beside};
 ghost use Rattle.hp_segs.specs.SegsView.{counted_bytes, is_counted, rows_in, total_of};
 
 use crate::list_info::ListInfo;
-use crate::log_record::LogRecord;
 use crate::row_state::{RowState, Segment};
 use crate::table::Table;
 use hp_base::{PoolLine, Row};
+use hp_fbarray::FreeRun;
+use hp_log::LogRecord;
 
 impl Table {
     pub(crate) fn pools(&self) -> &[PoolLine]
@@ -62,20 +64,12 @@ impl Table {
         self.counts.have(line.socket, line.page).unwrap_or(0)
     }
 
-    // The least slot of a list with n free ones from there on.
-    pub(crate) fn first_free(&self, list: usize, n: usize) -> Option<usize>
+    // The first run of n free slots of a list, or how long the longest one is.
+    pub(crate) fn free_run(&self, list: usize, n: usize) -> FreeRun
         requires { list < length (lists_of self.now.pools) }
-        ensures { result ≡ first_free_run (slots_beside self.now.pools (rows_in self.now.segments) list) 0 n }
+        ensures { result ≡ free_run (slots_beside self.now.pools (rows_in self.now.segments) list) n }
     {
-        self.masks[list].find_n_free(0, n)
-    }
-
-    // The longest stretch of free slots of a list.
-    pub(crate) fn longest_free(&self, list: usize) -> usize
-        requires { list < length (lists_of self.now.pools) }
-        ensures { result ≡ longest_free_run (slots_beside self.now.pools (rows_in self.now.segments) list) }
-    {
-        self.masks[list].longest_free()
+        self.masks[list].find_run(n)
     }
 
     // The slots of all lists.
@@ -117,7 +111,8 @@ impl Table {
 
     // The bytes of the Agreed and Owned rows of a socket.
     pub(crate) fn total_of(&self, socket: u32) -> u64
-        ensures { result ≡ total_of self.now.segments socket }
+        ensures total { result ≡ total_of self.now.segments socket }
+        ensures fits { result ≤ 2 ^ 48 }
     {
         let mut total = 0;
         for segment in &self.segments {

@@ -6,8 +6,8 @@ ghost use Rattle.hp_segs.specs.TableLayout.{IsStretch};
 
 use crate::row_state::{RowState, Segment};
 use crate::table::Table;
-use crate::table::slots::contains;
 use hp_base::Run;
+use hp_log::contains;
 
 fn claimed_state(state: RowState) -> RowState
     ensures { result ≡ claimed_state state }

@@ -38,3 +38,28 @@ fn lays_the_lists_out_one_behind_another(rt: HostRuntime) -> Result<(), Fail> {
     assert_eq!(rt; segs.records().len(), 0);
     Ok(())
 }
+
+#[test]
+fn lays_out_three_pools(rt: HostRuntime) -> Result<(), Fail> {
+    let small = PoolLine {
+        socket: 0,
+        page: PAGE,
+        pages: 1,
+        slots: 3,
+    };
+    let other = PoolLine { socket: 1, ..small };
+    let large = PoolLine {
+        page: 0x4000_0000,
+        ..small
+    };
+    let pools = [small, other, large];
+    let segs = Segs::new(rt.alloc(), pools.as_slice(), 1, 0)?;
+    let mut bases = [0; 3];
+    for (place, info) in segs.lists().iter().enumerate() {
+        if place < 3 {
+            bases[place] = info.base;
+        }
+    }
+    assert_eq!(rt; bases, [0x1_0000_0000, 0x1_0060_0000, 0x1_4000_0000]);
+    Ok(())
+}

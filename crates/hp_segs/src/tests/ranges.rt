@@ -72,3 +72,25 @@ fn takes_the_list_of_external_memory_away(rt: HostRuntime) -> Result<(), Fail> {
     assert_eq!(rt; segs.claim_range(OUTSIDE, PAGE, PAGE, 257), Ok(1));
     Ok(())
 }
+
+#[test]
+fn gives_three_ranges_the_lowest_numbers(rt: HostRuntime) -> Result<(), Fail> {
+    let mut segs = segs_of(rt.alloc(), 4)?;
+    for place in 0..3u32 {
+        let addr = OUTSIDE + u64::from(place) * PAGE;
+        assert_eq!(rt; segs.claim_range(addr, PAGE, PAGE, 256), Ok(1 + place));
+    }
+    let second = Row {
+        addr: OUTSIDE + PAGE,
+        page: PAGE,
+        socket: 256,
+        list: 2,
+        slot: 0,
+        generation: 0,
+    };
+    assert_eq!(rt;
+        segs.claim_range(OUTSIDE + PAGE, 2 * PAGE, PAGE, 257),
+        Err(RangeFault::Overlaps { row: second })
+    );
+    Ok(())
+}

@@ -20,7 +20,7 @@ granted : (old opened new : SegsView) (ask : Ask) (run : Run) (acks : List ℕ) 
 granted old opened new ask run acks plan step all agree sound =
     let now : lowest_below (after_open ask run old) acks ≡ None = subst (λ segs. lowest_below segs acks ≡ None) step (sym all) in
     let same : new ≡ after_granted old ask run = subst (λ segs. new ≡ after_agree acks segs) step agree ∙ granted_is old ask run acks now in
-    record { same = same; plan = open_plan old ask run (subst IsSound same sound).table.limits plan }
+    record { same = same; plan = open_plan old ask run (subst IsSound same sound).rows.table.limits plan }
 
 none_from_ok : {T E : Type 0} (r : Result T E) → is_err r ≡ false → None ≡ result_err r
 none_from_ok (Ok value) ok = refl

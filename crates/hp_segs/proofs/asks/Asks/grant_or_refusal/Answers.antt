@@ -3,7 +3,7 @@ use Rattle.std.proofs.Common.{◌∙◌, ap, sym, arith, refl, [], ◌∷◌}
 use Rattle.std.specs.Option.{option_map}
 use Rattle.hp_segs.specs.SegsView.{grants_or_refuses}
 use Rattle.hp_segs.specs.declared.outcome.AskLog.{AskLog}
-use Rattle.hp_segs.proofs.Counts.{count_append}
+use Rattle.hp_log.proofs.Counts.{count_append}
 use Rattle.hp_segs.proofs.Finds.{find_back_here, find_back_step, find_end}
 use Rattle.hp_segs.proofs.asks.Asks.grant_or_refusal.Goals as goal
 

@@ -1,20 +1,20 @@
 -- The open growth is a participant's, and its grant keeps the value sound.
-use Rattle.std.proofs.Common.{◌∙◌, ap, length, refl}
-use Rattle.hp_segs.proofs.GrowthCauses.{granted_caused}
-use Rattle.hp_segs.proofs.KeptLemmas.{kept_grant}
+use Rattle.hp_segs.specs.SegsLayout.{view_of}
+use Rattle.hp_segs.proofs.KeptSteps.{kept_granted}
+use Rattle.hp_segs.proofs.SoundSteps.{sound_granted}
 use Rattle.hp_segs.proofs.segs.Segs.agree.Goals as goal
 
 pub push-requires-clause-participant : goal.push-requires-clause-participant
 push-requires-clause-participant c =
     let kept = rw c.in-Some.is at c.self.invariant in
-    kept.sound.logged.participant
+    kept.sound.rows.logged.participant
 
 pub invariant_of-self : goal.invariant_of-self
 invariant_of-self c =
     let may = rw (← c.self.view_is) at c.requires.may in
-    let kept = rw c.in-Some.is at c.self.invariant in
-    let log = c.records.ensures.records ∙ ap (λ t. t.log) c.agree.ensures in
-    let cause =
-    granted_caused c.in-Some.growth kept.sound.logged c.self.inside.asks.entries _ kept.sound.table refl (ap length log)
-    (record { kept = refl; who = refl; which = refl }) in
-    rw (c.agree.ensures, c.push.ensures) (kept_grant c.in-Some.growth _ kept refl cause refl refl may.spare)
+    let s = c.self.inside in
+    rw (c.push.ensures, c.records.ensures.records, c.agree.ensures)
+    (kept_granted c.in-Some.growth _ c.self.invariant
+    (sound_granted (view_of s.table s.asks s.retiring.items s.growth s.roster s.armed s.ranges.items s.spare) c.self.invariant.sound c.in-Some.growth
+    c.in-Some.is)
+    may.spare)

@@ -1,32 +1,37 @@
 -- The grant's record adds the run, and its claim keeps the value sound.
-use Rattle.std.proofs.Common.{◌<◌, ◌-◌, ◌∙◌, ap, arith, sym, length}
+use Rattle.std.proofs.Common.{◌≡◌, ◌<◌, ◌-◌, ◌∙◌, ap, arith, sym, length}
 use Rattle.std.specs.Option.{option_and_then}
-use Rattle.hp_segs.specs.SegsView.{granted_by, run_of}
-use Rattle.hp_segs.proofs.ClaimLemmas.{grant_is, kept_claim, record_within, record_read}
+use Rattle.hp_segs.specs.SegsView.{grant_of, granted_by, run_of}
+use Rattle.hp_segs.specs.SegsLayout.{view_of}
+use Rattle.hp_segs.specs.Sound.{IsSound}
+use Rattle.hp_segs.specs.Steps.{claimed_grant}
+use Rattle.hp_segs.proofs.ClaimLemmas.{grant_is, record_within, record_read}
+use Rattle.hp_segs.proofs.KeptSteps.{kept_claimed}
+use Rattle.hp_segs.proofs.SoundSteps.{sound_claimed}
 use Rattle.hp_segs.proofs.segs.Segs.claim.Goals as goal
 
 pub grant_or_refusal-requires : goal.grant_or_refusal-requires
-grant_or_refusal-requires c = record { once = c.self.invariant.sound.once c.args.from c.args.number }
+grant_or_refusal-requires c = record { once = c.self.invariant.sound.asks.once c.args.from c.args.number }
 
 pub overflow_sub-place : goal.overflow_sub-place
 overflow_sub-place c =
     let s = c.self.inside in
     let grant = ap (option_and_then granted_by) (sym c.grant_or_refusal.ensures) ∙ (sym c.granted_by.ensures ∙ c.in-Some.is) in
-    let granted = grant_is s.table.log s.asks.entries c.args.from c.args.number c.in-Some.generation c.self.invariant.sound.granted grant in
+    let granted = grant_is s.table.log s.asks.entries c.args.from c.args.number c.in-Some.generation c.self.invariant.sound.asks.granted grant in
     omega (arith, granted.0)
 
 pub bounds-records-place : goal.bounds-records-place
 bounds-records-place c =
     let s = c.self.inside in
     let grant = ap (option_and_then granted_by) (sym c.grant_or_refusal.ensures) ∙ (sym c.granted_by.ensures ∙ c.in-Some.is) in
-    let granted = grant_is s.table.log s.asks.entries c.args.from c.args.number c.in-Some.generation c.self.invariant.sound.granted grant in
+    let granted = grant_is s.table.log s.asks.entries c.args.from c.args.number c.in-Some.generation c.self.invariant.sound.asks.granted grant in
     rw c.records.ensures.records (record_within s.table.log c.in-Some.generation granted.1.0 granted.1.1)
 
 pub offset_bounds-records-place : goal.offset_bounds-records-place
 offset_bounds-records-place c =
     let s = c.self.inside in
     let grant = ap (option_and_then granted_by) (sym c.grant_or_refusal.ensures) ∙ (sym c.granted_by.ensures ∙ c.in-Some.is) in
-    let granted = grant_is s.table.log s.asks.entries c.args.from c.args.number c.in-Some.generation c.self.invariant.sound.granted grant in
+    let granted = grant_is s.table.log s.asks.entries c.args.from c.args.number c.in-Some.generation c.self.invariant.sound.asks.granted grant in
     let within : c.in-Some.generation - 1 < length c.records.result.now =
     rw c.records.ensures.records (record_within s.table.log c.in-Some.generation granted.1.0 granted.1.1) in
     omega (arith, within, c.records.type_inv.1)
@@ -35,7 +40,7 @@ pub unreachable-requires-in_default-added_run : goal.unreachable-requires-in_def
 unreachable-requires-in_default-added_run c =
     let s = c.self.inside in
     let grant = ap (option_and_then granted_by) (sym c.grant_or_refusal.ensures) ∙ (sym c.granted_by.ensures ∙ c.in-Some.is) in
-    let granted = grant_is s.table.log s.asks.entries c.args.from c.args.number c.in-Some.generation c.self.invariant.sound.granted grant in
+    let granted = grant_is s.table.log s.asks.entries c.args.from c.args.number c.in-Some.generation c.self.invariant.sound.asks.granted grant in
     let within = record_within s.table.log c.in-Some.generation granted.1.0 granted.1.1 in
     let read =
     record_read s.table.log c.records.result.now c.in-Some.generation _ c.added_run.result c.added_run.ensures c.records.ensures.records within in
@@ -45,7 +50,7 @@ pub returns-clause-run : goal.returns-clause-run
 returns-clause-run c =
     let s = c.self.inside in
     let grant = ap (option_and_then granted_by) (sym c.grant_or_refusal.ensures) ∙ (sym c.granted_by.ensures ∙ c.in-Some.is) in
-    let granted = grant_is s.table.log s.asks.entries c.args.from c.args.number c.in-Some.generation c.self.invariant.sound.granted grant in
+    let granted = grant_is s.table.log s.asks.entries c.args.from c.args.number c.in-Some.generation c.self.invariant.sound.asks.granted grant in
     let within = record_within s.table.log c.in-Some.generation granted.1.0 granted.1.1 in
     let read =
     record_read s.table.log c.records.result.now c.in-Some.generation _ c.added_run.result c.added_run.ensures c.records.ensures.records within in
@@ -53,4 +58,10 @@ returns-clause-run c =
     (sym c.in-Some-added_run.is ∙ (read ∙ sym (ap (option_and_then (run_of s.table.log)) grant)))
 
 pub invariant_of-self : goal.invariant_of-self
-invariant_of-self c = rw c.claim.ensures (kept_claim _ c.self.invariant)
+invariant_of-self c =
+    let s = c.self.inside in
+    let segs = view_of s.table s.asks s.retiring.items s.growth s.roster s.armed s.ranges.items s.spare in
+    let grant = ap (option_and_then granted_by) (sym c.grant_or_refusal.ensures) ∙ (sym c.granted_by.ensures ∙ c.in-Some.is) in
+    let sound : IsSound (claimed_grant segs (grant_of s.asks.entries c.args.from c.args.number)) =
+    sound_claimed segs c.self.invariant.sound c.args.from c.args.number in
+    rw c.claim.ensures (kept_claimed c.in-Some.generation c.self.invariant (rw grant at sound))

@@ -1,27 +1,26 @@
 -- The Retiring runs are held, and all of them go.
 use Rattle.std.proofs.Common.{◌≡◌, ◌≤◌, ◌∙◌, ap, arith, length, refl, vec_capacity}
 use Rattle.hp_segs.specs.TableLayout.{removed_all}
-use Rattle.hp_segs.proofs.RemoveAllLemmas.{kept_drop, table_dropped}
+use Rattle.hp_segs.proofs.KeptSteps.{kept_dropped}
+use Rattle.hp_segs.proofs.RemoveAllLemmas.{table_dropped}
 use Rattle.hp_segs.proofs.segs.Segs.drop_retiring.Goals as goal
 
 pub invariant_of-self : goal.invariant_of-self
 invariant_of-self c =
     let s = c.self.inside in
     let may = rw (← c.self.view_is) at c.requires.may in
-    let kept = rw may.alone at c.self.invariant in
     let table =
     c.remove_all.ensures
-    ∙ (ap (λ runs. removed_all runs s.table) c.as_slice.ensures.value ∙ table_dropped s.retiring.items s.table kept.sound.retired) in
-    let new = rw table at c.records.ensures.sound in
+    ∙ (ap (λ runs. removed_all runs s.table) c.as_slice.ensures.value ∙ table_dropped s.retiring.items s.table c.self.invariant.sound.rows.retired) in
     let room : vec_capacity s.retiring ≤ vec_capacity c.clear.new.self = omega (arith, c.clear.ensures.capacity) in
     let long : c.len.result ≡ length s.retiring.items = omega (arith, c.len.ensures, s.retiring.ok) in
-    rw (table, c.clear.ensures.items, may.alone, long) (kept_drop room kept may.spare new)
+    rw (table, c.clear.ensures.items, long) (kept_dropped room c.self.invariant may)
 
 pub returns-clause-step : goal.returns-clause-step
 returns-clause-step c =
     let s = c.self.inside in
     let table =
     c.remove_all.ensures
-    ∙ (ap (λ runs. removed_all runs s.table) c.as_slice.ensures.value ∙ table_dropped s.retiring.items s.table c.self.invariant.sound.retired) in
+    ∙ (ap (λ runs. removed_all runs s.table) c.as_slice.ensures.value ∙ table_dropped s.retiring.items s.table c.self.invariant.sound.rows.retired) in
     let long : c.len.result ≡ length s.retiring.items = omega (arith, c.len.ensures, s.retiring.ok) in
     rw (← c.self.view_is, table, c.clear.ensures.items, long) refl

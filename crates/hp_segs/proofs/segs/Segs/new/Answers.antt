@@ -1,7 +1,9 @@
 -- The slots of all pools are few.
-use Rattle.std.proofs.Common.{arith}
+use Rattle.std.proofs.Common.{◌≡◌, ◌∙◌, ap, arith, sum_by, vec_capacity}
 use Rattle.std.proofs.lemmas.List.Sums.{sum_by_more_le}
 use Rattle.hp_base.specs.declared.pool_line.PoolLine.{PoolLine}
+use Rattle.hp_segs.proofs.NewLemmas.{take_all}
+use Rattle.hp_segs.proofs.NewSound.{kept_new}
 use Rattle.hp_segs.proofs.segs.Segs.new.Goals as goal
 
 abbrev none : PoolLine
@@ -11,3 +13,14 @@ pub overflow_add-slots : goal.overflow_add-slots
 overflow_add-slots c =
     let more = sum_by_more_le (λ (line : PoolLine). line.slots) c.args.pools.now c.loop-line.line-index none c.loop-line-test.true in
     omega (arith, more, c.loop-line.invariant, c.requires.pools.slots)
+
+pub invariant_of-result : goal.invariant_of-result
+invariant_of-result c =
+    let made = c.in_ok-table.ensures in
+    let all : c.loop-line.slots ≡ sum_by (λ (line : PoolLine). line.slots) c.args.pools.now =
+    c.loop-line.invariant
+    ∙ ap (sum_by (λ (line : PoolLine). line.slots)) (take_all c.args.pools.now c.loop-line.line-index (omega (arith, c.loop-line-test.false))) in
+    kept_new c.in_ok-table.table c.new-2.result c.args.pools.now c.args.participants c.args.absent c.in_ok-with_capacity.field-0.items c.opening.result
+    c.new-3.result.items (vec_capacity c.in_ok-with_capacity.field-0) made.pools made.log made.segments made.sound c.new-2.ensures
+    c.in_ok-with_capacity.ensures.items c.opening.ensures c.new-3.ensures.items c.requires.participants
+    (omega (arith, all, c.in_ok-with_capacity.ensures.capacity))

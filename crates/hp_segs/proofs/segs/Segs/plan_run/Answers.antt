@@ -1,20 +1,30 @@
--- A planned run is the first one.
-use Rattle.std.proofs.Common.{sym, ap, ◌∙◌}
-use Rattle.hp_segs.specs.Plan.{planned_in}
-use Rattle.hp_segs.specs.SegsView.{rows_in}
-use Rattle.hp_segs.proofs.PlannedLemmas.{first_if_ok}
+-- A planned run is the first one, and each refusal says what stands.
+use Rattle.std.proofs.Common.{◌∙◌, sym}
+use Rattle.hp_segs.specs.declared.plan_refusal.PlanRefusal.TheVariants.{StaleAsk, GrowthOpen, NoList, TooFew, ListFull, CannotHold}
+use Rattle.hp_segs.proofs.PlannedLemmas.{planned_first, planned_fits}
+use Rattle.hp_segs.proofs.RefusalLemmas.{refused_plan}
 use Rattle.hp_segs.proofs.segs.Segs.plan_run.Goals as goal
 
-pub returns-in-Some-list_number-clause-first : goal.returns-in-Some-list_number-clause-first
-returns-in-Some-list_number-clause-first c =
-    rw (← c.self.view_is)
-    (first_if_ok
-    c.self.inside.table.pools
-    (rows_in c.self.inside.table.segments)
-    c.args.ask.now
-    c.plan_in.result
-    c.self.invariant.sound.table.limits
-    (c.plan_in.ensures
-    ∙ ap
-    (planned_in c.args.ask.now c.self.inside.table.pools (rows_in c.self.inside.table.segments))
-    (sym c.in-Some-list_number.is ∙ c.list_number.ensures)))
+pub returns-clause-first : goal.returns-clause-first
+returns-clause-first c = planned_first c.args.self.now c.args.ask.now c.plan.result c.plan.ensures.limits c.plan.ensures.plan
+
+pub returns-clause-fits : goal.returns-clause-fits
+returns-clause-fits c = planned_fits c.args.self.now c.args.ask.now c.plan.result c.plan.ensures.limits c.plan.ensures.plan
+
+pub returns-clause-stale : goal.returns-clause-stale
+returns-clause-stale c = λ number done is. refused_plan c.args.self.now c.args.ask.now (StaleAsk number done) (sym c.plan.ensures.plan ∙ is)
+
+pub returns-clause-growing : goal.returns-clause-growing
+returns-clause-growing c = λ generation is. refused_plan c.args.self.now c.args.ask.now (GrowthOpen generation) (sym c.plan.ensures.plan ∙ is)
+
+pub returns-clause-no_list : goal.returns-clause-no_list
+returns-clause-no_list c = λ is. refused_plan c.args.self.now c.args.ask.now NoList (sym c.plan.ensures.plan ∙ is)
+
+pub returns-clause-too_few : goal.returns-clause-too_few
+returns-clause-too_few c = λ have need is. refused_plan c.args.self.now c.args.ask.now (TooFew have need) (sym c.plan.ensures.plan ∙ is)
+
+pub returns-clause-list_full : goal.returns-clause-list_full
+returns-clause-list_full c = λ longest need is. refused_plan c.args.self.now c.args.ask.now (ListFull longest need) (sym c.plan.ensures.plan ∙ is)
+
+pub returns-clause-no_place : goal.returns-clause-no_place
+returns-clause-no_place c = λ addr len is. refused_plan c.args.self.now c.args.ask.now (CannotHold addr len) (sym c.plan.ensures.plan ∙ is)

@@ -1,7 +1,12 @@
--- Fewer ranges are within the limits.
-use Rattle.hp_segs.proofs.RangeLemmas.{ranges_fewer, kept_ranges}
+-- Fewer ranges keep the value sound.
+use Rattle.hp_segs.specs.SegsLayout.{view_of}
+use Rattle.hp_segs.proofs.KeptSteps.{kept_places}
+use Rattle.hp_segs.proofs.SoundSteps.{sound_released}
 use Rattle.hp_segs.proofs.segs.Segs.release_range.Goals as goal
 
 pub invariant_of-self : goal.invariant_of-self
 invariant_of-self c =
-    rw c.release.ensures (kept_ranges _ (ranges_fewer _ c.self.inside.ranges.items c.self.invariant.sound.ranges) c.self.invariant)
+    let s = c.self.inside in
+    rw c.release.ensures
+    (kept_places s.roster _ c.self.invariant
+    (sound_released (view_of s.table s.asks s.retiring.items s.growth s.roster s.armed s.ranges.items s.spare) c.self.invariant.sound c.args.list))

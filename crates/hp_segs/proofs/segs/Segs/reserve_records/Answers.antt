@@ -1,11 +1,16 @@
 -- Beside spare there is room for two places of each participant.
 use Rattle.std.proofs.Common.{arith}
-use Rattle.hp_segs.proofs.KeptLemmas.{kept_rooms}
+use Rattle.hp_segs.specs.SegsLayout.{view_of}
+use Rattle.hp_segs.proofs.KeptSteps.{kept_rooms}
 use Rattle.hp_segs.proofs.segs.Segs.reserve_records.Goals as goal
 
 pub invariant_of-self-2 : goal.invariant_of-self-2
 invariant_of-self-2 c =
+    let s = c.self.inside in
+    let sound = c.self.invariant.sound in
     rw (c.reserve.ensures.same, c.reserve-2.ensures.same)
     (kept_rooms c.max-self-inside.result c.reserve.new.self.room c.reserve-2.new.self.room c.self.invariant
     (omega (arith, c.in_ok-reserve.ensures.room))
-    (omega (arith, c.in_ok-reserve-2.ensures.room)))
+    (omega (arith, c.in_ok-reserve-2.ensures.room))
+    s.armed
+    (record { rows = sound.rows; asks = sound.asks; places = sound.places }))

@@ -1,6 +1,6 @@
 -- There is room for the run, and its row states keep the value sound.
 use Rattle.std.proofs.Common.{arith}
-use Rattle.hp_segs.proofs.RetireLemmas.{kept_retire, kept_room, room_to_retire}
+use Rattle.hp_segs.proofs.KeptSteps.{kept_retired, room_to_retire}
 use Rattle.hp_segs.proofs.segs.Segs.retire.Goals as goal
 
 pub insert_run-requires : goal.insert_run-requires
@@ -12,5 +12,4 @@ insert_run-requires c =
 pub invariant_of-self : goal.invariant_of-self
 invariant_of-self c =
     let owns = rw (← c.self.view_is) at c.requires.owned in
-    rw (c.retire.ensures, c.insert_run.ensures.runs)
-    (kept_room c.insert_run.ensures.room (kept_retire c.args.heap c.args.run.now c.self.invariant owns))
+    rw (c.retire.ensures, c.insert_run.ensures.runs) (kept_retired c.args.heap c.args.run.now c.insert_run.ensures.room c.self.invariant owns)

@@ -1,6 +1,6 @@
 -- The segment at the slot has its row.
 use Rattle.std.proofs.Common.{refl}
-use Rattle.hp_segs.specs.Rows.{at_slot}
+use Rattle.hp_log.specs.Rows.{at_slot}
 use Rattle.hp_segs.proofs.Finds.{find_mapped}
 use Rattle.hp_segs.proofs.segs.ranges.row_at.Goals as goal
 

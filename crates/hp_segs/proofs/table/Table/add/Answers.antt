@@ -1,6 +1,6 @@
 -- The run fits its list, its pool and the room for segments, and the table is laid out with it.
 use Rattle.std.proofs.Common.{◌≡◌, ◌+◌, ◌++◌, ◌∙◌, ap, arith, length}
-use Rattle.hp_segs.specs.Rows.{rows_of}
+use Rattle.hp_log.specs.Rows.{rows_of}
 use Rattle.hp_segs.specs.SegsView.{rows_in}
 use Rattle.hp_segs.specs.declared.row_state.RowState.TheVariants.{Opened}
 use Rattle.hp_segs.proofs.AddLemmas.{laid_out_added}

@@ -1,7 +1,7 @@
 -- The segment is among those that are left.
 use Rattle.std.proofs.Common.{◌≡◌, drop}
 use Rattle.std.specs.List.{find}
-use Rattle.hp_segs.specs.Rows.{at_slot}
+use Rattle.hp_log.specs.Rows.{at_slot}
 use Rattle.hp_segs.proofs.table.Table.at.Given as goal
 
 abbrev pub invariant-loop-segment : goal.invariant-loop-segment

@@ -1,7 +1,7 @@
 -- The row is among those that are left.
 use Rattle.std.proofs.Common.{◌≡◌, drop}
 use Rattle.std.specs.List.{find}
-use Rattle.hp_segs.specs.Rows.{row_contains}
+use Rattle.hp_log.specs.Rows.{row_contains}
 use Rattle.hp_segs.specs.SegsView.{rows_in}
 use Rattle.hp_segs.proofs.table.Table.containing.Given as goal
 

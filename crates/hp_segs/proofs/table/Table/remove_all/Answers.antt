@@ -1,7 +1,7 @@
 -- The next run is held, and what is left stays held when it goes.
 use Rattle.std.proofs.Common.{◌∙◌, sym, subst, arith, drop, get_or, ◌+◌}
 use Rattle.hp_segs.specs.Lists.{lists_of}
-use Rattle.hp_segs.specs.Sound.{AreHeld}
+use Rattle.hp_segs.specs.SoundRows.{AreHeld}
 use Rattle.hp_segs.proofs.DropLemmas.{held_first, held_without}
 use Rattle.hp_segs.proofs.RemoveAllLemmas.{held_from, removed_from, length_from}
 use Rattle.hp_segs.proofs.StateLemmas.{removed_rows}

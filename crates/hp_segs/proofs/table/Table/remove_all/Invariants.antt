@@ -2,7 +2,7 @@
 use Rattle.std.proofs.Common.{◌≡◌, ◌≤◌, drop, length}
 use Rattle.hp_segs.specs.Lists.{lists_of}
 use Rattle.hp_segs.specs.SegsView.{rows_in}
-use Rattle.hp_segs.specs.Sound.{AreHeld}
+use Rattle.hp_segs.specs.SoundRows.{AreHeld}
 use Rattle.hp_segs.specs.TableLayout.{removed_all}
 use Rattle.hp_segs.proofs.table.Table.remove_all.Given as goal
 

@@ -1,6 +1,6 @@
 -- The rows of the first n slots are there.
 use Rattle.std.proofs.Common.{◌≡◌, ◌+◌, ◌++◌, map, vec_capacity, vec_len}
-use Rattle.hp_segs.specs.Rows.{rows_below}
+use Rattle.hp_log.specs.Rows.{rows_below}
 use Rattle.hp_segs.specs.Steps.{segment_of}
 use Rattle.hp_segs.specs.declared.row_state.RowState.TheVariants.{Opened}
 use Rattle.hp_segs.proofs.table.changes.push_rows.Given as goal

@@ -1,0 +1,18 @@
+-- Beside spare there is room for two places of each participant, whatever they are armed with.
+use Rattle.std.proofs.Common.{arith}
+use Rattle.hp_segs.specs.SegsLayout.{view_of}
+use Rattle.hp_segs.proofs.KeptSteps.{kept_rooms}
+use Rattle.hp_segs.proofs.SoundSteps.{sound_armed}
+use Rattle.hp_segs.proofs.segs.Segs.arm.Goals as goal
+
+pub invariant_of-self-2 : goal.invariant_of-self-2
+invariant_of-self-2 c =
+    let s = c.self.inside in
+    let sound =
+    sound_armed (view_of s.table s.asks s.retiring.items s.growth s.roster s.armed s.ranges.items s.spare) c.self.invariant.sound c.args.ask.now in
+    rw (c.reserve.ensures.same, c.reserve-2.ensures.same)
+    (kept_rooms s.spare c.reserve.new.self.room c.reserve-2.new.self.room c.self.invariant
+    (omega (arith, c.in_ok-reserve.ensures.room))
+    (omega (arith, c.in_ok-reserve-2.ensures.room))
+    _
+    (record { rows = sound.rows; asks = sound.asks; places = sound.places }))

@@ -1,0 +1,13 @@
+-- A member more keeps the value sound.
+use Rattle.hp_segs.specs.SegsLayout.{view_of}
+use Rattle.hp_segs.proofs.KeptSteps.{kept_places}
+use Rattle.hp_segs.proofs.SoundSteps.{sound_joined}
+use Rattle.hp_segs.proofs.segs.Segs.join_roster.Goals as goal
+
+pub invariant_of-self : goal.invariant_of-self
+invariant_of-self c =
+    let s = c.self.inside in
+    let may = rw (← c.self.view_is) at c.requires.may in
+    kept_places _ s.ranges.items c.self.invariant
+    (sound_joined (view_of s.table s.asks s.retiring.items s.growth s.roster s.armed s.ranges.items s.spare) c.self.invariant.sound c.args.participant
+    c.args.acked may)

@@ -1,0 +1,15 @@
+-- An outcome more keeps the value sound.
+use Rattle.hp_segs.specs.SegsLayout.{view_of}
+use Rattle.hp_segs.proofs.KeptSteps.{kept_logged}
+use Rattle.hp_segs.proofs.SoundSteps.{sound_stale}
+use Rattle.hp_segs.proofs.segs.Segs.log_stale.Goals as goal
+
+pub invariant_of-self : goal.invariant_of-self
+invariant_of-self c =
+    let may = rw (← c.self.view_is) at c.requires.may in
+    let s = c.self.inside in
+    rw (c.push.ensures, c.records.ensures.records, c.closed-done.ensures)
+    (kept_logged _ c.self.invariant
+    (sound_stale (view_of s.table s.asks s.retiring.items s.growth s.roster s.armed s.ranges.items s.spare) c.self.invariant.sound c.args.from
+    c.args.number may)
+    may.spare)

@@ -1,7 +1,0 @@
--- The rows of the first n slots are there.
-use Rattle.std.proofs.Common.{◌≡◌, ◌++◌}
-use Rattle.hp_segs.specs.Rows.{rows_below}
-use Rattle.hp_segs.proofs.segs.queries.push_rows.Given as goal
-
-abbrev pub invariant-loop-n : goal.invariant-loop-n
-invariant-loop-n l = l.rows.items ≡ l.initial.rows.items ++ rows_below l.run l.generation l.n
