@@ -1,0 +1,29 @@
+-- What goes is told, and then what came.
+use Rattle.std.proofs.Common.{◌∙◌, ap, length}
+use Rattle.hp_base.specs.declared.map_answer.MapAnswer.{MapAnswer}
+use Rattle.hp_maps.specs.Catching.{newer}
+use Rattle.hp_maps.specs.MapsView.{MapsView, calls_of}
+use Rattle.hp_maps.proofs.TellLemmas.{caught_spare, caught_told}
+use Rattle.hp_maps.proofs.local_maps.LocalMaps.catch_up.Goals as goal
+
+pub returns-clause-told : goal.returns-clause-told
+returns-clause-told g c =
+    caught_told c.args.self.now c.take_in_log-caught.new.self c.as_slice.result.now c.as_slice-2.result.now c.self.inside.calls c.self-2.inside.calls
+    (newer c.args.records.now c.args.self.now.number c.args.to) _ c.take_in_log-caught.result _ _ _
+    (c.as_slice.ensures.value ∙ ap (λ (maps : MapsView). maps.rows) c.self.view_is)
+    (c.as_slice-2.ensures.value ∙ ap (λ (maps : MapsView). maps.rows) c.self-2.view_is)
+    (c.self.invariant.counted ∙ ap calls_of c.self.view_is)
+    (c.self-2.invariant.counted ∙ ap calls_of c.self-2.view_is)
+    (ap (λ (maps : MapsView). newer c.args.records.now maps.number c.args.to) c.self.view_is)
+    c.take_in_log-caught.ensures.rows c.take_in_log-caught.ensures.answered c.tell_dropped.ensures.told c.tell_caught.ensures.told
+
+pub returns-clause-spare : goal.returns-clause-spare
+returns-clause-spare g c =
+    caught_spare c.args.self.now c.take_in_log-caught.new.self c.as_slice.result.now c.as_slice-2.result.now c.self.inside.calls c.self-2.inside.calls
+    (newer c.args.records.now c.args.self.now.number c.args.to) _ c.take_in_log-caught.result _ _ _
+    (c.as_slice.ensures.value ∙ ap (λ (maps : MapsView). maps.rows) c.self.view_is)
+    (c.as_slice-2.ensures.value ∙ ap (λ (maps : MapsView). maps.rows) c.self-2.view_is)
+    (c.self.invariant.counted ∙ ap calls_of c.self.view_is)
+    (c.self-2.invariant.counted ∙ ap calls_of c.self-2.view_is)
+    (ap (λ (maps : MapsView). newer c.args.records.now maps.number c.args.to) c.self.view_is)
+    c.take_in_log-caught.ensures.rows c.take_in_log-caught.ensures.answered c.tell_dropped.ensures.spare c.tell_caught.ensures.spare

@@ -1,0 +1,51 @@
+-- One row more is mapped, or the rows are unmapped again.
+use Rattle.std.proofs.Common.{◌≡◌, ◌+◌, ◌-◌, true, false, length, take, drop, map, get_or, arith, rules, length-append, length-take, length-drop, ap, ◌∙◌, sym, subst}
+use Rattle.std.proofs.lemmas.List.{length-map}
+use Rattle.hp_base.specs.Mapping.{own_place, owned}
+use Rattle.hp_base.specs.declared.caught.Caught.{Caught}
+use Rattle.hp_base.specs.declared.row.Row.{Row}
+use Rattle.hp_maps.specs.Catching.{HasAnswered}
+use Rattle.hp_maps.specs.Unmapping.{is_own, rows_mapped}
+use Rattle.hp_maps.proofs.MapLemmas.{can_map_next, held_more, answered_more, rolled_back, answered_failed, own_unrefused, no_row}
+use Rattle.hp_maps.proofs.mapping.map_rows.Goals as goal
+
+pub map_own-got-requires : goal.map_own-got-requires
+map_own-got-requires g c =
+    can_map_next c.args.rows.now c.args.start c.loop-at.at _ _ _ _ _ c.args.calls _ c.requires.can (omega arith) (omega arith)
+    c.loop-at.invariant.held c.loop-at.invariant.capacity
+    (omega (
+      arith,
+      ap length c.loop-at.invariant.answered,
+      c.requires.counted,
+      length-append (g.M.Mapper.answers c.args.mapper.now)
+          (map own_place (take (c.loop-at.at - c.args.start) (drop c.args.start c.args.rows.now))),
+      length-map (take (c.loop-at.at - c.args.start) (drop c.args.start c.args.rows.now)) own_place,
+      length-take (c.loop-at.at - c.args.start) (drop c.args.start c.args.rows.now),
+      length-drop c.args.start c.args.rows.now,
+    ))
+
+pub returns-then-not-is_own-clause-answered : goal.returns-then-not-is_own-clause-answered
+returns-then-not-is_own-clause-answered g c =
+    let other = sym c.is_own.ensures ∙ c.if-not-is_own.true in
+    subst (λ (caught : Caught). HasAnswered (drop c.args.start c.args.rows.now) (g.M.Mapper.answers c.args.mapper.now)
+    (g.M.Mapper.answers c.unmap_rows.new.mapper) caught) (sym c.failed.ensures)
+    (answered_failed c.args.rows.now c.args.start c.loop-at.at _ c.map_own-got.result _ _ _ c.args.calls _ (omega arith) (omega arith)
+    c.loop-at.invariant.answered other (c.unmap_rows.ensures.answers ∙ c.map_own-got.ensures.answers) c.requires.counted (omega arith))
+
+pub returns-then-not-is_own-clause-held : goal.returns-then-not-is_own-clause-held
+returns-then-not-is_own-clause-held g c =
+    let other = sym c.is_own.ensures ∙ c.if-not-is_own.true in
+    rolled_back c.args.rows.now c.args.start c.loop-at.at _ c.map_own-got.result _ _ _ _ (omega arith) c.requires.can.apart
+    c.loop-at.invariant.held other c.map_own-got.ensures.held c.unmap_rows.ensures.held
+    ∙ ap (λ (caught : Caught). owned (rows_mapped c.args.rows.now c.args.start caught)) (sym c.failed.ensures)
+
+pub loop-at-preserved : goal.loop-at-preserved
+loop-at-preserved g c =
+    let own = sym c.is_own.ensures ∙ c.if-not-is_own.false in
+    record {
+      held = held_more c.args.rows.now c.loop-at.at _ c.map_own-got.result _ _ (omega arith) c.loop-at.invariant.held own c.map_own-got.ensures.held;
+      answered = answered_more c.args.rows.now c.args.start c.loop-at.at _ c.map_own-got.result _ _ _ (omega arith) (omega arith)
+          c.loop-at.invariant.answered own c.map_own-got.ensures.answers;
+      capacity = c.map_own-got.ensures.capacity ∙ c.loop-at.invariant.capacity;
+      faults = c.map_own-got.ensures.cause.same (own_unrefused (get_or c.args.rows.now c.loop-at.at no_row) c.map_own-got.result own) ∙ c.loop-at.invariant.faults;
+    }

@@ -1,0 +1,12 @@
+-- The rows so far are mapped, each at its own place.
+use Rattle.std.proofs.Common.{◌≡◌, ◌+◌, ◌-◌, ◌++◌, drop, take, map, length}
+use Rattle.hp_base.specs.Mapping.{own_place, owned}
+use Rattle.hp_maps.proofs.mapping.map_rows.Given as goal
+
+abbrev pub invariant-loop-at : goal.invariant-loop-at
+invariant-loop-at g l = record {
+  held : g.M.Mapper.held l.mapper ≡ owned (take l.at l.rows);
+  answered : g.M.Mapper.answers l.mapper ≡ g.M.Mapper.answers l.initial.mapper ++ map own_place (take (l.at - l.start) (drop l.start l.rows));
+  capacity : g.M.Mapper.capacity l.mapper ≡ g.M.Mapper.capacity l.initial.mapper;
+  faults : g.M.Mapper.faults l.mapper ≡ g.M.Mapper.faults l.initial.mapper;
+}

@@ -1,0 +1,10 @@
+pub mod MapsView
+pub mod Catching
+pub mod Chunks
+pub mod Events
+pub mod Laws
+pub mod PlannedView
+pub mod PlannedLayout
+pub mod Unmapping
+pub mod MapsLayout
+pub mod TellingInTurn

@@ -1,0 +1,43 @@
+-- What contracts see of a participant's table, and which of its rows are the log's: the rule "What stands in a table" of docs/TABLES.md.
+use Rattle.std.specs.Prelude.{◌≡◌, ℕ, ◌≤◌, Bool, not, nat_lt, List, filter, length, count_by}
+use Rattle.hp_base.specs.Mapping.{Held, has_addr, owned}
+use Rattle.hp_base.specs.declared.map_answer.MapAnswer.{MapAnswer}
+use Rattle.hp_base.specs.declared.row.Row.{Row}
+
+pub record MapsView : Type 0 where
+  -- the rows that are mapped, in the order of mapping: those of the log and those of chunks
+  pub rows : List Row
+  -- how many records the table has taken in
+  pub number : ℕ
+  -- how many rows it may have
+  pub capacity : ℕ
+  -- all answers of its mapper, one for each mapping call
+  pub answers : List MapAnswer
+  -- how often its mapper failed
+  pub faults : ℕ
+  -- what its mapper holds
+  pub held : List Held
+
+-- the number of mapping calls
+abbrev pub calls_of : MapsView → ℕ
+calls_of maps = length maps.answers
+
+-- its rows are exactly those that its mapper holds, each at its own place
+abbrev pub IsMapped : MapsView → Type 0
+IsMapped maps = maps.held ≡ owned maps.rows
+
+-- a row of the log has the generation of its record, from 1; a row of a chunk has generation 0
+abbrev pub is_of_log : Row → Bool
+is_of_log row = nat_lt 0 row.generation
+
+-- the table: the rows of the log
+abbrev pub table_in : List Row → List Row
+table_in rows = filter is_of_log rows
+
+-- the rows of chunks, which stand beside the table
+abbrev pub chunk_rows : List Row → List Row
+chunk_rows rows = filter (λ row. not (is_of_log row)) rows
+
+-- no two of the rows have one address
+abbrev pub AreApart : List Row → Type 0
+AreApart rows = (addr : ℕ) → count_by (has_addr addr) rows ≤ 1

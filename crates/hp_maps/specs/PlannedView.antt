@@ -1,0 +1,38 @@
+-- A mapper that refuses or misplaces rows by a plan: the rule "Mapping faults" of docs/TABLES.md.
+use Rattle.std.specs.Prelude.{◌≡◌, ℕ, ◌+◌, ◌<◌, ◌≤◌, ◌==◌, List, [], ◌∷◌, ◌++◌, length, Option, Some, None, IfSome, if◌then◌else◌}
+use Rattle.hp_base.specs.Mapping.{Held}
+use Rattle.hp_base.specs.Plans.{map_action_of}
+use Rattle.hp_base.specs.declared.map_answer.MapAnswer.{MapAnswer}
+use Rattle.hp_base.specs.declared.map_answer.MapAnswer.TheVariants.{At, Refused}
+use Rattle.hp_base.specs.declared.plan.MapAction.{MapAction}
+use Rattle.hp_base.specs.declared.plan.MapAction.TheVariants as action
+use Rattle.hp_base.specs.declared.plan_entry.PlanEntry.{PlanEntry}
+use Rattle.hp_base.specs.declared.row.Row.{Row}
+
+-- what contracts see of it
+pub record PlannedView : Type 0 where
+  -- what it holds: the rows of the other mapper, and the one that is misplaced, if there is one
+  pub held : List Held
+  pub capacity : ℕ
+  -- its answers, and those of the other mapper, which is asked where the plan says nothing
+  pub answers : List MapAnswer
+  pub asked : List MapAnswer
+  -- how often it refused, or the other mapper did
+  pub faults : ℕ
+  -- the plan, and the party that the plan names
+  pub plan : List PlanEntry
+  pub party : ℕ
+
+-- a place one page further on
+abbrev pub next_place : Row → MapAnswer
+next_place row = At (row.addr + row.page) row.page row.socket
+
+-- what the plan has of the mapping of a row, by the number of the call: a row without bytes has no page further on
+abbrev pub action_for : List PlanEntry → ℕ → ℕ → Row → MapAction
+action_for plan party call row = if row.page == 0 then action.Ask else map_action_of plan party call
+
+-- the answer where the plan has that: it is refused, it comes out one page further on, or the other mapper answers
+abbrev pub IsPlannedAnswer : MapAction → Row → MapAnswer → List MapAnswer → List MapAnswer → Type 0
+IsPlannedAnswer (action.Refuse line) row answer asked asked' = (answer ≡ Refused) × (asked' ≡ asked)
+IsPlannedAnswer (action.Elsewhere line) row answer asked asked' = (answer ≡ next_place row) × (asked' ≡ asked)
+IsPlannedAnswer action.Ask row answer asked asked' = asked' ≡ asked ++ answer ∷ []

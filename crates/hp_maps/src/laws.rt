@@ -1,0 +1,55 @@
+//! Laws of the definitions. They are proved of all values, and their functions have no code.
+ghost use Rattle.std.specs.Prelude.{List, ℕ};
+ghost use Rattle.hp_base.specs.declared.caught.Caught.{Caught};
+ghost use Rattle.hp_base.specs.declared.event.EventKind.{EventKind};
+ghost use Rattle.hp_base.specs.declared.row.Row.{Row};
+ghost use Rattle.hp_base.specs.declared.row.Run.{Run};
+ghost use Rattle.hp_log.specs.declared.log_record.LogRecord.{LogRecord};
+ghost use Rattle.hp_maps.specs.Events.{joins_by};
+ghost use Rattle.hp_maps.specs.Laws.{
+  BringsNothing,
+  FallIntoStretches,
+  HasOneRowASlot,
+  IsApartAt,
+  IsTakenInTurn,
+  StaysMapped,
+  TellsFew,
+};
+
+/// A table that has taken in some records becomes that of more of them by what these drop and bring, whatever log it is.
+pub fn table_law()
+    ensures { (records : List LogRecord) → IsTakenInTurn records }
+{}
+
+/// A growth that failed maps nothing where both of its records are taken in at once.
+pub fn failed_growth_law()
+    ensures { (run : Run) → BringsNothing run }
+{}
+
+/// A catch-up tells no more events than the runs of its records have pages.
+pub fn few_events_law()
+    ensures { (rows : List Row) (n : ℕ) (records : List LogRecord) (caught : Caught) → TellsFew rows n records caught }
+{}
+
+/// Whatever calls of a mapper are made: a row that is held at its own place behind them, and that place is none of their
+/// answers, was unmapped by none of them. So a catch-up never unmaps a row that no new record drops, since its answers are
+/// the own places of new rows.
+pub fn stays_mapped_law()
+    ensures { (row : Row) → StaysMapped row }
+{}
+
+/// In a well-formed log no slot has two rows.
+pub fn slot_law()
+    ensures { (records : List LogRecord) → HasOneRowASlot records }
+{}
+
+/// The table of a well-formed log has no two rows of one address, where rows of one address are at one slot, as they are
+/// where segment lists lie apart. It is a part of the condition of catching up.
+pub fn apart_law()
+    ensures { (records : List LogRecord) (n : ℕ) → IsApartAt records n }
+{}
+
+/// Rows are told by their greatest stretches: none is left out or told twice, and no two events touch that could be one.
+pub fn stretch_law()
+    ensures { (kind : EventKind) (rows : List Row) → FallIntoStretches (joins_by kind) rows }
+{}

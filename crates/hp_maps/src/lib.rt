@@ -1,0 +1,22 @@
+//! A participant's table: what one process has mapped, over a mapper that may refuse a row or misplace it.
+#![tactic(auto)]
+
+mod catching;
+mod chunks;
+mod laws;
+mod local_maps;
+mod mapping;
+mod planned;
+mod rows;
+mod table;
+mod telling;
+#[cfg(test)]
+mod tests;
+
+pub use laws::{
+    apart_law, failed_growth_law, few_events_law, slot_law, stays_mapped_law, stretch_law,
+    table_law,
+};
+pub use local_maps::LocalMaps;
+pub use planned::Planned;
+pub use table::Table;

@@ -1,0 +1,42 @@
+//! Unmapping all that is mapped.
+ghost use Rattle.std.specs.Prelude.{◌≡◌, ◌+◌, ◌≤◌, [], length, vec_capacity};
+ghost use Rattle.std.specs.List.Sorted.{IsNonDecreasingBy, IsPermutation};
+ghost use Rattle.hp_maps.specs.MapsView.{IsMapped, chunk_rows};
+
+use crate::local_maps::LocalMaps;
+use crate::mapping::unmap_rows;
+use crate::telling::tell_rows;
+use hp_base::{EventKind, Mapper, Row, Tell};
+
+impl<M: Mapper> LocalMaps<M> {
+    ghost use Rattle.hp_maps.specs.Events.{IsToldByAddress};
+
+    /// Unmaps the whole table, where no chunk is attached, and begins anew: no record is taken in. What goes is told first,
+    /// by rising address, whatever record it came by.
+    pub fn unmap_all<T: Tell>(&mut self, tell: &mut T)
+        requires no_chunk { chunk_rows self.old.rows ≡ [] }
+        requires spare { length self.old.rows ≤ T.spare tell.old }
+        ensures rows { self.new.rows ≡ [] }
+        ensures number { self.new.number ≡ 0 }
+        ensures answers { self.new.answers ≡ self.old.answers }
+        ensures capacity { self.new.capacity ≡ self.old.capacity }
+        ensures faults { self.new.faults ≡ self.old.faults }
+        ensures mapped { IsMapped self.new }
+        ensures told { IsToldByAddress self.old.rows (T.told tell.old) (T.told tell.new) }
+        ensures spare { T.spare tell.old ≤ T.spare tell.new + length self.old.rows }
+    {
+        sort_by_address(&mut self.rows);
+        tell_rows(tell, EventKind::Free, self.rows.as_slice());
+        unmap_rows(&mut self.mapper, self.rows.as_slice());
+        self.rows.clear();
+        self.number = 0;
+    }
+}
+
+fn sort_by_address(rows: &mut Vec<Row>)
+    ensures same { IsPermutation rows.old.items rows.new.items }
+    ensures sorted { IsNonDecreasingBy (λ row. row.addr) rows.new.items }
+    ensures memory { vec_capacity rows.new ≡ vec_capacity rows.old }
+{
+    rows.sort_unstable_by_key(|row: &Row| row.addr);
+}

@@ -1,0 +1,93 @@
+//! Which rows records drop, and which they bring.
+ghost use Rattle.std.specs.Prelude.{◌≡◌, ◌+◌, ◌*◌, ◌^◌, ◌<◌, ◌≤◌, ◌++◌, ◌∷◌, [], length, vec_len, vec_capacity};
+ghost use Rattle.std.specs.List.{All};
+ghost use Rattle.hp_base.specs.Mapping.{is_row};
+ghost use Rattle.hp_log.specs.Log.{run_in};
+ghost use Rattle.hp_log.specs.Rows.{rows_of, IsSmallRun};
+ghost use Rattle.hp_maps.specs.Catching.{brought, drops, goes, is_dropped, new_rows, undropped};
+ghost use Rattle.hp_maps.specs.MapsView.{is_of_log};
+
+use hp_base::{Row, Run};
+use hp_log::{LogRecord, contains, row_of};
+
+/// Whether a row is of the log, and not of a chunk.
+pub fn is_of_log(row: &Row) -> bool
+    ensures { result ≡ is_of_log row.now }
+{
+    0 < row.generation
+}
+
+/// Whether two rows are the same, in all fields.
+pub fn is_row(row: &Row, other: &Row) -> bool
+    ensures { result ≡ is_row row.now other.now }
+{
+    other.addr == row.addr
+        && other.page == row.page
+        && other.socket == row.socket
+        && other.list == row.list
+        && other.slot == row.slot
+        && other.generation == row.generation
+}
+
+/// Whether a record drops a row that stands before it.
+pub fn drops(row: &Row, entry: &LogRecord) -> bool
+    ensures { result ≡ drops row.now entry.now }
+{
+    match entry {
+        LogRecord::Add { .. } => false,
+        LogRecord::Drop { run } => contains(run, row),
+    }
+}
+
+/// Whether one of the records drops a row.
+pub fn is_dropped(records: &[LogRecord], row: &Row) -> bool
+    ensures { result ≡ is_dropped records.now row.now }
+{
+    records.iter().any(|entry| drops(row, entry))
+}
+
+/// Whether a row is of the log, and one of the records drops it.
+pub fn goes(records: &[LogRecord], row: &Row) -> bool
+    ensures { result ≡ goes records.now row.now }
+{
+    is_of_log(row) && is_dropped(records, row)
+}
+
+/// Adds what records bring behind the first `n`, where there is room for it.
+pub fn push_new_rows(rows: &mut Vec<Row>, n: u64, records: &[LogRecord])
+    requires small { All (λ entry. IsSmallRun (run_in entry)) records.now }
+    requires few { n + length records.now < 2 ^ 64 }
+    requires room { vec_len rows.old + length (new_rows n records.now) ≤ vec_capacity rows.old }
+    ensures items { rows.new.items ≡ rows.old.items ++ new_rows n records.now }
+    ensures capacity { vec_capacity rows.old ≤ vec_capacity rows.new }
+{
+    for (at, entry) in records.iter().enumerate() {
+        if let LogRecord::Add { run, .. } = entry {
+            push_undropped(rows, n + at as u64 + 1, run, &records[at + 1..]);
+        }
+    }
+}
+
+/// Adds the rows of a run that none of the records drops, where there is room for them.
+pub fn push_undropped(rows: &mut Vec<Row>, generation: u64, run: &Run, later: &[LogRecord])
+    requires small { IsSmallRun run.now }
+    requires room { vec_len rows.old + length (undropped later.now (rows_of run.now generation))
+        ≤ vec_capacity rows.old }
+    ensures items { rows.new.items ≡ rows.old.items ++ undropped later.now (rows_of run.now generation) }
+    ensures capacity { vec_capacity rows.old ≤ vec_capacity rows.new }
+{
+    for n in 0..run.count {
+        push_if_undropped(rows, row_of(run, generation, n), later);
+    }
+}
+
+// Adds a row, where none of the records drops it.
+fn push_if_undropped(rows: &mut Vec<Row>, row: Row, later: &[LogRecord])
+    requires room { vec_len rows.old + length (undropped later.now (row ∷ [])) ≤ vec_capacity rows.old }
+    ensures items { rows.new.items ≡ rows.old.items ++ undropped later.now (row ∷ []) }
+    ensures capacity { vec_capacity rows.old ≤ vec_capacity rows.new }
+{
+    if !is_dropped(later, &row) {
+        let _ = rows.push(row);
+    }
+}

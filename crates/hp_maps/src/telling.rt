@@ -1,0 +1,111 @@
+//! Rows that come and go, told as one event for each of their greatest stretches.
+ghost use Rattle.std.specs.Prelude.{◌≡◌, ◌+◌, ◌*◌, ◌^◌, ◌<◌, ◌≤◌, ◌-◌, [], true, drop, length, find};
+ghost use Rattle.std.specs.List.{All};
+ghost use Rattle.hp_base.specs.declared.event.EventKind.TheVariants as kind;
+ghost use Rattle.hp_base.specs.Mapping.{is_done};
+ghost use Rattle.hp_log.specs.Log.{run_in};
+ghost use Rattle.hp_log.specs.Rows.{IsSmallRun};
+ghost use Rattle.hp_maps.specs.Events.{all_told, dropped_events, events_of, freed_by, stands_at};
+ghost use Rattle.hp_maps.specs.TellingInTurn.{mapped_events};
+ghost use Rattle.hp_maps.specs.Unmapping.{IsWithin};
+
+use crate::rows::{is_dropped, is_of_log};
+use hp_base::{Caught, Event, EventKind, Row, Tell};
+use hp_log::LogRecord;
+
+/// Adjacent rows that are told together: their event so far, and the last of them.
+#[derive(Clone, Copy, Debug, PartialEq, Eq)]
+pub struct Stretch {
+    pub event: Event,
+    pub last: Row,
+}
+
+mod in_turn;
+
+pub use in_turn::{tell_found, tell_last};
+
+/// Tells rows that come, or that go.
+pub fn tell_rows<T: Tell>(tell: &mut T, kind: EventKind, rows: &[Row])
+    requires near { All IsWithin rows.now }
+    requires spare { length (events_of kind rows.now) ≤ T.spare tell.old }
+    ensures told { T.told tell.new ≡ all_told (events_of kind rows.now) (T.told tell.old) }
+    ensures spare { T.spare tell.old ≤ T.spare tell.new + length (events_of kind rows.now) }
+{
+    let mut stretch = None;
+    for row in rows {
+        stretch = tell_found(tell, kind, stretch, Some(*row));
+    }
+    tell_last(tell, kind, stretch);
+}
+
+/// Tells the new rows of a catch-up, where all of them are mapped. `before` and `calls` are the mapping calls before it
+/// and after it.
+pub fn tell_caught<T: Tell>(tell: &mut T, caught: &Caught, rows: &[Row], before: u64, calls: u64)
+    requires near { All IsWithin rows.now }
+    requires rose { is_done caught.now ≡ true → before ≤ calls }
+    requires new { is_done caught.now ≡ true → calls ≤ before + length rows.now }
+    requires spare { length (mapped_events (drop (length rows.now - (calls - before)) rows.now) caught.now) ≤ T.spare tell.old }
+    ensures told { T.told tell.new
+        ≡ all_told (mapped_events (drop (length rows.now - (calls - before)) rows.now) caught.now) (T.told tell.old) }
+    ensures spare { T.spare tell.old ≤ T.spare tell.new
+        + length (mapped_events (drop (length rows.now - (calls - before)) rows.now) caught.now) }
+{
+    match caught {
+        Caught::Done => {
+            let fresh = (calls - before) as usize;
+            tell_rows(tell, EventKind::Alloc, &rows[rows.len() - fresh..]);
+        }
+        Caught::Refused { .. } | Caught::Elsewhere { .. } => {}
+    }
+}
+
+/// Tells the rows of the log that records are about to unmap.
+pub fn tell_dropped<T: Tell>(tell: &mut T, rows: &[Row], records: &[LogRecord])
+    requires near { All IsWithin rows.now }
+    requires small { All (λ entry. IsSmallRun (run_in entry)) records.now }
+    requires spare { length (dropped_events rows.now [] records.now) ≤ T.spare tell.old }
+    ensures told { T.told tell.new ≡ all_told (dropped_events rows.now [] records.now) (T.told tell.old) }
+    ensures spare { T.spare tell.old ≤ T.spare tell.new + length (dropped_events rows.now [] records.now) }
+{
+    for (at, entry) in records.iter().enumerate() {
+        tell_freed(tell, rows, &records[..at], entry);
+    }
+}
+
+// Tells the rows that a record unmaps, where others came before it, by rising slot.
+fn tell_freed<T: Tell>(tell: &mut T, rows: &[Row], before: &[LogRecord], entry: &LogRecord)
+    requires near { All IsWithin rows.now }
+    requires small { IsSmallRun (run_in entry.now) }
+    requires spare { length (events_of kind.Free (freed_by rows.now before.now entry.now)) ≤ T.spare tell.old }
+    ensures told { T.told tell.new
+        ≡ all_told (events_of kind.Free (freed_by rows.now before.now entry.now)) (T.told tell.old) }
+    ensures spare { T.spare tell.old
+        ≤ T.spare tell.new + length (events_of kind.Free (freed_by rows.now before.now entry.now)) }
+{
+    if let LogRecord::Drop { run } = entry {
+        let mut stretch = None;
+        for n in 0..run.count {
+            let found = standing_at(rows, before, run.list, run.first + n);
+            stretch = tell_found(tell, EventKind::Free, stretch, found);
+        }
+        tell_last(tell, EventKind::Free, stretch);
+    }
+}
+
+// The row of the log that stands at a slot once some records are taken in.
+fn standing_at(rows: &[Row], before: &[LogRecord], list: u32, slot: u32) -> Option<Row>
+    ensures { result ≡ find (stands_at before.now list slot) rows.now }
+{
+    for row in rows {
+        if stands_at(before, list, slot, row) {
+            return Some(*row);
+        }
+    }
+    None
+}
+
+fn stands_at(before: &[LogRecord], list: u32, slot: u32, row: &Row) -> bool
+    ensures { result ≡ stands_at before.now list slot row.now }
+{
+    row.list == list && row.slot == slot && (is_of_log(row) && !is_dropped(before, row))
+}
