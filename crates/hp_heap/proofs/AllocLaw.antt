@@ -151,7 +151,7 @@ placed_by heap participant request r tiled has free (Some d) is some law =
       },
     )
 
-pub choice-placed : (heap : PlainHeap) (participant : ℕ) (request : Request) (r : Span) → IsTiled heap → IsChoice heap participant request r → (d : ℕ) × IsPlaced heap request r d
+pub choice-placed : (heap : PlainHeap) (participant : ℕ) (request : Request) (r : Span) → IsTiled heap → IsChoice participant request heap r → (d : ℕ) × IsPlaced heap request r d
 choice-placed heap participant request r tiled choice =
     let candidate = eligible-candidate heap participant request r choice.among in
     let tests = and_parts _ _ candidate.0 in
@@ -172,7 +172,7 @@ parted heap r before after tiled is =
           (AllByRecursion-front (IsElement heap.insertions) before (r ∷ after) tiling.elements);
     }
 
-pub placed-tiled : (heap : PlainHeap) (r : Span) (d size : ℕ) (tag : Tag) → IsTiled heap → Contains heap.ranges r → IsPlacing r d size → IsTiled (placed heap r d size tag)
+pub placed-tiled : (heap : PlainHeap) (r : Span) (d size : ℕ) (tag : Tag) → IsTiled heap → Contains heap.ranges r → IsPlacing r d size → IsTiled (placed r d size tag heap)
 unfolding placed pieces_of insertions_of
 placed-tiled heap r d size tag tiled has placing =
     let (before, after, is) = Contains-parts heap.ranges r has in
@@ -182,6 +182,7 @@ placed-tiled heap r d size tag tiled has placing =
     ap (λ xs. replaced r.addr pieces xs) is ∙ replaced-at r.addr pieces before r after part.below refl in
     record {
       kind = tiled.kind;
+      laid = tiled.laid;
       tiling = subst (λ xs. IsTiling (segments_of heap) (heap.insertions + count_if (has_rest_behind r d size) + count_if (has_rest_before r d)) xs) (sym ranges)
           (pieces_tiling (segments_of heap) heap.insertions before after r d size tag (has_rest_before r d) (has_rest_behind r d size)
           (subst (λ xs. IsTiling (segments_of heap) heap.insertions xs) is tiled.tiling) placing (record { before = refl; behind = refl }));
@@ -190,25 +191,25 @@ placed-tiled heap r d size tag tiled has placing =
 -- the law of an allocation: the heap stays tiled, whatever is asked for and whoever asks
 pub alloc-tiled : (heap : PlainHeap) (participant : ℕ) (request : Request) (tag : Tag) → IsTiled heap → IsTiled (after_alloc participant request tag heap)
 unfolding after_alloc
-alloc-tiled heap participant request tag tiled = by_choice (chosen heap participant request) (chosen-is_choice heap participant request)
+alloc-tiled heap participant request tag tiled = by_choice (chosen participant request heap) (chosen-is_choice heap participant request)
   where
-    by_choice : (o : Option Span) → MatchOption o (HasNoChoice heap participant request) (IsChoice heap participant request) → IsTiled (after_choice heap request tag o)
+    by_choice : (o : Option Span) → MatchOption o (HasNoChoice participant request heap) (IsChoice participant request heap) → IsTiled (after_choice o request tag heap)
     by_choice None none = tiled
     by_choice (Some r) choice =
         let (d, is) = choice-placed heap participant request r tiled choice in
-        subst (λ (o : Option ℕ). IsTiled (placed heap r (unwrap_or o 0) request.size tag)) (sym is.in_it)
+        subst (λ (o : Option ℕ). IsTiled (placed r (unwrap_or o 0) request.size tag heap)) (sym is.in_it)
         (placed-tiled heap r d request.size tag tiled (eligible-candidate heap participant request r choice.among).1 is.placing)
 
 -- what an allocation answers is the place in the choice, or there is nothing to choose
 pub allocated-is : (heap : PlainHeap) (participant : ℕ) (request : Request) → IsTiled heap
-    → MatchOption (allocated heap participant request) (HasNoChoice heap participant request) (IsPlacedIn heap participant request)
+    → MatchOption (allocated participant request heap) (HasNoChoice participant request heap) (IsPlacedIn participant request heap)
 unfolding allocated
-allocated-is heap participant request tiled = by_choice (chosen heap participant request) (chosen-is_choice heap participant request)
+allocated-is heap participant request tiled = by_choice (chosen participant request heap) (chosen-is_choice heap participant request)
   where
-    by_choice : (o : Option Span) → MatchOption o (HasNoChoice heap participant request) (IsChoice heap participant request)
-        → MatchOption (option_and_then (place_in request) o) (HasNoChoice heap participant request) (IsPlacedIn heap participant request)
+    by_choice : (o : Option Span) → MatchOption o (HasNoChoice participant request heap) (IsChoice participant request heap)
+        → MatchOption (option_and_then (place_in request) o) (HasNoChoice participant request heap) (IsPlacedIn participant request heap)
     by_choice None none = none
     by_choice (Some r) choice =
         let (d, is) = choice-placed heap participant request r tiled choice in
-        subst (λ (o : Option ℕ). MatchOption o (HasNoChoice heap participant request) (IsPlacedIn heap participant request)) (sym is.in_it)
+        subst (λ (o : Option ℕ). MatchOption o (HasNoChoice participant request heap) (IsPlacedIn participant request heap)) (sym is.in_it)
         (record { range = r; choice = choice; place = is.place })

@@ -6,7 +6,7 @@ use Rattle.hp_base.specs.declared.span.Span.{Span}
 use Rattle.hp_base.specs.declared.request.Request.{Request}
 use Rattle.hp_heap.specs.PlainHeap.{PlainHeap, stamp_of}
 use Rattle.hp_heap.specs.Lists.{range_class}
-use Rattle.hp_heap.specs.Choice.{is_hint, is_fitting_page, is_candidate, candidates, fitting, fitting_or_hinted, eligible, IsChoice, HasNoChoice, precedes, sooner, chosen}
+use Rattle.hp_heap.specs.Choice.{is_hint, is_fitting_page, is_candidate, candidates, of_fitting_pages, fitting_or_hinted, eligible, IsChoice, HasNoChoice, precedes, sooner, chosen}
 
 module _ {X : Type 0} where
   pub Contains-here : (x : X) (xs : List X) → Contains (x ∷ xs) x
@@ -75,7 +75,7 @@ precedes-tells x y before = elim (or_cases _ _ before) [
       record { class = omega arith; stamp = λ _. omega arith })
 ]
 
-precedes-else : (x y : Span) → precedes x y ≡ false → IsNotBefore x y
+pub precedes-else : (x y : Span) → precedes x y ≡ false → IsNotBefore x y
 unfolding precedes
 precedes-else x y after = let parts = or_parts _ _ after in
     let above : range_class y ≤ range_class x = ltb-false (range_class x) (range_class y) parts.0 in
@@ -137,17 +137,17 @@ reduce-sooner [] = refl
 reduce-sooner (x ∷ xs) = let is = soonest x xs in record { among = is.among; least = (is.first, is.others) }
 
 -- the computed choice is the choice, or there is none
-pub chosen-is_choice : (heap : PlainHeap) (participant : ℕ) (request : Request) → MatchOption (chosen heap participant request) (HasNoChoice heap participant request) (IsChoice heap participant request)
+pub chosen-is_choice : (heap : PlainHeap) (participant : ℕ) (request : Request) → MatchOption (chosen participant request heap) (HasNoChoice participant request heap) (IsChoice participant request heap)
 unfolding chosen
 chosen-is_choice heap participant request =
-    choice_of (reduce sooner (eligible heap participant request)) (reduce-sooner (eligible heap participant request))
+    choice_of (reduce sooner (eligible participant request heap)) (reduce-sooner (eligible participant request heap))
   where
-    choice_of : (o : Option Span) → IsReduced (eligible heap participant request) o → MatchOption o (HasNoChoice heap participant request) (IsChoice heap participant request)
+    choice_of : (o : Option Span) → IsReduced (eligible participant request heap) o → MatchOption o (HasNoChoice participant request heap) (IsChoice participant request heap)
     choice_of None is = is
     choice_of (Some r) is = record {
       among = is.among;
-      least = λ other has. (AllByRecursion-contains (λ x. IsNotBefore x r) (eligible heap participant request) other is.least has).class;
-      newest = λ other has same. (AllByRecursion-contains (λ x. IsNotBefore x r) (eligible heap participant request) other is.least has).stamp same;
+      least = λ other has. (AllByRecursion-contains (λ x. IsNotBefore x r) (eligible participant request heap) other is.least has).class;
+      newest = λ other has same. (AllByRecursion-contains (λ x. IsNotBefore x r) (eligible participant request heap) other is.least has).stamp same;
     }
 
 -- what is eligible is a candidate
@@ -159,10 +159,10 @@ eligible_by request all [] r sub has = hinted (is_hint request.flags) has
     hinted false there = absurd (Contains-none r there)
 eligible_by request all (x ∷ xs) r sub has = sub has
 
-pub eligible-candidate : (heap : PlainHeap) (participant : ℕ) (request : Request) (r : Span) → Contains (eligible heap participant request) r
-    → (is_candidate heap participant request r ≡ true) × Contains heap.ranges r
+pub eligible-candidate : (heap : PlainHeap) (participant : ℕ) (request : Request) (r : Span) → Contains (eligible participant request heap) r
+    → (is_candidate participant request heap r ≡ true) × Contains heap.ranges r
 unfolding eligible
 eligible-candidate heap participant request r has =
-    let all = candidates heap participant request in
-    Contains-filter (is_candidate heap participant request) heap.ranges r
-    (eligible_by request all (fitting request all) r (λ there. (Contains-filter (λ range. is_fitting_page request.flags range.page) all r there).1) has)
+    let all = candidates participant request heap in
+    Contains-filter (is_candidate participant request heap) heap.ranges r
+    (eligible_by request all (of_fitting_pages request all) r (λ there. (Contains-filter (λ range. is_fitting_page request.flags range.page) all r there).1) has)

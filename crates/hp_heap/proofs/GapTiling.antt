@@ -175,8 +175,8 @@ down_tiling segments more insertions ps q ys range gap true touch =
     let pages = AllByRecursion-back (λ (z : Span). z.list ≡ range.list → z.page ≡ range.page) ps (q ∷ ys) (subst (λ zs. AllByRecursion (λ (z : Span). z.list ≡ range.list → z.page ≡ range.page) zs) (append_assoc ps (q ∷ []) ys) gap.pages) in
     up_tiling segments more insertions (ps ++ (q ∷ [])) ys range gap ps (q ∷ []) ys (joined_down q range) (record {
       free = facts.free_second;
-      list = refl;
-      page = refl;
+      list = facts.list;
+      page = pages.0 facts.list;
       stamp = gap.stamp;
       end = omega (arith, facts.touch);
       row = (refl, (sym facts.touch, tt));
@@ -185,7 +185,7 @@ down_tiling segments more insertions ps q ys range gap true touch =
       from = (rising-back 0 ps (q ∷ ys) tiling.rising).0;
       line = q_element.line;
       size = record { lines = omega (arith, q_element.size.lines, gap.size.lines); least = omega (arith, q_element.size.least) };
-      apart = apart_grown ps q (joined_down q range) [] (facts.free ∙ sym facts.free_second) facts.list refl tt (IsApart-front (ps ++ (q ∷ [])) ys gap.tiling.apart);
+      apart = apart_grown ps q (joined_down q range) [] (facts.free ∙ sym facts.free_second) refl refl tt (IsApart-front (ps ++ (q ∷ [])) ys gap.tiling.apart);
     })
     tiling gap.high pages.1
 down_tiling segments more insertions ps q ys range gap false touch =

@@ -15,10 +15,11 @@ use Rattle.hp_heap.specs.Growing.{run_bytes, run_pages, after_grow, IsAlike, Can
 use Rattle.hp_heap.proofs.RangeLemmas.{AllByRecursion-back, AllByRecursion-weaker, last_end, rising-back, rising_behind}
 use Rattle.hp_heap.proofs.Counting.{count_by-append, count_by-cons, count_pages, count_pages_of}
 use Rattle.hp_heap.proofs.Stretches.{with_stretch-parts}
+use Rattle.hp_heap.proofs.RunPages.{laid_grown}
 use Rattle.hp_heap.proofs.GapTiling.{IsGap, gap_tiling, IsPartedAt, parted_at}
 
 -- where no element has the byte at an address, those that begin below it end there
-ends_before : (at from : ℕ) (xs : List Span) → from ≤ at → AllByRecursion (λ x. x.addr < at) xs → count_by (in_range at) xs ≡ 0 → last_end from xs ≤ at
+pub ends_before : (at from : ℕ) (xs : List Span) → from ≤ at → AllByRecursion (λ x. x.addr < at) xs → count_by (in_range at) xs ≡ 0 → last_end from xs ≤ at
 ends_before at from [] within below none = within
 ends_before at from (x ∷ xs) within below none =
     let outside : cond {A = ℕ} (in_range at x) 1 0 ≡ 0 = omega (arith, none, count_by-cons (in_range at) x xs) in
@@ -29,7 +30,7 @@ ends_before at from (x ∷ xs) within below none =
     end_before x at lower outside = grind (arith, nat_tests)
 
 -- where no element has a byte of a stretch, those that begin from its start on begin behind it
-begins_behind : (at whole from : ℕ) (ys : List Span) → AllByRecursion (λ y. at ≤ y.addr) ys → AllByRecursion (λ (y : Span). 192 ≤ y.whole) ys → IsRisingFrom from ys
+pub begins_behind : (at whole from : ℕ) (ys : List Span) → AllByRecursion (λ y. at ≤ y.addr) ys → AllByRecursion (λ (y : Span). 192 ≤ y.whole) ys → IsRisingFrom from ys
     → ((byte : ℕ) → at ≤ byte → byte < at + whole → count_by (in_range byte) ys ≡ 0) → IsRisingFrom (at + whole) ys
 begins_behind at whole from [] behind sizes rising none = tt
 begins_behind at whole from (y ∷ ys) behind sizes rising none = (first (cases_lt y.addr (at + whole)), rising.1)
@@ -92,7 +93,7 @@ pub page_size_large : (page : ℕ) → IsTrue (is_page_size page) → IsLarge pa
 page_size_large page is = among_sizes page page_sizes (record { lines = refl; least = lit≤ tt }, (record { lines = refl; least = lit≤ tt }, (record { lines = refl; least = lit≤ tt }, (record { lines = refl; least = lit≤ tt }, (record { lines = refl; least = lit≤ tt }, (record { lines = refl; least = lit≤ tt }, (record { lines = refl; least = lit≤ tt }, (record { lines = refl; least = lit≤ tt }, tt)))))))) is
 
 -- a multiple of a multiple of a cache line is one
-multiple_through : (n unit : ℕ) → unit % 64 ≡ 0 → n % unit ≡ 0 → n % 64 ≡ 0
+pub multiple_through : (n unit : ℕ) → unit % 64 ≡ 0 → n % unit ≡ 0 → n % 64 ≡ 0
 multiple_through n unit lines aligned =
     let whole : n / unit * (unit / 64) * 64 ≡ n = mul_assoc (n / unit) (unit / 64) 64 ∙ ap (λ (u : ℕ). n / unit * u) (multiple_is unit 64 lines) ∙ multiple_is n unit aligned in
     subst (λ (m : ℕ). m % 64 ≡ 0) whole (mul-mod_left (n / unit * (unit / 64)) 64)
@@ -120,18 +121,18 @@ gained heap run test = omega (
 )
 
 -- the heap of a socket has no segments but pages
-no_chunks : (heap : PlainHeap) → IsSome heap.serves → HasKind heap.serves heap.pages heap.chunks → heap.chunks ≡ []
+pub no_chunks : (heap : PlainHeap) → IsSome heap.serves → HasKind heap.serves heap.pages heap.chunks → heap.chunks ≡ []
 no_chunks heap some kind = by_socket heap.serves some kind
   where
     by_socket : (serves : Option ℕ) → IsSome serves → HasKind serves heap.pages heap.chunks → heap.chunks ≡ []
     by_socket (Some socket) _ none = none
     by_socket None some _ = absurd (false≢true some)
 
-only_pages : (heap : PlainHeap) (test : Extent → Bool) → heap.chunks ≡ [] → count_by test (segments_of heap) ≡ count_by test (map page_extent heap.pages)
+pub only_pages : (heap : PlainHeap) (test : Extent → Bool) → heap.chunks ≡ [] → count_by test (segments_of heap) ≡ count_by test (map page_extent heap.pages)
 only_pages heap test none = omega (arith, count_by-append test (map page_extent heap.pages) (map chunk_extent heap.chunks), ap (λ chunks. count_by test (map chunk_extent chunks)) none)
 
 -- a run between the elements of a tiled heap
-pub run_gap : (heap : PlainHeap) (run : Run) (xs ys : List Span) → IsTiled heap → CanGrow heap run → IsPartedAt heap.ranges run.addr xs ys
+pub run_gap : (heap : PlainHeap) (run : Run) (xs ys : List Span) → IsTiled heap → CanGrow run heap → IsPartedAt heap.ranges run.addr xs ys
     → IsGap (segments_of heap) (map page_extent (heap.pages ++ run_pages run) ++ map chunk_extent heap.chunks) heap.insertions xs ys (free_range run.addr (run_bytes run) run.list run.page (heap.insertions + 1))
 run_gap heap run xs ys tiled can part =
     let tiling : IsTiling (segments_of heap) heap.insertions (xs ++ ys) = subst (λ zs. IsTiling (segments_of heap) heap.insertions zs) part.ranges tiled.tiling in
@@ -156,11 +157,11 @@ run_gap heap run xs ys tiled can part =
     }
 
 -- no element begins where a run does
-behind_run : (whole at : ℕ) (ys : List Span) → 0 < whole → IsRisingFrom (at + whole) ys → AllByRecursion (λ y. at < y.addr) ys
+pub behind_run : (whole at : ℕ) (ys : List Span) → 0 < whole → IsRisingFrom (at + whole) ys → AllByRecursion (λ y. at < y.addr) ys
 behind_run whole at ys some rising = AllByRecursion-weaker (λ (y : Span). at + whole ≤ y.addr) (λ y. at < y.addr) (λ y behind. omega arith) ys (rising_behind (at + whole) ys rising)
 
 -- the law of a growth: the heap stays tiled
-pub grow-tiled : (heap : PlainHeap) (run : Run) → IsTiled heap → CanGrow heap run → IsTiled (after_grow run heap)
+pub grow-tiled : (heap : PlainHeap) (run : Run) → IsTiled heap → CanGrow run heap → IsTiled (after_grow run heap)
 unfolding after_grow after_insertion
 grow-tiled heap run tiled can =
     let range = free_range run.addr (run_bytes run) run.list run.page (heap.insertions + 1) in
@@ -172,6 +173,7 @@ grow-tiled heap run tiled can =
     ap (λ zs. with_stretch range zs) part.ranges ∙ with_stretch-parts range xs ys part.below over in
     record {
       kind = kind_kept heap.serves can.serves tiled.kind;
+      laid = laid_grown heap run can tiled.laid;
       tiling = subst (λ zs. IsTiling more (heap.insertions + 1) zs) (sym ranges) (gap_tiling (segments_of heap) more heap.insertions xs ys range gap);
     }
   where

@@ -12,7 +12,7 @@ use Rattle.hp_heap.specs.Joining.{after_insertion}
 use Rattle.hp_heap.specs.Placing.{after_alloc}
 use Rattle.hp_heap.specs.Growing.{run_bytes, run_page, run_pages, after_grow, IsAlike, CanGrow, IsGrownTo, IsNextRun, IsRun, run_with}
 use Rattle.hp_heap.proofs.Counting.{count_by-append, count_pages}
-use Rattle.hp_heap.proofs.SocketSearch.{after_alloc-kept}
+use Rattle.hp_heap.proofs.AllocKept.{after_alloc-kept}
 
 -- the pages of a run are of its size, socket and base
 alike_from : (run next : Run) (i n : ℕ) → next.page ≡ run.page → next.socket ≡ run.socket → next.addr + run.first * run.page ≡ run.addr + next.first * run.page
@@ -29,7 +29,7 @@ pages_alike run next behind = alike_from run next 0 run.count behind.page behind
     (omega (arith, behind.addr, ap (λ (n : ℕ). n * run.page) behind.first))
 
 -- a run right behind the pages of a heap may come
-pub next_can_grow : (heap : PlainHeap) (run next : Run) → IsGrownTo heap run → IsNextRun run next → IsRun next → CanGrow heap next
+pub next_can_grow : (heap : PlainHeap) (run next : Run) → IsGrownTo run heap → IsNextRun run next → IsRun next → CanGrow next heap
 next_can_grow heap run next grown behind is = record {
   serves = grown.serves;
   some = is.some;
@@ -70,7 +70,7 @@ pages_in_row run i (suc n) m =
 abbrev page_with : ℕ → ℕ → ℕ → ℕ → ℕ → HeapPage
 page_with addr page list slot socket = record { addr = addr; page = page; list = list; slot = slot; socket = socket }
 
-same_page : (a a' p p' l l' s s' k k' : ℕ) → a ≡ a' → p ≡ p' → l ≡ l' → s ≡ s' → k ≡ k' → page_with a p l s k ≡ page_with a' p' l' s' k'
+pub same_page : (a a' p p' l l' s s' k k' : ℕ) → a ≡ a' → p ≡ p' → l ≡ l' → s ≡ s' → k ≡ k' → page_with a p l s k ≡ page_with a' p' l' s' k'
 same_page a a' p p' l l' s s' k k' addr page list slot socket =
     ap (λ (x : ℕ). page_with x p l s k) addr ∙ ap (λ (x : ℕ). page_with a' x l s k) page ∙ ap (λ (x : ℕ). page_with a' p' x s k) list
     ∙ ap (λ (x : ℕ). page_with a' p' l' x k) slot ∙ ap (λ (x : ℕ). page_with a' p' l' s' x) socket
@@ -99,18 +99,18 @@ pages_with run next behind =
     ∙ pages_in_row run 0 run.count next.count
 
 -- the heap that a run right behind its pages leaves
-pub grown_next : (heap : PlainHeap) (run next : Run) → IsGrownTo heap run → IsNextRun run next → IsGrownTo (after_grow next heap) (run_with run next)
+pub grown_next : (heap : PlainHeap) (run next : Run) → IsGrownTo run heap → IsNextRun run next → IsGrownTo (run_with run next) (after_grow next heap)
 unfolding after_grow after_insertion
 grown_next heap run next grown behind = record { serves = grown.serves; pages = ap (λ pages. pages ++ run_pages next) grown.pages ∙ pages_with run next behind; chunks = grown.chunks }
 
 -- an allocation leaves the pages
-pub grown_alloc : (heap : PlainHeap) (run : Run) (participant : ℕ) (request : Request) (tag : Tag) → IsGrownTo heap run → IsGrownTo (after_alloc participant request tag heap) run
+pub grown_alloc : (heap : PlainHeap) (run : Run) (participant : ℕ) (request : Request) (tag : Tag) → IsGrownTo run heap → IsGrownTo run (after_alloc participant request tag heap)
 unfolding after_alloc
 grown_alloc heap run participant request tag grown =
-    let kept = after_alloc-kept heap request tag (chosen heap participant request) in
+    let kept = after_alloc-kept heap request tag (chosen participant request heap) in
     record { serves = subst (λ (o : Option ℕ). IsSome o) (sym kept.serves) grown.serves; pages = kept.pages ∙ grown.pages; chunks = kept.chunks ∙ grown.chunks }
 
 -- the heap of a socket opens with the pages of a run without pages
-pub grown_opening : (index socket : ℕ) (run : Run) → run.count ≡ 0 → IsGrownTo (opening_heap index (Some socket)) run
+pub grown_opening : (index socket : ℕ) (run : Run) → run.count ≡ 0 → IsGrownTo run (opening_heap index (Some socket))
 unfolding run_pages
 grown_opening index socket run none = record { serves = refl; pages = ap (λ (n : ℕ). map (run_page run) (range_with_len 0 n)) (sym none); chunks = refl }

@@ -1,7 +1,6 @@
 -- One more entry: a legal history stays legal, and leaves the next heap.
 use Rattle.std.proofs.Common.{◌≡◌, ℕ, List, [], ◌∷◌, ◌++◌, Option, Some, None, refl, sym, ap, subst, ◌∙◌, Bool, true, false, cond, not, ◌&&◌, leb}
 use Rattle.std.proofs.lemmas.List.Sums.{fold-append}
-use Rattle.std.specs.List.{find}
 use Rattle.hp_base.specs.declared.span.Span.{Span}
 use Rattle.hp_base.specs.declared.chunk.Chunk.{Chunk}
 use Rattle.hp_base.specs.declared.request.Request.{Request}
@@ -16,9 +15,9 @@ use Rattle.hp_heap.specs.Joining.{after_insertion, busy_at, is_zone_range, after
 use Rattle.hp_heap.specs.Resizing.{after_resize, after_resize_of, bytes_needed, bytes_together, next_free, with_new_size, taken_over}
 use Rattle.hp_heap.specs.Cut.{after_cut, after_cut_of, cut_at, PageCut}
 use Rattle.hp_heap.specs.Growing.{after_grow}
-use Rattle.hp_heap.specs.Chunks.{after_chunk, after_unchunk, without_chunk, is_chunk_at, after_share, after_unshare}
-use Rattle.hp_heap.specs.Step.{after, after_name, answer_of}
-use Rattle.hp_heap.specs.History.{after_entry, replay, IsLegal, opening_of, StandsFor}
+use Rattle.hp_heap.specs.Chunks.{after_chunk, after_unchunk, without_chunk, chunk_at, after_share, after_unshare}
+use Rattle.hp_heap.specs.Step.{after, after_name}
+use Rattle.hp_heap.specs.History.{after_entry, replay, IsLegal, IsLegalEntry, opening_of, StandsFor}
 
 -- a heap is of the same place and kind as another
 pub record IsSameHeap (old new : PlainHeap) : Type 0 where
@@ -29,7 +28,7 @@ same_by : (heap : PlainHeap) (b : Bool) (x y : PlainHeap) → IsSameHeap heap x 
 same_by heap true x y first second = first
 same_by heap false x y first second = second
 
-same_placed : (heap : PlainHeap) (request : Request) (tag : Tag) (o : Option Span) → IsSameHeap heap (after_choice heap request tag o)
+same_placed : (heap : PlainHeap) (request : Request) (tag : Tag) (o : Option Span) → IsSameHeap heap (after_choice o request tag heap)
 unfolding placed
 same_placed heap request tag None = record { index = refl; serves = refl }
 same_placed heap request tag (Some range) = record { index = refl; serves = refl }
@@ -37,15 +36,15 @@ same_placed heap request tag (Some range) = record { index = refl; serves = refl
 same_freed : (heap : PlainHeap) (zone : Bool) (o : Option Span) → IsSameHeap heap (after_free_of o zone heap)
 unfolding after_insertion
 same_freed heap zone None = record { index = refl; serves = refl }
-same_freed heap zone (Some range) = same_by heap (is_zone_range range && not zone) heap (after_insertion range.addr range.whole range.list range.page heap) (record { index = refl; serves = refl }) (record { index = refl; serves = refl })
+same_freed heap zone (Some range) = same_by heap (is_zone_range range && not zone) heap (after_insertion range heap) (record { index = refl; serves = refl }) (record { index = refl; serves = refl })
 
 same_resized : (heap : PlainHeap) (size : ℕ) (o : Option Span) → IsSameHeap heap (after_resize_of o size heap)
 same_resized heap size None = record { index = refl; serves = refl }
 same_resized heap size (Some range) =
     let fits = leb (bytes_needed range size) range.whole in
-    let taken = taken_over heap range (next_free heap range) size in
-    let fits_both = leb (bytes_needed range size) (bytes_together range (next_free heap range)) in
-    same_by heap fits (with_new_size heap range size) (cond fits_both taken heap) (record { index = refl; serves = refl })
+    let taken = taken_over range (next_free range heap) size heap in
+    let fits_both = leb (bytes_needed range size) (bytes_together range (next_free range heap)) in
+    same_by heap fits (with_new_size range size heap) (cond fits_both taken heap) (record { index = refl; serves = refl })
     (same_by heap fits_both taken heap (record { index = refl; serves = refl }) (record { index = refl; serves = refl }))
 
 same_cut : (heap : PlainHeap) (o : Option PageCut) → IsSameHeap heap (after_cut_of o heap)
@@ -59,7 +58,7 @@ same_without heap (Some chunk) = record { index = refl; serves = refl }
 -- no call changes the place or the kind of a heap
 pub after-same : (participant : ℕ) (step : HeapCall) (heap : PlainHeap) → IsSameHeap heap (after participant step heap)
 unfolding after after_alloc after_free after_resize after_grow after_insertion after_cut after_name after_chunk after_unchunk after_share after_unshare
-after-same participant (call.Alloc request tag) heap = same_placed heap request tag (chosen heap participant request)
+after-same participant (call.Alloc request tag) heap = same_placed heap request tag (chosen participant request heap)
 after-same participant (call.Find tag) heap = record { index = refl; serves = refl }
 after-same participant (call.Free addr zone) heap = same_freed heap zone (busy_at addr heap)
 after-same participant (call.Resize addr size) heap = same_resized heap size (busy_at addr heap)
@@ -69,7 +68,7 @@ after-same participant call.Stats heap = record { index = refl; serves = refl }
 after-same participant (call.Name name socket) heap = record { index = refl; serves = refl }
 after-same participant call.Unname heap = record { index = refl; serves = refl }
 after-same participant (call.Chunk chunk) heap = record { index = refl; serves = refl }
-after-same participant (call.Unchunk addr len) heap = same_without heap (find (is_chunk_at addr len) heap.chunks)
+after-same participant (call.Unchunk addr len) heap = same_without heap (chunk_at addr len heap)
 after-same participant (call.Share addr len) heap = record { index = refl; serves = refl }
 after-same participant (call.Unshare addr len) heap = record { index = refl; serves = refl }
 
@@ -79,9 +78,9 @@ replay-push heap history entry = fold-append after_entry heap history (entry ∷
 
 -- a legal history stays legal with a call's entry
 pub IsLegal-push : (heap : PlainHeap) (history : List Entry) (entry : Entry) → IsLegal heap history
-    → entry.answer ≡ answer_of entry.caller.participant entry.call (replay heap history) → IsLegal heap (history ++ entry ∷ [])
-IsLegal-push heap [] entry legal answered = (answered, tt)
-IsLegal-push heap (first ∷ history) entry legal answered = (legal.0, IsLegal-push (after_entry heap first) history entry legal.1 answered)
+    → IsLegalEntry (replay heap history) entry → IsLegal heap (history ++ entry ∷ [])
+IsLegal-push heap [] entry legal next = (next, tt)
+IsLegal-push heap (first ∷ history) entry legal next = (legal.0, IsLegal-push (after_entry heap first) history entry legal.1 next)
 
 after_entry-same : (heap : PlainHeap) (entry : Entry) → IsSameHeap heap (after_entry heap entry)
 unfolding after_entry
@@ -103,12 +102,12 @@ opening_of-replay index serves history =
 
 -- the heap stands for its history, one entry on
 pub StandsFor-push : (heap : PlainHeap) (history : List Entry) (entry : Entry) → StandsFor heap history
-    → entry.answer ≡ answer_of entry.caller.participant entry.call heap → StandsFor (after_entry heap entry) (history ++ entry ∷ [])
+    → IsLegalEntry heap entry → StandsFor (after_entry heap entry) (history ++ entry ∷ [])
 unfolding after_entry
-StandsFor-push heap history entry stands answered =
+StandsFor-push heap history entry stands next =
     let same = after-same entry.caller.participant entry.call heap in
     let opening : opening_of (after_entry heap entry) ≡ opening_of heap = ap (λ (i : ℕ). opening_heap i (after_entry heap entry).serves) same.index ∙ ap (λ (s : Option ℕ). opening_heap heap.index s) same.serves in
     record {
-      legal = subst (λ from. IsLegal from (history ++ entry ∷ [])) (sym opening) (IsLegal-push (opening_of heap) history entry stands.legal (answered ∙ ap (λ h. answer_of entry.caller.participant entry.call h) stands.left));
+      legal = subst (λ from. IsLegal from (history ++ entry ∷ [])) (sym opening) (IsLegal-push (opening_of heap) history entry stands.legal (subst (λ h. IsLegalEntry h entry) stands.left next));
       left = ap (λ h. after_entry h entry) stands.left ∙ sym (replay-push (opening_of heap) history entry) ∙ ap (λ from. replay from (history ++ entry ∷ [])) (sym opening);
     }

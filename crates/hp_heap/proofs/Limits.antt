@@ -1,16 +1,14 @@
 -- Elements that tile segments end where segments do, so in the lower half of the addresses.
-use Rattle.std.proofs.Common.{◌≡◌, ℕ, zero, suc, ◌+◌, ◌-◌, ◌*◌, ◌^◌, ◌<◌, ◌≤◌, Bool, true, false, cond, List, [], ◌∷◌, ◌++◌, map, refl, sym, ap, subst, arith, All, count_by, append_assoc}
+use Rattle.std.proofs.Common.{◌≡◌, ℕ, zero, suc, ◌+◌, ◌-◌, ◌^◌, ◌<◌, ◌≤◌, Bool, true, false, cond, List, [], ◌∷◌, ◌++◌, refl, sym, subst, arith, All, count_by, append_assoc, leb, ltb}
 use Rattle.std.proofs.lemmas.Bool.{and_parts, ltb-true}
 use Rattle.std.proofs.lemmas.Bool.Decides.{nat_tests}
-use Rattle.std.specs.List.{AllByRecursion, range_with_len}
+use Rattle.std.specs.List.{AllByRecursion}
 use Rattle.hp_base.specs.declared.span.Span.{Span}
-use Rattle.hp_base.specs.declared.row.Run.{Run}
-use Rattle.hp_heap.specs.PlainHeap.{Extent, end_of, page_extent}
+use Rattle.hp_heap.specs.PlainHeap.{Extent, end_of}
 use Rattle.hp_heap.specs.Tiling.{IsTiling, IsElement, IsRisingFrom, in_range, in_segment}
 use Rattle.hp_heap.specs.Statistics.{total_bytes}
-use Rattle.hp_heap.specs.Growing.{run_page, run_pages, run_bytes}
-use Rattle.hp_heap.specs.Free.{HasSpace}
-use Rattle.hp_heap.specs.Inside.{IsInLimits}
+use Rattle.hp_heap.specs.FreeSearch.{HasSpace}
+use Rattle.hp_heap.proofs.LaidLemmas.{IsInLimits}
 use Rattle.hp_heap.proofs.Counting.{count_by-append, count_by-cons, total-cons}
 
 -- a byte of some segment is within the limits
@@ -19,7 +17,7 @@ in_limits byte [] limits some = absurd (omega (arith, some))
 in_limits byte (s ∷ segments) limits some = by_test (in_segment byte s) refl (λ rest. in_limits byte segments limits.1 rest)
   where
     by_test : (b : Bool) → in_segment byte s ≡ b → (0 < count_by (in_segment byte) segments → byte < 2 ^ 63) → byte < 2 ^ 63
-    by_test true inside rest = let before : byte < s.addr + s.len = ltb-true byte (s.addr + s.len) (and_parts _ _ inside).1 in omega (arith, limits.0)
+    by_test true inside rest = let before : byte < s.addr + s.len = ltb-true byte (s.addr + s.len) (and_parts (leb s.addr byte) (ltb byte (s.addr + s.len)) inside).1 in omega (arith, limits.0)
     by_test false outside rest =
         let weight : cond {A = ℕ} (in_segment byte s) 1 0 ≡ 0 = rw outside refl in
         rest (omega (arith, some, count_by-cons (in_segment byte) s segments, weight))
@@ -53,15 +51,3 @@ All-spaces (x ∷ xs) all (suc k) d within = All-spaces xs all.1 k d (omega arit
 pub total_below : (from limit : ℕ) (ranges : List Span) → from ≤ limit → IsRisingFrom from ranges → AllByRecursion (λ r. end_of r ≤ limit) ranges → from + total_bytes ranges ≤ limit
 total_below from limit [] within rising ends = omega arith
 total_below from limit (x ∷ xs) within rising ends = omega (arith, rising.0, total-cons x xs, total_below (end_of x) limit xs ends.0 rising.1 ends.1)
-
--- the pages of a run are within the limits
-pages_from : (run : Run) (i n : ℕ) → run.addr + (i + n) * run.page ≤ 2 ^ 63 → AllByRecursion IsInLimits (map page_extent (map (run_page run) (range_with_len i n)))
-pages_from run i zero within = tt
-pages_from run i (suc n) within =
-    let whole : (i + suc n) * run.page ≡ i * run.page + run.page + n * run.page = grind arith in
-    let next : (i + 1 + n) * run.page ≡ (i + suc n) * run.page = ap (λ (m : ℕ). m * run.page) (omega arith) in
-    (omega (arith, whole), pages_from run (i + 1) n (omega (arith, next)))
-
-pub run_limits : (run : Run) → run.addr + run_bytes run ≤ 2 ^ 63 → AllByRecursion IsInLimits (map page_extent (run_pages run))
-unfolding run_pages
-run_limits run within = pages_from run 0 run.count (let same : 0 + run.count ≡ run.count = omega arith in subst (λ (m : ℕ). run.addr + m * run.page ≤ 2 ^ 63) (sym same) within)

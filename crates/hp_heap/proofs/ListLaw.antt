@@ -29,7 +29,7 @@ put_all_by : (P : Span → Type 0) (x y : Span) (ys zs : List Span) (b : Bool) �
 put_all_by P x y ys zs true here there rest all = (there, all)
 put_all_by P x y ys zs false here there rest all = (here, (there, rest))
 
-put_all : (P : Span → Type 0) (x : Span) (ys : List Span) → P x → AllByRecursion P ys → AllByRecursion P (by_falling_stamp x ys)
+pub put_all : (P : Span → Type 0) (x : Span) (ys : List Span) → P x → AllByRecursion P ys → AllByRecursion P (by_falling_stamp x ys)
 put_all P x [] here all = (here, tt)
 put_all P x (y ∷ ys) here all = put_all_by P x y ys (by_falling_stamp x ys) (ltb (stamp_of x) (stamp_of y)) here all.0 all.1 (put_all P x ys here all.1)
 

@@ -66,7 +66,7 @@ module _ (r : Span) (d size insertions : ℕ) (tag : Tag) (placing : IsPlacing r
       let more : 192 < end_of r - (d + size) = ltb-true 192 (end_of r - (d + size)) tested.behind in (
         record { line = placing.line; size = record { lines = omega (arith, placing.line, placing.at_line); least = least }; busy = tt; stamp = omega arith },
         (
-          record { line = omega (arith, placing.at_line, placing.before); size = record { lines = omega (arith, placing.lines, placing.before); least = omega (arith, placing.some, placing.lines, placing.before) }; busy = (omega arith, omega (arith, placing.before)); stamp = omega arith },
+          record { line = omega (arith, placing.at_line, placing.before); size = record { lines = omega (arith, placing.lines, placing.before); least = omega (arith, placing.some, placing.lines, placing.before) }; busy = record { pad_lines = omega (arith, placing.before); pad_small = omega arith; size_lines = placing.lines; size_some = placing.some; room = omega (arith, placing.before) }; stamp = omega arith },
           (record { line = omega (arith, placing.at_line, placing.lines); size = record { lines = omega (arith, placing.line, placing.whole, placing.at_line, placing.lines); least = omega arith }; busy = tt; stamp = omega arith }, tt),
         ),
       )
@@ -74,19 +74,19 @@ module _ (r : Span) (d size insertions : ℕ) (tag : Tag) (placing : IsPlacing r
       let least : 192 ≤ d - 128 - r.addr = leb-true 192 (d - 128 - r.addr) tested.before in (
         record { line = placing.line; size = record { lines = omega (arith, placing.line, placing.at_line); least = least }; busy = tt; stamp = omega arith },
         (
-          record { line = omega (arith, placing.at_line, placing.before); size = record { lines = omega (arith, placing.line, placing.whole, placing.at_line, placing.before, placing.behind); least = omega (arith, placing.some, placing.lines, placing.before, placing.behind) }; busy = (omega arith, omega (arith, placing.before, placing.behind)); stamp = omega arith },
+          record { line = omega (arith, placing.at_line, placing.before); size = record { lines = omega (arith, placing.line, placing.whole, placing.at_line, placing.before, placing.behind); least = omega (arith, placing.some, placing.lines, placing.before, placing.behind) }; busy = record { pad_lines = omega (arith, placing.before); pad_small = omega arith; size_lines = placing.lines; size_some = placing.some; room = omega (arith, placing.before, placing.behind) }; stamp = omega arith },
           tt,
         ),
       )
   pieces_elements false true tested =
       let small : d - 128 - r.addr < 192 = leb-false 192 (d - 128 - r.addr) tested.before in
       let more : 192 < end_of r - (d + size) = ltb-true 192 (end_of r - (d + size)) tested.behind in (
-        record { line = placing.line; size = record { lines = omega (arith, placing.line, placing.lines, placing.at_line, placing.before); least = omega (arith, placing.some, placing.lines, placing.before) }; busy = (small, omega (arith, placing.before)); stamp = omega arith },
+        record { line = placing.line; size = record { lines = omega (arith, placing.line, placing.lines, placing.at_line, placing.before); least = omega (arith, placing.some, placing.lines, placing.before) }; busy = record { pad_lines = omega (arith, placing.line, placing.at_line, placing.before); pad_small = small; size_lines = placing.lines; size_some = placing.some; room = omega (arith, placing.before) }; stamp = omega arith },
         (record { line = omega (arith, placing.at_line, placing.lines); size = record { lines = omega (arith, placing.line, placing.whole, placing.at_line, placing.lines); least = omega arith }; busy = tt; stamp = omega arith }, tt),
       )
   pieces_elements false false tested =
       let small : d - 128 - r.addr < 192 = leb-false 192 (d - 128 - r.addr) tested.before in
-      (record { line = placing.line; size = record { lines = omega (arith, placing.whole); least = omega (arith, placing.some, placing.lines, placing.before, placing.behind) }; busy = (small, omega (arith, placing.before, placing.behind)); stamp = omega arith }, tt)
+      (record { line = placing.line; size = record { lines = omega (arith, placing.whole); least = omega (arith, placing.some, placing.lines, placing.before, placing.behind) }; busy = record { pad_lines = omega (arith, placing.line, placing.at_line, placing.before); pad_small = small; size_lines = placing.lines; size_some = placing.some; room = omega (arith, placing.before, placing.behind) }; stamp = omega arith }, tt)
 
   -- their stamps differ, and are later than those before
   pub pieces_stamps : (F B : Bool) (stamp : ℕ) → count_by (has_stamp stamp) (pieces_with F B r d size tag insertions) ≤ 1

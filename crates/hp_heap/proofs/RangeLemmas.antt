@@ -1,15 +1,11 @@
 -- Elements in a row: what holds of each, by rising address, and apart.
-use Rattle.std.proofs.Common.{◌≡◌, ℕ, true, false, nat_lt, zero, suc, ◌+◌, ◌<◌, ◌≤◌, List, [], ◌∷◌, ◌++◌, length, get_or, take, drop, refl, sym, subst, arith, add-one}
-use Rattle.std.proofs.lemmas.Bool.{ltb-false, ltb-true, ne_eqb, eq-eqb}
-use Rattle.std.proofs.lemmas.List.{get_or-drop, get_or-take, length-drop, length-take}
-use Rattle.std.proofs.lemmas.List.Elements.{recursion_from_All}
+use Rattle.std.proofs.Common.{◌≡◌, ℕ, zero, suc, ◌+◌, ◌<◌, ◌≤◌, List, [], ◌∷◌, ◌++◌, length, get_or, take, drop, refl, sym, subst, arith, add-one}
+use Rattle.std.proofs.lemmas.Bool.{ne_eqb, eq-eqb}
 use Rattle.std.specs.List.{AllByRecursion}
-use Rattle.std.specs.List.Sorted.{IsNonDecreasingBy, IsPartitionPoint}
 use Rattle.hp_base.specs.declared.span.Span.{Span}
 use Rattle.hp_heap.specs.PlainHeap.{end_of}
 use Rattle.hp_heap.specs.Tiling.{IsRisingFrom, IsApart, IsApartFrom}
 use Rattle.hp_heap.specs.Placing.{replaced}
-use Rattle.hp_heap.specs.Splice.{IsPlaceOf}
 
 module _ {X : Type 0} (P : X → Type 0) where
   pub AllByRecursion-append : (xs ys : List X) → AllByRecursion P xs → AllByRecursion P ys → AllByRecursion P (xs ++ ys)
@@ -109,24 +105,3 @@ pub rising_drop : (from at i : ℕ) (xs : List Span) (d : Span) → IsRisingFrom
 rising_drop from at i [] d rising within above = absurd (omega arith)
 rising_drop from at zero (x ∷ xs) d rising within above = (above, AllByRecursion-weaker (λ (y : Span). end_of x ≤ y.addr) (λ y. at ≤ y.addr) (λ y behind. omega arith) xs (rising_behind (end_of x) xs rising.1))
 rising_drop from at (suc i) (x ∷ xs) d rising within above = rising_drop (end_of x) at i xs d rising.1 (omega arith) above
-
--- of elements that rise, a later one begins no lower
-pub rising_ordered : (from : ℕ) (xs : List Span) → IsRisingFrom from xs → IsNonDecreasingBy (λ (x : Span). x.addr) xs
-rising_ordered from [] rising i j d before within = absurd (omega arith)
-rising_ordered from (x ∷ xs) rising zero zero d before within = omega arith
-rising_ordered from (x ∷ xs) rising zero (suc j) d before within =
-    let later = rising_higher (end_of x) j xs d rising.1 (omega arith) in omega arith
-rising_ordered from (x ∷ xs) rising (suc i) zero d before within = absurd (omega arith)
-rising_ordered from (x ∷ xs) rising (suc i) (suc j) d before within = rising_ordered (end_of x) xs rising.1 i j d (omega arith) (omega arith)
-
--- where the elements below an address end is its place
-pub place_at_point : (addr place : ℕ) (xs : List Span) → place ≤ length xs
-    → IsPartitionPoint (λ (x : Span). nat_lt x.addr addr ≡ true) (λ (x : Span). nat_lt x.addr addr ≡ false) xs place → IsPlaceOf xs addr place
-place_at_point addr place xs within point = record {
-  within = within;
-  before = recursion_from_All (λ x. x.addr < addr) (take place xs) (λ k d lt.
-      let below : k < place = omega (arith, lt, length-take place xs) in
-      subst (λ (x : Span). x.addr < addr) (sym (get_or-take place xs k d below)) (ltb-true _ _ (point.0 k d (omega arith) below)));
-  behind = recursion_from_All (λ x. addr ≤ x.addr) (drop place xs) (λ k d lt.
-      subst (λ (x : Span). addr ≤ x.addr) (sym (get_or-drop place xs k d)) (ltb-false _ _ (point.1 (place + k) d (omega arith) (omega (arith, lt, length-drop place xs)))));
-}

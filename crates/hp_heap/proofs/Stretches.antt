@@ -51,7 +51,7 @@ stretch_to-some p (s ∷ ps) q r = refl
 
 stretch_to-joined : (p : Span) (ps : List Span) (q x : Span) → IsJoint q x → IsApartFrom p (ps ++ (q ∷ [])) → stretch_to p ps (joined_down q x) ≡ record { left = p ∷ ps; range = joined_down q x }
 stretch_to-joined p [] q x facts apart =
-    rw (joins_second p (joined_down q x) q (facts.free_second ∙ sym facts.free) (sym facts.list) refl ∙ apart.0) refl
+    rw (joins_second p (joined_down q x) q (facts.free_second ∙ sym facts.free) refl refl ∙ apart.0) refl
 stretch_to-joined p (s ∷ ps) q x facts apart = refl
 
 pub stretch_down-once : (b : Bool) (ps : List Span) (q x : Span) → joins q x ≡ b → IsApart (ps ++ (q ∷ [])) → stretch_down (ps ++ (q ∷ [])) x ≡ down_once b ps q x

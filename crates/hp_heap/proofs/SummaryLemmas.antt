@@ -1,8 +1,7 @@
 -- The statistics of elements and of one more, and their bounds.
-use Rattle.std.proofs.Common.{◌≡◌, ℕ, zero, suc, ◌+◌, ◌<◌, ◌≤◌, Bool, true, false, not, cond, List, [], ◌∷◌, ◌++◌, length, get_or, take, sym, ap, ◌∙◌, arith, max, append-nil}
-use Rattle.std.proofs.lemmas.List.{take_more}
+use Rattle.std.proofs.Common.{◌≡◌, ℕ, zero, suc, ◌+◌, ◌≤◌, Bool, true, false, not, cond, List, [], ◌∷◌, ◌++◌, length, sym, ap, ◌∙◌, arith, max, append-nil}
 use Rattle.std.proofs.lemmas.List.Elements.{filter-append}
-use Rattle.std.proofs.lemmas.List.Sums.{sum_by_push, sum_by-cons, sum_by-take-le, fold-append}
+use Rattle.std.proofs.lemmas.List.Sums.{count_by-le-length, sum_by_push, sum_by-cons, fold-append}
 use Rattle.std.specs.List.{filter}
 use Rattle.hp_base.specs.declared.span.Span.{Span}
 use Rattle.hp_base.specs.declared.stats.Stats.{Stats}
@@ -56,7 +55,10 @@ busy_more stats xs x busy is =
     (omega (arith, ap (λ z. z.busy) is, sum_by_push (λ (y : Span). cond (not (is_free y)) 1 0) xs x, no))
     (omega (arith, ap (λ z. z.frees) is, sum_by_push (λ (y : Span). cond (is_free y) 1 0) xs x, yes))
 
--- bounds of the first elements' statistics
-pub total_taken : (xs : List Span) (i : ℕ) (d : Span) → i < length xs → total_bytes (take i xs) + (get_or xs i d).whole ≤ total_bytes xs
-total_taken xs i d within =
-    omega (arith, ap total_bytes (take_more xs i d within), sum_by_push (λ (y : Span). y.whole) (take i xs) (get_or xs i d), sum_by-take-le (λ (y : Span). y.whole) xs (i + 1))
+-- there are no more busy or free elements than elements
+pub record IsCounted (xs : List Span) : Type 0 where
+  pub busy : (statistics_of_ranges xs).busy ≤ length xs
+  pub frees : (statistics_of_ranges xs).frees ≤ length xs
+
+pub count_within : (xs : List Span) → IsCounted xs
+count_within xs = record { busy = count_by-le-length (λ (y : Span). not (is_free y)) xs; frees = count_by-le-length is_free xs }

@@ -21,19 +21,19 @@ use Rattle.hp_heap.specs.Joining.{with_stretch, after_insertion, busy_at, after_
 use Rattle.hp_heap.specs.Resizing.{after_resize, can_resize}
 use Rattle.hp_heap.specs.Cut.{cut_at, after_cut}
 use Rattle.hp_heap.specs.Growing.{run_pages, after_grow}
-use Rattle.hp_heap.specs.Chunks.{after_chunk, after_unchunk, after_share, after_unshare}
+use Rattle.hp_heap.specs.Chunks.{after_chunk, after_unchunk, chunk_at, after_share, after_unshare}
 use Rattle.hp_heap.specs.Statistics.{statistics_of}
 use Rattle.hp_heap.specs.Step.{after, answer_of, after_name, found}
 
 -- the heap after calls of participant 0, and what the last of them answers
-abbrev heap_after : PlainHeap → List HeapCall → PlainHeap
+abbrev pub heap_after : PlainHeap → List HeapCall → PlainHeap
 heap_after heap [] = heap
 heap_after heap (first ∷ calls) = heap_after (after 0 first heap) calls
 
-abbrev tag_of : ℕ → Tag
+abbrev pub tag_of : ℕ → Tag
 tag_of line = record { who = 0; zone = false; number = line }
 
-abbrev request : (size align bound : ℕ) → IsAccepted size align bound → Request
+abbrev pub request : (size align bound : ℕ) → IsAccepted size align bound → Request
 request size align bound accepted = record { size = size; align = align; bound = bound; flags = 0; accepted = accepted }
 
 -- a heap opens with its socket's name
@@ -187,7 +187,7 @@ module _ (accepted_1024 : IsAccepted 1024 64 0) (accepted_bounded : IsAccepted 1
   other_participant = refl
 
   chunk_gone : (heap_after external_heap (call.Unshare 0x7000000000 (2 ^ 22) ∷ call.Unchunk 0x7000000000 (2 ^ 22) ∷ [])).ranges ≡ []
-  unfolding after after_name after_chunk after_share after_unshare after_unchunk
+  unfolding after after_name after_chunk after_share after_unshare after_unchunk chunk_at
   chunk_gone = refl
 
   -- the statistics of one allocation in a page

@@ -34,21 +34,21 @@ unfoldable pub is_hint : ℕ → Bool
 is_hint flags = has_bit flags 2
 
 -- whether a participant may use an element: in an external heap only one of a chunk that it has attached
-unfoldable pub is_attached : PlainHeap → ℕ → Span → Bool
-is_attached heap participant range =
+unfoldable pub is_attached : ℕ → PlainHeap → Span → Bool
+is_attached participant heap range =
     is_some heap.serves || list_any (λ chunk. (chunk.list == range.list) && has_bit chunk.attached participant) heap.chunks
 
 -- whether an element is a candidate: free, usable by the participant, and with a place for the request
-abbrev pub is_candidate : PlainHeap → ℕ → Request → Span → Bool
-is_candidate heap participant request range =
-    is_free range && (is_attached heap participant range && is_some (place_of range.addr (end_of range) request))
+abbrev pub is_candidate : ℕ → Request → PlainHeap → Span → Bool
+is_candidate participant request heap range =
+    is_free range && (is_attached participant heap range && is_some (place_of range.addr (end_of range) request))
 
-abbrev pub candidates : PlainHeap → ℕ → Request → List Span
-candidates heap participant request = filter (is_candidate heap participant request) heap.ranges
+abbrev pub candidates : ℕ → Request → PlainHeap → List Span
+candidates participant request heap = filter (is_candidate participant request heap) heap.ranges
 
 -- those whose page fits the flags
-abbrev pub fitting : Request → List Span → List Span
-fitting request ranges = filter (λ range. is_fitting_page request.flags range.page) ranges
+abbrev pub of_fitting_pages : Request → List Span → List Span
+of_fitting_pages request ranges = filter (λ range. is_fitting_page request.flags range.page) ranges
 
 -- the fitting ones where there are some; where there are none and the page sizes are a hint, all of them
 abbrev pub fitting_or_hinted : Request → List Span → List Span → List Span
@@ -56,21 +56,21 @@ fitting_or_hinted request all [] = if is_hint request.flags then all else []
 fitting_or_hinted request all (range ∷ ranges) = range ∷ ranges
 
 -- the elements among which the choice is made
-unfoldable pub eligible : PlainHeap → ℕ → Request → List Span
-eligible heap participant request =
-    let all = candidates heap participant request in
-    fitting_or_hinted request all (fitting request all)
+unfoldable pub eligible : ℕ → Request → PlainHeap → List Span
+eligible participant request heap =
+    let all = candidates participant request heap in
+    fitting_or_hinted request all (of_fitting_pages request all)
 
 -- the choice: of the least class among the eligible, and of that class the one that was inserted last
-pub record IsChoice (heap : PlainHeap) (participant : ℕ) (request : Request) (range : Span) : Type 0 where
-  pub among : Contains (eligible heap participant request) range
-  pub least : (other : Span) → Contains (eligible heap participant request) other → range_class range ≤ range_class other
-  pub newest : (other : Span) → Contains (eligible heap participant request) other
+pub record IsChoice (participant : ℕ) (request : Request) (heap : PlainHeap) (range : Span) : Type 0 where
+  pub among : Contains (eligible participant request heap) range
+  pub least : (other : Span) → Contains (eligible participant request heap) other → range_class range ≤ range_class other
+  pub newest : (other : Span) → Contains (eligible participant request heap) other
       → range_class other ≡ range_class range → stamp_of other ≤ stamp_of range
 
 -- there is nothing to choose from
-abbrev pub HasNoChoice : PlainHeap → ℕ → Request → Type 0
-HasNoChoice heap participant request = eligible heap participant request ≡ []
+abbrev pub HasNoChoice : ℕ → Request → PlainHeap → Type 0
+HasNoChoice participant request heap = eligible participant request heap ≡ []
 
 -- whether an element stands before another in the order of the search: a lower class, or the same class and inserted later
 unfoldable pub precedes : Span → Span → Bool
@@ -83,5 +83,5 @@ abbrev pub sooner : Span → Span → Span
 sooner first second = if precedes second first then second else first
 
 -- the choice, computed
-unfoldable pub chosen : PlainHeap → ℕ → Request → Option Span
-chosen heap participant request = reduce sooner (eligible heap participant request)
+unfoldable pub chosen : ℕ → Request → PlainHeap → Option Span
+chosen participant request heap = reduce sooner (eligible participant request heap)

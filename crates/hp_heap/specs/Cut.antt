@@ -4,8 +4,9 @@ use Rattle.std.specs.Option.{option_map, option_and_then}
 use Rattle.std.specs.List.{filter, find}
 use Rattle.hp_base.specs.Round.{floor_of, ceil_of}
 use Rattle.hp_base.specs.declared.span.Span.{Span}
+use Rattle.hp_base.specs.declared.span.SpanState.TheVariants.{Free}
 use Rattle.hp_base.specs.declared.row.Run.{Run}
-use Rattle.hp_heap.specs.PlainHeap.{PlainHeap, HeapPage, end_of, is_free, free_range}
+use Rattle.hp_heap.specs.PlainHeap.{PlainHeap, HeapPage, end_of, is_free}
 use Rattle.hp_heap.specs.Tiling.{range_at}
 use Rattle.hp_heap.specs.Placing.{replaced, only_if, count_if}
 
@@ -59,21 +60,21 @@ pub record PageCut : Type 0 where
 abbrev pub is_page_at : ℕ → ℕ → HeapPage → Bool
 is_page_at list addr page = (page.list == list) && (page.addr == addr)
 
-abbrev pub stretch_of : PlainHeap → Span → Option PageCut
-stretch_of heap range =
+abbrev pub stretch_of : Span → PlainHeap → Option PageCut
+stretch_of range heap =
     if nat_lt (cut_from range) (cut_to range)
     then option_map (λ page.
     record { range = range; from = cut_from range; to = cut_to range; slot = page.slot; socket = page.socket })
     (find (is_page_at range.list (cut_from range)) heap.pages)
     else None
 
-abbrev pub stretch_if_free : PlainHeap → Span → Option PageCut
-stretch_if_free heap range = if is_free range then stretch_of heap range else None
+abbrev pub stretch_if_free : Span → PlainHeap → Option PageCut
+stretch_if_free range heap = if is_free range then stretch_of range heap else None
 
 -- the pages that go at an address: the widest stretch in the element that contains it, where that is free, in the heap of a socket
 unfoldable pub cut_at : ℕ → PlainHeap → Option PageCut
 cut_at address heap =
-    if is_some heap.serves then option_and_then (stretch_if_free heap) (range_at address heap) else None
+    if is_some heap.serves then option_and_then (λ range. stretch_if_free range heap) (range_at address heap) else None
 
 -- the pages as a run
 abbrev pub run_of : PageCut → Run
@@ -91,8 +92,8 @@ abbrev pub rests_of : PageCut → ℕ → List Span
 rests_of cut insertions =
     let behind = nat_lt cut.to (end_of cut.range) in
     only_if (nat_lt cut.range.addr cut.from)
-    (free_range cut.range.addr (cut.from - cut.range.addr) cut.range.list cut.range.page (insertions + count_if behind + 1))
-    ++ only_if behind (free_range cut.to (end_of cut.range - cut.to) cut.range.list cut.range.page (insertions + 1))
+    (record cut.range { whole = cut.from - cut.range.addr; state = Free (insertions + count_if behind + 1) })
+    ++ only_if behind (record cut.range { addr = cut.to; whole = end_of cut.range - cut.to; state = Free (insertions + 1) })
 
 -- whether a page is among those that go
 abbrev pub is_cut_page : PageCut → HeapPage → Bool

@@ -2,8 +2,9 @@
 use Rattle.std.specs.Prelude.{◌≡◌, ℕ, ◌+◌, ◌*◌, ◌%◌, ◌^◌, ◌<◌, ◌≤◌, List, [], ◌++◌, map, count_by, IsTrue, IsSome}
 use Rattle.std.specs.List.{range_with_len, AllByRecursion}
 use Rattle.hp_base.specs.Pages.{is_page_size}
+use Rattle.hp_base.specs.declared.span.Span.{Span}
 use Rattle.hp_base.specs.declared.row.Run.{Run}
-use Rattle.hp_heap.specs.PlainHeap.{PlainHeap, HeapPage, segments_of}
+use Rattle.hp_heap.specs.PlainHeap.{PlainHeap, HeapPage, free_range, segments_of}
 use Rattle.hp_heap.specs.Tiling.{in_segment}
 use Rattle.hp_heap.specs.Joining.{after_insertion}
 
@@ -25,10 +26,14 @@ run_page run i = record {
 unfoldable pub run_pages : Run → List HeapPage
 run_pages run = map (run_page run) (range_with_len 0 run.count)
 
+-- the bytes of a run as an element
+abbrev pub run_range : Run → Span
+run_range run = free_range run.addr (run_bytes run) run.list run.page 0
+
 -- the heap after a growth: the run's pages are segments, and its bytes are free
 unfoldable pub after_grow : Run → PlainHeap → PlainHeap
 after_grow run heap =
-    record (after_insertion run.addr (run_bytes run) run.list run.page heap) { pages = heap.pages ++ run_pages run }
+    record (after_insertion (run_range run) heap) { pages = heap.pages ++ run_pages run }
 
 -- a page of a run's list came with the size of its pages, its socket and its base: the address less the slots before it
 pub record IsAlike (run : Run) (page : HeapPage) : Type 0 where
@@ -37,7 +42,7 @@ pub record IsAlike (run : Run) (page : HeapPage) : Type 0 where
   pub base : page.addr + run.first * run.page ≡ run.addr + page.slot * run.page
 
 -- a run may come to a heap
-pub record CanGrow (heap : PlainHeap) (run : Run) : Type 0 where
+pub record CanGrow (run : Run) (heap : PlainHeap) : Type 0 where
   -- a heap of a socket takes runs of at least one slot, with pages of a hugepage size
   pub serves : IsSome heap.serves
   pub some : 0 < run.count
@@ -54,7 +59,7 @@ pub record CanGrow (heap : PlainHeap) (run : Run) : Type 0 where
       → count_by (in_segment byte) (segments_of heap) ≡ 0
 
 -- the heap of a socket whose pages are those of one run, which may have none
-pub record IsGrownTo (heap : PlainHeap) (run : Run) : Type 0 where
+pub record IsGrownTo (run : Run) (heap : PlainHeap) : Type 0 where
   pub serves : IsSome heap.serves
   pub pages : heap.pages ≡ run_pages run
   pub chunks : heap.chunks ≡ []

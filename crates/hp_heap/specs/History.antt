@@ -1,6 +1,6 @@
 -- Histories of heaps, and what contracts see of a heap: the rule "History" of docs/HEAP.md.
-use Rattle.std.specs.Prelude.{◌≡◌, ℕ, ◌+◌, List, [], ◌∷◌, ◌++◌, ⊤}
-use Rattle.std.specs.List.{fold}
+use Rattle.std.specs.Prelude.{◌≡◌, ℕ, ◌+◌, ◌==◌, List, [], ◌∷◌, ◌++◌, ⊤}
+use Rattle.std.specs.List.{fold, filter}
 use Rattle.hp_base.specs.declared.tag.Caller.{Caller}
 use Rattle.hp_heap.specs.declared.entry.Entry.{Entry}
 use Rattle.hp_heap.specs.declared.entry.HeapCall.{HeapCall}
@@ -9,6 +9,7 @@ use Rattle.hp_heap.specs.PlainHeap.{PlainHeap, opening_heap}
 use Rattle.hp_heap.specs.Tiling.{IsTiled}
 use Rattle.hp_heap.specs.Lists.{free_lists}
 use Rattle.hp_heap.specs.Step.{after, answer_of}
+use Rattle.hp_heap.specs.Allowed.{IsAllowed}
 
 -- the heap after an entry
 unfoldable pub after_entry : PlainHeap → Entry → PlainHeap
@@ -18,12 +19,19 @@ after_entry heap entry = after entry.caller.participant entry.call heap
 abbrev pub replay : PlainHeap → List Entry → PlainHeap
 replay heap history = fold after_entry heap history
 
--- each answer of a history is the one that its call gives after the entries before it
+-- an entry is one of a call that was allowed, with the answer that it gives
+pub record IsLegalEntry (heap : PlainHeap) (entry : Entry) : Type 0 where
+  pub allowed : IsAllowed entry.caller.participant entry.call heap
+  pub answered : entry.answer ≡ answer_of entry.caller.participant entry.call heap
+
+-- each entry of a history is legal after the entries before it
 abbrev pub IsLegal : PlainHeap → List Entry → Type 0
 IsLegal heap [] = ⊤
-IsLegal heap (entry ∷ entries) =
-    (entry.answer ≡ answer_of entry.caller.participant entry.call heap)
-    × IsLegal (after_entry heap entry) entries
+IsLegal heap (entry ∷ entries) = IsLegalEntry heap entry × IsLegal (after_entry heap entry) entries
+
+-- the entries of one participant, in their order
+unfoldable pub entries_of : ℕ → List Entry → List Entry
+entries_of participant history = filter (λ entry. entry.caller.participant == participant) history
 
 -- the heap as it opened
 abbrev pub opening_of : PlainHeap → PlainHeap
@@ -47,8 +55,10 @@ pub record IsSound (heap : HeapView) : Type 0 where
   pub lists : heap.lists ≡ free_lists heap.plain
   pub stands : StandsFor heap.plain heap.history
 
--- a call with a caller: heap and answer are its step's, and it is one more entry and uses one of the calls with room
+-- a call with a caller, which was allowed: heap and answer are its step's, and it is one more entry and uses one of the
+-- calls with room
 pub record IsCall (caller : Caller) (call : HeapCall) (answer : HeapAnswer) (old new : HeapView) : Type 0 where
+  pub allowed : IsAllowed caller.participant call old.plain
   pub heap : new.plain ≡ after caller.participant call old.plain
   pub answered : answer ≡ answer_of caller.participant call old.plain
   pub history : new.history ≡ old.history ++ record { caller = caller; call = call; answer = answer } ∷ []

@@ -1,18 +1,20 @@
 -- How bytes become free, joined with the free elements next to them: the rule "Joining" of docs/HEAP.md.
 use Rattle.std.specs.Prelude.{◌≡◌, ℕ, ◌+◌, Bool, true, false, IsSomeAnd, not, ◌&&◌, ◌==◌, nat_lt, List, [], ◌∷◌, ◌++◌, Option, Some, None, if◌then◌else◌}
 use Rattle.std.specs.List.{filter, find}
+use Rattle.std.specs.Option.{option_and_then}
 use Rattle.hp_base.specs.declared.span.Span.{Span}
 use Rattle.hp_base.specs.declared.span.SpanState.{SpanState}
 use Rattle.hp_base.specs.declared.span.SpanState.TheVariants.{Free, Busy}
-use Rattle.hp_heap.specs.PlainHeap.{PlainHeap, is_free, free_range, data_address}
+use Rattle.hp_base.specs.declared.tag.Tag.{Tag}
+use Rattle.hp_heap.specs.PlainHeap.{PlainHeap, is_free, freed, data_address}
 use Rattle.hp_heap.specs.Tiling.{joins}
 
--- two elements as one, with the list, the page and the state of the first, or of the second
+-- two elements as one, with what the first has besides; the state is that of the element that the other is joined to
 abbrev pub joined_up : Span → Span → Span
 joined_up range next = record range { whole = range.whole + next.whole }
 
 abbrev pub joined_down : Span → Span → Span
-joined_down previous range = record range { addr = previous.addr; whole = previous.whole + range.whole }
+joined_down previous range = record previous { whole = previous.whole + range.whole; state = range.state }
 
 -- the free stretch that goes on from an element upwards, before the elements that it leaves
 abbrev pub stretch_up : Span → List Span → List Span
@@ -49,10 +51,10 @@ with_stretch range ranges =
     let down = stretch_down (below range.addr ranges) range in
     down.left ++ stretch_up down.range (above range.addr ranges)
 
--- the heap after bytes of a list were inserted into its free lists, as one element with the free ones that touch them
-unfoldable pub after_insertion : ℕ → ℕ → ℕ → ℕ → PlainHeap → PlainHeap
-after_insertion addr whole list page heap = record heap {
-  ranges = with_stretch (free_range addr whole list page (heap.insertions + 1)) heap.ranges;
+-- the heap after an element became free: it was inserted into the free lists, as one with the free ones that touch it
+unfoldable pub after_insertion : Span → PlainHeap → PlainHeap
+after_insertion range heap = record heap {
+  ranges = with_stretch (freed (heap.insertions + 1) range) heap.ranges;
   insertions = heap.insertions + 1;
 }
 
@@ -64,6 +66,15 @@ has_data_at address range = not (is_free range) && (data_address range == addres
 unfoldable pub busy_at : ℕ → PlainHeap → Option Span
 busy_at address heap = find (has_data_at address) heap.ranges
 
+-- the tag of a busy element
+abbrev pub tag_of_state : SpanState → Option Tag
+tag_of_state (Free stamp) = None
+tag_of_state (Busy pad size tag) = Some tag
+
+-- the tag of the busy element with its data at an address, by which a refused free names a memzone's element
+unfoldable pub tag_at : ℕ → PlainHeap → Option Tag
+tag_at address heap = option_and_then (λ range. tag_of_state range.state) (busy_at address heap)
+
 abbrev pub is_zone_state : SpanState → Bool
 is_zone_state (Free stamp) = false
 is_zone_state (Busy pad size tag) = tag.zone
@@ -72,10 +83,17 @@ is_zone_state (Busy pad size tag) = tag.zone
 abbrev pub is_zone_range : Span → Bool
 is_zone_range range = is_zone_state range.state
 
+-- the busy elements, and those of memzones among them
+unfoldable pub busy_ranges : PlainHeap → List Span
+busy_ranges heap = filter (λ range. not (is_free range)) heap.ranges
+
+unfoldable pub zone_ranges : PlainHeap → List Span
+zone_ranges heap = filter is_zone_range heap.ranges
+
 abbrev pub after_free_of : Option Span → Bool → PlainHeap → PlainHeap
 after_free_of None zone heap = heap
 after_free_of (Some range) zone heap =
-    if is_zone_range range && not zone then heap else after_insertion range.addr range.whole range.list range.page heap
+    if is_zone_range range && not zone then heap else after_insertion range heap
 
 -- the heap after a free: the element becomes free; a memzone's only by the call for memzones
 unfoldable pub after_free : ℕ → Bool → PlainHeap → PlainHeap
@@ -90,5 +108,5 @@ abbrev pub has_tag : Bool → ℕ → Span → Bool
 has_tag zone number range = has_tag_state zone number range.state
 
 -- a memzone's busy element has its data at an address, as the free of a memzone asks
-abbrev pub HasZoneAt : PlainHeap → ℕ → Type 0
-HasZoneAt heap address = IsSomeAnd (busy_at address heap) (λ range. is_zone_range range ≡ true)
+abbrev pub HasZoneAt : ℕ → PlainHeap → Type 0
+HasZoneAt address heap = IsSomeAnd (busy_at address heap) (λ range. is_zone_range range ≡ true)

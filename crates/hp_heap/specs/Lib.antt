@@ -1,4 +1,5 @@
 pub mod PlainHeap
+pub mod LaidOut
 pub mod Tiling
 pub mod Lists
 pub mod Choice
@@ -9,10 +10,16 @@ pub mod Cut
 pub mod Chunks
 pub mod Statistics
 pub mod Step
+pub mod Allowed
 pub mod History
 pub mod Growing
-pub mod Free
-pub mod Splice
-pub mod Elements
+pub mod Headers
+pub mod Tie
+pub mod Joins
+pub mod Cutting
+pub mod FreeSearch
+pub mod Allocating
 pub mod Inside
 pub mod Laws
+pub mod Freeing
+pub mod Finding

@@ -3,9 +3,10 @@ use Rattle.std.specs.Prelude.{ℕ, ◌+◌, ◌-◌, Bool, nat_lt, nat_le, ◌==
 use Rattle.std.specs.Option.{option_and_then}
 use Rattle.hp_base.specs.Place.{place_of, IsPlace}
 use Rattle.hp_base.specs.declared.span.Span.{Span}
+use Rattle.hp_base.specs.declared.span.SpanState.TheVariants.{Free, Busy}
 use Rattle.hp_base.specs.declared.tag.Tag.{Tag}
 use Rattle.hp_base.specs.declared.request.Request.{Request}
-use Rattle.hp_heap.specs.PlainHeap.{PlainHeap, end_of, free_range, busy_range}
+use Rattle.hp_heap.specs.PlainHeap.{PlainHeap, end_of}
 use Rattle.hp_heap.specs.Choice.{chosen, IsChoice}
 
 -- whether more than 192 bytes lie behind the data, and whether at least 192 bytes lie before the header
@@ -24,11 +25,12 @@ only_if test range = if test then range ∷ [] else []
 
 -- the rest behind the data
 abbrev pub rest_behind : Span → ℕ → ℕ → Span
-rest_behind range address stamp = free_range address (end_of range - address) range.list range.page stamp
+rest_behind range address stamp =
+    record range { addr = address; whole = end_of range - address; state = Free stamp }
 
 -- the rest before the header
 abbrev pub rest_before : Span → ℕ → ℕ → Span
-rest_before range address stamp = free_range range.addr (address - 128 - range.addr) range.list range.page stamp
+rest_before range address stamp = record range { whole = address - 128 - range.addr; state = Free stamp }
 
 -- where the busy element begins: at its header where the rest before it is an element, else the rest is its pad
 abbrev pub busy_start : Bool → Span → ℕ → ℕ
@@ -41,9 +43,13 @@ busy_end behind range address size = if behind then address + size else end_of r
 abbrev pub busy_piece : Bool → Bool → Span → ℕ → ℕ → Tag → Span
 busy_piece before behind range address size tag =
     let start = busy_start before range address in
-    busy_range start (busy_end behind range address size - start) range.list range.page (address - 128 - start) size tag
+    record range {
+      addr = start;
+      whole = busy_end behind range address size - start;
+      state = Busy (address - 128 - start) size tag;
+    }
 
--- the elements that a free one becomes: the rest behind is inserted into the free lists first, then the rest before
+-- the elements that a free one becomes, each with its other fields: the rest behind is inserted into the free lists first, then the rest before
 abbrev pub pieces_with : Bool → Bool → Span → ℕ → ℕ → Tag → ℕ → List Span
 pieces_with before behind range address size tag insertions =
     only_if before (rest_before range address (insertions + count_if behind + 1))
@@ -70,26 +76,26 @@ abbrev pub place_in : Request → Span → Option ℕ
 place_in request range = place_of range.addr (end_of range) request
 
 -- the heap with a request placed at an address of an element
-unfoldable pub placed : PlainHeap → Span → ℕ → ℕ → Tag → PlainHeap
-placed heap range address size tag = record heap {
+unfoldable pub placed : Span → ℕ → ℕ → Tag → PlainHeap → PlainHeap
+placed range address size tag heap = record heap {
   ranges = replaced range.addr (pieces_of range address size tag heap.insertions) heap.ranges;
   insertions = insertions_of range address size heap.insertions;
 }
 
 -- the address that an allocation gives: the place of the request in the choice
-unfoldable pub allocated : PlainHeap → ℕ → Request → Option ℕ
-allocated heap participant request = option_and_then (place_in request) (chosen heap participant request)
+unfoldable pub allocated : ℕ → Request → PlainHeap → Option ℕ
+allocated participant request heap = option_and_then (place_in request) (chosen participant request heap)
 
-abbrev pub after_choice : PlainHeap → Request → Tag → Option Span → PlainHeap
-after_choice heap request tag None = heap
-after_choice heap request tag (Some range) = placed heap range (unwrap_or (place_in request range) 0) request.size tag
+abbrev pub after_choice : Option Span → Request → Tag → PlainHeap → PlainHeap
+after_choice None request tag heap = heap
+after_choice (Some range) request tag heap = placed range (unwrap_or (place_in request range) 0) request.size tag heap
 
 -- the heap after an allocation, unchanged where there is no choice
 unfoldable pub after_alloc : ℕ → Request → Tag → PlainHeap → PlainHeap
-after_alloc participant request tag heap = after_choice heap request tag (chosen heap participant request)
+after_alloc participant request tag heap = after_choice (chosen participant request heap) request tag heap
 
 -- the address is the place of the request in the choice
-pub record IsPlacedIn (heap : PlainHeap) (participant : ℕ) (request : Request) (address : ℕ) : Type 0 where
+pub record IsPlacedIn (participant : ℕ) (request : Request) (heap : PlainHeap) (address : ℕ) : Type 0 where
   pub range : Span
-  pub choice : IsChoice heap participant request range
+  pub choice : IsChoice participant request heap range
   pub place : IsPlace range.addr (end_of range) request address

@@ -89,6 +89,10 @@ data_address range = range.addr + pad_of_state range.state + 128
 abbrev pub free_range : ℕ → ℕ → ℕ → ℕ → ℕ → Span
 free_range addr whole list page stamp = record { addr = addr; whole = whole; list = list; page = page; state = Free stamp }
 
+-- an element as a free one, with the stamp of its insertion
+abbrev pub freed : ℕ → Span → Span
+freed stamp range = record range { state = Free stamp }
+
 -- a busy element
 abbrev pub busy_range : ℕ → ℕ → ℕ → ℕ → ℕ → ℕ → Tag → Span
 busy_range addr whole list page pad size tag =

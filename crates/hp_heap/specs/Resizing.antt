@@ -4,7 +4,8 @@ use Rattle.std.specs.List.{filter, find}
 use Rattle.hp_base.specs.declared.span.Span.{Span}
 use Rattle.hp_base.specs.declared.span.SpanState.{SpanState}
 use Rattle.hp_base.specs.declared.span.SpanState.TheVariants.{Free, Busy}
-use Rattle.hp_heap.specs.PlainHeap.{PlainHeap, end_of, is_free, pad_of_state, free_range}
+use Rattle.hp_heap.specs.PlainHeap.{PlainHeap, is_free, pad_of_state}
+use Rattle.hp_heap.specs.Tiling.{touches}
 use Rattle.hp_heap.specs.Placing.{replaced, only_if, count_if}
 use Rattle.hp_heap.specs.Joining.{busy_at}
 
@@ -12,13 +13,13 @@ use Rattle.hp_heap.specs.Joining.{busy_at}
 abbrev pub bytes_needed : Span → ℕ → ℕ
 bytes_needed range size = size + pad_of_state range.state + 128
 
--- whether an element is free and goes on from another in its list
+-- whether an element is free and touches another
 abbrev pub is_next_free : Span → Span → Bool
-is_next_free range next = is_free next && ((range.list == next.list) && (end_of range == next.addr))
+is_next_free range next = is_free next && touches range next
 
 -- the free element right behind another, in its list
-abbrev pub next_free : PlainHeap → Span → Option Span
-next_free heap range = find (is_next_free range) heap.ranges
+abbrev pub next_free : Span → PlainHeap → Option Span
+next_free range heap = find (is_next_free range) heap.ranges
 
 abbrev pub with_size : ℕ → SpanState → SpanState
 with_size size (Free stamp) = Free stamp
@@ -38,28 +39,28 @@ without None ranges = ranges
 without (Some next) ranges = filter (λ range. not (range.addr == next.addr)) ranges
 
 -- an element with the free one behind it: a rest of at least 192 bytes behind what it needs is cut off and inserted again
-abbrev pub taken_over : PlainHeap → Span → Option Span → ℕ → PlainHeap
-taken_over heap range next size =
+abbrev pub taken_over : Span → Option Span → ℕ → PlainHeap → PlainHeap
+taken_over range next size heap =
     let need = bytes_needed range size in
     let whole = bytes_together range next in
     let has_rest = nat_le 192 (whole - need) in
     record heap {
       ranges = replaced range.addr
           (resized range (if has_rest then need else whole) size
-          ∷ only_if has_rest (free_range (range.addr + need) (whole - need) range.list range.page (heap.insertions + 1)))
+          ∷ only_if has_rest (record range { addr = range.addr + need; whole = whole - need; state = Free (heap.insertions + 1) }))
           (without next heap.ranges);
       insertions = heap.insertions + count_if has_rest;
     }
 
-abbrev pub with_new_size : PlainHeap → Span → ℕ → PlainHeap
-with_new_size heap range size = record heap { ranges = replaced range.addr (resized range range.whole size ∷ []) heap.ranges }
+abbrev pub with_new_size : Span → ℕ → PlainHeap → PlainHeap
+with_new_size range size heap = record heap { ranges = replaced range.addr (resized range range.whole size ∷ []) heap.ranges }
 
 abbrev pub after_resize_of : Option Span → ℕ → PlainHeap → PlainHeap
 after_resize_of None size heap = heap
 after_resize_of (Some range) size heap =
-    if nat_le (bytes_needed range size) range.whole then with_new_size heap range size
-    else (if nat_le (bytes_needed range size) (bytes_together range (next_free heap range))
-    then taken_over heap range (next_free heap range) size
+    if nat_le (bytes_needed range size) range.whole then with_new_size range size heap
+    else (if nat_le (bytes_needed range size) (bytes_together range (next_free range heap))
+    then taken_over range (next_free range heap) size heap
     else heap)
 
 -- the heap after a resize: the element holds the size as it is, or with the free one behind it; else nothing changes
@@ -68,14 +69,14 @@ after_resize address size heap = after_resize_of (busy_at address heap) size hea
 
 abbrev pub can_resize_of : Option Span → ℕ → PlainHeap → Bool
 can_resize_of None size heap = false
-can_resize_of (Some range) size heap = nat_le (bytes_needed range size) (bytes_together range (next_free heap range))
+can_resize_of (Some range) size heap = nat_le (bytes_needed range size) (bytes_together range (next_free range heap))
 
 -- whether the size is had
 unfoldable pub can_resize : ℕ → ℕ → PlainHeap → Bool
 can_resize address size heap = can_resize_of (busy_at address heap) size heap
 
 -- a busy element may be resized: its data are at the address, and the size is whole cache lines, at most 2^63 bytes
-pub record CanAskSize (heap : PlainHeap) (address size : ℕ) : Type 0 where
+pub record CanAskSize (address size : ℕ) (heap : PlainHeap) : Type 0 where
   pub busy : IsSome (busy_at address heap)
   pub some : 0 < size
   pub lines : size % 64 ≡ 0

@@ -60,7 +60,7 @@ run_answer (Some run) = answer.Pages run
 
 -- what a call of a participant answers
 unfoldable pub answer_of : ℕ → HeapCall → PlainHeap → HeapAnswer
-answer_of participant (call.Alloc request tag) heap = address_answer (allocated heap participant request)
+answer_of participant (call.Alloc request tag) heap = address_answer (allocated participant request heap)
 answer_of participant (call.Find tag) heap = address_answer (found tag heap)
 answer_of participant (call.Free addr zone) heap = free_answer (busy_at addr heap) zone
 answer_of participant (call.Resize addr size) heap = resize_answer (can_resize addr size heap)

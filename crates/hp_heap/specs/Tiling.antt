@@ -5,6 +5,7 @@ use Rattle.hp_base.specs.declared.span.Span.{Span}
 use Rattle.hp_base.specs.declared.span.SpanState.{SpanState}
 use Rattle.hp_base.specs.declared.span.SpanState.TheVariants.{Free, Busy}
 use Rattle.hp_heap.specs.PlainHeap.{PlainHeap, Extent, end_of, is_free, stamp_of, segments_of, is_within, HasKind}
+use Rattle.hp_heap.specs.LaidOut.{IsLaidOut}
 
 -- whether a byte lies in an element, or in a segment
 abbrev pub in_range : ℕ → Span → Bool
@@ -34,10 +35,18 @@ pub record IsWholeSize (whole : ℕ) : Type 0 where
   pub lines : whole % 64 ≡ 0
   pub least : 192 ≤ whole
 
--- a busy element has a small pad, and room for pad, header and size
+-- the data of a busy element are some whole cache lines, behind a small pad of whole cache lines, and there is room for all
+pub record HoldsData (whole pad size : ℕ) : Type 0 where
+  pub pad_lines : pad % 64 ≡ 0
+  pub pad_small : pad < 192
+  pub size_lines : size % 64 ≡ 0
+  pub size_some : 0 < size
+  pub room : pad + 128 + size ≤ whole
+
+-- a busy element holds its data
 abbrev pub HasRoomFor : ℕ → SpanState → Type 0
 HasRoomFor whole (Free stamp) = ⊤
-HasRoomFor whole (Busy pad size tag) = (pad < 192) × (pad + 128 + size ≤ whole)
+HasRoomFor whole (Busy pad size tag) = HoldsData whole pad size
 
 -- an element by itself: it begins at a cache line, has its sizes, and a stamp of at most the number of insertions
 pub record IsElement (insertions : ℕ) (range : Span) : Type 0 where
@@ -50,9 +59,13 @@ pub record IsElement (insertions : ℕ) (range : Span) : Type 0 where
 abbrev pub has_stamp : ℕ → Span → Bool
 has_stamp stamp range = is_free range && (stamp_of range == stamp)
 
--- whether two elements would be one: both free, of one segment list, the second right behind the first
+-- whether an element begins right behind another, in its segment list
+abbrev pub touches : Span → Span → Bool
+touches first second = (first.list == second.list) && (end_of first == second.addr)
+
+-- whether two elements would be one: both free, and the second touches the first
 abbrev pub joins : Span → Span → Bool
-joins first second = (is_free first && is_free second) && ((first.list == second.list) && (end_of first == second.addr))
+joins first second = (is_free first && is_free second) && touches first second
 
 -- an element would not be one with the first of those behind it, and no two neighbours among them would
 abbrev pub IsApartFrom : Span → List Span → Type 0
@@ -81,7 +94,8 @@ pub record IsTiling (segments : List Extent) (insertions : ℕ) (ranges : List S
   -- free elements that touch are one, in each segment list
   pub apart : IsApart ranges
 
--- the elements of a heap tile its segments, which are pages or chunks
+-- the elements of a heap tile its segments, which are pages or chunks, laid out by their lists
 pub record IsTiled (heap : PlainHeap) : Type 0 where
   pub kind : HasKind heap.serves heap.pages heap.chunks
+  pub laid : IsLaidOut heap.pages heap.chunks
   pub tiling : IsTiling (segments_of heap) heap.insertions heap.ranges

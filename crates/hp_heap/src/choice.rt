@@ -1,25 +1,72 @@
-ghost use Rattle.std.specs.Prelude.{◌≡◌, ◌<◌, ◌≤◌, ◌==◌, ◌&&◌, nat_lt, IfSome, All, length, slice_index_or, MatchOption};
-ghost use Rattle.hp_base.specs.declared.span.Span.{Span};
-ghost use Rattle.hp_heap.specs.Choice.{precedes, sooner};
-ghost use Rattle.hp_heap.specs.Free.{HasSpace, first_with_place, has_place, picked};
+ghost use Rattle.std.specs.Prelude.{◌≡◌, true};
+ghost use Rattle.hp_heap.specs.Choice.{has_bit};
+ghost use Rattle.hp_chain.specs.Chain.{has_key, AreApart};
+ghost use Rattle.hp_elem.specs.Items.{IsAt};
+ghost use Rattle.hp_heap.specs.Headers.{spans_of};
+ghost use Rattle.hp_heap.specs.Joins.{HasRoom};
+ghost use Rattle.hp_heap.specs.FreeSearch.{HasSpace, has_place, is_usable, is_suitable, FindsFirstSuitable, FindsChoice};
 
-use crate::ranges::stamp_of;
-use hp_base::{HEADER, Request, Span, class_of, place};
+use crate::flags::{has_bit, is_fitting_page, is_hint};
+use crate::headers::Headers;
+use hp_base::{Chunk, Request, Span, class_of, place};
 
-/// The place, among free elements, of the one that the search meets first: of the least class with a place for the
-/// request, and of that class the one that was inserted last.
-pub fn choose(free: &[Span], req: &Request) -> Option<usize>
-    requires { All HasSpace free.now }
-    ensures within { IfSome result (λ i. i < length free.now) }
-    ensures first { picked free.now result ≡ first_with_place free.now req.now }
+/// What a free element must have for a request: a place, a page that fits its flags but where any page does, and, in an
+/// external heap, a chunk that the participant has attached.
+#[derive(Clone, Copy)]
+pub struct Need {
+    pub request: Request,
+    pub any_page: bool,
+    pub participant: u8,
+    pub any_chunk: bool,
+}
+
+/// The free element that a request takes: of those with a page that fits its flags, or else of all where these are a
+/// hint, the first in the order of the search.
+pub fn choose(headers: &Headers, chunks: &[Chunk], need: Need) -> Option<usize>
+    requires apart { AreApart headers.now.items }
+    requires room { HasRoom (spans_of headers.now.items) }
+    ensures { FindsChoice chunks.now need headers.now.items result }
 {
-    let mut best: Option<usize> = None;
-    for (i, range) in free.iter().enumerate() {
-        if has_place(range, req) {
-            best = Some(sooner_of(free, best, i));
-        }
+    let found = first_suitable(headers, chunks, &need);
+    if found.is_some() || !is_hint(need.request.flags) {
+        return found;
     }
-    best
+    let need = Need {
+        any_page: true,
+        ..need
+    };
+    first_suitable(headers, chunks, &need)
+}
+
+// The first free element, in the order of the search, that has what a request needs.
+fn first_suitable(headers: &Headers, chunks: &[Chunk], need: &Need) -> Option<usize>
+    requires apart { AreApart headers.now.items }
+    requires room { HasRoom (spans_of headers.now.items) }
+    ensures { FindsFirstSuitable chunks.now need.now headers.now.items result }
+{
+    let suits = |key: usize|
+        requires known { has_key key headers.now.items ≡ true }
+        requires room { HasRoom (spans_of headers.now.items) }
+        ensures { IsAt (λ span. result ≡ is_suitable chunks.entry.now need.entry.now span) key headers.entry.now.items }
+    { is_suitable_at(headers, key, chunks, need) };
+    headers.first_from(class_of(need.request.size), suits)
+}
+
+fn is_suitable_at(headers: &Headers, key: usize, chunks: &[Chunk], need: &Need) -> bool
+    requires known { has_key key headers.now.items ≡ true }
+    requires room { HasRoom (spans_of headers.now.items) }
+    ensures { IsAt (λ span. result ≡ is_suitable chunks.now need.now span) key headers.now.items }
+{
+    is_suitable(&headers.get(key).span, chunks, need)
+}
+
+fn is_suitable(range: &Span, chunks: &[Chunk], need: &Need) -> bool
+    requires space { HasSpace range.now }
+    ensures { result ≡ is_suitable chunks.now need.now range.now }
+{
+    has_place(range, &need.request)
+        && (need.any_page || is_fitting_page(need.request.flags, range.page))
+        && is_usable(range.list, chunks, need)
 }
 
 fn has_place(range: &Span, req: &Request) -> bool
@@ -33,32 +80,24 @@ fn has_place(range: &Span, req: &Request) -> bool
     place(range.addr, range.addr + range.whole, req).is_some()
 }
 
-// Of the best so far and another, the one that the search meets first.
-fn sooner_of(free: &[Span], best: Option<usize>, i: usize) -> usize
-    requires within { i < length free.now }
-    requires best_within { IfSome best (λ j. j < i) }
-    ensures within { result ≤ i }
-    ensures sooner { MatchOption best (result ≡ i) (λ j. (d : Span) →
-        slice_index_or free.now result d ≡ sooner (slice_index_or free.now j d) (slice_index_or free.now i d)) }
+// Whether elements of a segment list may be used: in an external heap those of a chunk that the participant has attached.
+fn is_usable(list: u32, chunks: &[Chunk], need: &Need) -> bool
+    ensures { result ≡ is_usable chunks.now need.now list }
 {
-    match best {
-        None => i,
-        Some(j) => { if precedes(&free[i], &free[j]) { i } else { j } }
+    if need.any_chunk {
+        return true;
     }
+    for chunk in chunks {
+        if chunk.list == list && has_attached(chunk.attached, need.participant) {
+            return true;
+        }
+    }
+    false
 }
 
-// Whether the search meets an element before another.
-#[tactic(auto, unfolding(crate::specs::Choice::precedes))]
-fn precedes(first: &Span, second: &Span) -> bool
-    ensures { result ≡ precedes first.now second.now }
+// Whether a participant is among those that have attached a chunk.
+fn has_attached(attached: u16, participant: u8) -> bool
+    ensures { result ≡ has_bit attached participant }
 {
-    let class = class_of(first.whole.saturating_sub(HEADER));
-    let other = class_of(second.whole.saturating_sub(HEADER));
-    class < other || is_newer_of(class, other, stamp_of(first), stamp_of(second))
-}
-
-fn is_newer_of(class: u8, other: u8, first: u64, second: u64) -> bool
-    ensures { result ≡ ((class == other) && nat_lt second first) }
-{
-    class == other && second < first
+    participant < 16 && has_bit(u32::from(attached), u32::from(participant))
 }

@@ -5,11 +5,11 @@ ghost use Rattle.hp_heap.specs.Lists.{free_lists};
 ghost use Rattle.hp_heap.specs.Statistics.{statistics_of};
 ghost use Rattle.hp_heap.specs.History.{IsSound, SameButSpare};
 
-use crate::elements::Elements;
 use crate::entry::{Entry, HeapAnswer, HeapCall};
+use crate::headers::Headers;
 use crate::socket_name::socket_name;
-use crate::summary::statistics;
-use hp_base::{Caller, Name, Span, Stats};
+use crate::summary::{append, statistics};
+use hp_base::{Caller, Chunk, Name, Span, Stats};
 use std::alloc::{AllocError, Global};
 use std::marker::Model;
 
@@ -19,14 +19,12 @@ use std::marker::Model;
 #[derive(Drop)]
 pub struct Heap {
     pub(crate) index: u32,
-    pub(crate) serves: u32,
+    // The socket whose pages it takes, or none where it takes chunks of external memory.
+    pub(crate) serves: Option<u32>,
     pub(crate) name: Option<Name>,
     pub(crate) socket: u32,
-    // The elements by rising address, and the free ones among them.
-    pub(crate) ranges: Elements,
-    pub(crate) free: Vec<Span>,
-    // The insertions into free lists so far.
-    pub(crate) insertions: u64,
+    pub(crate) chunks: Vec<Chunk>,
+    pub(crate) headers: Headers,
     pub(crate) history: Vec<Entry>,
     pub(crate) spare: usize,
 }
@@ -54,28 +52,28 @@ impl Heap {
     {
         Heap {
             index,
-            serves: socket,
+            serves: Some(socket),
             name: Some(socket_name(socket)),
             socket,
-            ranges: Elements::new(alloc),
-            free: Vec::new(alloc),
-            insertions: 0,
+            chunks: Vec::new(alloc),
+            headers: Headers::new(alloc),
             history: Vec::new(alloc),
             spare: 0,
         }
     }
 
-    /// Makes room for `calls` more calls. After a refusal there may be room for none.
+    /// Makes room for `calls` more calls. After a refusal there may be no room at all.
     pub fn reserve(&mut self, calls: usize) -> Result<(), AllocError>
         ensures spare { OnOk result (calls ≤ self.new.spare) }
+        ensures room { OnOk result (self.old.spare ≤ self.new.spare) }
         ensures same { SameButSpare self.old self.new }
     {
+        let calls = calls.max(self.spare);
         self.spare = 0;
-        let Some(ranges) = calls.checked_mul(2) else {
+        let Some(elements) = calls.checked_mul(2) else {
             return Err(AllocError);
         };
-        self.ranges.reserve(ranges)?;
-        self.free.reserve(ranges)?;
+        self.headers.reserve(elements)?;
         self.history.reserve(calls)?;
         self.spare = calls;
         Ok(())
@@ -93,15 +91,22 @@ impl Heap {
         ensures elements { OnOk result (out.new.items ≡ out.old.items ++ self.now.plain.ranges) }
         ensures err { OnErr result (out.new.items ≡ out.old.items) }
     {
-        self.ranges.append_to(out)
+        append(&self.headers, out)
     }
 
     /// All calls so far, in their order.
     pub fn history(&self) -> &[Entry]
-        ensures history { result.now ≡ self.now.history }
-        ensures sound { IsSound self.now }
+        ensures { result.now ≡ self.now.history }
     {
         &self.history
+    }
+
+    /// What holds of every heap: its elements tile its segments, its free lists are exact, and it stands for its
+    /// history. It does nothing.
+    pub fn sound(&self)
+        ensures { IsSound self.now }
+    {
+        let _ = &self.history;
     }
 
     /// Its place among the heaps.
@@ -129,7 +134,7 @@ impl Heap {
     pub fn summary(&self) -> Stats
         ensures { result ≡ statistics_of self.now.plain }
     {
-        statistics(&self.ranges)
+        statistics(&self.headers)
     }
 }
 

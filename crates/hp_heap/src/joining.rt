@@ -1,86 +1,90 @@
-ghost use Rattle.std.specs.Prelude.{◌≡◌, ◌+◌, ◌<◌, ◌≤◌, ◌^◌, All, length, vec_len, vec_capacity};
-ghost use Rattle.std.specs.List.{filter};
-ghost use Rattle.hp_heap.specs.PlainHeap.{end_of, is_free};
+ghost use Rattle.std.specs.Prelude.{◌≡◌, ◌+◌, ◌<◌, ◌^◌, ◌++◌, ◌∷◌};
+ghost use Rattle.hp_base.specs.declared.span.Span.{Span};
+ghost use Rattle.hp_chain.specs.Chain.{Keyed, AreApart};
+ghost use Rattle.hp_chain.specs.Edits.{edited};
+ghost use Rattle.hp_elem.specs.Items.{Items, IsAt};
+ghost use Rattle.hp_heap.specs.PlainHeap.{end_of, freed};
+ghost use Rattle.hp_heap.specs.Tiling.{joins};
 ghost use Rattle.hp_heap.specs.Joining.{with_stretch};
-ghost use Rattle.hp_heap.specs.Free.{HasSpace};
-ghost use Rattle.hp_heap.specs.Splice.{IsDown, IsInsertable, IsKept, IsUp};
+ghost use Rattle.hp_heap.specs.Headers.{CanInsert, spans_of};
+ghost use Rattle.hp_heap.specs.Joins.{CanStretch, CanInsertJoined, IsJoinable, IsLowered, with_upper};
 
-use crate::elements::Elements;
-use crate::ranges::{joins, place_of, splice};
+use crate::headers::Headers;
+use crate::state::{NO_TAG, is_free, touches};
 use hp_base::Span;
 
-/// A free element with a neighbour or without.
-#[derive(Clone, Copy)]
-struct Joined {
-    range: Span,
-    /// Whether it took the neighbour.
-    took: bool,
+/// Makes a busy element free, as one with the free elements of its list that touch it. After malloc_elem_free of
+/// malloc_elem.
+pub fn insert_joined(headers: &mut Headers, key: usize)
+    requires busy { IsAt CanInsert key headers.old.items }
+    requires apart { AreApart headers.old.items }
+    requires joinable { IsJoinable (spans_of headers.old.items) }
+    requires stamps { headers.old.insertions + 1 < 2 ^ 64 }
+    ensures ranges { (front back : Items) (e : Keyed Span) → headers.old.items ≡ front ++ e ∷ back → e.key ≡ key
+        → spans_of headers.new.items ≡ with_stretch (freed (headers.old.insertions + 1) e.value) (spans_of headers.old.items) }
+    ensures insertions { headers.new.insertions ≡ headers.old.insertions + 1 }
+    ensures spare { headers.new.spare ≡ headers.old.spare }
+    ensures apart { AreApart headers.new.items }
+{
+    let lowest = join_down(headers, key);
+    join_up(headers, lowest);
+    headers.insert(lowest);
 }
 
-/// Inserts a free element, as one with the free elements that touch it in its list.
-pub fn insert_free(ranges: &mut Elements, free: &mut Vec<Span>, range: Span)
-    requires kept { IsKept ranges.old.items free.old.items }
-    requires insertable { IsInsertable ranges.old.items range }
-    requires room { length ranges.old.items < ranges.old.capacity }
-    requires room_free { vec_len free.old < vec_capacity free.old }
-    ensures ranges { ranges.new.items ≡ with_stretch range ranges.old.items }
-    ensures free { free.new.items ≡ filter is_free ranges.new.items }
-    ensures room { ranges.new.capacity ≡ ranges.old.capacity }
-    ensures room_free { vec_capacity free.new ≡ vec_capacity free.old }
-    ensures len { length ranges.new.items ≤ length ranges.old.items + 1 }
-    ensures len_free { vec_len free.new ≤ vec_len free.old + 1 }
+// Joins a busy element to the free one below it, where the two would be one, and gives the key of what it is then.
+fn join_down(headers: &mut Headers, key: usize) -> usize
+    requires can { CanInsertJoined key headers.old.items }
+    ensures lowered { IsLowered key headers.old.items result headers.new.items }
+    ensures insertions { headers.new.insertions ≡ headers.old.insertions }
+    ensures spare { headers.new.spare ≡ headers.old.spare }
+    ensures apart { AreApart headers.new.items }
 {
-    let at = ranges.place_of(range.addr);
-    let free_at = place_of(free, range.addr);
-    let lower = joined_down(ranges, at, range);
-    let upper = joined_up(ranges, at, lower.range);
-    let down = usize::from(lower.took);
-    let count = down + usize::from(upper.took);
-    ranges.splice(at - down, count, upper.range);
-    splice(free, free_at - down, count, upper.range);
-}
-
-// A free element that belongs at a place, with the one below it where the two join.
-fn joined_down(ranges: &Elements, at: usize, range: Span) -> Joined
-    requires within { at ≤ length ranges.now.items }
-    requires space { All HasSpace ranges.now.items }
-    requires sum { end_of range ≤ 2 ^ 63 }
-    ensures down { IsDown ranges.now.items at range result.took result.range }
-{
-    if at > 0 && joins(ranges.get(at - 1), &range) {
-        let below = ranges.get(at - 1);
-        return Joined {
-            range: Span {
-                addr: below.addr,
-                whole: below.whole + range.whole,
-                list: range.list,
-                page: range.page,
-                state: range.state,
-            },
-            took: true,
-        };
+    let node = *headers.get(key);
+    let Some(prev) = node.prev else {
+        return key;
+    };
+    let below = headers.get(prev).span;
+    if !goes_on_below(&below, &node.span) {
+        return key;
     }
-    Joined { range, took: false }
+    headers.take(prev, 0, 0, NO_TAG);
+    headers.join(prev);
+    prev
 }
 
-// The same with the one at its place.
-fn joined_up(ranges: &Elements, at: usize, range: Span) -> Joined
-    requires within { at ≤ length ranges.now.items }
-    requires space { All HasSpace ranges.now.items }
-    requires sum { end_of range ≤ 2 ^ 63 }
-    ensures up { IsUp ranges.now.items at range result.took result.range }
+// Joins the free element above a busy one to it, where the two would be one.
+fn join_up(headers: &mut Headers, key: usize)
+    requires apart { AreApart headers.old.items }
+    requires at { IsAt CanStretch key headers.old.items }
+    ensures items { headers.new.items ≡ edited key with_upper headers.old.items }
+    ensures insertions { headers.new.insertions ≡ headers.old.insertions }
+    ensures spare { headers.new.spare ≡ headers.old.spare }
+    ensures apart { AreApart headers.new.items }
 {
-    if at < ranges.len() && joins(&range, ranges.get(at)) {
-        return Joined {
-            range: Span {
-                addr: range.addr,
-                whole: range.whole + ranges.get(at).whole,
-                list: range.list,
-                page: range.page,
-                state: range.state,
-            },
-            took: true,
-        };
+    let node = *headers.get(key);
+    let Some(next) = node.next else {
+        return;
+    };
+    let above = headers.get(next).span;
+    if !goes_on_above(&node.span, &above) {
+        return;
     }
-    Joined { range, took: false }
+    headers.take(next, 0, 0, NO_TAG);
+    headers.join(key);
+}
+
+// Whether an element would be one with the element below it, once it is free.
+fn goes_on_below(below: &Span, span: &Span) -> bool
+    requires { end_of below.now < 2 ^ 64 }
+    ensures { result ≡ joins below.now (freed 0 span.now) }
+{
+    is_free(below) && touches(below, span)
+}
+
+// The same with the element above it.
+fn goes_on_above(span: &Span, above: &Span) -> bool
+    requires { end_of span.now < 2 ^ 64 }
+    ensures { result ≡ joins (freed 0 span.now) above.now }
+{
+    is_free(above) && touches(span, above)
 }

@@ -1,10 +1,9 @@
-ghost use Rattle.std.specs.Prelude.{ℕ, List};
-ghost use Rattle.hp_base.specs.declared.request.Request.{Request};
+ghost use Rattle.std.specs.Prelude.{ℕ, List, Bool};
 ghost use Rattle.hp_base.specs.declared.span.Span.{Span};
-ghost use Rattle.hp_base.specs.declared.tag.Tag.{Tag};
 ghost use Rattle.hp_heap.specs.PlainHeap.{PlainHeap};
 ghost use Rattle.hp_heap.specs.Tiling.{IsApart, IsTiled};
-ghost use Rattle.hp_heap.specs.Laws.{AllocatesInTiling, ComputesChoice, ComputesCut, GrowsInTiling, SortsByStamp, StandsOn, TakesNeighbours};
+ghost use Rattle.hp_heap.specs.Resizing.{CanAskSize};
+ghost use Rattle.hp_heap.specs.Laws.{AllocatesPlace, CallsKeepSound, ComputesChoice, ComputesCut, CutsPages, FreesAlone, FrontsStand, InsertsAtHead, KeepsTiled, ResizesAlone, SortsByStamp, StandsOn, TakesNeighbours};
 
 /// The computed choice is the choice. This law and the others here are proved of all heaps; their functions have no
 /// code.
@@ -12,15 +11,14 @@ pub fn choice_law()
     ensures { ComputesChoice }
 {}
 
-/// An allocation keeps a heap tiled, whatever is asked for and whoever asks.
+/// An allocation from a tiled heap gives the place in the choice.
 pub fn alloc_law()
-    ensures { (heap : PlainHeap) (participant : ℕ) (request : Request) (tag : Tag)
-        → IsTiled heap → AllocatesInTiling heap participant request tag }
+    ensures { AllocatesPlace }
 {}
 
-/// A growth keeps a heap tiled.
-pub fn grow_law()
-    ensures { GrowsInTiling }
+/// Every call that is allowed leaves a tiled heap tiled.
+pub fn tiling_law()
+    ensures { KeepsTiled }
 {}
 
 /// Where no two neighbours would be one, a joined element has taken at most its two neighbours.
@@ -29,9 +27,30 @@ pub fn joining_law()
         → IsApart below → IsApart above → TakesNeighbours range below above }
 {}
 
+/// A free of a tiled heap leaves every other busy element and every other zone as it was.
+pub fn free_law()
+    ensures { (address : ℕ) (zone : Bool) (heap : PlainHeap) → IsTiled heap → FreesAlone address zone heap }
+{}
+
+/// A resize in a tiled heap leaves every other busy element and every other zone as it was.
+pub fn resize_law()
+    ensures { (address size : ℕ) (heap : PlainHeap)
+        → IsTiled heap → CanAskSize address size heap → ResizesAlone address size heap }
+{}
+
 /// A heap that stands for its legal history does so with one more entry.
 pub fn history_law()
     ensures { StandsOn }
+{}
+
+/// Every front of a legal history stands for a tiled heap.
+pub fn fronts_law()
+    ensures { FrontsStand }
+{}
+
+/// What holds of every heap holds after each call.
+pub fn sound_law()
+    ensures { CallsKeepSound }
 {}
 
 /// The computed cut is the widest stretch of whole pages that leaves rests.
@@ -39,7 +58,17 @@ pub fn cut_law()
     ensures { ComputesCut }
 {}
 
+/// A cut of a tiled heap answers none exactly where no page goes, and else the run of exactly the pages that go.
+pub fn pages_law()
+    ensures { CutsPages }
+{}
+
 /// A free list has its elements by falling stamp.
 pub fn list_law()
     ensures { (ranges : List Span) → SortsByStamp ranges }
+{}
+
+/// A free element that was inserted last stands at the head of its free list, and changes no other list.
+pub fn insertion_law()
+    ensures { InsertsAtHead }
 {}

@@ -3,20 +3,28 @@
 
 mod alloc;
 mod choice;
-mod elements;
 mod entry;
+mod finding;
+mod flags;
+mod freeing;
+mod headers;
 mod heap;
 mod joining;
 mod laws;
 mod pages;
 mod pieces;
-mod ranges;
+mod questions;
 mod socket_name;
+mod state;
 mod summary;
 #[cfg(test)]
 mod tests;
 
 pub use entry::{Entry, HeapAnswer, HeapCall};
+pub use freeing::FreeFault;
 pub use heap::Heap;
 pub use hp_base::{Chunk, Span, SpanState};
-pub use laws::{alloc_law, choice_law, cut_law, grow_law, history_law, joining_law, list_law};
+pub use laws::{
+    alloc_law, choice_law, cut_law, free_law, fronts_law, history_law, insertion_law, joining_law,
+    list_law, pages_law, resize_law, sound_law, tiling_law,
+};

@@ -1,15 +1,22 @@
-ghost use Rattle.std.specs.Prelude.{◌≡◌, ◌+◌, ◌^◌, ◌<◌, ◌≤◌, List, ◌∷◌, [], ◌++◌};
+ghost use Rattle.std.specs.Prelude.{◌≡◌, ◌+◌, ◌^◌, ◌<◌, ◌≤◌, List, ◌∷◌, [], ◌++◌, OnOk, OnErr};
 ghost use Rattle.hp_base.specs.declared.span.Span.{Span};
+ghost use Rattle.hp_chain.specs.Chain.{AreApart};
+ghost use Rattle.hp_heap.specs.Headers.{spans_of};
+ghost use Rattle.hp_heap.specs.Joins.{HasRoom};
 ghost use Rattle.hp_heap.specs.Statistics.{total_bytes, statistics_of_ranges};
 
-use crate::elements::Elements;
-use crate::ranges::is_free;
+use crate::headers::Headers;
+use crate::state::is_free;
 use hp_base::{Span, Stats};
+use hp_elem::Node;
+use std::alloc::AllocError;
 
 /// The statistics of elements, which have at most 2^63 bytes together.
-pub fn statistics(ranges: &Elements) -> Stats
-    requires { total_bytes ranges.now.items ≤ 2 ^ 63 }
-    ensures { result ≡ statistics_of_ranges ranges.now.items }
+pub fn statistics(headers: &Headers) -> Stats
+    requires apart { AreApart headers.now.items }
+    requires room { HasRoom (spans_of headers.now.items) }
+    requires total { total_bytes (spans_of headers.now.items) ≤ 2 ^ 63 }
+    ensures { result ≡ statistics_of_ranges (spans_of headers.now.items) }
 {
     let mut stats = Stats {
         total: 0,
@@ -19,10 +26,36 @@ pub fn statistics(ranges: &Elements) -> Stats
         busy: 0,
         frees: 0,
     };
-    for at in 0..ranges.len() {
-        stats = with_one_more(&stats, ranges.get(at));
+    let mut next = headers.first();
+    while let Some(key) = next {
+        let Node {
+            span,
+            next: behind,
+            ..
+        } = headers.get(key);
+        stats = with_one_more(&stats, span);
+        next = *behind;
     }
     stats
+}
+
+/// Appends all elements, by address, or nothing.
+pub fn append(headers: &Headers, out: &mut Vec<Span>) -> Result<(), AllocError>
+    requires apart { AreApart headers.now.items }
+    ensures elements { OnOk result (out.new.items ≡ out.old.items ++ spans_of headers.now.items) }
+    ensures err { OnErr result (out.new.items ≡ out.old.items) }
+{
+    let len = out.len();
+    let mut next = headers.first();
+    while let Some(key) = next {
+        let node = headers.get(key);
+        if out.push(node.span).is_err() {
+            out.truncate(len);
+            return Err(AllocError);
+        }
+        next = node.next;
+    }
+    Ok(())
 }
 
 // The statistics of elements and of one more behind them.

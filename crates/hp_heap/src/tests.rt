@@ -2,13 +2,14 @@ ghost use Rattle.std.specs.Prelude.{◌≡◌, ◌+◌, ◌*◌, ◌^◌, ◌<�
 ghost use Rattle.hp_base.specs.declared.row.Run.{Run};
 ghost use Rattle.hp_heap.specs.Growing.{IsGrownTo};
 
-use crate::elements::Elements;
 use crate::heap::Heap;
 use crate::socket_name::socket_name;
 use crate::{HeapAnswer, HeapCall, Span, SpanState};
 use hp_base::{Caller, Request, Run, Tag};
 use std::alloc::{AllocError, Global};
 use std::test::Fail;
+
+mod frees;
 
 const BASE: u64 = 0x1_0000_0000;
 
@@ -22,8 +23,7 @@ const CALLER: Caller = Caller {
 // A heap of socket 0 with a page of 2M at 0x100000000, and room for some calls.
 fn one_page(alloc: Global) -> Result<Heap, AllocError>
     ensures spare { IfOk result (λ heap. 8 ≤ heap.spare) }
-    ensures grown { IfOk result (λ heap. IsGrownTo heap.plain
-        (record { list = 0; first = 0; count = 1; addr = BASE; page = PAGE; socket = 0 })) }
+    ensures grown { IfOk result (λ heap. IsGrownTo (record { list = 0; first = 0; count = 1; addr = BASE; page = PAGE; socket = 0 }) heap.plain) }
 {
     let mut heap = Heap::socket(alloc, 0, 0);
     heap.reserve(9)?;
@@ -35,10 +35,8 @@ fn one_page(alloc: Global) -> Result<Heap, AllocError>
 fn grow(heap: &mut Heap, first: u32)
     requires few { first < 16 }
     requires spare { 0 < heap.old.spare }
-    requires grown { IsGrownTo heap.old.plain
-        (record { list = 0; first = 0; count = first; addr = BASE; page = PAGE; socket = 0 }) }
-    ensures grown { IsGrownTo heap.new.plain
-        (record { list = 0; first = 0; count = first + 1; addr = BASE; page = PAGE; socket = 0 }) }
+    requires grown { IsGrownTo (record { list = 0; first = 0; count = first; addr = BASE; page = PAGE; socket = 0 }) heap.old.plain }
+    ensures grown { IsGrownTo (record { list = 0; first = 0; count = first + 1; addr = BASE; page = PAGE; socket = 0 }) heap.new.plain }
     ensures spare { heap.new.spare + 1 ≡ heap.old.spare }
 {
     let run = Run {
@@ -55,7 +53,7 @@ fn grow(heap: &mut Heap, first: u32)
 // Allocates `size` bytes for the line with that number.
 fn alloc(heap: &mut Heap, size: u64, line: u32) -> Option<u64>
     requires { 0 < heap.old.spare }
-    ensures grown { (run : Run) → IsGrownTo heap.old.plain run → IsGrownTo heap.new.plain run }
+    ensures grown { (run : Run) → IsGrownTo run heap.old.plain → IsGrownTo run heap.new.plain }
     ensures spare { heap.old.spare ≤ heap.new.spare + 1 }
 {
     let Ok(req) = Request::new(size, 0, 0, 0) else {
@@ -107,6 +105,9 @@ fn tells_its_statistics_and_its_calls(rt: HostRuntime) -> Result<(), Fail> {
         (heap.index(), heap.socket_number(), heap.spare()),
         (0, 0, 7)
     );
+    heap.reserve(2)?;
+    assert_eq!(rt; heap.spare(), 7);
+    heap.sound();
     let history = heap.history();
     assert_eq!(rt; history.len(), 2);
     assert!(rt; matches!(history[0].call, HeapCall::Grow { .. }));
@@ -141,43 +142,6 @@ fn joins_a_run_with_the_free_element_below_it(rt: HostRuntime) -> Result<(), Fai
     assert_eq!(rt; elements.len(), 1);
     assert_eq!(rt; elements[0].whole, 2 * PAGE);
     assert!(rt; matches!(elements[0].state, SpanState::Free { stamp: 2 }));
-    Ok(())
-}
-
-// A free page of 2M, the one with this number.
-fn page(number: u64) -> Span
-    requires few { number < 16 }
-    ensures addr { result.addr ≡ BASE + number * PAGE }
-    ensures whole { result.whole ≡ PAGE }
-{
-    Span {
-        addr: BASE + number * PAGE,
-        whole: PAGE,
-        list: 0,
-        page: PAGE,
-        state: SpanState::Free { stamp: number },
-    }
-}
-
-#[test]
-fn keeps_elements_in_order(rt: HostRuntime) -> Result<(), Fail> {
-    let mut elements = Elements::new(rt.alloc());
-    elements.reserve(4)?;
-    elements.insert(0, page(3));
-    elements.insert(0, page(0));
-    elements.insert(1, page(2));
-    let mut out = Vec::new(rt.alloc());
-    elements.append_to(&mut out)?;
-    assert_eq!(rt; out.as_slice(), [page(0), page(2), page(3)].as_slice());
-    for (number, place) in [(0, 0), (1, 1), (2, 1), (3, 2), (4, 3)] {
-        assert_eq!(rt; elements.place_of(BASE + number * PAGE), place, "{number}");
-    }
-    elements.remove(1);
-    elements.insert(0, page(5));
-    elements.splice(1, 2, page(1));
-    out.clear();
-    elements.append_to(&mut out)?;
-    assert_eq!(rt; out.as_slice(), [page(5), page(1)].as_slice());
     Ok(())
 }
 

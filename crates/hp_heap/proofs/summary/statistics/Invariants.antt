@@ -1,6 +1,12 @@
-use Rattle.std.proofs.Common.{◌≡◌, take}
+use Rattle.std.proofs.Common.{◌≡◌, length}
+use Rattle.hp_elem.specs.Items.{Items}
+use Rattle.hp_heap.specs.Headers.{spans_of}
 use Rattle.hp_heap.specs.Statistics.{statistics_of_ranges}
+use Rattle.hp_heap.proofs.WalkLemmas.{IsPassed, rest_from}
 use Rattle.hp_heap.proofs.summary.statistics.Given as goal
 
-abbrev pub invariant-loop-at : goal.invariant-loop-at
-invariant-loop-at l = l.stats ≡ statistics_of_ranges (take l.at l.ranges.items)
+abbrev pub invariant-loop-next : goal.invariant-loop-next
+invariant-loop-next l = (passed : Items) × IsPassed l.headers.items l.next passed × (l.stats ≡ statistics_of_ranges (spans_of passed))
+
+abbrev pub decreases-loop-next : goal.decreases-loop-next
+decreases-loop-next l = length (rest_from l.next l.headers.items)

@@ -6,4 +6,4 @@ use Rattle.hp_heap.proofs.tests.alloc.Goals as goal
 
 pub returns-clause-grown : goal.returns-clause-grown
 unfolding after
-returns-clause-grown c = λ run grown. subst (λ h. IsGrownTo h run) (sym c.alloc.ensures.step.heap) (grown_alloc c.args.heap.now.plain run _ _ _ grown)
+returns-clause-grown c = λ run grown. subst (λ h. IsGrownTo run h) (sym c.alloc.ensures.step.heap) (grown_alloc c.args.heap.now.plain run _ _ _ grown)

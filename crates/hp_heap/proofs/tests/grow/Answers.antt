@@ -19,12 +19,12 @@ behind first before same = record { list = refl; page = refl; socket = refl; fir
 alone : (first before : ℕ) → before ≡ first → first < 16 → IsRun (next first before)
 alone first before same few = record { some = lit< tt; size = refl; aligned = add-mul-mod_self_right 4294967296 before 2097152; base = omega arith; slots = omega arith; end = omega arith }
 
-pub add_run-requires-clause-can_grow : goal.add_run-requires-clause-can_grow
-add_run-requires-clause-can_grow c =
+pub add_run-requires-clause-allowed : goal.add_run-requires-clause-allowed
+add_run-requires-clause-allowed c =
     next_can_grow c.args.heap.now.plain (pages c.args.first) (next c.args.first c.from.result) c.requires.grown (behind c.args.first c.from.result c.from.ensures) (alone c.args.first c.from.result c.from.ensures c.requires.few)
 
 pub returns-clause-grown : goal.returns-clause-grown
 unfolding after
 returns-clause-grown c =
-    subst (λ h. IsGrownTo h (pages (c.args.first + 1))) (sym c.add_run.ensures.heap)
+    subst (λ h. IsGrownTo (pages (c.args.first + 1)) h) (sym c.add_run.ensures.heap)
     (grown_next c.args.heap.now.plain (pages c.args.first) (next c.args.first c.from.result) c.requires.grown (behind c.args.first c.from.result c.from.ensures))

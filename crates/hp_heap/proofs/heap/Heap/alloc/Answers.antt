@@ -8,44 +8,52 @@ use Rattle.hp_heap.specs.Step.{after, answer_of, address_answer}
 use Rattle.hp_heap.specs.History.{after_entry}
 use Rattle.hp_heap.specs.Inside.{plain_of}
 use Rattle.hp_heap.proofs.AllocLaw.{alloc-tiled, allocated-is}
-use Rattle.hp_heap.proofs.SocketSearch.{insertions_more}
-use Rattle.hp_heap.proofs.HeapLaw.{IsNext, next_heap, next_call, kept_of, alloc_ranges, alloc_insertions, alloc_address, alloc_kept, alloc_limits}
+use Rattle.hp_heap.proofs.AllocKept.{IsKeptByAlloc, alloc_kept}
+use Rattle.hp_heap.proofs.ChosenLemmas.{IsAfter, alloc_after}
+use Rattle.hp_heap.proofs.HeapLaw.{IsNext, next_heap, next_call, room_of}
 use Rattle.hp_heap.proofs.heap.Heap.alloc.Goals as goal
 use Rattle.hp_heap.proofs.heap.Heap.alloc.Goals.{After-self-1}
 
-pub allocate-address-requires-clause-kept : goal.allocate-address-requires-clause-kept
-allocate-address-requires-clause-kept c = kept_of c.self.inside c.self.invariant
+pub allocate-address-requires-clause-room : goal.allocate-address-requires-clause-room
+allocate-address-requires-clause-room c = room_of c.self.inside c.self.invariant
 
 -- the fields afterwards, and the entry
 after_call : After-self-1 → Inside
-after_call c = record c.self.inside { ranges = c.allocate-address.new.ranges; free = c.allocate-address.new.free; insertions = c.allocate-address.new.insertions; history = c.record.new.history; spare = c.self.inside.spare - 1 }
+after_call c = record c.self.inside { headers = c.allocate-address.new.headers; history = c.record.new.history; spare = c.self.inside.spare - 1 }
 
 entry_of : After-self-1 → Entry
 entry_of c = record { caller = c.args.caller; call = Alloc c.args.req.now c.args.tag; answer = address_answer c.allocate-address.result }
+
+done : (c : After-self-1) → IsAfter (plain_of c.self.inside) c.args.caller.participant c.args.req.now c.args.tag c.allocate-address.new.headers c.allocate-address.result
+done c =
+    alloc_after c.self.inside c.args.caller.participant c.args.req.now c.args.tag c.deref.result.now c.is_some.result c.allocate-address.new.headers c.allocate-address.result c.self.invariant
+    c.deref.ensures.value c.is_some.ensures c.allocate-address.ensures.allocated
 
 is_next : (c : After-self-1) → IsNext c.self.inside (after_call c) (entry_of c) (after_alloc c.args.caller.participant c.args.req.now c.args.tag (plain_of c.self.inside))
 unfolding after_call entry_of after_entry after answer_of
 is_next c = record {
   step = refl;
-  answered = ap address_answer (c.allocate-address.ensures.address ∙ alloc_address c.self.inside c.args.caller c.args.req.now c.args.tag c.self.invariant c.requires.any_page);
+  legal = record { allowed = tt; answered = ap address_answer (done c).address };
   index = refl;
   serves = refl;
   history = c.record.ensures.entry ∙ ap (λ answer. c.self.inside.history.items ++ record { caller = c.args.caller; call = Alloc c.args.req.now c.args.tag; answer = answer } ∷ []) c.address_answer.ensures;
-  ranges = c.allocate-address.ensures.ranges ∙ alloc_ranges c.self.inside c.args.caller c.args.req.now c.args.tag c.self.invariant c.requires.any_page;
-  insertions = c.allocate-address.ensures.insertions ∙ alloc_insertions c.self.inside c.args.caller c.args.req.now c.args.tag c.self.invariant c.requires.any_page;
-  name = c.self.invariant.name ∙ sym (alloc_kept c.self.inside c.args.caller c.args.req.now c.args.tag c.self.invariant c.requires.any_page).name;
-  socket = c.self.invariant.socket ∙ sym (alloc_kept c.self.inside c.args.caller c.args.req.now c.args.tag c.self.invariant c.requires.any_page).socket;
-  free = c.allocate-address.ensures.free;
+  ranges = (done c).ranges;
+  apart = c.allocate-address.ensures.apart;
+  insertions = (done c).insertions;
+  name = c.self.invariant.name ∙ sym (kept c).name;
+  socket = c.self.invariant.socket ∙ sym (kept c).socket;
+  chunks = c.self.invariant.chunks ∙ sym (kept c).chunks;
   tiled = alloc-tiled (plain_of c.self.inside) c.args.caller.participant c.args.req.now c.args.tag c.self.invariant.tiled;
-  limits = alloc_limits c.self.inside c.args.caller c.args.req.now c.args.tag c.self.invariant c.requires.any_page;
-  counted = omega (arith, c.allocate-address.ensures.insertions, insertions_more c.self.inside.insertions c.args.req.now (Rattle.hp_heap.specs.Free.first_with_place c.self.inside.free.items c.args.req.now), c.self.invariant.counted, c.record.ensures.len);
-  room = omega (arith, c.allocate-address.ensures.len, c.allocate-address.ensures.room, c.self.invariant.room, spare_some c);
-  room_free = omega (arith, c.allocate-address.ensures.len_free, c.allocate-address.ensures.room_free, c.self.invariant.room_free, spare_some c);
+  counted = omega (arith, c.allocate-address.ensures.more, c.self.invariant.counted, c.record.ensures.len);
+  room = omega (arith, c.allocate-address.ensures.spare, c.self.invariant.room, spare_some c);
   room_history = omega (arith, c.record.ensures.len, c.record.ensures.room, c.self.invariant.room_history, spare_some c);
 }
   where
     spare_some : (c : After-self-1) → 1 ≤ c.self.inside.spare
     spare_some c = omega (arith, c.requires.spare, ap (λ v. v.spare) c.self.view_is)
+
+    kept : (c : After-self-1) → IsKeptByAlloc (plain_of c.self.inside) (after_alloc c.args.caller.participant c.args.req.now c.args.tag (plain_of c.self.inside))
+    kept c = alloc_kept (plain_of c.self.inside) c.args.caller.participant c.args.req.now c.args.tag
 
 pub invariant_of-self : goal.invariant_of-self
 unfolding after_call
@@ -60,7 +68,7 @@ returns-clause-step c =
 pub returns-clause-choice : goal.returns-clause-choice
 returns-clause-choice c =
     let plain : plain_of c.self.inside ≡ c.args.self.now.plain = ap (λ v. v.plain) c.self.view_is in
-    let address = c.allocate-address.ensures.address ∙ alloc_address c.self.inside c.args.caller c.args.req.now c.args.tag c.self.invariant c.requires.any_page in
-    subst (λ heap. MatchOption c.allocate-address.result (HasNoChoice heap c.args.caller.participant c.args.req.now) (IsPlacedIn heap c.args.caller.participant c.args.req.now)) plain
-    (subst (λ o. MatchOption o (HasNoChoice (plain_of c.self.inside) c.args.caller.participant c.args.req.now) (IsPlacedIn (plain_of c.self.inside) c.args.caller.participant c.args.req.now)) (sym address)
+    let address = (done (goal.at.returns-clause-choice c).After-self-1).address in
+    subst (λ heap. MatchOption c.allocate-address.result (HasNoChoice c.args.caller.participant c.args.req.now heap) (IsPlacedIn c.args.caller.participant c.args.req.now heap)) plain
+    (subst (λ o. MatchOption o (HasNoChoice c.args.caller.participant c.args.req.now (plain_of c.self.inside)) (IsPlacedIn c.args.caller.participant c.args.req.now (plain_of c.self.inside))) (sym address)
     (allocated-is (plain_of c.self.inside) c.args.caller.participant c.args.req.now c.self.invariant.tiled))

@@ -1,0 +1,30 @@
+use Rattle.std.proofs.Common.{sym, subst}
+use Rattle.hp_elem.specs.Items.{IsAt}
+use Rattle.hp_heap.specs.Headers.{HeadersView, CanInsert}
+use Rattle.hp_heap.proofs.EditLemmas.{keeps-insert, insert_unlisted, insert_below, insert_least}
+use Rattle.hp_heap.proofs.headers.Headers.insert.Goals as goal
+
+pub insert_head-requires-clause-room : goal.insert_head-requires-clause-room
+insert_head-requires-clause-room c =
+    insert_below c.self.inside.elems c.self.inside.lists c.args.key c.self.invariant (subst (λ (v : HeadersView). IsAt CanInsert c.args.key v.items) (sym c.self.view_is) c.requires.busy)
+
+pub insert_head-requires-clause-unlisted : goal.insert_head-requires-clause-unlisted
+insert_head-requires-clause-unlisted c =
+    insert_unlisted c.self.inside.elems c.self.inside.lists c.args.key c.self.invariant (subst (λ (v : HeadersView). IsAt CanInsert c.args.key v.items) (sym c.self.view_is) c.requires.busy)
+
+pub invariant_of-self : goal.invariant_of-self
+invariant_of-self c =
+    keeps-insert c.self.inside.elems c.set_free.new.self c.self.inside.lists c.insert_head.new.self c.args.key c.get.result.now c.self.invariant
+    (subst (λ (v : HeadersView). IsAt CanInsert c.args.key v.items) (sym c.self.view_is) c.requires.busy) c.get.ensures.stands
+    (record {
+      apart = c.set_free.ensures.ordered.apart;
+      stamps = c.set_free.ensures.stamps;
+      items = c.set_free.ensures.items;
+      headed = c.insert_head.ensures.lists;
+      room = c.insert_head.ensures.room;
+      count = c.insert_head.ensures.count;
+    })
+
+pub insert_head-requires-clause-least : goal.insert_head-requires-clause-least
+insert_head-requires-clause-least c =
+    insert_least c.self.inside.elems c.args.key c.get.result.now c.self.invariant.apart (subst (λ (v : HeadersView). IsAt CanInsert c.args.key v.items) (sym c.self.view_is) c.requires.busy) c.get.ensures.stands

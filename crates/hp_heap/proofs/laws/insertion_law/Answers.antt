@@ -1,0 +1,5 @@
+use Rattle.hp_heap.proofs.InsertLaw.{inserts_at_head}
+use Rattle.hp_heap.proofs.laws.insertion_law.Goals as goal
+
+pub returns : goal.returns
+returns c = inserts_at_head

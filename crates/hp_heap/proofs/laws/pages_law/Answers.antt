@@ -1,0 +1,5 @@
+use Rattle.hp_heap.proofs.CutPages.{cuts_pages}
+use Rattle.hp_heap.proofs.laws.pages_law.Goals as goal
+
+pub returns : goal.returns
+returns c = cuts_pages

@@ -1,0 +1,5 @@
+use Rattle.hp_heap.proofs.StepLaw.{after-tiled}
+use Rattle.hp_heap.proofs.laws.tiling_law.Goals as goal
+
+pub returns : goal.returns
+returns c = after-tiled

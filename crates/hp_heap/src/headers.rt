@@ -1,0 +1,186 @@
+ghost use Rattle.std.specs.Prelude.{◌≡◌, ℕ, ◌+◌, ◌<◌, ◌≤◌, ◌^◌, [], true, false, Option, Some, None, OnOk};
+ghost use Rattle.hp_base.specs.declared.span.SpanState.TheVariants.{Free, Busy};
+ghost use Rattle.hp_chain.specs.Chain.{first_key, has_key, AreApart};
+ghost use Rattle.hp_chain.specs.Edits.{without_key};
+ghost use Rattle.hp_elem.specs.Items.{IsAt, AreAt, Stands, after_split, after_join, after_set, after_add, key_at, first_tagged};
+ghost use Rattle.hp_elem.specs.Order.{FitsBeside, IsRising};
+ghost use Rattle.hp_heap.specs.PlainHeap.{is_free};
+ghost use Rattle.hp_heap.specs.Headers.{IsFree, IsBusy, CanSplit, CanJoin, CanInsert, FindsFirstFree};
+
+use hp_base::{Span, Tag};
+use hp_elem::{Elems, Node};
+use hp_freelist::Lists;
+use std::alloc::{AllocError, Global};
+use std::marker::Model;
+
+/// The elements of a heap with their free lists, which contracts do not see: each list has the free elements of its
+/// class, the one inserted last at the head. A free element is made busy before it is cut or joined, and what comes of
+/// it is inserted again, so only `take` and `insert` change the lists. Own.
+#[derive(Drop)]
+pub(crate) struct Headers {
+    elems: Elems,
+    lists: Lists,
+}
+
+impl Model for Headers {
+    ghost use Rattle.hp_heap.specs.Headers.{HeadersView};
+    ghost use Rattle.hp_heap.specs.Tie.{AreTied, spare_of};
+
+    ghost Value = { HeadersView };
+
+    ghost view = { λ h. record { items = h.elems.items; spare = spare_of h.elems h.lists; insertions = h.elems.stamps } };
+
+    ghost invariant = { λ h. AreTied h.elems h.lists };
+}
+
+impl Headers {
+    /// No elements, and no room for any. It takes no memory.
+    pub(crate) fn new(alloc: Global) -> Headers
+        ensures items { result.items ≡ [] }
+        ensures spare { result.spare ≡ 0 }
+        ensures insertions { result.insertions ≡ 0 }
+    {
+        Headers {
+            elems: Elems::new(alloc),
+            lists: Lists::new(alloc),
+        }
+    }
+
+    /// Makes room for `n` more elements. After a refusal there may be no room at all.
+    pub(crate) fn reserve(&mut self, n: usize) -> Result<(), AllocError>
+        ensures room { OnOk result (n ≤ self.new.spare) }
+        ensures spare { OnOk result (self.old.spare ≤ self.new.spare) }
+        ensures items { self.new.items ≡ self.old.items }
+        ensures insertions { self.new.insertions ≡ self.old.insertions }
+    {
+        self.elems.reserve(n)?;
+        self.lists.reserve(self.elems.key_end())
+    }
+
+    /// The element of lowest address.
+    pub(crate) fn first(&self) -> Option<usize>
+        ensures { result ≡ first_key self.now.items None }
+    {
+        self.elems.first()
+    }
+
+    /// The header of the element under a key: the element, and the keys of its neighbours.
+    pub(crate) fn get(&self, key: usize) -> &Node
+        requires known { has_key key self.now.items ≡ true }
+        ensures stands { Stands self.now.items key result.now }
+    {
+        self.elems.get(key)
+    }
+
+    /// The element that contains an address.
+    pub(crate) fn at(&self, addr: u64) -> Option<usize>
+        ensures { result ≡ key_at addr self.now.items }
+    {
+        self.elems.at(addr)
+    }
+
+    /// The element that is busy with a tag, of several the one of lowest address. Who asked for it is not compared.
+    pub(crate) fn find_tag(&self, tag: Tag) -> Option<usize>
+        ensures { result ≡ first_tagged tag.zone tag.number self.now.items }
+    {
+        self.elems.find_tag(tag)
+    }
+
+    /// The first free element that passes the test, in the order of the search: from the list of a class upwards, and in
+    /// each list the one inserted last first.
+    pub(crate) fn first_from<F: Fn(usize) -> bool>(&self, class: u8, test: F) -> Option<usize>
+        requires class { class ≤ 12 }
+        requires callable { (key : ℕ) → IsAt IsFree key self.now.items → F.pre test key }
+        ensures { FindsFirstFree (F.post test) class self.now.items result }
+    {
+        self.lists.first_from(class, test)
+    }
+
+    /// Makes a free element busy: it leaves its free list.
+    pub(crate) fn take(&mut self, key: usize, pad: u64, size: u64, tag: Tag)
+        requires free { IsAt IsFree key self.old.items }
+        ensures items { self.new.items ≡ after_set key (Busy pad size tag) self.old.items }
+        ensures spare { self.new.spare ≡ self.old.spare }
+        ensures insertions { self.new.insertions ≡ self.old.insertions }
+        ensures apart { AreApart self.new.items }
+    {
+        self.lists.remove(key);
+        self.elems.set_busy(key, pad, size, tag);
+    }
+
+    /// Makes a busy element free, with the next stamp, at the head of its free list.
+    pub(crate) fn insert(&mut self, key: usize)
+        requires busy { IsAt CanInsert key self.old.items }
+        requires stamps { self.old.insertions + 1 < 2 ^ 64 }
+        ensures items { self.new.items ≡ after_set key (Free (self.old.insertions + 1)) self.old.items }
+        ensures spare { self.new.spare ≡ self.old.spare }
+        ensures insertions { self.new.insertions ≡ self.old.insertions + 1 }
+        ensures apart { AreApart self.new.items }
+    {
+        let whole = self.elems.get(key).span.whole;
+        self.elems.set_free(key);
+        self.lists.insert_head(key, whole);
+    }
+
+    /// Gives a busy element another pad, size and tag.
+    pub(crate) fn set_busy(&mut self, key: usize, pad: u64, size: u64, tag: Tag)
+        requires busy { IsAt IsBusy key self.old.items }
+        ensures items { self.new.items ≡ after_set key (Busy pad size tag) self.old.items }
+        ensures spare { self.new.spare ≡ self.old.spare }
+        ensures insertions { self.new.insertions ≡ self.old.insertions }
+        ensures apart { AreApart self.new.items }
+    {
+        self.elems.set_busy(key, pad, size, tag);
+    }
+
+    /// Cuts a busy element in two at an address inside it. Both parts have its state, and the key is that of the second.
+    pub(crate) fn split(&mut self, key: usize, at: u64) -> usize
+        requires spare { 0 < self.old.spare }
+        requires busy { IsAt (CanSplit at) key self.old.items }
+        ensures items { self.new.items ≡ after_split key at result self.old.items }
+        ensures fresh { has_key result self.old.items ≡ false }
+        ensures spare { self.new.spare + 1 ≡ self.old.spare }
+        ensures insertions { self.new.insertions ≡ self.old.insertions }
+        ensures apart { AreApart self.new.items }
+    {
+        self.elems.split(key, at)
+    }
+
+    /// Joins the next element to a busy one, both of one segment list. The two are one element with the state of the
+    /// first, and the key of the next is no longer in use.
+    pub(crate) fn join(&mut self, key: usize)
+        requires busy { AreAt CanJoin key self.old.items }
+        ensures items { self.new.items ≡ after_join key self.old.items }
+        ensures spare { self.new.spare ≡ self.old.spare }
+        ensures insertions { self.new.insertions ≡ self.old.insertions }
+        ensures apart { AreApart self.new.items }
+    {
+        self.elems.join_next(key);
+    }
+
+    /// Takes a busy element out, and its key is no longer in use.
+    pub(crate) fn hide(&mut self, key: usize)
+        requires busy { IsAt IsBusy key self.old.items }
+        ensures items { self.new.items ≡ without_key key self.old.items }
+        ensures spare { self.new.spare ≡ self.old.spare }
+        ensures insertions { self.new.insertions ≡ self.old.insertions }
+        ensures apart { AreApart self.new.items }
+    {
+        self.elems.hide(key);
+    }
+
+    /// Adds a busy element where no other one has a byte. The key is its own.
+    pub(crate) fn add(&mut self, span: Span) -> usize
+        requires spare { 0 < self.old.spare }
+        requires busy { IsBusy span }
+        requires fits { FitsBeside span self.old.items }
+        ensures items { self.new.items ≡ after_add (record { key = result; value = span }) self.old.items }
+        ensures fresh { has_key result self.old.items ≡ false }
+        ensures spare { self.new.spare + 1 ≡ self.old.spare }
+        ensures insertions { self.new.insertions ≡ self.old.insertions }
+        ensures apart { AreApart self.new.items }
+        ensures rising { IsRising 0 self.new.items }
+    {
+        self.elems.add(span)
+    }
+}

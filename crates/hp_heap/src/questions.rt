@@ -1,0 +1,92 @@
+ghost use Rattle.std.specs.Prelude.{◌≡◌, ◌<◌, ◌^◌};
+ghost use Rattle.std.specs.List.{find};
+ghost use Rattle.std.specs.Option.{option_map};
+ghost use Rattle.hp_heap.specs.PlainHeap.{data_address};
+ghost use Rattle.hp_heap.specs.Tiling.{in_range, range_at};
+ghost use Rattle.hp_heap.specs.Joining.{has_tag};
+ghost use Rattle.hp_heap.specs.Headers.{spans_of};
+ghost use Rattle.hp_heap.specs.Finding.{IsOfHeap};
+ghost use Rattle.hp_heap.specs.Step.{address_answer};
+ghost use Rattle.hp_heap.specs.History.{IsCall};
+
+use crate::alloc::address_answer;
+use crate::entry::{HeapAnswer, HeapCall};
+use crate::headers::Headers;
+use crate::heap::{Heap, record};
+use crate::summary::statistics;
+use hp_base::{Caller, HEADER, Span, SpanState, Stats, Tag};
+
+impl Heap {
+    /// The address of the data of the busy element with the zone mark and the number of a tag, of several the lowest. Who
+    /// asked for it is not compared. Own; it stands for the address that a line of the workload keeps.
+    pub fn find(&mut self, caller: Caller, tag: Tag) -> Option<u64>
+        requires spare { 0 < self.old.spare }
+        ensures { IsCall caller (HeapCall.Find tag) (address_answer result) self.old self.new }
+    {
+        let address = tagged(&self.headers, tag);
+        record(
+            &mut self.history,
+            caller,
+            HeapCall::Find { tag },
+            address_answer(address),
+        );
+        self.spare -= 1;
+        address
+    }
+
+    /// Its statistics. After malloc_heap_get_stats of rte_malloc.
+    pub fn stats(&mut self, caller: Caller) -> Stats
+        requires spare { 0 < self.old.spare }
+        ensures { IsCall caller HeapCall.Stats (HeapAnswer.Statistics result) self.old self.new }
+    {
+        let stats = statistics(&self.headers);
+        record(
+            &mut self.history,
+            caller,
+            HeapCall::Stats,
+            HeapAnswer::Statistics { stats },
+        );
+        self.spare -= 1;
+        stats
+    }
+
+    /// The element that contains an address, without an entry in the history. Own.
+    pub fn lookup(&self, addr: u64) -> Option<Span>
+        ensures { result ≡ range_at addr self.now.plain }
+    {
+        span_at(&self.headers, addr)
+    }
+}
+
+// The address of the data of the busy element with a tag.
+fn tagged(headers: &Headers, tag: Tag) -> Option<u64>
+    requires { IsOfHeap headers.now }
+    ensures { result ≡ option_map data_address (find (has_tag tag.zone tag.number) (spans_of headers.now.items)) }
+{
+    let Some(key) = headers.find_tag(tag) else {
+        return None;
+    };
+    Some(data_address(&headers.get(key).span))
+}
+
+// The address of an element's data.
+fn data_address(range: &Span) -> u64
+    requires { data_address range.now < 2 ^ 64 }
+    ensures { result ≡ data_address range.now }
+{
+    match range.state {
+        SpanState::Busy { pad, .. } => range.addr + pad + HEADER,
+        SpanState::Free { .. } => range.addr + HEADER,
+    }
+}
+
+// The element that contains an address.
+fn span_at(headers: &Headers, addr: u64) -> Option<Span>
+    requires { IsOfHeap headers.now }
+    ensures { result ≡ find (in_range addr) (spans_of headers.now.items) }
+{
+    let Some(key) = headers.at(addr) else {
+        return None;
+    };
+    Some(headers.get(key).span)
+}
