@@ -1,11 +1,13 @@
 -- What an accepted participant line says: an allocation comes of the verb `alloc` alone, with the label, the size and the options that stand in its fields.
-use Rattle.std.proofs.Common.{◌≡◌, ℕ, ◌<◌, ◌^◌, Bool, true, false, List, [], ◌∷◌, length, refl, cond, ◌⊎◌, inl, inr}
-use Rattle.std.specs.Prelude.{Some, Result, Ok, Err, IfOk, nat_lt, not}
+use Rattle.std.proofs.Common.{◌≡◌, ℕ, ◌<◌, ◌≤◌, ◌^◌, arith, Bool, true, false, List, [], ◌∷◌, length, refl, cond, ◌⊎◌, inl, inr}
+use Rattle.std.specs.Prelude.{Some, Result, Ok, Err, IfOk, nat_lt, not, ⊤}
+use Rattle.std.proofs.lemmas.Bool.Decides.{nat_tests}
 use Rattle.hp_script.specs.Part.{Part}
 use Rattle.hp_script.specs.Numbers.{numeral, number}
 use Rattle.hp_script.specs.Judge.{is_within, number_field, party_field}
-use Rattle.hp_script.specs.Later.{is_alloc}
 use Rattle.hp_script.specs.Options.{options_of}
+use Rattle.hp_script.specs.Facts.{IsActOf, IsRange}
+use Rattle.hp_base.specs.declared.limits.TheConstants.{MAX_PARTICIPANTS}
 use Rattle.hp_script.specs.Verbs.{verb_named}
 use Rattle.hp_script.specs.ShapesMemory.{alloc_line, zone_line, resize_line}
 use Rattle.hp_script.specs.ShapesHeaps.{name_act, name_line, range_act, range_line, add_line}
@@ -27,7 +29,9 @@ use Rattle.hp_script.specs.declared.verb.MemberCall.TheVariants as member_call
 use Rattle.hp_script.specs.declared.shape.Shape.{Shape}
 use Rattle.hp_script.specs.declared.shape.Shape.TheVariants.{Setup, Does, Awaits}
 use Rattle.hp_script.proofs.NumberLemmas.{number_fits}
+use Rattle.hp_script.proofs.OptionFacts.{options_valid}
 use Rattle.hp_script.proofs.StepLemmas.{through, passed, present, answered}
+use Rattle.hp_script.proofs.LabelLemmas.{is_alloc}
 use Rattle.hp_script.proofs.SetupRanges.{SaysSetup, setup_line_says}
 
 -- the allocation that fields behind a participant say
@@ -41,15 +45,20 @@ pub record IsAllocOf (p : Part) (v : Verb) (arguments : List Part) (party : ℕ)
   pub given : options_of words ≡ Some options
 
 -- an act is such an allocation, or comes of another verb
-abbrev pub IsActOf : Part → Verb → List Part → ℕ → Act → Type 0
-IsActOf p v arguments party (act.Alloc label size options) = IsAllocOf p v arguments party label size options
-IsActOf p v arguments party _ = is_alloc (Some v) ≡ false
+abbrev pub IsMadeBy : Part → Verb → List Part → ℕ → Act → Type 0
+IsMadeBy p v arguments party (act.Alloc label size options) = IsAllocOf p v arguments party label size options
+IsMadeBy p v arguments party _ = is_alloc (Some v) ≡ false
+
+-- an act awaits nothing
+abbrev pub DoesNotAwait : Act → Type 0
+DoesNotAwait (act.Await other k) = ⊥
+DoesNotAwait _ = ⊤
 
 -- a line says such an act, or awaits
 abbrev pub SaysAct : Part → Verb → List Part → Shape → Type 0
 SaysAct p v arguments (Setup setup) = ⊥
-SaysAct p v arguments (Does party deed) = IsActOf p v arguments party deed
-SaysAct p v arguments (Awaits party other k) = is_alloc (Some v) ≡ false
+SaysAct p v arguments (Does party deed) = IsMadeBy p v arguments party deed × IsActOf party deed × DoesNotAwait deed
+SaysAct p v arguments (Awaits party other k) = (is_alloc (Some v) ≡ false) × (1 ≤ k)
 
 module _ (p : Part) where
   alloc_says : (arguments : List Part) → IfOk (alloc_line p arguments) (SaysAct p verb.Alloc arguments)
@@ -59,16 +68,19 @@ module _ (p : Part) where
   alloc_says (label ∷ n ∷ words) =
       present (numeral 10 p.text) bad.Number _ _ (λ party party_is.
       present (number n.text) bad.Number _ _ (λ size size_is.
-      present (options_of words) bad.Option _ _ (λ options given.
-      record {
-        verb_is = refl;
-        size_field = n;
-        words = words;
-        arguments_are = refl;
-        party_is = party_is;
-        fits = rw size_is at (number_fits n.text);
-        given = given;
-      })))
+      present (options_of words) bad.Option _ _ (λ options given. (
+        record {
+          verb_is = refl;
+          size_field = n;
+          words = words;
+          arguments_are = refl;
+          party_is = party_is;
+          fits = rw size_is at (number_fits n.text);
+          given = given;
+        },
+        (rw size_is at (number_fits n.text), options_valid words options given),
+        tt,
+      ))))
 
   zone_says : (arguments : List Part) → IfOk (zone_line p arguments) (SaysAct p verb.Zone arguments)
   unfolding zone_line
@@ -76,9 +88,10 @@ module _ (p : Part) where
   zone_says (name ∷ []) = tt
   zone_says (name ∷ n ∷ words) =
       through (party_field p) _ _ (λ party _.
-      through (number_field n) _ _ (λ len _.
+      present (number n.text) bad.Number _ _ (λ len len_is.
       passed (nat_lt len 1) bad.Range _ _ (λ some.
-      present (options_of words) bad.Option _ _ (λ options given. refl))))
+      present (options_of words) bad.Option _ _ (λ options given.
+      (refl, (grind (arith, nat_tests, some), rw len_is at (number_fits n.text), options_valid words options given), tt)))))
 
   resize_says : (arguments : List Part) → IfOk (resize_line p arguments) (SaysAct p verb.Resize arguments)
   unfolding resize_line
@@ -86,19 +99,19 @@ module _ (p : Part) where
   resize_says (label ∷ []) = tt
   resize_says (label ∷ n ∷ []) =
       through (party_field p) _ _ (λ party _.
-      through (number_field n) _ _ (λ size _. refl))
+      present (number n.text) bad.Number _ _ (λ size size_is. (refl, rw size_is at (number_fits n.text), tt)))
   resize_says (label ∷ n ∷ other ∷ others) = tt
 
-  name_act_is : (call : NameCall) (arguments : List Part) (party : ℕ) (name : Part) → IsActOf p (verb.Name call) arguments party (name_act call name)
-  name_act_is name_call.Free arguments party name = refl
-  name_act_is name_call.Lookup arguments party name = refl
-  name_act_is name_call.Unzone arguments party name = refl
-  name_act_is name_call.Heap arguments party name = refl
-  name_act_is name_call.Unheap arguments party name = refl
-  name_act_is name_call.Watch arguments party name = refl
-  name_act_is name_call.Unwatch arguments party name = refl
-  name_act_is name_call.Dump arguments party name = refl
-  name_act_is name_call.Stats arguments party name = refl
+  name_act_is : (call : NameCall) (arguments : List Part) (party : ℕ) (name : Part) → IsMadeBy p (verb.Name call) arguments party (name_act call name) × IsActOf party (name_act call name) × DoesNotAwait (name_act call name)
+  name_act_is name_call.Free arguments party name = (refl, tt, tt)
+  name_act_is name_call.Lookup arguments party name = (refl, tt, tt)
+  name_act_is name_call.Unzone arguments party name = (refl, tt, tt)
+  name_act_is name_call.Heap arguments party name = (refl, tt, tt)
+  name_act_is name_call.Unheap arguments party name = (refl, tt, tt)
+  name_act_is name_call.Watch arguments party name = (refl, tt, tt)
+  name_act_is name_call.Unwatch arguments party name = (refl, tt, tt)
+  name_act_is name_call.Dump arguments party name = (refl, tt, tt)
+  name_act_is name_call.Stats arguments party name = (refl, tt, tt)
 
   name_says : (call : NameCall) (arguments : List Part) → IfOk (name_line call p arguments) (SaysAct p (verb.Name call) arguments)
   unfolding name_line
@@ -106,10 +119,10 @@ module _ (p : Part) where
   name_says call (name ∷ []) = through (party_field p) _ _ (λ party _. name_act_is call (name ∷ []) party name)
   name_says call (name ∷ other ∷ others) = tt
 
-  range_act_is : (call : RangeCall) (arguments : List Part) (party : ℕ) (heap : Part) (addr len : ℕ) → IsActOf p (verb.Range call) arguments party (range_act call heap addr len)
-  range_act_is range_call.Remove arguments party heap addr len = refl
-  range_act_is range_call.Map arguments party heap addr len = refl
-  range_act_is range_call.Unmap arguments party heap addr len = refl
+  range_act_is : (call : RangeCall) (arguments : List Part) (party : ℕ) (heap : Part) (addr len : ℕ) → IsRange addr len → IsMadeBy p (verb.Range call) arguments party (range_act call heap addr len) × IsActOf party (range_act call heap addr len) × DoesNotAwait (range_act call heap addr len)
+  range_act_is range_call.Remove arguments party heap addr len fits = (refl, fits, tt)
+  range_act_is range_call.Map arguments party heap addr len fits = (refl, fits, tt)
+  range_act_is range_call.Unmap arguments party heap addr len fits = (refl, fits, tt)
 
   range_says : (call : RangeCall) (arguments : List Part) → IfOk (range_line call p arguments) (SaysAct p (verb.Range call) arguments)
   unfolding range_line
@@ -118,8 +131,8 @@ module _ (p : Part) where
   range_says call (heap ∷ a ∷ []) = tt
   range_says call (heap ∷ a ∷ n ∷ []) =
       through (party_field p) _ _ (λ party _.
-      through (number_field a) _ _ (λ addr _.
-      through (number_field n) _ _ (λ len _. range_act_is call (heap ∷ a ∷ n ∷ []) party heap addr len)))
+      present (number a.text) bad.Number _ _ (λ addr addr_is.
+      present (number n.text) bad.Number _ _ (λ len len_is. range_act_is call (heap ∷ a ∷ n ∷ []) party heap addr len (rw addr_is at (number_fits a.text), rw len_is at (number_fits n.text)))))
   range_says call (heap ∷ a ∷ n ∷ other ∷ others) = tt
 
   add_says : (arguments : List Part) → IfOk (add_line p arguments) (SaysAct p verb.Add arguments)
@@ -130,20 +143,21 @@ module _ (p : Part) where
   add_says (heap ∷ a ∷ n ∷ []) = tt
   add_says (heap ∷ a ∷ n ∷ size ∷ []) =
       through (party_field p) _ _ (λ party _.
-      through (number_field a) _ _ (λ addr _.
-      through (number_field n) _ _ (λ len _.
-      through (number_field size) _ _ (λ page _. refl))))
+      present (number a.text) bad.Number _ _ (λ addr addr_is.
+      present (number n.text) bad.Number _ _ (λ len len_is.
+      present (number size.text) bad.Number _ _ (λ page page_is.
+      (refl, ((rw addr_is at (number_fits a.text), rw len_is at (number_fits n.text)), rw page_is at (number_fits size.text)), tt)))))
   add_says (heap ∷ a ∷ n ∷ size ∷ other ∷ others) = tt
 
   member_says : (call : MemberCall) (arguments : List Part) → IfOk (member_line call p arguments) (SaysAct p (verb.Member call) arguments)
   unfolding member_line
   member_says call [] =
       through (party_field p) _ _ (λ party _.
-      passed (not (is_within 1 15 party)) bad.Range _ _ (λ within. member_act_is call party))
+      passed (not (is_within 1 15 party)) bad.Range _ _ (λ within. member_act_is call party (grind (arith, nat_tests, within), grind (arith, nat_tests, within))))
     where
-      member_act_is : (some : MemberCall) (party : ℕ) → IsActOf p (verb.Member call) [] party (member_act some)
-      member_act_is member_call.Attach party = refl
-      member_act_is member_call.Detach party = refl
+      member_act_is : (some : MemberCall) (party : ℕ) → (1 ≤ party) × (party < MAX_PARTICIPANTS) → IsMadeBy p (verb.Member call) [] party (member_act some) × IsActOf party (member_act some) × DoesNotAwait (member_act some)
+      member_act_is member_call.Attach party within = (refl, within, tt)
+      member_act_is member_call.Detach party within = (refl, within, tt)
   member_says call (other ∷ others) = tt
 
   limit_says : (arguments : List Part) → IfOk (limit_line p arguments) (SaysAct p verb.Limit arguments)
@@ -155,10 +169,11 @@ module _ (p : Part) where
       passed (nat_lt 1 (length words)) bad.Fields _ _ (λ few.
       through (party_field p) _ _ (λ party _.
       through (number_field s) _ _ (λ socket _.
-      through (number_field n) _ _ (λ bytes _.
+      present (number n.text) bad.Number _ _ (λ bytes bytes_is.
       passed (nat_lt 0 party) bad.Range _ _ (λ primary.
       passed (nat_lt 31 socket) bad.Range _ _ (λ within.
-      through (is_allow words) _ _ (λ allow _. refl)))))))
+      through (is_allow words) _ _ (λ allow _.
+      (refl, (grind (arith, nat_tests, primary), grind (arith, nat_tests, within), rw bytes_is at (number_fits n.text)), tt))))))))
 
   unlimit_says : (arguments : List Part) → IfOk (unlimit_line p arguments) (SaysAct p verb.Unlimit arguments)
   unfolding unlimit_line
@@ -168,7 +183,7 @@ module _ (p : Part) where
       through (party_field p) _ _ (λ party _.
       through (number_field s) _ _ (λ socket _.
       passed (nat_lt 0 party) bad.Range _ _ (λ primary.
-      passed (nat_lt 31 socket) bad.Range _ _ (λ within. refl))))
+      passed (nat_lt 31 socket) bad.Range _ _ (λ within. (refl, (grind (arith, nat_tests, primary), grind (arith, nat_tests, within)), tt)))))
   unlimit_says (name ∷ s ∷ other ∷ others) = tt
 
   await_says : (arguments : List Part) → IfOk (await_line p arguments) (SaysAct p verb.Await arguments)
@@ -179,7 +194,7 @@ module _ (p : Part) where
       through (party_field p) _ _ (λ party _.
       through (party_field q) _ _ (λ other _.
       through (number_field k) _ _ (λ lines _.
-      passed (nat_lt lines 1) bad.Range _ _ (λ some. refl))))
+      passed (nat_lt lines 1) bad.Range _ _ (λ some. (refl, grind (arith, nat_tests, some))))))
   await_says (q ∷ k ∷ other ∷ others) = tt
 
   act_line_says : (v : Verb) (arguments : List Part) → IfOk (act_line v p arguments) (SaysAct p v arguments)

@@ -1,142 +1,105 @@
--- An accepted text each of whose lines is built describes a workload that is built.
-use Rattle.std.proofs.Common.{◌≡◌, ℕ, suc, zero, ◌+◌, ◌<◌, Bool, true, false, ◌||◌, List, [], ◌∷◌, length, get_or, refl, sym, ap, ◌∙◌, inl, inr, arith}
-use Rattle.std.specs.Prelude.{Option, Some, None, Ok, IfOk, All, is_some, nat_le, nat_lt, not, unwrap_or, slice_index}
-use Rattle.std.specs.List.{list_any}
-use Rattle.std.proofs.lemmas.List.Elements.{All-push}
+-- An accepted text without a line that is to be built later describes a workload that is built.
+use Rattle.std.proofs.Common.{◌≡◌, ℕ, Bool, true, false, ◌&&◌, List, [], ◌∷◌, refl, sym, ap, ◌∙◌, cond, arith}
+use Rattle.std.specs.Prelude.{Option, Some, None, All, not, is_none, unwrap_or, min, ◌==◌}
+use Rattle.std.specs.Option.{option_map}
+use Rattle.std.proofs.lemmas.Bool.Decides.{nat_tests}
+use Rattle.std.specs.List.{AllByRecursion, find}
+use Rattle.std.proofs.lemmas.List.Elements.{All-nil, All-cons, All-head, All-tail}
 use Rattle.std.proofs.lemmas.Grind.{common_steps}
-use Rattle.hp_script.specs.Part.{Part}
-use Rattle.hp_script.specs.Text.{lines_of, fields_of, is_skipped}
-use Rattle.hp_script.specs.Marks.{is_marked}
-use Rattle.hp_script.specs.Counts.{segments_of, is_same_pool}
-use Rattle.hp_script.specs.Later.{is_built, is_later, later_line}
-use Rattle.hp_script.specs.Built.{IsBuiltLine, IsBuilt}
-use Rattle.hp_script.specs.Makers.{Makers, makers_of}
-use Rattle.hp_script.specs.Setups.{nothing, is_strange, set_socket, set_deadline, add_pool, setup_step}
-use Rattle.hp_script.specs.Shapes.{shape_of}
-use Rattle.hp_script.specs.Reading.{read_line}
-use Rattle.hp_script.specs.Workloads.{reading_of, IsReadAs}
-use Rattle.hp_script.specs.declared.bad_kind.BadKind.TheVariants as bad
+use Rattle.hp_base.specs.declared.plan_entry.PlanEntry.{PlanEntry}
+use Rattle.hp_script.specs.Later.{is_built_act, first_act, entry_line, earlier, later_line}
+use Rattle.hp_script.specs.Limits.{AreDeclared}
+use Rattle.hp_script.specs.Facts.{IsActOf, IsLineOf}
+use Rattle.hp_script.specs.Built.{IsBuiltAct, IsBuiltLine, IsBuilt}
+use Rattle.hp_script.specs.Workloads.{IsReadAs}
+use Rattle.hp_script.specs.declared.line.Act.{Act}
+use Rattle.hp_script.specs.declared.line.Act.TheVariants as act
 use Rattle.hp_script.specs.declared.line.Line.{Line}
-use Rattle.hp_script.specs.declared.shape.Setup.{Setup as SetupLine}
-use Rattle.hp_script.specs.declared.shape.Setup.TheVariants.{Participants, Absent, Socket, Deadline, Pool, Message, Mapping}
-use Rattle.hp_script.specs.declared.shape.Shape.{Shape}
-use Rattle.hp_script.specs.declared.shape.Shape.TheVariants.{Setup, Does, Awaits}
-use Rattle.hp_script.specs.declared.reader.Reader.{Reader}
 use Rattle.hp_script.specs.declared.workload.Workload.{Workload}
-use Rattle.hp_script.proofs.ActLemmas.{shape_says}
-use Rattle.hp_script.proofs.BuiltShapes.{IsBuiltSetup, IsBuiltShape, built_shape}
-use Rattle.hp_script.proofs.LaterLemmas.{later_from, later_from_here, later_from_next}
-use Rattle.hp_script.proofs.StepLemmas.{passed, answered, Adds, read_line_says, along}
+use Rattle.hp_script.proofs.DeclaredLemmas.{reading_declared}
+use Rattle.hp_script.proofs.FactLemmas.{reading_facts}
+use Rattle.hp_script.proofs.SetupFacts.{reading_setup}
 
--- what was read of lines that are built
-record IsBuiltReader (read : Reader) : Type 0 where
-  alone : read.participants ≡ None
-  attached : read.absent ≡ 0
-  many : length read.sockets ≡ 16
-  socket : slice_index read.sockets 0 < 32
-  others : (party : ℕ) → 0 < party → slice_index read.sockets party ≡ 0
-  unplanned : read.plan ≡ []
-  lines : All IsBuiltLine read.lines
+both : (first second : Bool) → (first && second) ≡ true → (first ≡ true) × (second ≡ true)
+both true second is = (refl, is)
+both false second is = absurd cc
 
-setup_step_built : (read : Reader) (number : ℕ) (setup : SetupLine) → IsBuiltSetup setup → IsBuiltReader read → IfOk (setup_step read number setup) IsBuiltReader
-unfolding set_socket set_deadline add_pool
-setup_step_built read number (Pool pool) is before =
-    passed (list_any (is_same_pool pool) read.pools) bad.Duplicate _ _ (λ once.
-    passed (nat_le 128 (length read.pools)) bad.Limit _ _ (λ lists.
-    passed (nat_lt 16384 (segments_of read.pools + pool.slots)) bad.Limit _ _ (λ segments.
-    record { alone = before.alone; attached = before.attached; many = before.many; socket = before.socket; others = before.others; unplanned = before.unplanned; lines = before.lines })))
-setup_step_built read number (Deadline ms) is before =
-    passed (is_some read.deadline) bad.Duplicate _ _ (λ once.
-    record { alone = before.alone; attached = before.attached; many = before.many; socket = before.socket; others = before.others; unplanned = before.unplanned; lines = before.lines })
-setup_step_built read number (Socket party socket) is before =
-    passed (is_marked read.placed party) bad.Duplicate _ _ (λ once.
-    passed (is_strange read party) bad.Unknown _ _ (λ declared.
-    rw is.0 (record {
-      alone = before.alone;
-      attached = before.attached;
-      many = grind (arith, common_steps, before.many);
-      socket = grind (arith, common_steps, before.many, is.1);
-      others = λ other above. grind (arith, common_steps, before.others other above, above);
-      unplanned = before.unplanned;
-      lines = before.lines;
-    })))
-setup_step_built read number (Participants count) is before = absurd is
-setup_step_built read number (Absent party) is before = absurd is
-setup_step_built read number (Message kind party k twice) is before = absurd is
-setup_step_built read number (Mapping party call elsewhere) is before = absurd is
+absent : {A : Type 0} (o : Option A) → is_none o ≡ true → o ≡ None
+absent None is = refl
+absent (Some x) is = absurd cc
 
-module _ (makers : Makers) where
-  adds_built : (read more : Reader) (number : ℕ) (said : Shape) → IsBuiltReader read → IsBuiltShape said → Adds makers read number said more → IsBuiltReader more
-  adds_built read more number (Setup setup) before is adds =
-      answered IsBuiltReader (setup_step read number setup) more adds.1 (setup_step_built read number setup is before)
-  adds_built read more number (Does party deed) before is adds =
-      let line : Line = record { line = number; participant = party; act = deed } in
-      rw adds.1.added (record {
-        alone = before.alone;
-        attached = before.attached;
-        many = before.many;
-        socket = before.socket;
-        others = before.others;
-        unplanned = before.unplanned;
-        lines = All-push IsBuiltLine read.lines line before.lines (record { participant = is.0; act = is.1 });
-      })
-  adds_built read more number (Awaits party other k) before is adds = absurd is
-
-  said_built : (fields : List Part) (said : Shape) → is_built fields ≡ true → shape_of fields ≡ Ok said → IsBuiltShape said
-  said_built [] said built shape = absurd cc
-  said_built (first ∷ others) said built shape = built_shape first others said built (shape_says first others said shape)
-
-  is_one : (skipped built : Bool) → not (skipped || built) ≡ false → skipped ≡ false → built ≡ true
-  is_one true built none read = absurd cc
-  is_one false true none read = refl
-  is_one false false none read = absurd cc
-
-  line_built : (read more : Reader) (number : ℕ) (line : Part) → IsBuiltReader read → is_later line ≡ false → read_line makers read number line ≡ Ok more → IsBuiltReader more
-  line_built read more number line before none same =
-      elim (read_line_says makers read number line more same) [
-        | inl skipped ↦ rw skipped.1 before
-        | inr says ↦ adds_built read more number says.1.said before
-            (said_built (fields_of line) says.1.said (is_one (is_skipped (fields_of line)) (is_built (fields_of line)) none says.0) says.1.shape) says.1.adds
-      ]
-
--- without a first later line each line is built or skipped
-none_later : (lines : List Part) (number : ℕ) → later_from number lines ≡ None → (i : ℕ) (d : Part) → i < length lines → is_later (get_or lines i d) ≡ false
-none_later [] number none i d within = absurd (omega (arith, within))
-none_later (line ∷ lines) number none i d within = chosen (is_later line) refl i within (λ rest k inside. none_later lines (number + 1) rest k d inside)
-  where
-    chosen : (test : Bool) → is_later line ≡ test → (k : ℕ) → k < length (line ∷ lines) → (later_from (number + 1) lines ≡ None → (j : ℕ) → j < length lines → is_later (get_or lines j d) ≡ false)
-        → is_later (get_or (line ∷ lines) k d) ≡ false
-    chosen true is k inside rest = absurd (let some : Some number ≡ None = sym (later_from_here line lines number is) ∙ none in cc)
-    chosen false is zero inside rest = is
-    chosen false is (suc k) inside rest = rest (sym (later_from_next line lines number is) ∙ none) k (omega (arith, inside))
-
-reading_built : (bytes : List ℕ) (read : Reader) → reading_of bytes ≡ Ok read → later_line bytes ≡ None → IsBuiltReader read
-unfolding reading_of
-reading_built bytes read same none =
-    along (makers_of (lines_of bytes)) (λ _ some. IsBuiltReader some) (λ _ line. is_later line ≡ false) (line_built (makers_of (lines_of bytes))) (lines_of bytes) nothing read 1
-    (none_later (lines_of bytes) 1 none) nothing_built same
-  where
-    nothing_built : IsBuiltReader nothing
-    nothing_built = record {
-      alone = refl;
-      attached = refl;
-      many = refl;
-      socket = omega arith;
-      others = λ party above. grind (arith, common_steps);
-      unplanned = refl;
-      lines = λ k d within. absurd (omega (arith, within));
-    }
-
--- an accepted text without a first later line describes a workload that is built
-pub built_when_none_later : (bytes : List ℕ) (workload : Workload) → IsReadAs bytes workload → later_line bytes ≡ None → IsBuilt workload
-built_when_none_later bytes workload read none =
-    let built = reading_built bytes read.read read.whole none in
-    let is = read.workload_is in
+-- an act that is built
+built_act : (party : ℕ) (deed : Act) → IsActOf party deed → is_built_act deed ≡ true → IsBuiltAct deed
+built_act party (act.Alloc label size options) is built =
+    let heap = both (is_none options.heap) _ built in
+    let align = both (options.align == 0) _ heap.1 in
+    let bound = both (options.bound == 0) (options.flags == 0) align.1 in
     record {
-      alone = is.participants ∙ ap (λ (n : Option ℕ). unwrap_or n 1) built.alone;
-      attached = is.absent ∙ built.attached;
-      socket = rw is.sockets built.socket;
-      others = rw is.sockets built.others;
-      unplanned = is.plan ∙ built.unplanned;
-      lines = rw is.lines built.lines;
+      socket = is.1.socket;
+      heap = absent options.heap heap.0;
+      align = grind (arith, nat_tests, align.0);
+      bound = grind (arith, nat_tests, bound.0);
+      flags = grind (arith, nat_tests, bound.1);
+    }
+built_act party _ is built = absurd cc
+
+-- where no act is to be built later, all are built
+all_built : (lines : List Line) → first_act lines ≡ None → AllByRecursion (λ line. is_built_act line.act ≡ true) lines
+all_built [] none = tt
+all_built (line ∷ lines) none = chosen (is_built_act line.act) refl none (all_built lines)
+  where
+    chosen : (test : Bool) → is_built_act line.act ≡ test
+        → option_map (λ some. some.line) (cond (not test) (Some line) (find (λ some. not (is_built_act some.act)) lines)) ≡ None
+        → (first_act lines ≡ None → AllByRecursion (λ some. is_built_act some.act ≡ true) lines)
+        → (is_built_act line.act ≡ true) × AllByRecursion (λ some. is_built_act some.act ≡ true) lines
+    chosen true is none rest = (is, rest none)
+    chosen false is none rest = absurd cc
+
+-- no line of the three is there
+record HasNone (later : Option ℕ) (entries : List PlanEntry) (lines : List Line) : Type 0 where
+  setup : later ≡ None
+  plan : entries ≡ []
+  acts : first_act lines ≡ None
+
+some_first : (n : ℕ) (other : Option ℕ) → earlier (Some n) other ≡ None → ⊥
+some_first n None none = absurd cc
+some_first n (Some m) none = absurd cc
+
+none_of_three : (setup : Option ℕ) (plan : List PlanEntry) (lines : List Line) → later_line setup plan lines ≡ None → HasNone setup plan lines
+none_of_three None [] lines none = record { setup = refl; plan = refl; acts = none }
+none_of_three None (entry ∷ plan) lines none = absurd (some_first (entry_line entry) (first_act lines) none)
+none_of_three (Some n) [] lines none = absurd (some_first n (first_act lines) none)
+none_of_three (Some n) (entry ∷ plan) lines none = absurd (some_first (min n (entry_line entry)) (first_act lines) none)
+
+to_each : (P : Line → Type 0) (lines : List Line) → All P lines → AllByRecursion P lines
+to_each P [] all = tt
+to_each P (line ∷ lines) all = (All-head P line lines all, to_each P lines (All-tail P line lines all))
+
+of_each : (P : Line → Type 0) (lines : List Line) → AllByRecursion P lines → All P lines
+of_each P [] all = All-nil P
+of_each P (line ∷ lines) all = All-cons P line lines all.0 (of_each P lines all.1)
+
+built_lines : (lines : List Line) → AreDeclared 1 lines → AllByRecursion IsLineOf lines → AllByRecursion (λ line. is_built_act line.act ≡ true) lines → AllByRecursion IsBuiltLine lines
+built_lines [] declared acts built = tt
+built_lines (line ∷ lines) declared acts built =
+    (record { participant = omega (arith, declared.0); act = built_act line.participant line.act acts.0 built.0 }, built_lines lines declared.1 acts.1 built.1)
+
+-- an accepted text without a later line describes a workload that is built
+pub built_when_none_later : (bytes : List ℕ) (workload : Workload) → IsReadAs bytes workload → later_line workload.later workload.plan.items workload.lines.items ≡ None → IsBuilt workload
+built_when_none_later bytes workload read none =
+    let is = read.workload_is in
+    let setup = reading_setup bytes read.read read.whole in
+    let three = none_of_three workload.later workload.plan.items workload.lines.items none in
+    let alone = setup.alone (sym is.later ∙ three.setup) in
+    let one : unwrap_or read.read.participants 1 ≡ 1 = ap (λ (n : Option ℕ). unwrap_or n 1) alone.0 in
+    let declared : AreDeclared 1 read.read.lines = rw one at (reading_declared bytes read.read read.whole) in
+    let acts = to_each IsLineOf read.read.lines (reading_facts bytes read.read read.whole).acts in
+    let built : AllByRecursion (λ line. is_built_act line.act ≡ true) read.read.lines = all_built read.read.lines (rw is.lines at three.acts) in
+    record {
+      alone = is.participants ∙ one;
+      attached = is.absent ∙ alone.1;
+      socket = rw is.sockets (grind (arith, common_steps, setup.many, setup.sockets.below));
+      others = rw is.sockets alone.2;
+      unplanned = three.plan;
+      lines = rw is.lines (of_each IsBuiltLine read.read.lines (built_lines read.read.lines declared acts built));
     }

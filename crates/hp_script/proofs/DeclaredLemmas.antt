@@ -2,10 +2,10 @@
 use Rattle.std.proofs.Common.{◌≡◌, ℕ, ◌<◌, List, [], ◌∷◌, ◌++◌, ◌∙◌, inl, inr, arith}
 use Rattle.std.specs.Prelude.{Ok, ⊤, unwrap_or}
 use Rattle.hp_script.specs.Part.{Part}
-use Rattle.hp_script.specs.Text.{lines_of}
+use Rattle.hp_script.specs.Text.{lines_of, fields_of}
 use Rattle.hp_script.specs.Makers.{Makers, makers_of}
-use Rattle.hp_script.specs.Setups.{nothing, setup_step}
-use Rattle.hp_script.specs.Reading.{read_line}
+use Rattle.hp_script.specs.Setups.{nothing, with_later, setup_step}
+use Rattle.hp_script.specs.Reading.{with_written, read_line}
 use Rattle.hp_script.specs.Workloads.{reading_of}
 use Rattle.hp_script.specs.Limits.{AreDeclared}
 use Rattle.hp_script.specs.declared.line.Act.{Act}
@@ -38,15 +38,15 @@ none_declared read none = rw none tt
 module _ (makers : Makers) where
   adds_declared : (read more : Reader) (number : ℕ) (said : Shape) → HasDeclared read → Adds makers read number said more → HasDeclared more
   adds_declared read more number (Setup setup) before adds =
-      none_declared more (answered (KeepsLines read) (setup_step read number setup) more adds.1 (setup_keeps read number setup) ∙ adds.0)
+      none_declared more (answered (KeepsLines read) (setup_step (with_later read number setup) number setup) more adds.1 (setup_keeps (with_later read number setup) number setup) ∙ adds.0)
   adds_declared read more number (Does party deed) before adds = more_declared read more number party deed before adds.1
-  adds_declared read more number (Awaits party other k) before adds = more_declared read more number party (act.Await other k) before adds
+  adds_declared read more number (Awaits party other k) before adds = more_declared read more number party (act.Await other k) before adds.adds
 
   line_declared : (read more : Reader) (number : ℕ) (line : Part) → HasDeclared read → ⊤ → read_line makers read number line ≡ Ok more → HasDeclared more
   line_declared read more number line before _ same =
       elim (read_line_says makers read number line more same) [
         | inl skipped ↦ rw skipped.1 before
-        | inr says ↦ adds_declared read more number says.1.said before says.1.adds
+        | inr says ↦ adds_declared (with_written read number (fields_of line)) more number says.1.said before says.1.adds
       ]
 
 -- each line of what is read of a text is of a declared participant

@@ -5,7 +5,7 @@ use Rattle.std.specs.Option.{option_map}
 use Rattle.std.specs.List.{starts_with}
 use Rattle.std.proofs.lemmas.List.{length-drop}
 use Rattle.hp_script.specs.Part.{Part, behind, has_front}
-use Rattle.hp_script.specs.Options.{with_socket, with_heap, with_align, with_bound, with_flags, with_option, given_by, nothing_given, settled, options_of, socket_choice, is_named, number_given}
+use Rattle.hp_script.specs.Options.{with_socket, with_heap, with_align, with_bound, with_flags, with_option, given_by, nothing_given, settled, options_of, socket_choice, number_given}
 use Rattle.hp_script.specs.Spans.{AreSlices, heap_tokens}
 use Rattle.hp_script.specs.declared.options.Options.{Options}
 use Rattle.hp_script.specs.declared.given.Given.{Given}
@@ -37,7 +37,7 @@ present (Some x) = inl (x, refl)
 socket_keeps : (given : Given) (word value : Part) → IfSome (with_socket given value) (KeepsOrGives given word)
 unfolding with_socket
 socket_keeps given word value =
-    elim (decide (is_named given.socket || is_some given.heap)) [
+    elim (decide (is_some given.socket || is_some given.heap)) [
       | inl placed ↦ rw placed tt
       | inr free ↦ rw free (
           elim (present (socket_choice value)) [ inr none ↦ rw none tt | inl socket ↦ rw socket.1 (inl refl) ])
@@ -46,7 +46,7 @@ socket_keeps given word value =
 heap_gives : (given : Given) (word : Part) → 5 ≤ length word.text → IfSome (with_heap given (behind 5 word)) (KeepsOrGives given word)
 unfolding with_heap
 heap_gives given word long =
-    elim (decide (is_named given.socket || (is_some given.heap || nat_lt (length (drop 5 word.text)) 1)))
+    elim (decide (is_some given.socket || (is_some given.heap || nat_lt (length (drop 5 word.text)) 1)))
     [ inl placed ↦ rw placed tt | inr free ↦ rw free (inr (long, refl)) ]
 
 align_keeps : (given : Given) (word value : Part) → IfSome (with_align given value) (KeepsOrGives given word)

@@ -6,13 +6,17 @@ use Rattle.std.specs.List.{list_all}
 use Rattle.std.specs.Map.{lookup}
 use Rattle.std.proofs.lemmas.Slice.Eq.{bytes_eq-Decides}
 use Rattle.hp_script.specs.Part.{Part, is_word}
-use Rattle.hp_script.specs.Later.{is_alloc}
 use Rattle.hp_script.specs.Makers.{is_maker, first_maker}
 use Rattle.hp_script.specs.Text.{fields_of}
 use Rattle.hp_script.specs.Shapes.{is_participant_line}
 use Rattle.hp_script.specs.Verbs.{memory_verbs, heap_verbs, member_verbs, verb_named}
 use Rattle.hp_script.specs.declared.verb.Verb.{Verb}
 use Rattle.hp_script.specs.declared.verb.Verb.TheVariants.{Alloc}
+
+-- the verb is `alloc`
+abbrev pub is_alloc : Option Verb → Bool
+is_alloc (Some Alloc) = true
+is_alloc _ = false
 
 -- none of the verbs is `alloc`
 abbrev are_others : List (List ℕ × Verb) → Bool

@@ -1,5 +1,7 @@
 pub mod NumberLemmas
 pub mod TextLemmas
+pub mod WordLemmas
+pub mod TokensLemmas
 pub mod OptionLemmas
 pub mod MakerLemmas
 pub mod SliceLemmas
@@ -9,12 +11,13 @@ pub mod TokenLemmas
 pub mod SpanLemmas
 pub mod FirstBad
 pub mod DeclaredLemmas
-pub mod LaterLemmas
 pub mod StepLemmas
 pub mod SetupRanges
+pub mod OptionFacts
 pub mod ActLemmas
+pub mod FactLemmas
+pub mod SetupFacts
 pub mod PoolLemmas
 pub mod LabelLemmas
 pub mod LineLemmas
-pub mod BuiltShapes
 pub mod BuiltLemmas

@@ -11,9 +11,9 @@ use Rattle.hp_script.specs.Acts.{label_made, is_duplicate}
 use Rattle.hp_script.specs.Lines.{act_size, size_of}
 use Rattle.hp_script.specs.Limits.{MakeOtherLabels, AreParticipantLines}
 use Rattle.hp_script.specs.Makers.{Makers, makers_of, is_maker, is_taken, is_earlier}
-use Rattle.hp_script.specs.Setups.{nothing, setup_step}
+use Rattle.hp_script.specs.Setups.{nothing, with_later, setup_step}
 use Rattle.hp_script.specs.Shapes.{is_participant_line, shape_of}
-use Rattle.hp_script.specs.Reading.{read_line}
+use Rattle.hp_script.specs.Reading.{with_written, read_line}
 use Rattle.hp_script.specs.Workloads.{reading_of}
 use Rattle.hp_script.specs.declared.line.Act.{Act}
 use Rattle.hp_script.specs.declared.line.Act.TheVariants as act
@@ -24,7 +24,7 @@ use Rattle.hp_script.specs.declared.verb.Verb.{Verb}
 use Rattle.hp_script.specs.declared.verb.Verb.TheVariants.{Alloc}
 use Rattle.hp_script.specs.declared.reader.Reader.{Reader}
 use Rattle.hp_script.proofs.SpanLemmas.{KeepsLines, setup_keeps}
-use Rattle.hp_script.proofs.ActLemmas.{IsActOf, IsCall, shape_says}
+use Rattle.hp_script.proofs.ActLemmas.{IsMadeBy, IsCall, shape_says}
 use Rattle.hp_script.proofs.LabelLemmas.{IsMadeUpTo, alloc_word, label_maker, maker_known}
 use Rattle.hp_script.proofs.StepLemmas.{answered, AddsLine, Adds, read_line_says, along}
 
@@ -89,7 +89,7 @@ module _ (makers : Makers) where
   abbrev AreKnown : ℕ → Part → Type 0
   AreKnown number line = (name : List ℕ) → is_maker (codes "alloc") name line ≡ true → IsMadeUpTo makers.alloc_line name number
 
-  act_fits : (p : Part) (verb : Verb) (arguments : List Part) (party : ℕ) (deed : Act) → IsActOf p verb arguments party deed → act_size deed < 2 ^ 64
+  act_fits : (p : Part) (verb : Verb) (arguments : List Part) (party : ℕ) (deed : Act) → IsMadeBy p verb arguments party deed → act_size deed < 2 ^ 64
   act_fits p verb arguments party (act.Alloc label size options) is = is.fits
   act_fits p verb arguments party _ is = omega arith
 
@@ -99,7 +99,7 @@ module _ (makers : Makers) where
     others : List Part
     arguments_are : arguments ≡ label ∷ others
 
-  act_makes : (p : Part) (verb : Verb) (arguments : List Part) (party : ℕ) (deed : Act) → IsActOf p verb arguments party deed → (label : Part) → label_made deed ≡ Some label → IsMaking verb arguments label
+  act_makes : (p : Part) (verb : Verb) (arguments : List Part) (party : ℕ) (deed : Act) → IsMadeBy p verb arguments party deed → (label : Part) → label_made deed ≡ Some label → IsMaking verb arguments label
   act_makes p verb arguments party (act.Alloc made size options) is label same =
       let labels : made ≡ label = cc in
       record { verb_is = is.verb_is; others = is.size_field ∷ is.words; arguments_are = is.arguments_are ∙ ap (λ some. some ∷ is.size_field ∷ is.words) labels }
@@ -109,9 +109,9 @@ module _ (makers : Makers) where
   call_next : (number : ℕ) (line first : Part) (others : List Part) (party : ℕ) (deed : Act) → fields_of line ≡ first ∷ others → is_participant_line first ≡ true → IsCall first others (Does party deed)
       → AreKnown number line → is_duplicate makers number deed ≡ false → IsNext number deed
   call_next number line first others party deed fields digit call names once = record {
-    fits = act_fits first call.verb call.arguments party deed call.says;
+    fits = act_fits first call.verb call.arguments party deed call.says.0;
     known = λ label made.
-        let making = act_makes first call.verb call.arguments party deed call.says label made in
+        let making = act_makes first call.verb call.arguments party deed call.says.0 label made in
         let word = alloc_word call.word (call.named ∙ ap (λ verb. Some verb) making.verb_is) in
         let all : fields_of line ≡ first ∷ call.word ∷ label ∷ making.others = fields ∙ ap (λ some. first ∷ some) (call.others_are ∙ ap (λ some. call.word ∷ some) making.arguments_are) in
         names label.text (label_maker (codes "alloc") line first call.word label making.others all digit word);
@@ -121,7 +121,7 @@ module _ (makers : Makers) where
   said_lines : (read more : Reader) (number : ℕ) (line : Part) (fields : List Part) (said : Shape) → fields_of line ≡ fields → HasLines number read → AreKnown number line
       → shape_of fields ≡ Ok said → Adds makers read number said more → HasLines (number + 1) more
   said_lines read more number line fields (Setup setup) is has names shape adds =
-      kept_lines read more number has (answered (KeepsLines read) (setup_step read number setup) more adds.1 (setup_keeps read number setup))
+      kept_lines read more number has (answered (KeepsLines read) (setup_step (with_later read number setup) number setup) more adds.1 (setup_keeps (with_later read number setup) number setup))
   said_lines read more number line [] (Does party deed) is has names shape adds = absurd cc
   said_lines read more number line (first ∷ others) (Does party deed) is has names shape adds =
       elim (shape_says first others (Does party deed) shape) [
@@ -129,13 +129,13 @@ module _ (makers : Makers) where
         | inr setup ↦ absurd setup.1
       ]
   said_lines read more number line fields (Awaits party other k) is has names shape adds =
-      with_next read more number party (act.Await other k) has (record { fits = omega arith; known = λ label made. absurd cc; once = refl }) adds
+      with_next read more number party (act.Await other k) has (record { fits = omega arith; known = λ label made. absurd cc; once = refl }) adds.adds
 
   line_lines : (read more : Reader) (number : ℕ) (line : Part) → HasLines number read → AreKnown number line → read_line makers read number line ≡ Ok more → HasLines (number + 1) more
   line_lines read more number line has names same =
       elim (read_line_says makers read number line more same) [
         | inl skipped ↦ kept_lines read more number has (ap (λ (some : Reader). some.lines) skipped.1)
-        | inr says ↦ said_lines read more number line (fields_of line) says.1.said refl has names says.1.shape says.1.adds
+        | inr says ↦ said_lines (with_written read number (fields_of line)) more number line (fields_of line) says.1.said refl (record { some = has.some; keeps = has.keeps; before = has.before; known = has.known }) names says.1.shape says.1.adds
       ]
 
 -- the participant lines of an accepted text

@@ -1,5 +1,5 @@
 -- The numbers of an accepted setup line are within their ranges.
-use Rattle.std.proofs.Common.{◌≡◌, ℕ, ◌<◌, Bool, true, false, List, [], ◌∷◌, length, refl, arith}
+use Rattle.std.proofs.Common.{◌≡◌, ℕ, ◌<◌, ◌≤◌, Bool, true, false, List, [], ◌∷◌, length, refl, arith}
 use Rattle.std.specs.Prelude.{Some, Ok, IfOk, IsTrue, nat_lt, not}
 use Rattle.std.proofs.lemmas.Bool.Decides.{nat_tests}
 use Rattle.hp_base.specs.Pages.{is_page_size}
@@ -29,13 +29,13 @@ pub record IsSocketOf (arguments : List Part) (party socket : ℕ) : Type 0 wher
 
 -- a setup comes of its verb, and its numbers are within their ranges where a run asks for them
 abbrev pub IsSetupBy : SetupVerb → List Part → SetupLine → Type 0
-IsSetupBy verb arguments (Participants count) = verb ≡ setup_verb.Participants
-IsSetupBy verb arguments (Absent party) = verb ≡ setup_verb.Absent
+IsSetupBy verb arguments (Participants count) = (verb ≡ setup_verb.Participants) × (1 ≤ count) × (count ≤ 16)
+IsSetupBy verb arguments (Absent party) = (verb ≡ setup_verb.Absent) × (1 ≤ party)
 IsSetupBy verb arguments (Socket party socket) = (verb ≡ setup_verb.Socket) × IsSocketOf arguments party socket
 IsSetupBy verb arguments (Deadline ms) = verb ≡ setup_verb.Deadline
 IsSetupBy verb arguments (Pool pool) = (verb ≡ setup_verb.Pool) × IsPoolLine pool
-IsSetupBy verb arguments (Message kind party k twice) = verb ≡ setup_verb.Message twice
-IsSetupBy verb arguments (Mapping party call elsewhere) = verb ≡ setup_verb.Mapping elsewhere
+IsSetupBy verb arguments (Message kind party k twice) = (verb ≡ setup_verb.Message twice) × (1 ≤ k) × (k ≤ 1000000)
+IsSetupBy verb arguments (Mapping party call elsewhere) = (verb ≡ setup_verb.Mapping elsewhere) × (1 ≤ call) × (call ≤ 1000000)
 
 of_not : (test : Bool) → not test ≡ false → IsTrue test
 of_not true is = refl
@@ -80,13 +80,13 @@ socket_ranges (p ∷ s ∷ other ∷ others) = tt
 participants_ranges : (arguments : List Part) → IfOk (participants_line arguments) (IsSetupBy setup_verb.Participants arguments)
 unfolding participants_line
 participants_ranges [] = tt
-participants_ranges (n ∷ []) = through (number_field n) _ _ (λ count _. passed (not (is_within 1 16 count)) bad.Range _ _ (λ within. refl))
+participants_ranges (n ∷ []) = through (number_field n) _ _ (λ count _. passed (not (is_within 1 16 count)) bad.Range _ _ (λ within. (refl, grind (arith, nat_tests, within), grind (arith, nat_tests, within))))
 participants_ranges (n ∷ other ∷ others) = tt
 
 absent_ranges : (arguments : List Part) → IfOk (absent_line arguments) (IsSetupBy setup_verb.Absent arguments)
 unfolding absent_line
 absent_ranges [] = tt
-absent_ranges (p ∷ []) = through (party_field p) _ _ (λ party _. passed (not (is_within 1 15 party)) bad.Range _ _ (λ within. refl))
+absent_ranges (p ∷ []) = through (party_field p) _ _ (λ party _. passed (not (is_within 1 15 party)) bad.Range _ _ (λ within. (refl, grind (arith, nat_tests, within))))
 absent_ranges (p ∷ other ∷ others) = tt
 
 deadline_ranges : (arguments : List Part) → IfOk (deadline_line arguments) (IsSetupBy setup_verb.Deadline arguments)
@@ -95,14 +95,27 @@ deadline_ranges [] = tt
 deadline_ranges (n ∷ []) = through (number_field n) _ _ (λ ms _. passed (not (is_within 1 3600000 ms)) bad.Range _ _ (λ within. refl))
 deadline_ranges (n ∷ other ∷ others) = tt
 
+counted_ranges : (arguments : List Part) → IfOk (counted_line arguments) (λ counted. (1 ≤ counted.1) × (counted.1 ≤ 1000000))
+unfolding counted_line
+counted_ranges [] = tt
+counted_ranges (p ∷ []) = tt
+counted_ranges (p ∷ n ∷ []) =
+    through (party_field p) _ _ (λ party _.
+    through (number_field n) _ _ (λ k _.
+    passed (not (is_within 1 1000000 k)) bad.Range _ _ (λ within. (grind (arith, nat_tests, within), grind (arith, nat_tests, within)))))
+counted_ranges (p ∷ n ∷ other ∷ others) = tt
+
+counted_is : (arguments : List Part) (counted : ℕ × ℕ) → counted_line arguments ≡ Ok counted → (1 ≤ counted.1) × (counted.1 ≤ 1000000)
+counted_is arguments counted same = answered (λ (some : ℕ × ℕ). (1 ≤ some.1) × (some.1 ≤ 1000000)) (counted_line arguments) counted same (counted_ranges arguments)
+
 message_ranges : (twice : Bool) (arguments : List Part) → IfOk (message_line twice arguments) (IsSetupBy (setup_verb.Message twice) arguments)
 unfolding message_line
 message_ranges twice [] = tt
-message_ranges twice (word ∷ others) = present (kind_named word) bad.Verb _ _ (λ kind _. through (counted_line others) _ _ (λ counted _. refl))
+message_ranges twice (word ∷ others) = present (kind_named word) bad.Verb _ _ (λ kind _. through (counted_line others) _ _ (λ counted is. let within = counted_is others counted is in (refl, within.0, within.1)))
 
 mapping_ranges : (elsewhere : Bool) (arguments : List Part) → IfOk (mapping_line elsewhere arguments) (IsSetupBy (setup_verb.Mapping elsewhere) arguments)
 unfolding mapping_line
-mapping_ranges elsewhere arguments = through (counted_line arguments) _ _ (λ counted _. refl)
+mapping_ranges elsewhere arguments = through (counted_line arguments) _ _ (λ counted is. let within = counted_is arguments counted is in (refl, within.0, within.1))
 
 setup_act_ranges : (verb : SetupVerb) (arguments : List Part) → IfOk (setup_act verb arguments) (IsSetupBy verb arguments)
 setup_act_ranges setup_verb.Participants arguments = participants_ranges arguments

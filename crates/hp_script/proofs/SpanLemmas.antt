@@ -1,19 +1,20 @@
 -- The tokens of a workload are slices of its text that rise.
 use Rattle.std.proofs.Common.{◌≡◌, ℕ, ◌+◌, ◌≤◌, Bool, true, false, List, [], ◌∷◌, ◌++◌, length, refl, ap, ◌∙◌, cond, inl, inr, arith}
-use Rattle.std.specs.Prelude.{Result, Ok, Err, IfOk, nat_le, nat_lt, not, is_some}
-use Rattle.std.specs.List.{list_any, list_all}
+use Rattle.std.specs.Prelude.{Result, Ok, Err, IfOk, nat_le, nat_lt, is_some}
+use Rattle.std.specs.List.{list_any}
 use Rattle.std.proofs.lemmas.Grind.{flat_map-append}
 use Rattle.std.proofs.lemmas.List.{append-nil}
 use Rattle.hp_script.specs.Part.{Part}
-use Rattle.hp_script.specs.Text.{lines_of, fields_of, is_skipped, is_plain, is_long}
+use Rattle.hp_script.specs.Text.{lines_of, fields_of, is_skipped}
+use Rattle.hp_script.specs.Words.{tokens_in}
 use Rattle.hp_script.specs.Judge.{refuse}
 use Rattle.hp_script.specs.Marks.{is_marked}
 use Rattle.hp_script.specs.Counts.{segments_of, is_same_pool, message_event, mapping_event, is_planned, lines_by}
 use Rattle.hp_script.specs.Makers.{Makers, makers_of}
-use Rattle.hp_script.specs.Setups.{nothing, is_strange, set_participants, set_absent, set_socket, set_deadline, add_pool, add_message, add_mapping, setup_step, set_up}
+use Rattle.hp_script.specs.Setups.{nothing, is_strange, with_later, set_participants, set_absent, set_socket, set_deadline, add_pool, add_message, add_mapping, setup_step, set_up}
 use Rattle.hp_script.specs.Acts.{is_duplicate, is_unknown, add_line, add_act, add_await}
 use Rattle.hp_script.specs.Shapes.{shape_of}
-use Rattle.hp_script.specs.Reading.{said_step, judged, read_line}
+use Rattle.hp_script.specs.Reading.{with_written, said_step, judged, read_line}
 use Rattle.hp_script.specs.Workloads.{Refusal, go_on, read_from, reading_of}
 use Rattle.hp_script.specs.Spans.{IsSlice, AreSlices, tokens_of, all_tokens}
 use Rattle.hp_script.specs.declared.bad_kind.BadKind.{BadKind}
@@ -29,6 +30,7 @@ use Rattle.hp_script.specs.declared.reader.Reader.{Reader}
 use Rattle.hp_script.proofs.SliceLemmas.{raise, lower, join, lines_slices, fields_slices}
 use Rattle.hp_script.proofs.CallTokens.{outcome, SaysSlices}
 use Rattle.hp_script.proofs.TokenLemmas.{said_slices}
+use Rattle.hp_script.proofs.TokensLemmas.{tokens_fields}
 
 -- a setup line adds no participant line
 abbrev pub KeepsLines : Reader → Reader → Type 0
@@ -102,7 +104,7 @@ module _ (bytes : List ℕ) where
       elim (outcome (refuse (nat_lt 0 (length read.lines)) bad.Order)) [
         | inr refused ↦ rw refused.1 tt
         | inl order ↦ rw order.1 (
-            kept_slices read (setup_step read number setup) b (raise bytes 0 a b (all_tokens read.lines) slices before) (setup_keeps read number setup))
+            kept_slices read (setup_step (with_later read number setup) number setup) b (raise bytes 0 a b (all_tokens read.lines) slices before) (setup_keeps (with_later read number setup) number setup))
       ]
   said_step_slices makers read number a b (Does party deed) before slices =
       elim (outcome (refuse (is_duplicate makers number deed) bad.Duplicate)) [
@@ -133,22 +135,20 @@ module _ (bytes : List ℕ) where
             ])
       ]
 
-  judged_slices : (makers : Makers) (read : Reader) (number a b : ℕ) (line : Part) (fields : List Part) → HasSlices a read → AreSlices bytes a b fields
-      → IfOk (judged makers read number line fields) (HasSlices b)
+  judged_slices : (makers : Makers) (read : Reader) (number a b : ℕ) (line : Part) → HasSlices a read → AreSlices bytes a b (fields_of line)
+      → IfOk (judged makers read number line) (HasSlices b)
   unfolding judged
-  judged_slices makers read number a b line fields before slices =
-      elim (outcome (refuse (not (list_all is_plain line.text)) bad.Byte)) [
+  judged_slices makers read number a b line before slices =
+      elim (outcome (tokens_in line)) [
         | inr refused ↦ rw refused.1 tt
-        | inl plain ↦ rw plain.1 (
-            elim (outcome (refuse (list_any is_long fields) bad.Long)) [
+        | inl tokens ↦ rw tokens.1 (
+            let tokens_are = tokens_fields line tokens.0 tokens.1 in
+            rw tokens_are.0 (
+            elim (outcome (shape_of (fields_of line))) [
               | inr refused ↦ rw refused.1 tt
-              | inl short ↦ rw short.1 (
-                  elim (outcome (shape_of fields)) [
-                    | inr refused ↦ rw refused.1 tt
-                    | inl said ↦ rw said.1 (
-                        said_step_slices makers read number a b said.0 before (rw said.1 at (said_slices bytes a b fields slices)))
-                  ])
-            ])
+              | inl said ↦ rw said.1 (
+                  said_step_slices makers (with_written read number (fields_of line)) number a b said.0 before (rw said.1 at (said_slices bytes a b (fields_of line) slices)))
+            ]))
       ]
 
   either : (test : Bool) (some other : Result Reader BadKind) (P : Reader → Type 0) → IfOk some P → IfOk other P → IfOk (cond test some other) P
@@ -161,8 +161,8 @@ module _ (bytes : List ℕ) where
   read_line_slices makers read number a line before le slice =
       let fields = lower bytes a line.start (line.start + length line.text) (fields_of line) le (fields_slices bytes line slice) in
       let kept : HasSlices (line.start + length line.text) read = raise bytes 0 a (line.start + length line.text) (all_tokens read.lines) (omega (arith, le)) before in
-      either (is_skipped (fields_of line)) (Ok read) (judged makers read number line (fields_of line)) (HasSlices (line.start + length line.text))
-      kept (judged_slices makers read number a (line.start + length line.text) line (fields_of line) before fields)
+      either (is_skipped (fields_of line)) (Ok read) (judged makers read number line) (HasSlices (line.start + length line.text))
+      kept (judged_slices makers read number a (line.start + length line.text) line before fields)
 
   going_on : (step : Result Reader BadKind) (number : ℕ) (rest : Reader → Result Reader Refusal) (some P : Reader → Type 0)
       → IfOk step some → ((more : Reader) → some more → IfOk (rest more) P) → IfOk (go_on step number rest) P

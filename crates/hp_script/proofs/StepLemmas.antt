@@ -1,17 +1,18 @@
 -- What an accepted line adds to what was read, and what is kept along the lines of a text.
 use Rattle.std.proofs.Common.{◌≡◌, ℕ, suc, ◌+◌, ◌<◌, Bool, true, false, List, [], ◌∷◌, ◌++◌, length, get_or, refl, subst, cond, ◌⊎◌, inl, inr, arith}
-use Rattle.std.specs.Prelude.{Option, Some, None, Result, Ok, Err, IfOk, nat_le, nat_lt, not}
+use Rattle.std.specs.Prelude.{Option, Some, None, Result, Ok, Err, IfOk, nat_le, nat_lt}
 use Rattle.std.specs.Option.{ok_or}
-use Rattle.std.specs.List.{list_any, list_all}
+use Rattle.std.specs.List.{AllByRecursion}
 use Rattle.hp_script.specs.Part.{Part}
-use Rattle.hp_script.specs.Text.{fields_of, is_skipped, is_plain, is_long}
+use Rattle.hp_script.specs.Text.{fields_of, is_skipped}
+use Rattle.hp_script.specs.Words.{IsWord, tokens_in}
 use Rattle.hp_script.specs.Judge.{◌>>=◌, refuse}
 use Rattle.hp_script.specs.Counts.{lines_by}
 use Rattle.hp_script.specs.Makers.{Makers}
-use Rattle.hp_script.specs.Setups.{is_strange, setup_step, set_up}
+use Rattle.hp_script.specs.Setups.{is_strange, with_later, setup_step, set_up}
 use Rattle.hp_script.specs.Acts.{is_duplicate, is_unknown, add_line, add_act, add_await}
 use Rattle.hp_script.specs.Shapes.{shape_of}
-use Rattle.hp_script.specs.Reading.{said_step, judged, read_line}
+use Rattle.hp_script.specs.Reading.{with_written, said_step, judged, read_line}
 use Rattle.hp_script.specs.Workloads.{Refusal, go_on, read_from}
 use Rattle.hp_script.specs.declared.bad_kind.BadKind.{BadKind}
 use Rattle.hp_script.specs.declared.bad_kind.BadKind.TheVariants as bad
@@ -21,6 +22,7 @@ use Rattle.hp_script.specs.declared.line.Line.{Line}
 use Rattle.hp_script.specs.declared.shape.Shape.{Shape}
 use Rattle.hp_script.specs.declared.shape.Shape.TheVariants.{Setup, Does, Awaits}
 use Rattle.hp_script.specs.declared.reader.Reader.{Reader}
+use Rattle.hp_script.proofs.TokensLemmas.{tokens_fields}
 
 -- what holds behind a step that goes on
 pub through : {A B : Type 0} (step : Result A BadKind) (next : A → Result B BadKind) (P : B → Type 0)
@@ -55,11 +57,17 @@ pub record AddsLine (read : Reader) (number party : ℕ) (deed : Act) (more : Re
   pub declared : is_strange read party ≡ false
   pub added : more ≡ with_line read number party deed
 
+-- a line that awaits is added: the other participant is declared, and has that many lines before it
+pub record AddsAwait (read : Reader) (number party other k : ℕ) (more : Reader) : Type 0 where
+  pub known : is_strange read other ≡ false
+  pub behind : nat_lt (lines_by other read.lines) k ≡ false
+  pub adds : AddsLine read number party (act.Await other k) more
+
 -- what a line that says something adds
 abbrev pub Adds : Makers → Reader → ℕ → Shape → Reader → Type 0
-Adds makers read number (Setup setup) more = (read.lines ≡ []) × (setup_step read number setup ≡ Ok more)
+Adds makers read number (Setup setup) more = (read.lines ≡ []) × (setup_step (with_later read number setup) number setup ≡ Ok more)
 Adds makers read number (Does party deed) more = (is_duplicate makers number deed ≡ false) × AddsLine read number party deed more
-Adds makers read number (Awaits party other k) more = AddsLine read number party (act.Await other k) more
+Adds makers read number (Awaits party other k) more = AddsAwait read number party other k more
 
 no_lines : (lines : List Line) → nat_lt 0 (length lines) ≡ false → lines ≡ []
 no_lines [] none = refl
@@ -83,7 +91,7 @@ said_step_adds : (makers : Makers) (read : Reader) (number : ℕ) (said : Shape)
 unfolding said_step set_up add_act add_await
 said_step_adds makers read number (Setup setup) =
     passed (nat_lt 0 (length read.lines)) bad.Order _ _ (λ none.
-    with_fact (read.lines ≡ []) (setup_step read number setup) (λ more. setup_step read number setup ≡ Ok more) (no_lines read.lines none) (itself (setup_step read number setup)))
+    with_fact (read.lines ≡ []) (setup_step (with_later read number setup) number setup) (λ more. setup_step (with_later read number setup) number setup ≡ Ok more) (no_lines read.lines none) (itself (setup_step (with_later read number setup) number setup)))
 said_step_adds makers read number (Does party deed) =
     passed (is_duplicate makers number deed) bad.Duplicate _ _ (λ once.
     passed (is_strange read party) bad.Unknown _ _ (λ declared.
@@ -93,25 +101,32 @@ said_step_adds makers read number (Awaits party other k) =
     passed (is_strange read party) bad.Unknown _ _ (λ declared.
     passed (is_strange read other) bad.Unknown _ _ (λ other_declared.
     passed (nat_lt (lines_by other read.lines) k) bad.Ahead _ _ (λ stands.
-    add_line_adds read number party (act.Await other k) declared)))
+    await_adds (add_line read number party (act.Await other k)) other_declared stands (add_line_adds read number party (act.Await other k) declared))))
+  where
+    await_adds : (answer : Result Reader BadKind) → is_strange read other ≡ false → nat_lt (lines_by other read.lines) k ≡ false → IfOk answer (AddsLine read number party (act.Await other k))
+        → IfOk answer (AddsAwait read number party other k)
+    await_adds (Ok more) known behind adds = record { known = known; behind = behind; adds = adds }
+    await_adds (Err kind) known behind adds = tt
 
 -- an accepted line that is not skipped says something by its fields, which is added
 pub record Says (makers : Makers) (read : Reader) (number : ℕ) (fields : List Part) (more : Reader) : Type 0 where
+  pub words : AllByRecursion (λ field. IsWord field.text) fields
   pub said : Shape
   pub shape : shape_of fields ≡ Ok said
-  pub adds : Adds makers read number said more
+  pub adds : Adds makers (with_written read number fields) number said more
 
-judged_says : (makers : Makers) (read : Reader) (number : ℕ) (line : Part) (fields : List Part) → IfOk (judged makers read number line fields) (Says makers read number fields)
+judged_says : (makers : Makers) (read : Reader) (number : ℕ) (line : Part) → IfOk (judged makers read number line) (Says makers read number (fields_of line))
 unfolding judged
-judged_says makers read number line fields =
-    passed (not (list_all is_plain line.text)) bad.Byte _ _ (λ plain.
-    passed (list_any is_long fields) bad.Long _ _ (λ short.
-    through (shape_of fields) _ _ (λ said shape.
-    says said shape (said_step makers read number said) (said_step_adds makers read number said))))
+judged_says makers read number line =
+    through (tokens_in line) _ _ (λ tokens are.
+    let tokens_are = tokens_fields line tokens are in
+    through (shape_of tokens) _ _ (λ said shape.
+    says tokens_are.1 said (rw tokens_are.0 at shape) (said_step makers (with_written read number tokens) number said)
+    (rw tokens_are.0 (said_step_adds makers (with_written read number (fields_of line)) number said))))
   where
-    says : (said : Shape) → shape_of fields ≡ Ok said → (step : Result Reader BadKind) → IfOk step (Adds makers read number said) → IfOk step (Says makers read number fields)
-    says said shape (Ok more) adds = record { said = said; shape = shape; adds = adds }
-    says said shape (Err kind) adds = tt
+    says : AllByRecursion (λ field. IsWord field.text) (fields_of line) → (said : Shape) → shape_of (fields_of line) ≡ Ok said → (step : Result Reader BadKind) → IfOk step (Adds makers (with_written read number (fields_of line)) number said) → IfOk step (Says makers read number (fields_of line))
+    says words said shape (Ok more) adds = record { words = words; said = said; shape = shape; adds = adds }
+    says words said shape (Err kind) adds = tt
 
 -- an accepted line is skipped, or says something
 pub read_line_says : (makers : Makers) (read : Reader) (number : ℕ) (line : Part) (more : Reader) → read_line makers read number line ≡ Ok more
@@ -119,10 +134,10 @@ pub read_line_says : (makers : Makers) (read : Reader) (number : ℕ) (line : Pa
 unfolding read_line
 read_line_says makers read number line more same = chosen (is_skipped (fields_of line)) refl same
   where
-    chosen : (test : Bool) → is_skipped (fields_of line) ≡ test → cond test (Ok read) (judged makers read number line (fields_of line)) ≡ Ok more
+    chosen : (test : Bool) → is_skipped (fields_of line) ≡ test → cond test (Ok read) (judged makers read number line) ≡ Ok more
         → ((is_skipped (fields_of line) ≡ true) × (more ≡ read)) ⊎ ((is_skipped (fields_of line) ≡ false) × Says makers read number (fields_of line) more)
     chosen true is step = inl (is, cc)
-    chosen false is step = inr (is, answered (Says makers read number (fields_of line)) (judged makers read number line (fields_of line)) more step (judged_says makers read number line (fields_of line)))
+    chosen false is step = inr (is, answered (Says makers read number (fields_of line)) (judged makers read number line) more step (judged_says makers read number line))
 
 going : (step : Result Reader BadKind) (number : ℕ) (rest : Reader → Result Reader Refusal) (whole : Reader) → go_on step number rest ≡ Ok whole
     → (more : Reader) × (step ≡ Ok more) × (rest more ≡ Ok whole)

@@ -1,17 +1,11 @@
 -- What a workload has where each of its lines is built.
-use Rattle.std.specs.Prelude.{◌≡◌, ℕ, ◌<◌, [], None, All, ⊤, slice_index}
+use Rattle.std.specs.Prelude.{◌≡◌, ℕ, ◌<◌, [], None, All, slice_index}
 use Rattle.hp_script.specs.declared.line.Act.{Act}
 use Rattle.hp_script.specs.declared.line.Act.TheVariants as act
 use Rattle.hp_script.specs.declared.line.Line.{Line}
 use Rattle.hp_script.specs.declared.options.Options.{Options}
-use Rattle.hp_script.specs.declared.options.SocketChoice.{SocketChoice}
-use Rattle.hp_script.specs.declared.options.SocketChoice.TheVariants.{Number}
+use Rattle.hp_script.specs.Facts.{IsSocketChoice}
 use Rattle.hp_script.specs.declared.workload.Workload.{Workload}
-
--- a socket that is chosen by its number is below 32
-abbrev pub IsSocketChoice : SocketChoice → Type 0
-IsSocketChoice (Number socket) = socket < 32
-IsSocketChoice _ = ⊤
 
 -- of the options the socket alone may be given; the others have their defaults
 pub record AreBuiltOptions (options : Options) : Type 0 where

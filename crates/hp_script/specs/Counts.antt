@@ -3,7 +3,7 @@ use Rattle.std.specs.Prelude.{◌≡◌, ℕ, ◌<◌, Bool, ◌&&◌, ◌==◌,
 use Rattle.std.specs.List.{list_any}
 use Rattle.hp_base.specs.declared.pool_line.PoolLine.{PoolLine}
 use Rattle.hp_base.specs.declared.plan_entry.MsgKind.{MsgKind}
-use Rattle.hp_base.specs.declared.plan_entry.MsgKind.TheVariants as message
+use Rattle.hp_base.specs.Plans.{kind_place}
 use Rattle.hp_base.specs.declared.plan_entry.PlanEntry.{PlanEntry}
 use Rattle.hp_base.specs.declared.plan_entry.PlanEntry.TheVariants as plan
 use Rattle.hp_script.specs.declared.event.Event.{Event}
@@ -17,17 +17,9 @@ segments_of pools = sum_by (λ pool. pool.slots) pools
 abbrev pub is_same_pool : PoolLine → PoolLine → Bool
 is_same_pool pool other = (other.socket == pool.socket) && (other.page == pool.page)
 
--- the kinds of events: those of messages, and mapping calls
-abbrev pub kind_number : MsgKind → ℕ
-kind_number message.Alloc = 0
-kind_number message.Free = 1
-kind_number message.Sync = 2
-kind_number message.Reply = 3
-kind_number message.Answer = 4
-
 -- the k-th message of a kind that concerns a participant
 abbrev pub message_event : MsgKind → ℕ → ℕ → Event
-message_event kind party k = record { kind = kind_number kind; party = party; k = k }
+message_event kind party k = record { kind = kind_place kind; party = party; k = k }
 
 -- the k-th mapping call of a participant
 abbrev pub mapping_event : ℕ → ℕ → Event

@@ -1,52 +1,38 @@
--- The lines that are built so far, by their fields alone, and the first line of a text that is not.
-use Rattle.std.specs.Prelude.{ℕ, ◌+◌, Bool, true, false, not, ◌&&◌, ◌||◌, ◌==◌, List, [], ◌∷◌, Option, Some, position, if◌then◌else◌, codes}
-use Rattle.std.specs.Option.{option_map, option_map_or}
-use Rattle.std.specs.List.{list_all}
-use Rattle.hp_script.specs.Part.{Part, has_front}
-use Rattle.hp_script.specs.Numbers.{numeral}
-use Rattle.hp_script.specs.Text.{lines_of, fields_of, is_skipped}
-use Rattle.hp_script.specs.Verbs.{verb_named, setup_named}
-use Rattle.hp_script.specs.Shapes.{is_participant_line}
-use Rattle.hp_script.specs.declared.verb.Verb.{Verb}
-use Rattle.hp_script.specs.declared.verb.Verb.TheVariants.{Alloc}
-use Rattle.hp_script.specs.declared.verb.SetupVerb.{SetupVerb}
-use Rattle.hp_script.specs.declared.verb.SetupVerb.TheVariants as setup
+-- What the program does so far, and the first line of a workload that it does not do.
+use Rattle.std.specs.Prelude.{ℕ, Bool, false, not, ◌&&◌, ◌==◌, min, List, [], ◌∷◌, Option, Some, None, is_none}
+use Rattle.std.specs.Option.{option_map}
+use Rattle.std.specs.List.{find}
+use Rattle.hp_base.specs.declared.plan_entry.PlanEntry.{PlanEntry}
+use Rattle.hp_base.specs.declared.plan_entry.PlanEntry.TheVariants as plan
+use Rattle.hp_script.specs.declared.line.Act.{Act}
+use Rattle.hp_script.specs.declared.line.Act.TheVariants as act
+use Rattle.hp_script.specs.declared.line.Line.{Line}
 
--- a field names participant 0
-abbrev pub is_primary : Part → Bool
-is_primary field = option_map_or (λ party. party == 0) (numeral 10 field.text) false
+-- of the acts the program does allocations, where no option but the socket asks for something
+abbrev pub is_built_act : Act → Bool
+is_built_act (act.Alloc label size options) = is_none options.heap && (options.align == 0 && (options.bound == 0 && options.flags == 0))
+is_built_act _ = false
 
--- the verb is `alloc`
-abbrev pub is_alloc : Option Verb → Bool
-is_alloc (Some Alloc) = true
-is_alloc _ = false
+-- the line of the first act that the program does not do
+abbrev pub first_act : List Line → Option ℕ
+first_act lines = option_map (λ line. line.line) (find (λ line. not (is_built_act line.act)) lines)
 
--- an option is `socket=`, with any value
-abbrev pub is_socket_option : Part → Bool
-is_socket_option word = has_front (codes "socket=") word
+-- the line of an entry of a plan
+abbrev pub entry_line : PlanEntry → ℕ
+entry_line (plan.Message kind party k twice line) = line
+entry_line (plan.Mapping party call elsewhere line) = line
 
--- of participant lines, behind the participant: `alloc <label> <size>` with no option but `socket=`
-abbrev pub is_built_call : List Part → Bool
-is_built_call (word ∷ label ∷ size ∷ words) = is_alloc (verb_named word) && list_all is_socket_option words
-is_built_call _ = false
+-- the line of the first entry of a plan; the program does no plan yet
+abbrev pub first_planned : List PlanEntry → Option ℕ
+first_planned [] = None
+first_planned (entry ∷ entries) = Some (entry_line entry)
 
--- of setup lines: `pool`, `deadline`, and `socket` of participant 0
-abbrev pub is_built_setup : Option SetupVerb → List Part → Bool
-is_built_setup (Some setup.Pool) arguments = true
-is_built_setup (Some setup.Deadline) arguments = true
-is_built_setup (Some setup.Socket) (party ∷ others) = is_primary party
-is_built_setup _ _ = false
+-- the earlier of two lines, where they are there
+abbrev pub earlier : Option ℕ → Option ℕ → Option ℕ
+earlier None second = second
+earlier (Some first) None = Some first
+earlier (Some first) (Some second) = Some (min first second)
 
--- a line with these fields is built; a participant line is one of participant 0
-abbrev pub is_built : List Part → Bool
-is_built [] = false
-is_built (first ∷ others) =
-    if is_participant_line first then is_primary first && is_built_call others else is_built_setup (setup_named first) others
-
--- a line is to be built later: it is neither skipped nor built
-abbrev pub is_later : Part → Bool
-is_later line = not (is_skipped (fields_of line) || is_built (fields_of line))
-
--- the number of the first line of a text, counted from 1, that is to be built later
-abbrev pub later_line : List ℕ → Option ℕ
-later_line bytes = option_map (λ place. place + 1) (position is_later (lines_of bytes))
+-- the first line that the program does not do: that which the reader notes, of the plan, or whose act it is
+abbrev pub later_line : Option ℕ → List PlanEntry → List Line → Option ℕ
+later_line noted plan lines = earlier (earlier noted (first_planned plan)) (first_act lines)

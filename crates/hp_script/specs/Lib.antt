@@ -19,10 +19,12 @@ pub mod EventIndex
 pub mod Marks
 pub mod Setups
 pub mod Acts
+pub mod Words
 pub mod Reading
 pub mod Workloads
 pub mod Spans
 pub mod Lines
 pub mod Limits
 pub mod Later
+pub mod Facts
 pub mod Built

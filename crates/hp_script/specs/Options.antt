@@ -4,18 +4,13 @@ use Rattle.std.specs.Option.{option_and_then, option_map}
 use Rattle.hp_script.specs.Part.{Part, behind, is_word, has_front}
 use Rattle.hp_script.specs.Numbers.{number}
 use Rattle.hp_script.specs.declared.options.SocketChoice.{SocketChoice}
-use Rattle.hp_script.specs.declared.options.SocketChoice.TheVariants.{Unnamed, Any, Number}
+use Rattle.hp_script.specs.declared.options.SocketChoice.TheVariants.{Any, Number}
 use Rattle.hp_script.specs.declared.options.Options.{Options}
 use Rattle.hp_script.specs.declared.given.Given.{Given}
 
 -- no option is given yet
 abbrev pub nothing_given : Given
-nothing_given = record { socket = Unnamed; heap = None; align = None; bound = None; flags = None }
-
-abbrev pub is_named : SocketChoice → Bool
-is_named Unnamed = false
-is_named Any = true
-is_named (Number socket) = true
+nothing_given = record { socket = None; heap = None; align = None; bound = None; flags = None }
 
 -- a socket's number is 0 to 31
 abbrev pub socket_of : Option ℕ → Option SocketChoice
@@ -29,13 +24,13 @@ socket_choice value = if is_word (codes "any") value then Some Any else socket_o
 -- `socket=`: at most once, and not beside `heap=`
 unfoldable pub with_socket : Given → Part → Option Given
 with_socket given value =
-    if is_named given.socket || is_some given.heap then None
-    else option_map (λ socket. record given { socket = socket }) (socket_choice value)
+    if is_some given.socket || is_some given.heap then None
+    else option_map (λ socket. record given { socket = Some socket }) (socket_choice value)
 
 -- `heap=`: at most once, not beside `socket=`, and with a name
 unfoldable pub with_heap : Given → Part → Option Given
 with_heap given value =
-    if is_named given.socket || (is_some given.heap || nat_lt (length value.text) 1) then None
+    if is_some given.socket || (is_some given.heap || nat_lt (length value.text) 1) then None
     else Some (record given { heap = Some value })
 
 -- a number that is not given yet and is at most so much
@@ -71,7 +66,7 @@ given_by given (word ∷ others) = option_and_then (λ more. given_by more other
 -- what is not given has its default
 abbrev pub settled : Given → Options
 settled given =
-    record { socket = given.socket; heap = given.heap; align = unwrap_or given.align 0; bound = unwrap_or given.bound 0; flags = unwrap_or given.flags 0 }
+    record { socket = unwrap_or given.socket Any; heap = given.heap; align = unwrap_or given.align 0; bound = unwrap_or given.bound 0; flags = unwrap_or given.flags 0 }
 
 -- the options of a line
 unfoldable pub options_of : List Part → Option Options

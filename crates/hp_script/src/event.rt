@@ -1,5 +1,6 @@
 ghost use Rattle.std.specs.Prelude.{◌≡◌};
-ghost use Rattle.hp_script.specs.Counts.{event_of, message_event, mapping_event, kind_number};
+ghost use Rattle.hp_script.specs.Counts.{event_of, message_event, mapping_event};
+ghost use Rattle.hp_base.specs.Plans.{kind_place};
 
 use hp_base::{MsgKind, PlanEntry};
 
@@ -13,7 +14,7 @@ pub struct Event {
 }
 
 fn kind_number(kind: MsgKind) -> u8
-    ensures { result ≡ kind_number kind }
+    ensures { result ≡ kind_place kind }
 {
     match kind {
         MsgKind::Alloc => 0,

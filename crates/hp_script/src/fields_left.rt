@@ -1,11 +1,11 @@
+use crate::piece::Piece;
 use crate::text::{Separator, cut};
-use crate::token::Token;
 use std::marker::Model;
 
 /// The fields of a line that are not taken yet, in their order. It takes no memory.
 #[derive(Drop)]
 pub struct FieldsLeft<'a> {
-    rest: Option<Token<'a>>,
+    rest: Option<Piece<'a>>,
 }
 
 impl<'a> Model for FieldsLeft<'a> {
@@ -25,7 +25,7 @@ impl<'a> FieldsLeft<'a> {
 
     /// All fields of a line.
     #[tactic(auto, unfolding(crate::specs::Text::fields_of))]
-    pub fn of(line: &Token<'a>) -> FieldsLeft<'a>
+    pub fn of(line: &Piece<'a>) -> FieldsLeft<'a>
         ensures { result ≡ fields_of line.now }
     {
         FieldsLeft {
@@ -34,7 +34,7 @@ impl<'a> FieldsLeft<'a> {
     }
 
     /// Takes the next field.
-    pub fn take(&mut self) -> Option<Token<'a>>
+    pub fn take(&mut self) -> Option<Piece<'a>>
         ensures some { IfSome result (λ field. self.old ≡ field ∷ self.new) }
         ensures none { IfNone result ((self.old ≡ []) × (self.new ≡ [])) }
     {

@@ -1,14 +1,16 @@
 ghost use Rattle.std.specs.Prelude.{◌≡◌, ◌≤◌, ◌||◌, ◌-◌, ◌^◌, length, is_some, IfSome};
-ghost use Rattle.hp_script.specs.Options.{is_named, socket_of, socket_choice, with_socket, with_heap, with_align, with_bound, with_flags, number_given, with_option, given_by, nothing_given, settled, options_of};
+ghost use Rattle.hp_script.specs.Part.{behind};
+ghost use Rattle.hp_script.specs.Options.{socket_of, socket_choice, with_socket, with_heap, with_align, with_bound, with_flags, number_given, with_option, given_by, nothing_given, settled, options_of};
 
 use crate::numbers::number;
 use crate::options::{Options, SocketChoice};
+use crate::piece::Piece;
 use crate::token::Token;
 
 /// The options of a line that were given so far.
 #[derive(Drop)]
 pub struct Given<'a> {
-    pub socket: SocketChoice,
+    pub socket: Option<SocketChoice>,
     pub heap: Option<Token<'a>>,
     pub align: Option<u64>,
     pub bound: Option<u64>,
@@ -29,7 +31,7 @@ fn given_by<'a>(words: &[Token<'a>]) -> Option<Given<'a>>
     ensures { result ≡ given_by nothing_given words.now }
 {
     let mut given = Given {
-        socket: SocketChoice::Unnamed,
+        socket: None,
         heap: None,
         align: None,
         bound: None,
@@ -55,7 +57,7 @@ fn settled<'a>(given: Given<'a>) -> Options<'a>
         flags,
     } = given;
     Options {
-        socket,
+        socket: socket.unwrap_or(SocketChoice::Any),
         heap,
         align: align.unwrap_or(0),
         bound: bound.unwrap_or(0),
@@ -70,7 +72,7 @@ fn with_option<'a>(given: Given<'a>, word: &Token<'a>) -> Option<Given<'a>>
     if word.begins(b"socket=") {
         with_socket(given, word.behind(7))
     } else if word.begins(b"heap=") {
-        with_heap(given, word.behind(5))
+        with_heap(given, word)
     } else if word.begins(b"align=") {
         with_align(given, word.behind(6))
     } else if word.begins(b"bound=") {
@@ -82,21 +84,11 @@ fn with_option<'a>(given: Given<'a>, word: &Token<'a>) -> Option<Given<'a>>
     }
 }
 
-fn is_named(socket: SocketChoice) -> bool
-    ensures { result ≡ is_named socket }
-{
-    match socket {
-        SocketChoice::Unnamed => false,
-        SocketChoice::Any => true,
-        SocketChoice::Number { .. } => true,
-    }
-}
-
 // Whether a socket or a heap is given.
 fn is_placed(given: &Given) -> bool
-    ensures { result ≡ (is_named given.now.socket || is_some given.now.heap) }
+    ensures { result ≡ (is_some given.now.socket || is_some given.now.heap) }
 {
-    is_named(given.socket) || given.heap.is_some()
+    given.socket.is_some() || given.heap.is_some()
 }
 
 fn socket_of(n: Option<u64>) -> Option<SocketChoice>
@@ -114,7 +106,7 @@ fn socket_of(n: Option<u64>) -> Option<SocketChoice>
     }
 }
 
-fn socket_choice(value: &Token) -> Option<SocketChoice>
+fn socket_choice(value: &Piece) -> Option<SocketChoice>
     ensures { result ≡ socket_choice value.now }
 {
     if value.is(b"any") {
@@ -124,28 +116,29 @@ fn socket_choice(value: &Token) -> Option<SocketChoice>
 }
 
 #[tactic(auto, unfolding(crate::specs::Options::with_socket))]
-fn with_socket<'a>(mut given: Given<'a>, value: Token<'a>) -> Option<Given<'a>>
+fn with_socket<'a>(mut given: Given<'a>, value: Piece<'a>) -> Option<Given<'a>>
     ensures { result ≡ with_socket given.entry value.entry }
 {
     if is_placed(&given) {
         return None;
     }
-    given.socket = socket_choice(&value)?;
+    given.socket = Some(socket_choice(&value)?);
     Some(given)
 }
 
 #[tactic(auto, unfolding(crate::specs::Options::with_heap))]
-fn with_heap<'a>(mut given: Given<'a>, value: Token<'a>) -> Option<Given<'a>>
-    ensures { result ≡ with_heap given.entry value.entry }
+fn with_heap<'a>(mut given: Given<'a>, word: &Token<'a>) -> Option<Given<'a>>
+    requires { 5 ≤ length word.now.text }
+    ensures { result ≡ with_heap given.entry (behind 5 word.now) }
 {
-    if is_placed(&given) || value.as_bytes().is_empty() {
+    if is_placed(&given) {
         return None;
     }
-    given.heap = Some(value);
+    given.heap = Some(word.token_behind(5)?);
     Some(given)
 }
 
-fn number_given(before: bool, most: u64, value: &Token) -> Option<u64>
+fn number_given(before: bool, most: u64, value: &Piece) -> Option<u64>
     ensures value { result ≡ number_given before most value.now }
     ensures most { IfSome result (λ n. n ≤ most) }
 {
@@ -157,7 +150,7 @@ fn number_given(before: bool, most: u64, value: &Token) -> Option<u64>
 }
 
 #[tactic(auto, unfolding(crate::specs::Options::with_align))]
-fn with_align<'a>(mut given: Given<'a>, value: Token<'a>) -> Option<Given<'a>>
+fn with_align<'a>(mut given: Given<'a>, value: Piece<'a>) -> Option<Given<'a>>
     ensures { result ≡ with_align given.entry value.entry }
 {
     given.align = Some(number_given(given.align.is_some(), u64::MAX, &value)?);
@@ -165,7 +158,7 @@ fn with_align<'a>(mut given: Given<'a>, value: Token<'a>) -> Option<Given<'a>>
 }
 
 #[tactic(auto, unfolding(crate::specs::Options::with_bound))]
-fn with_bound<'a>(mut given: Given<'a>, value: Token<'a>) -> Option<Given<'a>>
+fn with_bound<'a>(mut given: Given<'a>, value: Piece<'a>) -> Option<Given<'a>>
     ensures { result ≡ with_bound given.entry value.entry }
 {
     given.bound = Some(number_given(given.bound.is_some(), u64::MAX, &value)?);
@@ -173,7 +166,7 @@ fn with_bound<'a>(mut given: Given<'a>, value: Token<'a>) -> Option<Given<'a>>
 }
 
 #[tactic(auto, unfolding(crate::specs::Options::with_flags))]
-fn with_flags<'a>(mut given: Given<'a>, value: Token<'a>) -> Option<Given<'a>>
+fn with_flags<'a>(mut given: Given<'a>, value: Piece<'a>) -> Option<Given<'a>>
     ensures { result ≡ with_flags given.entry value.entry }
 {
     let flags = number_given(given.flags.is_some(), 0xffff_ffff, &value)?;

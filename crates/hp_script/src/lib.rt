@@ -21,6 +21,7 @@ mod options;
 mod parse_fault;
 mod parsing;
 mod party_count;
+mod piece;
 mod plan_lines;
 mod pool_lines;
 mod reader;
@@ -29,6 +30,7 @@ mod stats_text;
 mod text;
 mod token;
 mod verb;
+mod words;
 mod workload;
 
 pub use answer::Answer;

@@ -5,20 +5,20 @@ ghost use Rattle.hp_script.specs.Part.{is_word};
 ghost use Rattle.hp_script.specs.Text.{fields_of};
 
 use crate::fields_left::FieldsLeft;
+use crate::piece::Piece;
 use crate::shape::is_participant_line;
-use crate::token::Token;
 
 /// The name that a line makes.
 #[derive(Drop)]
 pub enum Made<'a> {
     /// The label of an allocation.
-    Label { name: Token<'a> },
+    Label { name: Piece<'a> },
     /// The name of a memzone.
-    Zone { name: Token<'a> },
+    Zone { name: Piece<'a> },
 }
 
 /// What a line makes, by its first three fields. It takes no memory.
-pub fn made_in<'a>(line: &Token<'a>) -> Option<Made<'a>>
+pub fn made_in<'a>(line: &Piece<'a>) -> Option<Made<'a>>
     ensures label { label_in result ≡ made_by (codes "alloc") (fields_of line.now) }
     ensures zone { zone_in result ≡ made_by (codes "zone") (fields_of line.now) }
 {
@@ -26,7 +26,7 @@ pub fn made_in<'a>(line: &Token<'a>) -> Option<Made<'a>>
     let first = fields.take()?;
     let word = fields.take()?;
     let name = fields.take()?;
-    if is_participant_line(&first) {
+    if is_participant_line(first.as_bytes()) {
         made_with(&word, name)
     } else {
         None
@@ -34,7 +34,7 @@ pub fn made_in<'a>(line: &Token<'a>) -> Option<Made<'a>>
 }
 
 // What a participant line makes by a verb and the field behind it.
-fn made_with<'a>(word: &Token, name: Token<'a>) -> Option<Made<'a>>
+fn made_with<'a>(word: &Piece, name: Piece<'a>) -> Option<Made<'a>>
     ensures label { label_in result ≡ (if is_word (codes "alloc") word.now then Some name.entry.text else None) }
     ensures zone { zone_in result ≡ (if is_word (codes "zone") word.now then Some name.entry.text else None) }
 {

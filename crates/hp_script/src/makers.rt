@@ -4,7 +4,7 @@ ghost use Rattle.hp_script.specs.Makers.{makers_of, is_taken, is_unmade, is_earl
 
 use crate::first_lines::FirstLines;
 use crate::made::{Made, made_in};
-use crate::token::Token;
+use crate::piece::Piece;
 use std::alloc::{AllocError, Global};
 
 /// The first lines that make each label, and those that make each memzone name.
@@ -18,7 +18,7 @@ impl<'a> KnownMakers<'a> {
     ghost use Rattle.hp_script.specs.Known.{known};
 
     /// Those of a text with these lines.
-    pub fn of(alloc: Global, lines: &[Token<'a>]) -> Result<KnownMakers<'a>, AllocError>
+    pub fn of(alloc: Global, lines: &[Piece<'a>]) -> Result<KnownMakers<'a>, AllocError>
         requires { length lines.now + 1 < 2 ^ 32 }
         ensures { IfOk result (λ makers. known makers ≡ makers_of lines.now) }
     {
@@ -33,7 +33,7 @@ impl<'a> KnownMakers<'a> {
     }
 
     // Notes the number of a line at the name that it makes.
-    fn note_line(&mut self, line: &Token<'a>, number: u32) -> Result<(), AllocError>
+    fn note_line(&mut self, line: &Piece<'a>, number: u32) -> Result<(), AllocError>
         ensures allocs { OnOk result (Notes (codes "alloc") line.now number (known self.old).alloc_line (known self.new).alloc_line) }
         ensures zones { OnOk result (Notes (codes "zone") line.now number (known self.old).zone_line (known self.new).zone_line) }
     {

@@ -3,9 +3,7 @@ use crate::token::Token;
 /// The socket that an allocation or a memzone asks for. After the socket argument of rte_malloc_socket.
 #[derive(Clone, Copy, Debug, PartialEq, Eq)]
 pub enum SocketChoice {
-    /// None is named, which means any.
-    Unnamed,
-    /// Any socket, by name. After SOCKET_ID_ANY.
+    /// Any socket, which is the default. After SOCKET_ID_ANY.
     Any,
     /// This one, 0 to 31.
     Number { socket: u32 },
@@ -15,7 +13,7 @@ pub enum SocketChoice {
 /// rte_memzone_reserve_bounded.
 #[derive(Debug, Drop)]
 pub struct Options<'a> {
-    /// The socket; by default unnamed.
+    /// The socket; by default any.
     pub socket: SocketChoice,
     /// The external heap's name; by default none. It excludes a socket.
     pub heap: Option<Token<'a>>,

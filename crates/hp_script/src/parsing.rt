@@ -1,6 +1,9 @@
-ghost use Rattle.std.specs.Prelude.{◌+◌, ◌<◌, ◌≤◌, ◌^◌, length, IfOk, IfErr};
+ghost use Rattle.std.specs.Prelude.{◌+◌, ◌<◌, ◌≤◌, ◌^◌, length, All, IfOk, IfErr};
 ghost use Rattle.hp_script.specs.Known.{known};
 ghost use Rattle.hp_base.specs.PoolLines.{ArePoolLines};
+ghost use Rattle.hp_base.specs.Plans.{ArePlanEntries};
+ghost use Rattle.hp_base.specs.Participants.{AreSockets, IsAbsent};
+ghost use Rattle.hp_script.specs.Facts.{IsLineOf, AwaitEarlier};
 ghost use Rattle.hp_script.specs.Limits.{IsWithinLimits, AreDeclared, AreParticipantLines};
 ghost use Rattle.hp_script.specs.Setups.{nothing};
 ghost use Rattle.hp_script.specs.Spans.{AreSlices, all_tokens};
@@ -9,9 +12,9 @@ ghost use Rattle.hp_script.specs.Workloads.{IsReadAs, IsRefusalOf, NamesFirstBad
 use crate::line_fault::LineFault;
 use crate::makers::KnownMakers;
 use crate::parse_fault::ParseFault;
+use crate::piece::Piece;
 use crate::reader::Reader;
 use crate::text::lines;
-use crate::token::Token;
 use crate::workload::Workload;
 use std::alloc::Global;
 
@@ -29,6 +32,15 @@ pub fn parse<'a>(alloc: Global, bytes: &'a [u8]) -> Result<Workload<'a>, ParseFa
     ensures declared { IfOk result (λ workload. AreDeclared workload.participants workload.lines.items) }
     ensures pools { IfOk result (λ workload. ArePoolLines workload.pools.items) }
     ensures lines { IfOk result (λ workload. AreParticipantLines workload.lines.items) }
+
+    // The numbers of a line are within their ranges, by its verb. Who awaits lines stands behind them.
+    ensures acts { IfOk result (λ workload. All IsLineOf workload.lines.items) }
+    ensures awaits { IfOk result (λ workload. AwaitEarlier workload.participants workload.lines.items) }
+
+    // The plan names declared participants, and each message and mapping call once; sockets are below 32.
+    ensures plan { IfOk result (λ workload. ArePlanEntries workload.participants workload.plan.items) }
+    ensures sockets { IfOk result (λ workload. AreSockets workload.sockets) }
+    ensures absent { IfOk result (λ workload. IsAbsent workload.participants workload.absent) }
 
     // A fault is the first refusal of the text: that of its first bad line, behind lines that are all accepted.
     ensures refused { IfErr result (IsRefusalOf (reading_of bytes.entry.now)) }
@@ -55,15 +67,16 @@ fn read_text<'a>(alloc: Global, bytes: &'a [u8]) -> Result<Reader<'a>, ParseFaul
 fn read_all<'a>(
     alloc: Global,
     makers: &KnownMakers<'a>,
-    lines: &[Token<'a>],
+    lines: &[Piece<'a>],
 ) -> Result<Reader<'a>, ParseFault>
     requires { length lines.now + 1 < 2 ^ 32 }
     ensures { Reads result (read_from (known makers.now) nothing 1 lines.now) }
 {
     let mut reader = Reader::new(alloc);
+    let mut buffer = Vec::new(alloc);
     for (i, line) in lines.iter().enumerate() {
         let number = i as u32 + 1;
-        match reader.read_line(alloc, makers, number, line) {
+        match reader.read_line(makers, number, line, &mut buffer) {
             Ok(()) => {}
             Err(LineFault::Bad { kind }) => return Err(ParseFault::Bad { line: number, kind }),
             Err(LineFault::OutOfMemory) => return Err(ParseFault::OutOfMemory),

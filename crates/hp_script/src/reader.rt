@@ -1,8 +1,9 @@
 //! What has been read of a text, line by line.
 
 ghost use Rattle.std.specs.Prelude.{◌≡◌, ◌<◌, ◌≤◌, false, unwrap_or};
-ghost use Rattle.std.specs.List.{list_all, list_any};
-ghost use Rattle.hp_script.specs.Text.{is_plain, is_long};
+ghost use Rattle.std.specs.List.{list_any};
+ghost use Rattle.hp_script.specs.Setups.{is_built_setup};
+ghost use Rattle.hp_script.specs.Reading.{is_other_option, asks_more};
 
 mod acts;
 mod setups;
@@ -14,11 +15,13 @@ use crate::line_fault::LineFault;
 use crate::line_list::LineList;
 use crate::makers::KnownMakers;
 use crate::party_count::PartyCount;
+use crate::piece::Piece;
 use crate::plan_lines::PlanLines;
 use crate::pool_lines::PoolLines;
-use crate::shape::{Setup, Shape, shape_of};
-use crate::text::{fields, is_plain, is_skipped};
+use crate::shape::{Setup, Shape, is_participant_line, shape_of};
+use crate::text::is_skipped;
 use crate::token::Token;
+use crate::words::read_tokens;
 use crate::workload::Workload;
 use std::alloc::Global;
 
@@ -32,6 +35,8 @@ pub struct Reader<'a> {
     pub placed: u16,
     pub sockets: [u32; 16],
     pub deadline: Option<Deadline>,
+    /// The first setup line, but those of the plan, or line with options that the program does not do yet.
+    pub later: Option<u32>,
     pub pools: PoolLines,
     pub plan: PlanLines,
     pub lines: LineList<'a>,
@@ -39,8 +44,8 @@ pub struct Reader<'a> {
 
 impl<'a> Reader<'a> {
     ghost use Rattle.hp_script.specs.Known.{known};
-    ghost use Rattle.hp_script.specs.Setups.{nothing, is_strange, set_up};
-    ghost use Rattle.hp_script.specs.Reading.{Steps, read_line, judged, said_step};
+    ghost use Rattle.hp_script.specs.Setups.{nothing, is_strange, with_later, set_up};
+    ghost use Rattle.hp_script.specs.Reading.{Steps, with_written, read_line, judged, said_step};
     ghost use Rattle.hp_script.specs.Limits.{IsWithinLimits};
     ghost use Rattle.hp_script.specs.Workloads.{IsWorkloadOf};
 
@@ -54,6 +59,7 @@ impl<'a> Reader<'a> {
             placed: 0,
             sockets: [0; 16],
             deadline: None,
+            later: None,
             pools: PoolLines::new(alloc),
             plan: PlanLines::new(alloc),
             lines: LineList::new(alloc),
@@ -71,39 +77,47 @@ impl<'a> Reader<'a> {
         }
     }
 
-    /// Reads a line.
+    /// Reads a line. The buffer is for its tokens; what it holds before does not matter.
     #[tactic(auto, unfolding(crate::specs::Reading::read_line))]
     pub fn read_line(
         &mut self,
-        alloc: Global,
         makers: &KnownMakers<'a>,
         number: u32,
-        line: &Token<'a>,
+        line: &Piece<'a>,
+        buffer: &mut Vec<Token<'a>>,
     ) -> Result<(), LineFault>
         ensures { Steps result self.new (read_line (known makers.now) self.old number line.now) }
     {
-        let fields = fields(alloc, line)?;
-        if is_skipped(&fields) {
+        if is_skipped(line) {
             return Ok(());
         }
-        self.read_fields(makers, number, line, &fields)
+        self.judge(makers, number, line, buffer)
     }
 
     // Reads a line that is not skipped.
     #[tactic(auto, unfolding(crate::specs::Reading::judged))]
-    fn read_fields(
+    fn judge(
         &mut self,
         makers: &KnownMakers<'a>,
         number: u32,
-        line: &Token<'a>,
-        fields: &[Token<'a>],
+        line: &Piece<'a>,
+        buffer: &mut Vec<Token<'a>>,
     ) -> Result<(), LineFault>
-        ensures { Steps result self.new (judged (known makers.now) self.old number line.now fields.now) }
+        ensures { Steps result self.new (judged (known makers.now) self.old number line.now) }
     {
-        refuse(!is_all_plain(line), BadKind::Byte)?;
-        refuse(has_long(fields), BadKind::Long)?;
-        let said = shape_of(fields)?;
+        read_tokens(buffer, line)?;
+        let said = shape_of(buffer)?;
+        self.note_written(number, buffer);
         self.take_in(makers, number, said)
+    }
+
+    // Notes the number of a participant line with options that the program does not do yet, unless an earlier line is noted.
+    fn note_written(&mut self, number: u32, tokens: &[Token<'a>])
+        ensures { self.new ≡ with_written self.old number tokens.now }
+    {
+        if asks_more(tokens) {
+            self.later = self.later.or(Some(number));
+        }
     }
 
     // Takes in what a line says.
@@ -133,6 +147,7 @@ impl<'a> Reader<'a> {
         ensures { Steps result self.new (set_up self.old number setup) }
     {
         refuse(self.lines.len() > 0, BadKind::Order)?;
+        self.note_later(number, &setup);
         match setup {
             Setup::Participants { count } => self.set_participants(count),
             Setup::Absent { party } => self.set_absent(party),
@@ -153,6 +168,15 @@ impl<'a> Reader<'a> {
         }
     }
 
+    // Notes the number of a setup line that the program does not do yet, unless an earlier one is noted.
+    fn note_later(&mut self, number: u32, setup: &Setup)
+        ensures { self.new ≡ with_later self.old number setup.now }
+    {
+        if !is_built_setup(setup) {
+            self.later = self.later.or(Some(number));
+        }
+    }
+
     /// The workload that was read.
     pub fn finish(self) -> Workload<'a>
         ensures read { IsWorkloadOf self.entry result }
@@ -164,6 +188,7 @@ impl<'a> Reader<'a> {
             placed: _,
             sockets,
             deadline,
+            later,
             pools,
             plan,
             lines,
@@ -173,10 +198,40 @@ impl<'a> Reader<'a> {
             absent,
             sockets,
             deadline: ms_of(deadline),
+            later,
             pools: pools.into_pools(),
             plan: plan.into_entries(),
             lines: lines.into_lines(),
         }
+    }
+}
+
+// Whether a participant line has an option but `socket=`, also one that says its default.
+fn asks_more(tokens: &[Token]) -> bool
+    ensures { result ≡ asks_more tokens.now }
+{
+    match tokens {
+        [first, _, _, _, words @ ..] => is_participant_line(first.as_bytes()) && has_other(words),
+        _ => false,
+    }
+}
+
+// Whether a word is no `socket=`.
+fn has_other(words: &[Token]) -> bool
+    ensures { result ≡ list_any is_other_option words.now }
+{
+    words.iter().any(|word| !word.begins(b"socket="))
+}
+
+// Whether the program does what a setup line says. What the plan says is asked of the plan.
+fn is_built_setup(setup: &Setup) -> bool
+    ensures { result ≡ is_built_setup setup.now }
+{
+    match setup {
+        Setup::Participants { .. } | Setup::Absent { .. } => false,
+        Setup::Socket { party, .. } => *party == 0,
+        Setup::Deadline { .. } | Setup::Pool { .. } => true,
+        Setup::Message { .. } | Setup::Mapping { .. } => true,
     }
 }
 
@@ -200,18 +255,4 @@ fn ms_of(deadline: Option<Deadline>) -> u64
         None => 5000,
         Some(deadline) => deadline.ms(),
     }
-}
-
-// Whether each byte of a line may stand there.
-fn is_all_plain(line: &Token) -> bool
-    ensures { result ≡ list_all is_plain line.now.text }
-{
-    line.as_bytes().iter().all(|byte| is_plain(*byte))
-}
-
-// Whether a field has more than 255 bytes.
-fn has_long(fields: &[Token]) -> bool
-    ensures { result ≡ list_any is_long fields.now }
-{
-    fields.iter().any(|field| field.as_bytes().len() > 255)
 }

@@ -1,5 +1,6 @@
-ghost use Rattle.std.specs.Prelude.{◌≡◌};
-ghost use Rattle.hp_script.specs.Shapes.{shape_of, participant_line, setup_line, is_participant_line, act_line, setup_act};
+ghost use Rattle.std.specs.Prelude.{◌≡◌, slice_index};
+ghost use Rattle.std.specs.Char.{is_ascii_digit};
+ghost use Rattle.hp_script.specs.Shapes.{shape_of, participant_line, setup_line, act_line, setup_act};
 
 mod heaps;
 mod members;
@@ -64,7 +65,7 @@ pub fn shape_of<'a>(fields: &[Token<'a>]) -> Result<Shape<'a>, BadKind>
     match fields {
         [] => Err(BadKind::Fields),
         [first, others @ ..] => {
-            if is_participant_line(first) {
+            if is_participant_line(first.as_bytes()) {
                 participant_line(first, others)
             } else {
                 setup_line(first, others)
@@ -73,11 +74,11 @@ pub fn shape_of<'a>(fields: &[Token<'a>]) -> Result<Shape<'a>, BadKind>
     }
 }
 
-/// Whether a line that begins with this field is a participant line.
-pub fn is_participant_line(first: &Token) -> bool
-    ensures { result ≡ is_participant_line first.now }
+/// Whether a line that begins with a field of these bytes is a participant line.
+pub fn is_participant_line(first: &[u8]) -> bool
+    ensures { result ≡ is_ascii_digit (slice_index first.now 0) }
 {
-    match first.as_bytes().first() {
+    match first.first() {
         None => false,
         Some(byte) => byte.is_ascii_digit(),
     }

@@ -201,3 +201,36 @@ fn answers_are_written_as_the_report_has_them(rt: HostRuntime) -> Result<(), Fai
     }
     Ok(())
 }
+
+const KINDS: [(BadKind, &str); 12] = [
+    (BadKind::Byte, "Byte"),
+    (BadKind::Long, "Long"),
+    (BadKind::Verb, "Verb"),
+    (BadKind::Fields, "Fields"),
+    (BadKind::Number, "Number"),
+    (BadKind::Range, "Range"),
+    (BadKind::Option, "Option"),
+    (BadKind::Order, "Order"),
+    (BadKind::Duplicate, "Duplicate"),
+    (BadKind::Unknown, "Unknown"),
+    (BadKind::Ahead, "Ahead"),
+    (BadKind::Limit, "Limit"),
+];
+
+#[test]
+fn kinds_and_faults_have_texts(rt: HostRuntime) -> Result<(), Fail> {
+    let alloc = rt.alloc();
+    for (kind, want) in KINDS {
+        assert_eq!(rt; kind.to_string(alloc)?.as_str(), want);
+    }
+    let bad = ParseFault::Bad {
+        line: 7,
+        kind: BadKind::Ahead,
+    };
+    assert_eq!(rt; bad.to_string(alloc)?.as_str(), "line 7 is refused: Ahead");
+    assert_eq!(rt;
+        ParseFault::OutOfMemory.to_string(alloc)?.as_str(),
+        "out of memory"
+    );
+    Ok(())
+}

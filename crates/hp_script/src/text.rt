@@ -1,7 +1,8 @@
 ghost use Rattle.std.specs.Prelude.{◌≡◌, ◌==◌, ◌∷◌, ◌+◌, ◌<◌, ◌≤◌, ◌^◌, length, slice_index, vec_len, position, IfOk, IfSome};
 ghost use Rattle.hp_script.specs.Text.{is_separator, parts_of, parts_left, without_return, lines_of, fields_of, is_filled, is_skipped, is_plain, is_long};
 
-use crate::token::Token;
+use crate::fields_left::FieldsLeft;
+use crate::piece::Piece;
 use std::alloc::{AllocError, Global};
 
 /// What stands between the parts of a text.
@@ -31,7 +32,7 @@ fn separator_at(separator: Separator, text: &[u8]) -> Option<usize>
 }
 
 /// The first part, and what stands behind the separator after it.
-pub fn cut<'a>(separator: Separator, whole: &Token<'a>) -> (Token<'a>, Option<Token<'a>>)
+pub fn cut<'a>(separator: Separator, whole: &Piece<'a>) -> (Piece<'a>, Option<Piece<'a>>)
     ensures parts { parts_of separator whole.now ≡ result.0 ∷ parts_left separator result.1 }
     ensures shorter { IfSome result.1 (λ rest. length rest.text < length whole.now.text) }
 {
@@ -41,34 +42,34 @@ pub fn cut<'a>(separator: Separator, whole: &Token<'a>) -> (Token<'a>, Option<To
         Some(n) => {
             let (front, _) = text.split_at(n);
             let (_, behind) = text.split_at(n + 1);
-            let first = Token::new(whole.start(), front);
-            (first, Some(Token::new(whole.start() + n + 1, behind)))
+            let first = Piece::new(whole.start(), front);
+            (first, Some(Piece::new(whole.start() + n + 1, behind)))
         }
     }
 }
 
 /// The line without a carriage return at its end.
-pub fn without_return<'a>(line: &Token<'a>) -> Token<'a>
+pub fn without_return<'a>(line: &Piece<'a>) -> Piece<'a>
     ensures { result ≡ without_return line.now }
 {
     let text = line.as_bytes();
     let n = text.len();
     if n > 0 && text[n - 1] == b'\r' {
         let (front, _) = text.split_at(n - 1);
-        return Token::new(line.start(), front);
+        return Piece::new(line.start(), front);
     }
     line.again()
 }
 
 /// The lines of a text, one more than it has newlines.
 #[tactic(auto, unfolding(crate::specs::Text::lines_of))]
-pub fn lines<'a>(alloc: Global, bytes: &'a [u8]) -> Result<Vec<Token<'a>>, AllocError>
+pub fn lines<'a>(alloc: Global, bytes: &'a [u8]) -> Result<Vec<Piece<'a>>, AllocError>
     requires { length bytes.now ≤ 1048576 }
     ensures lines { IfOk result (λ lines. lines.items ≡ lines_of bytes.entry.now) }
     ensures few { IfOk result (λ lines. vec_len lines ≤ length bytes.entry.now + 1) }
 {
     let mut lines = Vec::new(alloc);
-    let mut rest = Some(Token::new(0, bytes));
+    let mut rest = Some(Piece::new(0, bytes));
     while let Some(text) = rest {
         let (line, others) = cut(Separator::Newline, &text);
         lines.push(without_return(&line))?;
@@ -77,41 +78,17 @@ pub fn lines<'a>(alloc: Global, bytes: &'a [u8]) -> Result<Vec<Token<'a>>, Alloc
     Ok(lines)
 }
 
-/// The fields of a line.
-#[tactic(auto, unfolding(crate::specs::Text::fields_of))]
-pub fn fields<'a>(alloc: Global, line: &Token<'a>) -> Result<Vec<Token<'a>>, AllocError>
-    ensures { IfOk result (λ fields. fields.items ≡ fields_of line.now) }
+/// Whether a line is skipped: it has no field, or its first one begins with '#'.
+pub fn is_skipped(line: &Piece) -> bool
+    ensures { result ≡ is_skipped (fields_of line.now) }
 {
-    let mut fields = Vec::new(alloc);
-    let mut rest = Some(line.again());
-    while let Some(text) = rest {
-        let (field, others) = cut(Separator::Blank, &text);
-        if !field.as_bytes().is_empty() {
-            fields.push(field)?;
-        }
-        rest = others;
-    }
-    Ok(fields)
-}
-
-/// Whether a line with these fields is skipped.
-pub fn is_skipped(fields: &[Token]) -> bool
-    ensures { result ≡ is_skipped fields.now }
-{
-    match fields {
-        [] => true,
-        [first, ..] => is_comment(first),
+    match FieldsLeft::of(line).take() {
+        None => true,
+        Some(first) => first.as_bytes().first() == Some(&b'#'),
     }
 }
 
-/// Whether a line that begins with this field is a comment.
-pub fn is_comment(first: &Token) -> bool
-    ensures { result ≡ (slice_index first.now.text 0 == 35) }
-{
-    first.as_bytes().first() == Some(&b'#')
-}
-
-/// Whether the bytes of a line are printable ASCII or tabs.
+/// Whether a byte may stand in a line: printable ASCII or a tab.
 pub fn is_plain(byte: u8) -> bool
     ensures { result ≡ is_plain byte }
 {

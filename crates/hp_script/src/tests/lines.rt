@@ -5,13 +5,12 @@ use std::test::*;
 // A token's place, and its text.
 fn token(alloc: Global, token: &Token) -> Result<String, AllocError> {
     let start = token.start();
-    let text = std::str::from_utf8(token.as_bytes()).unwrap_or("?");
+    let text = token.as_str();
     format!(in alloc; "{start}:{text}")
 }
 
 fn options(alloc: Global, options: &Options) -> Result<String, AllocError> {
     let socket = match options.socket {
-        SocketChoice::Unnamed => String::from_str(alloc, "unnamed")?,
         SocketChoice::Any => String::from_str(alloc, "any")?,
         SocketChoice::Number { socket } => format!(in alloc; "{socket}")?,
     };
@@ -141,7 +140,7 @@ const TEXT: &[u8] = b"participants 2
 
 const SHOWN: [&str; 24] = [
     "alloc 23:a 1024 1 none 64 4096 4294967295",
-    "alloc 82:b 0 unnamed 91:ext 0 0 0",
+    "alloc 82:b 0 any 91:ext 0 0 0",
     "zone 102:z 1 any none 0 0 0",
     "free 125:z",
     "resize 138:a 2147483648",

@@ -1,6 +1,8 @@
--- The pools and the participant lines of the workload are those that were read.
+-- What holds of what was read holds of the workload.
 use Rattle.hp_script.proofs.PoolLemmas.{reading_pools}
 use Rattle.hp_script.proofs.LineLemmas.{reading_lines}
+use Rattle.hp_script.proofs.FactLemmas.{reading_facts}
+use Rattle.hp_script.proofs.SetupFacts.{reading_setup}
 use Rattle.hp_script.proofs.parsing.parse.Goals as goal
 
 pub returns-in-Ok-clause-pools : goal.returns-in-Ok-clause-pools
@@ -8,3 +10,21 @@ returns-in-Ok-clause-pools c = rw c.finish.ensures.read.pools (reading_pools c.a
 
 pub returns-in-Ok-clause-lines : goal.returns-in-Ok-clause-lines
 returns-in-Ok-clause-lines c = rw c.finish.ensures.read.lines (reading_lines c.args.bytes.now c.in-Ok.reader c.in-Ok.ensures)
+
+pub returns-in-Ok-clause-acts : goal.returns-in-Ok-clause-acts
+returns-in-Ok-clause-acts c = rw c.finish.ensures.read.lines (reading_facts c.args.bytes.now c.in-Ok.reader c.in-Ok.ensures).acts
+
+pub returns-in-Ok-clause-awaits : goal.returns-in-Ok-clause-awaits
+returns-in-Ok-clause-awaits c =
+    rw (c.finish.ensures.read.lines, c.finish.ensures.read.participants) (reading_facts c.args.bytes.now c.in-Ok.reader c.in-Ok.ensures).awaits
+
+pub returns-in-Ok-clause-plan : goal.returns-in-Ok-clause-plan
+returns-in-Ok-clause-plan c =
+    rw (c.finish.ensures.read.plan, c.finish.ensures.read.participants) (reading_setup c.args.bytes.now c.in-Ok.reader c.in-Ok.ensures).plan
+
+pub returns-in-Ok-clause-sockets : goal.returns-in-Ok-clause-sockets
+returns-in-Ok-clause-sockets c = rw c.finish.ensures.read.sockets (reading_setup c.args.bytes.now c.in-Ok.reader c.in-Ok.ensures).sockets
+
+pub returns-in-Ok-clause-absent : goal.returns-in-Ok-clause-absent
+returns-in-Ok-clause-absent c =
+    rw (c.finish.ensures.read.absent, c.finish.ensures.read.participants) (reading_setup c.args.bytes.now c.in-Ok.reader c.in-Ok.ensures).absent
