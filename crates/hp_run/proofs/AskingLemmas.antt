@@ -6,10 +6,10 @@ use Rattle.std.proofs.lemmas.List.Elements.{filter-append, filter_more}
 use Rattle.hp_base.specs.declared.request.Request.{Request}
 use Rattle.hp_base.specs.declared.row.Run.{Run}
 use Rattle.hp_segs.specs.Plan.{IsFirstFor}
-use Rattle.hp_segs.specs.Rows.{rows_of}
+use Rattle.hp_log.specs.Rows.{rows_of}
 use Rattle.hp_segs.specs.SegsView.{SegsView, rows_in}
 use Rattle.hp_segs.specs.declared.ask.Ask.{Ask}
-use Rattle.hp_segs.specs.declared.log_record.LogRecord.TheVariants.{Add}
+use Rattle.hp_log.specs.declared.log_record.LogRecord.TheVariants.{Add}
 use Rattle.hp_segs.specs.declared.outcome.AskLog.{AskLog}
 use Rattle.hp_segs.specs.declared.outcome.Cause.{Cause}
 use Rattle.hp_run.specs.declared.session.heaps.SocketHeap.{SocketHeap}

@@ -8,12 +8,12 @@ use Rattle.hp_base.specs.declared.row.Run.{Run}
 use Rattle.hp_segs.specs.Calls.{IsUnclaimedGrant}
 use Rattle.hp_segs.specs.Opening.{opening_roster}
 use Rattle.hp_segs.specs.Plan.{plan_of}
-use Rattle.hp_segs.specs.Rows.{row_of, rows_below, rows_of}
+use Rattle.hp_log.specs.Rows.{row_of, rows_below, rows_of}
 use Rattle.hp_segs.specs.SegsView.{SegsView, added_run, grant_of, granted_by, is_agreed, is_unclaimed, rows_in, run_of}
 use Rattle.hp_segs.specs.Steps.{segment_of, agreed_segment, claimed_segment, lowest_member_below, after_open, after_agree, after_grant, after_claim, claimed_grant, claimed_run, granted_unless}
 use Rattle.hp_segs.specs.declared.ask.Ask.{Ask}
 use Rattle.hp_segs.specs.declared.growth.Growth.{Growth}
-use Rattle.hp_segs.specs.declared.log_record.LogRecord.TheVariants.{Add}
+use Rattle.hp_log.specs.declared.log_record.LogRecord.TheVariants.{Add}
 use Rattle.hp_segs.specs.declared.row_state.RowState.TheVariants.{Opened}
 use Rattle.hp_segs.specs.declared.row_state.Segment.{Segment}
 use Rattle.hp_segs.proofs.ListFacts.{get_pushed}

@@ -13,7 +13,7 @@ use Rattle.hp_heap.specs.PlainHeap.{PlainHeap, end_of, is_free, free_range}
 use Rattle.hp_heap.specs.Tiling.{joins}
 use Rattle.hp_heap.specs.Joining.{stretch_up, stretch_to, stretch_down, joined_up, with_stretch, after_insertion}
 use Rattle.hp_heap.specs.Growing.{after_grow, run_bytes}
-use Rattle.hp_heap.specs.Choice.{eligible, candidates, fitting, fitting_or_hinted, is_candidate, is_attached, is_fitting_page, HasNoChoice}
+use Rattle.hp_heap.specs.Choice.{eligible, candidates, of_fitting_pages, fitting_or_hinted, is_candidate, is_attached, is_fitting_page, HasNoChoice}
 
 -- a free element with all bytes of another
 pub record Covers (range element : Span) : Type 0 where
@@ -81,7 +81,7 @@ any_page_fits : (flags page : ℕ) → flags ≡ 0 → is_fitting_page flags pag
 unfolding is_fitting_page
 any_page_fits flags page any = rw any refl
 
-all_fit : (request : Request) (ranges : List Span) → request.flags ≡ 0 → fitting request ranges ≡ ranges
+all_fit : (request : Request) (ranges : List Span) → request.flags ≡ 0 → of_fitting_pages request ranges ≡ ranges
 all_fit request [] any = refl
 all_fit request (range ∷ ranges) any = rw (any_page_fits request.flags range.page any, all_fit request ranges any) refl
 
@@ -99,7 +99,7 @@ has_place start end request address room = placed_is (place_of start end request
 
 -- an element with the bytes of a run that has room is a candidate
 candidate_covers : (heap : PlainHeap) (participant : ℕ) (request : Request) (range element : Span) (address : ℕ) → is_some heap.serves ≡ true
-    → HasRoom range.addr (end_of range) request address → Covers range element → is_candidate heap participant request element ≡ true
+    → HasRoom range.addr (end_of range) request address → Covers range element → is_candidate participant request heap element ≡ true
 unfolding is_attached
 candidate_covers heap participant request range element address serves room covers =
     rw (
@@ -111,14 +111,14 @@ candidate_covers heap participant request range element address serves room cove
 
 -- after a growth with room for a request there is something to choose, whatever page the flags name none of
 pub granted_has_choice : (heap : PlainHeap) (participant : ℕ) (run : Run) (request : Request) (address : ℕ) → is_some heap.serves ≡ true → request.flags ≡ 0
-    → HasRoom run.addr (run.addr + run_bytes run) request address → HasNoChoice (after_grow run heap) participant request → ⊥
+    → HasRoom run.addr (run.addr + run_bytes run) request address → HasNoChoice participant request (after_grow run heap) → ⊥
 unfolding after_grow after_insertion eligible
 granted_has_choice heap participant run request address serves any room none =
     let grown = after_grow run heap in
     let range = free_range run.addr (run_bytes run) run.list run.page (heap.insertions + 1) in
-    let all = candidates grown participant request in
-    let some = any_with_stretch (is_candidate grown participant request) range heap.ranges refl
+    let all = candidates participant request grown in
+    let some = any_with_stretch (is_candidate participant request grown) range heap.ranges refl
     (λ element covers. candidate_covers grown participant request range element address serves room covers) in
-    let none_fit : fitting_or_hinted request all (fitting request all) ≡ [] = none in
-    none_kept (is_candidate grown participant request) grown.ranges some
+    let none_fit : fitting_or_hinted request all (of_fitting_pages request all) ≡ [] = none in
+    none_kept (is_candidate participant request grown) grown.ranges some
     (none_eligible request all (sym (ap (fitting_or_hinted request all) (all_fit request all any)) ∙ none_fit))

@@ -3,7 +3,7 @@ use Rattle.std.proofs.Common.{◌≡◌, refl, ap, sym, ◌∙◌, ℕ, ◌+◌,
 use Rattle.std.proofs.lemmas.List.Folds.{list_any-append}
 use Rattle.hp_base.specs.declared.row.Run.{Run}
 use Rattle.hp_heap.specs.declared.entry.Entry.{Entry}
-use Rattle.hp_segs.specs.declared.log_record.LogRecord.{LogRecord}
+use Rattle.hp_log.specs.declared.log_record.LogRecord.{LogRecord}
 use Rattle.hp_segs.specs.declared.outcome.AskLog.{AskLog}
 use Rattle.hp_run.specs.Effects.{OwnCall, entry_of, entries_of, run_grown, grown_runs, is_grant_of, is_granted, run_added, added_runs}
 

@@ -17,14 +17,14 @@ use Rattle.hp_heap.specs.Tiling.{in_segment}
 use Rattle.hp_heap.specs.Growing.{CanGrow, IsAlike, run_bytes}
 use Rattle.hp_segs.specs.Lists.{lists_of, end_of}
 use Rattle.hp_segs.specs.Plan.{IsFirstFor}
-use Rattle.hp_segs.specs.Rows.{at_slot}
+use Rattle.hp_log.specs.Rows.{at_slot}
 use Rattle.hp_segs.specs.TableLayout.{IsFitList}
 use Rattle.hp_segs.specs.declared.ask.Ask.{Ask}
 use Rattle.hp_segs.specs.declared.list_info.ListInfo.{ListInfo}
 use Rattle.hp_segs.proofs.PlanLemmas.{pages_some, numbered_list}
 use Rattle.hp_segs.proofs.PlannedLemmas.{list_page}
 use Rattle.hp_run.specs.Held.{IsHeldPage, IsHeldHeap}
-use Rattle.hp_run.proofs.ListsApart.{lists_apart, list_aligned, list_fits}
+use Rattle.hp_segs.proofs.ListsApart.{lists_apart, list_aligned, list_fits}
 
 -- where a run lies: at slots of its list that have no row
 pub record LiesFree (pools : List PoolLine) (rows : List Row) (run : Run) : Type 0 where
@@ -169,7 +169,7 @@ module _ (pools : List PoolLine) (rows : List Row) (run : Run) (limits : ArePool
       (subst (λ (addr : ℕ). addr % info.page ≡ 0) place (mul-mod_left (info.base / info.page + run.first) info.page))
 
   -- a run at free slots may come to a heap of pages at used ones
-  pub free_run_can_grow : (heap : PlainHeap) → IsHeldHeap pools rows heap → CanGrow heap run
+  pub free_run_can_grow : (heap : PlainHeap) → IsHeldHeap pools rows heap → CanGrow run heap
   free_run_can_grow heap held =
       let fit : IsFitList lies.info = list_fits pools run.list lies.info limits lies.its_list in
       let first_bytes : run.first * run.page ≡ run.first * lies.info.page = ap (λ p. run.first * p) lies.page in
@@ -187,6 +187,6 @@ module _ (pools : List PoolLine) (rows : List Row) (run : Run) (limits : ArePool
 
 -- the first run for an ask may come to a heap of pages at used slots
 pub can_grow : (pools : List PoolLine) (rows : List Row) (heap : PlainHeap) (ask : Ask) (run : Run) → ArePoolLines pools → IsHeldHeap pools rows heap
-    → IsFirstFor pools rows ask run → CanGrow heap run
+    → IsFirstFor pools rows ask run → CanGrow run heap
 can_grow pools rows heap ask run limits held first =
     free_run_can_grow pools rows run limits (first_lies_free pools rows ask run limits first) heap held

@@ -23,7 +23,7 @@ use Rattle.hp_heap.specs.Placing.{after_alloc, after_choice, placed}
 use Rattle.hp_heap.specs.Step.{after}
 use Rattle.hp_heap.proofs.RangeLemmas.{AllByRecursion-append, AllByRecursion-weaker}
 use Rattle.hp_segs.specs.Plan.{IsFirstFor, planned_run}
-use Rattle.hp_segs.specs.Rows.{at_slot, rows_of}
+use Rattle.hp_log.specs.Rows.{at_slot, rows_of}
 use Rattle.hp_segs.specs.declared.ask.Ask.{Ask}
 use Rattle.hp_segs.specs.declared.plan_refusal.PlanRefusal.{PlanRefusal}
 use Rattle.hp_segs.specs.declared.plan_refusal.PlanRefusal.TheVariants.{CannotHold}
@@ -67,14 +67,14 @@ record AddsPages (old new : PlainHeap) (added : List HeapPage) : Type 0 where
   pages : new.pages ≡ old.pages ++ added
   chunks : new.chunks ≡ old.chunks
 
-choice_keeps : (heap : PlainHeap) (request : Request) (tag : Tag) (choice : Option Span) → AddsPages heap (after_choice heap request tag choice) []
+choice_keeps : (heap : PlainHeap) (request : Request) (tag : Tag) (choice : Option Span) → AddsPages heap (after_choice choice request tag heap) []
 unfolding placed
 choice_keeps heap request tag None = record { index = refl; serves = refl; pages = sym (append-nil heap.pages); chunks = refl }
 choice_keeps heap request tag (Some range) = record { index = refl; serves = refl; pages = sym (append-nil heap.pages); chunks = refl }
 
 alloc_keeps : (participant : ℕ) (request : Request) (tag : Tag) (heap : PlainHeap) → AddsPages heap (after participant (call.Alloc request tag) heap) []
 unfolding after after_alloc
-alloc_keeps participant request tag heap = choice_keeps heap request tag (chosen heap participant request)
+alloc_keeps participant request tag heap = choice_keeps heap request tag (chosen participant request heap)
 
 grow_adds : (participant : ℕ) (run : Run) (heap : PlainHeap) → AddsPages heap (after participant (call.Grow run) heap) (run_pages run)
 unfolding after after_grow after_insertion
@@ -140,7 +140,7 @@ is_planned run refusal false plan = cc
 
 -- after a growth by a run that was planned for an ask, the search for its request finds an element
 pub grown_finds : (heap : PlainHeap) (socket : ℕ) (participant : ℕ) (ask : Ask) (run : Run) (request : Request) → heap.serves ≡ Some socket
-    → ask.request ≡ request → planned_run ask run ≡ Ok run → request.flags ≡ 0 → HasNoChoice (after participant (call.Grow run) heap) participant request → ⊥
+    → ask.request ≡ request → planned_run ask run ≡ Ok run → request.flags ≡ 0 → HasNoChoice participant request (after participant (call.Grow run) heap) → ⊥
 unfolding after
 grown_finds heap socket participant ask run request serves same plan any none =
     let end : ℕ = run.addr + run.count * run.page in

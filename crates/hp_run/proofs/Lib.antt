@@ -9,7 +9,6 @@ mod RefusalLemmas
 mod EffectsLemmas
 mod StepLemmas
 mod ServingLemmas
-mod ListsApart
 mod HeldLemmas
 mod TryLemmas
 mod HeldSteps
@@ -25,3 +24,4 @@ mod GrownLemmas
 mod OrderLemmas
 mod RunLemmas
 mod SocketHeapLemmas
+pub mod FaultLemmas

@@ -14,7 +14,7 @@ use Rattle.hp_script.specs.declared.line.Act.TheVariants as act
 use Rattle.hp_script.specs.declared.line.Line.{Line}
 use Rattle.hp_script.specs.declared.options.Options.{Options}
 use Rattle.hp_script.specs.declared.options.SocketChoice.{SocketChoice}
-use Rattle.hp_script.specs.declared.options.SocketChoice.TheVariants.{Unnamed, Any, Number}
+use Rattle.hp_script.specs.declared.options.SocketChoice.TheVariants.{Any, Number}
 use Rattle.hp_run.specs.declared.session.Session.{Session}
 use Rattle.hp_run.specs.declared.session.heaps.SocketHeap.{SocketHeap}
 use Rattle.hp_run.specs.Effects.{no_effect}
@@ -37,7 +37,6 @@ found_too P p (x ∷ xs) all = first_or P (p x) x (find p xs) all.0 (found_too P
 pub chosen_are : (openings : List PlainHeap) (order : List SocketHeap) (choice : SocketChoice) → AreHeapsOf openings order → AreHeapsOf openings (chosen_heaps order choice)
 chosen_are openings order (Number socket) are = found_too (IsHeapOf openings) (serves_socket socket) order are
 chosen_are openings order Any are = are
-chosen_are openings order Unnamed are = are
 
 at_most_one : {X : Type 0} (found : Option X) → length (option_to_list found) ≤ 32
 at_most_one None = lit≤ tt
@@ -47,7 +46,6 @@ at_most_one (Some x) = lit≤ tt
 pub chosen_few : (order : List SocketHeap) (choice : SocketChoice) → length order ≤ 32 → length (chosen_heaps order choice) ≤ 32
 chosen_few order (Number socket) few = at_most_one (find (serves_socket socket) order)
 chosen_few order Any few = few
-chosen_few order Unnamed few = few
 
 -- a session that may make some calls may make fewer
 pub running_for_fewer : (pools : List PoolLine) (openings : List PlainHeap) (session : Session) (calls fewer : ℕ) → fewer ≤ calls → IsRunning pools openings session calls

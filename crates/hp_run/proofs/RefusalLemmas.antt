@@ -16,12 +16,20 @@ use Rattle.hp_run.specs.declared.refusal.Refusal.TheVariants.{Bad, Later}
 use Rattle.hp_run.specs.declared.refusal.RunFault.{RunFault}
 use Rattle.hp_run.specs.declared.refusal.RunFault.TheVariants.{OutOfMemory}
 
+-- the first line of a workload that is not built
+abbrev pub later_in : Workload → Option ℕ
+later_in workload = later_line workload.later workload.plan.items workload.lines.items
+
+-- it is that of what was read
+later_read : (bytes : List ℕ) (workload : Workload) (read : IsReadAs bytes workload) → later_line read.read.later read.read.plan read.read.lines ≡ later_in workload
+later_read bytes workload read = rw (read.workload_is.later, read.workload_is.plan, read.workload_is.lines) refl
+
 -- a text that is read, and has no line that is not built
 pub accepted_as : (bytes : List ℕ) (workload : Workload) → IsReadAs bytes workload → IsWithinLimits workload → ArePoolLines workload.pools.items
-    → later_line bytes ≡ None → IsAcceptedAs bytes workload
+    → later_in workload ≡ None → IsAcceptedAs bytes workload
 unfolding refusal_of
 accepted_as bytes workload read limits pools none = record {
-  done = rw (read.whole, none) refl;
+  done = rw (read.whole, later_read bytes workload read, none) refl;
   read = read;
   built = built_when_none_later bytes workload read none;
   limits = limits;
@@ -29,10 +37,10 @@ accepted_as bytes workload read limits pools none = record {
 }
 
 -- a text that is read, and has a line that is not built
-pub refused_later : (bytes : List ℕ) (workload : Workload) (line : ℕ) → IsReadAs bytes workload → later_line bytes ≡ Some line
+pub refused_later : (bytes : List ℕ) (workload : Workload) (line : ℕ) → IsReadAs bytes workload → later_in workload ≡ Some line
     → refusal_of bytes ≡ Some (Later line)
 unfolding refusal_of
-refused_later bytes workload line read some = rw (read.whole, some) refl
+refused_later bytes workload line read some = rw (read.whole, later_read bytes workload read, some) refl
 
 -- a text that is refused
 pub refused_bad : (bytes : List ℕ) (line : ℕ) (kind : BadKind) → reading_of bytes ≡ Err (record { line = line; kind = kind })
@@ -50,6 +58,7 @@ read_as_same bytes workload ended is same = record {
     absent = same.absent ∙ is.workload_is.absent;
     sockets = same.sockets ∙ is.workload_is.sockets;
     deadline = same.deadline ∙ is.workload_is.deadline;
+    later = same.later ∙ is.workload_is.later;
     pools = same.pools ∙ is.workload_is.pools;
     plan = same.plan ∙ is.workload_is.plan;
     lines = same.lines ∙ is.workload_is.lines;

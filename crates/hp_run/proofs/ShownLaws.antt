@@ -10,7 +10,6 @@ use Rattle.std.proofs.lemmas.Str.Ascii.{IsAscii-from_all}
 use Rattle.std.proofs.lemmas.Fmt.{IsAscii-decimal}
 use Rattle.std.proofs.lemmas.Bool.Decides.{nat_tests}
 use Rattle.std.proofs.lemmas.Bool.{ltb-true}
-use Rattle.hp_script.specs.Text.{is_plain}
 use Rattle.hp_heap.specs.PlainHeap.{socket_name}
 use Rattle.hp_run.specs.Shown.{shown}
 use Rattle.hp_run.proofs.LabelLemmas.{shown-text}
@@ -18,15 +17,6 @@ use Rattle.hp_run.proofs.LabelLemmas.{shown-text}
 -- bytes below 128 are ASCII
 below-ascii : (bytes : List ℕ) → list_all (λ b. nat_lt b 128) bytes ≡ true → IsAscii bytes
 below-ascii bytes h = IsAscii-from_all bytes (λ k d within. ltb-true _ _ (AllPass-from_list_all (λ b. nat_lt b 128) bytes h k d within))
-
--- a byte that a line may have is ASCII
-is_plain-ascii : (byte : ℕ) → is_plain byte ≡ true → byte < 128
-is_plain-ascii byte plain = grind (arith, nat_tests)
-
--- a field is shown as it is
-pub shown-field : (text : List ℕ) → list_all is_plain text ≡ true → text ≡ shown text
-shown-field text plain =
-    shown-text text (IsUtf8-from_ascii text (IsAscii-from_all text (λ k d within. is_plain-ascii (get_or text k d) (AllPass-from_list_all is_plain text plain k d within))))
 
 -- the name of a socket's heap is shown as it is
 pub shown-socket_name : (socket : ℕ) → socket < 2 ^ 64 → socket_name socket ≡ shown (socket_name socket)

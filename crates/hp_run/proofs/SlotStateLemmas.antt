@@ -7,7 +7,7 @@ use Rattle.std.proofs.lemmas.Bool.{cases_eq, and_parts, and_from, eqb-true, eq-e
 use Rattle.std.proofs.lemmas.List.{length-replicate, get_or-replicate}
 use Rattle.std.proofs.lemmas.List.Folds.{find-append}
 use Rattle.std.proofs.lemmas.List.FromFn.{fill_by_all, get_or-map-range_with_len, length-map-range_with_len}
-use Rattle.hp_segs.specs.Rows.{at_slot}
+use Rattle.hp_log.specs.Rows.{at_slot}
 use Rattle.hp_segs.specs.SegsView.{state_at}
 use Rattle.hp_segs.specs.declared.row_state.RowState.{RowState}
 use Rattle.hp_segs.specs.declared.row_state.Segment.{Segment}

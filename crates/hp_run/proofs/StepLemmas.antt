@@ -13,7 +13,7 @@ use Rattle.hp_heap.specs.Step.{after}
 use Rattle.hp_heap.proofs.HistoryLaw.{IsSameHeap, after-same}
 use Rattle.hp_segs.specs.SegsView.{SegsView, rows_in}
 use Rattle.hp_segs.specs.declared.ask.Ask.{Ask}
-use Rattle.hp_segs.specs.declared.log_record.LogRecord.TheVariants.{Add}
+use Rattle.hp_log.specs.declared.log_record.LogRecord.TheVariants.{Add}
 use Rattle.hp_segs.specs.declared.outcome.AskLog.{AskLog}
 use Rattle.hp_run.specs.declared.session.Session.{Session}
 use Rattle.hp_run.specs.Calling.{ReplacesHeap, IsCallAt, SameButRoom}

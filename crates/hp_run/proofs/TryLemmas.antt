@@ -13,9 +13,9 @@ use Rattle.hp_heap.specs.Choice.{HasNoChoice}
 use Rattle.hp_heap.specs.PlainHeap.{PlainHeap}
 use Rattle.hp_heap.specs.History.{HeapView}
 use Rattle.hp_heap.specs.Step.{after, address_answer}
-use Rattle.hp_segs.specs.Rows.{rows_of}
+use Rattle.hp_log.specs.Rows.{rows_of}
 use Rattle.hp_segs.specs.SegsView.{rows_in}
-use Rattle.hp_segs.specs.declared.log_record.LogRecord.TheVariants.{Add}
+use Rattle.hp_log.specs.declared.log_record.LogRecord.TheVariants.{Add}
 use Rattle.hp_segs.specs.declared.outcome.AskLog.{AskLog}
 use Rattle.hp_run.specs.declared.session.Session.{Session}
 use Rattle.hp_run.specs.declared.session.heaps.SocketHeap.{SocketHeap}
@@ -177,7 +177,7 @@ module _ (old two three : Session) (heap : SocketHeap) (request : Request) (tag 
       let held = held_at two.segs.pools (rows_in two.segs.segments) two.heaps.items heap.index at.before held_before here in
       let there = ap (λ heaps. slice_get heaps heap.index) at.replaces.heaps ∙ get_set three.heaps.items heap.index at.before at.after at.replaces.here in
       grown_finds at.before.plain held.socket 0 granted.asked.2.0 run request held.serves granted.asked.2.2 grant.run_is.place any
-      (subst (λ (plain : PlainHeap). HasNoChoice plain 0 request) at.step.heap (none at.after there))
+      (subst (λ (plain : PlainHeap). HasNoChoice 0 request plain) at.step.heap (none at.after there))
 
   -- and the search behind it gives the address
   pub grown_there : (four five : Session) (address : ℕ) → IsCallAt three four heap.index (call.Grow run) gives.Done

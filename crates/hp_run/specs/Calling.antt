@@ -17,11 +17,11 @@ pub record HasRoom (heaps : List HeapView) (place calls : ℕ) : Type 0 where
 
 -- the heap at a place has no element for the request
 abbrev pub HasNoChoiceAt : List HeapView → ℕ → Request → Type 0
-HasNoChoiceAt heaps place request = (heap : HeapView) → slice_get heaps place ≡ Some heap → HasNoChoice heap.plain 0 request
+HasNoChoiceAt heaps place request = (heap : HeapView) → slice_get heaps place ≡ Some heap → HasNoChoice 0 request heap.plain
 
 -- the run may come to the heap at a place
 abbrev pub CanGrowAt : List HeapView → ℕ → Run → Type 0
-CanGrowAt heaps place run = (heap : HeapView) → slice_get heaps place ≡ Some heap → CanGrow heap.plain run
+CanGrowAt heaps place run = (heap : HeapView) → slice_get heaps place ≡ Some heap → CanGrow run heap.plain
 
 -- the heap at a place alone is another one, and the segments stay
 pub record ReplacesHeap (old new : Session) (place : ℕ) (before after : HeapView) : Type 0 where

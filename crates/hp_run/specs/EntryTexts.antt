@@ -10,8 +10,8 @@ use Rattle.hp_run.specs.CallTexts.{call_text, outcome_text}
 
 -- the label or the name that a call speaks of, by the labels of the lines
 abbrev pub call_label : (ℕ → List ℕ) → HeapCall → List ℕ
-call_label labels (call.Alloc request tag) = shown (labels tag.number)
-call_label labels (call.Find tag) = shown (labels tag.number)
+call_label labels (call.Alloc request tag) = labels tag.number
+call_label labels (call.Find tag) = labels tag.number
 call_label labels (call.Name name socket) = shown name
 call_label labels _ = []
 

@@ -34,7 +34,7 @@ element_line label span =
 -- the label of the allocation that an element is for, by the labels of the lines
 abbrev pub state_label : (ℕ → List ℕ) → SpanState → List ℕ
 state_label labels (Free stamp) = []
-state_label labels (Busy pad size tag) = shown (labels tag.number)
+state_label labels (Busy pad size tag) = labels tag.number
 
 -- an element, by the labels of the lines
 abbrev pub element_text : (ℕ → List ℕ) → Span → List ℕ

@@ -6,7 +6,7 @@ use Rattle.hp_base.specs.Pages.{page_sizes}
 use Rattle.hp_base.specs.declared.pool_line.PoolLine.{PoolLine}
 use Rattle.hp_heap.specs.PlainHeap.{PlainHeap, opening_heap}
 use Rattle.hp_script.specs.declared.options.SocketChoice.{SocketChoice}
-use Rattle.hp_script.specs.declared.options.SocketChoice.TheVariants.{Unnamed, Any, Number}
+use Rattle.hp_script.specs.declared.options.SocketChoice.TheVariants.{Any, Number}
 use Rattle.hp_run.specs.declared.session.heaps.SocketHeap.{SocketHeap}
 
 -- a pool line names the socket
@@ -42,7 +42,6 @@ own_first own heaps = filter (serves_socket own) heaps ++ filter (λ heap. not (
 abbrev pub chosen_heaps : List SocketHeap → SocketChoice → List SocketHeap
 chosen_heaps order (Number socket) = option_to_list (find (serves_socket socket) order)
 chosen_heaps order Any = order
-chosen_heaps order Unnamed = order
 
 -- a pool line names the socket and the page size
 abbrev pub has_pool : List PoolLine → ℕ → ℕ → Bool

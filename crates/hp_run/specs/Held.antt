@@ -6,7 +6,7 @@ use Rattle.hp_base.specs.declared.row.Row.{Row}
 use Rattle.hp_heap.specs.History.{HeapView}
 use Rattle.hp_heap.specs.PlainHeap.{PlainHeap, HeapPage}
 use Rattle.hp_segs.specs.Lists.{lists_of}
-use Rattle.hp_segs.specs.Rows.{at_slot}
+use Rattle.hp_log.specs.Rows.{at_slot}
 use Rattle.hp_segs.specs.declared.list_info.ListInfo.{ListInfo}
 
 -- the page lies at a used slot of a pool's list, with the list's page size and socket

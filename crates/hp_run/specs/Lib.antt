@@ -1,5 +1,6 @@
 pub mod Reading
 pub mod Writing
+pub mod Faults
 pub mod Heaps
 pub mod Effects
 pub mod Serving

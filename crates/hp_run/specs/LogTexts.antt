@@ -6,8 +6,8 @@ use Rattle.hp_base.specs.declared.map_answer.MapAnswer.{MapAnswer}
 use Rattle.hp_base.specs.declared.map_answer.MapAnswer.TheVariants as got
 use Rattle.hp_script.specs.Answers.{address_text, number_text}
 use Rattle.hp_segs.specs.SegsView.{SegsView}
-use Rattle.hp_segs.specs.declared.log_record.LogRecord.{LogRecord}
-use Rattle.hp_segs.specs.declared.log_record.LogRecord.TheVariants.{Add, Drop}
+use Rattle.hp_log.specs.declared.log_record.LogRecord.{LogRecord}
+use Rattle.hp_log.specs.declared.log_record.LogRecord.TheVariants.{Add, Drop}
 use Rattle.hp_segs.specs.declared.outcome.AskLog.{AskLog}
 use Rattle.hp_segs.specs.declared.outcome.Cause.{Cause}
 use Rattle.hp_segs.specs.declared.outcome.Cause.TheVariants as why

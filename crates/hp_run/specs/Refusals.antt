@@ -15,10 +15,10 @@ refusal_text (Bad line kind) = codes "refused line " ++ decimal line ++ codes " 
 refusal_text (Later line) = codes "refused line " ++ decimal line ++ codes " Later\n"
 
 -- the first refusal of the language, and for a text that it accepts the first line that is not yet done
-abbrev pub first_refusal : Result Reader Refusal → Option ℕ → Option run.Refusal
-first_refusal (Err refusal) later = Some (Bad refusal.line refusal.kind)
-first_refusal (Ok read) later = option_map (λ line. Later line) later
+abbrev pub first_refusal : Result Reader Refusal → Option run.Refusal
+first_refusal (Err refusal) = Some (Bad refusal.line refusal.kind)
+first_refusal (Ok read) = option_map (λ line. Later line) (later_line read.later read.plan read.lines)
 
 -- why a text is not run, where it is not
 unfoldable pub refusal_of : List ℕ → Option run.Refusal
-refusal_of bytes = first_refusal (reading_of bytes) (later_line bytes)
+refusal_of bytes = first_refusal (reading_of bytes)

@@ -11,7 +11,7 @@ use Rattle.hp_heap.specs.PlainHeap.{PlainHeap}
 use Rattle.hp_heap.specs.History.{HeapView, opening_of}
 use Rattle.hp_segs.specs.Opening.{opening_roster}
 use Rattle.hp_segs.specs.Plan.{IsFirstFor, planned_run}
-use Rattle.hp_segs.specs.Rows.{rows_of}
+use Rattle.hp_log.specs.Rows.{rows_of}
 use Rattle.hp_segs.specs.SegsView.{SegsView, closed_number, rows_in}
 use Rattle.hp_segs.specs.declared.ask.Ask.{Ask}
 use Rattle.hp_segs.specs.declared.outcome.AskLog.{AskLog}
@@ -119,6 +119,7 @@ pub record IsSameWorkload (one other : Workload) : Type 0 where
   pub absent : one.absent ≡ other.absent
   pub sockets : one.sockets ≡ other.sockets
   pub deadline : one.deadline ≡ other.deadline
+  pub later : one.later ≡ other.later
   pub pools : one.pools.items ≡ other.pools.items
   pub plan : one.plan.items ≡ other.plan.items
   pub lines : one.lines.items ≡ other.lines.items

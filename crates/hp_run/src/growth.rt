@@ -1,7 +1,7 @@
 //! How a heap asks for memory: one ask for each page size of its socket, until one is granted.
 ghost use Rattle.std.specs.Prelude.{◌≡◌, ◌+◌, ◌<◌, ◌≤◌, ◌∷◌, ◌++◌, [], length, Some, IfOk, IsTrue, MatchOption};
 ghost use Rattle.hp_base.specs.Pages.{page_sizes};
-ghost use Rattle.hp_segs.specs.declared.log_record.LogRecord.TheVariants.{Add};
+ghost use Rattle.hp_log.specs.declared.log_record.LogRecord.TheVariants.{Add};
 ghost use Rattle.hp_segs.specs.Calls.{IsRefusalOf};
 ghost use Rattle.hp_segs.specs.Plan.{plan_of};
 ghost use Rattle.hp_run.specs.Heaps.{has_pool, page_sizes_of};

@@ -1,7 +1,7 @@
 //! A source read to its end.
 ghost use Rattle.std.specs.Prelude.{◌≡◌, ◌<◌, IfOk, MatchResult, length, vec_len};
 ghost use Rattle.hp_run.specs.Reading.{GaveAll, GaveUp, read_failed};
-ghost use Rattle.hp_base.specs.Streams.{HasCause};
+ghost use Rattle.hp_base.specs.Streams.{CountsFault};
 
 use hp_base::{Got, Source};
 use std::alloc::{AllocError, Global};
@@ -28,7 +28,7 @@ pub fn read_whole<S: Source>(alloc: Global, source: &mut S) -> Result<Vec<u8>, R
     ensures read { MatchResult result
         (λ bytes. GaveAll (S.left source.old) (S.left source.new) bytes.items)
         (GaveUp (S.left source.old) (S.left source.new)) }
-    ensures cause { HasCause (S.faults source.old) (S.faults source.new) (read_failed result) }
+    ensures cause { CountsFault (S.faults source.old) (S.faults source.new) (read_failed result) }
 {
     match zeros(alloc, PIECE) {
         Ok(mut piece) => read_by(alloc, source, piece.as_mut_slice()),
@@ -42,7 +42,7 @@ fn read_by<S: Source>(alloc: Global, source: &mut S, piece: &mut [u8]) -> Result
     ensures read { MatchResult result
         (λ bytes. GaveAll (S.left source.old) (S.left source.new) bytes.items)
         (GaveUp (S.left source.old) (S.left source.new)) }
-    ensures cause { HasCause (S.faults source.old) (S.faults source.new) (read_failed result) }
+    ensures cause { CountsFault (S.faults source.old) (S.faults source.new) (read_failed result) }
 {
     let mut bytes = Vec::new(alloc);
     while bytes.len() <= LIMIT {

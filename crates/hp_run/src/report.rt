@@ -14,7 +14,6 @@ mod cause_text;
 mod element_text;
 mod entry_text;
 mod heap_text;
-mod label;
 mod labels;
 mod line_text;
 mod log;

@@ -6,33 +6,9 @@ use std::test::Fail;
 
 const EXAMPLE: &str = "pool 0 2M 4\n0 alloc a 1000\n";
 
-const EXAMPLE_REPORT: &str =
-    "heapsim report 1\nline 2 0 alloc ok 0x1001ffc00\nheap 0 socket_0 0 total 2097152 free 2096000 used 1152 greatest 2096000 busy 1 frees 1\nelem 0x100000000 2096000 free 7\nelem 0x1001ffb80 1152 busy 0 1024 0 a\nhist 0 1 0 1 alloc 1024 64 0 0x0 a -> none\nhist 0 2 0 2 grow 0x100000000 2097152 -> ok\nhist 0 3 0 3 alloc 1024 64 0 0x0 a -> 0x1001ffc00\npool 0 2097152 3\nlist 0 0 2097152 0x100000000 4\nseg 0x100000000 owned 0\nrec 1 add 0x100000000 2097152 0\nask 0 1 granted 1\nend\n";
-
-// Three pages: an allocation that spans two of them, one for which too few are left, and one after it that still fits.
-const THREE_PAGES: &str =
-    "pool 0 2M 3\n0 alloc ring 1000\n0 alloc table 3000000\n0 alloc mbufs 2097152\n0 alloc flows 1000\n";
-
-const THREE_PAGES_REPORT: &str =
-    "heapsim report 1\nline 2 0 alloc ok 0x1001ffc00\nline 3 0 alloc ok 0x100323940\nline 4 0 alloc none\nline 5 0 alloc ok 0x1003234c0\nheap 0 socket_0 0 total 6291456 free 3289024 used 3002432 greatest 2096000 busy 3 frees 2\nelem 0x100000000 2096000 free 7\nelem 0x1001ffb80 1152 busy 0 1024 0 ring\nelem 0x100200000 1193024 free 7\nelem 0x100323440 1152 busy 0 1024 0 flows\nelem 0x1003238c0 3000128 busy 0 3000000 0 table\nhist 0 1 0 1 alloc 1024 64 0 0x0 ring -> none\nhist 0 2 0 2 grow 0x100000000 2097152 -> ok\nhist 0 3 0 3 alloc 1024 64 0 0x0 ring -> 0x1001ffc00\nhist 0 4 0 4 alloc 3000000 64 0 0x0 table -> none\nhist 0 5 0 5 grow 0x100200000 4194304 -> ok\nhist 0 6 0 6 alloc 3000000 64 0 0x0 table -> 0x100323940\nhist 0 7 0 7 alloc 2097152 64 0 0x0 mbufs -> none\nhist 0 8 0 8 alloc 1024 64 0 0x0 flows -> 0x1003234c0\npool 0 2097152 0\nlist 0 0 2097152 0x100000000 3\nseg 0x100000000 owned 0\nseg 0x100200000 owned 0\nseg 0x100400000 owned 0\nrec 1 add 0x100000000 2097152 0\nrec 2 add 0x100200000 4194304 0\nask 0 1 granted 1\nask 0 2 granted 2\nask 0 3 refused toofew 0 2\nend\n";
-
-// Two pages are asked for, and the pool has one.
-const ONE_PAGE: &str = "pool 0 2M 1 4\n0 alloc a 2097152\n";
-
-const ONE_PAGE_REPORT: &str =
-    "heapsim report 1\nline 2 0 alloc none\nheap 0 socket_0 0 total 0 free 0 used 0 greatest 0 busy 0 frees 0\nhist 0 1 0 1 alloc 2097152 64 0 0x0 a -> none\npool 0 2097152 1\nlist 0 0 2097152 0x100000000 4\nask 0 1 refused toofew 1 2\nend\n";
-
-const BAD_SIZES: &str = "pool 0 2M 4\n0 alloc a 0\n0 alloc b 18446744073709551615\n";
-
-const BAD_SIZES_REPORT: &str =
-    "heapsim report 1\nline 2 0 alloc bad zero\nline 3 0 alloc bad overflow\nheap 0 socket_0 0 total 0 free 0 used 0 greatest 0 busy 0 frees 0\npool 0 2097152 4\nlist 0 0 2097152 0x100000000 4\nend\n";
-
-// The text of examples/two-sockets.txt.
-const TWO_SOCKETS: &str =
-    "# Two sockets, and two page sizes on socket 0. Participant 0 is on socket 1, whose heap it tries first.\nsocket 0 1\npool 0 2M 1\npool 0 16M 2\npool 1 2M 4 1\n\n0 alloc ring 1000\n0 alloc port 1000 socket=0\n0 alloc table 2M\n0 alloc rules 2M socket=1\n0 alloc flows 4000 socket=any\n0 alloc queue 64 socket=5\n0 alloc empty 0\n";
-
-const TWO_SOCKETS_REPORT: &str =
-    "heapsim report 1\nline 7 0 alloc ok 0x1031ffc00\nline 8 0 alloc ok 0x1001ffc00\nline 9 0 alloc ok 0x101e00000\nline 10 0 alloc none\nline 11 0 alloc ok 0x1031febc0\nline 12 0 alloc noheap\nline 13 0 alloc bad zero\nheap 0 socket_0 0 total 18874368 free 16775936 used 2098432 greatest 14679936 busy 2 frees 2\nelem 0x100000000 2096000 free 7\nelem 0x1001ffb80 1152 busy 0 1024 0 port\nelem 0x101000000 14679936 free 8\nelem 0x101dfff80 2097280 busy 0 2097152 0 table\nheap 1 socket_1 1 total 2097152 free 2091840 used 5312 greatest 2091840 busy 2 frees 1\nelem 0x103000000 2091840 free 7\nelem 0x1031feb40 4160 busy 0 4032 0 flows\nelem 0x1031ffb80 1152 busy 0 1024 0 ring\nhist 0 1 0 4 alloc 1024 64 0 0x0 port -> none\nhist 0 2 0 5 grow 0x100000000 2097152 -> ok\nhist 0 3 0 6 alloc 1024 64 0 0x0 port -> 0x1001ffc00\nhist 0 4 0 8 alloc 2097152 64 0 0x0 table -> none\nhist 0 5 0 9 grow 0x101000000 16777216 -> ok\nhist 0 6 0 10 alloc 2097152 64 0 0x0 table -> 0x101e00000\nhist 1 1 0 1 alloc 1024 64 0 0x0 ring -> none\nhist 1 2 0 2 grow 0x103000000 2097152 -> ok\nhist 1 3 0 3 alloc 1024 64 0 0x0 ring -> 0x1031ffc00\nhist 1 4 0 7 alloc 2097152 64 0 0x0 table -> none\nhist 1 5 0 11 alloc 2097152 64 0 0x0 rules -> none\nhist 1 6 0 12 alloc 4032 64 0 0x0 flows -> 0x1031febc0\npool 0 2097152 0\npool 0 16777216 1\npool 1 2097152 3\nlist 0 0 2097152 0x100000000 1\nlist 1 0 16777216 0x101000000 2\nlist 2 1 2097152 0x103000000 1\nseg 0x100000000 owned 0\nseg 0x101000000 owned 0\nseg 0x103000000 owned 1\nrec 1 add 0x103000000 2097152 1\nrec 2 add 0x100000000 2097152 0\nrec 3 add 0x101000000 16777216 0\nask 0 1 granted 1\nask 0 2 granted 2\nask 0 3 refused listfull 0 2\nask 0 4 refused toofew 0 2\nask 0 5 granted 3\nask 0 6 refused listfull 0 2\nend\n";
+// How its report begins. examples/ has whole reports, which examples/check compares with those of the built program.
+const EXAMPLE_FRONT: &str =
+    "heapsim report 1\nline 2 0 alloc ok 0x1001ffc00\nheap 0 socket_0 0 total 2097152 free 2096000 used 1152";
 
 const USAGE: &str = "usage: heapsim solo|run|check|generate <start> <lines> [summary]\n";
 
@@ -59,18 +35,12 @@ fn ran(
 }
 
 #[test]
-fn reports_what_the_heaps_and_the_segments_did(rt: HostRuntime) -> Result<(), Fail> {
-    for (input, report) in [
-        ("", "heapsim report 1\nend\n"),
-        (EXAMPLE, EXAMPLE_REPORT),
-        (THREE_PAGES, THREE_PAGES_REPORT),
-        (ONE_PAGE, ONE_PAGE_REPORT),
-        (BAD_SIZES, BAD_SIZES_REPORT),
-        (TWO_SOCKETS, TWO_SOCKETS_REPORT),
-    ] {
+fn reports_a_run_whole(rt: HostRuntime) -> Result<(), Fail> {
+    for (input, front) in [("", "heapsim report 1\nend\n"), (EXAMPLE, EXAMPLE_FRONT)] {
         let (status, source, sink) = ran(rt.alloc(), &["solo"], input, &NO_CALL, &NO_CALL)?;
         assert_eq!(rt; status, Status::Ok);
-        assert_eq!(rt; sink.bytes(), report.as_bytes());
+        assert!(rt; sink.bytes().starts_with(front.as_bytes()));
+        assert!(rt; sink.bytes().ends_with(b"\nend\n"));
         assert_eq!(rt; source.left().len(), 0);
     }
     Ok(())
@@ -146,7 +116,7 @@ fn ends_where_reading_or_writing_fails(rt: HostRuntime) -> Result<(), Fail> {
         let (status, _source, sink) = ran(rt.alloc(), &["solo"], EXAMPLE, &NO_CALL, &[fails])?;
         assert_eq!(rt; status, Status::WriteFault);
         assert_eq!(rt; sink.bytes().len(), written);
-        assert!(rt; EXAMPLE_REPORT.as_bytes().starts_with(sink.bytes()));
+        assert!(rt; EXAMPLE_FRONT.as_bytes().starts_with(sink.bytes()));
     }
     for words in [["solo"].as_slice(), ["run", "now"].as_slice()] {
         let (status, _source, sink) = ran(rt.alloc(), words, "no workload", &NO_CALL, &[1])?;

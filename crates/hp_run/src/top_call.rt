@@ -1,7 +1,8 @@
 //! The program as one call.
-ghost use Rattle.std.specs.Prelude.{◌≡◌, ◌≤◌, map, length, string_bytes, IfOk, IfSome, MatchResult};
-ghost use Rattle.hp_base.specs.Streams.{HasRisen};
+ghost use Rattle.std.specs.Prelude.{◌≡◌, ◌≤◌, false, map, length, string_bytes, IfOk, IfSome, MatchResult};
+ghost use Rattle.hp_base.specs.Streams.{CountsFault, HasRisen};
 ghost use Rattle.hp_run.specs.declared.reading.TheConstants.{LIMIT};
+ghost use Rattle.hp_run.specs.Faults.{is_read_fault, is_write_fault};
 ghost use Rattle.hp_run.specs.Outcome.{Ends, IsAcceptedAs, IsAnswer, IsAnswered, IsFaultOf, IsReportFor, IsUnlessFailure, IsWritten, is_solo, status_of};
 ghost use Rattle.hp_run.specs.Refusals.{refusal_of};
 
@@ -34,9 +35,11 @@ pub fn top<S: Source, K: Sink>(
     ensures settled { IfSome (S.left source.old)
         (λ input. IsUnlessFailure (status_of (map string_bytes words.now) input) result) }
 
-    // The counts of faults never fall.
-    ensures source_faults { S.faults source.old ≤ S.faults source.new }
-    ensures sink_faults { K.faults sink.old ≤ K.faults sink.new }
+    // The source's count of faults rises where reading failed, the sink's where writing did. Else they stay.
+    ensures source_faults { CountsFault (S.faults source.old) (S.faults source.new)
+        (is_read_fault result) }
+    ensures sink_faults { CountsFault (K.faults sink.old) (K.faults sink.new)
+        (is_write_fault result) }
 {
     if !is_solo(words) {
         return written(sink, USAGE, Status::Usage);
@@ -54,7 +57,8 @@ fn answered<K: Sink>(alloc: Global, bytes: &[u8], sink: &mut K) -> Status
     requires { length bytes.now ≤ LIMIT }
     ensures written { IsAnswered bytes.now (K.held sink.old) (K.held sink.new)
         (HasRisen (K.faults sink.old) (K.faults sink.new)) result }
-    ensures faults { K.faults sink.old ≤ K.faults sink.new }
+    ensures faults { CountsFault (K.faults sink.old) (K.faults sink.new)
+        (is_write_fault result) }
 {
     match answer_for(alloc, bytes) {
         Ok((status, text)) => written(sink, text.as_bytes(), status),
@@ -103,7 +107,7 @@ fn accepted<'a>(alloc: Global, bytes: &'a [u8]) -> Result<Workload<'a>, RunFault
     ensures { MatchResult result (IsAcceptedAs bytes.entry.now) (IsFaultOf (refusal_of bytes.entry.now)) }
 {
     match parse(alloc, bytes) {
-        Ok(workload) => match first_later(bytes) {
+        Ok(workload) => match first_later(&workload) {
             None => Ok(workload),
             Some(line) => Err(RunFault::Refused {
                 refusal: Refusal::Later { line },
@@ -118,9 +122,11 @@ fn accepted<'a>(alloc: Global, bytes: &'a [u8]) -> Result<Workload<'a>, RunFault
 
 // Writes a text, and gives the status that goes with it where that did not fail.
 fn written<K: Sink>(sink: &mut K, text: &[u8], status: Status) -> Status
+    requires { is_write_fault status ≡ false }
     ensures written { IsWritten status text.now (K.held sink.old) (K.held sink.new)
         (HasRisen (K.faults sink.old) (K.faults sink.new)) result }
-    ensures faults { K.faults sink.old ≤ K.faults sink.new }
+    ensures faults { CountsFault (K.faults sink.old) (K.faults sink.new)
+        (is_write_fault result) }
 {
     match write_whole(sink, text) {
         Ok(()) => status,

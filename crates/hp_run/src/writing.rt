@@ -1,6 +1,6 @@
 //! A text written whole to a sink.
 ghost use Rattle.std.specs.Prelude.{◌≡◌, OnOk, OnErr, is_err, length};
-ghost use Rattle.hp_base.specs.Streams.{HasCause};
+ghost use Rattle.hp_base.specs.Streams.{CountsFault};
 ghost use Rattle.hp_run.specs.Writing.{Holds, HoldsFront};
 
 use hp_base::{Put, Sink};
@@ -13,7 +13,7 @@ pub struct WriteFault;
 pub fn write_whole<K: Sink>(sink: &mut K, bytes: &[u8]) -> Result<(), WriteFault>
     ensures ok { OnOk result (Holds (K.held sink.old) (K.held sink.new) bytes.now) }
     ensures err { OnErr result (HoldsFront (K.held sink.old) (K.held sink.new) bytes.now) }
-    ensures cause { HasCause (K.faults sink.old) (K.faults sink.new) (is_err result) }
+    ensures cause { CountsFault (K.faults sink.old) (K.faults sink.new) (is_err result) }
 {
     let mut at = 0;
     while at < bytes.len() {

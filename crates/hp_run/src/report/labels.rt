@@ -1,9 +1,7 @@
 ghost use Rattle.std.specs.Prelude.{◌≡◌, ℕ, IfOk};
 ghost use Rattle.hp_script.specs.Lines.{label_of};
 ghost use Rattle.hp_run.specs.Labels.{known, label_at};
-ghost use Rattle.hp_run.specs.Shown.{shown};
 
-use super::label::Label;
 use hp_base::Tag;
 use hp_script::{Act, Line};
 use std::alloc::{AllocError, Global};
@@ -12,7 +10,7 @@ use std::collections::HashMap;
 /// The labels of a workload's allocations, by the number of their line.
 #[derive(Drop)]
 pub struct Labels<'a> {
-    labels: HashMap<u32, Label<'a>>,
+    labels: HashMap<u32, &'a str>,
 }
 
 impl<'a> Labels<'a> {
@@ -22,28 +20,28 @@ impl<'a> Labels<'a> {
     {
         let mut labels = HashMap::new(alloc);
         for line in lines {
-            labels.insert(line.line, Label::new(label_of(line)))?;
+            labels.insert(line.line, label_of(line))?;
         }
         Ok(Labels { labels })
     }
 
     /// The label that a tag stands for, or an empty text.
     pub fn of(&self, tag: Tag) -> &'a str
-        ensures { result.now ≡ shown (known self.now tag.number) }
+        ensures { result.now ≡ known self.now tag.number }
     {
         match self.labels.get(&tag.number) {
-            Some(label) => label.text(),
+            Some(label) => *label,
             None => "",
         }
     }
 }
 
 // The label of an allocation, or nothing at another call.
-fn label_of<'a>(line: &Line<'a>) -> &'a [u8]
+fn label_of<'a>(line: &Line<'a>) -> &'a str
     ensures { result.now ≡ label_of line.now }
 {
     match &line.act {
-        Act::Alloc { label, .. } => label.as_bytes(),
-        _ => b"",
+        Act::Alloc { label, .. } => label.as_str(),
+        _ => "",
     }
 }

@@ -80,7 +80,7 @@ pub fn chosen(order: &[SocketHeap], choice: SocketChoice) -> &[SocketHeap]
 {
     match choice {
         SocketChoice::Number { socket } => named(order, socket),
-        SocketChoice::Unnamed | SocketChoice::Any => order,
+        SocketChoice::Any => order,
     }
 }
 

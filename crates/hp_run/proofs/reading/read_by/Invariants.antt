@@ -1,4 +1,4 @@
-use Rattle.std.proofs.Common.{◌+◌, ◌-◌, ◌≤◌, vec_len}
+use Rattle.std.proofs.Common.{◌≡◌, ◌+◌, ◌-◌, ◌≤◌, vec_len}
 use Rattle.hp_run.specs.Reading.{Took}
 use Rattle.hp_run.specs.declared.reading.TheConstants.{LIMIT}
 use Rattle.hp_run.proofs.reading.read_by.Given as goal
@@ -8,7 +8,7 @@ abbrev pub invariant-loop-bytes : goal.invariant-loop-bytes
 invariant-loop-bytes g l = record {
   taken : Took (g.S.Source.left l.fn.source) (g.S.Source.left l.source) l.bytes.items;
   short : vec_len l.bytes ≤ LIMIT + 1;
-  never_falls : g.S.Source.faults l.fn.source ≤ g.S.Source.faults l.source;
+  unfailed : g.S.Source.faults l.source ≡ g.S.Source.faults l.fn.source;
 }
 
 abbrev pub decreases-loop-bytes : goal.decreases-loop-bytes

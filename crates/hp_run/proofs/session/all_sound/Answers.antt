@@ -17,7 +17,7 @@ loop-heap-init c = All-nil IsSound
 
 pub loop-heap-preserved : goal.loop-heap-preserved
 loop-heap-preserved c =
-    sound_then c.args.heaps.now c.loop-heap.heap-index c.heap-item.result c.loop-heap-test.true c.heap-item.is c.history-history.ensures.sound c.loop-heap.invariant
+    sound_then c.args.heaps.now c.loop-heap.heap-index c.heap-item.result c.loop-heap-test.true c.heap-item.is c.sound.ensures c.loop-heap.invariant
 
 pub returns : goal.returns
 returns c =

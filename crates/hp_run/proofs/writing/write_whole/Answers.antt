@@ -1,4 +1,4 @@
-use Rattle.std.proofs.Common.{arith, length-drop}
+use Rattle.std.proofs.Common.{arith, length-drop, refl, ◌∙◌}
 use Rattle.std.proofs.Math.Seq.{take-add}
 use Rattle.hp_run.proofs.Streaming.{Holds-then}
 use Rattle.hp_run.proofs.writing.write_whole.Goals as goal
@@ -11,5 +11,5 @@ loop-at-preserved g c =
     record {
       within = omega (arith, length-drop at bytes, took.within);
       written = rw (take-add at c.in-Took.n bytes, ← c.split_at.ensures.back) (Holds-then _ _ _ _ _ c.loop-at.invariant.written took.behind);
-      never_falls = omega (arith, c.in-Took.ensures.cause.never_falls);
+      unfailed = c.in-Took.ensures.cause.same refl ∙ c.loop-at.invariant.unfailed;
     }

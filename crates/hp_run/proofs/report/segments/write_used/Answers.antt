@@ -7,7 +7,7 @@ use Rattle.hp_segs.specs.declared.list_info.ListInfo.{ListInfo}
 use Rattle.hp_segs.proofs.ListsLemmas.{length_lists_from}
 use Rattle.hp_run.specs.SegmentTexts.{used_text, all_used_text}
 use Rattle.hp_run.proofs.TextLemmas.{numbered-more}
-use Rattle.hp_run.proofs.ListsApart.{list_fits}
+use Rattle.hp_segs.proofs.ListsApart.{list_fits}
 use Rattle.hp_run.proofs.report.segments.write_used.Goals as goal
 
 pub overflow_cast-list : goal.overflow_cast-list

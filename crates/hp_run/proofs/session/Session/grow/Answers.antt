@@ -13,8 +13,8 @@ there old new place read room counted is =
     read_there old.heaps.items place 1 read room (is ∙ ap (λ session. slice_index_or session.heaps.items place read) counted)
 
 -- src/session/heap_calls.rt:48:9
-pub add_run-requires-clause-can_grow : goal.add_run-requires-clause-can_grow
-add_run-requires-clause-can_grow c =
+pub add_run-requires-clause-allowed : goal.add_run-requires-clause-allowed
+add_run-requires-clause-allowed c =
     c.requires.can_grow c.index_mut.result.now
     (there c.args.self.now c.caller-caller.new.self c.args.place c.index_mut.result.now c.requires.room
     c.caller-caller.ensures.counted c.index_mut.ensures.value).here
