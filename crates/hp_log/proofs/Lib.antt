@@ -1,3 +1,5 @@
 pub mod Counts
 pub mod RowLemmas
 pub mod LogLemmas
+pub mod TableLemmas
+pub mod PlaceLemmas

@@ -1,5 +1,5 @@
 -- Logs that grow at the end, and the tables that they leave.
-use Rattle.std.proofs.Common.{◌≡◌, ℕ, ◌+◌, ◌<◌, List, [], ◌∷◌, ◌++◌, length, take, get_or, ◌∙◌, ap, arith, add-one, length-take}
+use Rattle.std.proofs.Common.{◌≡◌, ℕ, ◌+◌, ◌<◌, List, [], ◌∷◌, ◌++◌, length, take, get_or, ◌∙◌, ap, subst, arith, add-one, length-take}
 use Rattle.std.proofs.Math.Seq.{take-suc}
 use Rattle.hp_base.specs.declared.row.Row.{Row}
 use Rattle.hp_log.specs.Log.{table_after, table_from, table_of, MayFollow, AllMayFollow, IsWellFormed}
@@ -41,3 +41,20 @@ table_of_more log i d within =
     ap (λ n. take n log) (add-one i) ∙ take-suc log i d within in
     let long : length (take i log) + 1 ≡ i + 1 = omega (arith, length-take i log) in
     ap table_of more ∙ (table_of_push (take i log) (get_or log i d) ∙ ap (λ n. table_after (table_of (take i log)) n (get_or log i d)) long)
+
+-- a well-formed log is so up to any of its records, and goes on so behind them
+pub all_follow_front : (n : ℕ) (table : List Row) (first later : List LogRecord) → AllMayFollow n table (first ++ later)
+    → AllMayFollow n table first
+all_follow_front n table [] later formed = tt
+all_follow_front n table (entry ∷ first) later formed =
+    (formed.0, all_follow_front (n + 1) (table_after table (n + 1) entry) first later formed.1)
+
+pub all_follow_back : (n : ℕ) (table : List Row) (first later : List LogRecord) → AllMayFollow n table (first ++ later)
+    → AllMayFollow (n + length first) (table_from n table first) later
+all_follow_back n table [] later formed =
+    let same : n ≡ n + 0 = omega arith in
+    subst (λ k. AllMayFollow k table later) same formed
+all_follow_back n table (entry ∷ first) later formed =
+    let same : n + 1 + length first ≡ n + length (entry ∷ first) = omega arith in
+    subst (λ k. AllMayFollow k (table_from (n + 1) (table_after table (n + 1) entry) first) later) same
+    (all_follow_back (n + 1) (table_after table (n + 1) entry) first later formed.1)

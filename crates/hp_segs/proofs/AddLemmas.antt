@@ -158,13 +158,13 @@ table_added pools log rows run heap listed unused paged old =
     }
 
 -- the table with its masks and counts after the Add of a list's unused run
-pub laid_out_added : {pools : List PoolLine} {lists : List ListInfo} {masks masks' : List (List Bool)} {counts counts' : List Pool} {log : List LogRecord} {rows : List Row} {room : ℕ}
+pub laid_out_added : {pools : List PoolLine} {lists : List ListInfo} {masks masks' : List (List Bool)} {counts counts' : List Pool} {log : List LogRecord} {rows : List Row}
     (run : Run) (heap : ℕ) → IsListRun (lists_of pools) run → IsUnusedRun rows run
     → Takes counts counts' run.socket run.page run.count
     → masks' ≡ set masks run.list (with_places (get_or masks run.list []) run.first run.count true)
-    → IsLaidOut pools lists masks counts log rows room
-    → IsLaidOut pools lists masks' counts' (log ++ Add run heap ∷ []) (rows ++ rows_of run (length log + 1)) room
-laid_out_added {pools} {lists} {masks} {masks'} {counts} {counts'} {log} {rows} {room} run heap listed unused takes marked old =
+    → IsLaidOut pools lists masks counts log rows
+    → IsLaidOut pools lists masks' counts' (log ++ Add run heap ∷ []) (rows ++ rows_of run (length log + 1))
+laid_out_added {pools} {lists} {masks} {masks'} {counts} {counts'} {log} {rows} run heap listed unused takes marked old =
     let rows' : List Row = rows ++ rows_of run (length log + 1) in
     let each : (line : PoolLine) → pool_of counts line.socket line.page ≡ Some (pool_beside rows line)
     → count_by (is_of_pool line) rows ≤ line.pages → TakesFor counts counts' rows rows' line =
@@ -200,5 +200,4 @@ laid_out_added {pools} {lists} {masks} {masks'} {counts} {counts'} {log} {rows} 
           (slots_added rows run (length log + 1) listed.info.slots listed.within)
           marked;
       its_counts = λ k d within. (each (get_or pools k d) (old.its_counts k d within) (old.table.paged k d within)).its_pool;
-      room = old.room;
     }

@@ -22,7 +22,7 @@ closed_push : (asks : List AskLog) (entry : AskLog) (from : ℕ)
 closed_push asks entry from =
     fold_push (λ done entry. if (entry.from == from) && not (is_stale entry.outcome) then max done entry.number else done) 0 asks entry
 
-closed_at : (asks : List AskLog) (closed : List ℕ) (k : ℕ) → AreClosed asks closed → k < 16 → get_or closed k 0 ≡ closed_number asks k
+pub closed_at : (asks : List AskLog) (closed : List ℕ) (k : ℕ) → AreClosed asks closed → k < 16 → get_or closed k 0 ≡ closed_number asks k
 closed_at asks closed k are within =
     ap (λ l. get_or l k 0) are ∙ get_or-map-range_with_len (closed_number asks) 0 16 k k 0 within (omega arith)
 

@@ -21,14 +21,14 @@ use Rattle.hp_segs.specs.declared.row_state.Segment.{Segment}
 use Rattle.hp_segs.proofs.PlannedLemmas.{IsOpenPlan}
 
 -- the closed number after one outcome more
-abbrev closing : ℕ → ℕ → AskLog → ℕ
+abbrev pub closing : ℕ → ℕ → AskLog → ℕ
 closing from done entry = if (entry.from == from) && not (is_stale entry.outcome) then max done entry.number else done
 
 grows_by : (counts : Bool) (done number : ℕ) → done ≤ (if counts then max done number else done)
 grows_by true done number = omega arith
 grows_by false done number = omega arith
 
-closing_grows : (from done : ℕ) (asks : List AskLog) → done ≤ fold (closing from) done asks
+pub closing_grows : (from done : ℕ) (asks : List AskLog) → done ≤ fold (closing from) done asks
 closing_grows from done [] = omega arith
 closing_grows from done (entry ∷ asks) =
     omega (
@@ -37,7 +37,7 @@ closing_grows from done (entry ∷ asks) =
       closing_grows from (closing from done entry) asks,
     )
 
-fresh_by : (outcome : Outcome) → is_grant_or_refusal outcome ≡ true → not (is_stale outcome) ≡ true
+pub fresh_by : (outcome : Outcome) → is_grant_or_refusal outcome ≡ true → not (is_stale outcome) ≡ true
 fresh_by (Granted generation) is = refl
 fresh_by (Refused cause) is = refl
 fresh_by (Stale done) is = is
@@ -66,7 +66,7 @@ or_last : (b : Bool) → (b || true) ≡ true
 or_last true = refl
 or_last false = refl
 
-any_mapped : {X Y : Type 0} (p : Y → Bool) (f : X → Y) (xs : List X) → list_any p (map f xs) ≡ list_any (λ x. p (f x)) xs
+pub any_mapped : {X Y : Type 0} (p : Y → Bool) (f : X → Y) (xs : List X) → list_any p (map f xs) ≡ list_any (λ x. p (f x)) xs
 any_mapped p f [] = refl
 any_mapped p f (x ∷ xs) = ap (λ b. p (f x) || b) (any_mapped p f xs)
 

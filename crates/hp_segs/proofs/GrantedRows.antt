@@ -143,7 +143,7 @@ module _ (segs : SegsView) (sound : IsSound segs) where
 pub rows_are_granted : RowsAreGranted
 rows_are_granted segs sound k d within settled = row_granted segs sound k d within settled
 
-claim_by : (segs : SegsView) (generation k : ℕ) (d : Segment) (state : RowState) → IsSound segs → k < length segs.segments
+pub claim_by : (segs : SegsView) (generation k : ℕ) (d : Segment) (state : RowState) → IsSound segs → k < length segs.segments
     → (get_or segs.segments k d).state ≡ state → is_agreed state ≡ true → (get_or segs.segments k d).row.generation ≡ generation
     → (heap : ℕ) × IsWholeGrant segs.log segs.segments generation heap
 claim_by segs generation k d Opened sound within is agreed stamp = cc

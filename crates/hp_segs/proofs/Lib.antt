@@ -4,6 +4,7 @@ pub mod ClaimLemmas
 pub mod CloseLemmas
 pub mod ClosedLemmas
 pub mod DropLemmas
+pub mod FailedLemmas
 pub mod Finds
 pub mod GrantLemmas
 pub mod GrowLemmas
@@ -11,6 +12,11 @@ pub mod GrowthCauses
 pub mod GrowthLemmas
 pub mod HeapRows
 pub mod InsertLemmas
+pub mod KeptSlots
+pub mod KeptTable
+pub mod SlotRows
+pub mod TableRuns
+pub mod TotalLemmas
 pub mod KeptLemmas
 pub mod KeptSteps
 pub mod LeaveLemmas
@@ -40,11 +46,9 @@ pub mod RemoveAllLemmas
 pub mod RemoveLemmas
 pub mod RetireGrowth
 pub mod RetireLemmas
-pub mod RisingLemmas
+pub mod SinceLemmas
 pub mod SlotLemmas
 pub mod StateLemmas
-pub mod StretchLemmas
-pub mod TableLemmas
 pub mod TakeLemmas
 pub mod TableUse
 pub mod GivenUp
@@ -60,3 +64,4 @@ pub mod Moves
 pub mod NewSound
 pub mod WithdrawSteps
 pub mod WholeGrants
+mod LogPlaceLemmas

@@ -13,7 +13,7 @@ use Rattle.hp_segs.specs.declared.list_info.ListInfo.{ListInfo}
 use Rattle.hp_segs.proofs.MaskLemmas.{length_with_places}
 use Rattle.hp_segs.proofs.SlotLemmas.{is_between, with_places_at, any_added, any_removed}
 
-map_range_agree : {X : Type 0} (f g : ℕ → X) → ((k : ℕ) → f k ≡ g k) → (a n : ℕ)
+pub map_range_agree : {X : Type 0} (f g : ℕ → X) → ((k : ℕ) → f k ≡ g k) → (a n : ℕ)
     → map f (range_with_len a n) ≡ map g (range_with_len a n)
 map_range_agree f g same a zero = refl
 map_range_agree f g same a (suc n) =
@@ -78,7 +78,7 @@ and_by_cond false used = refl
 own_slot : (run : Run) (slot : ℕ) → has_slot run.list slot run ≡ is_between run.first run.count slot
 own_slot run slot = ap (λ b. b && is_between run.first run.count slot) (eq-eqb run.list run.list refl)
 
-slot_at : (rows : List Row) (list n k : ℕ) → k < n → get_or (slots_of rows list n) k false ≡ list_any (at_slot list k) rows
+pub slot_at : (rows : List Row) (list n k : ℕ) → k < n → get_or (slots_of rows list n) k false ≡ list_any (at_slot list k) rows
 slot_at rows list n k within =
     get_or-map-range_with_len (λ slot. list_any (at_slot list slot) rows) 0 n k k false within (omega arith)
 
@@ -125,7 +125,7 @@ slots_removed rows run n fits =
 other_slot : (run : Run) (list slot : ℕ) → list ≢ run.list → has_slot list slot run ≡ false
 other_slot run list slot other = and_left (list == run.list) _ (ne_eqb list run.list other)
 
-or_false : (b : Bool) → (b || false) ≡ b
+pub or_false : (b : Bool) → (b || false) ≡ b
 or_false true = refl
 or_false false = refl
 

@@ -1,7 +1,7 @@
 -- The table as its lists, masks and counts are made, pool after pool.
-use Rattle.std.proofs.Common.{◌≡◌, ◌⊎◌, ℕ, zero, suc, ◌+◌, ◌-◌, ◌*◌, ◌^◌, ◌<◌, ◌≤◌, Bool, false, List, [], ◌∷◌, ◌++◌, map, length, get_or, take, replicate, Some, None, refl, ap, ◌∙◌, sym, subst, arith, inl, inr, sum_by}
+use Rattle.std.proofs.Common.{◌≡◌, ◌⊎◌, ℕ, zero, suc, ◌+◌, ◌-◌, ◌*◌, ◌^◌, ◌<◌, ◌≤◌, Bool, false, List, [], ◌∷◌, ◌++◌, map, length, get_or, take, replicate, Some, None, refl, ap, ◌∙◌, sym, subst, arith, inl, inr}
 use Rattle.std.proofs.Math.Nat.{mul-le-mul_right}
-use Rattle.std.specs.List.{All, range_with_len}
+use Rattle.std.specs.List.{All, range_with_len, slice_get}
 use Rattle.std.specs.Option.{option_map}
 use Rattle.std.proofs.lemmas.Bool.{cases_eq}
 use Rattle.std.proofs.lemmas.List.Elements.{All-push, All-nil, All-weaker}
@@ -11,14 +11,17 @@ use Rattle.hp_pool.specs.Pools.{pool_of}
 use Rattle.hp_pool.specs.declared.pool.Pool.{Pool}
 use Rattle.hp_segs.specs.Lists.{list_after, end_of, lists_from, lists_of}
 use Rattle.hp_segs.specs.Table.{IsPlaced, IsStamped, IsListRun}
-use Rattle.hp_segs.specs.TableLayout.{IsLaidOut, IsFitList, AddsLine, masks_from, pool_beside}
+use Rattle.hp_segs.specs.Slots.{SlotsView, generation_kept, slots_in}
+use Rattle.hp_segs.specs.TableCalls.{IsKeptTable}
+use Rattle.hp_segs.specs.TableLayout.{IsFitList, AddsLine, masks_from, pool_beside}
+use Rattle.hp_segs.specs.declared.row_state.RowState.TheVariants.{Opened}
 use Rattle.hp_segs.specs.declared.list_info.ListInfo.{ListInfo}
 use Rattle.hp_log.specs.Log.{run_in}
 use Rattle.hp_segs.proofs.PageSizes.{page_small}
 use Rattle.hp_base.proofs.Rounding.{ceil_below}
 use Rattle.hp_base.proofs.PageLemmas.{page_pos}
 use Rattle.std.proofs.Math.Seq.{take-suc}
-use Rattle.std.proofs.lemmas.List.Sums.{sum_by_push}
+use Rattle.std.proofs.lemmas.List.{length-map, length-replicate}
 use Rattle.std.proofs.Common.{add-one}
 
 map_push : {X Y : Type 0} (f : X → Y) (xs : List X) (x : X) → map f (xs ++ x ∷ []) ≡ map f xs ++ f x ∷ []
@@ -66,15 +69,27 @@ end_grows line end is =
     let base = ceil_below end line.page (page_pos line.page is.page) in
     omega (arith, small, bytes, base)
 
+-- the slots of a list without rows
+abbrev pub fresh_slots : ListInfo → SlotsView
+fresh_slots info = record { generations = replicate info.slots 0; states = replicate info.slots Opened }
+
+fresh_at : (lists : List ListInfo) (list : ℕ) (info : ListInfo) → slice_get lists list ≡ Some info
+    → slots_in (map fresh_slots lists) list ≡ fresh_slots info
+fresh_at [] list info here = cc
+fresh_at (first ∷ lists) zero info here =
+    let same : first ≡ info = cc in
+    ap fresh_slots same
+fresh_at (first ∷ lists) (suc list) info here = fresh_at lists list info here
+
 -- what is made after the first i pools
-pub record IsMade (pools : List PoolLine) (i : ℕ) (lists : List ListInfo) (masks : List (List Bool)) (counts : List Pool) (end slots : ℕ) : Type 0 where
+pub record IsMade (pools : List PoolLine) (i : ℕ) (lists : List ListInfo) (masks : List (List Bool)) (kept : List SlotsView) (counts : List Pool) (end : ℕ) : Type 0 where
   pub its_lists : lists ≡ lists_from (2 ^ 32) (take i pools)
   pub its_masks : masks ≡ map (λ info. replicate info.slots false) lists
+  pub its_kept : kept ≡ map fresh_slots lists
   pub its_end : end ≡ end_after (2 ^ 32) (take i pools)
   pub low : end ≤ 2 ^ 32 + i * 2 ^ 48
   pub fit : All IsFitList lists
   pub its_counts : All (λ line. pool_of counts line.socket line.page ≡ Some (pool_beside [] line)) (take i pools)
-  pub its_slots : slots ≡ sum_by (λ line. line.slots) (take i pools)
 
 other_count : (old new : List Pool) (line other : PoolLine) → AddsLine old new line → (other.socket ≡ line.socket) ⊎ (other.socket ≡ line.socket → ⊥)
     → (other.page ≡ line.page) ⊎ (other.page ≡ line.page → ⊥)
@@ -97,11 +112,12 @@ own_count old new line added =
     let all : line.pages ≡ line.pages - 0 = omega arith in
     added.adds.this_pool ∙ ap (λ n. Some (record { socket = line.socket; page = line.page; pages = line.pages; free = n })) all
 
-pub made_more : {pools : List PoolLine} {i : ℕ} {lists : List ListInfo} {masks : List (List Bool)} {counts : List Pool} {end slots : ℕ}
-    (counts' : List Pool) (info : ListInfo) (d : PoolLine) → IsMade pools i lists masks counts end slots → ArePoolLines pools → i < length pools
+pub made_more : {pools : List PoolLine} {i : ℕ} {lists : List ListInfo} {masks : List (List Bool)} {kept : List SlotsView} {counts : List Pool} {end : ℕ}
+    (counts' : List Pool) (info : ListInfo) (d : PoolLine) → IsMade pools i lists masks kept counts end → ArePoolLines pools → i < length pools
     → info ≡ list_after (get_or pools i d) end → AddsLine counts counts' (get_or pools i d)
-    → IsMade pools (i + 1) (lists ++ info ∷ []) (masks ++ replicate info.slots false ∷ []) counts' (info.base + info.slots * info.page) (slots + info.slots)
-made_more {pools} {i} {lists} {masks} {counts} {end} {slots} counts' info d made limits within is added =
+    → IsMade pools (i + 1) (lists ++ info ∷ []) (masks ++ replicate info.slots false ∷ []) (kept ++ fresh_slots info ∷ []) counts'
+    (info.base + info.slots * info.page)
+made_more {pools} {i} {lists} {masks} {kept} {counts} {end} counts' info d made limits within is added =
     let line : PoolLine = get_or pools i d in
     let more : take (i + 1) pools ≡ take i pools ++ line ∷ [] = rw add-one (take-suc pools i d within) in
     let is_line : IsPoolLine line = limits.lines i d within in
@@ -117,6 +133,7 @@ made_more {pools} {i} {lists} {masks} {counts} {end} {slots} counts' info d made
       its_masks =
           ap (λ m. m ++ replicate info.slots false ∷ []) made.its_masks
           ∙ sym (map_push (λ info. replicate info.slots false) lists info);
+      its_kept = ap (λ k. k ++ fresh_slots info ∷ []) made.its_kept ∙ sym (map_push fresh_slots lists info);
       its_end =
           ends ∙ (ap (λ e. end_of (list_after line e)) made.its_end
           ∙ (sym (end_push (2 ^ 32) (take i pools) line) ∙ ap (end_after (2 ^ 32)) (sym more)));
@@ -143,32 +160,41 @@ made_more {pools} {i} {lists} {masks} {counts} {end} {slots} counts' info d made
           (take i pools)
           made.its_counts)
           (own_count counts counts' line added));
-      its_slots =
-          let slots_is : info.slots ≡ line.slots = ap (λ i. i.slots) is in
-          omega (arith, made.its_slots, slots_is, ap (sum_by (λ line. line.slots)) more, sum_by_push (λ line. line.slots) (take i pools) line);
     }
 
 -- the table of pools without a record
-pub laid_out_new : {pools : List PoolLine} {lists : List ListInfo} {masks : List (List Bool)} {counts : List Pool} {end slots : ℕ} (i room : ℕ)
-    → IsMade pools i lists masks counts end slots → ArePoolLines pools → length pools ≤ i → slots ≤ room
-    → IsLaidOut pools lists masks counts [] [] room
-laid_out_new {pools} {lists} {masks} {counts} {end} {slots} i room made limits all fits =
+pub kept_new : {pools : List PoolLine} {lists : List ListInfo} {masks : List (List Bool)} {kept : List SlotsView} {counts : List Pool} {end : ℕ} (i : ℕ)
+    → IsMade pools i lists masks kept counts end → ArePoolLines pools → length pools ≤ i
+    → IsKeptTable pools lists masks counts kept (replicate 32 0) []
+kept_new {pools} {lists} {masks} {kept} {counts} i made limits all =
     let whole : take i pools ≡ pools = take_all pools i all in
     let its_lists : lists ≡ lists_of pools = made.its_lists ∙ ap (lists_from (2 ^ 32)) whole in
     record {
-      table = record {
-        limits = limits;
-        formed = tt;
-        listed = All-nil (λ entry. IsListRun (lists_of pools) (run_in entry));
-        table = refl;
-        once = λ list slot. omega arith;
-        placed = All-nil (IsPlaced (lists_of pools));
-        stamped = All-nil (IsStamped []);
-        paged = λ k d within. omega arith;
+      laid = record {
+        table = record {
+          limits = limits;
+          formed = tt;
+          listed = All-nil (λ entry. IsListRun (lists_of pools) (run_in entry));
+          table = refl;
+          once = λ list slot. omega arith;
+          placed = All-nil (IsPlaced (lists_of pools));
+          stamped = All-nil (IsStamped []);
+          paged = λ k d within. omega arith;
+        };
+        its_lists = its_lists;
+        fit = made.fit;
+        its_masks = made.its_masks ∙ sym (masks_clear 0 lists);
+        its_counts = subst (All (λ line. pool_of counts line.socket line.page ≡ Some (pool_beside [] line))) whole made.its_counts;
       };
-      its_lists = its_lists;
-      fit = made.fit;
-      its_masks = made.its_masks ∙ sym (masks_clear 0 lists);
-      its_counts = subst (All (λ line. pool_of counts line.socket line.page ≡ Some (pool_beside [] line))) whole made.its_counts;
-      room = omega (arith, made.its_slots, ap (sum_by (λ line. line.slots)) whole, fits);
+      slots = record {
+        long = ap length made.its_kept ∙ length-map lists fresh_slots;
+        generations = λ list info here.
+            ap (λ k. length (slots_in k list).generations) made.its_kept
+            ∙ (ap (λ (s : SlotsView). length s.generations) (fresh_at lists list info here) ∙ length-replicate info.slots 0);
+        states = λ list info here.
+            ap (λ k. length (slots_in k list).states) made.its_kept
+            ∙ (ap (λ (s : SlotsView). length s.states) (fresh_at lists list info here) ∙ length-replicate info.slots Opened);
+        stamped = All-nil (λ row. generation_kept kept row.list row.slot ≡ row.generation);
+      };
+      counted = refl;
     }

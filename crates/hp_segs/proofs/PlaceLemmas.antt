@@ -34,7 +34,7 @@ lists_are_apart pools list other info info' limits different here there =
     ]
 
 -- a later slot begins behind an earlier one
-slot_behind : (earlier later page : ℕ) → earlier < later → earlier * page + page ≤ later * page
+pub slot_behind : (earlier later page : ℕ) → earlier < later → earlier * page + page ≤ later * page
 slot_behind earlier later page before =
     let most : suc earlier * page ≤ later * page = mul-le-mul_right page before in
     omega (arith, most, suc-mul earlier page)

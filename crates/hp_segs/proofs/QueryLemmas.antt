@@ -53,8 +53,8 @@ small_segments lists socket (segment ∷ segments) fit placed =
     (bytes_by ((segment.row.socket == socket) && is_counted segment.state) segment.row.page small)
     (small_segments lists socket segments fit (All-tail (IsPlaced lists) segment.row (rows_in segments) placed))
 
-module _ {pools : List PoolLine} {lists : List ListInfo} {masks : List (List Bool)} {counts : List Pool} {log : List LogRecord} {rows : List Row} {room : ℕ}
-    (old : IsLaidOut pools lists masks counts log rows room) where
+module _ {pools : List PoolLine} {lists : List ListInfo} {masks : List (List Bool)} {counts : List Pool} {log : List LogRecord} {rows : List Row}
+    (old : IsLaidOut pools lists masks counts log rows) where
   -- the count of a pool line is what the rows leave
   pub count_at : (pool : ℕ) (d : PoolLine) → pool < length pools
       → unwrap_or (free_of counts (get_or pools pool d).socket (get_or pools pool d).page) 0 ≡ pages_beside pools rows pool

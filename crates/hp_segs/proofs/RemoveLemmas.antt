@@ -48,11 +48,11 @@ both_true : (inside of : Bool) (own : Bool) → (inside ≡ true → of ≡ own)
 both_true true of own same = same refl
 both_true false of own same = refl
 
-and_true : (b : Bool) → (b && true) ≡ b
+pub and_true : (b : Bool) → (b && true) ≡ b
 and_true true = refl
 and_true false = refl
 
-and_false : (b : Bool) → (b && false) ≡ false
+pub and_false : (b : Bool) → (b && false) ≡ false
 and_false true = refl
 and_false false = refl
 
@@ -160,13 +160,13 @@ table_removed pools log rows run listed used old =
     }
 
 -- the table with its masks and counts after the Drop of a list's used run
-pub laid_out_removed : {pools : List PoolLine} {lists : List ListInfo} {masks masks' : List (List Bool)} {counts counts' : List Pool} {log : List LogRecord} {rows : List Row} {room : ℕ}
+pub laid_out_removed : {pools : List PoolLine} {lists : List ListInfo} {masks masks' : List (List Bool)} {counts counts' : List Pool} {log : List LogRecord} {rows : List Row}
     (run : Run) → IsListRun (lists_of pools) run → IsUsedRun rows run
     → Gives counts counts' run.socket run.page run.count
     → masks' ≡ set masks run.list (with_places (get_or masks run.list []) run.first run.count false)
-    → IsLaidOut pools lists masks counts log rows room
-    → IsLaidOut pools lists masks' counts' (log ++ Drop run ∷ []) (rows_without run rows) room
-laid_out_removed {pools} {lists} {masks} {masks'} {counts} {counts'} {log} {rows} {room} run listed used gives marked old =
+    → IsLaidOut pools lists masks counts log rows
+    → IsLaidOut pools lists masks' counts' (log ++ Drop run ∷ []) (rows_without run rows)
+laid_out_removed {pools} {lists} {masks} {masks'} {counts} {counts'} {log} {rows} run listed used gives marked old =
     record {
       table = table_removed pools log rows run listed used old.table;
       its_lists = old.its_lists;
@@ -200,7 +200,6 @@ laid_out_removed {pools} {lists} {masks} {masks'} {counts} {counts'} {log} {rows
           (run_of_pool (get_or pools k d) run)
           refl
           (removed_count (lists_of pools) (get_or pools k d) rows run listed used old.table.placed);
-      room = old.room;
     }
 
 -- the pool of a list's used run has as many pages out

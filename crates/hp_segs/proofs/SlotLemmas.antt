@@ -30,22 +30,22 @@ between_more first n k other =
           ap (λ b. nat_le first k && b) (long ∙ sym short)
     ]
 
-place_marked : (mask : List Bool) (first n : ℕ) (used : Bool) (k : ℕ) (d : Bool) → first + suc n ≤ length mask
+place_marked : {X : Type 0} (xs : List X) (first n : ℕ) (x : X) (k : ℕ) (d : X) → first + suc n ≤ length xs
     → (k ≡ first + n) ⊎ (k ≡ first + n → ⊥)
-    → get_or (with_places mask first n used) k d ≡ cond (is_between first n k) used (get_or mask k d)
-    → get_or (with_places mask first (suc n) used) k d ≡ cond (is_between first (suc n) k) used (get_or mask k d)
-place_marked mask first n used k d fits (inl same) before =
+    → get_or (with_places xs first n x) k d ≡ cond (is_between first n k) x (get_or xs k d)
+    → get_or (with_places xs first (suc n) x) k d ≡ cond (is_between first (suc n) k) x (get_or xs k d)
+place_marked xs first n x k d fits (inl same) before =
     let inside : is_between first (suc n) k ≡ true =
     and_from _ _ (le-leb first k (omega arith)) (lt-ltb k (first + suc n) (omega arith)) in
-    let within : first + n < length (with_places mask first n used) = rw length_with_places (omega arith) in
-    rw (inside, same, get_or-set_same (with_places mask first n used) (first + n) used d within) refl
-place_marked mask first n used k d fits (inr other) before =
-    rw (between_more first n k other, get_or-set_other (with_places mask first n used) (first + n) k used d other) before
+    let within : first + n < length (with_places xs first n x) = rw length_with_places (omega arith) in
+    rw (inside, same, get_or-set_same (with_places xs first n x) (first + n) x d within) refl
+place_marked xs first n x k d fits (inr other) before =
+    rw (between_more first n k other, get_or-set_other (with_places xs first n x) (first + n) k x d other) before
 
--- a marked mask at a place
-pub with_places_at : (mask : List Bool) (first n : ℕ) (used : Bool) (k : ℕ) (d : Bool) → first + n ≤ length mask
-    → get_or (with_places mask first n used) k d ≡ cond (is_between first n k) used (get_or mask k d)
-with_places_at mask first zero used k d fits =
+-- a list with places set alike, at a place
+pub with_places_at : {X : Type 0} (xs : List X) (first n : ℕ) (x : X) (k : ℕ) (d : X) → first + n ≤ length xs
+    → get_or (with_places xs first n x) k d ≡ cond (is_between first n k) x (get_or xs k d)
+with_places_at xs first zero x k d fits =
     let none : is_between first 0 k ≡ false =
     false_from_ne_true (is_between first 0 k) (λ inside.
     let parts = and_parts (nat_le first k) (nat_lt k (first + 0)) inside in
@@ -53,8 +53,8 @@ with_places_at mask first zero used k d fits =
     let high : k < first + 0 = ltb-true k (first + 0) parts.1 in
     omega arith) in
     rw none refl
-with_places_at mask first (suc n) used k d fits =
-    place_marked mask first n used k d fits (cases_eq k (first + n)) (with_places_at mask first n used k d (omega arith))
+with_places_at xs first (suc n) x k d fits =
+    place_marked xs first n x k d fits (cases_eq k (first + n)) (with_places_at xs first n x k d (omega arith))
 
 any_by : (run : Run) (generation list slot : ℕ) (has : Bool) → has_slot list slot run ≡ has → (any : Bool)
     → list_any (at_slot list slot) (rows_of run generation) ≡ any → any ≡ has

@@ -20,13 +20,9 @@ use Rattle.hp_segs.specs.TableLayout.{IsLaidOut, IsFitList, pool_beside}
 use Rattle.hp_log.specs.Rows.{IsSmallRun}
 use Rattle.hp_segs.specs.declared.list_info.ListInfo.{ListInfo}
 use Rattle.hp_log.specs.declared.log_record.LogRecord.{LogRecord}
-use Rattle.hp_segs.proofs.AddLemmas.{once_added, placed_run}
 use Rattle.hp_segs.proofs.ListsLemmas.{line_of_list, HasLine}
 use Rattle.hp_segs.proofs.MaskStepLemmas.{masks_from_at, length_masks_from}
-use Rattle.hp_segs.proofs.Pigeonhole.{rows_within, slots_of_lists}
 use Rattle.hp_segs.proofs.RemoveLemmas.{has_out}
-use Rattle.hp_log.proofs.RowLemmas.{all_rows_below, length_rows_below}
-use Rattle.std.proofs.lemmas.List.Elements.{All-append}
 
 -- what holds of all holds of the one at a place
 pub at_place : {X : Type 0} (P : X → Type 0) (xs : List X) (i : ℕ) (x : X) → All P xs → slice_get xs i ≡ Some x → P x
@@ -52,8 +48,8 @@ pub record RunPool (pools : List PoolLine) (counts : List Pool) (rows : List Row
   pub its_pool : pool_of counts line.socket line.page ≡ Some (pool_beside rows line)
   pub fits : count_by (is_of_pool line) rows ≤ line.pages
 
-module _ {pools : List PoolLine} {lists : List ListInfo} {masks : List (List Bool)} {counts : List Pool} {log : List LogRecord} {rows : List Row} {room : ℕ}
-    (old : IsLaidOut pools lists masks counts log rows room) (run : Run) (listed : IsListRun (lists_of pools) run) where
+module _ {pools : List PoolLine} {lists : List ListInfo} {masks : List (List Bool)} {counts : List Pool} {log : List LogRecord} {rows : List Row}
+    (old : IsLaidOut pools lists masks counts log rows) (run : Run) (listed : IsListRun (lists_of pools) run) where
   here : slice_get lists run.list ≡ Some listed.info
   here = ap (λ l. slice_get l run.list) old.its_lists ∙ listed.its_list
 
@@ -114,25 +110,9 @@ module _ {pools : List PoolLine} {lists : List ListInfo} {masks : List (List Boo
   pages_out used =
       has_out pools counts rows run run_pool.line listed used old.table.placed run_pool.socket run_pool.page run_pool.its_pool run_pool.fits
 
-  -- there is room for the rows of an unused run
-  pub room_for_run : IsUnusedRun rows run → length rows + run.count ≤ room
-  room_for_run unused =
-      let within =
-      rows_within
-      (lists_of pools)
-      (rows ++ rows_of run 0)
-      (All-append
-      (IsPlaced (lists_of pools))
-      rows
-      (rows_of run 0)
-      old.table.placed
-      (all_rows_below (IsPlaced (lists_of pools)) run 0 run.count (placed_run (lists_of pools) run 0 listed)))
-      (once_added rows run 0 unused old.table.once) in
-      omega (arith, within, slots_of_lists pools, old.room, length-append rows (rows_of run 0), length_rows_below run 0 run.count)
-
 -- each run of the log is small
-pub small_runs : {pools : List PoolLine} {lists : List ListInfo} {masks : List (List Bool)} {counts : List Pool} {log : List LogRecord} {rows : List Row} {room : ℕ}
-    → IsLaidOut pools lists masks counts log rows room → All (λ entry. IsSmallRun (run_in entry)) log
+pub small_runs : {pools : List PoolLine} {lists : List ListInfo} {masks : List (List Bool)} {counts : List Pool} {log : List LogRecord} {rows : List Row}
+    → IsLaidOut pools lists masks counts log rows → All (λ entry. IsSmallRun (run_in entry)) log
 small_runs {pools} {log = log} old =
     All-weaker
     (λ entry. IsListRun (lists_of pools) (run_in entry))

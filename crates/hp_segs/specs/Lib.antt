@@ -19,5 +19,8 @@ pub mod PlaceLaws
 pub mod Opening
 pub mod AsksView
 pub mod Masks
+pub mod Slots
+pub mod TableCalls
 pub mod TableLayout
 pub mod SegsLayout
+pub mod LogPlaces

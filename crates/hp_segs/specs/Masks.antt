@@ -1,7 +1,7 @@
--- Masks of which a stretch of places is marked. No public clause cites this module.
-use Rattle.std.specs.Prelude.{ℕ, zero, suc, ◌+◌, Bool, List, slice_set}
+-- Lists of which a stretch of places is set alike, such as masks. No public clause cites this module.
+use Rattle.std.specs.Prelude.{ℕ, zero, suc, ◌+◌, List, slice_set}
 
--- the mask with n places from `first` on marked alike
-abbrev pub with_places : List Bool → ℕ → ℕ → Bool → List Bool
-with_places mask first zero used = mask
-with_places mask first (suc n) used = slice_set (with_places mask first n used) (first + n) used
+-- the list with n places from `first` on set alike
+abbrev pub with_places : {X : Type 0} → List X → ℕ → ℕ → X → List X
+with_places xs first zero x = xs
+with_places xs first (suc n) x = slice_set (with_places xs first n x) (first + n) x

@@ -1,5 +1,5 @@
--- How the table keeps masks and counts beside its segments. No public clause cites this module.
-use Rattle.std.specs.Prelude.{◌≡◌, ℕ, ◌+◌, ◌-◌, ◌*◌, ◌^◌, ◌≤◌, ◌<◌, Bool, List, [], ◌∷◌, ◌++◌, Some, None, IsTrue, length, sum_by}
+-- How the table keeps masks and counts beside its rows. No public clause cites this module.
+use Rattle.std.specs.Prelude.{◌≡◌, ℕ, ◌+◌, ◌-◌, ◌*◌, ◌^◌, ◌≤◌, ◌<◌, nat_le, nat_lt, Bool, ◌&&◌, List, [], ◌∷◌, ◌++◌, Some, None, IsTrue, length, sum_by}
 use Rattle.std.specs.List.{All, AllWithin}
 use Rattle.hp_base.specs.Pages.{is_page_size}
 use Rattle.hp_base.specs.declared.row.Row.{Row}
@@ -10,7 +10,7 @@ use Rattle.hp_base.specs.declared.row.Run.{Run}
 use Rattle.hp_segs.specs.Steps.{without_run}
 use Rattle.hp_log.specs.declared.log_record.LogRecord.TheVariants.{Drop}
 use Rattle.hp_log.specs.Rows.{slots_of}
-use Rattle.hp_segs.specs.Lists.{lists_of, free_pages}
+use Rattle.hp_segs.specs.Lists.{end_of, lists_of, free_pages}
 use Rattle.hp_segs.specs.Table.{IsTable, TableView}
 use Rattle.hp_segs.specs.declared.list_info.ListInfo.{ListInfo}
 use Rattle.hp_log.specs.declared.log_record.LogRecord.{LogRecord}
@@ -31,24 +31,14 @@ pub record IsFitList (info : ListInfo) : Type 0 where
   pub slots : info.slots ≤ 8192
   pub below : info.base + info.slots * info.page ≤ 2 ^ 63
 
--- the masks are those of the rows, the pools have what the rows leave, and there is room for a segment at every slot
+-- the masks are those of the rows, and the pools have what the rows leave
 pub record IsLaidOut (pools : List PoolLine) (lists : List ListInfo) (masks : List (List Bool)) (counts : List Pool) (log : List LogRecord)
-    (rows : List Row) (rows_room : ℕ) : Type 0 where
+    (rows : List Row) : Type 0 where
   pub table : IsTable pools log rows
   pub its_lists : lists ≡ lists_of pools
   pub fit : All IsFitList lists
   pub its_masks : masks ≡ masks_from 0 rows lists
   pub its_counts : All (λ line. pool_of counts line.socket line.page ≡ Some (pool_beside rows line)) pools
-  pub room : sum_by (λ line. line.slots) pools ≤ rows_room
-
--- the segments of a generation stand from the first place on and before the end, those of earlier ones before them, and those of
--- later ones behind
-pub record IsStretch (segments : List Segment) (generation first end : ℕ) : Type 0 where
-  pub ordered : first ≤ end
-  pub within : end ≤ length segments
-  pub earlier : AllWithin (λ segment. segment.row.generation < generation) segments 0 first
-  pub its_own : AllWithin (λ segment. segment.row.generation ≡ generation) segments first end
-  pub later : AllWithin (λ segment. generation < segment.row.generation) segments end (length segments)
 
 -- a pool that was not there, and no other, is added
 pub record AddsLine (old new : List Pool) (line : PoolLine) : Type 0 where
@@ -70,3 +60,7 @@ pub record IsExtent (info : ListInfo) : Type 0 where
   pub some : 0 < info.page
   pub slots : info.slots < 2 ^ 32
   pub below : info.base + info.slots * info.page ≤ 2 ^ 63
+
+-- the bytes of a list contain an address
+abbrev pub list_contains : ℕ → ListInfo → Bool
+list_contains addr info = nat_le info.base addr && nat_lt addr (end_of info)

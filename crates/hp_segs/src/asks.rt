@@ -1,8 +1,8 @@
-//! The logged outcomes, with the closed number of each participant.
-ghost use Rattle.std.specs.Prelude.{◌≡◌, ◌+◌, ◌-◌, ◌<◌, ◌≤◌, [], ◌∷◌, ◌++◌, IfOk, OnOk, count_by, length, vec_capacity};
+//! The logged outcomes, with the closed number and the last failed mapping call of each participant.
+ghost use Rattle.std.specs.Prelude.{◌≡◌, ◌-◌, ◌<◌, ◌≤◌, [], ◌∷◌, ◌++◌, None, IfSome, OnOk, find, IsTrue, length, take, vec_capacity};
 ghost use Rattle.hp_segs.specs.SegsView.{closed_number, grant_or_refusal_of, grants_or_refuses, is_grant_or_refusal, is_outcome_for, is_stale, outcome_of};
-ghost use Rattle.hp_segs.specs.AsksView.{closed_after};
-ghost use Rattle.hp_segs.specs.LaterSteps.{fails_from, has_failed_from, outcome_fails_from};
+ghost use Rattle.hp_segs.specs.AsksView.{cause_failure, closed_after, failed_after, failure_of, later_call};
+ghost use Rattle.hp_segs.specs.LaterSteps.{has_failed_from};
 
 use crate::outcome::{AskLog, Cause, Outcome};
 use std::alloc::{AllocError, Global};
@@ -12,22 +12,26 @@ use std::marker::Model;
 #[derive(Drop)]
 pub(crate) struct Asks {
     entries: Vec<AskLog>,
+    // Beside each outcome, the closed number of its participant before it.
+    before: Vec<u64>,
     // The closed number of each of the participants 0 to 15.
     closed: [u64; 16],
+    // The greatest failed mapping call of each participant that a number can name.
+    failed: [Option<u64>; 256],
 }
 
 impl Model for Asks {
-    ghost use Rattle.std.specs.Prelude.{◌-◌, length, vec_capacity};
-    ghost use Rattle.hp_segs.specs.AsksView.{AsksView, AreClosed};
+    ghost use Rattle.std.specs.Prelude.{◌-◌, length, min, vec_capacity};
+    ghost use Rattle.hp_segs.specs.AsksView.{AsksView, AreKeptAsks};
 
     ghost Value = { AsksView };
 
     ghost view = { λ a. record {
       entries = a.entries.items;
-      room = vec_capacity a.entries - length a.entries.items;
+      room = min (vec_capacity a.entries - length a.entries.items) (vec_capacity a.before - length a.before.items);
     } };
 
-    ghost invariant = { λ a. AreClosed a.entries.items a.closed };
+    ghost invariant = { λ a. AreKeptAsks a.entries.items a.before.items a.closed a.failed };
 }
 
 // Whether the outcome is Stale.
@@ -64,27 +68,48 @@ fn grants_or_refuses(from: u8, number: u64, entry: &AskLog) -> bool
     entry.from == from && entry.number == number && is_grant_or_refusal(&entry.outcome)
 }
 
-// Whether the cause is a failed mapping of that participant, by this call of its mapper or a later one.
-fn fails_from(participant: u8, call: u64, cause: &Cause) -> bool
-    ensures { result ≡ fails_from participant call cause.now }
+// The participant and the mapping call of a cause that is a failed mapping.
+fn cause_failure(cause: &Cause) -> Option<(u8, u64)>
+    ensures { result ≡ cause_failure cause.now }
 {
     match cause {
         Cause::MapFailed {
-            participant: who,
-            call: of,
+            participant,
+            call,
             ..
-        } => *who == participant && call <= *of,
-        _ => false,
+        } => Some((*participant, *call)),
+        _ => None,
     }
 }
 
-// Whether the outcome is a failed mapping of that participant, by this call of its mapper or a later one.
-fn outcome_fails_from(participant: u8, call: u64, outcome: &Outcome) -> bool
-    ensures { result ≡ outcome_fails_from participant call outcome.now }
+// The participant and the mapping call of an outcome that is a failed mapping.
+fn failure_of(outcome: &Outcome) -> Option<(u8, u64)>
+    ensures failure { result ≡ failure_of outcome.now }
+    ensures small { IfSome result (λ failure. failure.0 < 256) }
 {
     match outcome {
-        Outcome::Refused { cause } => fails_from(participant, call, cause),
-        _ => false,
+        Outcome::Refused { cause } => cause_failure(cause),
+        _ => None,
+    }
+}
+
+// The later of a mapping call and the last one, where there is one.
+fn later_call(last: Option<u64>, call: u64) -> u64
+    ensures { result ≡ later_call last call }
+{
+    match last {
+        Some(last) => last.max(call),
+        None => call,
+    }
+}
+
+// A failed mapping counts for its participant.
+fn count_failure(failed: &mut [Option<u64>; 256], failure: Option<(u8, u64)>)
+    ensures { failed.new ≡ failed_after failed.old failure }
+{
+    if let Some((participant, call)) = failure {
+        let last = &mut failed[participant as usize];
+        *last = Some(later_call(*last, call));
     }
 }
 
@@ -110,13 +135,41 @@ fn append(entries: &mut Vec<AskLog>, entry: AskLog)
     entries.push_reserved(entry);
 }
 
+// The first outcome other than Stale of an ask.
+#[tactic(auto, using(crate::proofs::Finds::find_step, crate::proofs::Finds::find_here, crate::proofs::Finds::find_end))]
+fn first_outcome(entries: &[AskLog], from: u8, number: u64) -> Option<Outcome>
+    ensures { result ≡ outcome_of entries.now from number }
+{
+    for entry in entries {
+        if is_outcome_for(from, number, entry) {
+            return Some(entry.outcome);
+        }
+    }
+    None
+}
+
+// The first grant or refusal of an ask.
+#[tactic(auto, using(crate::proofs::Finds::find_step, crate::proofs::Finds::find_here, crate::proofs::Finds::find_end))]
+fn first_answer(entries: &[AskLog], from: u8, number: u64) -> Option<Outcome>
+    ensures { result ≡ grant_or_refusal_of entries.now from number }
+{
+    for entry in entries {
+        if grants_or_refuses(from, number, entry) {
+            return Some(entry.outcome);
+        }
+    }
+    None
+}
+
 impl Asks {
     pub(crate) fn new(alloc: Global) -> Asks
         ensures { result.entries ≡ [] }
     {
         Asks {
             entries: Vec::new(alloc),
+            before: Vec::new(alloc),
             closed: [0; 16],
+            failed: [None; 256],
         }
     }
 
@@ -126,6 +179,7 @@ impl Asks {
         ensures never_falls { self.old.room ≤ self.new.room }
         ensures room { OnOk result (n ≤ self.new.room) }
     {
+        self.before.reserve(n)?;
         self.entries.reserve(n)
     }
 
@@ -152,46 +206,76 @@ impl Asks {
           room = self.old.room - 1;
         } }
     {
+        self.before.push_reserved(self.closed[entry.from as usize]);
         close(&mut self.closed, &entry);
+        count_failure(&mut self.failed, failure_of(&entry.outcome));
         append(&mut self.entries, entry);
     }
 
+    // A place before which no outcome other than Stale of an ask stands.
+    fn since(&self, from: u8, number: u64) -> usize
+        ensures within { result ≤ length self.now.entries }
+        ensures none { find (is_outcome_for from number) (take result self.now.entries) ≡ None }
+    {
+        let len = self.entries.len();
+        if self.is_above(from, number) {
+            return len;
+        }
+        for n in 0..len {
+            let place = len - 1 - n;
+            if self.begins(place, from, number) {
+                return place;
+            }
+        }
+        0
+    }
+
+    // Whether the number is above the participant's closed one.
+    fn is_above(&self, from: u8, number: u64) -> bool
+        ensures { IsTrue result → closed_number self.now.entries from < number }
+    {
+        if usize::from(from) < self.closed.len() {
+            self.closed[from as usize] < number
+        } else {
+            false
+        }
+    }
+
+    // Whether the outcome at a place is the participant's, and the number above what was closed before it.
+    fn begins(&self, place: usize, from: u8, number: u64) -> bool
+        requires { place < length self.now.entries }
+        ensures { IsTrue result → closed_number (take place self.now.entries) from < number }
+    {
+        if self.entries[place].from == from {
+            self.before[place] < number
+        } else {
+            false
+        }
+    }
+
     // The first outcome other than Stale of an ask.
-    #[tactic(auto, using(crate::proofs::Finds::find_step, crate::proofs::Finds::find_here, crate::proofs::Finds::find_end))]
     pub(crate) fn outcome(&self, from: u8, number: u64) -> Option<Outcome>
         ensures { result ≡ outcome_of self.now.entries from number }
     {
-        for entry in &self.entries {
-            if is_outcome_for(from, number, entry) {
-                return Some(entry.outcome);
-            }
-        }
-        None
+        let since = self.since(from, number);
+        first_outcome(&self.entries[since..], from, number)
     }
 
     // Whether a failed mapping of that participant is logged, by this call of its mapper or a later one.
-    #[tactic(auto, using(crate::proofs::Finds::any_step, crate::proofs::Finds::any_here, crate::proofs::Finds::any_end))]
     pub(crate) fn has_failed_from(&self, participant: u8, call: u64) -> bool
         ensures { result ≡ has_failed_from self.now.entries participant call }
     {
-        for entry in &self.entries {
-            if outcome_fails_from(participant, call, &entry.outcome) {
-                return true;
-            }
+        match self.failed[participant as usize] {
+            Some(last) => call <= last,
+            None => false,
         }
-        false
     }
 
-    // The grant or refusal of an ask, looked for from the newest outcome back.
+    // The first grant or refusal of an ask.
     pub(crate) fn grant_or_refusal(&self, from: u8, number: u64) -> Option<Outcome>
-        requires once { count_by (grants_or_refuses from number) self.now.entries ≤ 1 }
         ensures { result ≡ grant_or_refusal_of self.now.entries from number }
     {
-        for entry in self.entries.iter().rev() {
-            if grants_or_refuses(from, number, entry) {
-                return Some(entry.outcome);
-            }
-        }
-        None
+        let since = self.since(from, number);
+        first_answer(&self.entries[since..], from, number)
     }
 }

@@ -7,12 +7,13 @@ ghost use Rattle.hp_segs.specs.SegsView.{rows_in};
 ghost use Rattle.hp_segs.specs.TableLayout.{AddsLine};
 
 mod changes;
+mod list_slots;
 mod queries;
 pub(crate) mod slots;
 mod states;
 
 use crate::list_info::ListInfo;
-use crate::row_state::Segment;
+use crate::table::list_slots::ListSlots;
 use hp_base::PoolLine;
 use hp_fbarray::Mask;
 use hp_log::LogRecord;
@@ -23,7 +24,7 @@ use std::marker::Model;
 // Where the first list begins at the earliest.
 const FIRST: u64 = 1 << 32;
 
-// The pools with their lists, the log, and the segments that it leaves mapped.
+// The pools with their lists, the log, and the states of the rows that it leaves mapped.
 #[derive(Drop)]
 pub(crate) struct Table {
     pools: Vec<PoolLine>,
@@ -32,9 +33,11 @@ pub(crate) struct Table {
     masks: Vec<Mask>,
     // The free pages of each pool.
     counts: Pools,
+    // The generation and the state of the row at each slot.
+    kept: Vec<ListSlots>,
+    // The bytes of the Agreed and Owned rows of the sockets 0 to 31.
+    totals: [u64; 32],
     log: Vec<LogRecord>,
-    // In the order of the log, and so by rising generation, with room for every slot.
-    segments: Vec<Segment>,
 }
 
 impl Model for Table {
@@ -43,18 +46,19 @@ impl Model for Table {
 
     ghost Value = { TableView };
 
-    ghost use Rattle.hp_segs.specs.SegsView.{rows_in};
-    ghost use Rattle.hp_segs.specs.TableLayout.{IsLaidOut};
+    ghost use Rattle.hp_log.specs.Log.{table_of};
+    ghost use Rattle.hp_segs.specs.Slots.{kept_segments};
+    ghost use Rattle.hp_segs.specs.TableCalls.{IsKeptTable};
 
     ghost view = { λ t. record {
       pools = t.pools.items;
       log = t.log.items;
-      segments = t.segments.items;
+      segments = kept_segments t.kept.items (table_of t.log.items);
       room = vec_capacity t.log - length t.log.items;
     } };
 
-    ghost invariant = { λ t. IsLaidOut t.pools.items t.lists.items t.masks.items t.counts t.log.items
-        (rows_in t.segments.items) (vec_capacity t.segments) };
+    ghost invariant = { λ t. IsKeptTable t.pools.items t.lists.items t.masks.items t.counts t.kept.items
+        t.totals t.log.items };
 }
 
 // The list of a pool: from the first multiple of its page size at or above the end of the list before.
@@ -92,15 +96,15 @@ impl Table {
     {
         let mut lists = Vec::with_capacity(alloc, pools.len())?;
         let mut masks = Vec::with_capacity(alloc, pools.len())?;
+        let mut kept = Vec::with_capacity(alloc, pools.len())?;
         let mut counts = Pools::new(alloc);
-        let mut slots: usize = 0;
         let mut end = FIRST;
         for line in pools {
             let info = list_after(line, end);
             end = info.base + u64::from(info.slots) * info.page;
-            slots += info.slots as usize;
             lists.push(info)?;
             masks.push(Mask::new(alloc, info.slots as usize)?)?;
+            kept.push(ListSlots::new(alloc, info.slots as usize)?)?;
             add_pool(&mut counts, line)?;
         }
         Ok(Table {
@@ -108,8 +112,9 @@ impl Table {
             lists,
             masks,
             counts,
+            kept,
+            totals: [0; 32],
             log: Vec::new(alloc),
-            segments: Vec::with_capacity(alloc, slots)?,
         })
     }
 

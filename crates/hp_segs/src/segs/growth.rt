@@ -46,8 +46,9 @@ impl Segs {
             return Err(member);
         }
         let ask = growth.ask;
+        let run = growth.run;
         let generation = growth.generation;
-        self.table.agree(generation, ask.heap);
+        self.table.agree(&run, generation, ask.heap);
         self.asks.push(AskLog {
             from: ask.from,
             number: ask.number,

@@ -4,6 +4,7 @@ ghost use Rattle.hp_base.specs.declared.row.Run.{Run};
 ghost use Rattle.std.specs.Option.{option_and_then};
 ghost use Rattle.hp_segs.specs.SegsView.{added_run, granted_by};
 ghost use Rattle.hp_segs.specs.Calls.{IsUnclaimedGrant, OwnsRun};
+ghost use Rattle.hp_segs.specs.TableCalls.{added_heap};
 ghost use Rattle.hp_segs.specs.Steps.{after_claim, after_retire, claimed_run, insert_by_address};
 
 use crate::outcome::Outcome;
@@ -55,6 +56,16 @@ fn added_run(entry: &LogRecord) -> Option<Run>
     }
 }
 
+// The heap that a record adds its run for, and 0 where it adds none.
+fn added_heap(entry: &LogRecord) -> u32
+    ensures { result ≡ added_heap entry.now }
+{
+    match entry {
+        LogRecord::Add { heap, .. } => *heap,
+        LogRecord::Drop { .. } => 0,
+    }
+}
+
 impl Segs {
     /// The heap of a granted ask takes the rows of the grant: they become Owned. The answer is their run. Own.
     pub fn claim(&mut self, from: u8, number: u64) -> Run
@@ -66,10 +77,11 @@ impl Segs {
             unreachable!()
         };
         let place = generation as usize - 1;
-        let Some(run) = added_run(&self.table.records()[place]) else {
+        let entry = self.table.records()[place];
+        let Some(run) = added_run(&entry) else {
             unreachable!()
         };
-        self.table.claim(generation);
+        self.table.claim(&run, generation, added_heap(&entry));
         run
     }
 

@@ -9,7 +9,7 @@ ghost use Rattle.hp_segs.specs.SegsView.{pages_left, state_at, total_of};
 ghost use Rattle.hp_segs.specs.Sound.{IsSound};
 
 use crate::list_info::ListInfo;
-use crate::row_state::{RowState, Segment};
+use crate::row_state::RowState;
 use crate::segs::Segs;
 use hp_base::{PoolLine, Row};
 use hp_log::LogRecord;
@@ -43,13 +43,6 @@ impl Segs {
         ensures { result ≡ state_at self.now.segments list slot }
     {
         Some(self.table.at(list, slot)?.state)
-    }
-
-    /// The mapped segments with their states, in the order of the log. Own.
-    pub fn segments(&self) -> &[Segment]
-        ensures { result.now ≡ self.now.segments }
-    {
-        self.table.segments()
     }
 
     /// The log of what was mapped and unmapped. Own.

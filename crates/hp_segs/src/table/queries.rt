@@ -1,19 +1,19 @@
 //! What is read off the table.
-ghost use Rattle.std.specs.Prelude.{◌≡◌, ◌<◌, ◌≤◌, ◌^◌, length, find, sum_by};
-ghost use Rattle.std.specs.List.{All};
+ghost use Rattle.std.specs.Prelude.{◌≡◌, ◌<◌, ◌≤◌, ◌^◌, true, false, Some, IfNone, IfSome, IsSomeAnd, IsTrue, length, find, slice_get, sum_by};
+ghost use Rattle.std.specs.List.{All, list_any};
 ghost use Rattle.hp_segs.specs.Table.{IsTable};
-ghost use Rattle.hp_segs.specs.TableLayout.{IsFitList};
+ghost use Rattle.hp_segs.specs.TableLayout.{IsFitList, list_contains};
 ghost use Rattle.hp_log.specs.Rows.{IsSmallRun};
 ghost use Rattle.hp_log.specs.Log.{run_in};
 ghost use Rattle.hp_log.specs.Rows.{at_slot, row_contains};
 ghost use Rattle.hp_fbarray.specs.Answers.{free_run};
 ghost use Rattle.hp_segs.specs.Lists.{list_number, lists_of, pages_beside, slots_beside};
-ghost use Rattle.hp_segs.specs.SegsView.{counted_bytes, is_counted, rows_in, total_of};
+ghost use Rattle.hp_segs.specs.SegsView.{rows_in, total_of};
 
 use crate::list_info::ListInfo;
-use crate::row_state::{RowState, Segment};
+use crate::row_state::Segment;
 use crate::table::Table;
-use hp_base::{PoolLine, Row};
+use hp_base::{MAX_SOCKETS, PoolLine, Row};
 use hp_fbarray::FreeRun;
 use hp_log::LogRecord;
 
@@ -38,12 +38,6 @@ impl Table {
         ensures small { All (λ entry. IsSmallRun (run_in entry)) self.now.log }
     {
         self.log.as_slice()
-    }
-
-    pub(crate) fn segments(&self) -> &[Segment]
-        ensures { result.now ≡ self.now.segments }
-    {
-        self.segments.as_slice()
     }
 
     // The number of the list of a socket and a page size.
@@ -84,29 +78,62 @@ impl Table {
     }
 
     // The segment at a slot.
-    #[tactic(auto, using(crate::proofs::Finds::find_step, crate::proofs::Finds::find_here, crate::proofs::Finds::find_end))]
     pub(crate) fn at(&self, list: u32, slot: u32) -> Option<Segment>
         ensures { result ≡ find (λ segment. at_slot list slot segment.row) self.now.segments }
     {
-        for segment in &self.segments {
-            if is_at(list, slot, &segment.row) {
-                return Some(*segment);
-            }
+        if self.has_row(list, slot) {
+            Some(self.segment(list, slot))
+        } else {
+            None
         }
-        None
+    }
+
+    // Whether a slot has a row.
+    fn has_row(&self, list: u32, slot: u32) -> bool
+        ensures { result ≡ list_any (at_slot list slot) (rows_in self.now.segments) }
+    {
+        let Some(info) = self.lists.get(list as usize) else {
+            return false;
+        };
+        if slot >= info.slots {
+            return false;
+        }
+        self.masks[list as usize].is_set(slot as usize)
+    }
+
+    // The segment at a slot that has a row.
+    fn segment(&self, list: u32, slot: u32) -> Segment
+        requires used { list_any (at_slot list slot) (rows_in self.now.segments) ≡ true }
+        ensures { find (λ segment. at_slot list slot segment.row) self.now.segments ≡ Some result }
+    {
+        let info = &self.lists[list as usize];
+        let kept = &self.kept[list as usize];
+        Segment {
+            row: Row {
+                addr: info.base + u64::from(slot) * info.page,
+                page: info.page,
+                socket: info.socket,
+                list,
+                slot,
+                generation: kept.generation(slot as usize),
+            },
+            state: kept.state(slot as usize),
+        }
     }
 
     // The row whose bytes contain an address.
     pub(crate) fn containing(&self, addr: u64) -> Option<Row>
         ensures { result ≡ find (row_contains addr) (rows_in self.now.segments) }
     {
-        for segment in &self.segments {
-            let row = &segment.row;
-            if row_contains(addr, row) {
-                return Some(*row);
-            }
+        let Some(list) = list_containing(self.lists.as_slice(), addr) else {
+            return None;
+        };
+        let info = &self.lists[list];
+        let slot = (addr - info.base) / info.page;
+        match self.at(list as u32, slot as u32) {
+            Some(segment) => Some(segment.row),
+            None => None,
         }
-        None
     }
 
     // The bytes of the Agreed and Owned rows of a socket.
@@ -114,39 +141,33 @@ impl Table {
         ensures total { result ≡ total_of self.now.segments socket }
         ensures fits { result ≤ 2 ^ 48 }
     {
-        let mut total = 0;
-        for segment in &self.segments {
-            total += counted_bytes(socket, segment);
+        if socket < MAX_SOCKETS {
+            self.totals[socket as usize]
+        } else {
+            0
         }
-        total
     }
 }
 
-fn is_at(list: u32, slot: u32, row: &Row) -> bool
-    ensures { result ≡ at_slot list slot row.now }
+// A list whose bytes contain an address.
+fn list_containing(lists: &[ListInfo], addr: u64) -> Option<usize>
+    requires fit { All IsFitList lists.now }
+    ensures some { IfSome result (λ list.
+        IsSomeAnd (slice_get lists.now list) (λ info. IsTrue (list_contains addr info))) }
+    ensures none { IfNone result (All (λ info. list_contains addr info ≡ false) lists.now) }
 {
-    row.list == list && row.slot == slot
-}
-
-fn row_contains(addr: u64, row: &Row) -> bool
-    ensures { result ≡ row_contains addr row.now }
-{
-    row.addr <= addr && addr - row.addr < row.page
-}
-
-// The bytes that a segment counts for on a socket.
-fn counted_bytes(socket: u32, segment: &Segment) -> u64
-    ensures { result ≡ counted_bytes socket segment.now }
-{
-    if segment.row.socket == socket && is_counted(segment.state) {
-        segment.row.page
-    } else {
-        0
+    for list in 0..lists.len() {
+        if list_contains(addr, &lists[list]) {
+            return Some(list);
+        }
     }
+    None
 }
 
-fn is_counted(state: RowState) -> bool
-    ensures { result ≡ is_counted state }
+// Whether the bytes of a list contain an address.
+fn list_contains(addr: u64, info: &ListInfo) -> bool
+    requires fit { IsFitList info.now }
+    ensures { result ≡ list_contains addr info.now }
 {
-    matches!(state, RowState::Agreed { .. } | RowState::Owned { .. })
+    info.base <= addr && addr < info.base + u64::from(info.slots) * info.page
 }

@@ -3,7 +3,7 @@
 use super::{
     BASE, FIRST_ROW, FIRST_RUN, NEW, PAGE, Seen, ask_for, grant, look, open, segs_of, table_at,
 };
-use crate::{LogRecord, NotAll, Outcome, RowState, Segment};
+use crate::{LogRecord, NotAll, Outcome, RowState};
 use std::test::Fail;
 
 #[test]
@@ -92,18 +92,6 @@ fn gives_the_rows_of_a_grant_to_its_heap(rt: HostRuntime) -> Result<(), Fail> {
         ..NEW
     };
     assert_eq!(rt; look(&segs), claimed);
-    Ok(())
-}
-
-#[test]
-fn shows_the_segments_with_their_states(rt: HostRuntime) -> Result<(), Fail> {
-    let mut segs = segs_of(rt.alloc(), 4)?;
-    open(&mut segs, &ask_for(1, 1000, 0)?)?;
-    let opened = Segment {
-        row: FIRST_ROW,
-        state: RowState::Opened,
-    };
-    assert_eq!(rt; segs.segments(), [opened].as_slice());
     Ok(())
 }
 

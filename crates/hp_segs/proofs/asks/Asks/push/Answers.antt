@@ -1,8 +1,11 @@
--- The closed numbers after the entry.
-use Rattle.hp_segs.proofs.ClosedLemmas.{closed_is_after}
+-- What is kept beside the outcomes, with the entry.
+use Rattle.std.proofs.Common.{IfSome, ◌<◌}
+use Rattle.hp_segs.proofs.SinceLemmas.{kept_push}
 use Rattle.hp_segs.proofs.asks.Asks.push.Goals as goal
 
 pub invariant_of-self : goal.invariant_of-self
 invariant_of-self c =
-    rw (c.append.ensures.items, c.close.ensures)
-    (closed_is_after c.self.inside.entries.items c.self.inside.closed c.args.entry c.self.invariant c.requires.participant)
+    let small = rw c.failure_of.ensures.failure at c.failure_of.ensures.small in
+    rw (c.append.ensures.items, c.count_failure.ensures, c.failure_of.ensures.failure, c.close.ensures, c.push_reserved.ensures.items)
+    (kept_push c.self.inside.entries.items c.self.inside.before.items c.self.inside.closed c.self.inside.failed c.args.entry c.self.invariant
+    c.requires.participant small)

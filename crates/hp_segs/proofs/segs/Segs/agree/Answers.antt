@@ -2,7 +2,13 @@
 use Rattle.hp_segs.specs.SegsLayout.{view_of}
 use Rattle.hp_segs.proofs.KeptSteps.{kept_granted}
 use Rattle.hp_segs.proofs.SoundSteps.{sound_granted}
+use Rattle.hp_segs.proofs.TableRuns.{open_run}
 use Rattle.hp_segs.proofs.segs.Segs.agree.Goals as goal
+
+pub agree-requires : goal.agree-requires
+agree-requires c =
+    let kept = rw c.in-Some.is at c.self.invariant in
+    record { growth = open_run c.in-Some.growth kept.sound.rows }
 
 pub push-requires-clause-participant : goal.push-requires-clause-participant
 push-requires-clause-participant c =

@@ -7,6 +7,7 @@ use Rattle.hp_log.specs.declared.log_record.LogRecord.TheVariants.{Drop}
 use Rattle.hp_segs.proofs.DropLemmas.{held_first}
 use Rattle.hp_segs.proofs.KeptSteps.{kept_failed}
 use Rattle.hp_segs.proofs.SoundSteps.{sound_cancelled}
+use Rattle.hp_segs.proofs.TableRuns.{open_run}
 use Rattle.hp_segs.proofs.segs.Segs.cancel.Goals as goal
 
 pub remove-requires : goal.remove-requires
@@ -17,6 +18,7 @@ remove-requires c =
     record {
       listed = first.0;
       used = first.1;
+      uncounted = (open_run c.in-Some.growth kept.sound.rows).uncounted;
       room = omega (arith, may.spare, kept.records);
     }
 

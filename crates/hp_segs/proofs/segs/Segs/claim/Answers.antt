@@ -8,10 +8,8 @@ use Rattle.hp_segs.specs.Steps.{claimed_grant}
 use Rattle.hp_segs.proofs.ClaimLemmas.{grant_is, record_within, record_read}
 use Rattle.hp_segs.proofs.KeptSteps.{kept_claimed}
 use Rattle.hp_segs.proofs.SoundSteps.{sound_claimed}
+use Rattle.hp_segs.proofs.TableRuns.{claim_run}
 use Rattle.hp_segs.proofs.segs.Segs.claim.Goals as goal
-
-pub grant_or_refusal-requires : goal.grant_or_refusal-requires
-grant_or_refusal-requires c = record { once = c.self.invariant.sound.asks.once c.args.from c.args.number }
 
 pub overflow_sub-place : goal.overflow_sub-place
 overflow_sub-place c =
@@ -45,6 +43,21 @@ unreachable-requires-in_default-added_run c =
     let read =
     record_read s.table.log c.records.result.now c.in-Some.generation _ c.added_run.result c.added_run.ensures c.records.ensures.records within in
     c.in_default-added_run.not-Some granted.1.0 (read ∙ granted.1.1)
+
+pub claim-requires : goal.claim-requires
+claim-requires c =
+    let s = c.self.inside in
+    let segs = view_of s.table s.asks s.retiring.items s.growth s.roster s.armed s.ranges.items s.spare in
+    let grant = ap (option_and_then granted_by) (sym c.grant_or_refusal.ensures) ∙ (sym c.granted_by.ensures ∙ c.in-Some.is) in
+    let granted = grant_is s.table.log s.asks.entries c.args.from c.args.number c.in-Some.generation c.self.invariant.sound.asks.granted grant in
+    let within = record_within s.table.log c.in-Some.generation granted.1.0 granted.1.1 in
+    let read =
+    record_read s.table.log c.records.result.now c.in-Some.generation _ c.added_run.result c.added_run.ensures c.records.ensures.records within in
+    record {
+      granted = claim_run segs c.self.invariant.sound c.args.from c.args.number c.in-Some.generation c.records.result.now _ c.in-Some-added_run.run'
+          c.added_heap.result (rw (← c.self.view_is) at c.requires.granted) grant (sym read ∙ c.in-Some-added_run.is) c.added_heap.ensures
+          c.records.ensures.records;
+    }
 
 pub returns-clause-run : goal.returns-clause-run
 returns-clause-run c =

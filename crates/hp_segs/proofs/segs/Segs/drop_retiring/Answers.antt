@@ -3,7 +3,11 @@ use Rattle.std.proofs.Common.{◌≡◌, ◌≤◌, ◌∙◌, ap, arith, length
 use Rattle.hp_segs.specs.TableLayout.{removed_all}
 use Rattle.hp_segs.proofs.KeptSteps.{kept_dropped}
 use Rattle.hp_segs.proofs.RemoveAllLemmas.{table_dropped}
+use Rattle.hp_segs.proofs.TableRuns.{retiring_uncounted}
 use Rattle.hp_segs.proofs.segs.Segs.drop_retiring.Goals as goal
+
+pub remove_all-requires-clause-uncounted : goal.remove_all-requires-clause-uncounted
+remove_all-requires-clause-uncounted c = rw c.as_slice.ensures.value (retiring_uncounted c.self.invariant.sound.rows)
 
 pub invariant_of-self : goal.invariant_of-self
 invariant_of-self c =

@@ -1,7 +1,18 @@
 -- There is room for the run, and its row states keep the value sound.
 use Rattle.std.proofs.Common.{arith}
 use Rattle.hp_segs.proofs.KeptSteps.{kept_retired, room_to_retire}
+use Rattle.hp_segs.specs.SegsLayout.{view_of}
+use Rattle.hp_segs.proofs.TableRuns.{counted_run}
 use Rattle.hp_segs.proofs.segs.Segs.retire.Goals as goal
+
+pub retire-requires : goal.retire-requires
+retire-requires c =
+    let s = c.self.inside in
+    let owns = rw (← c.self.view_is) at c.requires.owned in
+    record {
+      counted = counted_run (view_of s.table s.asks s.retiring.items s.growth s.roster s.armed s.ranges.items s.spare) c.self.invariant.sound c.args.heap
+          c.args.run.now owns;
+    }
 
 pub insert_run-requires : goal.insert_run-requires
 insert_run-requires c =

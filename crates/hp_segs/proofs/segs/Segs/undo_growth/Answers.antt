@@ -3,6 +3,7 @@ use Rattle.hp_segs.proofs.DropLemmas.{held_first}
 use Rattle.std.proofs.Common.{None, arith}
 use Rattle.std.proofs.lemmas.List.{get_or_default}
 use Rattle.hp_segs.proofs.WithdrawSteps.{has_places, kept_undone, own_growth}
+use Rattle.hp_segs.proofs.TableRuns.{open_run}
 use Rattle.hp_segs.proofs.segs.Segs.undo_growth.Goals as goal
 
 pub remove-requires : goal.remove-requires
@@ -15,6 +16,7 @@ remove-requires c =
     record {
       listed = first.0;
       used = first.1;
+      uncounted = rw own.its_run at (open_run own.grown kept.sound.rows).uncounted;
       room = (has_places c.args.from c.args.number c.args.since c.args.now c.self.invariant may none).0;
     }
 

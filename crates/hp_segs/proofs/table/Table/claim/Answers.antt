@@ -1,17 +1,26 @@
--- The rows stay, and with them all that stands beside them.
-use Rattle.std.proofs.Common.{◌∙◌, ap}
-use Rattle.hp_segs.specs.SegsView.{rows_in}
-use Rattle.hp_segs.proofs.RisingLemmas.{segments_rise}
-use Rattle.hp_segs.proofs.StateLemmas.{claimed_rows}
-use Rattle.hp_segs.proofs.TableLemmas.{laid_out_for}
+-- The run's slots are Owned, and its bytes count as before.
+use Rattle.std.proofs.Common.{refl}
+use Rattle.hp_segs.proofs.KeptTable.{kept_claimed, run_kept}
+use Rattle.hp_segs.proofs.KeptSlots.{segments_claimed}
+use Rattle.hp_log.specs.Log.{table_of}
 use Rattle.hp_segs.proofs.table.Table.claim.Goals as goal
 
-pub claim_all-requires : goal.claim_all-requires
-claim_all-requires c = record { rising = segments_rise c.self.inside.segments.items c.self.inside.log.items c.self.invariant.table.table }
+pub change_slots-requires : goal.change_slots-requires
+change_slots-requires c =
+    let granted = rw (← c.self.view_is) at c.requires.granted in
+    record { run = run_kept c.self.invariant c.args.run.now granted.listed }
 
 pub invariant_of-self : goal.invariant_of-self
 invariant_of-self c =
-    laid_out_for
-    (ap rows_in c.claim_all.ensures.segments ∙ claimed_rows c.args.generation c.self.inside.segments.items)
-    c.claim_all.ensures.room
-    c.self.invariant
+    let granted = rw (← c.self.view_is) at c.requires.granted in
+    rw c.change_slots.ensures (kept_claimed c.args.run.now c.args.generation c.args.heap granted c.self.invariant)
+
+pub returns : goal.returns
+returns c =
+    let granted = rw (← c.self.view_is) at c.requires.granted in
+    rw (
+      ← c.self.view_is,
+      c.change_slots.ensures,
+      segments_claimed c.self.inside.kept.items c.args.run.now (run_kept c.self.invariant c.args.run.now granted.listed) c.args.generation c.args.heap
+          (table_of c.self.inside.log.items) granted.same granted.agreed,
+    ) refl

@@ -1,6 +1,6 @@
--- One pool more is made, and the table is laid out at the end.
-use Rattle.std.proofs.Common.{◌≡◌, ◌++◌, ◌∷◌, [], ◌≤◌, ap, ◌∙◌, arith, replicate, false, length, vec_capacity}
-use Rattle.hp_segs.proofs.NewLemmas.{made_more, laid_out_new}
+-- One pool more is made, and the table is kept at the end.
+use Rattle.std.proofs.Common.{◌≡◌, ◌++◌, ◌∷◌, [], ◌≤◌, ap, ◌∙◌, arith, replicate, false, length}
+use Rattle.hp_segs.proofs.NewLemmas.{made_more, kept_new}
 use Rattle.hp_segs.proofs.table.Table.new.Goals as goal
 
 pub loop-line-preserved : goal.loop-line-preserved
@@ -8,7 +8,8 @@ loop-line-preserved c =
     let lists : c.push.new.self.items ≡ c.loop-line.lists.items ++ c.list_after-info.result ∷ [] = c.in_ok-push.ensures.items in
     let masks : c.push-in-loop-line.new.self.items ≡ c.loop-line.masks.items ++ replicate c.list_after-info.result.slots false ∷ [] =
     c.in_ok-push-2.ensures.items ∙ ap (λ m. c.loop-line.masks.items ++ m ∷ []) c.in_ok-new.ensures.clear in
-    rw (lists, masks, c.from.ensures)
+    let kept = c.in_ok-push-3.ensures.items ∙ ap (λ k. c.loop-line.kept.items ++ k ∷ []) c.in_ok-new-2.ensures in
+    rw (lists, masks, kept, c.from.ensures)
     (made_more
     c.add_pool.new.counts
     c.list_after-info.result
@@ -19,9 +20,7 @@ loop-line-preserved c =
     c.list_after-info.ensures
     c.in_ok-add_pool.ensures)
 
-pub invariant_of-result-2 : goal.invariant_of-result-2
-invariant_of-result-2 c =
+pub invariant_of-result : goal.invariant_of-result
+invariant_of-result c =
     let past : length c.args.pools.now ≤ c.loop-line.line-index = omega arith in
-    let room : c.loop-line.slots ≤ vec_capacity c.in_ok-with_capacity.field-0 = omega (arith, c.in_ok-with_capacity.ensures.exact) in
-    rw (c.in_ok-from_slice.ensures.items, c.new-2.ensures.items, c.in_ok-with_capacity.ensures.items, c.counts-2.view_is)
-    (laid_out_new c.loop-line.line-index _ c.loop-line.invariant c.requires past room)
+    rw (c.in_ok-from_slice.ensures.items, c.new-2.ensures.items) (kept_new c.loop-line.line-index c.loop-line.invariant c.requires past)

@@ -1,7 +1,9 @@
 -- The next run is held, and what is left stays held when it goes.
-use Rattle.std.proofs.Common.{◌∙◌, sym, subst, arith, drop, get_or, ◌+◌}
+use Rattle.std.proofs.Common.{◌∙◌, false, sym, subst, arith, drop, get_or, ◌+◌}
 use Rattle.hp_segs.specs.Lists.{lists_of}
 use Rattle.hp_segs.specs.SoundRows.{AreHeld}
+use Rattle.hp_segs.specs.TableCalls.{AllCount}
+use Rattle.hp_segs.proofs.KeptTable.{all_from, uncounted_without}
 use Rattle.hp_segs.proofs.DropLemmas.{held_first, held_without}
 use Rattle.hp_segs.proofs.RemoveAllLemmas.{held_from, removed_from, length_from}
 use Rattle.hp_segs.proofs.StateLemmas.{removed_rows}
@@ -21,6 +23,11 @@ remove-requires-clause-used c =
     (held_first (get_or c.args.runs.now c.loop-run.run-index none) (drop (c.loop-run.run-index + 1) c.args.runs.now)
     (held_from c.args.runs.now c.loop-run.run-index none c.loop-run-test.true c.loop-run.invariant.held)).1
 
+pub remove-requires-clause-uncounted : goal.remove-requires-clause-uncounted
+remove-requires-clause-uncounted c =
+    (all_from (λ run. AllCount false run c.loop-run.self.segments) c.args.runs.now c.loop-run.run-index none c.loop-run-test.true
+    c.loop-run.invariant.uncounted).0
+
 pub loop-run-preserved : goal.loop-run-preserved
 loop-run-preserved c =
     let i = c.loop-run.run-index in
@@ -31,6 +38,9 @@ loop-run-preserved c =
     rw c.remove.ensures
     (record {
       rest = c.loop-run.invariant.rest ∙ removed_from runs i none c.loop-run.self within;
+      uncounted =
+          uncounted_without (get_or runs i none) (drop (i + 1) runs) c.loop-run.self.segments
+          (all_from (λ run. AllCount false run c.loop-run.self.segments) runs i none within c.loop-run.invariant.uncounted).1;
       held = subst (λ rows. AreHeld (lists_of c.loop-run.self.pools) rows (drop (i + 1) runs)) (sym (removed_rows (get_or runs i none) c.loop-run.self.segments))
           (held_without (get_or runs i none) (drop (i + 1) runs) held);
       room = omega (arith, long, c.loop-run.invariant.room);

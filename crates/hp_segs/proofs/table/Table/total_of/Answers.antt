@@ -1,28 +1,27 @@
--- The sum so far is within that of all segments, which is small.
-use Rattle.std.proofs.Common.{◌+◌, ◌<◌, ◌^◌, ap, arith}
-use Rattle.hp_segs.specs.SegsView.{counted_bytes, rows_in}
-use Rattle.hp_segs.proofs.Finds.{sum_step}
-use Rattle.hp_segs.proofs.QueryLemmas.{sum_take, total_fits}
+-- The number of the socket, which is small; other sockets have no row.
+use Rattle.std.proofs.Common.{sym, arith}
+use Rattle.hp_log.specs.Log.{table_of}
+use Rattle.hp_segs.specs.Slots.{kept_segments}
+use Rattle.hp_segs.proofs.KeptSlots.{rows_kept}
+use Rattle.hp_segs.proofs.KeptTable.{no_bytes}
+use Rattle.hp_segs.proofs.QueryLemmas.{total_fits}
+use Rattle.hp_segs.proofs.TotalLemmas.{total_at}
 use Rattle.hp_segs.proofs.table.Table.total_of.Goals as goal
 
-pub overflow_add-total : goal.overflow_add-total
-overflow_add-total c =
-    let below : c.loop-segment.total + c.counted_bytes-total.result < 2 ^ 64 =
-    sum_step
-    (counted_bytes c.args.socket)
-    _
-    _
-    _
-    _
-    _
-    (2 ^ 64)
-    c.loop-segment-test.true
-    c.loop-segment.invariant
-    c.counted_bytes-total.ensures
-    (omega (arith, total_fits c.self.invariant _ c.args.socket (ap rows_in c.deref-segment-items.ensures.value))) in
-    omega arith
+pub returns-then-socket-lt-MAX_SOCKETS-clause-total : goal.returns-then-socket-lt-MAX_SOCKETS-clause-total
+returns-then-socket-lt-MAX_SOCKETS-clause-total c =
+    rw (← c.self.view_is)
+    (total_at (kept_segments c.self.inside.kept.items (table_of c.self.inside.log.items)) c.self.inside.totals c.args.socket c.self.invariant.counted
+    c.if-socket-lt-MAX_SOCKETS.true)
 
-pub returns-clause-fits : goal.returns-clause-fits
-returns-clause-fits c =
-    let small = total_fits c.self.invariant _ c.args.socket (ap rows_in c.deref-segment-items.ensures.value) in
-    omega (arith, c.loop-segment.invariant, small, sum_take (counted_bytes c.args.socket) c.deref-segment-items.result.now c.loop-segment.segment-index)
+pub returns-then-socket-lt-MAX_SOCKETS-clause-fits : goal.returns-then-socket-lt-MAX_SOCKETS-clause-fits
+returns-then-socket-lt-MAX_SOCKETS-clause-fits c =
+    let rows = table_of c.self.inside.log.items in
+    let at =
+    total_at (kept_segments c.self.inside.kept.items rows) c.self.inside.totals c.args.socket c.self.invariant.counted c.if-socket-lt-MAX_SOCKETS.true in
+    let fits = total_fits c.self.invariant.laid (kept_segments c.self.inside.kept.items rows) c.args.socket (rows_kept c.self.inside.kept.items rows) in
+    omega (arith, at, fits)
+
+pub returns-else-socket-lt-MAX_SOCKETS-clause-total : goal.returns-else-socket-lt-MAX_SOCKETS-clause-total
+returns-else-socket-lt-MAX_SOCKETS-clause-total c =
+    rw (← c.self.view_is) (sym (no_bytes c.self.invariant c.args.socket c.if-socket-lt-MAX_SOCKETS.false))
