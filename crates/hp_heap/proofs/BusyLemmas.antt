@@ -1,6 +1,6 @@
 -- Busy elements: what joining leaves of them, and those of memzones among them.
-use Rattle.std.proofs.Common.{◌≡◌, ℕ, ◌+◌, ◌<◌, ◌≤◌, ◌⊎◌, Bool, true, cond, not, List, [], ◌∷◌, ◌++◌, refl, sym, ap, ◌∙◌, inl, inr, arith, Contains, eqb}
-use Rattle.std.proofs.lemmas.Bool.{cond_both, false≢true, eq-eqb, ne_eqb, not-true}
+use Rattle.std.proofs.Common.{◌≡◌, ℕ, ◌+◌, ◌<◌, ◌≤◌, ◌⊎◌, Bool, true, false, cond, not, List, [], ◌∷◌, ◌++◌, refl, sym, ap, ◌∙◌, inl, inr, arith, Contains, eqb}
+use Rattle.std.proofs.lemmas.Bool.{and_left, and_right, cases_Bool, cond_both, false≢true, eq-eqb, ne_eqb, not-true}
 use Rattle.std.proofs.lemmas.List.Elements.{filter-append}
 use Rattle.std.specs.List.{AllByRecursion, filter}
 use Rattle.hp_base.specs.declared.span.Span.{Span}
@@ -8,7 +8,7 @@ use Rattle.hp_base.specs.declared.span.SpanState.{SpanState}
 use Rattle.hp_base.specs.declared.span.SpanState.TheVariants.{Free, Busy}
 use Rattle.hp_heap.specs.PlainHeap.{PlainHeap, end_of, is_free, is_free_state, pad_of_state, data_address}
 use Rattle.hp_heap.specs.Tiling.{IsElement, HasRoomFor, joins}
-use Rattle.hp_heap.specs.Joining.{joined_up, joined_down, stretch_up, stretch_to, stretch_down, Stretch, is_zone_state, is_zone_range}
+use Rattle.hp_heap.specs.Joining.{joined_up, joined_down, stretch_up, stretch_to, stretch_down, Stretch, has_data_at, is_zone_state, is_zone_range}
 use Rattle.hp_heap.proofs.RangeLemmas.{AllByRecursion-front, AllByRecursion-back, rising-front, rising_before, rising_behind}
 use Rattle.hp_heap.proofs.ChoiceLaw.{AllByRecursion-contains}
 use Rattle.hp_heap.proofs.Stretches.{joint}
@@ -89,6 +89,14 @@ module _ (heap : PlainHeap) (r : Span) (xs ys : List Span) (among : IsAmong heap
       let inside = data_within heap.insertions q is element in
       let begin = AllByRecursion-contains (λ (y : Span). end_of r ≤ y.addr) ys q (rising_behind (end_of r) ys among.high) has in
       rw (ne_eqb (data_address q) (data_address r) (λ same. omega (arith, same, inside.0, begin, own.1))) refl
+
+  pub before_data : AllByRecursion (λ q. has_data_at (data_address r) q ≡ false) xs
+  before_data = AllByRecursion-each (λ q. has_data_at (data_address r) q ≡ false) xs (λ q has. by_state q (cases_Bool (busy q))
+      (AllByRecursion-contains (λ q. busy q ≡ true → elsewhere (data_address r) q ≡ true) xs q before_elsewhere has))
+    where
+      by_state : (q : Span) → (busy q ≡ true) ⊎ (busy q ≡ false) → (busy q ≡ true → elsewhere (data_address r) q ≡ true) → has_data_at (data_address r) q ≡ false
+      by_state q (inl is) other = and_right _ _ (not-true (eqb (data_address q) (data_address r)) (other is))
+      by_state q (inr free) other = and_left _ _ free
 
 -- elements that are free or have their data there leave nothing
 pub dropped : (address : ℕ) (mid : List Span) → AllByRecursion (λ q. (is_free q ≡ true) ⊎ (data_address q ≡ address)) mid → filter (elsewhere address) (filter busy mid) ≡ []

@@ -173,11 +173,11 @@ module _ (headers : HeadersView) (addr : ℕ) (of_heap : IsOfHeap headers) where
 
 -- an element of a heap, and where its data are
 module _ (headers : HeadersView) (key : ℕ) (node : Node) (of_heap : IsOfHeap headers) (stands : Stands headers.items key node) where
-  own_element : IsElement headers.insertions node.span
+  pub own_element : IsElement headers.insertions node.span
   own_element = (AllByRecursion-back (IsElement headers.insertions) (spans_of stands.front) (node.span ∷ spans_of stands.back)
       (subst (λ zs. AllByRecursion (IsElement headers.insertions) zs) (ap spans_of stands.is ∙ spans-append stands.front (record { key = key; value = node.span } ∷ stands.back)) of_heap.elements)).0
 
-  own_space : HasSpace node.span
+  pub own_space : HasSpace node.span
   own_space = (AllByRecursion-back HasSpace (spans_of stands.front) (node.span ∷ spans_of stands.back)
       (subst (λ zs. AllByRecursion HasSpace zs) (ap spans_of stands.is ∙ spans-append stands.front (record { key = key; value = node.span } ∷ stands.back)) of_heap.joinable.room)).0
 

@@ -116,25 +116,24 @@ pub record IsAmong (heap : PlainHeap) (r : Span) (xs ys : List Span) : Type 0 wh
   pub under : AllByRecursion (λ x. x.addr < r.addr) xs
   pub over : AllByRecursion (λ y. r.addr < y.addr) ys
 
-pub among_ranges : (heap : PlainHeap) (r : Span) → IsTiled heap → Contains heap.ranges r → (xs : List Span) × (ys : List Span) × IsAmong heap r xs ys
-among_ranges heap r tiled has =
-    let (xs, ys, is) = Contains-parts heap.ranges r has in
+pub among_at : (heap : PlainHeap) (r : Span) (xs ys : List Span) → IsTiled heap → Contains heap.ranges r → heap.ranges ≡ xs ++ (r ∷ ys) → IsAmong heap r xs ys
+among_at heap r xs ys tiled has is =
     let part = parted heap r xs ys tiled is in
     let tiling = subst (λ zs. IsTiling (segments_of heap) heap.insertions zs) is tiled.tiling in
     let element = element_of heap r tiled has in
-    let back = rising-back 0 xs (r ∷ ys) tiling.rising in (
-      xs,
-      ys,
-      record {
-        ranges = is;
-        tiling = tiling;
-        element = element;
-        low = back.0;
-        high = back.1;
-        under = part.below;
-        over = AllByRecursion-weaker (λ (y : Span). end_of r ≤ y.addr) (λ y. r.addr < y.addr) (λ y behind. omega (arith, element.size.least)) ys (rising_behind (end_of r) ys back.1);
-      },
-    )
+    let back = rising-back 0 xs (r ∷ ys) tiling.rising in
+    record {
+      ranges = is;
+      tiling = tiling;
+      element = element;
+      low = back.0;
+      high = back.1;
+      under = part.below;
+      over = AllByRecursion-weaker (λ (y : Span). end_of r ≤ y.addr) (λ y. r.addr < y.addr) (λ y behind. omega (arith, element.size.least)) ys (rising_behind (end_of r) ys back.1);
+    }
+
+pub among_ranges : (heap : PlainHeap) (r : Span) → IsTiled heap → Contains heap.ranges r → (xs : List Span) × (ys : List Span) × IsAmong heap r xs ys
+among_ranges heap r tiled has = let (xs, ys, is) = Contains-parts heap.ranges r has in (xs, ys, among_at heap r xs ys tiled has is)
 
 -- a member of the others is a member of all
 pub Contains-others : (xs ys : List Span) (r q : Span) → Contains (xs ++ ys) q → Contains (xs ++ (r ∷ ys)) q

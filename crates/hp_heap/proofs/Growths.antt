@@ -28,9 +28,24 @@ unfolding run_pages
 pages_alike run next behind = alike_from run next 0 run.count behind.page behind.socket
     (omega (arith, behind.addr, ap (λ (n : ℕ). n * run.page) behind.first))
 
--- a run right behind the pages of a heap may come
-pub next_can_grow : (heap : PlainHeap) (run next : Run) → IsGrownTo run heap → IsNextRun run next → IsRun next → CanGrow next heap
-next_can_grow heap run next grown behind is = record {
+-- no byte above the pages of a heap is in it
+outside : (start len byte : ℕ) → start + len ≤ byte → cond {A = ℕ} (is_within start len byte) 1 0 ≡ 0
+outside start len byte above = grind (arith, nat_tests)
+
+fresh_above : (heap : PlainHeap) (run : Run) → IsGrownTo run heap → (byte : ℕ) → run.addr + run_bytes run ≤ byte → count_by (in_segment byte) (segments_of heap) ≡ 0
+fresh_above heap run grown byte above = omega (
+  arith,
+  ap (λ pages. count_by (in_segment byte) (map page_extent pages ++ map chunk_extent heap.chunks)) grown.pages,
+  ap (λ chunks. count_by (in_segment byte) (map page_extent (run_pages run) ++ map chunk_extent chunks)) grown.chunks,
+  count_by-append (in_segment byte) (map page_extent (run_pages run)) [],
+  count_pages run byte,
+  outside run.addr (run_bytes run) byte above,
+)
+
+-- a run above the pages of a heap may come, where it is like those of its list
+can_grow_above : (heap : PlainHeap) (run next : Run) → IsGrownTo run heap → run.addr + run_bytes run ≤ next.addr → AllByRecursion (λ (page : HeapPage). page.list ≡ next.list → IsAlike next page) (run_pages run)
+    → IsRun next → CanGrow next heap
+can_grow_above heap run next grown above alike is = record {
   serves = grown.serves;
   some = is.some;
   size = is.size;
@@ -38,25 +53,22 @@ next_can_grow heap run next grown behind is = record {
   base = is.base;
   slots = is.slots;
   end = is.end;
-  alike = subst (λ pages. AllByRecursion (λ (page : HeapPage). page.list ≡ next.list → IsAlike next page) pages) (sym grown.pages) (alike run next behind);
-  fresh = λ byte from to. fresh byte from;
+  alike = subst (λ pages. AllByRecursion (λ (page : HeapPage). page.list ≡ next.list → IsAlike next page) pages) (sym grown.pages) alike;
+  fresh = λ byte from to. fresh_above heap run grown byte (omega (arith, above, from));
 }
-  where
-    alike : (run next : Run) → IsNextRun run next → AllByRecursion (λ (page : HeapPage). page.list ≡ next.list → IsAlike next page) (run_pages run)
-    alike run next behind = pages_alike run next behind
 
-    outside : (start len byte : ℕ) → start + len ≤ byte → cond {A = ℕ} (is_within start len byte) 1 0 ≡ 0
-    outside start len byte above = grind (arith, nat_tests)
+-- one right behind them may
+pub next_can_grow : (heap : PlainHeap) (run next : Run) → IsGrownTo run heap → IsNextRun run next → IsRun next → CanGrow next heap
+next_can_grow heap run next grown behind is = can_grow_above heap run next grown (omega (arith, behind.addr)) (pages_alike run next behind) is
 
-    fresh : (byte : ℕ) → next.addr ≤ byte → count_by (in_segment byte) (segments_of heap) ≡ 0
-    fresh byte from = omega (
-      arith,
-      ap (λ pages. count_by (in_segment byte) (map page_extent pages ++ map chunk_extent heap.chunks)) grown.pages,
-      ap (λ chunks. count_by (in_segment byte) (map page_extent (run_pages run) ++ map chunk_extent chunks)) grown.chunks,
-      count_by-append (in_segment byte) (map page_extent (run_pages run)) [],
-      count_pages run byte,
-      outside run.addr (run_bytes run) byte (omega (arith, behind.addr)),
-    )
+-- and one of another list
+other_from : (run next : Run) (i n : ℕ) → (run.list ≡ next.list → ⊥) → AllByRecursion (λ page. page.list ≡ next.list → IsAlike next page) (map (run_page run) (range_with_len i n))
+other_from run next i zero other = tt
+other_from run next i (suc n) other = (λ same. absurd (other same), other_from run next (i + 1) n other)
+
+pub other_can_grow : (heap : PlainHeap) (run next : Run) → IsGrownTo run heap → run.addr + run_bytes run ≤ next.addr → (run.list ≡ next.list → ⊥) → IsRun next → CanGrow next heap
+unfolding run_pages
+other_can_grow heap run next grown above other is = can_grow_above heap run next grown above (other_from run next 0 run.count other) is
 
 -- pages in a row are those of two rows
 pages_in_row : (run : Run) (i n m : ℕ) → map (run_page run) (range_with_len i n) ++ map (run_page run) (range_with_len (i + n) m) ≡ map (run_page run) (range_with_len i (n + m))

@@ -13,6 +13,7 @@ use Rattle.hp_heap.specs.FreeSearch.{HasSpace}
 use Rattle.hp_heap.specs.Headers.{spans_of}
 use Rattle.hp_heap.specs.Joins.{HasRoom, IsJoinable}
 use Rattle.hp_heap.specs.Finding.{IsOfHeap}
+use Rattle.hp_heap.specs.PageLists.{AreNoted}
 use Rattle.hp_heap.specs.Inside.{opened, plain_of, view_of, IsHeap}
 use Rattle.hp_heap.proofs.HistoryLaw.{after-same, replay-push, IsLegal-push}
 use Rattle.hp_heap.proofs.LaidLemmas.{tiled_limits}
@@ -32,10 +33,12 @@ pub record IsNext (a b : Inside) (entry : Entry) (next : PlainHeap) : Type 0 whe
   pub name : b.name ≡ next.name
   pub socket : b.socket ≡ next.socket
   pub chunks : b.chunks.items ≡ next.chunks
+  pub lists : AreNoted next.pages b.page_lists.items
   pub tiled : IsTiled next
   pub counted : b.headers.insertions ≤ 2 * vec_len b.history
   pub room : 2 * b.spare ≤ b.headers.spare
   pub room_history : vec_len b.history + b.spare ≤ vec_capacity b.history
+  pub room_lists : vec_len b.page_lists + b.spare ≤ vec_capacity b.page_lists
 
 module _ (a b : Inside) (entry : Entry) (next : PlainHeap) (heap : IsHeap a) (is : IsNext a b entry next) where
   same_opening : opened b ≡ opened a
@@ -61,6 +64,7 @@ module _ (a b : Inside) (entry : Entry) (next : PlainHeap) (heap : IsHeap a) (is
     name = is.name ∙ ap (λ h. h.name) (sym next_plain);
     socket = is.socket ∙ ap (λ h. h.socket) (sym next_plain);
     chunks = is.chunks ∙ ap (λ h. h.chunks) (sym next_plain);
+    lists = subst (λ h. AreNoted h.pages b.page_lists.items) (sym next_plain) is.lists;
     serves = ap (λ h. h.serves) next_plain ∙ kept.1 ∙ heap.serves ∙ sym is.serves;
     index = ap (λ h. h.index) next_plain ∙ kept.0 ∙ heap.index ∙ sym is.index;
     legal = subst (λ from. IsLegal from b.history.items) (sym same_opening) (subst (λ entries. IsLegal (opened a) entries) (sym is.history) (IsLegal-push (opened a) a.history.items entry heap.legal is.legal));
@@ -68,6 +72,7 @@ module _ (a b : Inside) (entry : Entry) (next : PlainHeap) (heap : IsHeap a) (is
     counted = is.counted;
     room = is.room;
     room_history = is.room_history;
+    room_lists = is.room_lists;
   }
 
 -- what callers see of one more call

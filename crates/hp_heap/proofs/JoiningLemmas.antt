@@ -233,10 +233,10 @@ module _ (items : Items) (key : ℕ) (node : Node) (apart : AreApart items) (at 
 
   -- there is one above
   module _ (next : ℕ) (above : Node) (is : node.next ≡ Some next) (there : Stands items next above) where
-    abbrev first : HasFirst stands.back next
+    abbrev pub first : HasFirst stands.back next
     first = first_of stands.back next (sym stands.next ∙ is)
 
-    up_parts : items ≡ stands.front ++ own_of key node ∷ first.first ∷ first.back
+    pub up_parts : items ≡ stands.front ++ own_of key node ∷ first.first ∷ first.back
     up_parts = stands.is ∙ ap (λ (zs : Items). stands.front ++ own_of key node ∷ zs) first.is
 
     up_next : items ≡ (stands.front ++ own_of key node ∷ []) ++ first.first ∷ first.back
@@ -245,7 +245,7 @@ module _ (items : Items) (key : ℕ) (node : Node) (apart : AreApart items) (at 
     abbrev at_first : IsAt (λ _. Unit {0}) next items
     at_first = record { front = stands.front ++ own_of key node ∷ []; found = first.first; back = first.back; is = up_next; same = first.same; holds = tt }
 
-    above_is : above.span ≡ first.first.value
+    pub above_is : above.span ≡ first.first.value
     above_is = stands_value (λ _. Unit {0}) next items above at_first apart there
 
     -- and it stays

@@ -19,6 +19,7 @@ pub mod JoinedTiling
 pub mod GapTiling
 pub mod GrowLaw
 pub mod HistoryLaw
+pub mod PageListLemmas
 pub mod SummaryLemmas
 pub mod PlaceLemmas
 pub mod AllocKept
@@ -32,6 +33,7 @@ pub mod LaidLemmas
 pub mod WindowTiling
 pub mod FreeTiling
 pub mod RunPages
+pub mod NotedPages
 pub mod ResizeTiling
 pub mod CutPages
 pub mod CutTiling
@@ -44,9 +46,16 @@ pub mod FrontsLaw
 pub mod BusyLemmas
 pub mod FreeLaw
 pub mod ResizeLaw
+pub mod ResizedLemmas
+pub mod InPlaceLemmas
+pub mod TaggedLemmas
 pub mod JoiningLemmas
 pub mod FindingLemmas
 pub mod FreeingLemmas
 pub mod AddingLemmas
 pub mod ChosenLemmas
 pub mod QuestionLemmas
+pub mod TakingLemmas
+pub mod HeadLemmas
+pub mod CuttingLemmas
+pub mod CutHeap

@@ -1,5 +1,5 @@
 -- Members of lists: those that a filter keeps, that a search finds and that a count knows of.
-use Rattle.std.proofs.Common.{◌≡◌, ℕ, ◌+◌, ◌<◌, ◌≤◌, Bool, true, false, cond, not, List, [], ◌∷◌, map, refl, sym, ap, subst, ◌∙◌, inl, inr, arith, Option, Some, None, MatchOption, Contains, count_by}
+use Rattle.std.proofs.Common.{◌≡◌, ℕ, ◌+◌, ◌<◌, ◌≤◌, Bool, true, false, cond, not, List, [], ◌∷◌, ◌++◌, map, refl, sym, ap, subst, ◌∙◌, inl, inr, arith, Option, Some, None, MatchOption, Contains, count_by}
 use Rattle.std.proofs.lemmas.Bool.{cond_both, false≢true}
 use Rattle.std.specs.List.{filter, find, AllByRecursion}
 use Rattle.hp_heap.proofs.Counting.{count_by-cons}
@@ -47,6 +47,11 @@ module _ {X : Type 0} where
 
   pub find_none : (p : X → Bool) (xs : List X) → find p xs ≡ None → AllByRecursion (λ y. p y ≡ false) xs
   find_none p xs is = subst (λ o. MatchOption o (AllByRecursion (λ y. p y ≡ false) xs) (IsFound p xs)) is (find-is p xs)
+
+  -- the first that passes a test behind others that do not is found
+  pub find_behind : (p : X → Bool) (xs : List X) (x : X) (ys : List X) → AllByRecursion (λ y. p y ≡ false) xs → p x ≡ true → find p (xs ++ (x ∷ ys)) ≡ Some x
+  find_behind p [] x ys none is = rw is refl
+  find_behind p (y ∷ xs) x ys none is = rw none.0 (find_behind p xs x ys none.1 is)
 
   -- where some pass a test there is one that does
   pub counted_some : (p : X → Bool) (xs : List X) → 0 < count_by p xs → (x : X) × IsFound p xs x

@@ -14,6 +14,7 @@ use Rattle.hp_heap.specs.Joining.{has_tag, has_tag_state}
 use Rattle.hp_heap.specs.Headers.{spans_of}
 use Rattle.hp_heap.specs.History.{after_entry, IsLegalEntry}
 use Rattle.hp_heap.specs.Inside.{plain_of, IsHeap}
+use Rattle.hp_heap.specs.PageLists.{AreNoted}
 use Rattle.hp_heap.proofs.HeapLaw.{IsNext}
 use Rattle.hp_heap.proofs.FindingLemmas.{key_found, key_value, found_none, find-spans}
 
@@ -28,6 +29,9 @@ pub record IsAsked (a b : Inside) (entry : Entry) : Type 0 where
   pub name : b.name ≡ a.name
   pub socket : b.socket ≡ a.socket
   pub chunks : b.chunks.items ≡ a.chunks.items
+  pub lists : b.page_lists.items ≡ a.page_lists.items
+  pub len_lists : vec_len b.page_lists ≡ vec_len a.page_lists
+  pub room_lists : vec_capacity b.page_lists ≡ vec_capacity a.page_lists
   pub spare : b.spare + 1 ≡ a.spare
   pub len : vec_len b.history ≡ vec_len a.history + 1
   pub room : vec_capacity b.history ≡ vec_capacity a.history
@@ -45,10 +49,12 @@ asked a b entry heap is = record {
   name = is.name ∙ heap.name;
   socket = is.socket ∙ heap.socket;
   chunks = is.chunks ∙ heap.chunks;
+  lists = Rattle.std.proofs.Common.subst (λ ls. AreNoted (plain_of a).pages ls) (sym is.lists) heap.lists;
   tiled = heap.tiled;
   counted = omega (arith, ap (λ h. h.insertions) is.headers, heap.counted, is.len);
   room = omega (arith, ap (λ h. h.spare) is.headers, heap.room, is.spare);
   room_history = omega (arith, is.len, is.room, is.spare, heap.room_history);
+  room_lists = omega (arith, is.len_lists, is.room_lists, is.spare, heap.room_lists);
 }
 
 -- a search by a test that says the same

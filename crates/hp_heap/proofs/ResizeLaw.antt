@@ -1,6 +1,6 @@
 -- A resize leaves every other busy element and every other zone as it was.
 use Rattle.std.proofs.Common.{◌≡◌, ℕ, ◌+◌, ◌-◌, ◌≤◌, ◌⊎◌, Bool, true, false, cond, not, List, [], ◌∷◌, ◌++◌, refl, sym, ap, subst, ◌∙◌, inl, inr, arith, Option, Some, None, eqb, leb}
-use Rattle.std.proofs.lemmas.Bool.{and_parts, and_from, and_right, and_left, cases_Bool, false≢true, eqb-true, eq-eqb, leb-true, leb-false, lt-leb, not-true}
+use Rattle.std.proofs.lemmas.Bool.{and_parts, and_from, cases_Bool, false≢true, eqb-true, eq-eqb, leb-true, leb-false, lt-leb, not-true}
 use Rattle.std.specs.List.{AllByRecursion, filter, find}
 use Rattle.std.specs.Option.{option_map}
 use Rattle.hp_base.specs.declared.span.Span.{Span}
@@ -13,11 +13,10 @@ use Rattle.hp_heap.specs.Joining.{has_data_at, busy_at, busy_ranges, zone_ranges
 use Rattle.hp_heap.specs.Resizing.{bytes_needed, bytes_together, next_free, with_size, resized, with_new_size, taken_over, after_resize, after_resize_of, can_resize, can_resize_of, CanAskSize}
 use Rattle.hp_heap.specs.Laws.{ResizesAlone}
 use Rattle.hp_heap.proofs.RangeLemmas.{AllByRecursion-weaker, replaced-at}
-use Rattle.hp_heap.proofs.ChoiceLaw.{AllByRecursion-contains}
-use Rattle.hp_heap.proofs.Members.{AllByRecursion-each, find_some}
+use Rattle.hp_heap.proofs.Members.{find_behind, find_some}
 use Rattle.hp_heap.proofs.FreeTiling.{IsAmong}
 use Rattle.hp_heap.proofs.ResizeTiling.{free_resized, IsResizing, next_of, resizing_of, ranges_left}
-use Rattle.hp_heap.proofs.BusyLemmas.{busy, elsewhere, before_elsewhere, others_elsewhere, zones_elsewhere}
+use Rattle.hp_heap.proofs.BusyLemmas.{busy, elsewhere, before_data, others_elsewhere, zones_elsewhere}
 
 -- another size leaves the pad
 pad_resized : (size : ℕ) (state : SpanState) → pad_of_state (with_size size state) ≡ pad_of_state state
@@ -38,11 +37,6 @@ pub record IsResized (address size : ℕ) (heap : PlainHeap) (r : Span) (news : 
   pub others : AllByRecursion (λ q. has_data_at address q ≡ false) before
   pub there : data_address r ≡ address
   pub held : busy r ≡ true
-
--- the first that passes a test behind others that do not is found
-find_behind : (p : Span → Bool) (xs : List Span) (r : Span) (ys : List Span) → AllByRecursion (λ q. p q ≡ false) xs → p r ≡ true → find p (xs ++ (r ∷ ys)) ≡ Some r
-find_behind p [] r ys none is = rw is refl
-find_behind p (x ∷ xs) r ys none is = rw none.0 (find_behind p xs r ys none.1 is)
 
 free_or_there : (address : ℕ) (xs : List Span) → AllByRecursion (λ q. is_free q ≡ true) xs → AllByRecursion (λ q. (is_free q ≡ true) ⊎ (data_address q ≡ address)) xs
 free_or_there address xs all = AllByRecursion-weaker (λ (q : Span). is_free q ≡ true) (λ q. (is_free q ≡ true) ⊎ (data_address q ≡ address)) (λ q free. inl free) xs all
@@ -65,12 +59,7 @@ module _ (address size : ℕ) (heap : PlainHeap) (r : Span) (news : List Span) (
 module _ (address size : ℕ) (heap : PlainHeap) (tiled : IsTiled heap) (can : CanAskSize address size heap) where
   -- elements before the one have their data elsewhere
   others_before : (r : Span) (xs ys : List Span) → IsAmong heap r xs ys → busy r ≡ true → data_address r ≡ address → AllByRecursion (λ q. has_data_at address q ≡ false) xs
-  others_before r xs ys among held there = AllByRecursion-each (λ q. has_data_at address q ≡ false) xs (λ q has. by_state q (cases_Bool (busy q))
-      (AllByRecursion-contains (λ q. busy q ≡ true → elsewhere (data_address r) q ≡ true) xs q (before_elsewhere heap r xs ys among held) has))
-    where
-      by_state : (q : Span) → (busy q ≡ true) ⊎ (busy q ≡ false) → (busy q ≡ true → elsewhere (data_address r) q ≡ true) → has_data_at address q ≡ false
-      by_state q (inl is) other = and_right _ _ (subst (λ (a : ℕ). eqb (data_address q) a ≡ false) there (not-true (eqb (data_address q) (data_address r)) (other is)))
-      by_state q (inr free) other = and_left _ _ free
+  others_before r xs ys among held there = subst (λ (a : ℕ). AllByRecursion (λ q. has_data_at a q ≡ false) xs) there (before_data heap r xs ys among held)
 
   found_is : (r : Span) → find (has_data_at address) heap.ranges ≡ Some r → (busy r ≡ true) × (data_address r ≡ address)
   found_is r found =

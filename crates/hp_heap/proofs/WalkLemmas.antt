@@ -11,27 +11,14 @@ use Rattle.hp_heap.specs.Headers.{spans_of}
 use Rattle.hp_heap.specs.Joins.{HasRoom}
 use Rattle.hp_heap.specs.Statistics.{total_bytes}
 use Rattle.hp_heap.specs.FreeSearch.{HasSpace}
+use Rattle.hp_heap.specs.Walk.{from_key, rest_from, IsPassed}
 use Rattle.hp_heap.proofs.SplitLemmas.{spans-append}
 use Rattle.hp_heap.proofs.Counting.{total-cons}
 use Rattle.hp_heap.proofs.RangeLemmas.{AllByRecursion-front}
 
--- the elements from a key on
-abbrev pub from_key : ℕ → Items → Items
-from_key key [] = []
-from_key key (e ∷ es) = cond (nat_eq e.key key) (e ∷ es) (from_key key es)
-
-abbrev pub rest_from : Option ℕ → Items → Items
-rest_from None items = []
-rest_from (Some key) items = from_key key items
-
 from_middle : (xs : Items) (e : Keyed Span) (ys : Items) → has_key e.key xs ≡ false → from_key e.key (xs ++ e ∷ ys) ≡ e ∷ ys
 from_middle [] e ys lacks = rw (eq-eqb e.key e.key refl) refl
 from_middle (x ∷ xs) e ys lacks = let parts = or_parts (nat_eq x.key e.key) (has_key e.key xs) lacks in rw parts.0 (from_middle xs e ys parts.1)
-
--- a walk has come to a key: what was passed, and what is left
-pub record IsPassed (items : Items) (next : Option ℕ) (passed : Items) : Type 0 where
-  pub is : items ≡ passed ++ rest_from next items
-  pub first : next ≡ first_key (rest_from next items) None
 
 rest_first : (xs ys : Items) → AreApart (xs ++ ys) → rest_from (first_key ys None) (xs ++ ys) ≡ ys
 rest_first xs [] apart = refl
@@ -124,3 +111,7 @@ passed_room items next passed was room =
 pub pushed_ok : {T E X : Type 0} (r : Result T E) (xs ys : X) → is_err r ≡ false → cond (is_ok r) xs ys ≡ xs
 pushed_ok (Ok t) xs ys off = refl
 pushed_ok (Err e) xs ys off = absurd (false≢true (sym off))
+
+-- the element at a key is the first of those that are left
+pub spans_step : (items : Items) (next : Option ℕ) (node : Node) (passed : Items) → IsStep items next node passed → spans_of (rest_from next items) ≡ node.span ∷ spans_of (rest_from node.next items)
+spans_step items next node passed step = ap spans_of step.rest ∙ ap (λ (s : Span). s ∷ spans_of (rest_from node.next items)) step.value

@@ -17,6 +17,7 @@ use Rattle.hp_heap.specs.Lists.{free_list}
 use Rattle.hp_heap.specs.Choice.{is_fitting_page, is_hint, is_attached, eligible, precedes, chosen}
 use Rattle.hp_heap.specs.Placing.{pieces_of, insertions_of, placed, after_alloc}
 use Rattle.hp_heap.specs.Joining.{with_stretch, after_insertion, busy_at, after_free, tag_at, busy_ranges, zone_ranges}
+use Rattle.hp_heap.specs.Tagged.{HasTaggedAt}
 use Rattle.hp_heap.specs.Cut.{cut_at, after_cut}
 use Rattle.hp_heap.specs.Growing.{run_pages, after_grow}
 use Rattle.hp_heap.specs.Chunks.{chunk_of, after_chunk}
@@ -115,6 +116,11 @@ module _ (accepted_1024 : IsAccepted 1024 64 0) (accepted_pages : IsAccepted 419
   tag_of_zone : tag_at 0x1001ff780 with_zone ≡ Some zone_tag
   unfolding after after_grow after_insertion with_stretch after_alloc chosen eligible precedes is_fitting_page is_hint is_attached place_of class_number placed pieces_of insertions_of busy_at tag_at
   tag_of_zone = refl
+
+  -- a search by its tag finds it there, whoever asked for it
+  tagged_there : HasTaggedAt (record { who = 0; zone = true; number = 5 }) 0x1001ff780 with_zone
+  unfolding after after_grow after_insertion with_stretch after_alloc chosen eligible precedes is_fitting_page is_hint is_attached place_of class_number placed pieces_of insertions_of busy_at
+  tagged_there = refl
 
   no_tag_there : tag_at 0x1001ff700 with_zone ≡ None
   unfolding after after_grow after_insertion with_stretch after_alloc chosen eligible precedes is_fitting_page is_hint is_attached place_of class_number placed pieces_of insertions_of busy_at tag_at

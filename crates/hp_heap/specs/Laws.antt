@@ -3,6 +3,7 @@ use Rattle.std.specs.Prelude.{◌≡◌, ◌⊎◌, ℕ, ◌+◌, ◌<◌, ◌�
 use Rattle.std.specs.List.{AllByRecursion, filter}
 use Rattle.std.specs.Option.{option_map}
 use Rattle.hp_base.specs.declared.span.Span.{Span}
+use Rattle.hp_base.specs.declared.row.Run.{Run}
 use Rattle.hp_base.specs.declared.tag.Caller.{Caller}
 use Rattle.hp_base.specs.declared.request.Request.{Request}
 use Rattle.hp_heap.specs.declared.entry.Entry.{Entry}
@@ -117,6 +118,12 @@ pub record CutsRun (address : ℕ) (heap : PlainHeap) (cut : PageCut) : Type 0 w
   pub stayed : (page : HeapPage) → Contains (after_cut address heap).pages page → Contains heap.pages page
   pub left : (page : HeapPage) → Contains (run_pages (run_of cut)) page
       → Contains heap.pages page × (Contains (after_cut address heap).pages page → ⊥)
+
+-- a run has exactly the pages that go at an address
+pub record IsRunCut (address : ℕ) (heap : PlainHeap) (run : Run) : Type 0 where
+  pub cut : PageCut
+  pub pages : CutsRun address heap cut
+  pub is : run ≡ run_of cut
 
 -- a cut of a tiled heap answers none exactly where no page goes, and else the run of the pages that go ("Whole pages")
 abbrev pub CutsPages : Type 0

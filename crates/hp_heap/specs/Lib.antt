@@ -19,7 +19,12 @@ pub mod Joins
 pub mod Cutting
 pub mod FreeSearch
 pub mod Allocating
+pub mod PageLists
 pub mod Inside
 pub mod Laws
 pub mod Freeing
 pub mod Finding
+pub mod PageCutting
+pub mod InPlace
+pub mod Tagged
+pub mod Walk

@@ -1,10 +1,14 @@
-ghost use Rattle.std.specs.Prelude.{◌≡◌, ◌<◌, ◌^◌};
-ghost use Rattle.hp_heap.specs.PlainHeap.{data_address};
+ghost use Rattle.std.specs.Prelude.{◌≡◌, ◌<◌, ◌^◌, Some, IfSome, true};
+ghost use Rattle.hp_elem.specs.Items.{key_at};
+ghost use Rattle.hp_heap.specs.PlainHeap.{data_address, end_of};
+ghost use Rattle.hp_heap.specs.Tiling.{in_range};
 ghost use Rattle.hp_heap.specs.Joining.{has_data_at};
 ghost use Rattle.hp_heap.specs.Finding.{IsOfHeap, FindsData};
+ghost use Rattle.hp_heap.specs.PageCutting.{FindsFree};
 
 use crate::headers::Headers;
-use hp_base::{HEADER, Span, SpanState};
+use crate::state::is_free;
+use hp_base::{HEADER, Span, SpanState, class_of};
 
 /// The busy element with its data at an address.
 pub fn busy_at(headers: &Headers, addr: u64) -> Option<usize>
@@ -29,4 +33,56 @@ fn has_data_at(range: &Span, addr: u64) -> bool
         SpanState::Busy { pad, .. } => range.addr + pad + HEADER == addr,
         SpanState::Free { .. } => false,
     }
+}
+
+/// The free element that contains an address. One that was inserted last is found without a walk.
+pub fn free_at(headers: &Headers, addr: u64) -> Option<usize>
+    requires { IsOfHeap headers.now }
+    ensures { FindsFree addr headers.now.items result }
+{
+    let Some(key) = element_at(headers, addr) else {
+        return None;
+    };
+    if is_free(&headers.get(key).span) {
+        Some(key)
+    } else {
+        None
+    }
+}
+
+// The element that contains an address. Those at the heads of the free lists are looked at first.
+fn element_at(headers: &Headers, addr: u64) -> Option<usize>
+    requires { IsOfHeap headers.now }
+    ensures { result ≡ key_at addr headers.now.items }
+{
+    if let Some(key) = head_at(headers, addr) {
+        return Some(key);
+    }
+    headers.at(addr)
+}
+
+// The element at the head of a free list that contains an address.
+fn head_at(headers: &Headers, addr: u64) -> Option<usize>
+    requires { IsOfHeap headers.now }
+    ensures { IfSome result (λ key. key_at addr headers.now.items ≡ Some key) }
+{
+    let mut class = 0;
+    while class <= 12 {
+        let Some(key) = headers.first_from(class, |_key: usize| true) else {
+            return None;
+        };
+        let range = &headers.get(key).span;
+        if contains(range, addr) {
+            return Some(key);
+        }
+        class = class_of(range.whole - HEADER) + 1;
+    }
+    None
+}
+
+fn contains(range: &Span, addr: u64) -> bool
+    requires { end_of range.now < 2 ^ 64 }
+    ensures { result ≡ in_range addr range.now }
+{
+    range.addr <= addr && addr < range.addr + range.whole
 }

@@ -1,12 +1,14 @@
-ghost use Rattle.std.specs.Prelude.{◌≡◌, ◌+◌, ◌≤◌, ◌<◌, ◌∷◌, ◌++◌, [], Some, OnOk, OnErr, vec_len, vec_capacity};
+ghost use Rattle.std.specs.Prelude.{◌≡◌, ◌+◌, ◌≤◌, ◌<◌, ◌∷◌, ◌++◌, [], Some, None, OnOk, OnErr, vec_len, vec_capacity};
 ghost use Rattle.std.specs.Option.{option_copied};
 ghost use Rattle.hp_heap.specs.PlainHeap.{opening_heap};
 ghost use Rattle.hp_heap.specs.Lists.{free_lists};
 ghost use Rattle.hp_heap.specs.Statistics.{statistics_of};
 ghost use Rattle.hp_heap.specs.History.{IsSound, SameButSpare};
 
+use crate::elements::Elements;
 use crate::entry::{Entry, HeapAnswer, HeapCall};
 use crate::headers::Headers;
+use crate::page_list::PageList;
 use crate::socket_name::socket_name;
 use crate::summary::{append, statistics};
 use hp_base::{Caller, Chunk, Name, Span, Stats};
@@ -24,6 +26,8 @@ pub struct Heap {
     pub(crate) name: Option<Name>,
     pub(crate) socket: u32,
     pub(crate) chunks: Vec<Chunk>,
+    // The segment lists of its pages, where it takes those of a socket.
+    pub(crate) page_lists: Vec<PageList>,
     pub(crate) headers: Headers,
     pub(crate) history: Vec<Entry>,
     pub(crate) spare: usize,
@@ -56,6 +60,27 @@ impl Heap {
             name: Some(socket_name(socket)),
             socket,
             chunks: Vec::new(alloc),
+            page_lists: Vec::new(alloc),
+            headers: Headers::new(alloc),
+            history: Vec::new(alloc),
+            spare: 0,
+        }
+    }
+
+    /// A heap for external memory, without memory and without a name. After rte_malloc_heap_create.
+    pub fn vacant(alloc: Global, index: u32) -> Heap
+        ensures plain { result.plain ≡ opening_heap index None }
+        ensures lists { result.lists ≡ free_lists result.plain }
+        ensures history { result.history ≡ [] }
+        ensures spare { result.spare ≡ 0 }
+    {
+        Heap {
+            index,
+            serves: None,
+            name: None,
+            socket: 0,
+            chunks: Vec::new(alloc),
+            page_lists: Vec::new(alloc),
             headers: Headers::new(alloc),
             history: Vec::new(alloc),
             spare: 0,
@@ -74,6 +99,7 @@ impl Heap {
             return Err(AllocError);
         };
         self.headers.reserve(elements)?;
+        self.page_lists.reserve(calls)?;
         self.history.reserve(calls)?;
         self.spare = calls;
         Ok(())
@@ -92,6 +118,13 @@ impl Heap {
         ensures err { OnErr result (out.new.items ≡ out.old.items) }
     {
         append(&self.headers, out)
+    }
+
+    /// A walk over its elements, by address, which copies none. Own.
+    pub fn walk(&self) -> Elements<'_>
+        ensures { result ≡ self.now.plain.ranges }
+    {
+        Elements::new(&self.headers)
     }
 
     /// All calls so far, in their order.
@@ -114,6 +147,13 @@ impl Heap {
         ensures { result ≡ self.now.plain.index }
     {
         self.index
+    }
+
+    /// The socket whose pages it takes, or none where it takes external memory.
+    pub fn serves(&self) -> Option<u32>
+        ensures { result ≡ self.now.plain.serves }
+    {
+        self.serves
     }
 
     /// Its name, where it has one.

@@ -3,6 +3,8 @@
 
 mod alloc;
 mod choice;
+mod cutting;
+mod elements;
 mod entry;
 mod finding;
 mod flags;
@@ -11,15 +13,19 @@ mod headers;
 mod heap;
 mod joining;
 mod laws;
+mod page_list;
 mod pages;
 mod pieces;
 mod questions;
+mod resizing;
 mod socket_name;
 mod state;
+mod stretch;
 mod summary;
 #[cfg(test)]
 mod tests;
 
+pub use elements::Elements;
 pub use entry::{Entry, HeapAnswer, HeapCall};
 pub use freeing::FreeFault;
 pub use heap::Heap;

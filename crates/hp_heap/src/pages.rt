@@ -12,6 +12,7 @@ use crate::entry::{HeapAnswer, HeapCall};
 use crate::headers::Headers;
 use crate::heap::{Heap, record};
 use crate::joining::insert_joined;
+use crate::page_list::note;
 use crate::state::NO_TAG;
 use hp_base::{Caller, Run, Span, SpanState};
 
@@ -35,6 +36,7 @@ impl Heap {
             },
         };
         insert_new(&mut self.headers, range);
+        note(&mut self.page_lists, run);
         record(
             &mut self.history,
             caller,

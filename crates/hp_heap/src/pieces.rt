@@ -37,8 +37,8 @@ pub fn carve(headers: &mut Headers, key: usize, address: u64, size: u64, tag: Ta
     cut_before(headers, key, before, address - HEADER);
 }
 
-// Cuts off what lies behind an address of a busy element, where it is to be an element, which is free. It gives its key.
-fn cut_behind(headers: &mut Headers, key: usize, some: bool, at: u64) -> usize
+/// Cuts off what lies behind an address of a busy element, where it is to be an element, which is free. It gives its key.
+pub fn cut_behind(headers: &mut Headers, key: usize, some: bool, at: u64) -> usize
     requires busy { IsAt (CanCutBehind some at) key headers.old.items }
     requires apart { AreApart headers.old.items }
     requires spare { 1 ≤ headers.old.spare }
@@ -56,14 +56,15 @@ fn cut_behind(headers: &mut Headers, key: usize, some: bool, at: u64) -> usize
     rest
 }
 
-// Cuts off what lies before an address of a busy element, where it is to be an element, which is free. The key stays with
-// it, and the one that is given is that of the busy element.
-fn cut_before(headers: &mut Headers, key: usize, some: bool, at: u64) -> usize
+/// Cuts off what lies before an address of a busy element, where it is to be an element, which is free. The key stays
+/// with it, and the one that is given is that of the busy element.
+pub fn cut_before(headers: &mut Headers, key: usize, some: bool, at: u64) -> usize
     requires busy { IsAt (CanCutBefore some at) key headers.old.items }
     requires apart { AreApart headers.old.items }
     requires spare { 1 ≤ headers.old.spare }
     requires stamps { headers.old.insertions + 1 < 2 ^ 64 }
     ensures items { headers.new.items ≡ edited key (before_if some at result (headers.old.insertions + 1)) headers.old.items }
+    ensures key { some ≡ false → result ≡ key }
     ensures insertions { headers.new.insertions ≡ headers.old.insertions + count_if some }
     ensures spare { headers.old.spare ≤ headers.new.spare + 1 }
     ensures apart { AreApart headers.new.items }

@@ -1,9 +1,10 @@
-ghost use Rattle.std.specs.Prelude.{◌≡◌, ◌<◌, ◌^◌};
+ghost use Rattle.std.specs.Prelude.{◌≡◌, ◌<◌, ◌^◌, IfSome};
 ghost use Rattle.std.specs.List.{find};
 ghost use Rattle.std.specs.Option.{option_map};
 ghost use Rattle.hp_heap.specs.PlainHeap.{data_address};
 ghost use Rattle.hp_heap.specs.Tiling.{in_range, range_at};
 ghost use Rattle.hp_heap.specs.Joining.{has_tag};
+ghost use Rattle.hp_heap.specs.Tagged.{HasTaggedAt};
 ghost use Rattle.hp_heap.specs.Headers.{spans_of};
 ghost use Rattle.hp_heap.specs.Finding.{IsOfHeap};
 ghost use Rattle.hp_heap.specs.Step.{address_answer};
@@ -21,7 +22,10 @@ impl Heap {
     /// asked for it is not compared. Own; it stands for the address that a line of the workload keeps.
     pub fn find(&mut self, caller: Caller, tag: Tag) -> Option<u64>
         requires spare { 0 < self.old.spare }
-        ensures { IsCall caller (HeapCall.Find tag) (address_answer result) self.old self.new }
+        ensures step { IsCall caller (HeapCall.Find tag) (address_answer result) self.old self.new }
+
+        // The element with its data there is busy, and has the tag.
+        ensures there { IfSome result (λ addr. HasTaggedAt tag addr self.new.plain) }
     {
         let address = tagged(&self.headers, tag);
         record(

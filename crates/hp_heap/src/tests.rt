@@ -1,15 +1,18 @@
-ghost use Rattle.std.specs.Prelude.{◌≡◌, ◌+◌, ◌*◌, ◌^◌, ◌<◌, ◌≤◌, Some, IfOk};
+ghost use Rattle.std.specs.Prelude.{◌≡◌, ◌+◌, ◌*◌, ◌^◌, ◌<◌, ◌≤◌, false, Some, IfOk};
 ghost use Rattle.hp_base.specs.declared.row.Run.{Run};
 ghost use Rattle.hp_heap.specs.Growing.{IsGrownTo};
 
 use crate::heap::Heap;
 use crate::socket_name::socket_name;
 use crate::{HeapAnswer, HeapCall, Span, SpanState};
-use hp_base::{Caller, Request, Run, Tag};
+use hp_base::{BadRequest, Caller, Request, Run, Tag};
 use std::alloc::{AllocError, Global};
 use std::test::Fail;
 
+mod choices;
+mod cuts;
 mod frees;
+mod resizes;
 
 const BASE: u64 = 0x1_0000_0000;
 
@@ -50,21 +53,47 @@ fn grow(heap: &mut Heap, first: u32)
     heap.add_run(CALLER, &run);
 }
 
+// The tag of the line with that number.
+fn tag_of(line: u32) -> Tag
+    ensures { result ≡ record { who = 0; zone = false; number = line } }
+{
+    Tag {
+        who: 0,
+        zone: false,
+        number: line,
+    }
+}
+
 // Allocates `size` bytes for the line with that number.
 fn alloc(heap: &mut Heap, size: u64, line: u32) -> Option<u64>
     requires { 0 < heap.old.spare }
     ensures grown { (run : Run) → IsGrownTo run heap.old.plain → IsGrownTo run heap.new.plain }
     ensures spare { heap.old.spare ≤ heap.new.spare + 1 }
 {
-    let Ok(req) = Request::new(size, 0, 0, 0) else {
+    alloc_for(heap, Request::new(size, 0, 0, 0), line)
+}
+
+// Allocates for a request, for the line with that number.
+fn alloc_for(heap: &mut Heap, request: Result<Request, BadRequest>, line: u32) -> Option<u64>
+    requires { 0 < heap.old.spare }
+    ensures grown { (run : Run) → IsGrownTo run heap.old.plain → IsGrownTo run heap.new.plain }
+    ensures spare { heap.old.spare ≤ heap.new.spare + 1 }
+{
+    let Ok(req) = request else {
         return None;
     };
-    let tag = Tag {
-        who: 0,
-        zone: false,
-        number: line,
-    };
-    heap.alloc(CALLER, &req, tag)
+    heap.alloc(CALLER, &req, tag_of(line))
+}
+
+// A free element in the first list.
+fn free_at(addr: u64, whole: u64, stamp: u64) -> Span {
+    Span {
+        addr,
+        whole,
+        list: 0,
+        page: PAGE,
+        state: SpanState::Free { stamp },
+    }
 }
 
 #[test]
@@ -75,14 +104,7 @@ fn takes_the_end_of_the_page(rt: HostRuntime) -> Result<(), Fail> {
     let mut elements = Vec::new(rt.alloc());
     heap.elements(&mut elements)?;
     assert_eq!(rt; elements.len(), 2);
-    let free = Span {
-        addr: BASE,
-        whole: 2_096_000,
-        list: 0,
-        page: PAGE,
-        state: SpanState::Free { stamp: 2 },
-    };
-    assert_eq!(rt; elements[0], free);
+    assert_eq!(rt; elements[0], free_at(BASE, 2_096_000, 2));
     assert_eq!(rt; elements[1].addr, 0x1_001f_fb80);
     assert_eq!(rt; elements[1].whole, 1152);
     Ok(())
@@ -107,6 +129,8 @@ fn tells_its_statistics_and_its_calls(rt: HostRuntime) -> Result<(), Fail> {
     );
     heap.reserve(2)?;
     assert_eq!(rt; heap.spare(), 7);
+    heap.reserve(30)?;
+    assert_eq!(rt; heap.spare(), 30);
     heap.sound();
     let history = heap.history();
     assert_eq!(rt; history.len(), 2);
@@ -158,4 +182,10 @@ fn names_a_heap_for_its_socket(rt: HostRuntime) {
     if let Some(name) = heap.name() {
         assert_eq!(rt; name.as_bytes(), b"socket_7".as_slice());
     }
+    let vacant = Heap::vacant(rt.alloc(), 3);
+    assert_eq!(rt;
+        (vacant.index(), vacant.name().is_none(), vacant.spare()),
+        (3, true, 0)
+    );
+    assert_eq!(rt; (heap.serves(), vacant.serves()), (Some(7), None));
 }

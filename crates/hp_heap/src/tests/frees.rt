@@ -1,8 +1,8 @@
 ghost use Rattle.std.specs.Prelude.{◌≡◌, ◌+◌, ◌<◌, ◌≤◌};
 
 use crate::heap::Heap;
-use crate::tests::{BASE, CALLER, PAGE, alloc, one_page};
-use crate::{FreeFault, HeapAnswer, Span, SpanState};
+use crate::tests::{BASE, CALLER, PAGE, alloc, free_at, one_page, tag_of};
+use crate::{FreeFault, HeapAnswer, SpanState};
 use hp_base::{Request, Tag};
 use std::test::Fail;
 
@@ -17,19 +17,21 @@ fn free(heap: &mut Heap, addr: Option<u64>) -> Result<(), FreeFault>
     }
 }
 
+// The state of an element of 1,000 bytes for the line with that number.
+fn busy_for(line: u32) -> SpanState {
+    SpanState::Busy {
+        pad: 0,
+        size: 1024,
+        tag: tag_of(line),
+    }
+}
+
 #[test]
 fn gives_back_what_it_joins(rt: HostRuntime) -> Result<(), Fail> {
     let mut heap = one_page(rt.alloc())?;
     let data = alloc(&mut heap, 1000, 2);
     assert_eq!(rt; free(&mut heap, data), Ok(()));
-    let whole = Span {
-        addr: BASE,
-        whole: PAGE,
-        list: 0,
-        page: PAGE,
-        state: SpanState::Free { stamp: 3 },
-    };
-    assert_eq!(rt; heap.lookup(BASE + 5000), Some(whole));
+    assert_eq!(rt; heap.lookup(BASE + 5000), Some(free_at(BASE, PAGE, 3)));
     assert_eq!(rt; heap.lookup(BASE + PAGE), None);
     let addr = 0x1_001f_fc00;
     assert_eq!(rt;
@@ -57,6 +59,18 @@ fn takes_the_element_that_was_freed_last(rt: HostRuntime) -> Result<(), Fail> {
     assert_eq!(rt; free(&mut heap, second), Ok(()));
     assert_eq!(rt; free(&mut heap, fourth), Ok(()));
     assert_eq!(rt; alloc(&mut heap, 1000, 7), fourth);
+    let mut elements = Vec::new(rt.alloc());
+    heap.elements(&mut elements)?;
+    assert_eq!(rt; elements.len(), 6);
+    assert_eq!(rt; elements[0], free_at(BASE, 2_091_392, 6));
+    assert_eq!(rt;
+        (elements[1].addr, elements[1].whole),
+        (0x1_001f_e980, 1152)
+    );
+    assert_eq!(rt; elements[2].state, busy_for(7));
+    assert_eq!(rt; elements[3].addr, 0x1_001f_f280);
+    assert_eq!(rt; elements[4], free_at(0x1_001f_f700, 1152, 7));
+    assert_eq!(rt; elements[5].state, busy_for(2));
     Ok(())
 }
 
@@ -83,5 +97,30 @@ fn keeps_the_element_of_a_memzone(rt: HostRuntime) -> Result<(), Fail> {
     let history = heap.history();
     assert_eq!(rt; history.len(), 5);
     assert!(rt; matches!(history[4].answer, HeapAnswer::IsZone));
+    Ok(())
+}
+
+#[test]
+fn frees_the_element_of_a_memzone_as_one(rt: HostRuntime) -> Result<(), Fail> {
+    let mut heap = one_page(rt.alloc())?;
+    let tag = Tag {
+        who: 0,
+        zone: true,
+        number: 2,
+    };
+    if let Ok(req) = Request::new(100, 0, 0, 0) {
+        let _ = heap.alloc(CALLER, &req, tag);
+    }
+    assert_eq!(rt;
+        heap.free(CALLER, 0x1_001f_ff80),
+        Err(FreeFault::IsZone { tag })
+    );
+    let found = heap.find(CALLER, tag);
+    assert_eq!(rt; found, Some(0x1_001f_ff80));
+    if let Some(addr) = found {
+        heap.free_zone(CALLER, addr);
+    }
+    assert_eq!(rt; heap.find(CALLER, tag), None);
+    assert_eq!(rt; heap.lookup(BASE), Some(free_at(BASE, PAGE, 3)));
     Ok(())
 }

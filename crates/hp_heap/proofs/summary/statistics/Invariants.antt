@@ -2,7 +2,7 @@ use Rattle.std.proofs.Common.{◌≡◌, length}
 use Rattle.hp_elem.specs.Items.{Items}
 use Rattle.hp_heap.specs.Headers.{spans_of}
 use Rattle.hp_heap.specs.Statistics.{statistics_of_ranges}
-use Rattle.hp_heap.proofs.WalkLemmas.{IsPassed, rest_from}
+use Rattle.hp_heap.specs.Walk.{IsPassed, rest_from}
 use Rattle.hp_heap.proofs.summary.statistics.Given as goal
 
 abbrev pub invariant-loop-next : goal.invariant-loop-next

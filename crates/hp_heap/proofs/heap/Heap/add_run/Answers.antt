@@ -12,6 +12,7 @@ use Rattle.hp_heap.specs.History.{after_entry}
 use Rattle.hp_heap.specs.Inside.{plain_of}
 use Rattle.hp_heap.proofs.GrowLaw.{grow-tiled}
 use Rattle.hp_heap.proofs.AddingLemmas.{run_fits, run_least, grow_ranges, grow_insertions, grow-kept}
+use Rattle.hp_heap.proofs.NotedPages.{noted_grown}
 use Rattle.hp_heap.proofs.HeapLaw.{IsNext, next_heap, next_call, joinable_of}
 use Rattle.hp_heap.proofs.heap.Heap.add_run.Goals as goal
 use Rattle.hp_heap.proofs.heap.Heap.add_run.Goals.{After-self-1}
@@ -32,9 +33,15 @@ insert_new-requires-clause-fits c =
 pub insert_new-requires-clause-joinable : goal.insert_new-requires-clause-joinable
 insert_new-requires-clause-joinable c = joinable_of c.self.inside c.self.invariant
 
+pub note-requires-clause-base : goal.note-requires-clause-base
+note-requires-clause-base c = (subst (λ heap. CanGrow c.args.run.now heap) (sym (ap (λ v. v.plain) c.self.view_is)) c.requires.allowed).base
+
+pub note-requires-clause-room : goal.note-requires-clause-room
+note-requires-clause-room c = omega (arith, c.self.invariant.room_lists, c.requires.spare, ap (λ v. v.spare) c.self.view_is)
+
 -- the fields afterwards, and the entry
 after_call : After-self-1 → Inside
-after_call c = record c.self.inside { headers = c.insert_new.new.headers; history = c.record.new.history; spare = c.self.inside.spare - 1 }
+after_call c = record c.self.inside { headers = c.insert_new.new.headers; page_lists = c.note.new.lists; history = c.record.new.history; spare = c.self.inside.spare - 1 }
 
 entry_of : After-self-1 → Entry
 entry_of c = record { caller = c.args.caller; call = Grow c.args.run.now; answer = Done }
@@ -55,10 +62,12 @@ is_next c = record {
   name = c.self.invariant.name ∙ (grow-kept (plain_of c.self.inside) c.args.run.now).name;
   socket = c.self.invariant.socket ∙ (grow-kept (plain_of c.self.inside) c.args.run.now).socket;
   chunks = c.self.invariant.chunks ∙ (grow-kept (plain_of c.self.inside) c.args.run.now).chunks;
+  lists = noted_grown (plain_of c.self.inside) c.args.run.now (can c) c.self.inside.page_lists.items c.note.new.lists.items c.note.ensures.noted c.self.invariant.lists;
   tiled = grow-tiled (plain_of c.self.inside) c.args.run.now c.self.invariant.tiled (can c);
   counted = omega (arith, c.insert_new.ensures.insertions, c.self.invariant.counted, c.record.ensures.len);
   room = omega (arith, c.insert_new.ensures.spare, c.self.invariant.room, spare_some c);
   room_history = omega (arith, c.record.ensures.len, c.record.ensures.room, c.self.invariant.room_history, spare_some c);
+  room_lists = omega (arith, c.note.ensures.len, c.note.ensures.capacity, c.self.invariant.room_lists, spare_some c);
 }
   where
     spare_some : (c : After-self-1) → 1 ≤ c.self.inside.spare

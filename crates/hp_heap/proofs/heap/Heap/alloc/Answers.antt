@@ -7,8 +7,9 @@ use Rattle.hp_heap.specs.Placing.{after_alloc, IsPlacedIn}
 use Rattle.hp_heap.specs.Step.{after, answer_of, address_answer}
 use Rattle.hp_heap.specs.History.{after_entry}
 use Rattle.hp_heap.specs.Inside.{plain_of}
+use Rattle.hp_heap.specs.PageLists.{AreNoted}
 use Rattle.hp_heap.proofs.AllocLaw.{alloc-tiled, allocated-is}
-use Rattle.hp_heap.proofs.AllocKept.{IsKeptByAlloc, alloc_kept}
+use Rattle.hp_heap.proofs.AllocKept.{SameButElements, alloc_kept}
 use Rattle.hp_heap.proofs.ChosenLemmas.{IsAfter, alloc_after}
 use Rattle.hp_heap.proofs.HeapLaw.{IsNext, next_heap, next_call, room_of}
 use Rattle.hp_heap.proofs.heap.Heap.alloc.Goals as goal
@@ -43,16 +44,18 @@ is_next c = record {
   name = c.self.invariant.name ∙ sym (kept c).name;
   socket = c.self.invariant.socket ∙ sym (kept c).socket;
   chunks = c.self.invariant.chunks ∙ sym (kept c).chunks;
+  lists = subst (λ ps. AreNoted ps c.self.inside.page_lists.items) (sym (kept c).pages) c.self.invariant.lists;
   tiled = alloc-tiled (plain_of c.self.inside) c.args.caller.participant c.args.req.now c.args.tag c.self.invariant.tiled;
   counted = omega (arith, c.allocate-address.ensures.more, c.self.invariant.counted, c.record.ensures.len);
   room = omega (arith, c.allocate-address.ensures.spare, c.self.invariant.room, spare_some c);
   room_history = omega (arith, c.record.ensures.len, c.record.ensures.room, c.self.invariant.room_history, spare_some c);
+  room_lists = omega (arith, c.self.invariant.room_lists, spare_some c);
 }
   where
     spare_some : (c : After-self-1) → 1 ≤ c.self.inside.spare
     spare_some c = omega (arith, c.requires.spare, ap (λ v. v.spare) c.self.view_is)
 
-    kept : (c : After-self-1) → IsKeptByAlloc (plain_of c.self.inside) (after_alloc c.args.caller.participant c.args.req.now c.args.tag (plain_of c.self.inside))
+    kept : (c : After-self-1) → SameButElements (plain_of c.self.inside) (after_alloc c.args.caller.participant c.args.req.now c.args.tag (plain_of c.self.inside))
     kept c = alloc_kept (plain_of c.self.inside) c.args.caller.participant c.args.req.now c.args.tag
 
 pub invariant_of-self : goal.invariant_of-self

@@ -1,4 +1,4 @@
-use Rattle.std.proofs.Common.{◌≡◌, ◌-◌, ◌≤◌, ◌++◌, ◌∷◌, [], false, refl, ap, ◌∙◌, arith}
+use Rattle.std.proofs.Common.{◌≡◌, ◌-◌, ◌≤◌, ◌++◌, ◌∷◌, [], false, refl, ap, subst, ◌∙◌, arith}
 use Rattle.std.proofs.lemmas.Bool.{false≢true}
 use Rattle.std.specs.List.{find}
 use Rattle.std.specs.Result.{result_err}
@@ -7,6 +7,7 @@ use Rattle.hp_heap.specs.declared.entry.Entry.{Entry}
 use Rattle.hp_heap.specs.declared.entry.HeapCall.TheVariants.{Free}
 use Rattle.hp_heap.specs.Joining.{after_free, has_data_at}
 use Rattle.hp_heap.specs.Headers.{spans_of}
+use Rattle.hp_heap.specs.PageLists.{AreNoted}
 use Rattle.hp_heap.specs.Freeing.{fault_answer, free_fault}
 use Rattle.hp_heap.specs.Step.{after, answer_of}
 use Rattle.hp_heap.specs.History.{after_entry}
@@ -48,6 +49,7 @@ is_next c = record {
   name = c.self.invariant.name ∙ (after_free-kept (plain_of c.self.inside) c.args.addr false).name;
   socket = c.self.invariant.socket ∙ (after_free-kept (plain_of c.self.inside) c.args.addr false).socket;
   chunks = c.self.invariant.chunks ∙ (after_free-kept (plain_of c.self.inside) c.args.addr false).chunks;
+  lists = subst (λ ps. AreNoted ps c.self.inside.page_lists.items) (after_free-kept (plain_of c.self.inside) c.args.addr false).pages c.self.invariant.lists;
   tiled = free-tiled c.args.addr false (plain_of c.self.inside) c.self.invariant.tiled;
   counted = omega (
     arith,
@@ -57,6 +59,7 @@ is_next c = record {
   );
   room = omega (arith, c.release-freed.ensures.spare, c.self.invariant.room, spare_some c);
   room_history = omega (arith, c.record.ensures.len, c.record.ensures.room, c.self.invariant.room_history, spare_some c);
+  room_lists = omega (arith, c.self.invariant.room_lists, spare_some c);
 }
 
 pub invariant_of-self : goal.invariant_of-self

@@ -6,6 +6,7 @@ use Rattle.hp_heap.specs.declared.entry.HeapCall.TheVariants.{Free}
 use Rattle.hp_heap.specs.declared.entry.HeapAnswer.TheVariants.{Done}
 use Rattle.hp_heap.specs.Joining.{after_free, has_data_at, HasZoneAt}
 use Rattle.hp_heap.specs.Headers.{spans_of}
+use Rattle.hp_heap.specs.PageLists.{AreNoted}
 use Rattle.hp_heap.specs.Step.{after, answer_of}
 use Rattle.hp_heap.specs.History.{after_entry}
 use Rattle.hp_heap.specs.Inside.{plain_of}
@@ -45,6 +46,7 @@ is_next c = record {
   name = c.self.invariant.name ∙ (after_free-kept (plain_of c.self.inside) c.args.addr true).name;
   socket = c.self.invariant.socket ∙ (after_free-kept (plain_of c.self.inside) c.args.addr true).socket;
   chunks = c.self.invariant.chunks ∙ (after_free-kept (plain_of c.self.inside) c.args.addr true).chunks;
+  lists = subst (λ ps. AreNoted ps c.self.inside.page_lists.items) (after_free-kept (plain_of c.self.inside) c.args.addr true).pages c.self.invariant.lists;
   tiled = free-tiled c.args.addr true (plain_of c.self.inside) c.self.invariant.tiled;
   counted = omega (
     arith,
@@ -54,6 +56,7 @@ is_next c = record {
   );
   room = omega (arith, c.release.ensures.spare, c.self.invariant.room, spare_some c);
   room_history = omega (arith, c.record.ensures.len, c.record.ensures.room, c.self.invariant.room_history, spare_some c);
+  room_lists = omega (arith, c.self.invariant.room_lists, spare_some c);
 }
 
 pub invariant_of-self : goal.invariant_of-self

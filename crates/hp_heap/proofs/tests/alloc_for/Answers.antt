@@ -2,7 +2,7 @@ use Rattle.std.proofs.Common.{sym, subst}
 use Rattle.hp_heap.specs.Growing.{IsGrownTo}
 use Rattle.hp_heap.specs.Step.{after}
 use Rattle.hp_heap.proofs.Growths.{grown_alloc}
-use Rattle.hp_heap.proofs.tests.alloc.Goals as goal
+use Rattle.hp_heap.proofs.tests.alloc_for.Goals as goal
 
 pub returns-clause-grown : goal.returns-clause-grown
 unfolding after
