@@ -1,5 +1,5 @@
 -- What an accepted participant line says: an allocation comes of the verb `alloc` alone, with the label, the size and the options that stand in its fields.
-use Rattle.std.proofs.Common.{◌≡◌, ℕ, ◌<◌, ◌≤◌, ◌^◌, arith, Bool, true, false, List, [], ◌∷◌, length, refl, cond, ◌⊎◌, inl, inr}
+use Rattle.std.proofs.Common.{◌≡◌, ℕ, ◌<◌, ◌≤◌, ◌^◌, arith, Bool, true, false, List, [], ◌∷◌, length, refl, sym, cond, ◌⊎◌, inl, inr}
 use Rattle.std.specs.Prelude.{Some, Result, Ok, Err, IfOk, nat_lt, not, ⊤}
 use Rattle.std.proofs.lemmas.Bool.Decides.{nat_tests}
 use Rattle.hp_script.specs.Part.{Part}
@@ -8,6 +8,7 @@ use Rattle.hp_script.specs.Judge.{is_within, number_field, party_field}
 use Rattle.hp_script.specs.Options.{options_of}
 use Rattle.hp_script.specs.Facts.{IsActOf, IsRange}
 use Rattle.hp_base.specs.declared.limits.TheConstants.{MAX_PARTICIPANTS}
+use Rattle.hp_script.specs.ActVerbs.{verb_of}
 use Rattle.hp_script.specs.Verbs.{verb_named}
 use Rattle.hp_script.specs.ShapesMemory.{alloc_line, zone_line, resize_line}
 use Rattle.hp_script.specs.ShapesHeaps.{name_act, name_line, range_act, range_line, add_line}
@@ -31,7 +32,6 @@ use Rattle.hp_script.specs.declared.shape.Shape.TheVariants.{Setup, Does, Awaits
 use Rattle.hp_script.proofs.NumberLemmas.{number_fits}
 use Rattle.hp_script.proofs.OptionFacts.{options_valid}
 use Rattle.hp_script.proofs.StepLemmas.{through, passed, present, answered}
-use Rattle.hp_script.proofs.LabelLemmas.{is_alloc}
 use Rattle.hp_script.proofs.SetupRanges.{SaysSetup, setup_line_says}
 
 -- the allocation that fields behind a participant say
@@ -44,10 +44,10 @@ pub record IsAllocOf (p : Part) (v : Verb) (arguments : List Part) (party : ℕ)
   pub fits : size < 2 ^ 64
   pub given : options_of words ≡ Some options
 
--- an act is such an allocation, or comes of another verb
+-- an act comes of its verb, and an allocation of such fields
 abbrev pub IsMadeBy : Part → Verb → List Part → ℕ → Act → Type 0
 IsMadeBy p v arguments party (act.Alloc label size options) = IsAllocOf p v arguments party label size options
-IsMadeBy p v arguments party _ = is_alloc (Some v) ≡ false
+IsMadeBy p v arguments party deed = verb_of deed ≡ v
 
 -- an act awaits nothing
 abbrev pub DoesNotAwait : Act → Type 0
@@ -58,7 +58,7 @@ DoesNotAwait _ = ⊤
 abbrev pub SaysAct : Part → Verb → List Part → Shape → Type 0
 SaysAct p v arguments (Setup setup) = ⊥
 SaysAct p v arguments (Does party deed) = IsMadeBy p v arguments party deed × IsActOf party deed × DoesNotAwait deed
-SaysAct p v arguments (Awaits party other k) = (is_alloc (Some v) ≡ false) × (1 ≤ k)
+SaysAct p v arguments (Awaits party other k) = (v ≡ verb.Await) × (1 ≤ k)
 
 module _ (p : Part) where
   alloc_says : (arguments : List Part) → IfOk (alloc_line p arguments) (SaysAct p verb.Alloc arguments)
@@ -149,15 +149,15 @@ module _ (p : Part) where
       (refl, ((rw addr_is at (number_fits a.text), rw len_is at (number_fits n.text)), rw page_is at (number_fits size.text)), tt)))))
   add_says (heap ∷ a ∷ n ∷ size ∷ other ∷ others) = tt
 
+  member_act_is : (call : MemberCall) (party : ℕ) → (1 ≤ party) × (party < MAX_PARTICIPANTS) → IsMadeBy p (verb.Member call) [] party (member_act call) × IsActOf party (member_act call) × DoesNotAwait (member_act call)
+  member_act_is member_call.Attach party within = (refl, within, tt)
+  member_act_is member_call.Detach party within = (refl, within, tt)
+
   member_says : (call : MemberCall) (arguments : List Part) → IfOk (member_line call p arguments) (SaysAct p (verb.Member call) arguments)
   unfolding member_line
   member_says call [] =
       through (party_field p) _ _ (λ party _.
       passed (not (is_within 1 15 party)) bad.Range _ _ (λ within. member_act_is call party (grind (arith, nat_tests, within), grind (arith, nat_tests, within))))
-    where
-      member_act_is : (some : MemberCall) (party : ℕ) → (1 ≤ party) × (party < MAX_PARTICIPANTS) → IsMadeBy p (verb.Member call) [] party (member_act some) × IsActOf party (member_act some) × DoesNotAwait (member_act some)
-      member_act_is member_call.Attach party within = (refl, within, tt)
-      member_act_is member_call.Detach party within = (refl, within, tt)
   member_says call (other ∷ others) = tt
 
   limit_says : (arguments : List Part) → IfOk (limit_line p arguments) (SaysAct p verb.Limit arguments)
@@ -240,3 +240,27 @@ shape_says first others said same = chosen (is_participant_line first) refl same
     chosen : (test : Bool) → is_participant_line first ≡ test → cond test (participant_line first others) (setup_line first others) ≡ Ok said → SaysBy first others said
     chosen true is shape = inl (is, answered (IsCall first others) (participant_line first others) said shape (participant_line_says first others))
     chosen false is shape = inr (is, answered (SaysSetup first others) (setup_line first others) said shape (setup_line_says first others))
+
+-- an act comes of its verb
+pub verb_made : (p : Part) (v : Verb) (arguments : List Part) (party : ℕ) (deed : Act) → IsMadeBy p v arguments party deed → verb_of deed ≡ v
+verb_made p v arguments party (act.Alloc label size options) is = sym is.verb_is
+verb_made p v arguments party (act.Free label) is = is
+verb_made p v arguments party (act.Resize label size) is = is
+verb_made p v arguments party (act.Zone name len options) is = is
+verb_made p v arguments party (act.Lookup name) is = is
+verb_made p v arguments party (act.Unzone name) is = is
+verb_made p v arguments party act.Attach is = is
+verb_made p v arguments party act.Detach is = is
+verb_made p v arguments party (act.Heap name) is = is
+verb_made p v arguments party (act.Unheap name) is = is
+verb_made p v arguments party (act.Add heap addr len page) is = is
+verb_made p v arguments party (act.Remove heap addr len) is = is
+verb_made p v arguments party (act.Map heap addr len) is = is
+verb_made p v arguments party (act.Unmap heap addr len) is = is
+verb_made p v arguments party (act.Watch name) is = is
+verb_made p v arguments party (act.Unwatch name) is = is
+verb_made p v arguments party (act.Limit name socket bytes allow) is = is
+verb_made p v arguments party (act.Unlimit name socket) is = is
+verb_made p v arguments party (act.Await other lines) is = is
+verb_made p v arguments party (act.Dump heap) is = is
+verb_made p v arguments party (act.Stats heap) is = is

@@ -7,6 +7,7 @@ use Rattle.std.specs.List.{AllByRecursion, find}
 use Rattle.std.proofs.lemmas.List.Elements.{All-nil, All-cons, All-head, All-tail}
 use Rattle.std.proofs.lemmas.Grind.{common_steps}
 use Rattle.hp_base.specs.declared.plan_entry.PlanEntry.{PlanEntry}
+use denote.Ref.{Bor}
 use Rattle.hp_script.specs.Later.{is_built_act, first_act, entry_line, earlier, later_line}
 use Rattle.hp_script.specs.Limits.{AreDeclared}
 use Rattle.hp_script.specs.Facts.{IsActOf, IsLineOf}
@@ -88,12 +89,13 @@ built_lines (line ∷ lines) declared acts built =
 pub built_when_none_later : (bytes : List ℕ) (workload : Workload) → IsReadAs bytes workload → later_line workload.later workload.plan.items workload.lines.items ≡ None → IsBuilt workload
 built_when_none_later bytes workload read none =
     let is = read.workload_is in
-    let setup = reading_setup bytes read.read read.whole in
+    let text : Bor (List ℕ) = record { ref_ptr = read.at; now = bytes } in
+    let setup = reading_setup text read.read read.whole in
     let three = none_of_three workload.later workload.plan.items workload.lines.items none in
     let alone = setup.alone (sym is.later ∙ three.setup) in
     let one : unwrap_or read.read.participants 1 ≡ 1 = ap (λ (n : Option ℕ). unwrap_or n 1) alone.0 in
-    let declared : AreDeclared 1 read.read.lines = rw one at (reading_declared bytes read.read read.whole) in
-    let acts = to_each IsLineOf read.read.lines (reading_facts bytes read.read read.whole).acts in
+    let declared : AreDeclared 1 read.read.lines = rw one at (reading_declared text read.read read.whole) in
+    let acts = to_each IsLineOf read.read.lines (reading_facts text read.read read.whole).acts in
     let built : AllByRecursion (λ line. is_built_act line.act ≡ true) read.read.lines = all_built read.read.lines (rw is.lines at three.acts) in
     record {
       alone = is.participants ∙ one;

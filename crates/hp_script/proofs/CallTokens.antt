@@ -2,6 +2,7 @@
 use Rattle.std.proofs.Common.{◌≡◌, ℕ, ◌+◌, List, [], ◌∷◌, length, refl, ◌⊎◌, inl, inr}
 use Rattle.std.specs.Prelude.{Option, Some, None, Result, Ok, Err, IfOk, nat_lt}
 use Rattle.std.specs.Option.{ok_or}
+use denote.Ref.{Bor}
 use Rattle.hp_script.specs.Part.{Part}
 use Rattle.hp_script.specs.Judge.{refuse, number_field, party_field}
 use Rattle.hp_script.specs.Options.{options_of}
@@ -37,10 +38,10 @@ shape_tokens (Does party act) = tokens_of act
 shape_tokens (Awaits party other lines) = []
 
 -- its tokens are slices between two places
-abbrev pub SaysSlices : List ℕ → ℕ → ℕ → Shape → Type 0
+abbrev pub SaysSlices : Bor (List ℕ) → ℕ → ℕ → Shape → Type 0
 SaysSlices bytes a b said = AreSlices bytes a b (shape_tokens said)
 
-module _ (bytes : List ℕ) (a b : ℕ) where
+module _ (bytes : Bor (List ℕ)) (a b : ℕ) where
   -- the only token is the first field
   pub only_first : (first : Part) (others : List Part) → AreSlices bytes a b (first ∷ others) → AreSlices bytes a b (first ∷ [])
   only_first first others slices = (slices.0, slices.1, bounds bytes (first.start + length first.text) b others slices.2)

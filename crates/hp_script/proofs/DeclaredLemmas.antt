@@ -1,12 +1,13 @@
 -- Each participant line of a workload is of a declared participant.
 use Rattle.std.proofs.Common.{◌≡◌, ℕ, ◌<◌, List, [], ◌∷◌, ◌++◌, ◌∙◌, inl, inr, arith}
 use Rattle.std.specs.Prelude.{Ok, ⊤, unwrap_or}
+use denote.Ref.{Bor}
 use Rattle.hp_script.specs.Part.{Part}
 use Rattle.hp_script.specs.Text.{lines_of, fields_of}
 use Rattle.hp_script.specs.Makers.{Makers, makers_of}
 use Rattle.hp_script.specs.Setups.{nothing, with_later, setup_step}
 use Rattle.hp_script.specs.Reading.{with_written, read_line}
-use Rattle.hp_script.specs.Workloads.{reading_of}
+use Rattle.hp_script.specs.Workloads.{reading_at}
 use Rattle.hp_script.specs.Limits.{AreDeclared}
 use Rattle.hp_script.specs.declared.line.Act.{Act}
 use Rattle.hp_script.specs.declared.line.Act.TheVariants as act
@@ -50,7 +51,7 @@ module _ (makers : Makers) where
       ]
 
 -- each line of what is read of a text is of a declared participant
-pub reading_declared : (bytes : List ℕ) (read : Reader) → reading_of bytes ≡ Ok read → AreDeclared (unwrap_or read.participants 1) read.lines
-unfolding reading_of
+pub reading_declared : (bytes : Bor (List ℕ)) (read : Reader) → reading_at bytes ≡ Ok read → AreDeclared (unwrap_or read.participants 1) read.lines
+unfolding reading_at
 reading_declared bytes read same =
     along (makers_of (lines_of bytes)) (λ _ some. HasDeclared some) (λ _ _. ⊤) (line_declared (makers_of (lines_of bytes))) (lines_of bytes) nothing read 1 (λ i d within. tt) tt same

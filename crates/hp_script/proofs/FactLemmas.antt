@@ -4,6 +4,7 @@ use Rattle.std.specs.Prelude.{Ok, All, ⊤, unwrap_or}
 use Rattle.std.proofs.lemmas.List.{append-nil, append_assoc}
 use Rattle.std.proofs.lemmas.List.Elements.{All-push}
 use Rattle.std.proofs.lemmas.Bool.Decides.{nat_tests}
+use denote.Ref.{Bor}
 use Rattle.hp_script.specs.Part.{Part}
 use Rattle.hp_script.specs.Text.{lines_of, fields_of}
 use Rattle.hp_script.specs.Counts.{lines_by}
@@ -12,7 +13,7 @@ use Rattle.hp_script.specs.Makers.{Makers, makers_of}
 use Rattle.hp_script.specs.Setups.{nothing, with_later, setup_step}
 use Rattle.hp_script.specs.Shapes.{shape_of}
 use Rattle.hp_script.specs.Reading.{with_written, read_line}
-use Rattle.hp_script.specs.Workloads.{reading_of}
+use Rattle.hp_script.specs.Workloads.{reading_at}
 use Rattle.hp_script.specs.declared.line.Act.{Act}
 use Rattle.hp_script.specs.declared.line.Act.TheVariants as act
 use Rattle.hp_script.specs.declared.line.Line.{Line}
@@ -81,7 +82,7 @@ module _ (makers : Makers) where
       ]
 
 -- the facts of the lines of an accepted text
-pub reading_facts : (bytes : List ℕ) (read : Reader) → reading_of bytes ≡ Ok read → HasFacts read
-unfolding reading_of
+pub reading_facts : (bytes : Bor (List ℕ)) (read : Reader) → reading_at bytes ≡ Ok read → HasFacts read
+unfolding reading_at
 reading_facts bytes read same =
     along (makers_of (lines_of bytes)) (λ _ some. HasFacts some) (λ _ _. ⊤) (line_facts (makers_of (lines_of bytes))) (lines_of bytes) nothing read 1 (λ i d within. tt) (none_facts nothing refl) same

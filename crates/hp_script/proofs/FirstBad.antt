@@ -1,12 +1,13 @@
 -- A text that is not read has a first bad line.
 use Rattle.std.proofs.Common.{◌≡◌, ℕ, ◌+◌, List, [], ◌∷◌, refl, ap, inl, inr, arith}
 use Rattle.std.specs.Prelude.{Result, Ok, Err}
+use denote.Ref.{Bor}
 use Rattle.hp_script.specs.Part.{Part}
 use Rattle.hp_script.specs.Text.{lines_of}
 use Rattle.hp_script.specs.Makers.{Makers, makers_of}
 use Rattle.hp_script.specs.Setups.{nothing}
 use Rattle.hp_script.specs.Reading.{read_line}
-use Rattle.hp_script.specs.Workloads.{Refusal, IsFirstBad, NamesFirstBad, IsRefusalOf, read_from, reading_of}
+use Rattle.hp_script.specs.Workloads.{Refusal, IsFirstBad, NamesFirstBad, IsRefusalOf, read_from, reading_at}
 use Rattle.hp_script.specs.declared.bad_kind.BadKind.{BadKind}
 use Rattle.hp_script.specs.declared.parse_fault.ParseFault.{ParseFault}
 use Rattle.hp_script.specs.declared.parse_fault.ParseFault.TheVariants as parse_fault
@@ -51,7 +52,7 @@ module _ (makers : Makers) (number : ℕ) (kind : BadKind) where
       }
 
 -- the first refusal of a text is that of its first bad line
-pub names_first_bad : (bytes : List ℕ) (fault : ParseFault) → IsRefusalOf (reading_of bytes) fault → NamesFirstBad bytes fault
-unfolding reading_of
+pub names_first_bad : (bytes : Bor (List ℕ)) (fault : ParseFault) → IsRefusalOf (reading_at bytes) fault → NamesFirstBad bytes fault
+unfolding reading_at
 names_first_bad bytes (parse_fault.Bad line kind) same = first_bad (makers_of (lines_of bytes)) line kind (lines_of bytes) nothing 1 same
 names_first_bad bytes parse_fault.OutOfMemory same = tt

@@ -4,6 +4,7 @@ use Rattle.std.specs.Prelude.{Option, Some, None, IfSome, codes, nat_eq, nat_lt,
 use Rattle.std.specs.Option.{option_map}
 use Rattle.std.specs.List.{starts_with}
 use Rattle.std.proofs.lemmas.List.{length-drop}
+use denote.Ref.{Bor}
 use Rattle.hp_script.specs.Part.{Part, behind, has_front}
 use Rattle.hp_script.specs.Options.{with_socket, with_heap, with_align, with_bound, with_flags, with_option, given_by, nothing_given, settled, options_of, socket_choice, number_given}
 use Rattle.hp_script.specs.Spans.{AreSlices, heap_tokens}
@@ -85,7 +86,7 @@ option_keeps given word =
           ])
     ]
 
-module _ (bytes : List ℕ) (a : ℕ) where
+module _ (bytes : Bor (List ℕ)) (a : ℕ) where
   -- one word more
   word_slices : (at b : ℕ) (given more : Given) (word : Part) (words : List Part) → KeepsOrGives given word more → AreSlices bytes a at (heap_tokens given.heap)
       → AreSlices bytes at b (word ∷ words) → AreSlices bytes a (word.start + length word.text) (heap_tokens more.heap)
@@ -94,7 +95,7 @@ module _ (bytes : List ℕ) (a : ℕ) where
   word_slices at b given more word words (inr gives) before slices =
       let start = bounds bytes a at (heap_tokens given.heap) before in
       let len : length (drop 5 word.text) ≡ length word.text - 5 = length-drop 5 word.text in
-      rw gives.1 (omega (arith, start, slices.0), behind_slice bytes word.start 5 word.text gives.0 slices.1, omega (arith, len, gives.0))
+      rw gives.1 (omega (arith, start, slices.0), behind_slice bytes 5 word gives.0 slices.1, omega (arith, len, gives.0))
 
   given_slices : (words : List Part) (at b : ℕ) (given : Given) → AreSlices bytes a at (heap_tokens given.heap) → AreSlices bytes at b words
       → IfSome (given_by given words) (λ more. AreSlices bytes a b (heap_tokens more.heap))

@@ -1,7 +1,6 @@
 -- The line of an accepted text that makes a label is among the makers of the text.
 use Rattle.std.proofs.Common.{◌≡◌, ℕ, suc, zero, ◌+◌, ◌<◌, ◌≤◌, Bool, true, false, ◌&&◌, List, [], ◌∷◌, length, get_or, refl, sym, ap, ◌∙◌, cond, arith}
 use Rattle.std.specs.Prelude.{Option, Some, None, codes, not}
-use Rattle.std.specs.Option.{option_or}
 use Rattle.std.specs.List.{list_all}
 use Rattle.std.specs.Map.{lookup}
 use Rattle.std.proofs.lemmas.Slice.Eq.{bytes_eq-Decides}
@@ -9,7 +8,7 @@ use Rattle.hp_script.specs.Part.{Part, is_word}
 use Rattle.hp_script.specs.Makers.{is_maker, first_maker}
 use Rattle.hp_script.specs.Text.{fields_of}
 use Rattle.hp_script.specs.Shapes.{is_participant_line}
-use Rattle.hp_script.specs.Verbs.{memory_verbs, heap_verbs, member_verbs, verb_named}
+use Rattle.hp_script.specs.Verbs.{verbs, verb_named}
 use Rattle.hp_script.specs.declared.verb.Verb.{Verb}
 use Rattle.hp_script.specs.declared.verb.Verb.TheVariants.{Alloc}
 
@@ -31,27 +30,21 @@ others_only p (entry ∷ verbs) others = chosen (p entry.0) (is_alloc (Some entr
     chosen true false rest is both further = is
     chosen false false rest is both further = further both
 
-either_none : (first second : Option Verb) → is_alloc first ≡ false → is_alloc second ≡ false → is_alloc (option_or first second) ≡ false
-either_none None second none other = other
-either_none (Some v) second none other = none
-
 -- only the word `alloc` names the verb
 pub alloc_word : (word : Part) → verb_named word ≡ Some Alloc → is_word (codes "alloc") word ≡ true
 unfolding verb_named
 alloc_word word named = chosen (is_word (codes "alloc") word) refl
   where
+    behind : List (List ℕ × Verb) → List (List ℕ × Verb)
+    behind [] = []
+    behind (entry ∷ entries) = entries
+
     chosen : (test : Bool) → is_word (codes "alloc") word ≡ test → test ≡ true
     chosen true is = refl
     chosen false is =
         let p : List ℕ → Bool = λ verb. is_word verb word in
-        let memory : is_alloc (lookup p memory_verbs) ≡ false = rw is (others_only p (memory_rest memory_verbs) refl) in
-        let none = either_none (option_or (lookup p memory_verbs) (lookup p heap_verbs)) (lookup p member_verbs)
-        (either_none (lookup p memory_verbs) (lookup p heap_verbs) memory (others_only p heap_verbs refl)) (others_only p member_verbs refl) in
+        let none : is_alloc (lookup p verbs) ≡ false = rw is (others_only p (behind verbs) refl) in
         absurd (let alloc : is_alloc (Some Alloc) ≡ false = ap is_alloc (sym named) ∙ none in cc)
-      where
-        memory_rest : List (List ℕ × Verb) → List (List ℕ × Verb)
-        memory_rest [] = []
-        memory_rest (entry ∷ verbs) = verbs
 
 -- a line with such fields makes the label
 pub label_maker : (verb : List ℕ) (line first word label : Part) (others : List Part) → fields_of line ≡ first ∷ word ∷ label ∷ others → is_participant_line first ≡ true → is_word verb word ≡ true

@@ -1,4 +1,5 @@
 pub mod NumberLemmas
+pub mod PartLemmas
 pub mod TextLemmas
 pub mod WordLemmas
 pub mod TokensLemmas
@@ -21,3 +22,7 @@ pub mod PoolLemmas
 pub mod LabelLemmas
 pub mod LineLemmas
 pub mod BuiltLemmas
+pub mod MadeLemmas
+pub mod LawLemmas
+pub mod OnceLemmas
+pub mod MovedLemmas

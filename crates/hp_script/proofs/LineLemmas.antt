@@ -5,6 +5,7 @@ use Rattle.std.specs.Option.{option_map_or}
 use Rattle.std.proofs.lemmas.List.Elements.{All-push}
 use Rattle.std.proofs.lemmas.List.Quantifiers.{all_pairs_push}
 use Rattle.std.proofs.lemmas.Bool.Decides.{nat_tests}
+use denote.Ref.{Bor}
 use Rattle.hp_script.specs.Part.{Part}
 use Rattle.hp_script.specs.Text.{lines_of, fields_of}
 use Rattle.hp_script.specs.Acts.{label_made, is_duplicate}
@@ -14,7 +15,7 @@ use Rattle.hp_script.specs.Makers.{Makers, makers_of, is_maker, is_taken, is_ear
 use Rattle.hp_script.specs.Setups.{nothing, with_later, setup_step}
 use Rattle.hp_script.specs.Shapes.{is_participant_line, shape_of}
 use Rattle.hp_script.specs.Reading.{with_written, read_line}
-use Rattle.hp_script.specs.Workloads.{reading_of}
+use Rattle.hp_script.specs.Workloads.{reading_at}
 use Rattle.hp_script.specs.declared.line.Act.{Act}
 use Rattle.hp_script.specs.declared.line.Act.TheVariants as act
 use Rattle.hp_script.specs.declared.line.Line.{Line}
@@ -139,8 +140,8 @@ module _ (makers : Makers) where
       ]
 
 -- the participant lines of an accepted text
-pub reading_lines : (bytes : List ℕ) (read : Reader) → reading_of bytes ≡ Ok read → AreParticipantLines read.lines
-unfolding reading_of
+pub reading_lines : (bytes : Bor (List ℕ)) (read : Reader) → reading_at bytes ≡ Ok read → AreParticipantLines read.lines
+unfolding reading_at
 reading_lines bytes read same =
     (along makers (HasLines makers) (AreKnown makers) (line_lines makers) lines nothing read 1 (λ i d within name makes. maker_known (codes "alloc") lines 1 i d name within makes) none same).keeps
   where

@@ -1,44 +1,56 @@
 -- The first lines that make names, as far as a loop has come.
-use Rattle.std.proofs.Common.{◌≡◌, ℕ, ◌+◌, ◌<◌, Bool, true, false, List, [], ◌∷◌, ◌++◌, length, take, get_or, refl, sym, ap, ◌∙◌, arith}
+use Rattle.std.proofs.Common.{◌≡◌, ℕ, ◌+◌, Bool, true, false, List, [], ◌∷◌, length, refl, ap, ◌∙◌, arith}
 use Rattle.std.specs.Prelude.{Option, Some, None, cond}
 use mathlib.Core.Path.{fun_ext}
+use Rattle.std.specs.HashMap.{hash_map_len}
+use Rattle.std.specs.Map.{lookup}
 use Rattle.std.specs.Option.{option_or}
-use Rattle.std.proofs.lemmas.List.{length-take-le, take_more}
 use Rattle.hp_script.specs.Part.{Part}
-use Rattle.hp_script.specs.Makers.{Makers, is_maker, first_maker}
+use Rattle.hp_script.specs.Text.{is_call}
+use Rattle.hp_script.specs.Shapes.{is_participant_line}
+use Rattle.hp_script.specs.Makers.{Makers, made_by, is_maker, first_maker}
 use Rattle.hp_script.specs.Made.{Notes}
+use Rattle.hp_script.specs.Known.{line_known}
+use Rattle.hp_script.specs.declared.first_lines.FirstLines.{FirstLines}
 
-choose_first : (b : Bool) (number : ℕ) (rest front last : Option ℕ) → rest ≡ option_or front last → cond b (Some number) rest ≡ option_or (cond b (Some number) front) last
-choose_first true number rest front last same = refl
-choose_first false number rest front last same = same
+-- a line is noted, and the lines behind it are left
+pub noted_more : (verb : List ℕ) (line : Part) (lines : List Part) (number : ℕ) (old new all : List ℕ → Option ℕ)
+    → ((name : List ℕ) → option_or (old name) (first_maker verb (line ∷ lines) number name) ≡ all name) → Notes verb line number old new
+    → (name : List ℕ) → option_or (new name) (first_maker verb lines (number + 1) name) ≡ all name
+noted_more verb line lines number old new all so_far notes name =
+    ap (λ first. option_or first (first_maker verb lines (number + 1) name)) (notes name) ∙ moved (old name) (is_maker verb name line) ∙ so_far name
+  where
+    moved : (first : Option ℕ) (makes : Bool) → option_or (option_or first (cond makes (Some number) None)) (first_maker verb lines (number + 1) name)
+        ≡ option_or first (cond makes (Some number) (first_maker verb lines (number + 1) name))
+    moved None true = refl
+    moved None false = refl
+    moved (Some earlier) makes = refl
 
--- one line more
-first_maker-push : (verb : List ℕ) (lines : List Part) (line : Part) (number : ℕ) (name : List ℕ)
-    → first_maker verb (lines ++ line ∷ []) number name ≡ option_or (first_maker verb lines number name) (cond (is_maker verb name line) (Some (number + length lines)) None)
-first_maker-push verb [] line number name =
-    let same : number + 0 ≡ number = omega arith in rw same refl
-first_maker-push verb (first ∷ lines) line number name =
-    let further = first_maker-push verb lines line (number + 1) name in
-    let count : number + 1 + length lines ≡ number + length (first ∷ lines) = omega arith in
-    choose_first (is_maker verb name first) number _ _ _
-    (further ∙ ap (λ (m : ℕ). option_or (first_maker verb lines (number + 1) name) (cond (is_maker verb name line) (Some m) None)) count)
-
--- the lines so far and the next, which is noted
-pub noted_more : (verb : List ℕ) (lines : List Part) (i : ℕ) (line : Part) (old new : List ℕ → Option ℕ) → i < length lines → line ≡ get_or lines i line
-    → ((name : List ℕ) → old name ≡ first_maker verb (take i lines) 1 name) → Notes verb line (i + 1) old new
-    → (name : List ℕ) → new name ≡ first_maker verb (take (i + 1) lines) 1 name
-noted_more verb lines i line old new within is so_far notes name =
-    let noted : Option ℕ → ℕ → Option ℕ = λ first number. option_or first (cond (is_maker verb name line) (Some number) None) in
-    let count : i + 1 ≡ 1 + length (take i lines) = rw (length-take-le i lines (omega arith)) (omega arith) in
-    let next : take (i + 1) lines ≡ take i lines ++ line ∷ [] = rw (← is) at (take_more lines i line within) in
-    notes name
-    ∙ ap (λ first. noted first (i + 1)) (so_far name)
-    ∙ ap (noted (first_maker verb (take i lines) 1 name)) count
-    ∙ sym (first_maker-push verb (take i lines) line 1 name)
-    ∙ ap (λ so_far. first_maker verb so_far 1 name) (sym next)
+-- at the end no line is left
+pub noted_all : (known all : List ℕ → Option ℕ) → ((name : List ℕ) → option_or (known name) None ≡ all name) → (name : List ℕ) → known name ≡ all name
+noted_all known all so_far name = whole (known name) ∙ so_far name
+  where
+    whole : (first : Option ℕ) → first ≡ option_or first None
+    whole None = refl
+    whole (Some line) = refl
 
 -- makers are the same where they have the same lines for each name
 pub same_makers : (some other : Makers) → ((name : List ℕ) → some.alloc_line name ≡ other.alloc_line name) → ((name : List ℕ) → some.zone_line name ≡ other.zone_line name) → some ≡ other
 same_makers some other allocs zones =
     ap (λ (lines : List ℕ → Option ℕ). let makers : Makers = record { alloc_line = lines; zone_line = some.zone_line } in makers) (fun_ext allocs)
     ∙ ap (λ (lines : List ℕ → Option ℕ). let makers : Makers = record { alloc_line = other.alloc_line; zone_line = lines } in makers) (fun_ext zones)
+
+-- a map of no lines knows no name
+pub none_known : (map : FirstLines) (name : List ℕ) → hash_map_len map.lines ≡ 0 → line_known map name ≡ None
+none_known map name none = of_none _ map.lines.entries none
+  where
+    of_none : {K X : Type 0} (test : K → Bool) (entries : List (K × X)) → length entries ≡ 0 → lookup test entries ≡ None
+    of_none test [] none = refl
+    of_none test (entry ∷ entries) none = absurd (omega (arith, none))
+
+-- a line that is no participant line makes nothing
+pub no_call_makes : (verb : List ℕ) (fields : List Part) → is_call fields ≡ false → made_by verb fields ≡ None
+no_call_makes verb [] other = refl
+no_call_makes verb (first ∷ []) other = refl
+no_call_makes verb (first ∷ word ∷ []) other = refl
+no_call_makes verb (first ∷ word ∷ name ∷ others) other = rw other refl

@@ -8,6 +8,7 @@ use Rattle.std.proofs.lemmas.Grind.{common_steps}
 use Rattle.std.proofs.lemmas.Bool.Decides.{nat_tests}
 use Rattle.hp_base.specs.PoolLines.{IsPoolLine, IsOtherPool, ArePoolLines}
 use Rattle.hp_base.specs.declared.pool_line.PoolLine.{PoolLine}
+use denote.Ref.{Bor}
 use Rattle.hp_script.specs.Part.{Part}
 use Rattle.hp_script.specs.Text.{lines_of, fields_of}
 use Rattle.hp_script.specs.Marks.{is_marked}
@@ -16,7 +17,7 @@ use Rattle.hp_script.specs.Makers.{Makers, makers_of}
 use Rattle.hp_script.specs.Setups.{nothing, is_strange, with_later, set_participants, set_absent, set_socket, set_deadline, add_pool, add_message, add_mapping, setup_step}
 use Rattle.hp_script.specs.Shapes.{shape_of}
 use Rattle.hp_script.specs.Reading.{with_written, read_line}
-use Rattle.hp_script.specs.Workloads.{reading_of}
+use Rattle.hp_script.specs.Workloads.{reading_at}
 use Rattle.hp_script.specs.declared.bad_kind.BadKind.TheVariants as bad
 use Rattle.hp_script.specs.declared.verb.SetupVerb.{SetupVerb}
 use Rattle.hp_script.specs.declared.shape.Setup.{Setup as SetupLine}
@@ -80,8 +81,8 @@ module _ (makers : Makers) where
       ]
 
 -- the pools of an accepted text
-pub reading_pools : (bytes : List ℕ) (read : Reader) → reading_of bytes ≡ Ok read → ArePoolLines read.pools
-unfolding reading_of
+pub reading_pools : (bytes : Bor (List ℕ)) (read : Reader) → reading_at bytes ≡ Ok read → ArePoolLines read.pools
+unfolding reading_at
 reading_pools bytes read same =
     along (makers_of (lines_of bytes)) (λ _ some. HasPools some) (λ _ _. ⊤) (line_pools (makers_of (lines_of bytes))) (lines_of bytes) nothing read 1 (λ i d within. tt) none same
   where

@@ -17,6 +17,7 @@ use Rattle.hp_base.specs.Participants.{AreSockets, IsAbsent}
 use Rattle.hp_base.specs.declared.limits.TheConstants.{MAX_SOCKETS}
 use Rattle.hp_base.specs.declared.plan_entry.PlanEntry.{PlanEntry}
 use Rattle.hp_base.specs.declared.plan_entry.PlanEntry.TheVariants as plan
+use denote.Ref.{Bor}
 use Rattle.hp_script.specs.Part.{Part}
 use Rattle.hp_script.specs.Text.{lines_of, fields_of}
 use Rattle.hp_script.specs.Marks.{is_marked, with_mark}
@@ -26,7 +27,7 @@ use Rattle.hp_script.specs.Makers.{Makers, makers_of}
 use Rattle.hp_script.specs.Setups.{nothing, is_strange, with_later, set_participants, set_absent, set_socket, set_deadline, add_pool, add_message, add_mapping, setup_step}
 use Rattle.hp_script.specs.Shapes.{shape_of}
 use Rattle.hp_script.specs.Reading.{asks_more, with_written, read_line}
-use Rattle.hp_script.specs.Workloads.{reading_of}
+use Rattle.hp_script.specs.Workloads.{reading_at}
 use Rattle.hp_script.specs.declared.bad_kind.BadKind.TheVariants as bad
 use Rattle.hp_script.specs.declared.verb.SetupVerb.{SetupVerb}
 use Rattle.hp_script.specs.declared.shape.Setup.{Setup as SetupLine}
@@ -248,8 +249,8 @@ module _ (makers : Makers) where
       ]
 
 -- what the setup lines of an accepted text leave
-pub reading_setup : (bytes : List ℕ) (read : Reader) → reading_of bytes ≡ Ok read → HasSetup read
-unfolding reading_of
+pub reading_setup : (bytes : Bor (List ℕ)) (read : Reader) → reading_at bytes ≡ Ok read → HasSetup read
+unfolding reading_at
 reading_setup bytes read same =
     along (makers_of (lines_of bytes)) (λ _ some. HasSetup some) (λ _ _. ⊤) (line_setup (makers_of (lines_of bytes))) (lines_of bytes) nothing read 1 (λ i d within. tt) none same
   where

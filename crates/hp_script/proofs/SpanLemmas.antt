@@ -1,9 +1,11 @@
 -- The tokens of a workload are slices of its text that rise.
 use Rattle.std.proofs.Common.{◌≡◌, ℕ, ◌+◌, ◌≤◌, Bool, true, false, List, [], ◌∷◌, ◌++◌, length, refl, ap, ◌∙◌, cond, inl, inr, arith}
-use Rattle.std.specs.Prelude.{Result, Ok, Err, IfOk, nat_le, nat_lt, is_some}
+use Rattle.std.proofs.lemmas.List.Elements.{All-nil, All-cons}
+use Rattle.std.specs.Prelude.{All, Result, Ok, Err, IfOk, nat_le, nat_lt, is_some}
 use Rattle.std.specs.List.{list_any}
 use Rattle.std.proofs.lemmas.Grind.{flat_map-append}
 use Rattle.std.proofs.lemmas.List.{append-nil}
+use denote.Ref.{Bor}
 use Rattle.hp_script.specs.Part.{Part}
 use Rattle.hp_script.specs.Text.{lines_of, fields_of, is_skipped}
 use Rattle.hp_script.specs.Words.{tokens_in}
@@ -15,8 +17,8 @@ use Rattle.hp_script.specs.Setups.{nothing, is_strange, with_later, set_particip
 use Rattle.hp_script.specs.Acts.{is_duplicate, is_unknown, add_line, add_act, add_await}
 use Rattle.hp_script.specs.Shapes.{shape_of}
 use Rattle.hp_script.specs.Reading.{with_written, said_step, judged, read_line}
-use Rattle.hp_script.specs.Workloads.{Refusal, go_on, read_from, reading_of}
-use Rattle.hp_script.specs.Spans.{IsSlice, AreSlices, tokens_of, all_tokens}
+use Rattle.hp_script.specs.Workloads.{Refusal, go_on, read_from, reading_at}
+use Rattle.hp_script.specs.Spans.{IsSlice, AreSlices, IsLentFrom, bytes_behind, tokens_of, all_tokens}
 use Rattle.hp_script.specs.declared.bad_kind.BadKind.{BadKind}
 use Rattle.hp_script.specs.declared.bad_kind.BadKind.TheVariants as bad
 use Rattle.hp_script.specs.declared.line.Act.{Act}
@@ -77,7 +79,7 @@ setup_keeps read number (Mapping party call elsewhere) =
           elim (outcome (refuse (is_strange read party) bad.Unknown)) [ inr refused ↦ rw refused.1 tt | inl declared ↦ rw declared.1 refl ])
     ]
 
-module _ (bytes : List ℕ) where
+module _ (bytes : Bor (List ℕ)) where
   -- the tokens of what was read are slices before a place
   abbrev pub HasSlices : ℕ → Reader → Type 0
   HasSlices to read = AreSlices bytes 0 to (all_tokens read.lines)
@@ -179,8 +181,14 @@ module _ (bytes : List ℕ) where
       (λ more holds. read_from_slices makers lines more (number + 1) (line.start + length line.text) b holds slices.2)
 
 -- what is read of a text has its slices as tokens
-pub reading_slices : (bytes : List ℕ) (read : Reader) → reading_of bytes ≡ Ok read → AreSlices bytes 0 (length bytes) (all_tokens read.lines)
-unfolding reading_of
+pub reading_slices : (bytes : Bor (List ℕ)) (read : Reader) → reading_at bytes ≡ Ok read → AreSlices bytes 0 (length bytes.now) (all_tokens read.lines)
+unfolding reading_at
 reading_slices bytes read same =
-    let slices = read_from_slices bytes (makers_of (lines_of bytes)) (lines_of bytes) nothing 1 0 (length bytes) (omega arith) (lines_slices bytes) in
+    let slices = read_from_slices bytes (makers_of (lines_of bytes)) (lines_of bytes) nothing 1 0 (length bytes.now) (omega arith) (lines_slices bytes) in
     rw same at slices
+
+-- slices are lent
+pub slices_lent : (bytes : Bor (List ℕ)) (a b : ℕ) (parts : List Part) → AreSlices bytes a b parts → All (IsLentFrom bytes) parts
+slices_lent bytes a b [] slices = All-nil (IsLentFrom bytes)
+slices_lent bytes a b (part ∷ parts) slices =
+    All-cons (IsLentFrom bytes) part parts (ap (λ (base : ℕ × ℕ). bytes_behind base part.start) slices.1.lent) (slices_lent bytes (part.start + length part.text) b parts slices.2)

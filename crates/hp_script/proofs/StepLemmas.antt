@@ -66,7 +66,7 @@ pub record AddsAwait (read : Reader) (number party other k : ℕ) (more : Reader
 -- what a line that says something adds
 abbrev pub Adds : Makers → Reader → ℕ → Shape → Reader → Type 0
 Adds makers read number (Setup setup) more = (read.lines ≡ []) × (setup_step (with_later read number setup) number setup ≡ Ok more)
-Adds makers read number (Does party deed) more = (is_duplicate makers number deed ≡ false) × AddsLine read number party deed more
+Adds makers read number (Does party deed) more = (is_duplicate makers number deed ≡ false) × AddsLine read number party deed more × (is_unknown makers deed ≡ false)
 Adds makers read number (Awaits party other k) more = AddsAwait read number party other k more
 
 no_lines : (lines : List Line) → nat_lt 0 (length lines) ≡ false → lines ≡ []
@@ -96,7 +96,12 @@ said_step_adds makers read number (Does party deed) =
     passed (is_duplicate makers number deed) bad.Duplicate _ _ (λ once.
     passed (is_strange read party) bad.Unknown _ _ (λ declared.
     passed (is_unknown makers deed) bad.Unknown _ _ (λ made.
-    with_fact (is_duplicate makers number deed ≡ false) (add_line read number party deed) (AddsLine read number party deed) once (add_line_adds read number party deed declared))))
+    does_adds (add_line read number party deed) once made (add_line_adds read number party deed declared))))
+  where
+    does_adds : (answer : Result Reader BadKind) → is_duplicate makers number deed ≡ false → is_unknown makers deed ≡ false → IfOk answer (AddsLine read number party deed)
+        → IfOk answer (Adds makers read number (Does party deed))
+    does_adds (Ok more) once made adds = (once, adds, made)
+    does_adds (Err kind) once made adds = tt
 said_step_adds makers read number (Awaits party other k) =
     passed (is_strange read party) bad.Unknown _ _ (λ declared.
     passed (is_strange read other) bad.Unknown _ _ (λ other_declared.
@@ -139,7 +144,8 @@ read_line_says makers read number line more same = chosen (is_skipped (fields_of
     chosen true is step = inl (is, cc)
     chosen false is step = inr (is, answered (Says makers read number (fields_of line)) (judged makers read number line) more step (judged_says makers read number line))
 
-going : (step : Result Reader BadKind) (number : ℕ) (rest : Reader → Result Reader Refusal) (whole : Reader) → go_on step number rest ≡ Ok whole
+-- a step that goes on
+pub going : (step : Result Reader BadKind) (number : ℕ) (rest : Reader → Result Reader Refusal) (whole : Reader) → go_on step number rest ≡ Ok whole
     → (more : Reader) × (step ≡ Ok more) × (rest more ≡ Ok whole)
 going (Ok more) number rest whole same = (more, refl, same)
 going (Err kind) number rest whole same = absurd cc

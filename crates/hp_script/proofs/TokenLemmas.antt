@@ -2,6 +2,7 @@
 use Rattle.std.proofs.Common.{ℕ, ◌≤◌, Bool, true, false, List, [], ◌∷◌, length, cond, inl, inr}
 use Rattle.std.specs.Prelude.{Result, IfOk, nat_lt, not}
 use Rattle.std.specs.Option.{ok_or}
+use denote.Ref.{Bor}
 use Rattle.hp_script.specs.Part.{Part}
 use Rattle.hp_script.specs.Judge.{refuse, is_within, number_field, party_field}
 use Rattle.hp_script.specs.Verbs.{verb_named, setup_named}
@@ -18,7 +19,7 @@ use Rattle.hp_script.specs.declared.shape.Shape.{Shape}
 use Rattle.hp_script.proofs.SliceLemmas.{bounds, skip}
 use Rattle.hp_script.proofs.CallTokens.{outcome, SaysSlices, only_first, alloc_slices, zone_slices, resize_slices, range_slices, add_slices, name_slices}
 
-module _ (bytes : List ℕ) (a b : ℕ) where
+module _ (bytes : Bor (List ℕ)) (a b : ℕ) where
   no_token : (call : MemberCall) → a ≤ b → AreSlices bytes a b (tokens_of (member_act call))
   no_token member_call.Attach le = le
   no_token member_call.Detach le = le

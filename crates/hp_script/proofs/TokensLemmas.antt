@@ -45,16 +45,16 @@ split_visible (byte ∷ bytes) plain =
     chosen false is first rest = onto_visible byte (slice_split (is_separator Blank) bytes) (plain_visible byte first is) rest
 
 -- parts that are filled and short are words
-words_of : (at : ℕ) (texts : List (List ℕ)) → AreVisible texts → list_any is_long (filter is_filled (placed at texts)) ≡ false
-    → AllByRecursion (λ field. IsWord field.text) (filter is_filled (placed at texts))
-words_of at [] visible short = tt
-words_of at (text ∷ texts) visible short = chosen (nat_lt 0 (length text)) refl short (λ others. words_of (at + length text + 1) texts visible.1 others)
+words_of : (base : ℕ × ℕ) (at : ℕ) (texts : List (List ℕ)) → AreVisible texts → list_any is_long (filter is_filled (placed base at texts)) ≡ false
+    → AllByRecursion (λ field. IsWord field.text) (filter is_filled (placed base at texts))
+words_of base at [] visible short = tt
+words_of base at (text ∷ texts) visible short = chosen (nat_lt 0 (length text)) refl short (λ others. words_of base (at + length text + 1) texts visible.1 others)
   where
     next : List Part
-    next = filter is_filled (placed (at + length text + 1) texts)
+    next = filter is_filled (placed base (at + length text + 1) texts)
 
     part : Part
-    part = record { start = at; text = text }
+    part = record { start = at; text = text; base = base }
 
     chosen : (test : Bool) → nat_lt 0 (length text) ≡ test → list_any is_long (cond test (part ∷ next) next) ≡ false
         → (list_any is_long next ≡ false → AllByRecursion (λ field. IsWord field.text) next) → AllByRecursion (λ field. IsWord field.text) (cond test (part ∷ next) next)
@@ -69,7 +69,7 @@ holds false is = absurd cc
 
 fields_words : (line : Part) → list_all is_plain line.text ≡ true → list_any is_long (fields_of line) ≡ false → AllByRecursion (λ field. IsWord field.text) (fields_of line)
 unfolding fields_of parts_of
-fields_words line plain short = words_of line.start (slice_split (is_separator Blank) line.text) (split_visible line.text plain) short
+fields_words line plain short = words_of line.base line.start (slice_split (is_separator Blank) line.text) (split_visible line.text plain) short
 
 -- the tokens of a line are its fields, and each is a word
 pub tokens_fields : (line : Part) (tokens : List Part) → tokens_in line ≡ Ok tokens → (tokens ≡ fields_of line) × AllByRecursion (λ field. IsWord field.text) (fields_of line)

@@ -11,7 +11,7 @@ use Rattle.std.proofs.lemmas.List.Folds.{list_all-append}
 use Rattle.std.proofs.lemmas.List.Sums.{AllPass-from_list_all, list_all-from_AllPass, fails_before_first, passes_at_first, position_or_len_is}
 use Rattle.std.proofs.lemmas.Str.{IsUtf8-from_ascii}
 use Rattle.std.proofs.lemmas.Str.Ascii.{IsAscii-from_all}
-use Rattle.hp_script.specs.Part.{Part}
+use Rattle.hp_script.specs.Part.{Part, behind}
 use Rattle.hp_script.specs.Text.{is_separator, is_plain}
 use Rattle.hp_script.specs.Words.{is_visible, is_blind, IsWord, IsFieldCut}
 use Rattle.hp_script.specs.declared.text.Separator.TheVariants.{Blank}
@@ -104,7 +104,7 @@ module _ (whole : Part) (n : ℕ) (found : position is_blind whole.text ≡ Some
 
   -- a line is cut at a blank
   pub cut_blank : is_separator Blank (get_or whole.text n 0) ≡ true
-      → IsFieldCut whole (record { start = whole.start; text = take n whole.text }) (Some (record { start = whole.start + n + 1; text = drop (n + 1) whole.text }))
+      → IsFieldCut whole (record { start = whole.start; text = take n whole.text; base = whole.base }) (Some (behind (n + 1) whole))
   cut_blank blank =
       let first : position_or_len (is_separator Blank) whole.text ≡ n = position_or_len_is (is_separator Blank) whole.text n 0 (omega (arith, inside))
       (λ k before. visible_no_blank (get_or whole.text k 0) (fails_before_first is_blind whole.text k 0 (omega (arith, at.1, before)))) (λ _. blank) in

@@ -8,7 +8,7 @@ use Rattle.hp_script.specs.declared.makers.KnownMakers.{KnownMakers}
 
 -- the line that a map has for a name
 abbrev pub line_known : FirstLines → List ℕ → Option ℕ
-line_known map name = get_by (λ key. bytes_eq name key.now) map.lines
+line_known map name = get_by (λ key. bytes_eq name key.text.now) map.lines
 
 -- the lines that both maps have
 abbrev pub known : KnownMakers → Makers

@@ -28,3 +28,7 @@ pub mod Limits
 pub mod Later
 pub mod Facts
 pub mod Built
+pub mod Labels
+pub mod ActVerbs
+pub mod Keys
+pub mod Said

@@ -1,6 +1,5 @@
 -- The words of a workload: the verbs with the fields that they take, the setup lines, and the kinds of message.
 use Rattle.std.specs.Prelude.{ℕ, true, false, List, [], ◌∷◌, Option, codes}
-use Rattle.std.specs.Option.{option_or}
 use Rattle.std.specs.Map.{lookup}
 use Rattle.hp_script.specs.Part.{Part, is_word}
 use Rattle.hp_base.specs.declared.plan_entry.MsgKind.{MsgKind}
@@ -13,31 +12,21 @@ use Rattle.hp_script.specs.declared.verb.RangeCall.TheVariants as range
 use Rattle.hp_script.specs.declared.verb.SetupVerb.{SetupVerb}
 use Rattle.hp_script.specs.declared.verb.SetupVerb.TheVariants as setup
 
--- the verbs that speak of allocations, memzones and statistics
-abbrev pub memory_verbs : List (List ℕ × Verb)
-memory_verbs =
+-- the verbs with the fields that they take: of memory, of external heaps, and of participants, watchers and validators
+abbrev pub verbs : List (List ℕ × Verb)
+verbs =
     (codes "alloc", Alloc) ∷ (codes "free", Name name.Free) ∷ (codes "resize", Resize)
     ∷ (codes "zone", Zone) ∷ (codes "lookup", Name name.Lookup) ∷ (codes "unzone", Name name.Unzone)
-    ∷ (codes "dump", Name name.Dump) ∷ (codes "stats", Name name.Stats) ∷ []
-
--- the verbs that speak of external heaps
-abbrev pub heap_verbs : List (List ℕ × Verb)
-heap_verbs =
-    (codes "heap", Name name.Heap) ∷ (codes "unheap", Name name.Unheap) ∷ (codes "add", Add)
-    ∷ (codes "remove", Range range.Remove) ∷ (codes "map", Range range.Map) ∷ (codes "unmap", Range range.Unmap) ∷ []
-
--- the verbs that speak of participants, watchers and validators
-abbrev pub member_verbs : List (List ℕ × Verb)
-member_verbs =
-    (codes "attach", Member member.Attach) ∷ (codes "detach", Member member.Detach)
+    ∷ (codes "dump", Name name.Dump) ∷ (codes "stats", Name name.Stats)
+    ∷ (codes "heap", Name name.Heap) ∷ (codes "unheap", Name name.Unheap) ∷ (codes "add", Add)
+    ∷ (codes "remove", Range range.Remove) ∷ (codes "map", Range range.Map) ∷ (codes "unmap", Range range.Unmap)
+    ∷ (codes "attach", Member member.Attach) ∷ (codes "detach", Member member.Detach)
     ∷ (codes "watch", Name name.Watch) ∷ (codes "unwatch", Name name.Unwatch)
     ∷ (codes "limit", Limit) ∷ (codes "unlimit", Unlimit) ∷ (codes "await", Await) ∷ []
 
 -- the verb that a field names
 unfoldable pub verb_named : Part → Option Verb
-verb_named word =
-    option_or (option_or (lookup (λ verb. is_word verb word) memory_verbs) (lookup (λ verb. is_word verb word) heap_verbs))
-    (lookup (λ verb. is_word verb word) member_verbs)
+verb_named word = lookup (λ verb. is_word verb word) verbs
 
 -- the first fields of setup lines
 abbrev pub setup_verbs : List (List ℕ × SetupVerb)

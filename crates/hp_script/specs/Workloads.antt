@@ -1,5 +1,6 @@
 -- The workload of a text, or its first refusal.
 use Rattle.std.specs.Prelude.{◌≡◌, ℕ, ◌+◌, List, [], ◌∷◌, ◌++◌, length, unwrap_or, Result, Ok, Err}
+use denote.Ref.{Bor}
 use Rattle.hp_script.specs.Part.{Part}
 use Rattle.hp_script.specs.Text.{lines_of}
 use Rattle.hp_script.specs.Makers.{Makers, makers_of}
@@ -27,9 +28,18 @@ read_from makers read number [] = Ok read
 read_from makers read number (line ∷ others) =
     go_on (read_line makers read number line) number (λ more. read_from makers more (number + 1) others)
 
--- the whole text
-unfoldable pub reading_of : List ℕ → Result Reader Refusal
-reading_of bytes = read_from (makers_of (lines_of bytes)) nothing 1 (lines_of bytes)
+-- what is read further, where nothing is refused
+abbrev pub read_further : Result Reader Refusal → (Reader → Result Reader Refusal) → Result Reader Refusal
+read_further (Ok read) more = more read
+read_further (Err refusal) more = Err refusal
+
+-- the whole text, where it stands
+unfoldable pub reading_at : Bor (List ℕ) → Result Reader Refusal
+reading_at bytes = read_from (makers_of (lines_of bytes)) nothing 1 (lines_of bytes)
+
+-- what a text says, and whether it is refused, does not depend on where it stands: as if it stood at the address 0
+abbrev pub reading_of : List ℕ → Result Reader Refusal
+reading_of bytes = reading_at (record { ref_ptr = (0, 0); now = bytes })
 
 -- of the lines from a number on the first bad one: all lines before it are accepted, and it is refused so
 pub record IsFirstBad (makers : Makers) (read : Reader) (start : ℕ) (lines : List Part) (number : ℕ) (kind : BadKind) : Type 0 where
@@ -43,7 +53,7 @@ pub record IsFirstBad (makers : Makers) (read : Reader) (start : ℕ) (lines : L
   pub refused : read_line makers so_far number line ≡ Err kind
 
 -- the fault names the first bad line of the text, and its first kind of refusal, unless memory runs out
-abbrev pub NamesFirstBad : List ℕ → ParseFault → Type 0
+abbrev pub NamesFirstBad : Bor (List ℕ) → ParseFault → Type 0
 NamesFirstBad bytes (parse_fault.Bad line kind) = IsFirstBad (makers_of (lines_of bytes)) nothing 1 (lines_of bytes) line kind
 NamesFirstBad bytes parse_fault.OutOfMemory = Unit {0}
 
@@ -58,10 +68,11 @@ pub record IsWorkloadOf (read : Reader) (workload : Workload) : Type 0 where
   pub plan : workload.plan.items ≡ read.plan
   pub lines : workload.lines.items ≡ read.lines
 
--- a text is read as the workload: none of its lines is refused
+-- a text is read as the workload, where it stands: none of its lines is refused
 pub record IsReadAs (bytes : List ℕ) (workload : Workload) : Type 0 where
+  pub at : ℕ × ℕ
   pub read : Reader
-  pub whole : reading_of bytes ≡ Ok read
+  pub whole : reading_at (record { ref_ptr = at; now = bytes }) ≡ Ok read
   pub workload_is : IsWorkloadOf read workload
 
 -- the fault is the first refusal of the lines from a number on, unless memory runs out

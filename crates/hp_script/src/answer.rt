@@ -80,8 +80,8 @@ pub enum Answer {
 impl Answer {
     ghost use Rattle.hp_script.specs.Answers.{answer_word};
 
-    // The words of an answer, without its numbers.
-    fn words(&self) -> &'static str
+    /// The words of the answer, without its numbers.
+    pub fn words(&self) -> &'static str
         ensures { result.now ≡ answer_word self.now }
     {
         match self {

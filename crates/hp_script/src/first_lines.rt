@@ -2,13 +2,14 @@ ghost use Rattle.std.specs.Prelude.{◌≡◌, ℕ, List, Some, None, if◌then�
 ghost use Rattle.std.specs.Option.{option_or};
 ghost use Rattle.std.specs.Str.{bytes_eq};
 
+use crate::name_key::NameKey;
 use std::alloc::{AllocError, Global};
 use std::collections::HashMap;
 
 /// The first lines that make names with a verb.
 #[derive(Drop)]
 pub struct FirstLines<'a> {
-    pub lines: HashMap<&'a [u8], u32>,
+    pub lines: HashMap<NameKey<'a>, u32>,
 }
 
 impl<'a> FirstLines<'a> {
@@ -23,18 +24,22 @@ impl<'a> FirstLines<'a> {
         }
     }
 
-    /// The number of the first line that makes the name.
+    /// The number of the first line that makes the name. Where no line is noted, the name is not hashed.
+    #[tactic(auto, using(crate::proofs::MakerLemmas::none_known))]
     pub fn line_of(&self, name: &[u8]) -> Option<u32>
         ensures { result ≡ line_known self.now name.now }
     {
-        self.lines.get(name).copied()
+        if self.lines.is_empty() {
+            return None;
+        }
+        self.lines.get(&NameKey { text: name }).copied()
     }
 
     /// Notes the number of a line that makes the name, unless an earlier one does.
     pub fn note(&mut self, name: &'a [u8], number: u32) -> Result<(), AllocError>
         ensures { OnOk result ((other : List ℕ) → line_known self.new other ≡ option_or (line_known self.old other) (if bytes_eq name.entry.now other then Some number else None)) }
     {
-        self.lines.entry(name)?.or_insert(number);
+        self.lines.entry(NameKey { text: name })?.or_insert(number);
         Ok(())
     }
 }

@@ -114,3 +114,37 @@ pub enum Act<'a> {
         heap: Token<'a>,
     },
 }
+
+impl<'a> Act<'a> {
+    ghost use Rattle.std.specs.Prelude.{◌≡◌};
+    ghost use Rattle.hp_script.specs.ActVerbs.{verb_word};
+
+    /// The word of its verb, as workloads have it.
+    pub fn verb(&self) -> &'static str
+        ensures { result.now ≡ verb_word self.now }
+    {
+        match self {
+            Act::Alloc { .. } => "alloc",
+            Act::Free { .. } => "free",
+            Act::Resize { .. } => "resize",
+            Act::Zone { .. } => "zone",
+            Act::Lookup { .. } => "lookup",
+            Act::Unzone { .. } => "unzone",
+            Act::Attach => "attach",
+            Act::Detach => "detach",
+            Act::Heap { .. } => "heap",
+            Act::Unheap { .. } => "unheap",
+            Act::Add { .. } => "add",
+            Act::Remove { .. } => "remove",
+            Act::Map { .. } => "map",
+            Act::Unmap { .. } => "unmap",
+            Act::Watch { .. } => "watch",
+            Act::Unwatch { .. } => "unwatch",
+            Act::Limit { .. } => "limit",
+            Act::Unlimit { .. } => "unlimit",
+            Act::Await { .. } => "await",
+            Act::Dump { .. } => "dump",
+            Act::Stats { .. } => "stats",
+        }
+    }
+}

@@ -6,7 +6,7 @@ ghost use Rattle.hp_script.specs.Text.{fields_of};
 
 use crate::fields_left::FieldsLeft;
 use crate::piece::Piece;
-use crate::shape::is_participant_line;
+use crate::text::is_call;
 
 /// The name that a line makes.
 #[derive(Drop)]
@@ -17,20 +17,20 @@ pub enum Made<'a> {
     Zone { name: Piece<'a> },
 }
 
-/// What a line makes, by its first three fields. It takes no memory.
+/// What a line makes, by its first three fields. It takes no memory, and looks at no more than the first byte of other lines.
+#[tactic(auto, using(crate::proofs::MakerLemmas::no_call_makes))]
 pub fn made_in<'a>(line: &Piece<'a>) -> Option<Made<'a>>
     ensures label { label_in result ≡ made_by (codes "alloc") (fields_of line.now) }
     ensures zone { zone_in result ≡ made_by (codes "zone") (fields_of line.now) }
 {
+    if !is_call(line) {
+        return None;
+    }
     let mut fields = FieldsLeft::of(line);
-    let first = fields.take()?;
+    let _party = fields.take()?;
     let word = fields.take()?;
     let name = fields.take()?;
-    if is_participant_line(first.as_bytes()) {
-        made_with(&word, name)
-    } else {
-        None
-    }
+    made_with(&word, name)
 }
 
 // What a participant line makes by a verb and the field behind it.

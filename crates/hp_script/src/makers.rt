@@ -1,8 +1,9 @@
-ghost use Rattle.std.specs.Prelude.{◌≡◌, ◌<◌, ◌^◌, ◌+◌, length, codes, IfOk, OnOk};
+ghost use Rattle.std.specs.Prelude.{◌≡◌, ◌≤◌, length, codes, IfOk, OnOk};
 ghost use Rattle.hp_script.specs.Made.{Notes};
 ghost use Rattle.hp_script.specs.Makers.{makers_of, is_taken, is_unmade, is_earlier};
 
 use crate::first_lines::FirstLines;
+use crate::lines_left::LinesLeft;
 use crate::made::{Made, made_in};
 use crate::piece::Piece;
 use std::alloc::{AllocError, Global};
@@ -18,16 +19,18 @@ impl<'a> KnownMakers<'a> {
     ghost use Rattle.hp_script.specs.Known.{known};
 
     /// Those of a text with these lines.
-    pub fn of(alloc: Global, lines: &[Piece<'a>]) -> Result<KnownMakers<'a>, AllocError>
-        requires { length lines.now + 1 < 2 ^ 32 }
-        ensures { IfOk result (λ makers. known makers ≡ makers_of lines.now) }
+    pub fn of(alloc: Global, mut lines: LinesLeft<'a>) -> Result<KnownMakers<'a>, AllocError>
+        requires { length lines ≤ 1048577 }
+        ensures { IfOk result (λ makers. known makers ≡ makers_of lines.entry) }
     {
         let mut makers = KnownMakers {
             allocs: FirstLines::new(alloc),
             zones: FirstLines::new(alloc),
         };
-        for (i, line) in lines.iter().enumerate() {
-            makers.note_line(line, i as u32 + 1)?;
+        let mut number = 1;
+        while let Some(line) = lines.take() {
+            makers.note_line(&line, number)?;
+            number += 1;
         }
         Ok(makers)
     }

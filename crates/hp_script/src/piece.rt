@@ -8,24 +8,25 @@ pub struct Piece<'a> {
 }
 
 impl<'a> Model for Piece<'a> {
-    ghost use Rattle.std.specs.Prelude.{ℕ, ◌+◌, ◌<◌, ◌^◌, length};
-    ghost use Rattle.hp_script.specs.Part.{Part};
+    ghost use Rattle.std.specs.Prelude.{ℕ, ◌+◌, ◌<◌, ◌≤◌, ◌^◌, length};
+    ghost use Rattle.hp_script.specs.Part.{Part, part_at};
 
     ghost Value = { Part };
 
-    ghost view = { λ a. record { start = a.start; text = a.text.now } };
+    ghost view = { λ a. part_at a.start a.text };
 
-    ghost invariant = { λ a. a.start + length a.text.now < 2 ^ 32 };
+    ghost invariant = { λ a. (a.start + length a.text.now < 2 ^ 32) × (a.start ≤ a.text.ref_ptr.1) };
 }
 
 impl<'a> Piece<'a> {
-    ghost use Rattle.std.specs.Prelude.{◌≡◌, ◌+◌, ◌<◌, ◌^◌, length};
-    ghost use Rattle.hp_script.specs.Part.{is_word};
+    ghost use Rattle.std.specs.Prelude.{◌≡◌, ◌+◌, ◌<◌, ◌≤◌, ◌^◌, length, take};
+    ghost use Rattle.hp_script.specs.Part.{address_of, behind, is_word, part_at};
 
     /// The piece with this text at this place.
     pub fn new(start: usize, text: &'a [u8]) -> Piece<'a>
-        requires { start + length text.now < 2 ^ 32 }
-        ensures { result ≡ record { start = start; text = text.entry.now } }
+        requires within { start + length text.now < 2 ^ 32 }
+        requires behind { start ≤ text.ref_ptr.1 }
+        ensures { result ≡ part_at start text.entry }
     {
         Piece { start, text }
     }
@@ -34,8 +35,33 @@ impl<'a> Piece<'a> {
     pub fn as_bytes(&self) -> &'a [u8]
         ensures text { result.now ≡ self.now.text }
         ensures within { self.now.start + length self.now.text < 2 ^ 32 }
+        ensures lent { result.ref_ptr ≡ address_of self.now }
     {
         self.text
+    }
+
+    /// Its first bytes.
+    #[tactic(auto, using(crate::proofs::PartLemmas::part_is))]
+    pub fn front(&self, n: usize) -> Piece<'a>
+        requires { n ≤ length self.now.text }
+        ensures { result ≡ record { start = self.now.start; text = take n self.now.text; base = self.now.base } }
+    {
+        Piece {
+            start: self.start,
+            text: &self.text[..n],
+        }
+    }
+
+    /// What stands in it behind its first bytes.
+    #[tactic(auto, using(crate::proofs::PartLemmas::part_is, crate::proofs::PartLemmas::to_end))]
+    pub fn rest(&self, n: usize) -> Piece<'a>
+        requires { n ≤ length self.now.text }
+        ensures { result ≡ behind n self.now }
+    {
+        Piece {
+            start: self.start + n,
+            text: &self.text[n..],
+        }
     }
 
     /// The place of its first byte in the text, from 0.

@@ -3,6 +3,7 @@ use hp_base::{BadRequest, MsgKind, PlanEntry, PoolLine, Stats};
 use std::alloc::Global;
 use std::test::*;
 
+mod facts;
 mod later;
 mod limits;
 mod lines;

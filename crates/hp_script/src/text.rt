@@ -1,9 +1,9 @@
-ghost use Rattle.std.specs.Prelude.{◌≡◌, ◌==◌, ◌∷◌, ◌+◌, ◌<◌, ◌≤◌, ◌^◌, length, slice_index, vec_len, position, IfOk, IfSome};
-ghost use Rattle.hp_script.specs.Text.{is_separator, parts_of, parts_left, without_return, lines_of, fields_of, is_filled, is_skipped, is_plain, is_long};
+ghost use Rattle.std.specs.Prelude.{◌≡◌, ◌∷◌, ◌<◌, length, position, not, IfSome};
+ghost use Rattle.std.specs.List.{find};
+ghost use Rattle.hp_script.specs.Text.{is_separator, parts_of, parts_left, without_return, fields_of, first_byte, is_call, is_skipped, is_plain};
 
-use crate::fields_left::FieldsLeft;
 use crate::piece::Piece;
-use std::alloc::{AllocError, Global};
+use memchr::memchr;
 
 /// What stands between the parts of a text.
 #[derive(Clone, Copy)]
@@ -23,12 +23,32 @@ fn is_separator(separator: Separator, byte: u8) -> bool
     }
 }
 
+// The place of the first newline.
+fn newline_at(text: &[u8]) -> Option<usize>
+    ensures place { result ≡ position (is_separator Separator.Newline) text.now }
+    ensures within { IfSome result (λ n. n < length text.now) }
+{
+    memchr(b'\n', text)
+}
+
+// The place of the first space or tab.
+fn blank_at(text: &[u8]) -> Option<usize>
+    ensures place { result ≡ position (is_separator Separator.Blank) text.now }
+    ensures within { IfSome result (λ n. n < length text.now) }
+{
+    text.iter()
+        .position(|byte| is_separator(Separator::Blank, *byte))
+}
+
 // The place of the first separator.
 fn separator_at(separator: Separator, text: &[u8]) -> Option<usize>
     ensures place { result ≡ position (is_separator separator) text.now }
     ensures within { IfSome result (λ n. n < length text.now) }
 {
-    text.iter().position(|byte| is_separator(separator, *byte))
+    match separator {
+        Separator::Newline => newline_at(text),
+        Separator::Blank => blank_at(text),
+    }
 }
 
 /// The first part, and what stands behind the separator after it.
@@ -39,12 +59,7 @@ pub fn cut<'a>(separator: Separator, whole: &Piece<'a>) -> (Piece<'a>, Option<Pi
     let text = whole.as_bytes();
     match separator_at(separator, text) {
         None => (whole.again(), None),
-        Some(n) => {
-            let (front, _) = text.split_at(n);
-            let (_, behind) = text.split_at(n + 1);
-            let first = Piece::new(whole.start(), front);
-            (first, Some(Piece::new(whole.start() + n + 1, behind)))
-        }
+        Some(n) => (whole.front(n), Some(whole.rest(n + 1))),
     }
 }
 
@@ -55,36 +70,48 @@ pub fn without_return<'a>(line: &Piece<'a>) -> Piece<'a>
     let text = line.as_bytes();
     let n = text.len();
     if n > 0 && text[n - 1] == b'\r' {
-        let (front, _) = text.split_at(n - 1);
-        return Piece::new(line.start(), front);
+        return line.front(n - 1);
     }
     line.again()
 }
 
-/// The lines of a text, one more than it has newlines.
-#[tactic(auto, unfolding(crate::specs::Text::lines_of))]
-pub fn lines<'a>(alloc: Global, bytes: &'a [u8]) -> Result<Vec<Piece<'a>>, AllocError>
-    requires { length bytes.now ≤ 1048576 }
-    ensures lines { IfOk result (λ lines. lines.items ≡ lines_of bytes.entry.now) }
-    ensures few { IfOk result (λ lines. vec_len lines ≤ length bytes.entry.now + 1) }
+// The first byte of a line that is no space or tab.
+fn first_visible(line: &Piece) -> Option<u8>
+    ensures { result ≡ find (λ byte. not (is_separator Separator.Blank byte)) line.now.text }
 {
-    let mut lines = Vec::new(alloc);
-    let mut rest = Some(Piece::new(0, bytes));
-    while let Some(text) = rest {
-        let (line, others) = cut(Separator::Newline, &text);
-        lines.push(without_return(&line))?;
-        rest = others;
-    }
-    Ok(lines)
+    line.as_bytes()
+        .iter()
+        .copied()
+        .find(|byte| !is_separator(Separator::Blank, *byte))
+}
+
+/// The first byte of a line's fields: nothing behind it is read.
+#[tactic(auto, using(crate::proofs::TextLemmas::first_of_fields))]
+fn first_byte(line: &Piece) -> Option<u8>
+    ensures { result ≡ first_byte (fields_of line.now) }
+{
+    first_visible(line)
 }
 
 /// Whether a line is skipped: it has no field, or its first one begins with '#'.
+#[tactic(auto, using(crate::proofs::TextLemmas::skipped_first))]
 pub fn is_skipped(line: &Piece) -> bool
     ensures { result ≡ is_skipped (fields_of line.now) }
 {
-    match FieldsLeft::of(line).take() {
+    match first_byte(line) {
         None => true,
-        Some(first) => first.as_bytes().first() == Some(&b'#'),
+        Some(byte) => byte == b'#',
+    }
+}
+
+/// Whether a line is a participant line: its first field begins with a digit.
+#[tactic(auto, using(crate::proofs::TextLemmas::call_first))]
+pub fn is_call(line: &Piece) -> bool
+    ensures { result ≡ is_call (fields_of line.now) }
+{
+    match first_byte(line) {
+        None => false,
+        Some(byte) => byte.is_ascii_digit(),
     }
 }
 

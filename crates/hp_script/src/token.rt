@@ -10,27 +10,28 @@ pub struct Token<'a> {
 }
 
 impl<'a> Model for Token<'a> {
-    ghost use Rattle.std.specs.Prelude.{ℕ, ◌+◌, ◌<◌, ◌^◌, length};
-    ghost use Rattle.hp_script.specs.Part.{Part};
+    ghost use Rattle.std.specs.Prelude.{ℕ, ◌+◌, ◌<◌, ◌≤◌, ◌^◌, length};
+    ghost use Rattle.hp_script.specs.Part.{Part, part_at};
     ghost use Rattle.hp_script.specs.Words.{IsWord};
 
     ghost Value = { Part };
 
-    ghost view = { λ a. record { start = a.start; text = a.text.now } };
+    ghost view = { λ a. part_at a.start a.text };
 
-    ghost invariant = { λ a. (a.start + length a.text.now < 2 ^ 32) × IsWord a.text.now };
+    ghost invariant = { λ a. (a.start + length a.text.now < 2 ^ 32) × (a.start ≤ a.text.ref_ptr.1) × IsWord a.text.now };
 }
 
 impl<'a> Token<'a> {
     ghost use Rattle.std.specs.Prelude.{◌≡◌, ◌+◌, ◌<◌, ◌≤◌, ◌^◌, length, nat_lt, IsTrue, Some, None, if◌then◌else◌};
-    ghost use Rattle.hp_script.specs.Part.{behind, is_word, has_front};
+    ghost use Rattle.hp_script.specs.Part.{address_of, behind, is_word, has_front, part_at};
     ghost use Rattle.hp_script.specs.Words.{IsWord};
 
     /// The token with this text at this place.
     pub(crate) fn new(start: usize, text: &'a [u8]) -> Token<'a>
         requires within { start + length text.now < 2 ^ 32 }
+        requires behind { start ≤ text.ref_ptr.1 }
         requires word { IsWord text.now }
-        ensures { result ≡ record { start = start; text = text.entry.now } }
+        ensures { result ≡ part_at start text.entry }
     {
         Token { start, text }
     }
@@ -39,6 +40,7 @@ impl<'a> Token<'a> {
     pub fn as_bytes(&self) -> &'a [u8]
         ensures text { result.now ≡ self.now.text }
         ensures within { self.now.start + length self.now.text < 2 ^ 32 }
+        ensures lent { result.ref_ptr ≡ address_of self.now }
         ensures word { IsWord self.now.text }
     {
         self.text
@@ -79,12 +81,12 @@ impl<'a> Token<'a> {
     }
 
     /// What stands in it behind its first bytes.
+    #[tactic(auto, using(crate::proofs::PartLemmas::part_is, crate::proofs::PartLemmas::to_end))]
     pub(crate) fn behind(&self, n: usize) -> Piece<'a>
         requires { n ≤ length self.now.text }
         ensures { result ≡ behind n self.now }
     {
-        let (_, text) = self.text.split_at(n);
-        Piece::new(self.start + n, text)
+        Piece::new(self.start + n, &self.text[n..])
     }
 
     /// The token that stands in it behind its first bytes, where that is not empty.
@@ -93,11 +95,11 @@ impl<'a> Token<'a> {
         requires { n ≤ length self.now.text }
         ensures { result ≡ (if nat_lt (length (behind n self.now).text) 1 then None else Some (behind n self.now)) }
     {
-        let (_, text) = self.text.split_at(n);
-        if text.is_empty() {
+        if self.text.len() == n {
             return None;
         }
-        Some(Token::new(self.start + n, text))
+        let rest = self.behind(n);
+        Some(Token::new(rest.start(), rest.as_bytes()))
     }
 
     /// The same token once more.

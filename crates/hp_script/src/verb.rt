@@ -1,7 +1,7 @@
-ghost use Rattle.std.specs.Prelude.{◌≡◌};
+ghost use Rattle.std.specs.Prelude.{◌≡◌, drop};
 ghost use Rattle.std.specs.Map.{lookup};
 ghost use Rattle.hp_script.specs.Part.{is_word};
-ghost use Rattle.hp_script.specs.Verbs.{memory_verbs, heap_verbs, member_verbs, verb_named, setup_named, kind_named};
+ghost use Rattle.hp_script.specs.Verbs.{verbs, verb_named, setup_named, kind_named};
 
 use crate::token::Token;
 use hp_base::MsgKind;
@@ -69,16 +69,6 @@ pub enum SetupVerb {
 pub fn verb_named(word: &Token) -> Option<Verb>
     ensures { result ≡ verb_named word.now }
 {
-    // Most lines have a verb of memory, so the others are compared only where it is none.
-    if let Some(verb) = memory_verb(word) {
-        return Some(verb);
-    }
-    heap_verb(word).or(member_verb(word))
-}
-
-fn memory_verb(word: &Token) -> Option<Verb>
-    ensures { result ≡ lookup (λ verb. is_word verb word.now) memory_verbs }
-{
     if word.is(b"alloc") {
         Some(Verb::Alloc)
     } else if word.is(b"free") {
@@ -106,12 +96,13 @@ fn memory_verb(word: &Token) -> Option<Verb>
             call: NameCall::Stats,
         })
     } else {
-        None
+        heap_verb(word)
     }
 }
 
+// The verbs behind those of memory.
 fn heap_verb(word: &Token) -> Option<Verb>
-    ensures { result ≡ lookup (λ verb. is_word verb word.now) heap_verbs }
+    ensures { result ≡ lookup (λ verb. is_word verb word.now) (drop 8 verbs) }
 {
     if word.is(b"heap") {
         Some(Verb::Name {
@@ -136,12 +127,13 @@ fn heap_verb(word: &Token) -> Option<Verb>
             call: RangeCall::Unmap,
         })
     } else {
-        None
+        member_verb(word)
     }
 }
 
+// The verbs of participants, watchers and validators.
 fn member_verb(word: &Token) -> Option<Verb>
-    ensures { result ≡ lookup (λ verb. is_word verb word.now) member_verbs }
+    ensures { result ≡ lookup (λ verb. is_word verb word.now) (drop 14 verbs) }
 {
     if word.is(b"attach") {
         Some(Verb::Member {

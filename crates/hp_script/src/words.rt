@@ -42,10 +42,7 @@ fn cut_field<'a>(whole: &Piece<'a>) -> Option<(Piece<'a>, Option<Piece<'a>>)>
     if byte != b' ' && byte != b'\t' {
         return None;
     }
-    let (front, _) = text.split_at(n);
-    let (_, behind) = text.split_at(n + 1);
-    let first = Piece::new(whole.start(), front);
-    Some((first, Some(Piece::new(whole.start() + n + 1, behind))))
+    Some((whole.front(n), Some(whole.rest(n + 1))))
 }
 
 // Whether each byte of a line may stand there.

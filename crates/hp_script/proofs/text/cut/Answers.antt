@@ -14,5 +14,4 @@ pub returns-in-Some-clause-parts : goal.returns-in-Some-clause-parts
 returns-in-Some-clause-parts c =
     let found : position (is_separator c.args.separator) c.args.whole.now.text ≡ Some c.in-Some.n = cc (c.in-Some.ensures.place) in
     let within = rw c.as_bytes-text.ensures.text at c.in-Some.ensures.within in
-    rw (c.new-first.ensures, c.new.ensures, c.start.ensures, c.start-in-Some.ensures, c.split_at.ensures.front, c.split_at-in-Some.ensures.back, c.as_bytes-text.ensures.text)
-    (parts_some c.args.separator c.args.whole.now c.in-Some.n found within)
+    rw (c.front.ensures, c.rest.ensures) (parts_some c.args.separator c.args.whole.now c.in-Some.n found within)

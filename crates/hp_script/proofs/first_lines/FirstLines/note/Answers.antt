@@ -1,13 +1,13 @@
 -- A name keeps the line that it has, or gets this one.
-use Rattle.std.proofs.Common.{◌≡◌, ℕ, Bool, true, false, List, refl, ap, ◌∙◌, rules, Bor}
+use Rattle.std.proofs.Common.{◌≡◌, ℕ, Bool, true, false, List, refl, ap, ◌∙◌, rules}
 use Rattle.std.specs.Prelude.{Option, Some, None, cond}
 use Rattle.std.specs.Option.{option_or, unwrap_or}
 use Rattle.std.specs.Str.{bytes_eq}
 use Rattle.std.specs.HashMap.{HashMap, UpdatesBy, get_by}
 use Rattle.std.specs.HashMap.Entry.{map_with_value}
-use Rattle.std.proofs.lemmas.Map.Text.{hash_map_updates_str}
 use Rattle.std.proofs.lemmas.Slice.Eq.{bytes_eq-Decides}
 use Rattle.hp_script.specs.Known.{line_known}
+use Rattle.hp_script.specs.declared.name_key.NameKey.{NameKey}
 use Rattle.hp_script.proofs.first_lines.FirstLines.note.Goals as goal
 
 option_or-none : (o : Option ℕ) → o ≡ option_or o None
@@ -19,15 +19,15 @@ kept_or_given None number = refl
 kept_or_given (Some first) number = refl
 
 -- what a map of lines has for a name
-abbrev line_in : {S : Type 0} → HashMap (Bor (List ℕ)) ℕ S → List ℕ → Option ℕ
-line_in lines name = get_by (λ key. bytes_eq name key.now) lines
+abbrev line_in : {S : Type 0} → HashMap NameKey ℕ S → List ℕ → Option ℕ
+line_in lines name = get_by (λ key. bytes_eq name key.text.now) lines
 
 -- an entry at a name that keeps the line that is there, and else gets one
-noted : {S : Type 0} (old : HashMap (Bor (List ℕ)) ℕ S) (with : ℕ → HashMap (Bor (List ℕ)) ℕ S) (name : List ℕ) (number line : ℕ)
-    → ((v : ℕ) → UpdatesBy (λ x y. bytes_eq x.now y.now) (λ key. bytes_eq name key.now) old (with v) (Some v)) → line ≡ unwrap_or (line_in old name) number
+noted : {S : Type 0} (old : HashMap NameKey ℕ S) (with : ℕ → HashMap NameKey ℕ S) (name : List ℕ) (number line : ℕ)
+    → ((v : ℕ) → UpdatesBy (λ x y. bytes_eq x.text.now y.text.now) (λ key. bytes_eq name key.text.now) old (with v) (Some v)) → line ≡ unwrap_or (line_in old name) number
     → (other : List ℕ) → line_in (with line) other ≡ option_or (line_in old other) (cond (bytes_eq name other) (Some number) None)
 noted old with name number line updates had other =
-    hash_map_updates_str name old (with line) (Some line) (updates line) other ∙ chosen (bytes_eq name other) refl
+    (updates line).0 (record { text = record { ref_ptr = (0, 0); now = other } }) ∙ chosen (bytes_eq name other) refl
   where
     chosen : (test : Bool) → bytes_eq name other ≡ test → cond test (Some line) (line_in old other) ≡ option_or (line_in old other) (cond test (Some number) None)
     chosen true is =
