@@ -1,5 +1,5 @@
 -- Catching up, by what contracts see of a table.
-use Rattle.std.proofs.Common.{◌≡◌, ◌≤◌, ◌<◌, ◌^◌, ℕ, ◌+◌, ◌-◌, Bool, true, false, not, ◌&&◌, List, [], ◌∷◌, ◌++◌, filter, length, take, drop, refl, ap, ◌∙◌, sym, subst, arith, inl, inr, length-append, length-take, count_by}
+use Rattle.std.proofs.Common.{◌≡◌, ◌≤◌, ◌<◌, ◌^◌, ℕ, ◌+◌, ◌-◌, Bool, true, false, not, ◌&&◌, List, [], ◌∷◌, ◌++◌, length, take, drop, refl, ap, ◌∙◌, sym, subst, arith, inl, inr, length-append, length-take, count_by}
 use Rattle.std.specs.List.{All}
 use Rattle.std.proofs.lemmas.Bool.{cases_Bool, lt-ltb}
 use Rattle.std.proofs.lemmas.List.Elements.{All-append, All-drop, All-filter, All-take, All-weaker, filter-append}
@@ -7,7 +7,6 @@ use Rattle.hp_base.specs.Mapping.{has_addr, is_done}
 use Rattle.hp_base.specs.declared.caught.Caught.{Caught}
 use Rattle.hp_base.specs.declared.caught.Caught.TheVariants as caught
 use Rattle.hp_base.specs.declared.row.Row.{Row}
-use Rattle.hp_base.specs.declared.row.Run.{Run}
 use Rattle.hp_log.specs.Log.{run_in, table_at}
 use Rattle.hp_log.specs.declared.log_record.LogRecord.{LogRecord}
 use Rattle.hp_log.proofs.Counts.{count_append, count_filter, count_split}

@@ -1,5 +1,5 @@
 -- A chunk's rows behind those of others.
-use Rattle.std.proofs.Common.{◌≡◌, ◌≤◌, ◌<◌, ◌^◌, ℕ, ◌+◌, ◌-◌, ◌*◌, ◌/◌, ◌%◌, List, [], ◌∷◌, ◌++◌, length, take, drop, refl, ap, ◌∙◌, sym, subst, arith, length-append}
+use Rattle.std.proofs.Common.{◌≡◌, ◌≤◌, ◌<◌, ◌^◌, ℕ, ◌+◌, ◌*◌, ◌/◌, List, [], ◌++◌, length, take, drop, ap, ◌∙◌, sym, subst, arith, length-append}
 use Rattle.std.proofs.Math.Nat.{mul-le-mul_right}
 use Rattle.std.proofs.Math.Seq.{drop-append_seam, take-append_seam}
 use Rattle.std.specs.List.{All}
@@ -10,7 +10,7 @@ use Rattle.hp_base.specs.declared.caught.Caught.TheVariants as caught
 use Rattle.hp_base.specs.declared.chunk.Chunk.{Chunk}
 use Rattle.hp_base.specs.declared.row.Row.{Row}
 use Rattle.hp_base.specs.declared.row.Run.{Run}
-use Rattle.hp_log.specs.Rows.{row_of, rows_of}
+use Rattle.hp_log.specs.Rows.{rows_of}
 use Rattle.hp_log.proofs.RowLemmas.{all_rows_below, length_rows_below}
 use Rattle.hp_maps.specs.Catching.{rows_after, undropped}
 use Rattle.hp_maps.specs.Chunks.{CanAttach, rows_of_chunk, run_of_chunk}

@@ -1,20 +1,21 @@
 -- Laws of logs and of stretches.
-use Rattle.std.proofs.Common.{◌≡◌, ◌≤◌, ◌<◌, ◌⊎◌, ℕ, zero, suc, ◌+◌, ◌-◌, ◌*◌, Bool, true, false, not, ◌&&◌, cond, List, [], ◌∷◌, ◌++◌, filter, length, take, drop, refl, ap, ◌∙◌, sym, subst, arith, inl, inr, append_assoc, length-append, count_by}
+use Rattle.std.proofs.Common.{◌≡◌, ◌≤◌, ℕ, ◌+◌, Bool, true, false, not, cond, List, [], ◌∷◌, ◌++◌, refl, ap, ◌∙◌, sym, subst, arith, inl, inr, count_by}
 use Rattle.std.specs.Prelude.{flat_map}
 use Rattle.std.specs.List.{All}
 use Rattle.std.proofs.lemmas.Bool.{cases_Bool, cond-true, cond-false}
-use Rattle.std.proofs.lemmas.List.Elements.{All-head, All-tail, All-weaker}
+use Rattle.std.proofs.lemmas.List.Elements.{All-head, All-tail}
 use Rattle.hp_base.specs.declared.row.Row.{Row}
 use Rattle.hp_base.specs.declared.row.Run.{Run}
-use Rattle.hp_log.specs.Log.{AllMayFollow, IsWellFormed, table_after, table_at, table_from}
-use Rattle.hp_log.specs.Rows.{at_slot, in_run, row_of, rows_at, rows_below, rows_of}
+use Rattle.hp_log.specs.Log.{table_at}
+use Rattle.hp_log.specs.Rows.{at_slot, in_run, row_of, rows_at, rows_of}
 use Rattle.hp_log.specs.declared.log_record.LogRecord.{LogRecord}
-use Rattle.hp_log.specs.declared.log_record.LogRecord.TheVariants.{Add, Drop}
-use Rattle.hp_log.proofs.Counts.{count_append, count_cons, count_split}
-use Rattle.hp_log.proofs.RowLemmas.{all_rows_below, in_run_from, row_at_place, run_rows_at, IsAtPlace}
+use Rattle.hp_log.specs.declared.log_record.LogRecord.TheVariants.{Drop}
+use Rattle.hp_log.proofs.Counts.{count_cons}
+use Rattle.hp_log.proofs.RowLemmas.{all_rows_below, in_run_from, row_at_place}
+use Rattle.hp_log.proofs.TableLemmas.{once_at}
 use Rattle.hp_maps.specs.Catching.{is_dropped, new_rows, undropped}
 use Rattle.hp_maps.specs.Events.{in_front, stretches_of}
-use Rattle.hp_maps.specs.Laws.{AreAtOneSlot, AreCut, AreJoined, BringsNothing, FallIntoStretches, HasOneRowASlot, IsApartAt, IsCutBefore, IsJoined}
+use Rattle.hp_maps.specs.Laws.{AreAtOneSlot, AreCut, AreJoined, BringsNothing, FallIntoStretches, HasOneRowASlot, IsApartAt}
 use Rattle.hp_base.specs.Mapping.{has_addr}
 use Rattle.hp_maps.specs.MapsView.{AreApart}
 use Rattle.hp_maps.proofs.ListFacts.{filter_drops}
@@ -33,33 +34,9 @@ failed_brings_nothing run n heap later =
     let same : n + 1 + 1 ≡ n + 2 = omega arith in
     ap (λ l. l ++ new_rows (n + 1 + 1) later) none ∙ ap (λ (k : ℕ). new_rows k later) same
 
-once_added : (table : List Row) (run : Run) (generation list slot : ℕ)
-    → ((k : ℕ) → k < run.count → rows_at table run.list (run.first + k) ≡ 0) → rows_at table list slot ≤ 1
-    → (rows_at (rows_of run generation) list slot ≡ 0) ⊎ IsAtPlace run generation run.count list slot
-    → rows_at (table ++ rows_of run generation) list slot ≤ 1
-once_added table run generation list slot unused once (inl none) =
-    omega (arith, count_append (at_slot list slot) table (rows_of run generation), once, none)
-once_added table run generation list slot unused once (inr at) =
-    let free = unused at.place at.within in
-    let here : rows_at table list slot ≡ rows_at table run.list (run.first + at.place) =
-    ap (λ (l : ℕ). rows_at table l slot) at.its_list ∙ ap (rows_at table run.list) at.its_slot in
-    omega (arith, count_append (at_slot list slot) table (rows_of run generation), free, here, at.one)
-
-once_from : (n : ℕ) (table : List Row) (records : List LogRecord) (count list slot : ℕ) → AllMayFollow n table records
-    → ((l s : ℕ) → rows_at table l s ≤ 1) → rows_at (table_from n table (take count records)) list slot ≤ 1
-once_from n table [] zero list slot formed once = once list slot
-once_from n table [] (suc count) list slot formed once = once list slot
-once_from n table (entry ∷ records) zero list slot formed once = once list slot
-once_from n table (Add run heap ∷ records) (suc count) list slot formed once =
-    once_from (n + 1) (table ++ rows_of run (n + 1)) records count list slot formed.1
-    (λ l s. once_added table run (n + 1) l s formed.0.unused (once l s) (run_rows_at run (n + 1) run.count l s))
-once_from n table (Drop run ∷ records) (suc count) list slot formed once =
-    once_from (n + 1) (filter (λ row. not (in_run run row)) table) records count list slot formed.1
-    (λ l s. omega (arith, once l s, count_split (at_slot l s) (λ row. not (in_run run row)) table))
-
 -- in a well-formed log no slot has two rows
 pub one_row_a_slot : (records : List LogRecord) → HasOneRowASlot records
-one_row_a_slot records formed n list slot = once_from 0 [] records n list slot formed (λ l s. omega arith)
+one_row_a_slot records formed n list slot = once_at records formed n list slot
 
 abbrev one_if : Bool → ℕ
 one_if b = cond b 1 0

@@ -6,7 +6,14 @@ mod TableLaw
 mod TakeLemmas
 mod CatchLemmas
 mod TellLemmas
+mod EndLemmas
+pub mod LawLemmas
+mod FreedLemmas
+mod FewLemmas
+pub mod FewEvents
 mod ChunkLemmas
 mod LeaveLemmas
-pub mod LawLemmas
 mod StayLemmas
+mod BesideLemmas
+mod ReadyLemmas
+mod Worked

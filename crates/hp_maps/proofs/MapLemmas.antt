@@ -1,18 +1,17 @@
 -- Rows that are mapped one after the other, and unmapped again where one of them failed.
-use Rattle.std.proofs.Common.{◌≡◌, ◌≤◌, ◌<◌, ◌^◌, ℕ, ◌+◌, ◌-◌, ◌*◌, ◌==◌, Bool, true, false, cond, List, [], ◌∷◌, ◌++◌, length, map, take, drop, get_or, Some, refl, ap, ◌∙◌, sym, subst, arith, inl, inr, add-one, length-append, length-take, length-drop, take-suc, get_or-drop, append_assoc, count_by}
+use Rattle.std.proofs.Common.{◌≡◌, ◌≤◌, ◌<◌, ℕ, ◌+◌, ◌-◌, ◌==◌, Bool, true, false, cond, List, [], ◌∷◌, ◌++◌, length, map, take, drop, get_or, Some, refl, ap, ◌∙◌, sym, subst, arith, add-one, length-append, length-take, length-drop, take-suc, get_or-drop, append_assoc}
 use Rattle.std.proofs.Math.Seq.{take-add}
-use Rattle.std.specs.List.{All, list_any, slice_get}
+use Rattle.std.specs.List.{list_any}
 use Rattle.std.proofs.lemmas.Bool.{eq-eqb, eqb-true, and_from, and_parts}
 use Rattle.std.proofs.lemmas.List.{length-map, take-append-drop, map-append}
 use Rattle.std.proofs.lemmas.List.Elements.{All-get_or}
 use Rattle.std.proofs.lemmas.Option.{slice_get-get_or}
-use Rattle.hp_base.specs.Mapping.{Held, CanMap, at_own_place, has_addr, is_refused, own_place, owned, without_row}
-use Rattle.hp_base.specs.declared.caught.Caught.{Caught}
+use Rattle.hp_base.specs.Mapping.{Held, CanMap, at_own_place, has_addr, is_refused, own_place, owned}
 use Rattle.hp_base.specs.declared.map_answer.MapAnswer.{MapAnswer}
 use Rattle.hp_base.specs.declared.map_answer.MapAnswer.TheVariants.{At, Refused}
 use Rattle.hp_base.specs.declared.row.Row.{Row}
 use Rattle.hp_log.proofs.Counts.{count_append, count_cons}
-use Rattle.hp_maps.specs.Catching.{HasAnswered, HasFailed, IsElsewhere}
+use Rattle.hp_maps.specs.Catching.{HasAnswered, HasFailed}
 use Rattle.hp_maps.specs.MapsView.{AreApart}
 use Rattle.hp_maps.specs.Unmapping.{CanMapRows, IsWithin, caught_by, held_own, is_own, rows_mapped, without_rows}
 use Rattle.hp_maps.proofs.HeldLemmas.{all_placed, held_addr, without_behind}

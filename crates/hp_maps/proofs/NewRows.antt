@@ -1,5 +1,5 @@
 -- The rows that records bring, as they are added one after the other.
-use Rattle.std.proofs.Common.{◌≡◌, ◌≤◌, ◌<◌, ℕ, zero, suc, ◌+◌, Bool, not, List, [], ◌∷◌, ◌++◌, filter, length, take, drop, ◌-◌, get_or, refl, ap, ◌∙◌, sym, subst, arith, inl, inr, add-one, length-append, append_assoc, drop-cons}
+use Rattle.std.proofs.Common.{◌≡◌, ◌≤◌, ◌<◌, ℕ, zero, suc, ◌+◌, not, List, [], ◌∷◌, ◌++◌, length, take, drop, ◌-◌, get_or, ap, ◌∙◌, sym, subst, arith, inl, inr, add-one, length-append, drop-cons}
 use Rattle.std.proofs.lemmas.Bool.{cases_eq}
 use Rattle.std.proofs.lemmas.List.{take_rest}
 use Rattle.std.proofs.lemmas.List.Elements.{filter-append}
@@ -7,7 +7,7 @@ use Rattle.hp_base.specs.declared.row.Row.{Row}
 use Rattle.hp_base.specs.declared.row.Run.{Run}
 use Rattle.hp_log.specs.Rows.{row_of, rows_below, rows_of}
 use Rattle.hp_log.specs.declared.log_record.LogRecord.{LogRecord}
-use Rattle.hp_log.specs.declared.log_record.LogRecord.TheVariants.{Add, Drop}
+use Rattle.hp_log.specs.declared.log_record.LogRecord.TheVariants.{Add}
 use Rattle.hp_log.proofs.RowLemmas.{rows_below_more}
 use Rattle.hp_maps.specs.Catching.{brought, is_dropped, new_rows, undropped}
 

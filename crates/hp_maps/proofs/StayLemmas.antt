@@ -1,6 +1,6 @@
 -- What calls of a mapper leave where it was, and how few events a catch-up tells.
-use Rattle.std.proofs.Common.{◌≡◌, ◌≤◌, ◌+◌, ℕ, zero, suc, Bool, true, false, not, ◌||◌, List, [], ◌∷◌, ◌++◌, Option, Some, None, option_to_list, find, filter, length, get_or, refl, ap, ◌∙◌, sym, subst, arith, inl, inr, length-append}
-use Rattle.std.specs.List.{All, Contains}
+use Rattle.std.proofs.Common.{◌≡◌, ◌≤◌, ◌+◌, ℕ, zero, suc, true, false, not, ◌||◌, List, [], ◌∷◌, ◌++◌, Option, Some, None, option_to_list, find, length, refl, ap, ◌∙◌, sym, arith, inl, inr, length-append}
+use Rattle.std.specs.List.{All}
 use Rattle.std.specs.Prelude.{sum_by}
 use Rattle.std.proofs.lemmas.Bool.{cases_Bool}
 use Rattle.std.proofs.lemmas.List.Elements.{All-contains, All-filter, All-head, All-push, All-tail, filter_passes}
@@ -19,7 +19,7 @@ use Rattle.hp_log.specs.declared.log_record.LogRecord.{LogRecord}
 use Rattle.hp_log.specs.declared.log_record.LogRecord.TheVariants.{Add, Drop}
 use Rattle.hp_log.proofs.RowLemmas.{length_rows_below}
 use Rattle.hp_maps.specs.Catching.{is_dropped, new_rows, undropped}
-use Rattle.hp_maps.specs.Events.{dropped_events, events_of, freed_by, rows_from, stands_at}
+use Rattle.hp_maps.specs.Events.{dropped_events, events_of, rows_from, stands_at}
 use Rattle.hp_maps.specs.Laws.{MapperCall, Maps, StaysMapped, TellsFew, Unmaps, answers_of, held_by, is_unmapped_by}
 use Rattle.hp_maps.proofs.LeaveLemmas.{events_length}
 

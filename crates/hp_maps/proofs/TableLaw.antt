@@ -1,27 +1,21 @@
 -- The table at a later record, by the table at an earlier one.
-use Rattle.std.proofs.Common.{◌≡◌, ◌≤◌, ◌<◌, ◌^◌, ℕ, zero, suc, ◌+◌, ◌-◌, ◌*◌, Bool, true, false, not, ◌&&◌, ◌||◌, List, [], ◌∷◌, ◌++◌, filter, length, take, drop, refl, ap, ◌∙◌, sym, subst, arith, inl, inr, append_assoc, length-append, length-take, count_by}
-use Rattle.std.proofs.Math.Nat.{mul-le-mul_right}
+use Rattle.std.proofs.Common.{◌≡◌, ◌≤◌, ℕ, ◌+◌, ◌-◌, Bool, true, false, not, ◌&&◌, ◌||◌, List, [], ◌∷◌, ◌++◌, filter, length, take, drop, refl, ap, ◌∙◌, sym, arith, append_assoc, length-take}
 use Rattle.std.proofs.Math.Seq.{take-add}
-use Rattle.std.specs.List.{All, list_any}
+use Rattle.std.specs.List.{All}
 use Rattle.std.proofs.lemmas.List.Folds.{list_any-append}
-use Rattle.std.proofs.lemmas.List.Elements.{All-append, All-filter, All-head, All-nil, All-tail, filter-append}
-use Rattle.std.proofs.lemmas.Bool.{lt-ltb}
+use Rattle.std.proofs.lemmas.List.Elements.{filter-append}
 use Rattle.hp_base.specs.declared.row.Row.{Row}
-use Rattle.hp_base.specs.declared.row.Run.{Run}
-use Rattle.hp_log.specs.Log.{run_in, table_after, table_at, table_from}
-use Rattle.hp_log.specs.Rows.{in_run, row_of, rows_below, rows_of}
+use Rattle.hp_log.specs.Log.{table_after, table_at, table_from}
+use Rattle.hp_log.specs.Rows.{in_run, rows_of}
 use Rattle.hp_log.specs.declared.log_record.LogRecord.{LogRecord}
 use Rattle.hp_log.specs.declared.log_record.LogRecord.TheVariants.{Add, Drop}
-use Rattle.hp_log.proofs.RowLemmas.{all_rows_below}
-use Rattle.hp_maps.specs.Catching.{IsMappableRun, brought, drops, goes, is_dropped, kept, new_rows, newer, undropped}
-use Rattle.hp_maps.specs.MapsView.{chunk_rows, is_of_log, table_in}
-use Rattle.hp_maps.specs.Unmapping.{IsWithin}
-use Rattle.hp_maps.proofs.ListFacts.{filter_agree, filter_keeps, filter_drops, filter_twice}
+use Rattle.hp_maps.specs.Catching.{drops, is_dropped, new_rows, newer, undropped}
+use Rattle.hp_maps.proofs.ListFacts.{filter_agree, filter_keeps, filter_twice}
 
-every : {X : Type 0} (P : X → Type 0) → ((x : X) → P x) → (xs : List X) → All P xs
+pub every : {X : Type 0} (P : X → Type 0) → ((x : X) → P x) → (xs : List X) → All P xs
 every P each xs = λ k d within. each _
 
-append_nothing : {X : Type 0} (l : List X) → l ++ [] ≡ l
+pub append_nothing : {X : Type 0} (l : List X) → l ++ [] ≡ l
 append_nothing [] = refl
 append_nothing (x ∷ l) = ap (λ rest. x ∷ rest) (append_nothing l)
 

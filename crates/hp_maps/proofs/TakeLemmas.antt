@@ -1,5 +1,5 @@
 -- What records bring may be mapped behind what stays.
-use Rattle.std.proofs.Common.{◌≡◌, ◌≤◌, ◌<◌, ◌^◌, ℕ, zero, suc, ◌+◌, ◌-◌, ◌*◌, Bool, true, false, not, List, [], ◌∷◌, ◌++◌, filter, length, take, drop, refl, ap, ◌∙◌, sym, subst, arith, inl, inr, append_assoc, length-append}
+use Rattle.std.proofs.Common.{◌≡◌, ◌≤◌, ◌<◌, ◌^◌, ℕ, ◌+◌, ◌*◌, not, List, [], ◌∷◌, ◌++◌, length, take, drop, ap, ◌∙◌, sym, subst, arith, length-append}
 use Rattle.std.proofs.Math.Nat.{mul-le-mul_right}
 use Rattle.std.proofs.Math.Seq.{drop-append_seam, take-append_seam}
 use Rattle.std.specs.List.{All}
@@ -12,7 +12,7 @@ use Rattle.hp_log.specs.Rows.{row_of, rows_of}
 use Rattle.hp_log.specs.declared.log_record.LogRecord.{LogRecord}
 use Rattle.hp_log.specs.declared.log_record.LogRecord.TheVariants.{Add, Drop}
 use Rattle.hp_log.proofs.RowLemmas.{all_rows_below}
-use Rattle.hp_maps.specs.Catching.{IsMappableRun, brought, is_dropped, kept, new_rows, undropped}
+use Rattle.hp_maps.specs.Catching.{IsMappableRun, is_dropped, kept, new_rows, undropped}
 use Rattle.hp_maps.specs.MapsView.{AreApart}
 use Rattle.hp_maps.specs.Unmapping.{CanMapRows, CanTakeIn, IsWithin}
 

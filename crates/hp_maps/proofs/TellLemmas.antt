@@ -1,5 +1,5 @@
 -- Rows that are told one after the other are told by their greatest stretches.
-use Rattle.std.proofs.Common.{◌≡◌, ◌≤◌, ◌<◌, ℕ, zero, suc, ◌+◌, ◌-◌, Bool, true, false, cond, List, [], ◌∷◌, ◌++◌, length, map, find, drop, take, Option, Some, None, IfSome, option_to_list, refl, ap, ◌∙◌, sym, subst, arith, inl, inr, length-append, add-one, get_or, drop-cons}
+use Rattle.std.proofs.Common.{◌≡◌, ◌≤◌, ◌<◌, ℕ, suc, ◌+◌, ◌-◌, Bool, true, false, List, [], ◌∷◌, ◌++◌, length, map, find, drop, take, Option, Some, None, IfSome, option_to_list, refl, ap, ◌∙◌, sym, arith, inl, inr, length-append, add-one, get_or, drop-cons}
 use Rattle.std.specs.List.{All}
 use Rattle.std.proofs.Math.Seq.{drop-append_seam}
 use Rattle.std.proofs.lemmas.List.{length-map}
@@ -23,16 +23,16 @@ use Rattle.hp_maps.proofs.MapLemmas.{take_more}
 use Rattle.hp_maps.specs.Catching.{HasAnswered, kept, new_rows, rows_after}
 use Rattle.hp_maps.specs.Events.{all_told, caught_events, dropped_events, event_of, freed_by, events_of, in_front, joins_by, rows_from, stands_at, stretches_of}
 use Rattle.hp_maps.specs.MapsView.{MapsView}
-use Rattle.hp_maps.specs.TellingInTurn.{IsWhole, ahead, events_from, stretch_after, stretch_at, mapped_events, stretch_with, told_then}
+use Rattle.hp_maps.specs.TellingInTurn.{ahead, events_from, stretch_after, mapped_events, told_then}
 use Rattle.hp_maps.specs.declared.telling.Stretch.{Stretch}
 
 -- the first stretch of rows begins with the first row
-record Headed (row : Row) (stretches : List (List Row)) : Type 0 where
-  rest : List Row
-  others : List (List Row)
-  first : stretches ≡ (row ∷ rest) ∷ others
+pub record Headed (row : Row) (stretches : List (List Row)) : Type 0 where
+  pub rest : List Row
+  pub others : List (List Row)
+  pub first : stretches ≡ (row ∷ rest) ∷ others
 
-headed : (joins : Row → Row → Bool) (row : Row) (stretches : List (List Row)) → Headed row (in_front joins row stretches)
+pub headed : (joins : Row → Row → Bool) (row : Row) (stretches : List (List Row)) → Headed row (in_front joins row stretches)
 headed joins row [] = record { rest = []; others = []; first = refl }
 headed joins row ([] ∷ stretches) = record { rest = []; others = stretches; first = refl }
 headed joins row ((next ∷ stretch) ∷ stretches) =

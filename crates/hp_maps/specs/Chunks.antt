@@ -1,11 +1,11 @@
 -- The rows of a chunk of external memory, and when it may be attached: the rule "Chunks" of docs/TABLES.md.
-use Rattle.std.specs.Prelude.{◌≡◌, ℕ, ◌+◌, ◌/◌, ◌^◌, ◌<◌, ◌≤◌, Bool, not, ◌&&◌, ◌==◌, List, ◌++◌, length, filter}
+use Rattle.std.specs.Prelude.{◌+◌, ◌/◌, ◌^◌, ◌<◌, ◌≤◌, Bool, not, ◌&&◌, ◌==◌, List, ◌++◌, length, filter}
 use Rattle.hp_base.specs.ExternalMemory.{IsExternalMemory}
 use Rattle.hp_base.specs.declared.chunk.Chunk.{Chunk}
 use Rattle.hp_base.specs.declared.row.Row.{Row}
 use Rattle.hp_base.specs.declared.row.Run.{Run}
 use Rattle.hp_log.specs.Rows.{rows_of}
-use Rattle.hp_maps.specs.MapsView.{MapsView, AreApart, calls_of, is_of_log}
+use Rattle.hp_maps.specs.MapsView.{MapsView, AreApart, calls_of}
 
 -- all slots of a chunk's list
 abbrev pub run_of_chunk : Chunk → Run

@@ -1,5 +1,5 @@
 -- What is told of rows that come and go: the rule "Events" of docs/TABLES.md.
-use Rattle.std.specs.Prelude.{◌≡◌, ℕ, zero, suc, ◌+◌, ◌<◌, ◌≤◌, Bool, not, ◌&&◌, ◌==◌, List, [], ◌∷◌, ◌++◌, map, find, sum_by, if◌then◌else◌, option_to_list}
+use Rattle.std.specs.Prelude.{◌≡◌, ℕ, zero, suc, ◌+◌, Bool, not, ◌&&◌, ◌==◌, List, [], ◌∷◌, ◌++◌, map, find, sum_by, if◌then◌else◌, option_to_list}
 use Rattle.std.specs.List.Sorted.{IsNonDecreasingBy, IsPermutation}
 use Rattle.hp_base.specs.Telling.{told_after}
 use Rattle.hp_base.specs.declared.caught.Caught.{Caught}

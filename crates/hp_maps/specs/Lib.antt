@@ -3,6 +3,7 @@ pub mod Catching
 pub mod Chunks
 pub mod Events
 pub mod Laws
+pub mod Ready
 pub mod PlannedView
 pub mod PlannedLayout
 pub mod Unmapping

@@ -1,5 +1,5 @@
 -- A mapper that refuses or misplaces rows by a plan: the rule "Mapping faults" of docs/TABLES.md.
-use Rattle.std.specs.Prelude.{◌≡◌, ℕ, ◌+◌, ◌<◌, ◌≤◌, ◌==◌, List, [], ◌∷◌, ◌++◌, length, Option, Some, None, IfSome, if◌then◌else◌}
+use Rattle.std.specs.Prelude.{◌≡◌, ℕ, ◌+◌, ◌==◌, List, [], ◌∷◌, ◌++◌, if◌then◌else◌}
 use Rattle.hp_base.specs.Mapping.{Held}
 use Rattle.hp_base.specs.Plans.{map_action_of}
 use Rattle.hp_base.specs.declared.map_answer.MapAnswer.{MapAnswer}

@@ -6,6 +6,15 @@ ghost use Rattle.hp_base.specs.declared.row.Row.{Row};
 ghost use Rattle.hp_base.specs.declared.row.Run.{Run};
 ghost use Rattle.hp_log.specs.declared.log_record.LogRecord.{LogRecord};
 ghost use Rattle.hp_maps.specs.Events.{joins_by};
+ghost use Rattle.hp_maps.specs.Ready.{
+  AttachedBeside,
+  DetachedBeside,
+  IsReadyToAttach,
+  IsReadyToCatchUp,
+  NewIsReady,
+  StaysReady,
+  TellsOneARecord,
+};
 ghost use Rattle.hp_maps.specs.Laws.{
   BringsNothing,
   FallIntoStretches,
@@ -52,4 +61,17 @@ pub fn apart_law()
 /// Rows are told by their greatest stretches: none is left out or told twice, and no two events touch that could be one.
 pub fn stretch_law()
     ensures { (kind : EventKind) (rows : List Row) → FallIntoStretches (joins_by kind) rows }
+{}
+
+/// What a participant knows gives the conditions of its calls, where the log is one of segment lists that lie apart. It knows
+/// this of a new table, and still after each catch-up. It may catch up, which tells at most one event for each record, so that
+/// room for twice the new records is enough; and it may attach a chunk that lies beside the lists.
+pub fn ready_law()
+    ensures new { NewIsReady }
+    ensures stays { StaysReady }
+    ensures catch_up { IsReadyToCatchUp }
+    ensures spare { TellsOneARecord }
+    ensures attach { IsReadyToAttach }
+    ensures attached { AttachedBeside }
+    ensures detached { DetachedBeside }
 {}

@@ -1,8 +1,9 @@
-//! Worked values: tables over one page and two, refused, misplaced, dropped, beside a chunk, and what they tell.
+//! Worked values: tables over one page and two, refused, misplaced, dropped, full, left, beside a chunk, and what they tell.
 ghost use Rattle.std.specs.Prelude.{◌≡◌, ◌+◌, ◌-◌, ◌*◌, ◌^◌, ◌<◌, ◌≤◌, [], ◌∷◌, length, IfOk, vec_len, vec_capacity};
 
 mod chunks;
 mod events;
+mod ready;
 
 use crate::*;
 use hp_base::{Caught, MapAnswer, MemMapper, Plan, PlanEntry, Row, Run, Silent};
@@ -126,5 +127,75 @@ fn undoes_a_misplaced_page(rt: HostRuntime) -> Result<(), Fail> {
     };
     assert_eq!(rt; caught, elsewhere);
     assert!(rt; maps.rows().is_empty());
+    let caught = maps.catch_up([ADD, DROP].as_slice(), 2, &mut Silent);
+    assert_eq!(rt; caught, Caught::Done);
+    assert_eq!(rt; maps.number(), 2);
+    assert_eq!(rt; maps.calls(), 1);
+    assert!(rt; maps.rows().is_empty());
+    Ok(())
+}
+
+// The second page of the first list.
+const ADD_SECOND: LogRecord = LogRecord::Add {
+    run: Run {
+        first: 1,
+        addr: 0x1_0020_0000,
+        ..FIRST
+    },
+    heap: 0,
+};
+
+// A table of one row, over a mapper that holds one.
+#[test]
+fn makes_room_in_a_full_mapper_first(rt: HostRuntime) -> Result<(), Fail> {
+    let mut maps = LocalMaps::new(rt.alloc(), MemMapper::new(rt.alloc(), 1)?, 1)?;
+    let caught = maps.catch_up([ADD].as_slice(), 1, &mut Silent);
+    assert_eq!(rt; caught, Caught::Done);
+    assert_eq!(rt; maps.rows(), [FIRST_ROW].as_slice());
+    let caught = maps.catch_up([ADD, DROP, ADD_SECOND].as_slice(), 3, &mut Silent);
+    assert_eq!(rt; caught, Caught::Done);
+    let second = Row {
+        addr: 0x1_0020_0000,
+        slot: 1,
+        generation: 3,
+        ..FIRST_ROW
+    };
+    assert_eq!(rt; maps.rows(), [second].as_slice());
+    Ok(())
+}
+
+// Two pages, of which the second is refused at the first try: participant 1 stays out, and joins at the second.
+#[test]
+fn takes_back_what_came_before_a_refusal(rt: HostRuntime) -> Result<(), Fail> {
+    let mut plan = Plan::new(rt.alloc());
+    plan.add(PlanEntry::Mapping {
+        party: 1,
+        call: 2,
+        elsewhere: false,
+        line: 4,
+    })?;
+    let mapper = Planned::new(MemMapper::new(rt.alloc(), 4)?, &plan, 1);
+    let mut maps = LocalMaps::new(rt.alloc(), mapper, 4)?;
+    let second = Row {
+        addr: 0x1_0020_0000,
+        slot: 1,
+        generation: 2,
+        ..FIRST_ROW
+    };
+    let caught = maps.catch_up([ADD, ADD_SECOND].as_slice(), 2, &mut Silent);
+    let refused = Caught::Refused {
+        row: second,
+        call: 2,
+    };
+    assert_eq!(rt; caught, refused);
+    assert!(rt; maps.rows().is_empty());
+    assert_eq!(rt; maps.number(), 0);
+    let caught = maps.catch_up([ADD, ADD_SECOND].as_slice(), 2, &mut Silent);
+    assert_eq!(rt; caught, Caught::Done);
+    assert_eq!(rt; maps.rows(), [FIRST_ROW, second].as_slice());
+    assert_eq!(rt; maps.calls(), 4);
+    maps.unmap_all(&mut Silent);
+    assert!(rt; maps.rows().is_empty());
+    assert_eq!(rt; maps.number(), 0);
     Ok(())
 }

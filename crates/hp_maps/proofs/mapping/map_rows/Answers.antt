@@ -1,11 +1,10 @@
 -- One row more is mapped, or the rows are unmapped again.
-use Rattle.std.proofs.Common.{◌≡◌, ◌+◌, ◌-◌, true, false, length, take, drop, map, get_or, arith, rules, length-append, length-take, length-drop, ap, ◌∙◌, sym, subst}
+use Rattle.std.proofs.Common.{◌-◌, length, take, drop, map, get_or, arith, length-append, length-take, length-drop, ap, ◌∙◌, sym, subst}
 use Rattle.std.proofs.lemmas.List.{length-map}
 use Rattle.hp_base.specs.Mapping.{own_place, owned}
 use Rattle.hp_base.specs.declared.caught.Caught.{Caught}
-use Rattle.hp_base.specs.declared.row.Row.{Row}
 use Rattle.hp_maps.specs.Catching.{HasAnswered}
-use Rattle.hp_maps.specs.Unmapping.{is_own, rows_mapped}
+use Rattle.hp_maps.specs.Unmapping.{rows_mapped}
 use Rattle.hp_maps.proofs.MapLemmas.{can_map_next, held_more, answered_more, rolled_back, answered_failed, own_unrefused, no_row}
 use Rattle.hp_maps.proofs.mapping.map_rows.Goals as goal
 

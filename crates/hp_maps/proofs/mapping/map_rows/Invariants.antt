@@ -1,5 +1,5 @@
 -- The rows so far are mapped, each at its own place.
-use Rattle.std.proofs.Common.{◌≡◌, ◌+◌, ◌-◌, ◌++◌, drop, take, map, length}
+use Rattle.std.proofs.Common.{◌≡◌, ◌-◌, ◌++◌, drop, take, map}
 use Rattle.hp_base.specs.Mapping.{own_place, owned}
 use Rattle.hp_maps.proofs.mapping.map_rows.Given as goal
 

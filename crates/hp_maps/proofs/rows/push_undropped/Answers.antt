@@ -1,7 +1,7 @@
 -- One row more, where it isn't dropped.
-use Rattle.std.proofs.Common.{◌≡◌, ◌++◌, ◌∷◌, [], length, vec_len, arith, ap, ◌∙◌, sym, subst, append_assoc, length-append}
+use Rattle.std.proofs.Common.{◌++◌, ◌∷◌, [], length, arith, ap, ◌∙◌, sym, append_assoc, length-append}
 use Rattle.hp_base.specs.declared.row.Row.{Row}
-use Rattle.hp_log.specs.Rows.{row_of, rows_below}
+use Rattle.hp_log.specs.Rows.{rows_below}
 use Rattle.hp_maps.specs.Catching.{undropped}
 use Rattle.hp_maps.proofs.NewRows.{undropped_more, undropped_fits}
 use Rattle.hp_maps.proofs.rows.push_undropped.Goals as goal

@@ -1,5 +1,5 @@
 -- One record more.
-use Rattle.std.proofs.Common.{◌≡◌, ◌+◌, ◌≤◌, arith}
+use Rattle.std.proofs.Common.{arith}
 use Rattle.hp_maps.proofs.TellLemmas.{dropped_told, dropped_length, no_record}
 use Rattle.hp_maps.proofs.telling.tell_dropped.Goals as goal
 

@@ -1,5 +1,5 @@
 -- One slot more.
-use Rattle.std.proofs.Common.{◌≡◌, ◌+◌, ◌-◌, ◌≤◌, ◌∙◌, ◌++◌, List, Option, IfSome, ap, arith, sym, subst, find, length, option_to_list}
+use Rattle.std.proofs.Common.{◌+◌, ◌-◌, ◌∙◌, ◌++◌, List, Option, IfSome, ap, arith, sym, subst, length, option_to_list}
 use Rattle.hp_base.specs.declared.event.EventKind.TheVariants.{Free}
 use Rattle.hp_base.specs.declared.row.Row.{Row}
 use Rattle.hp_log.specs.declared.log_record.LogRecord.{LogRecord}

@@ -1,5 +1,5 @@
 -- One row more.
-use Rattle.std.proofs.Common.{◌≡◌, ◌+◌, ◌≤◌, ◌∙◌, ◌++◌, List, Option, Some, ap, arith, sym, drop, get_or, length, option_to_list}
+use Rattle.std.proofs.Common.{◌+◌, ◌∙◌, List, Option, Some, ap, arith, sym, drop, get_or, length}
 use Rattle.hp_base.specs.declared.row.Row.{Row}
 use Rattle.hp_maps.specs.Events.{all_told}
 use Rattle.hp_maps.specs.TellingInTurn.{events_from}

@@ -1,8 +1,6 @@
 -- The chunk's rows behind those of others.
-use Rattle.std.proofs.Common.{◌≡◌, ◌∙◌, List, ap, arith, drop, length, subst, sym}
-use Rattle.hp_base.specs.declared.map_answer.MapAnswer.{MapAnswer}
+use Rattle.std.proofs.Common.{◌≡◌, ◌∙◌, List, ap, arith, length, subst, sym}
 use Rattle.hp_base.specs.declared.row.Row.{Row}
-use Rattle.hp_log.specs.Rows.{rows_of}
 use Rattle.hp_maps.specs.Catching.{HasAnswered, rows_after}
 use Rattle.hp_maps.specs.Chunks.{CanAttach, rows_of_chunk}
 use Rattle.hp_maps.specs.MapsView.{MapsView}

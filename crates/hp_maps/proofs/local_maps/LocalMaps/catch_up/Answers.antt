@@ -1,6 +1,5 @@
 -- What goes is told, and then what came.
-use Rattle.std.proofs.Common.{◌∙◌, ap, length}
-use Rattle.hp_base.specs.declared.map_answer.MapAnswer.{MapAnswer}
+use Rattle.std.proofs.Common.{◌∙◌, ap}
 use Rattle.hp_maps.specs.Catching.{newer}
 use Rattle.hp_maps.specs.MapsView.{MapsView, calls_of}
 use Rattle.hp_maps.proofs.TellLemmas.{caught_spare, caught_told}

@@ -1,7 +1,6 @@
 -- Taking in the newer records, by what contracts see.
-use Rattle.std.proofs.Common.{◌≡◌, ◌∙◌, ap, arith, rules, subst, sym, length}
-use Rattle.hp_base.specs.declared.caught.Caught.{Caught}
-use Rattle.hp_maps.specs.Catching.{CanCatchUp, Lags}
+use Rattle.std.proofs.Common.{◌∙◌, ap, arith, subst, sym}
+use Rattle.hp_maps.specs.Catching.{CanCatchUp}
 use Rattle.hp_maps.specs.MapsView.{MapsView, chunk_rows}
 use Rattle.hp_maps.proofs.CatchLemmas.{can_take_in, chunks_after, lags_after, near_after, room_after, table_after_catching}
 use Rattle.hp_maps.proofs.local_maps.LocalMaps.take_in_log.Goals as goal

@@ -1,5 +1,5 @@
 -- All rows are told by rising address and unmapped.
-use Rattle.std.proofs.Common.{◌≡◌, ◌∙◌, List, [], ap, arith, length, subst, sym}
+use Rattle.std.proofs.Common.{◌∙◌, List, ap, arith, length, subst, sym}
 use Rattle.std.specs.List.{All}
 use Rattle.std.proofs.lemmas.List.Elements.{All-nil}
 use Rattle.std.proofs.lemmas.List.Sorted.{All-permutation, length_permutation}
