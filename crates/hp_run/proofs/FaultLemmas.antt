@@ -5,7 +5,7 @@ use Rattle.hp_run.specs.Faults.{is_read_fault, is_write_fault}
 use Rattle.hp_run.specs.Outcome.{IsAnswer, IsAnswered, IsWritten}
 use Rattle.hp_run.specs.Outcome.IsAnswer.{of_refusal, of_workload}
 use Rattle.hp_run.specs.Outcome.IsAnswered.{wrote, wrote_nothing}
-use Rattle.hp_run.specs.Outcome.IsWritten.{whole, front}
+use Rattle.hp_run.specs.Outcome.IsWritten.{whole, front, short}
 
 -- what there is to write goes with no failure
 pub answer_writes : (input : List ℕ) (ended : Status) (text : List ℕ) → IsAnswer input ended text → is_write_fault ended ≡ false
@@ -20,6 +20,7 @@ written_reads : (ended result : Status) (text : List ℕ) (held held' : Option (
     → IsWritten ended text held held' sink_failed result → is_read_fault ended ≡ false → is_read_fault result ≡ false
 written_reads ended result text held held' sink_failed (whole holds) reads = reads
 written_reads ended result text held held' sink_failed (front holds failed) reads = refl
+written_reads ended result text held held' sink_failed (short holds) reads = refl
 
 -- whatever comes of writing it, reading did not fail
 pub answered_reads : (input : List ℕ) (held held' : Option (List ℕ)) (sink_failed : Type 0) (result : Status)

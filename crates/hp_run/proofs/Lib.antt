@@ -1,9 +1,5 @@
 mod Streaming
 mod Granted
-mod LabelLemmas
-mod TextLemmas
-mod SlotStateLemmas
-pub mod ShownLaws
 mod OutcomeLemmas
 mod RefusalLemmas
 mod EffectsLemmas
@@ -23,5 +19,6 @@ mod GrownEffects
 mod GrownLemmas
 mod OrderLemmas
 mod RunLemmas
+mod EndLemmas
 mod SocketHeapLemmas
 pub mod FaultLemmas

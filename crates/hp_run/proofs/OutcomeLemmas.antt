@@ -5,27 +5,35 @@ use Rattle.std.proofs.lemmas.Bool.{le-ltb, lt-ltb}
 use Rattle.hp_base.specs.declared.status.Status.{Status}
 use Rattle.hp_base.specs.declared.status.Status.TheVariants as status
 use Rattle.hp_run.specs.declared.reading.TheConstants.{LIMIT}
+use Rattle.hp_report.specs.Writing.{Holds, HoldsFront}
 use Rattle.hp_run.specs.Reading.{GaveAll, GaveTooMuch}
 use Rattle.hp_run.specs.Outcome.{IsText, IsAnswer, IsAnswered, IsWritten, Ends, IsUnlessFailure, status_of, is_solo}
 use Rattle.hp_run.specs.Outcome.IsText.{usage, refused, report}
 use Rattle.hp_run.specs.Outcome.IsAnswer.{of_refusal, of_workload}
 use Rattle.hp_run.specs.Outcome.IsAnswered.{wrote, wrote_nothing}
-use Rattle.hp_run.specs.Outcome.IsWritten.{whole, front}
+use Rattle.hp_run.specs.Outcome.IsWritten.{whole, front, short}
+use Rattle.hp_run.specs.Outcome.RanOut.{before, amid}
 
 pub ends_written : (words : List (List ℕ)) (left left' held held' : Option (List ℕ)) (source_failed sink_failed : Type 0) (ended result : Status) (text : List ℕ)
     → IsText words left left' ended text → IsWritten ended text held held' sink_failed result → Ends words left left' held held' source_failed sink_failed result
 ends_written words left left' held held' source_failed sink_failed _ _ _ (usage other same) (whole written) =
     record { text = _; is = usage other same; written = written }
 ends_written words left left' held held' source_failed sink_failed _ _ _ (usage other same) (front some failed) =
-    record { ended = _; text = _; is = usage other same; front = some; failed = failed }
+    record { ended = _; text = _; is = usage other same; front = some; because = failed }
+ends_written words left left' held held' source_failed sink_failed _ _ _ (usage other same) (short some) =
+    amid (record { ended = _; text = _; is = usage other same; front = some; because = tt })
 ends_written words left left' held held' source_failed sink_failed _ _ _ (refused input reason solo gave is) (whole written) =
     record { text = _; is = refused input reason solo gave is; written = written }
 ends_written words left left' held held' source_failed sink_failed _ _ _ (refused input reason solo gave is) (front some failed) =
-    record { ended = _; text = _; is = refused input reason solo gave is; front = some; failed = failed }
+    record { ended = _; text = _; is = refused input reason solo gave is; front = some; because = failed }
+ends_written words left left' held held' source_failed sink_failed _ _ _ (refused input reason solo gave is) (short some) =
+    amid (record { ended = _; text = _; is = refused input reason solo gave is; front = some; because = tt })
 ends_written words left left' held held' source_failed sink_failed _ _ _ (report input text solo gave is) (whole written) =
     record { text = _; is = report input text solo gave is; written = written }
 ends_written words left left' held held' source_failed sink_failed _ _ _ (report input text solo gave is) (front some failed) =
-    record { ended = _; text = _; is = report input text solo gave is; front = some; failed = failed }
+    record { ended = _; text = _; is = report input text solo gave is; front = some; because = failed }
+ends_written words left left' held held' source_failed sink_failed _ _ _ (report input text solo gave is) (short some) =
+    amid (record { ended = _; text = _; is = report input text solo gave is; front = some; because = tt })
 
 -- the text of an answer is that of the words and the source
 text_of_answer : (words : List (List ℕ)) (left left' : Option (List ℕ)) (input : List ℕ) (ended : Status) (text : List ℕ)
@@ -40,7 +48,7 @@ ends_answered words left left' held held' source_failed sink_failed input slice 
     let its = subst (λ slice. IsAnswer slice ended shown) same is in
     ends_written words left left' held held' source_failed sink_failed ended result shown (text_of_answer words left left' input ended shown solo gave its) written
 ends_answered words left left' held held' source_failed sink_failed input slice _ solo gave same (wrote_nothing kept) =
-    record { solo = solo; because = tt; nothing = kept }
+    before (record { solo = solo; because = tt; nothing = kept })
 
 -- a source that tells its bytes gave those
 gave_input : (input : List ℕ) (left' : Option (List ℕ)) (bytes : List ℕ) → GaveAll (Some input) left' bytes → bytes ≡ input
@@ -62,12 +70,12 @@ status_of_text : (words : List (List ℕ)) (input : List ℕ) (left' : Option (L
 status_of_text words input left' _ _ (usage other same) = rw other refl
 status_of_text words input left' _ _ (refused bytes reason solo gave is) =
     let same = gave_input input left' bytes gave in
-    let short : nat_lt LIMIT (length bytes) ≡ false = le-ltb LIMIT (length bytes) gave.short in
-    subst (λ bytes. status.BadWorkload ≡ status_of words bytes) same (rw (solo, short, is) refl)
+    let within : nat_lt LIMIT (length bytes) ≡ false = le-ltb LIMIT (length bytes) gave.short in
+    subst (λ bytes. status.BadWorkload ≡ status_of words bytes) same (rw (solo, within, is) refl)
 status_of_text words input left' _ _ (report bytes text solo gave is) =
     let same = gave_input input left' bytes gave in
-    let short : nat_lt LIMIT (length bytes) ≡ false = le-ltb LIMIT (length bytes) gave.short in
-    subst (λ bytes. status.Ok ≡ status_of words bytes) same (rw (solo, short, is.done) refl)
+    let within : nat_lt LIMIT (length bytes) ≡ false = le-ltb LIMIT (length bytes) gave.short in
+    subst (λ bytes. status.Ok ≡ status_of words bytes) same (rw (solo, within, is.end.done) refl)
 
 -- how the run ended is the status for the words and the input, or a failure
 pub settled_by_end : (words : List (List ℕ)) (left left' held held' : Option (List ℕ)) (source_failed sink_failed : Type 0) (result : Status)
@@ -82,3 +90,11 @@ settled_by_end words (Some input) left' held held' source_failed sink_failed sta
 settled_by_end words (Some input) left' held held' source_failed sink_failed status.TooLong ended =
     let long : nat_lt LIMIT (length input) ≡ true = lt-ltb LIMIT (length input) (gave_more input left' ended.because) in
     rw (ended.solo, long) refl
+
+-- nothing is a front of every text
+holds-nothing : (held : Option (List ℕ)) → Holds held held []
+holds-nothing None = refl
+holds-nothing (Some held) = ap Some (sym (append-nil held))
+
+pub front-nothing : (held : Option (List ℕ)) (text : List ℕ) → HoldsFront held held text
+front-nothing held text = record { len = 0; front = holds-nothing held }

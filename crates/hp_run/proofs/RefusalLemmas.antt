@@ -2,6 +2,7 @@
 use Rattle.std.proofs.Common.{◌≡◌, ℕ, List, Option, Some, None, Result, Ok, Err, refl, ◌∙◌, sym, subst}
 use Rattle.std.specs.Result.{MatchResult, IsErrAnd}
 use Rattle.hp_script.proofs.BuiltLemmas.{built_when_none_later}
+use Rattle.hp_script.proofs.MovedLemmas.{ReadAnywhere, read_anywhere}
 use Rattle.hp_script.specs.Later.{later_line}
 use Rattle.hp_script.specs.Limits.{IsWithinLimits}
 use Rattle.hp_script.specs.Workloads.{IsReadAs, reading_of}
@@ -20,27 +21,36 @@ use Rattle.hp_run.specs.declared.refusal.RunFault.TheVariants.{OutOfMemory}
 abbrev pub later_in : Workload → Option ℕ
 later_in workload = later_line workload.later workload.plan.items workload.lines.items
 
--- it is that of what was read
-later_read : (bytes : List ℕ) (workload : Workload) (read : IsReadAs bytes workload) → later_line read.read.later read.read.plan read.read.lines ≡ later_in workload
-later_read bytes workload read = rw (read.workload_is.later, read.workload_is.plan, read.workload_is.lines) refl
+-- what the text says where it stands, said of the text alone
+anywhere : (bytes : List ℕ) (workload : Workload) (read : IsReadAs bytes workload) → ReadAnywhere bytes read.read
+anywhere bytes workload read = read_anywhere (record { ref_ptr = read.at; now = bytes }) read.read read.whole
+
+-- the first line for later is that of what was read
+later_read : (bytes : List ℕ) (workload : Workload) (read : IsReadAs bytes workload) (nowhere : ReadAnywhere bytes read.read)
+    → later_line nowhere.nowhere.later nowhere.nowhere.plan nowhere.nowhere.lines ≡ later_in workload
+later_read bytes workload read nowhere = nowhere.later ∙ rw (read.workload_is.later, read.workload_is.plan, read.workload_is.lines) refl
 
 -- a text that is read, and has no line that is not built
 pub accepted_as : (bytes : List ℕ) (workload : Workload) → IsReadAs bytes workload → IsWithinLimits workload → ArePoolLines workload.pools.items
     → later_in workload ≡ None → IsAcceptedAs bytes workload
 unfolding refusal_of
-accepted_as bytes workload read limits pools none = record {
-  done = rw (read.whole, later_read bytes workload read, none) refl;
-  read = read;
-  built = built_when_none_later bytes workload read none;
-  limits = limits;
-  pools = pools;
-}
+accepted_as bytes workload read limits pools none =
+    let nowhere = anywhere bytes workload read in
+    record {
+      done = rw (nowhere.whole, later_read bytes workload read nowhere, none) refl;
+      read = read;
+      built = built_when_none_later bytes workload read none;
+      limits = limits;
+      pools = pools;
+    }
 
 -- a text that is read, and has a line that is not built
 pub refused_later : (bytes : List ℕ) (workload : Workload) (line : ℕ) → IsReadAs bytes workload → later_in workload ≡ Some line
     → refusal_of bytes ≡ Some (Later line)
 unfolding refusal_of
-refused_later bytes workload line read some = rw (read.whole, later_read bytes workload read, some) refl
+refused_later bytes workload line read some =
+    let nowhere = anywhere bytes workload read in
+    rw (nowhere.whole, later_read bytes workload read nowhere, some) refl
 
 -- a text that is refused
 pub refused_bad : (bytes : List ℕ) (line : ℕ) (kind : BadKind) → reading_of bytes ≡ Err (record { line = line; kind = kind })
@@ -51,6 +61,7 @@ refused_bad bytes line kind refused = rw refused refl
 -- a text is read as any workload that says the same
 pub read_as_same : (bytes : List ℕ) (workload ended : Workload) → IsReadAs bytes workload → IsSameWorkload ended workload → IsReadAs bytes ended
 read_as_same bytes workload ended is same = record {
+  at = is.at;
   read = is.read;
   whole = is.whole;
   workload_is = record {

@@ -1,5 +1,4 @@
 pub mod Reading
-pub mod Writing
 pub mod Faults
 pub mod Heaps
 pub mod Effects
@@ -9,15 +8,5 @@ pub mod Held
 pub mod Session
 pub mod Growth
 pub mod Calling
-pub mod Shown
-pub mod Labels
-pub mod LineTexts
-pub mod HeapTexts
-pub mod CallTexts
-pub mod EntryTexts
-pub mod SegmentTexts
-pub mod SlotStates
-pub mod LogTexts
-pub mod Report
 pub mod Refusals
 pub mod Outcome

@@ -7,11 +7,11 @@ use Rattle.hp_base.specs.declared.status.Status.TheVariants as status
 use Rattle.hp_script.specs.Workloads.{IsReadAs}
 use Rattle.hp_run.specs.declared.reading.TheConstants.{LIMIT}
 use Rattle.hp_run.specs.Reading.{GaveAll, GaveTooMuch}
-use Rattle.hp_run.specs.Writing.{Holds, HoldsFront}
-use Rattle.hp_run.specs.declared.ended.Ended.{Ended}
+use Rattle.hp_report.specs.Writing.{Holds, HoldsFront}
+use Rattle.hp_report.specs.declared.ended.Ended.{Ended}
 use Rattle.hp_run.specs.End.{IsEnd}
 use Rattle.hp_run.specs.Refusals.{refusal_of, refusal_text}
-use Rattle.hp_run.specs.Report.{report_of}
+use Rattle.hp_report.specs.Report.{report as report_of}
 use Rattle.hp_run.specs.declared.refusal.Refusal.{Refusal}
 use Rattle.hp_run.specs.declared.refusal.RunFault.{RunFault}
 use Rattle.hp_run.specs.declared.refusal.RunFault.TheVariants as fault
@@ -29,12 +29,17 @@ is_solo (word ∷ other ∷ others) = false
 abbrev pub usage_text : List ℕ
 usage_text = codes "usage: heapsim solo|run|check|generate <start> <lines> [summary]\n"
 
--- the text is the report of an end of the workload that the input is
-pub record IsReportFor (input text : List ℕ) : Type 0 where
-  pub ended : Ended
+-- what a run left is an end of the workload that the input is; there are no tables yet
+pub record IsEndFor (input : List ℕ) (ended : Ended) : Type 0 where
   pub done : refusal_of input ≡ None
   pub workload : IsReadAs input ended.workload
   pub end : IsEnd ended.workload ended.answers.items ended.heaps.items ended.segs
+  pub tables : ended.tables.items ≡ []
+
+-- the text is the report of an end of the workload that the input is
+pub record IsReportFor (input text : List ℕ) : Type 0 where
+  pub ended : Ended
+  pub end : IsEndFor input ended
   pub is : text ≡ report_of ended
 
 -- a text that is written, by the words and by what the source had left before and after, with the status that it goes with
@@ -48,10 +53,11 @@ pub data IsText (words : List (List ℕ)) (left left' : Option (List ℕ)) : Sta
   report : (input text : List ℕ) → is_solo words ≡ true → GaveAll left left' input → IsReportFor input text
       → IsText words left left' status.Ok text
 
--- a text was written with a status, or a front of it before the sink failed
+-- a text was written with a status, or a front of it before the sink failed or memory ran out
 pub data IsWritten (ended : Status) (text : List ℕ) (held held' : Option (List ℕ)) (sink_failed : Type 0) : Status → Type 0 where
   whole : Holds held held' text → IsWritten ended text held held' sink_failed ended
   front : HoldsFront held held' text → sink_failed → IsWritten ended text held held' sink_failed status.WriteFault
+  short : HoldsFront held held' text → IsWritten ended text held held' sink_failed status.OutOfMemory
 
 -- the text is what there is to write for an input, with the status that it goes with
 pub data IsAnswer (input : List ℕ) : Status → List ℕ → Type 0 where
@@ -72,19 +78,24 @@ pub record Writes (words : List (List ℕ)) (left left' held held' : Option (Lis
   pub is : IsText words left left' ended text
   pub written : Holds held held' text
 
--- a front of such a text was written, and then the sink failed
-pub record WritesFront (words : List (List ℕ)) (left left' held held' : Option (List ℕ)) (sink_failed : Type 0) : Type 0 where
+-- a front of such a text was written, and then this happened: the sink failed, or memory ran out
+pub record WritesFront (words : List (List ℕ)) (left left' held held' : Option (List ℕ)) (happened : Type 0) : Type 0 where
   pub ended : Status
   pub text : List ℕ
   pub is : IsText words left left' ended text
   pub front : HoldsFront held held' text
-  pub failed : sink_failed
+  pub because : happened
 
 -- the words are the one word solo, the cause holds, and nothing was written
 pub record Reads (words : List (List ℕ)) (held held' : Option (List ℕ)) (cause : Type 0) : Type 0 where
   pub solo : is_solo words ≡ true
   pub because : cause
   pub nothing : held' ≡ held
+
+-- memory ran out: the word is solo and nothing was written, or a front of a text was
+pub data RanOut (words : List (List ℕ)) (left left' held held' : Option (List ℕ)) : Type 0 where
+  before : Reads words held held' ⊤ → RanOut words left left' held held'
+  amid : WritesFront words left left' held held' ⊤ → RanOut words left left' held held'
 
 -- what each status says of the words, the source and the sink, before and after
 abbrev pub Ends : List (List ℕ) → Option (List ℕ) → Option (List ℕ) → Option (List ℕ) → Option (List ℕ) → Type 0 → Type 0 → Status → Type 0
@@ -93,7 +104,7 @@ Ends words left left' held held' source_failed sink_failed status.Usage = Writes
 Ends words left left' held held' source_failed sink_failed status.BadWorkload = Writes words left left' held held' status.BadWorkload
 Ends words left left' held held' source_failed sink_failed status.ReadFault = Reads words held held' source_failed
 Ends words left left' held held' source_failed sink_failed status.WriteFault = WritesFront words left left' held held' sink_failed
-Ends words left left' held held' source_failed sink_failed status.OutOfMemory = Reads words held held' ⊤
+Ends words left left' held held' source_failed sink_failed status.OutOfMemory = RanOut words left left' held held'
 Ends words left left' held held' source_failed sink_failed status.TooLong = Reads words held held' (GaveTooMuch left left')
 
 -- the status for words and an input, where reading, writing and memory do not fail

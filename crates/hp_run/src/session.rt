@@ -1,5 +1,5 @@
 //! The lines of a workload, done one after another.
-ghost use Rattle.std.specs.Prelude.{IfOk};
+ghost use Rattle.std.specs.Prelude.{◌≡◌, [], IfOk};
 ghost use Rattle.std.specs.List.{All};
 ghost use Rattle.hp_heap.specs.History.{IsSound};
 ghost use Rattle.hp_script.specs.Built.{IsBuilt};
@@ -12,10 +12,10 @@ mod allocation;
 mod heap_calls;
 pub mod heaps;
 
-use crate::ended::Ended;
 use heaps::{SocketHeap, chosen, heaps_of, open_heaps, own_first};
 use hp_base::{Request, Tag};
 use hp_heap::Heap;
+use hp_report::Ended;
 use hp_script::{Act, Answer, Line, Workload};
 use hp_segs::Segs;
 use std::alloc::{AllocError, Global};
@@ -37,6 +37,9 @@ pub fn run(alloc: Global, workload: Workload<'_>) -> Result<Ended<'_>, AllocErro
     requires pools { ArePoolLines workload.pools.items }
     ensures end { IfOk result (λ ended. IsEnd ended.workload ended.answers.items ended.heaps.items ended.segs) }
     ensures workload { IfOk result (λ ended. IsSameWorkload ended.workload workload.entry) }
+
+    // There are no tables yet: one participant has all.
+    ensures tables { IfOk result (λ ended. ended.tables.items ≡ []) }
 {
     let pools = workload.pools.as_slice();
     let heaps = heaps_of(alloc, pools)?;
@@ -59,6 +62,7 @@ pub fn run(alloc: Global, workload: Workload<'_>) -> Result<Ended<'_>, AllocErro
         answers,
         heaps: session.heaps,
         segs: session.segs,
+        tables: Vec::new(alloc),
     })
 }
 

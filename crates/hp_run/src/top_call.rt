@@ -3,15 +3,15 @@ ghost use Rattle.std.specs.Prelude.{◌≡◌, ◌≤◌, false, map, length, st
 ghost use Rattle.hp_base.specs.Streams.{CountsFault, HasRisen};
 ghost use Rattle.hp_run.specs.declared.reading.TheConstants.{LIMIT};
 ghost use Rattle.hp_run.specs.Faults.{is_read_fault, is_write_fault};
-ghost use Rattle.hp_run.specs.Outcome.{Ends, IsAcceptedAs, IsAnswer, IsAnswered, IsFaultOf, IsReportFor, IsUnlessFailure, IsWritten, is_solo, status_of};
-ghost use Rattle.hp_run.specs.Refusals.{refusal_of};
+ghost use Rattle.hp_run.specs.Outcome.{Ends, IsAcceptedAs, IsAnswered, IsEndFor, IsFaultOf, IsUnlessFailure, IsWritten, is_solo, status_of};
+ghost use Rattle.hp_run.specs.Refusals.{refusal_of, refusal_text};
+ghost use Rattle.hp_report.specs.Report.{report};
 
 use crate::reading::{ReadFault, read_whole};
 use crate::refusal::{Refusal, RunFault};
-use crate::report::report;
 use crate::session::run;
-use crate::writing::write_whole;
 use hp_base::{Sink, Source, Status};
+use hp_report::{Ended, RenderFault, render, write_whole};
 use hp_script::{ParseFault, Workload, first_later, parse};
 use std::alloc::{AllocError, Global};
 
@@ -60,24 +60,38 @@ fn answered<K: Sink>(alloc: Global, bytes: &[u8], sink: &mut K) -> Status
     ensures faults { CountsFault (K.faults sink.old) (K.faults sink.new)
         (is_write_fault result) }
 {
-    match answer_for(alloc, bytes) {
-        Ok((status, text)) => written(sink, text.as_bytes(), status),
-        Err(_) => Status::OutOfMemory,
+    match ended_for(alloc, bytes) {
+        Ok(ended) => reported(alloc, &ended, sink),
+        Err(RunFault::Refused { refusal }) => refused(alloc, refusal, sink),
+        Err(RunFault::OutOfMemory) => Status::OutOfMemory,
     }
 }
 
-// The report of the workload that the bytes are, or why they are refused, and the status that goes with it.
-fn answer_for(alloc: Global, bytes: &[u8]) -> Result<(Status, String), AllocError>
-    requires { length bytes.now ≤ LIMIT }
-    ensures { IfOk result (λ answer. IsAnswer bytes.now answer.0 (string_bytes answer.1)) }
+// Writes the report of what a run left.
+fn reported<K: Sink>(alloc: Global, ended: &Ended<'_>, sink: &mut K) -> Status
+    requires answers { length ended.now.answers.items ≡ length ended.now.workload.lines.items }
+    ensures written { IsWritten Status.Ok (report ended.now) (K.held sink.old) (K.held sink.new)
+        (HasRisen (K.faults sink.old) (K.faults sink.new)) result }
+    ensures faults { CountsFault (K.faults sink.old) (K.faults sink.new)
+        (is_write_fault result) }
 {
-    match report_for(alloc, bytes) {
-        Ok(text) => Ok((Status::Ok, text)),
-        Err(RunFault::Refused { refusal }) => {
-            let text = format!(in alloc; "{refusal}")?;
-            Ok((Status::BadWorkload, text))
-        }
-        Err(RunFault::OutOfMemory) => Err(AllocError),
+    match render(alloc, ended, sink) {
+        Ok(()) => Status::Ok,
+        Err(RenderFault::WriteFault) => Status::WriteFault,
+        Err(RenderFault::OutOfMemory) => Status::OutOfMemory,
+    }
+}
+
+// Writes why a workload is refused.
+fn refused<K: Sink>(alloc: Global, refusal: Refusal, sink: &mut K) -> Status
+    ensures written { IsWritten Status.BadWorkload (refusal_text refusal) (K.held sink.old) (K.held sink.new)
+        (HasRisen (K.faults sink.old) (K.faults sink.new)) result }
+    ensures faults { CountsFault (K.faults sink.old) (K.faults sink.new)
+        (is_write_fault result) }
+{
+    match format!(in alloc; "{refusal}") {
+        Ok(text) => written(sink, text.as_bytes(), Status::BadWorkload),
+        Err(_) => Status::OutOfMemory,
     }
 }
 
@@ -90,14 +104,13 @@ fn is_solo(words: &[String]) -> bool
     }
 }
 
-// The report of the workload that the bytes are.
-fn report_for(alloc: Global, bytes: &[u8]) -> Result<String, RunFault>
+// What a run of the workload that the bytes are leaves.
+fn ended_for<'a>(alloc: Global, bytes: &'a [u8]) -> Result<Ended<'a>, RunFault>
     requires { length bytes.now ≤ LIMIT }
-    ensures { MatchResult result (λ text. IsReportFor bytes.now (string_bytes text)) (IsFaultOf (refusal_of bytes.now)) }
+    ensures { MatchResult result (IsEndFor bytes.entry.now) (IsFaultOf (refusal_of bytes.entry.now)) }
 {
     let workload = accepted(alloc, bytes)?;
-    let ended = run(alloc, workload)?;
-    Ok(report(alloc, &ended)?)
+    Ok(run(alloc, workload)?)
 }
 
 // The workload that the bytes are, where each of its lines is done by now.

@@ -25,8 +25,6 @@ impl Session {
     ) -> Result<Answer, AllocError>
         requires running { IsRunning self.old.segs.pools (map opening self.old.heaps.items) self.old (length heaps.now + 2) }
         requires heaps { AreHeapsOf (map opening self.old.heaps.items) heaps.now }
-        requires line { request.now.align ≡ 64 }
-        requires unbounded { request.now.bound ≡ 0 }
         requires any_page { request.now.flags ≡ 0 }
         ensures { IfOk result (DoesAllocate self.old self.new heaps.now request.now tag) }
     {
@@ -50,8 +48,6 @@ impl Session {
     ) -> Result<Option<u64>, AllocError>
         requires running { IsRunning self.old.segs.pools (map opening self.old.heaps.items) self.old 3 }
         requires heap { IsHeapOf (map opening self.old.heaps.items) heap.now }
-        requires line { request.now.align ≡ 64 }
-        requires unbounded { request.now.bound ≡ 0 }
         requires any_page { request.now.flags ≡ 0 }
         ensures { IfOk result (DoesTry self.old self.new heap.now request.now tag) }
     {

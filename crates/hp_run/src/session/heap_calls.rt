@@ -27,9 +27,6 @@ impl Session {
     pub fn search(&mut self, place: usize, request: &Request, tag: Tag) -> Option<u64>
         requires room { HasRoom self.old.heaps.items place 1 }
         requires counted { self.old.calls < 2 ^ 62 }
-        requires line { request.now.align ≡ 64 }
-        requires unbounded { request.now.bound ≡ 0 }
-        requires any_page { request.now.flags ≡ 0 }
         ensures call { IsCallAt self.old self.new place (call.Alloc request.now tag) (address_answer result) }
         ensures none { IfNone result (HasNoChoiceAt self.old.heaps.items place request.now) }
     {

@@ -1,0 +1,7 @@
+mod Streaming
+mod HexLemmas
+mod AddingLemmas
+mod NumberedLemmas
+mod NameLemmas
+mod SortLemmas
+mod PartsLemmas

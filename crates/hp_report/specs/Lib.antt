@@ -1,0 +1,13 @@
+pub mod Writing
+pub mod Adding
+pub mod Numbered
+pub mod Names
+pub mod KnownNames
+pub mod LineTexts
+pub mod HeapTexts
+pub mod CallTexts
+pub mod EntryTexts
+pub mod SegmentTexts
+pub mod LogTexts
+pub mod TableTexts
+pub mod Report

@@ -1,0 +1,157 @@
+use crate::numbers::{ADDRESS, NUMBER, write_address, write_number};
+use hp_base::{Run, Stats};
+use itoa::Buffer;
+use std::alloc::{AllocError, Global};
+use std::marker::Model;
+
+/// From this length on a page is full, in bytes.
+const FULL: usize = 16_384;
+
+/// The room for the last line of a page, in bytes, where its names are not longer than those that a workload has.
+const LAST_LINE: usize = 1_024;
+
+/// The text that is made and not yet handed to a sink. Contracts see it as its bytes. Own.
+#[derive(Drop)]
+pub struct Page {
+    bytes: Vec<u8>,
+}
+
+impl Model for Page {
+    ghost use Rattle.std.specs.Prelude.{ℕ, List};
+
+    ghost Value = { List ℕ };
+
+    ghost view = { λ page. page.bytes.items };
+}
+
+impl Page {
+    ghost use Rattle.std.specs.Prelude.{◌≡◌, ◌*◌, ◌++◌, [], IfOk, OnOk};
+    ghost use Rattle.hp_script.specs.Answers.{address_text, bytes_text, elements_text, number_text, stats_text};
+    ghost use Rattle.hp_report.specs.CallTexts.{range_text, run_text, numbers_text};
+
+    /// A page without text, with room for a full one.
+    pub fn new(alloc: Global) -> Result<Page, AllocError>
+        ensures { IfOk result (λ page. page ≡ []) }
+    {
+        Ok(Page {
+            bytes: Vec::with_capacity(alloc, FULL + LAST_LINE)?,
+        })
+    }
+
+    /// Its text.
+    pub fn text(&self) -> &[u8]
+        ensures { result.now ≡ self.now }
+    {
+        self.bytes.as_slice()
+    }
+
+    /// Whether it is to be handed on.
+    pub fn is_full(&self) -> bool {
+        self.bytes.len() >= FULL
+    }
+
+    /// Takes its text away, and keeps its memory.
+    pub fn clear(&mut self)
+        ensures { self.new ≡ [] }
+    {
+        self.bytes.clear();
+    }
+
+    /// Adds words.
+    pub fn put(&mut self, words: &[u8]) -> Result<(), AllocError>
+        ensures { OnOk result (self.new ≡ self.old ++ words.now) }
+    {
+        self.bytes.extend_from_slice(words)
+    }
+
+    /// Adds a blank and a number.
+    pub fn number(&mut self, n: u64) -> Result<(), AllocError>
+        ensures { OnOk result (self.new ≡ self.old ++ number_text n) }
+    {
+        let mut text = [0u8; NUMBER];
+        let start = write_number(n, &mut text);
+        self.bytes.extend_from_slice(&text[start..])
+    }
+
+    /// Adds a blank and an address.
+    pub fn address(&mut self, addr: u64) -> Result<(), AllocError>
+        ensures { OnOk result (self.new ≡ self.old ++ address_text addr) }
+    {
+        let mut text = [0u8; ADDRESS];
+        let start = write_address(addr, &mut text);
+        self.bytes.extend_from_slice(&text[start..])
+    }
+
+    /// Adds words and a number.
+    pub fn word_number(&mut self, words: &[u8], n: u64) -> Result<(), AllocError>
+        ensures { OnOk result (self.new ≡ self.old ++ (words.now ++ number_text n)) }
+    {
+        self.put(words)?;
+        self.number(n)
+    }
+
+    /// Adds the address and the length of a range.
+    pub fn range(&mut self, addr: u64, len: u64) -> Result<(), AllocError>
+        ensures { OnOk result (self.new ≡ self.old ++ range_text addr len) }
+    {
+        self.address(addr)?;
+        self.number(len)
+    }
+
+    /// Adds words, and the address and the length of a range.
+    pub fn word_range(&mut self, words: &[u8], addr: u64, len: u64) -> Result<(), AllocError>
+        ensures { OnOk result (self.new ≡ self.old ++ (words.now ++ range_text addr len)) }
+    {
+        self.put(words)?;
+        self.range(addr, len)
+    }
+
+    /// Adds the address and the length of a run of pages.
+    pub fn run(&mut self, run: &Run) -> Result<(), AllocError>
+        ensures { OnOk result (self.new ≡ self.old ++ run_text run.now) }
+    {
+        self.address(run.addr)?;
+        let mut buffer = Buffer::new();
+        let len = buffer.format(u128::from(run.count) * u128::from(run.page));
+        self.put(b" ")?;
+        self.put(len.as_bytes())
+    }
+
+    /// Adds the six numbers of statistics.
+    pub fn numbers(&mut self, stats: &Stats) -> Result<(), AllocError>
+        ensures { OnOk result (self.new ≡ self.old ++ numbers_text stats.now) }
+    {
+        self.number(stats.total)?;
+        self.number(stats.free)?;
+        self.number(stats.used)?;
+        self.number(stats.greatest)?;
+        self.number(stats.busy)?;
+        self.number(stats.frees)
+    }
+
+    /// Adds the six numbers of statistics with their words.
+    pub fn statistics(&mut self, stats: &Stats) -> Result<(), AllocError>
+        ensures { OnOk result (self.new ≡ self.old ++ stats_text stats.now) }
+    {
+        self.bytes_of(stats)?;
+        self.elements_of(stats)
+    }
+
+    // The numbers of bytes.
+    fn bytes_of(&mut self, stats: &Stats) -> Result<(), AllocError>
+        ensures { OnOk result (self.new ≡ self.old ++ bytes_text stats.now) }
+    {
+        self.word_number(b"total", stats.total)?;
+        self.word_number(b" free", stats.free)?;
+        self.word_number(b" used", stats.used)?;
+        self.word_number(b" greatest", stats.greatest)
+    }
+
+    // The numbers of elements.
+    fn elements_of(&mut self, stats: &Stats) -> Result<(), AllocError>
+        ensures { OnOk result (self.new ≡ self.old ++ elements_text stats.now) }
+    {
+        self.word_number(b" busy", stats.busy)?;
+        self.word_number(b" frees", stats.frees)
+    }
+}
