@@ -1,0 +1,7 @@
+pub mod RoundLemmas
+pub mod OutLemmas
+pub mod StepLemmas
+pub mod MoveLemmas
+pub mod AddLemmas
+pub mod TieLemmas
+pub mod TieSteps

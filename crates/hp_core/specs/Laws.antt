@@ -1,0 +1,68 @@
+-- Laws of the coordinator: its moves are moves of the segment value and of the plain machine, and where an Add comes.
+use Rattle.std.specs.Prelude.{◌≡◌, ◌↔◌, ℕ, false, true, List, [], ◌∷◌, ◌++◌, Option, Some, None, Ok, IsSomeAnd}
+use Rattle.hp_base.specs.declared.row.Run.{Run}
+use Rattle.hp_log.specs.declared.log_record.LogRecord.TheVariants.{Add}
+use Rattle.hp_segs.specs.Machine.{Drops, Grows, machine_of}
+use Rattle.hp_segs.specs.Moved.{IsMovedBy, is_log_call}
+use Rattle.hp_segs.specs.Plan.{plan_of}
+use Rattle.hp_segs.specs.SegsView.{SegsView}
+use Rattle.hp_segs.specs.Sound.{IsSound}
+use Rattle.hp_segs.specs.Steps.{after_drop}
+use Rattle.hp_segs.specs.declared.ask.Ask.{Ask}
+use Rattle.hp_segs.specs.declared.outcome.AskLog.{AskLog}
+use Rattle.hp_segs.specs.declared.outcome.Cause.TheVariants.{Denied, Late}
+use Rattle.hp_segs.specs.declared.outcome.Outcome.TheVariants.{Refused}
+use Rattle.hp_core.specs.Asks.{is_armed, is_closed}
+use Rattle.hp_core.specs.Moves.{IsCoreMove, IsLate, IsTimely}
+use Rattle.hp_core.specs.Starting.{started, total_with}
+use Rattle.hp_core.specs.declared.asked.Asked.TheVariants.{Grow}
+use Rattle.hp_core.specs.declared.times.Times.{Times}
+
+-- a move of the plain machine: none, the drops, or the growth of the open growth's ask
+pub data IsMachineMove (old new : SegsView) : Type 0 where
+  same : machine_of new ≡ machine_of old → IsMachineMove old new
+  drops : Drops old.pools (machine_of old) (machine_of new) → IsMachineMove old new
+  grows : (ask : Ask) (generation : ℕ) → IsSomeAnd old.growth (λ growth. (growth.ask ≡ ask) × (growth.generation ≡ generation))
+      → Grows old.pools ask generation (machine_of old) (machine_of new) → IsMachineMove old new
+
+-- each move of the coordinator takes the plain machine to itself, through the drops, or through one growth
+abbrev pub MovesAreSteps : Type 0
+MovesAreSteps = (times : Times) (acks : List ℕ) (old new : SegsView) → IsSound old → IsCoreMove times acks old new → IsMachineMove old new
+
+-- each move is by calls of the segment value that log, under their conditions, and at most one of them opens or grants a growth
+abbrev pub MovesAreMoved : Type 0
+MovesAreMoved = (times : Times) (acks : List ℕ) (old new : SegsView) → IsCoreMove times acks old new → IsMovedBy is_log_call 1 old new
+
+-- a sound value's growth is cancelled as Late for a late member alone: nothing is noted, it is the lowest one below the growth's
+-- generation, and the deadline has passed
+abbrev pub LatesAreLate : Type 0
+LatesAreLate = (times : Times) (acks : List ℕ) (segs : SegsView) (participant from to : ℕ) → IsSound segs
+    → IsTimely times acks segs (Late participant from to) → IsLate times acks segs participant from to
+
+-- a started ask for memory with which its participant is armed
+pub record IsStarted (ask : Ask) (segs : SegsView) : Type 0 where
+  pub fresh : is_closed (Grow ask) segs ≡ false
+  pub armed : is_armed ask segs ≡ true
+
+-- the plan behind the drops is that run, and no validator denies it
+pub record IsPlanned (denial : ℕ → ℕ → Option (List ℕ × ℕ)) (ask : Ask) (segs : SegsView) (run : Run) : Type 0 where
+  pub plan : plan_of ask segs ≡ Ok run
+  pub allowed : denial ask.socket (total_with ask run segs) ≡ None
+
+-- behind the drops an Add of a run comes exactly where that run is planned and no validator denies it
+abbrev pub AddsExactly : Type 0
+AddsExactly = (denial : ℕ → ℕ → Option (List ℕ × ℕ)) (ask : Ask) (segs : SegsView) (run : Run) → IsStarted ask segs
+    → ((started denial (Grow ask) segs).segs.log ≡ (after_drop segs).log ++ Add run ask.heap ∷ []) ↔ IsPlanned denial ask (after_drop segs) run
+
+-- an ask is refused as Denied only where the judge denies the socket's bytes with the planned run's: the validator and its limit are
+-- those that it names
+pub record IsJudged (denial : ℕ → ℕ → Option (List ℕ × ℕ)) (ask : Ask) (segs : SegsView) (validator : List ℕ) (limit total : ℕ) : Type 0 where
+  pub run : Run
+  pub plan : plan_of ask segs ≡ Ok run
+  pub sum : total ≡ total_with ask run segs
+  pub denied : denial ask.socket total ≡ Some (validator, limit)
+
+abbrev pub DenialsAreJudged : Type 0
+DenialsAreJudged = (denial : ℕ → ℕ → Option (List ℕ × ℕ)) (ask : Ask) (segs : SegsView) (entry : AskLog) (validator : List ℕ) (limit total : ℕ)
+    → IsStarted ask segs → (started denial (Grow ask) segs).segs.asks ≡ (after_drop segs).asks ++ entry ∷ []
+    → entry.outcome ≡ Refused (Denied validator limit total) → IsJudged denial ask (after_drop segs) validator limit total

@@ -1,0 +1,12 @@
+pub mod Asks
+pub mod Core
+pub mod Rounds
+pub mod Starting
+pub mod Mapped
+pub mod Stepping
+pub mod Following
+pub mod Conditions
+pub mod Moves
+pub mod Outs
+pub mod Laws
+pub mod Tied

@@ -1,0 +1,25 @@
+//! Laws of the coordinator's moves, above the definitions that its step cites.
+ghost use Rattle.hp_core.specs.Laws.{AddsExactly, DenialsAreJudged, LatesAreLate, MovesAreMoved, MovesAreSteps};
+ghost use Rattle.hp_core.specs.Tied.{MovesTie, NoneIsGone, StepsTie};
+
+/// Each move of the coordinator takes the plain machine of a sound segment value to itself, through the drops, or through
+/// one growth, which is that of the open growth's ask; and it is by calls that log, at most one of which opens or grants a
+/// growth. A growth that is cancelled as Late has a late member and no noted failure. A started ask gets an Add exactly
+/// where a run is planned behind the drops and no validator denies it; it is refused as Denied only by the validator that
+/// the judge names. Own.
+pub fn core_law()
+    ensures steps { MovesAreSteps }
+    ensures moved { MovesAreMoved }
+    ensures late { LatesAreLate }
+    ensures adds { AddsExactly }
+    ensures denied { DenialsAreJudged }
+{}
+
+/// The ask of a round under way is that of the open growth, or has an outcome: each step keeps this tie of the coordinator
+/// and its segment value, and so does each call of the value that others make. While it holds, each round ends with an
+/// answer. Own.
+pub fn tie_law()
+    ensures steps { StepsTie }
+    ensures moves { MovesTie }
+    ensures none_gone { NoneIsGone }
+{}

@@ -1,0 +1,25 @@
+/// What participant 0 has to do behind a step of the coordinator. After the messages of rte_malloc under Multi-process
+/// Support.
+#[derive(Clone, Copy, Debug, PartialEq, Eq)]
+pub enum Out {
+    /// Nothing.
+    Nothing,
+    /// It catches its own table up with the log to this generation, and says so by SelfMapped.
+    MapSelf {
+        generation: u64,
+    },
+    /// It sends SYNC to the members: bit p stands for participant p. `round` is 1 for a growth and 2 for a drop.
+    Sync {
+        generation: u64,
+        round: u8,
+        members: u16,
+    },
+    /// It sends RESULT to the asker. `what` is 2 for the answer to an ask for memory and 3 for that to a notice that memory
+    /// may go back; `good` is whether it was granted, or has gone back.
+    Answer {
+        to: u8,
+        number: u64,
+        what: u8,
+        good: bool,
+    },
+}
