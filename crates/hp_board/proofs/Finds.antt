@@ -1,0 +1,25 @@
+-- A participant that tries a slot again and again notes the words that it finds, and learns of the value as if it had waited for it.
+use Rattle.std.proofs.Common.{◌≡◌, ℕ, List, [], ◌∷◌, ◌++◌, sym, ap, subst, ◌∙◌}
+use Rattle.std.proofs.lemmas.List.{append_assoc, append-nil}
+use Rattle.hp_board.specs.declared.kept.Kept.{Kept}
+use Rattle.hp_board.specs.declared.view.Mine.{Mine}
+use Rattle.hp_board.specs.Views.{FindsMore, IsHanded, after_take, after_look}
+
+abbrev finding : Mine → List (ℕ × ℕ) → Mine
+finding mine found = record mine { found = found }
+
+pub finds_none : (mine : Mine) → FindsMore mine mine
+finds_none mine = ([], ap (finding mine) (sym (append-nil mine.found)))
+
+pub finds_one : (mine now after : Mine) (slot word : ℕ) → FindsMore mine now → after ≡ after_look slot word now → FindsMore mine after
+finds_one mine now after slot word (words, is) looked =
+    (words ++ (slot, word) ∷ [], looked ∙ ap (after_look slot word) is ∙ ap (finding mine) (append_assoc mine.found words ((slot, word) ∷ [])))
+
+handed_by : (mine : Mine) (words : List (ℕ × ℕ)) (slot : ℕ) (kept : Kept) → IsHanded (finding mine (mine.found ++ words)) slot kept → IsHanded mine slot kept
+handed_by mine words slot kept handed = record { at = handed.at; own = handed.own; seen = handed.seen; free = handed.free }
+
+pub handed_after : (mine now : Mine) (slot : ℕ) (kept : Kept) → FindsMore mine now → IsHanded now slot kept → IsHanded mine slot kept
+handed_after mine now slot kept (words, is) handed = handed_by mine words slot kept (subst (λ (m : Mine). IsHanded m slot kept) is handed)
+
+pub taken_after : (mine now after : Mine) (slot : ℕ) (kept : Kept) → FindsMore mine now → after ≡ after_take slot kept now → FindsMore (after_take slot kept mine) after
+taken_after mine now after slot kept (words, is) taken = (words, taken ∙ ap (after_take slot kept) is)

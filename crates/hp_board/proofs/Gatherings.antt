@@ -1,0 +1,66 @@
+-- Seats are taken from the end of a vector, and values from the slots of a closed table, one by one.
+use Rattle.std.proofs.Common.{◌≡◌, ℕ, ◌+◌, ◌<◌, ◌≤◌, Bool, false, List, [], ◌∷◌, ◌++◌, length, get_or, set, take, Option, Some, sym, ap, subst, ◌∙◌, arith}
+use Rattle.std.specs.List.{Contains}
+use Rattle.std.proofs.lemmas.List.{get_or-take, length-take, get_or_default, get_or_push, get_or_append_left, get_or-set_other, get_or-set_same}
+use Rattle.std.proofs.lemmas.List.Elements.{Contains-append_left, Contains-append_right}
+use Rattle.std.proofs.lemmas.Option.{get_or_from_slice_get, slice_get_within}
+use mathlib.Core.Logic.{dite}
+use mathlib.Core.Option.{some}
+use native.Mathlib.Decide.{ℕ_discrete}
+use lib.ListN.{get_elem?}
+use Rattle.hp_heap.specs.History.{HeapView}
+use Rattle.hp_board.specs.declared.kept.Kept.{Kept}
+use Rattle.hp_board.specs.declared.kept.Kept.TheVariants.{Heap}
+use Rattle.hp_board.specs.declared.slot.TheConstants.{SLOTS}
+use Rattle.hp_board.specs.declared.view.Mine.{Mine}
+use Rattle.hp_board.specs.declared.view.View.{View}
+use Rattle.hp_board.specs.Gathered.{AreFrom}
+use Rattle.hp_board.specs.SeatView.{SeatView}
+use Rattle.hp_board.specs.Views.{one_part, both_parts}
+use Rattle.hp_board.proofs.SeatSteps.{Contains-head}
+
+-- how many of the seats are left, and which one was taken
+module _ (all now : List SeatView) (left : ℕ) (front : now ≡ take (left + 1) all) (count : length now ≡ left + 1) where
+  pub within : left < length all
+  within = omega (arith, ap length front, length-take (left + 1) all)
+
+  pub popped_is : (seat : SeatView) → Some seat ≡ Some (get_or now left seat) → (d : SeatView) → get_or all left d ≡ seat
+  popped_is seat is d =
+      get_or_default all left d seat within ∙ sym (get_or-take (left + 1) all left seat (omega arith)) ∙ ap (λ (l : List SeatView). get_or l left seat) (sym front) ∙ sym (cc)
+
+-- a view that takes in a seat has all parts that it had, and that of the seat
+pub more_parts : (all : List SeatView) (view new : View) (left : ℕ) (seat : SeatView) → new ≡ both_parts view (one_part seat.mine) → ((d : SeatView) → get_or all left d ≡ seat)
+    → ((k : ℕ) (d : SeatView) → left + 1 ≤ k → k < length all → Contains view.parts (get_or all k d).mine)
+    → (k : ℕ) (d : SeatView) → left ≤ k → k < length all → Contains new.parts (get_or all k d).mine
+more_parts all view new left seat is popped parts k d above inside =
+    subst (λ (v : View). Contains v.parts (get_or all k d).mine) (sym is)
+    (dite (ℕ_discrete k left)
+    (λ same. subst (λ (m : Mine). Contains (view.parts ++ seat.mine ∷ []) m) (sym (ap (λ (j : ℕ). (get_or all j d).mine) same ∙ ap (λ (s : SeatView). s.mine) (popped d)))
+    (Contains-append_right view.parts (seat.mine ∷ []) seat.mine (Contains-head seat.mine [])))
+    (λ apart. Contains-append_left view.parts (seat.mine ∷ []) (get_or all k d).mine (parts k d (omega arith) inside)))
+
+-- one value more is moved out
+pub moved_values : (items : List (Option Kept)) (heaps : List HeapView) (number : ℕ) (heap : HeapView) → length heaps ≡ number → get_elem? items number ≡ some (Some (Heap heap))
+    → ((k : ℕ) (d : HeapView) → k < number → get_elem? items k ≡ some (Some (Heap (get_or heaps k d))))
+    → (k : ℕ) (d : HeapView) → k < number + 1 → get_elem? items k ≡ some (Some (Heap (get_or (heaps ++ heap ∷ []) k d)))
+moved_values items heaps number heap count here before k d below =
+    dite (ℕ_discrete k number)
+    (λ same. ap (get_elem? items) same ∙ here ∙ ap (λ (h : HeapView). some (Some (Heap h))) (sym (get_or_push heaps heap d k (omega arith))))
+    (λ apart. before k d (omega arith) ∙ ap (λ (h : HeapView). some (Some (Heap h))) (sym (get_or_append_left heaps (heap ∷ []) d k (omega arith))))
+
+-- a place that was emptied, and the others
+pub emptied_here : (filled : List Bool) (number : ℕ) → number < length filled → ((k : ℕ) → k < number → get_or filled k false ≡ false)
+    → (k : ℕ) → k < number + 1 → get_or (set filled number false) k false ≡ false
+emptied_here filled number inside before k below =
+    dite (ℕ_discrete k number)
+    (λ same. ap (λ (j : ℕ). get_or (set filled number false) j false) same ∙ get_or-set_same filled number false false inside)
+    (λ apart. get_or-set_other filled number k false false apart ∙ before k (omega arith))
+
+-- the heaps are the values of the slots
+pub all_moved : (items : List (Option Kept)) (heaps : List HeapView) → length heaps ≡ SLOTS
+    → ((k : ℕ) (d : HeapView) → k < SLOTS → get_elem? items k ≡ some (Some (Heap (get_or heaps k d)))) → AreFrom items heaps
+all_moved items heaps count values = record {
+  count = count;
+  each = λ slot heap there.
+      values slot heap (omega (arith, slice_get_within heaps slot heap there)) ∙ ap (λ (h : HeapView). some (Some (Heap h))) (get_or_from_slice_get heaps slot heap heap there);
+}

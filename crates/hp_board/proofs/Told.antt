@@ -1,0 +1,40 @@
+-- What the steps tell, put together with the moves of the values.
+use Rattle.std.proofs.Common.{◌≡◌, ℕ, List, ◌∷◌, get_or, Option, Some, None, unwrap_or, sym, ap, subst, ◌∙◌}
+use Rattle.atomic_table.specs.Table.{Step, rest}
+use Rattle.hp_board.specs.declared.kept.Kept.{Kept}
+use Rattle.hp_board.specs.declared.view.View.{View}
+use Rattle.hp_board.specs.Steps.{Sat, Takes, Gave}
+use Rattle.hp_board.specs.Views.{part_of, one_part, after_take, after_give, IsHanded}
+
+abbrev Pairs : Type 0
+Pairs = List (ℕ × Option Kept)
+
+-- the value that was taken is in front
+pub taken_front : (before : Sat) (slot : ℕ) (after : Sat) → Takes before slot after → (kept : Kept) × (after.1 ≡ (slot, Some kept) ∷ rest after.1)
+taken_front before slot after takes =
+    let front : after.1 ≡ (slot, Some takes.kept) ∷ before.1 = ap (λ (m : Sat). m.1) takes.taken in
+    (takes.kept, front ∙ ap (λ (l : Pairs). (slot, Some takes.kept) ∷ rest l) (sym front))
+
+same_kept : (before : Sat) (slot : ℕ) (after : Sat) (result : Kept) (takes : Takes before slot after) → after.1 ≡ (slot, Some result) ∷ rest after.1 → takes.kept ≡ result
+same_kept before slot after result takes is =
+    let front : after.1 ≡ (slot, Some takes.kept) ∷ before.1 = ap (λ (m : Sat). m.1) takes.taken in
+    ap (λ (l : Pairs). unwrap_or (get_or l 0 (slot, None)).1 takes.kept) (sym front ∙ is)
+
+-- it is the one that was moved out, of which the taker has learned
+pub handed_is : (before : Sat) (slot : ℕ) (after : Sat) (result : Kept) → Takes before slot after → after.1 ≡ (slot, Some result) ∷ rest after.1 → IsHanded (part_of before.0) slot result
+handed_is before slot after result takes is = subst (IsHanded (part_of before.0) slot) (same_kept before slot after result takes is) takes.handed
+
+pub taken_is : (before : Sat) (slot : ℕ) (after : Sat) (result : Kept) (end : Sat) → Takes before slot after → after.1 ≡ (slot, Some result) ∷ rest after.1
+    → end ≡ (after.0, (slot, None) ∷ rest after.1) → end ≡ (one_part (after_take slot result (part_of before.0)), (slot, None) ∷ before.1)
+taken_is before slot after result end takes is last =
+    last
+    ∙ ap (λ (m : Sat). (m.0, (slot, None) ∷ rest m.1)) takes.taken
+    ∙ ap (λ (k : Kept). (one_part (after_take slot k (part_of before.0)), (slot, None) ∷ before.1)) (same_kept before slot after result takes is)
+
+-- the value that was given has gone home
+pub given_is : (step : Step (Option Kept)) (me : Sat) (found : ℕ) (end : Sat) (view : View) (given : Kept) (more : Pairs) → Gave step me found end
+    → me ≡ (view, (step.word, Some given) ∷ more) → end ≡ (one_part (after_give step.word given (part_of view)), more)
+given_is step me found end view given more gave is =
+    let front : me.1 ≡ (step.word, Some given) ∷ more = ap (λ (m : Sat). m.1) is in
+    gave.given given (front ∙ ap (λ (l : Pairs). (step.word, Some given) ∷ rest l) (sym front))
+    ∙ ap (λ (m : Sat). (one_part (after_give step.word given (part_of m.0)), rest m.1)) is

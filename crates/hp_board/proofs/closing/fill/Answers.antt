@@ -1,0 +1,47 @@
+use Rattle.std.proofs.Common.{◌≡◌, ℕ, ◌<◌, List, length, get_or, Bool, false, Option, Some, refl, sym, ap, subst, ◌∙◌, arith}
+use Rattle.std.specs.Option.{IsSome}
+use Rattle.std.specs.Slots.{slots_filled, slots_items, slots_counts}
+use Rattle.std.proofs.lemmas.List.{get_or-set_other}
+use mathlib.Core.Option.{some, some-injective}
+use lib.ListN.{get_elem?}
+use Rattle.hp_heap.specs.History.{HeapView}
+use Rattle.hp_board.specs.declared.kept.Kept.{Kept}
+use Rattle.hp_board.specs.declared.kept.Kept.TheVariants.{Heap}
+use Rattle.hp_board.proofs.Gatherings.{moved_values, emptied_here, all_moved}
+use Rattle.hp_board.proofs.closing.fill.Goals as goal
+
+pub unwrap-requires : goal.unwrap-requires
+unwrap-requires c =
+    let number : ℕ = c.loop-number.number in
+    let value = c.requires.values number c.loop-number-test.true in
+    let same : c.take.result ≡ Some value.0 = some-injective c.take.result (Some value.0)
+    (sym c.take.ensures.value ∙ ap (λ l. get_elem? l number) c.loop-number.invariant.items ∙ value.1) in
+    subst IsSome (sym same) refl
+
+pub loop-number-preserved : goal.loop-number-preserved
+loop-number-preserved c =
+    let is = c.loop-number.invariant in
+    let number : ℕ = c.loop-number.number in
+    let filled : List Bool = slots_filled c.loop-number.closed.slots in
+    let inside : number < length filled = omega (arith, is.count, (slots_counts c.loop-number.closed.slots).1, c.loop-number-test.true) in
+    let others = c.take.ensures.others in
+    record {
+      items = others.0 ∙ is.items;
+      count = others.2 ∙ is.count;
+      full = λ k above below. ap (λ (l : List Bool). get_or l k false) others.1 ∙ get_or-set_other filled number k false false (λ same. omega arith) ∙ is.full k (omega arith) below;
+      taken = λ k below. ap (λ (l : List Bool). get_or l k false) others.1 ∙ emptied_here filled number inside is.taken k below;
+      moved = omega (arith, c.push_reserved.ensures.len, is.moved);
+      room = omega (arith, c.push_reserved.ensures.capacity, is.room);
+      values = λ k d below.
+          ap (λ l. get_elem? l k) others.0
+          ∙ moved_values (slots_items c.loop-number.closed.slots) c.loop-number.heaps.items number c.into_heap.result (omega (arith, is.moved, c.loop-number.heaps.ok.0))
+          (c.take.ensures.value ∙ ap (λ (o : Option Kept). some o) (c.unwrap.ensures ∙ ap (λ (k : Kept). Some k) c.into_heap.ensures)) is.values k d below
+          ∙ ap (λ (l : List HeapView). some (Some (Heap (get_or l k d)))) (sym c.push_reserved.ensures.items);
+    }
+
+pub returns : goal.returns
+returns c =
+    let is = c.loop-number.invariant in
+    let done : c.loop-number.number ≡ 32 = omega (arith, c.loop-number.auto.number-end, c.loop-number-test.false) in
+    all_moved (slots_items c.args.closed.slots) c.loop-number.heaps.items (omega (arith, is.moved, c.loop-number.heaps.ok.0))
+    (λ k d below. ap (λ l. get_elem? l k) (sym is.items) ∙ is.values k d (omega arith))

@@ -1,0 +1,19 @@
+use Rattle.std.proofs.Common.{◌≡◌, ℕ, ◌<◌, ◌≤◌, get_or, true, false, Some, vec_len, vec_capacity}
+use Rattle.std.specs.Slots.{slots_items, slots_filled, slots_len}
+use mathlib.Core.Option.{some}
+use lib.ListN.{get_elem?}
+use Rattle.hp_heap.specs.History.{HeapView}
+use Rattle.hp_board.specs.declared.kept.Kept.TheVariants.{Heap}
+use Rattle.hp_board.specs.declared.slot.TheConstants.{SLOTS}
+use Rattle.hp_board.proofs.closing.fill.Given as goal
+
+abbrev pub invariant-loop-number : goal.invariant-loop-number
+invariant-loop-number l = record {
+  items : slots_items l.closed.slots ≡ slots_items l.initial.closed.slots;
+  count : slots_len l.closed.slots ≡ SLOTS;
+  full : (k : ℕ) → l.number ≤ k → k < SLOTS → get_or (slots_filled l.closed.slots) k false ≡ true;
+  taken : (k : ℕ) → k < l.number → get_or (slots_filled l.closed.slots) k false ≡ false;
+  moved : vec_len l.heaps ≡ l.number;
+  room : SLOTS ≤ vec_capacity l.heaps;
+  values : (k : ℕ) (d : HeapView) → k < l.number → get_elem? (slots_items l.closed.slots) k ≡ some (Some (Heap (get_or l.heaps.items k d)));
+}

@@ -1,0 +1,11 @@
+use Rattle.std.proofs.Common.{rules, ◌∙◌}
+use mathlib.Core.Option.{none}
+use Rattle.hp_board.proofs.BoardSteps.{gives_back}
+use Rattle.hp_board.proofs.steps.unlock_word.Goals as goal
+
+pub store-requires : goal.store-requires
+store-requires c = let token = c.args.token.now in (
+  c.exchange.ensures.0 ∙ c.requires.table,
+  search rules,
+  gives_back _ _ _ _ token.me.0 _ c.args.kept _ none c.exchange.ensures.3 c.requires.slots.2 c.requires.slots.0 c.requires.one c.requires.gives c.sound.ensures,
+)

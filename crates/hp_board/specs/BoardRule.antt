@@ -1,0 +1,27 @@
+-- The rule of the board, which holds between any two steps of any threads. Its parts know nothing of one another.
+use Rattle.std.specs.Prelude.{◌≡◌, ℕ, Option, length}
+use Rattle.atomic_table.specs.Table.{State}
+use Rattle.hp_board.specs.declared.kept.Kept.{Kept}
+use Rattle.hp_board.specs.declared.opening.Opening.{Opening}
+use Rattle.hp_board.specs.declared.slot.TheConstants.{SLOTS}
+use Rattle.hp_board.specs.declared.view.Mine.{Mine}
+use Rattle.hp_board.specs.declared.view.View.{View}
+use Rattle.hp_board.specs.Locks.{AreLocked}
+use Rattle.hp_board.specs.HeapsKept.{AreKept}
+use Rattle.hp_board.specs.Prefixes.{AreSeen}
+use Rattle.hp_board.specs.Seated.{AreSeated}
+
+-- what a table has to be for a board
+pub record IsBoard (opening : Opening) (table : State (Option Kept) View) : Type 0 where
+  -- the value of each slot, at home or as its holder took it; what each participant knows; and the seat of its view
+  pub kept : ℕ → Kept
+  pub mine : ℕ → Mine
+  pub seat_of : ℕ → ℕ
+  pub words : length table.words ≡ SLOTS
+  pub seated : AreSeated opening.participants table.views seat_of mine
+  pub locked : AreLocked opening.participants table.words table.homes kept mine
+  -- the heaps
+  pub heaps : AreKept opening kept mine
+  -- prefixes and words
+  pub prefixes : AreSeen opening kept mine
+  -- lag, agreement and ownership stand here once the board has segments

@@ -1,0 +1,81 @@
+ghost use Rattle.std.specs.Prelude.{◌≡◌, ℕ, ◌<◌, ◌≤◌, [], true, false, Some, Contains, All, length, vec_len, vec_capacity, slice_index_or};
+ghost use Rattle.std.specs.List.{slice_get};
+ghost use Rattle.std.specs.Slots.{slots_items, slots_filled, slots_len, IsFull};
+ghost use mathlib.Core.Option.{some};
+ghost use lib.ListN.{get_elem?};
+ghost use Rattle.hp_heap.specs.History.{HeapView};
+ghost use Rattle.hp_board.specs.declared.slot.TheConstants.{SLOTS};
+ghost use Rattle.hp_board.specs.Closing.{IsFreeSeat, IsAmong, AreHeaps, KeepCallsOf};
+ghost use Rattle.hp_board.specs.SeatView.{SeatView};
+ghost use Rattle.hp_board.specs.Gathered.{IsSeatOf, HaveValues, AreFrom};
+
+use crate::board::Board;
+use crate::kept::Kept;
+use crate::plays::{Gather, SharedSlots, Token};
+use crate::seat::Seat;
+use crate::slot::SLOTS;
+use atomic_table::Closed as ClosedSlots;
+use hp_heap::Heap;
+use std::alloc::Global;
+
+/// What a closed board hands out. Own.
+#[derive(Drop)]
+pub struct Closed {
+    /// The heaps, each at the number of its slot.
+    pub heaps: Vec<Heap>,
+}
+
+impl Board {
+    /// Ends the board, and hands out its heaps in the vector in which they came, so it takes no memory. Own.
+    pub fn close(self, seats: Vec<Seat>) -> Closed
+        requires free { All (IsFreeSeat self) seats.items }
+        requires everyone { (who : ℕ) → who < self.opening.participants → IsAmong seats.items who }
+
+        // Every heap is tiled, has exact lists and stands for its legal history.
+        ensures heaps { AreHeaps self.opening result.heaps.items }
+
+        // Of each participant the heaps have the calls that it made, once and in order.
+        ensures calls { (seat : SeatView) → Contains seats.items seat → KeepCallsOf result.heaps.items seat.mine }
+    {
+        let Board { table, heaps } = self;
+        let token = gather(&table.shared, seats);
+        let mut heaps = heaps;
+        fill(&mut heaps, table.close_with(token));
+        Closed { heaps }
+    }
+}
+
+// One token that has the parts of all seats.
+fn gather(shared: &SharedSlots, seats: Vec<Seat>) -> Token
+    requires some { 0 < vec_len seats }
+    requires seats { All (IsSeatOf shared.now.table_id) seats.items }
+    requires words { shared.now.table_id.words ≡ SLOTS }
+    ensures table { result.table_id ≡ shared.now.table_id }
+    ensures parts { (seat : SeatView) → Contains seats.items seat → Contains result.me.0.parts seat.mine }
+{
+    let mut seats = seats;
+    let Some(seat) = seats.pop() else {
+        unreachable!()
+    };
+    let mut token = seat.into_token();
+    while let Some(seat) = seats.pop() {
+        shared.join_seat::<Gather>(&mut token, seat.into_token());
+    }
+    token
+}
+
+// Moves the values of a closed table into the vector, in their order.
+fn fill(heaps: &mut Vec<Heap>, closed: ClosedSlots<Option<Kept>, Global>)
+    requires empty { heaps.old.items ≡ [] }
+    requires room { SLOTS ≤ vec_capacity heaps.old }
+    requires count { slots_len closed.slots ≡ SLOTS }
+    requires full { IsFull closed.slots }
+    requires values { HaveValues (slots_items closed.slots) }
+    ensures { AreFrom (slots_items closed.slots) heaps.new.items }
+{
+    let mut closed = closed;
+    for number in 0..SLOTS {
+        heaps.push_reserved(closed.take(number).unwrap().into_heap());
+    }
+    closed.free();
+}

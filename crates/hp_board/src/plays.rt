@@ -1,0 +1,65 @@
+// The rule of the table, and the names of its steps. These types are for contracts alone.
+use crate::kept::Kept;
+use crate::opening::Opening;
+use crate::view::View;
+use atomic_table::{Join, Play, Seat, Shared, Split, Table, TableRule};
+use std::alloc::Global;
+
+// A slot is at home with its value, or out with the seat that holds it. The value is moved out at once, and moved back right
+// before the slot goes home.
+pub(crate) type Slots = Table<Option<Kept>, View, Opening, Rule, Global>;
+
+pub(crate) type SharedSlots = Shared<Option<Kept>, View, Opening, Rule>;
+
+pub(crate) type Token = Seat<Option<Kept>, View>;
+
+pub(crate) struct Rule;
+
+impl TableRule<Option<Kept>, View, Opening> for Rule {
+    ghost use Rattle.hp_board.specs.BoardRule.{IsBoard};
+    ghost use Rattle.hp_board.specs.Views.{whole_view};
+
+    ghost holds = { IsBoard };
+
+    ghost first = { whole_view };
+}
+
+// A try of a lock word.
+pub(crate) struct Try;
+
+impl Play<Option<Kept>, View> for Try {
+    ghost use Rattle.hp_board.specs.Steps.{Tries};
+
+    ghost then = { Tries };
+}
+
+// A lock word becomes 0.
+pub(crate) struct Give;
+
+impl Play<Option<Kept>, View> for Give {
+    ghost use Rattle.hp_board.specs.Steps.{Gave};
+
+    ghost then = { Gave };
+}
+
+// The first part of a view goes to a seat of its own.
+pub(crate) struct Deal;
+
+impl Split<View> for Deal {
+    ghost use Rattle.hp_board.specs.Views.{first_part, other_parts};
+
+    ghost left = { other_parts };
+
+    ghost right = { first_part };
+}
+
+// A seat takes in the parts of another.
+pub(crate) struct Gather;
+
+impl Join<View> for Gather {
+    ghost use Rattle.hp_board.specs.Views.{both_parts, spent_view};
+
+    ghost both = { both_parts };
+
+    ghost spent = { spent_view };
+}
