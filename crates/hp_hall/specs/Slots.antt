@@ -1,0 +1,15 @@
+-- The slots of a hall: the rule "Halls" of docs/PARTICIPANTS.md.
+use Rattle.std.specs.Prelude.{ℕ, ◌<◌, ⊤}
+use Rattle.hp_base.specs.declared.limits.TheConstants.{MAX_HEAPS}
+use Rattle.hp_hall.specs.declared.slot.Slot.{Slot}
+use Rattle.hp_hall.specs.declared.slot.Slot.TheVariants.{Heap, Segments}
+
+-- the index in a heap's slot is that of a heap
+abbrev pub IsSlot : Slot → Type 0
+IsSlot (Heap index) = index < MAX_HEAPS
+IsSlot Segments = ⊤
+
+-- a slot's number: the heaps' by index, and behind them the segment value's
+abbrev pub slot_number : Slot → ℕ
+slot_number (Heap index) = index
+slot_number Segments = MAX_HEAPS

@@ -1,0 +1,48 @@
+-- The values that slots keep, and what a taker learns of them: the rule "Halls" of docs/PARTICIPANTS.md.
+use Rattle.std.specs.Prelude.{◌≡◌, ℕ, ◌<◌, List, [], ⊤}
+use Rattle.hp_base.specs.declared.limits.TheConstants.{MAX_HEAPS}
+use Rattle.hp_heap.specs.declared.entry.Entry.{Entry}
+use Rattle.hp_heap.specs.History as heaps
+use Rattle.hp_heap.specs.History.{entries_of}
+use Rattle.hp_log.specs.declared.log_record.LogRecord.{LogRecord}
+use Rattle.hp_segs.specs.Sound as segments
+use Rattle.hp_hall.specs.declared.kept.Kept.{Kept}
+use Rattle.hp_hall.specs.declared.kept.Kept.TheVariants.{Heap, Segments}
+
+abbrev pub IsHeap : Kept → Type 0
+IsHeap (Heap heap) = ⊤
+IsHeap (Segments segs) = ⊥
+
+abbrev pub IsSegments : Kept → Type 0
+IsSegments (Heap heap) = ⊥
+IsSegments (Segments segs) = ⊤
+
+-- the value is one of the slot with that number: the heap of that index, or the segment value
+abbrev pub Fits : ℕ → Kept → Type 0
+Fits number (Heap heap) = (heap.plain.index ≡ number) × (number < MAX_HEAPS)
+Fits number (Segments segs) = number ≡ MAX_HEAPS
+
+-- a heap is tiled by its elements, its free lists are exact, and it stands for its history; a segment value is sound
+abbrev pub IsSoundKept : Kept → Type 0
+IsSoundKept (Heap heap) = heaps.IsSound heap
+IsSoundKept (Segments segs) = segments.IsSound segs
+
+-- the history of a heap
+abbrev pub history_of : Kept → List Entry
+history_of (Heap heap) = heap.history
+history_of (Segments segs) = []
+
+-- the log of a segment value
+abbrev pub log_of : Kept → List LogRecord
+log_of (Heap heap) = []
+log_of (Segments segs) = segs.log
+
+-- a heap has of a participant the entries that it made there
+abbrev pub HasEntries : ℕ → (ℕ → List Entry) → Kept → Type 0
+HasEntries who made (Heap heap) = entries_of who heap.history ≡ made heap.plain.index
+HasEntries who made (Segments segs) = ⊤
+
+-- a segment value has the log that was seen
+abbrev pub HasLog : List LogRecord → Kept → Type 0
+HasLog seen (Heap heap) = ⊤
+HasLog seen (Segments segs) = segs.log ≡ seen

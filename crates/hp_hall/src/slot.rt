@@ -1,0 +1,30 @@
+ghost use Rattle.std.specs.Prelude.{◌≡◌};
+ghost use Rattle.hp_hall.specs.Slots.{slot_number, IsSlot};
+
+use hp_base::MAX_HEAPS;
+
+/// How many slots there are: one for each heap, and one for the segment value. Own.
+pub const SLOTS: usize = MAX_HEAPS + 1;
+
+/// A slot, which keeps a value that one participant at a time may take. Own; it stands for the lock of malloc_heap in rte_malloc,
+/// and for the lock of the memory map (rte_mcfg_mem_write_lock).
+#[derive(Clone, Copy, Debug, PartialEq, Eq)]
+pub enum Slot {
+    /// The heap with this index, which is below 32.
+    Heap(u32),
+    /// The segment value.
+    Segments,
+}
+
+impl Slot {
+    /// Its number among the slots: the index of its heap, or behind all heaps.
+    pub fn number(self) -> usize
+        requires slot { IsSlot self }
+        ensures { result ≡ slot_number self }
+    {
+        match self {
+            Slot::Heap(index) => index as usize,
+            Slot::Segments => MAX_HEAPS,
+        }
+    }
+}

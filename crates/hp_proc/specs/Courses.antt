@@ -1,0 +1,142 @@
+-- What one participant's lines do, one after another, by what its earlier lines left.
+use Rattle.std.specs.Prelude.{◌≡◌, ℕ, ◌+◌, Bool, true, false, ◌==◌, List, [], ◌∷◌, ◌++◌, length, find, Option, Some, None, slice_get, slice_index, ⊤, if◌then◌else◌}
+use Rattle.std.specs.Option.{option_map}
+use Rattle.hp_base.specs.Requests.{refusal_of, rounded_size, raised_align}
+use Rattle.hp_base.specs.declared.pool_line.PoolLine.{PoolLine}
+use Rattle.hp_base.specs.declared.request.Request.{Request}
+use Rattle.hp_heap.specs.declared.entry.Entry.{Entry}
+use Rattle.hp_heap.specs.declared.entry.HeapCall.{HeapCall}
+use Rattle.hp_heap.specs.declared.entry.HeapAnswer.{HeapAnswer}
+use Rattle.hp_script.specs.Acts.{label_used}
+use Rattle.hp_script.specs.Labels.{maker_of}
+use Rattle.hp_script.specs.Part.{Part}
+use Rattle.hp_script.specs.declared.answer.Answer.{Answer}
+use Rattle.hp_script.specs.declared.answer.Answer.TheVariants as answer
+use Rattle.hp_script.specs.declared.line.Line.{Line}
+use Rattle.hp_script.specs.declared.line.Act.{Act}
+use Rattle.hp_script.specs.declared.line.Act.TheVariants as act
+use Rattle.hp_script.specs.declared.options.Options.{Options}
+use Rattle.hp_script.specs.declared.workload.Workload.{Workload}
+use Rattle.hp_proc.specs.Doing.{Doing, Done, Leads}
+use Rattle.hp_proc.specs.Doing.Done.{Called, Asked, GaveUp, Looked, CaughtUp}
+use Rattle.hp_proc.specs.Heaps.{sockets_of, socket_heaps}
+use Rattle.hp_proc.specs.Freeing.{SearchedHeap}
+use Rattle.hp_proc.specs.Lines.{Facts, Maker, doing_of}
+
+-- a call of the heap with that index, and its answer
+pub record OwnCall : Type 0 where
+  pub heap : ℕ
+  pub call : HeapCall
+  pub answer : HeapAnswer
+
+-- the calls of heaps in a trace
+abbrev pub calls_in : List Done → List OwnCall
+calls_in [] = []
+calls_in (Called heap call answer ∷ trace) = record { heap = heap; call = call; answer = answer } ∷ calls_in trace
+calls_in (Asked asked run ∷ trace) = calls_in trace
+calls_in (GaveUp heap run ∷ trace) = calls_in trace
+calls_in (Looked records ∷ trace) = calls_in trace
+calls_in (CaughtUp to caught ∷ trace) = calls_in trace
+
+-- what of a trace takes a number of the participant's asks: asks, and runs that are given up
+abbrev pub numbered_in : List Done → List Done
+numbered_in [] = []
+numbered_in (Called heap call answer ∷ trace) = numbered_in trace
+numbered_in (Asked asked run ∷ trace) = Asked asked run ∷ numbered_in trace
+numbered_in (GaveUp heap run ∷ trace) = GaveUp heap run ∷ numbered_in trace
+numbered_in (Looked records ∷ trace) = numbered_in trace
+numbered_in (CaughtUp to caught ∷ trace) = numbered_in trace
+
+-- the numbers of records that were seen in a trace
+abbrev pub seen_in : List Done → List ℕ
+seen_in [] = []
+seen_in (Called heap call answer ∷ trace) = seen_in trace
+seen_in (Asked asked run ∷ trace) = seen_in trace
+seen_in (GaveUp heap run ∷ trace) = seen_in trace
+seen_in (Looked records ∷ trace) = records ∷ seen_in trace
+seen_in (CaughtUp to caught ∷ trace) = seen_in trace
+
+-- the index of the heap that the last call of a trace was made on
+abbrev pub last_heap : List OwnCall → Option ℕ
+last_heap [] = None
+last_heap (own ∷ []) = Some own.heap
+last_heap (own ∷ (next ∷ calls)) = last_heap (next ∷ calls)
+
+-- where the element of an allocation line lies: the number of the line, and the index of the heap
+pub record OwnElement : Type 0 where
+  pub line : ℕ
+  pub heap : ℕ
+
+-- what a participant's lines so far left: whether it is attached, and where the elements of its allocations lie
+pub record Standing : Type 0 where
+  pub attached : Bool
+  pub elements : List OwnElement
+
+-- whether a participant is attached after a line
+abbrev pub attached_after : Act → Answer → Bool → Bool
+attached_after act.Attach (answer.Records records) attached = true
+attached_after act.Detach answer.Done attached = false
+attached_after _ given attached = attached
+
+abbrev pub element_in : ℕ → Option ℕ → List OwnElement
+element_in line None = []
+element_in line (Some heap) = record { line = line; heap = heap } ∷ []
+
+-- the element that an allocation line brought
+abbrev pub element_brought : Line → Act → Answer → List Done → List OwnElement
+element_brought line (act.Alloc label size options) (answer.Address address) trace = element_in line.line (last_heap (calls_in trace))
+element_brought line _ given trace = []
+
+-- what a line leaves
+abbrev pub after_line : Line → Answer → List Done → Standing → Standing
+after_line line given trace standing = record {
+  attached = attached_after line.act given standing.attached;
+  elements = standing.elements ++ element_brought line line.act given trace;
+}
+
+-- an act reserves a memzone
+abbrev pub is_zone_act : Act → Bool
+is_zone_act (act.Zone name len options) = true
+is_zone_act _ = false
+
+-- the line that makes a label or name, where it is known which one that is
+abbrev pub maker_from : Line → Maker
+maker_from line = record { line = line.line; participant = line.participant; zone = is_zone_act line.act }
+
+-- the line that makes what an act frees or resizes
+abbrev pub maker_for : List Line → Option Part → Option Maker
+maker_for lines None = None
+maker_for lines (Some label) = option_map maker_from (maker_of lines label.text)
+
+-- the accepted request of an allocation has its numbers, rounded
+pub record IsRequestFor (size : ℕ) (options : Options) (request : Request) : Type 0 where
+  pub size_is : request.size ≡ rounded_size size
+  pub align_is : request.align ≡ raised_align options.align
+  pub bound_is : request.bound ≡ options.bound
+  pub flags_are : request.flags ≡ options.flags
+
+-- where the size and the options of an allocation are not refused, its request is there
+abbrev pub HasRequest : Act → Option Request → Type 0
+HasRequest (act.Alloc label size options) request = refusal_of size options.align options.bound ≡ None
+    → (accepted : Request) × (request ≡ Some accepted) × IsRequestFor size options accepted
+HasRequest _ request = ⊤
+
+-- the place of the heap with that index
+abbrev pub searched_heap_at : List PoolLine → ℕ → SearchedHeap
+searched_heap_at pools heap = record { index = heap; serves = slice_get (sockets_of pools) heap }
+
+-- the heap in which the element of a maker's line lies
+abbrev pub heap_of_element : List PoolLine → List OwnElement → Option Maker → Option SearchedHeap
+heap_of_element pools elements None = None
+heap_of_element pools elements (Some maker) =
+    option_map (λ element. searched_heap_at pools element.heap) (find (λ element. element.line == maker.line) elements)
+
+-- what is known when a participant's line begins, by what its lines so far left
+pub record AreFacts (workload : Workload) (standing : Standing) (line : Line) (facts : Facts) : Type 0 where
+  pub attached : facts.attached ≡ standing.attached
+  pub own_socket : facts.own_socket ≡ slice_index workload.sockets line.participant
+  pub pools : facts.pools ≡ workload.pools.items
+  pub named : facts.named ≡ socket_heaps workload.pools.items
+  pub request : HasRequest line.act facts.request
+  pub maker : facts.maker ≡ maker_for workload.lines.items (label_used line.act)
+  pub own_heap : facts.own_heap ≡ heap_of_element workload.pools.items standing.elements facts.maker

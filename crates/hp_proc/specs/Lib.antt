@@ -1,0 +1,10 @@
+pub mod Doing
+pub mod Heaps
+pub mod Allocating
+pub mod Freeing
+pub mod Lines
+pub mod Courses
+pub mod Outcomes
+pub mod Histories
+pub mod Ends
+pub mod Laws

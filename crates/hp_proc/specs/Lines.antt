@@ -1,0 +1,120 @@
+-- What each line does, by what is known before it.
+use Rattle.std.specs.Prelude.{◌≡◌, ℕ, Bool, true, false, not, ◌&&◌, ◌==◌, List, [], ◌∷◌, ◌++◌, map, find, filter, Option, Some, None, slice_get, slice_index, if◌then◌else◌, ⊤}
+use Rattle.std.specs.List.{list_any}
+use Rattle.std.specs.Option.{option_map, option_to_list}
+use Rattle.std.specs.Str.{bytes_eq}
+use Rattle.hp_base.specs.Requests.{refusal_of, rounded_size, raised_align}
+use Rattle.hp_base.specs.declared.caught.Caught.{Caught}
+use Rattle.hp_base.specs.declared.caught.Caught.TheVariants as caught
+use Rattle.hp_base.specs.declared.pool_line.PoolLine.{PoolLine}
+use Rattle.hp_base.specs.declared.request.BadRequest.{BadRequest}
+use Rattle.hp_base.specs.declared.request.Request.{Request}
+use Rattle.hp_base.specs.declared.tag.Tag.{Tag}
+use Rattle.hp_heap.specs.declared.entry.HeapCall.TheVariants as call
+use Rattle.hp_heap.specs.declared.entry.HeapAnswer.{HeapAnswer}
+use Rattle.hp_heap.specs.declared.entry.HeapAnswer.TheVariants as gives
+use Rattle.hp_script.specs.declared.answer.Answer.{Answer}
+use Rattle.hp_script.specs.declared.answer.Answer.TheVariants as answer
+use Rattle.hp_script.specs.declared.line.Line.{Line}
+use Rattle.hp_script.specs.declared.line.Act.{Act}
+use Rattle.hp_script.specs.declared.line.Act.TheVariants as act
+use Rattle.hp_script.specs.declared.options.Options.{Options}
+use Rattle.hp_proc.specs.Doing.{Doing, Done, Leads}
+use Rattle.hp_proc.specs.Heaps.{NamedHeap, heaps_for, has_name}
+use Rattle.hp_proc.specs.Allocating.{serving}
+use Rattle.hp_proc.specs.Freeing.{SearchedHeap, looking, freeing, resizing_to}
+
+-- the line that makes a label or a memzone's name
+pub record Maker : Type 0 where
+  pub line : ℕ
+  pub participant : ℕ
+  pub zone : Bool
+
+-- what is known when a line begins: whether its participant is attached; that one's own socket; the pools; the heaps that have a name, by
+-- index; the request of an allocation, where it is none that is refused; the line that makes the label of a free or a resize; and the heap
+-- in which the participant's own line put that element, where it did
+pub record Facts : Type 0 where
+  pub attached : Bool
+  pub own_socket : ℕ
+  pub pools : List PoolLine
+  pub named : List NamedHeap
+  pub request : Option Request
+  pub maker : Option Maker
+  pub own_heap : Option SearchedHeap
+
+-- a line that only an attached participant does
+abbrev pub if_attached : Bool → Doing → Doing
+if_attached attached doing = if attached then doing else Doing.Ended answer.Detached
+
+-- the tag of what a line allocates
+abbrev pub tag_of : Line → Tag
+tag_of line = record { who = line.participant; zone = false; number = line.line }
+
+-- an allocation: its request is refused or served; one that is not refused is there, so the second equation is met by no line
+abbrev pub judged : Facts → Tag → Options → Option BadRequest → Option Request → Doing
+judged facts tag options (Some kind) request = Doing.Ended (answer.BadRequest kind)
+judged facts tag options None None = Doing.Ended answer.None
+judged facts tag options None (Some request) = serving facts.pools request tag
+    (heaps_for facts.own_socket facts.named (option_map (λ name. name.text) options.heap) options.socket)
+
+abbrev pub allocating : Facts → Tag → ℕ → Options → Doing
+allocating facts tag size options = judged facts tag options (refusal_of size options.align options.bound) facts.request
+
+-- the tag by which a participant looks for what a line made
+abbrev pub tag_made : ℕ → Maker → Tag
+tag_made who maker = record { who = who; zone = maker.zone; number = maker.line }
+
+-- the heaps in which an element is looked for: the one in which the participant's own line put it; every heap with a name, where it is
+-- another participant's or a memzone's
+abbrev pub heaps_searched : ℕ → Facts → Maker → List SearchedHeap
+heaps_searched who facts maker =
+    if (maker.participant == who) && not maker.zone then option_to_list facts.own_heap
+    else map (λ heap. record { index = heap.index; serves = heap.serves }) facts.named
+
+-- the element that a label or name stands for is looked for
+abbrev pub on_element : ℕ → Facts → (Tag → List SearchedHeap → Doing) → Option Maker → Doing
+on_element who facts goes None = Doing.Ended answer.NoElement
+on_element who facts goes (Some maker) = goes (tag_made who maker) (heaps_searched who facts maker)
+
+-- the statistics of a heap, which is all that this call answers
+abbrev pub with_statistics : HeapAnswer → Doing
+with_statistics (gives.Statistics stats) = Doing.Ended (answer.Statistics stats)
+with_statistics _ = Doing.Ended answer.NotFound
+
+abbrev pub dumping : Option NamedHeap → Doing
+dumping None = Doing.Ended answer.NotFound
+dumping (Some heap) = Doing.Calls heap.index call.Stats with_statistics
+
+-- how a catching up with so many records is answered by a participant that attaches
+abbrev pub attached_with : ℕ → Caught → Doing
+attached_with records caught.Done = Doing.Ended (answer.Records records)
+attached_with records (caught.Refused row number) = Doing.Ended (answer.Refused number)
+attached_with records (caught.Elsewhere row number got) = Doing.Ended (answer.Refused number)
+
+abbrev pub attaching : Bool → Doing
+attaching true = Doing.Ended answer.Already
+attaching false = Doing.Looks (λ records. Doing.CatchesUp records (attached_with records))
+
+-- the lines that are built: an end of a workload has these alone
+abbrev pub IsBuilt : Act → Type 0
+IsBuilt (act.Alloc label size options) = ⊤
+IsBuilt (act.Free label) = ⊤
+IsBuilt (act.Resize label size) = ⊤
+IsBuilt act.Attach = ⊤
+IsBuilt act.Detach = ⊤
+IsBuilt (act.Await other lines) = ⊤
+IsBuilt (act.Dump heap) = ⊤
+IsBuilt _ = ⊥
+
+-- what a line does, where it is built
+unfoldable pub doing_of : Line → Act → Facts → Doing
+doing_of line (act.Alloc label size options) facts = if_attached facts.attached (allocating facts (tag_of line) size options)
+doing_of line (act.Free label) facts =
+    if_attached facts.attached (on_element line.participant facts (λ tag. looking tag freeing) facts.maker)
+doing_of line (act.Resize label size) facts =
+    if_attached facts.attached (on_element line.participant facts (λ tag. resizing_to size tag) facts.maker)
+doing_of line act.Attach facts = attaching facts.attached
+doing_of line act.Detach facts = if_attached facts.attached (Doing.Ended answer.Done)
+doing_of line (act.Await other lines) facts = Doing.Ended answer.Done
+doing_of line (act.Dump heap) facts = if_attached facts.attached (dumping (find (has_name heap.text) facts.named))
+doing_of line _ facts = Doing.Ended answer.NotFound

@@ -1,0 +1,22 @@
+//! Laws of the definitions. They are proved of all values, and their functions have no code.
+ghost use Rattle.std.specs.Prelude.{List, ℕ};
+ghost use Rattle.hp_log.specs.declared.log_record.LogRecord.{LogRecord};
+ghost use Rattle.hp_segs.specs.declared.outcome.AskLog.{AskLog};
+ghost use Rattle.hp_proc.specs.Doing.{Doing};
+ghost use Rattle.hp_proc.specs.Laws.{GoesOnNumbered, LeadsOn, StaysAnswered};
+
+/// The outcome of an ask that a segment value has stays, whatever is logged after it. So what was said of a line stays true in
+/// every later step. Own.
+pub fn answer_law()
+    ensures { (log : List LogRecord) (asks : List AskLog) → StaysAnswered log asks }
+{}
+
+/// Traces through a line's tree join: the line may be followed step by step. Own.
+pub fn leading_law()
+    ensures { (doing : Doing) → LeadsOn doing }
+{}
+
+/// The entries of a participant's calls are numbered on from line to line. Own.
+pub fn numbering_law()
+    ensures { (who heap : ℕ) → GoesOnNumbered who heap }
+{}
