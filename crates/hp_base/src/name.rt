@@ -9,9 +9,9 @@ use std::marker::Model;
 /// The name of a heap, a memzone, a watcher or a validator: 1 to 63 bytes. After rte_memzone's and rte_malloc's names.
 #[derive(Copy, Debug)]
 pub struct Name {
-    // The text, and zeros behind it.
+    // The text, and zeros behind it. The length is one byte, so that a name takes 64 bytes at an alignment of 1.
     bytes: [u8; 63],
-    len: usize,
+    len: u8,
 }
 
 impl Model for Name {
@@ -71,7 +71,7 @@ impl Name {
         front.copy_from_slice(text);
         Some(Name {
             bytes,
-            len: text.len(),
+            len: text.len() as u8,
         })
     }
 
@@ -80,6 +80,6 @@ impl Name {
         ensures text { result.now ≡ self.now }
         ensures accepted { IsNameText self.now }
     {
-        &self.bytes[..self.len]
+        &self.bytes[..self.len as usize]
     }
 }
