@@ -70,6 +70,7 @@ module _ (pools : List PoolLine) (log more : List LogRecord) where
         added = get_stays log more (at - 1) _ grown.added;
         first = subst (λ table. IsFirstFor pools table ask run) table grown.first;
         enough = subst (λ table. run.count ≤ pages_beside pools table run.list) table grown.enough;
+        place = grown.place;
       }
 
   failed_stays : (at : ℕ) (ask : Ask) (run : Run) → at ≤ length log → IsFailedGrowth pools log at ask run

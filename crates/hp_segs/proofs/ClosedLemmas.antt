@@ -12,11 +12,11 @@ use Rattle.hp_segs.specs.declared.ask.Ask.{Ask}
 use Rattle.hp_segs.specs.declared.outcome.AskLog.{AskLog}
 use Rattle.hp_log.proofs.Counts.{count_cons}
 
-and_false : (b : Bool) → (b && false) ≡ false
+pub and_false : (b : Bool) → (b && false) ≡ false
 and_false true = refl
 and_false false = refl
 
-closed_push : (asks : List AskLog) (entry : AskLog) (from : ℕ)
+pub closed_push : (asks : List AskLog) (entry : AskLog) (from : ℕ)
     → closed_number (asks ++ entry ∷ []) from
     ≡ (if (entry.from == from) && not (is_stale entry.outcome) then max (closed_number asks from) entry.number else closed_number asks from)
 closed_push asks entry from =

@@ -71,6 +71,7 @@ module _ {pools : List PoolLine} {log : List LogRecord} {segments : List Segment
         added = old.added;
         first = subst (λ rows. IsFirstFor pools rows growth.ask growth.run) before old.first;
         enough = subst (λ rows. growth.run.count ≤ pages_beside pools rows growth.run.list) before old.pages;
+        place = old.place;
       }
 
   -- a grant has its cause

@@ -45,4 +45,5 @@ growth_stays {pools} f segments growth row test own old =
           ∙ ap (λ front. front ++ map (segment_of Opened) rows) (sym others)));
       first = subst (λ rows. IsFirstFor pools rows growth.ask growth.run) (sym same) old.first;
       pages = subst (λ rows. HasPages pools rows growth.run) (sym same) old.pages;
+      place = old.place;
     }

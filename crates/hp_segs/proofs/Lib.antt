@@ -61,6 +61,9 @@ pub mod TableSteps
 pub mod SoundSteps
 pub mod GrantedRows
 pub mod Moves
+pub mod Appending
+pub mod PlacedGrants
+pub mod ArmedGrowth
 pub mod NewSound
 pub mod WithdrawSteps
 pub mod WholeGrants

@@ -14,7 +14,7 @@ use Rattle.hp_fbarray.specs.Mask.{IsFirstFreeRun}
 use Rattle.hp_fbarray.specs.FreeRuns.{first_free_run}
 use Rattle.hp_fbarray.proofs.RunValues.{first_free_run-holds}
 use Rattle.hp_segs.specs.Lists.{lists_of, list_number, pages_beside, run_at}
-use Rattle.hp_segs.specs.Plan.{planned_in, planned_list, planned_slots, planned_alone, plan_of, IsFirstFor}
+use Rattle.hp_segs.specs.Plan.{planned_in, planned_list, planned_slots, planned_alone, plan_of, HasPlace, IsFirstFor}
 use Rattle.hp_log.specs.Rows.{at_slot, slots_of, IsUnusedRun}
 use Rattle.hp_segs.specs.SegsView.{SegsView, closed_number, rows_in}
 use Rattle.hp_segs.specs.Table.{IsListRun, HasPages}
@@ -35,6 +35,7 @@ pub record IsPlanned (pools : List PoolLine) (rows : List Row) (ask : Ask) (run 
   pub pages : HasPages pools rows run
   pub listed : IsListRun (lists_of pools) run
   pub unused : IsUnusedRun rows run
+  pub place : HasPlace ask run
 
 -- the page size of a list is one of the eight
 pub list_page : (pools : List PoolLine) (list : ℕ) (info : ListInfo) → ArePoolLines pools → slice_get (lists_of pools) list ≡ Some info
@@ -49,8 +50,9 @@ module _ (pools : List PoolLine) (rows : List Row) (ask : Ask) (run : Run) (limi
       → slice_get (lists_of pools) list ≡ Some info → info.page ≡ ask.page
       → pages_of ask.request ask.page ≤ pages_beside pools rows list
       → first_free_run (slots_of rows list info.slots) 0 (pages_of ask.request ask.page) ≡ Some first
+      → HasPlace ask (run_at info list first (pages_of ask.request ask.page))
       → IsPlanned pools rows ask (run_at info list first (pages_of ask.request ask.page))
-  of_slot list info first number here page enough found =
+  of_slot list info first number here page enough found place =
       let need : ℕ = pages_of ask.request ask.page in
       let is_first : IsFirstFreeRun (slots_of rows list info.slots) 0 need first =
       rw found at (first_free_run-holds (slots_of rows list info.slots) 0 need) in
@@ -67,6 +69,7 @@ module _ (pools : List PoolLine) (rows : List Row) (ask : Ask) (run : Run) (limi
               get_or-map-range_with_len (λ slot. list_any (at_slot list slot) rows) 0 info.slots (first + n) (first + n) true (omega arith) (omega arith) in
               none_counts (at_slot list (first + n)) rows (sym at ∙ clear);
         };
+        place = place;
       }
 
   of_place : (list : ℕ) (info : ListInfo) (first : ℕ) → list_number (lists_of pools) ask.socket ask.page ≡ Some list
@@ -74,11 +77,13 @@ module _ (pools : List PoolLine) (rows : List Row) (ask : Ask) (run : Run) (limi
       → pages_of ask.request ask.page ≤ pages_beside pools rows list
       → first_free_run (slots_of rows list info.slots) 0 (pages_of ask.request ask.page) ≡ Some first
       → (held : Bool) (planned : Run) → (if held then Ok planned else Err (CannotHold planned.addr (planned.count * planned.page))) ≡ Ok run
-      → planned ≡ run_at info list first (pages_of ask.request ask.page) → IsPlanned pools rows ask run
-  of_place list info first number here page enough found true planned plan is =
+      → planned ≡ run_at info list first (pages_of ask.request ask.page)
+      → is_some (place_of planned.addr (planned.addr + planned.count * planned.page) ask.request) ≡ held → IsPlanned pools rows ask run
+  of_place list info first number here page enough found true planned plan is holds =
       let same : planned ≡ run = cc in
-      subst (IsPlanned pools rows ask) (sym is ∙ same) (of_slot list info first number here page enough found)
-  of_place list info first number here page enough found false planned plan is = cc
+      subst (IsPlanned pools rows ask) (sym is ∙ same)
+      (of_slot list info first number here page enough found (subst (HasPlace ask) is holds))
+  of_place list info first number here page enough found false planned plan is holds = cc
 
   of_first : (list : ℕ) (info : ListInfo) → list_number (lists_of pools) ask.socket ask.page ≡ Some list
       → slice_get (lists_of pools) list ≡ Some info → info.page ≡ ask.page
@@ -89,7 +94,7 @@ module _ (pools : List PoolLine) (rows : List Row) (ask : Ask) (run : Run) (limi
   of_first list info number here page enough (Some first) found plan =
       let planned : Run = run_at info list first (pages_of ask.request ask.page) in
       of_place list info first number here page enough found
-      (is_some (place_of planned.addr (planned.addr + planned.count * planned.page) ask.request)) planned plan refl
+      (is_some (place_of planned.addr (planned.addr + planned.count * planned.page) ask.request)) planned plan refl refl
 
   of_pages : (list : ℕ) (info : ListInfo) → list_number (lists_of pools) ask.socket ask.page ≡ Some list
       → slice_get (lists_of pools) list ≡ Some info → info.page ≡ ask.page
@@ -170,3 +175,9 @@ pub planned_first : (segs : SegsView) (ask : Ask) (result : Result Run PlanRefus
     → IfOk result (IsFirstFor segs.pools (rows_in segs.segments) ask)
 planned_first segs ask (Ok run) limits plan = (open_plan segs ask run limits (sym plan)).planned.first
 planned_first segs ask (Err refusal) limits plan = tt
+
+-- in which the request has a place
+pub planned_holds : (segs : SegsView) (ask : Ask) (result : Result Run PlanRefusal) → ArePoolLines segs.pools → result ≡ plan_of ask segs
+    → IfOk result (HasPlace ask)
+planned_holds segs ask (Ok run) limits plan = (open_plan segs ask run limits (sym plan)).planned.place
+planned_holds segs ask (Err refusal) limits plan = tt

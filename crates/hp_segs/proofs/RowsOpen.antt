@@ -19,7 +19,7 @@ use Rattle.hp_segs.specs.declared.row_state.RowState.TheVariants.{Opened}
 use Rattle.hp_segs.proofs.ListFacts.{filter_keeps, all_unmap}
 use Rattle.hp_log.proofs.RowLemmas.{all_rows_below, in_run_from, row_at_place}
 use Rattle.hp_segs.specs.Machine.{unopened}
-use Rattle.hp_segs.specs.Plan.{IsFirstFor}
+use Rattle.hp_segs.specs.Plan.{HasPlace, IsFirstFor}
 use Rattle.hp_segs.proofs.HeapRows.{heaps_open}
 use Rattle.hp_segs.proofs.StateLemmas.{opened_rows, unopened_before}
 use Rattle.hp_log.specs.declared.log_record.LogRecord.{LogRecord}
@@ -34,11 +34,11 @@ module _ {pools : List PoolLine} {log : List LogRecord} {segments : List Segment
   pub rows_opened : (growth : Growth) → AreRows pools log segments retiring None
       → growth.generation ≡ length log + 1 → growth.ask.from < 16
       → IsListRun (lists_of pools) growth.run → IsUnusedRun (rows_in segments) growth.run
-      → IsFirstFor pools (rows_in segments) growth.ask growth.run → HasPages pools (rows_in segments) growth.run
+      → IsFirstFor pools (rows_in segments) growth.ask growth.run → HasPages pools (rows_in segments) growth.run → HasPlace growth.ask growth.run
       → IsTable pools (log ++ Add growth.run growth.ask.heap ∷ []) (rows_in (segments ++ map (segment_of Opened) (rows_of growth.run (length log + 1))))
       → AreRows pools (log ++ Add growth.run growth.ask.heap ∷ []) (segments ++ map (segment_of Opened) (rows_of growth.run (length log + 1)))
       retiring (Some growth)
-  rows_opened growth old stamp participant listed unused first pages new =
+  rows_opened growth old stamp participant listed unused first pages place new =
       let run : Run = growth.run in
       let generation : ℕ = length log + 1 in
       let fresh : List Row = rows_of run generation in
@@ -107,5 +107,6 @@ module _ {pools : List PoolLine} {log : List LogRecord} {segments : List Segment
               ∙ ap (λ g. unopened (segments ++ map (segment_of Opened) fresh) ++ map (segment_of Opened) (rows_of run g)) (sym stamp);
           first = subst (λ segments. IsFirstFor pools (rows_in segments) growth.ask run) (sym others) first;
           pages = subst (λ segments. HasPages pools (rows_in segments) run) (sym others) pages;
+          place = place;
         };
       }

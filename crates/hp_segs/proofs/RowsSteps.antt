@@ -57,6 +57,7 @@ module _ {pools : List PoolLine} {log : List LogRecord} {segments : List Segment
       behind = old.logged.behind;
       first = old.logged.first;
       pages = old.logged.pages;
+      place = old.logged.place;
     };
   }
 

@@ -1,11 +1,11 @@
 -- Where the outcomes of an ask can stand: not before its number was above the closed one.
-use Rattle.std.proofs.Common.{◌≡◌, ◌==◌, ℕ, ◌+◌, ◌-◌, ◌<◌, ◌≤◌, max, Bool, true, false, not, ◌&&◌, if◌then◌else◌, List, [], ◌∷◌, ◌++◌, length, get_or, take, drop, Option, Some, None, IfSome, refl, ap, ◌∙◌, sym, arith, slice_index, length-append, inl, inr}
+use Rattle.std.proofs.Common.{◌≡◌, ◌==◌, ℕ, ◌+◌, ◌-◌, ◌<◌, ◌≤◌, nat_lt, max, Bool, true, false, not, ◌&&◌, if◌then◌else◌, List, [], ◌∷◌, ◌++◌, length, get_or, take, drop, Option, Some, None, IfSome, refl, ap, ◌∙◌, sym, arith, slice_index, length-append, inl, inr}
 use Rattle.std.specs.List.{find, fold}
 use Rattle.std.specs.Option.{option_map, option_or}
 use Rattle.std.proofs.lemmas.Bool.{and_from, and_parts, cases_lt, eqb-true, false_from_ne_true}
 use Rattle.std.proofs.lemmas.List.{get_or_append_left, get_or_push, length-drop, take-append-drop, take-append-le}
 use Rattle.std.proofs.lemmas.List.Folds.{find-append}
-use Rattle.hp_segs.specs.AsksView.{AreKeptAsks, closed_after, failed_after, failure_of}
+use Rattle.hp_segs.specs.AsksView.{AreKeptAsks, closed_after, failed_after, failure_of, is_above}
 use Rattle.hp_segs.specs.SegsView.{closed_number, grant_or_refusal_of, grants_or_refuses, is_outcome_for, is_stale, outcome_of}
 use Rattle.hp_segs.specs.declared.outcome.AskLog.{AskLog}
 use Rattle.hp_segs.specs.declared.outcome.Outcome.{Outcome}
@@ -76,28 +76,30 @@ answer_since asks from number since none =
     (find_weaker (is_outcome_for from number) (grants_or_refuses from number) (answers_close from number) (take since asks) none))
 
 -- what is kept beside one outcome more
-pub kept_push : (asks : List AskLog) (before closed : List ℕ) (failed : List (Option ℕ)) (entry : AskLog) → AreKeptAsks asks before closed failed
+pub kept_push : (asks : List AskLog) (above : List Bool) (closed : List ℕ) (failed : List (Option ℕ)) (entry : AskLog) → AreKeptAsks asks above closed failed
     → entry.from < 16 → IfSome (failure_of entry.outcome) (λ failure. failure.0 < 256)
-    → AreKeptAsks (asks ++ entry ∷ []) (before ++ slice_index closed entry.from ∷ []) (closed_after closed entry)
+    → AreKeptAsks (asks ++ entry ∷ []) (above ++ nat_lt (slice_index closed entry.from) entry.number ∷ []) (closed_after closed entry)
     (failed_after failed (failure_of entry.outcome))
-kept_push asks before closed failed entry kept participant small = record {
-  now = closed_is_after asks closed entry kept.now participant;
-  long = omega (arith, kept.long, length-append before (slice_index closed entry.from ∷ []), length-append asks (entry ∷ []));
-  each = λ place d within.
-      elim (cases_lt place (length asks)) [
-        | inl earlier ↦
-            get_or_append_left before (slice_index closed entry.from ∷ []) 0 place (omega (arith, kept.long, earlier))
-            ∙ (kept.each place d earlier
-            ∙ (ap (λ l. closed_number l (get_or asks place d).from) (sym (take-append-le place asks (entry ∷ []) (omega (arith, earlier))))
-            ∙ ap (λ (e : AskLog). closed_number (take place (asks ++ entry ∷ [])) e.from) (sym (get_or_append_left asks (entry ∷ []) d place earlier))))
-        | inr last ↦
-            let long = length-append asks (entry ∷ []) in
-            let here : length asks ≡ place = omega (arith, long, last, within) in
-            get_or_push before (slice_index closed entry.from) 0 place (kept.long ∙ here)
-            ∙ (closed_at asks closed entry.from kept.now participant
-            ∙ (ap (λ l. closed_number l entry.from)
-            (sym (take-append-le place asks (entry ∷ []) (omega (arith, here)) ∙ take_all asks place (omega (arith, here))))
-            ∙ ap (λ (e : AskLog). closed_number (take place (asks ++ entry ∷ [])) e.from) (sym (get_or_push asks entry d place here))))
-      ];
-  failures = failed_is_after asks failed entry kept.failures small;
-}
+kept_push asks above closed failed entry kept participant small =
+    let fresh : Bool = nat_lt (slice_index closed entry.from) entry.number in
+    record {
+      now = closed_is_after asks closed entry kept.now participant;
+      long = omega (arith, kept.long, length-append above (fresh ∷ []), length-append asks (entry ∷ []));
+      each = λ place d within.
+          elim (cases_lt place (length asks)) [
+            | inl earlier ↦
+                get_or_append_left above (fresh ∷ []) false place (omega (arith, kept.long, earlier))
+                ∙ (kept.each place d earlier
+                ∙ (ap (λ l. is_above l (get_or asks place d)) (sym (take-append-le place asks (entry ∷ []) (omega (arith, earlier))))
+                ∙ ap (is_above (take place (asks ++ entry ∷ []))) (sym (get_or_append_left asks (entry ∷ []) d place earlier))))
+            | inr last ↦
+                let long = length-append asks (entry ∷ []) in
+                let here : length asks ≡ place = omega (arith, long, last, within) in
+                get_or_push above fresh false place (kept.long ∙ here)
+                ∙ (ap (λ done. nat_lt done entry.number) (closed_at asks closed entry.from kept.now participant)
+                ∙ (ap (λ l. is_above l entry)
+                (sym (take-append-le place asks (entry ∷ []) (omega (arith, here)) ∙ take_all asks place (omega (arith, here))))
+                ∙ ap (is_above (take place (asks ++ entry ∷ []))) (sym (get_or_push asks entry d place here))))
+          ];
+      failures = failed_is_after asks failed entry kept.failures small;
+    }

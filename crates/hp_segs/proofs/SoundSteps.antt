@@ -130,7 +130,7 @@ module _ (segs : SegsView) (sound : IsSound segs) where
       record {
         rows =
             rows_opened growth (rows_of_growth None plan.alone) refl may.participant plan.planned.listed plan.planned.unused plan.planned.first
-            plan.planned.pages
+            plan.planned.pages plan.planned.place
             (table_opened segs.pools segs.log segs.segments run ask.heap plan.planned.listed plan.planned.unused plan.planned.pages sound.rows.table);
         asks = asks_opened growth (asks_of_growth None plan.alone) refl refl (above_unanswered segs.asks ask plan.above);
         places = sound.places;

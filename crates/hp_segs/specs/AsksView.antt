@@ -1,5 +1,5 @@
 -- The logged outcomes beside the closed numbers. No public clause cites this module.
-use Rattle.std.specs.Prelude.{◌≡◌, ◌==◌, ℕ, ◌<◌, max, Option, Some, None, List, length, map, slice_index, slice_index_or, slice_set, take, if◌then◌else◌}
+use Rattle.std.specs.Prelude.{◌≡◌, ◌==◌, ℕ, ◌<◌, nat_lt, Bool, false, max, Option, Some, None, List, length, map, slice_index, slice_index_or, slice_set, take, if◌then◌else◌}
 use Rattle.std.specs.List.{fold, range_with_len}
 use Rattle.hp_segs.specs.SegsView.{closed_number, is_stale}
 use Rattle.hp_segs.specs.declared.outcome.AskLog.{AskLog}
@@ -22,10 +22,14 @@ abbrev pub closed_after : List ℕ → AskLog → List ℕ
 closed_after closed entry =
     if is_stale entry.outcome then closed else slice_set closed entry.from (max (slice_index closed entry.from) entry.number)
 
--- beside each outcome stands the closed number of its participant before it
-abbrev pub AreBefore : List AskLog → List ℕ → Type 0
-AreBefore asks before =
-    (place : ℕ) (d : AskLog) → place < length asks → slice_index before place ≡ closed_number (take place asks) (slice_index_or asks place d).from
+-- the number of an entry is above the closed one that outcomes leave to its participant
+abbrev pub is_above : List AskLog → AskLog → Bool
+is_above asks entry = nat_lt (closed_number asks entry.from) entry.number
+
+-- beside each outcome stands whether its number was above the closed one
+abbrev pub AreAbove : List AskLog → List Bool → Type 0
+AreAbove asks above =
+    (place : ℕ) (d : AskLog) → place < length asks → slice_index_or above place false ≡ is_above (take place asks) (slice_index_or asks place d)
 
 -- the participant and the mapping call of a cause that is a failed mapping
 abbrev pub cause_failure : Cause → Option (ℕ × ℕ)
@@ -69,8 +73,8 @@ failed_after failed None = failed
 failed_after failed (Some failure) = slice_set failed failure.0 (Some (later_call (slice_index_or failed failure.0 None) failure.1))
 
 -- what is kept beside the outcomes
-pub record AreKeptAsks (asks : List AskLog) (before closed : List ℕ) (failed : List (Option ℕ)) : Type 0 where
+pub record AreKeptAsks (asks : List AskLog) (above : List Bool) (closed : List ℕ) (failed : List (Option ℕ)) : Type 0 where
   pub now : AreClosed asks closed
-  pub long : length before ≡ length asks
-  pub each : AreBefore asks before
+  pub long : length above ≡ length asks
+  pub each : AreAbove asks above
   pub failures : AreFailed asks failed

@@ -5,7 +5,7 @@ use Rattle.hp_base.specs.declared.row.Run.{Run}
 use Rattle.hp_segs.specs.Calls.{OwnsRun, IsUnclaimedGrant}
 use Rattle.hp_log.specs.Log.{table_of}
 use Rattle.hp_segs.specs.Machine.{Grows, Claims, Retires, Drops, machine_of}
-use Rattle.hp_segs.specs.Moved.{SegsCall, Agree, Claim, Retire, DropRetiring, May, after, IsMovedBy, is_growth_step}
+use Rattle.hp_segs.specs.Moved.{SegsCall, Agree, Claim, Retire, DropRetiring, May, after, Appends, IsMovedBy, is_growth_step}
 use Rattle.hp_log.specs.Rows.{IsUnusedRun, rows_of}
 use Rattle.hp_segs.specs.SegsView.{SegsView, grant_of, is_opened}
 use Rattle.hp_segs.specs.Sound.{IsSound}
@@ -48,6 +48,13 @@ abbrev pub MovesWiden : Type 0
 MovesWiden = (allowed wider : SegsCall → Bool) (steps more : ℕ) (old new : SegsView)
     → ((call : SegsCall) → IsTrue (allowed call) → IsTrue (wider call)) → steps ≤ more → IsMovedBy allowed steps old new
     → IsMovedBy wider more old new
+
+-- each call, and so each move, leaves the pools, and appends records and outcomes
+abbrev pub CallsAppend : Type 0
+CallsAppend = (call : SegsCall) (segs : SegsView) → Appends segs (after call segs)
+
+abbrev pub MovesAppend : Type 0
+MovesAppend = (allowed : SegsCall → Bool) (steps : ℕ) (old new : SegsView) → IsMovedBy allowed steps old new → Appends old new
 
 -- a grant, a claim, what retires and what drops are steps of the plain machine
 abbrev pub GrantIsStep : Type 0

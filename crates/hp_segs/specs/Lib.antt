@@ -15,6 +15,7 @@ pub mod SoundPlaces
 pub mod Sound
 pub mod Moved
 pub mod Laws
+pub mod GrowthLaws
 pub mod PlaceLaws
 pub mod Opening
 pub mod AsksView

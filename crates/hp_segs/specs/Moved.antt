@@ -1,6 +1,6 @@
 -- Which values come from a value by calls: every call with its condition and what it leaves, and how many growth steps lists of
 -- calls may have.
-use Rattle.std.specs.Prelude.{◌≡◌, ℕ, ◌≤◌, List, [], ◌∷◌, length, Ok, Bool, true, false, IsTrue, count_by}
+use Rattle.std.specs.Prelude.{◌≡◌, ℕ, ◌≤◌, List, [], ◌∷◌, ◌++◌, length, Ok, Bool, true, false, IsTrue, count_by}
 use Rattle.std.specs.List.{All}
 use Rattle.hp_base.specs.declared.row.Row.{Row}
 use Rattle.hp_base.specs.declared.row.Run.{Run}
@@ -11,6 +11,8 @@ use Rattle.hp_segs.specs.LaterSteps.{after_stale, after_note, after_arm, after_w
 use Rattle.hp_segs.specs.Ranges.{range_plan, after_claim_range, after_release_range, is_claimed}
 use Rattle.hp_segs.specs.Calls.{MayOpen, MayClose, MayLogStale, MayLogFreed, MayNote, MayAgree, MayCancel, MayDrop, MayArm, MayWithdraw, MayJoin, MayLeave, OwnsRun, IsUnclaimedGrant}
 use Rattle.hp_segs.specs.declared.ask.Ask.{Ask}
+use Rattle.hp_log.specs.declared.log_record.LogRecord.{LogRecord}
+use Rattle.hp_segs.specs.declared.outcome.AskLog.{AskLog}
 use Rattle.hp_segs.specs.declared.outcome.Cause.{Cause}
 
 -- a call that changes a segment value
@@ -117,6 +119,14 @@ is_range_call (Reserve n) = true
 is_range_call (ClaimRange list addr len page socket) = true
 is_range_call (ReleaseRange list) = true
 is_range_call _ = false
+
+-- the pools stay, and records and outcomes come behind the others alone
+pub record Appends (old new : SegsView) : Type 0 where
+  pub pools : new.pools ≡ old.pools
+  pub records : List LogRecord
+  pub log : new.log ≡ old.log ++ records
+  pub outcomes : List AskLog
+  pub asks : new.asks ≡ old.asks ++ outcomes
 
 -- one value comes from another by calls under their conditions, each of which is allowed, and so many of which open or grant a growth
 -- at most

@@ -1,5 +1,5 @@
 -- The run that is planned for an ask, or the first refusal.
-use Rattle.std.specs.Prelude.{◌≡◌, ℕ, ◌+◌, ◌*◌, Option, Some, None, Result, Ok, Err, List, slice_get, nat_lt, nat_le, is_some, if◌then◌else◌}
+use Rattle.std.specs.Prelude.{◌≡◌, ℕ, ◌+◌, ◌*◌, Option, Some, None, Result, Ok, Err, List, slice_get, nat_lt, nat_le, is_some, IsSome, if◌then◌else◌}
 use Rattle.hp_base.specs.declared.row.Row.{Row}
 use Rattle.hp_base.specs.declared.row.Run.{Run}
 use Rattle.hp_base.specs.declared.pool_line.PoolLine.{PoolLine}
@@ -23,6 +23,10 @@ IsFirstRun rows info list n first = IsFirstFreeRun (slots_of rows list info.slot
 -- a list has no run of n free slots
 abbrev pub HasNoRun : List Row → ListInfo → ℕ → ℕ → Type 0
 HasNoRun rows info list n = HasNoFreeRun (slots_of rows list info.slots) 0 n
+
+-- the request of the ask has a place in the run alone
+abbrev pub HasPlace : Ask → Run → Type 0
+HasPlace ask run = IsSome (place_of run.addr (run.addr + run.count * run.page) ask.request)
 
 -- the run is judged by itself alone: whether the request has a place in it
 abbrev pub planned_run : Ask → Run → Result Run PlanRefusal

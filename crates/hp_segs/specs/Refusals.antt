@@ -11,7 +11,7 @@ use Rattle.hp_fbarray.specs.Mask.{IsLongestFree}
 use Rattle.hp_log.specs.Rows.{row_of, slots_of}
 use Rattle.hp_log.specs.Log.{table_at}
 use Rattle.hp_segs.specs.Lists.{lists_of, list_number, free_pages, pages_beside}
-use Rattle.hp_segs.specs.Plan.{IsFirstFor}
+use Rattle.hp_segs.specs.Plan.{HasPlace, IsFirstFor}
 use Rattle.hp_segs.specs.SegsView.{SegsView, closed_number, grant_or_refusal_of, rows_in}
 use Rattle.hp_segs.specs.LaterSteps.{is_failure, has_failed_from}
 use Rattle.hp_segs.specs.declared.ask.Ask.{Ask}
@@ -80,12 +80,13 @@ pub record IsDenied (pools : List PoolLine) (table : List Row) (ask : Ask) (limi
   pub above : limit < total
 
 -- the record at that place is the Add for the ask: of its heap, by the first run of the pages asked, in a pool that has them, in what
--- the records before it leave
+-- the records before it leave; and the run has a place for the request
 pub record IsAddOf (pools : List PoolLine) (log : List LogRecord) (at : ℕ) (ask : Ask) (run : Run) : Type 0 where
   pub some : 0 < at
   pub added : slice_get log (at - 1) ≡ Some (Add run ask.heap)
   pub first : IsFirstFor pools (table_at log (at - 1)) ask run
   pub enough : run.count ≤ pages_beside pools (table_at log (at - 1)) run.list
+  pub place : HasPlace ask run
 
 -- the record at that place is the Add for the ask, and the next one is its Drop
 pub record IsFailedGrowth (pools : List PoolLine) (log : List LogRecord) (at : ℕ) (ask : Ask) (run : Run) : Type 0 where

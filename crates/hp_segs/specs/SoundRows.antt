@@ -13,7 +13,7 @@ use Rattle.hp_log.specs.declared.log_record.LogRecord.TheVariants.{Add}
 use Rattle.hp_segs.specs.Lists.{lists_of}
 use Rattle.hp_segs.specs.SegsView.{rows_in, is_opened, is_retiring}
 use Rattle.hp_segs.specs.Machine.{unopened}
-use Rattle.hp_segs.specs.Plan.{IsFirstFor}
+use Rattle.hp_segs.specs.Plan.{HasPlace, IsFirstFor}
 use Rattle.hp_segs.specs.Steps.{segment_of}
 use Rattle.hp_segs.specs.Table.{HasPages, IsTable, IsListRun}
 use Rattle.hp_segs.specs.declared.growth.Growth.{Growth}
@@ -46,7 +46,7 @@ has_stamp None row = false
 has_stamp (Some growth) row = row.generation == growth.generation
 
 -- the growth is of a participant's ask; the last record is its Add; its rows stand behind all others and are the Opened ones; and
--- beside the others its run is the first one of the pages asked, in a pool that has them
+-- beside the others its run is the first one of the pages asked, in a pool that has them, and has a place for the request
 pub record IsGrowth (pools : List PoolLine) (log : List LogRecord) (segments : List Segment) (growth : Growth) : Type 0 where
   pub participant : growth.ask.from < 16
   pub some : 0 < growth.generation
@@ -55,6 +55,7 @@ pub record IsGrowth (pools : List PoolLine) (log : List LogRecord) (segments : L
   pub behind : segments ≡ unopened segments ++ map (segment_of Opened) (rows_of growth.run growth.generation)
   pub first : IsFirstFor pools (rows_in (unopened segments)) growth.ask growth.run
   pub pages : HasPages pools (rows_in (unopened segments)) growth.run
+  pub place : HasPlace growth.ask growth.run
 
 abbrev pub IsLogged : List PoolLine → List LogRecord → List Segment → Option Growth → Type 0
 IsLogged pools log segments None = Unit {0}

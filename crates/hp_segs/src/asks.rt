@@ -12,8 +12,8 @@ use std::marker::Model;
 #[derive(Drop)]
 pub(crate) struct Asks {
     entries: Vec<AskLog>,
-    // Beside each outcome, the closed number of its participant before it.
-    before: Vec<u64>,
+    // Beside each outcome, whether its number was above the closed one of its participant.
+    above: Vec<bool>,
     // The closed number of each of the participants 0 to 15.
     closed: [u64; 16],
     // The greatest failed mapping call of each participant that a number can name.
@@ -28,10 +28,10 @@ impl Model for Asks {
 
     ghost view = { λ a. record {
       entries = a.entries.items;
-      room = min (vec_capacity a.entries - length a.entries.items) (vec_capacity a.before - length a.before.items);
+      room = min (vec_capacity a.entries - length a.entries.items) (vec_capacity a.above - length a.above.items);
     } };
 
-    ghost invariant = { λ a. AreKeptAsks a.entries.items a.before.items a.closed a.failed };
+    ghost invariant = { λ a. AreKeptAsks a.entries.items a.above.items a.closed a.failed };
 }
 
 // Whether the outcome is Stale.
@@ -167,7 +167,7 @@ impl Asks {
     {
         Asks {
             entries: Vec::new(alloc),
-            before: Vec::new(alloc),
+            above: Vec::new(alloc),
             closed: [0; 16],
             failed: [None; 256],
         }
@@ -179,7 +179,7 @@ impl Asks {
         ensures never_falls { self.old.room ≤ self.new.room }
         ensures room { OnOk result (n ≤ self.new.room) }
     {
-        self.before.reserve(n)?;
+        self.above.reserve(n)?;
         self.entries.reserve(n)
     }
 
@@ -206,7 +206,8 @@ impl Asks {
           room = self.old.room - 1;
         } }
     {
-        self.before.push_reserved(self.closed[entry.from as usize]);
+        self.above
+            .push_reserved(self.closed[entry.from as usize] < entry.number);
         close(&mut self.closed, &entry);
         count_failure(&mut self.failed, failure_of(&entry.outcome));
         append(&mut self.entries, entry);
@@ -241,13 +242,14 @@ impl Asks {
         }
     }
 
-    // Whether the outcome at a place is the participant's, and the number above what was closed before it.
+    // Whether the outcome at a place is the participant's, has at most that number, and was above the closed one.
     fn begins(&self, place: usize, from: u8, number: u64) -> bool
         requires { place < length self.now.entries }
         ensures { IsTrue result → closed_number (take place self.now.entries) from < number }
     {
-        if self.entries[place].from == from {
-            self.before[place] < number
+        let entry = &self.entries[place];
+        if entry.from == from && entry.number <= number {
+            self.above[place]
         } else {
             false
         }

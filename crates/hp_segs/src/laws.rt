@@ -1,5 +1,6 @@
 //! Laws of the segment value, above the definitions that the calls cite.
-ghost use Rattle.hp_segs.specs.Laws.{CallsKeep, CallsMove, ClaimIsStep, ClaimOwnsAll, DropIsStep, FailedGrowthLeaves, GrantIsStep, MovesCompose, MovesKeep, MovesStay, MovesWiden, OthersLeave, RetireIsStep, RowsAreGranted};
+ghost use Rattle.hp_segs.specs.Laws.{CallsAppend, CallsKeep, CallsMove, ClaimIsStep, ClaimOwnsAll, DropIsStep, FailedGrowthLeaves, GrantIsStep, MovesAppend, MovesCompose, MovesKeep, MovesStay, MovesWiden, OthersLeave, RetireIsStep, RowsAreGranted};
+ghost use Rattle.hp_segs.specs.GrowthLaws.{CallsLeaveArmed, GrantsHavePlace, OpenHasPlace};
 ghost use Rattle.hp_segs.specs.PlaceLaws.{ListsApart, OverlapIsLowest, SlotsApart};
 
 /// A failed growth leaves the table of the log; grants, claims, retirements and drops are steps of the plain machine, and the
@@ -15,7 +16,8 @@ pub fn segments_law()
     ensures granted { RowsAreGranted }
 {}
 
-/// Each call under its condition keeps a sound value sound, and is a move; moves compose, and their growth steps add up. Own.
+/// Each call under its condition keeps a sound value sound, and is a move; moves compose, and their growth steps add up; and each leaves
+/// the pools, and only appends to the records and to the outcomes. Own.
 pub fn moves_law()
     ensures calls_keep { CallsKeep }
     ensures calls_move { CallsMove }
@@ -23,6 +25,17 @@ pub fn moves_law()
     ensures compose { MovesCompose }
     ensures keep { MovesKeep }
     ensures widen { MovesWiden }
+    ensures calls_append { CallsAppend }
+    ensures append { MovesAppend }
+{}
+
+/// The run of the open growth and that of each grant have a place for the request of the ask; and where growths are opened of armed asks
+/// alone, and no notice is answered while a growth of its participant is open, the open growth stays one of the ask with which its
+/// participant is armed, whose number is above the closed one. Own.
+pub fn growths_law()
+    ensures opened { OpenHasPlace }
+    ensures grants { GrantsHavePlace }
+    ensures armed { CallsLeaveArmed }
 {}
 
 /// The pools' lists share no byte, rows at different slots have different addresses, and the slot that is named as the overlap

@@ -5,7 +5,7 @@ ghost use Rattle.hp_fbarray.specs.FreeRuns.{first_free_run};
 ghost use Rattle.hp_log.specs.Rows.{slots_of};
 ghost use Rattle.hp_segs.specs.TableLayout.{IsFitList};
 ghost use Rattle.hp_segs.specs.Lists.{list_number, lists_of, run_at};
-ghost use Rattle.hp_segs.specs.Plan.{plan_of, planned_in, planned_run, planned_slots, IsFirstFor};
+ghost use Rattle.hp_segs.specs.Plan.{plan_of, planned_in, planned_run, planned_slots, HasPlace, IsFirstFor};
 ghost use Rattle.hp_segs.specs.Refusals.{IsFull, IsShort, IsUnfit};
 ghost use Rattle.hp_segs.specs.SegsView.{closed_number, rows_in};
 ghost use Rattle.std.specs.Option.{option_map};
@@ -96,8 +96,9 @@ impl Segs {
         requires participant { ask.now.from < 16 }
         ensures plan { result ≡ plan_of ask.now self.now }
 
-        // A planned run is the first one of the pages asked in the ask's list.
+        // A planned run is the first one of the pages asked in the ask's list, and has a place for the request.
         ensures first { IfOk result (IsFirstFor self.now.pools (rows_in self.now.segments) ask.now) }
+        ensures holds { IfOk result (HasPlace ask.now) }
         ensures fits { IfOk result (λ run. run.count * run.page ≤ 2 ^ 47) }
 
         // What each refusal says.

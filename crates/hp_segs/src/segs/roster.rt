@@ -3,7 +3,7 @@ ghost use Rattle.std.specs.Prelude.{◌≡◌, ◌<◌};
 ghost use Rattle.hp_segs.specs.Opening.{is_present, opening_roster};
 ghost use Rattle.hp_segs.specs.Calls.{MayJoin, MayLeave};
 ghost use Rattle.hp_segs.specs.LaterSteps.{after_join, after_leave};
-ghost use Rattle.hp_segs.specs.SegsView.{roster_bits};
+ghost use Rattle.hp_segs.specs.SegsView.{is_member, roster_bits};
 ghost use Rattle.hp_segs.specs.Steps.{is_below, lowest_member_below};
 
 use crate::fault::NotAll;
@@ -68,6 +68,15 @@ impl Segs {
         }
         bits
     }
+
+    /// Whether one of the participants 0 to 15 is in the roster. Own.
+    pub fn is_member(&self, participant: u8) -> bool
+        requires { participant < 16 }
+        ensures { result ≡ is_member self.now.roster participant }
+    {
+        self.roster[participant as usize]
+    }
+
     /// The lowest member of the roster whose number in `acks` is below a generation, and that number: `acks` are the
     /// numbers of the participants 0 to 15. Own.
     pub fn lowest_behind(&self, acks: &[u64; 16], generation: u64) -> Option<NotAll>

@@ -1,7 +1,7 @@
--- A planned run is the first one, and each refusal says what stands.
+-- A planned run is the first one and has a place for the request, and each refusal says what stands.
 use Rattle.std.proofs.Common.{◌∙◌, sym}
 use Rattle.hp_segs.specs.declared.plan_refusal.PlanRefusal.TheVariants.{StaleAsk, GrowthOpen, NoList, TooFew, ListFull, CannotHold}
-use Rattle.hp_segs.proofs.PlannedLemmas.{planned_first, planned_fits}
+use Rattle.hp_segs.proofs.PlannedLemmas.{planned_first, planned_fits, planned_holds}
 use Rattle.hp_segs.proofs.RefusalLemmas.{refused_plan}
 use Rattle.hp_segs.proofs.segs.Segs.plan_run.Goals as goal
 
@@ -10,6 +10,9 @@ returns-clause-first c = planned_first c.args.self.now c.args.ask.now c.plan.res
 
 pub returns-clause-fits : goal.returns-clause-fits
 returns-clause-fits c = planned_fits c.args.self.now c.args.ask.now c.plan.result c.plan.ensures.limits c.plan.ensures.plan
+
+pub returns-clause-holds : goal.returns-clause-holds
+returns-clause-holds c = planned_holds c.args.self.now c.args.ask.now c.plan.result c.plan.ensures.limits c.plan.ensures.plan
 
 pub returns-clause-stale : goal.returns-clause-stale
 returns-clause-stale c = λ number done is. refused_plan c.args.self.now c.args.ask.now (StaleAsk number done) (sym c.plan.ensures.plan ∙ is)
