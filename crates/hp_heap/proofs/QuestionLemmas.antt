@@ -22,40 +22,35 @@ use Rattle.hp_heap.proofs.FindingLemmas.{key_found, key_value, found_none, find-
 pub record IsAsked (a b : Inside) (entry : Entry) : Type 0 where
   pub step : plain_of a ≡ after_entry (plain_of a) entry
   pub legal : IsLegalEntry (plain_of a) entry
-  pub index : b.index ≡ a.index
-  pub serves : b.serves ≡ a.serves
+  pub others : b ≡ record a { history = b.history; spare = b.spare }
   pub history : b.history.items ≡ a.history.items ++ entry ∷ []
-  pub headers : b.headers ≡ a.headers
-  pub name : b.name ≡ a.name
-  pub socket : b.socket ≡ a.socket
-  pub chunks : b.chunks.items ≡ a.chunks.items
-  pub lists : b.page_lists.items ≡ a.page_lists.items
-  pub len_lists : vec_len b.page_lists ≡ vec_len a.page_lists
-  pub room_lists : vec_capacity b.page_lists ≡ vec_capacity a.page_lists
   pub spare : b.spare + 1 ≡ a.spare
   pub len : vec_len b.history ≡ vec_len a.history + 1
   pub room : vec_capacity b.history ≡ vec_capacity a.history
 
 pub asked : (a b : Inside) (entry : Entry) → IsHeap a → IsAsked a b entry → IsNext a b entry (plain_of a)
-asked a b entry heap is = record {
-  step = is.step;
-  legal = is.legal;
-  index = is.index;
-  serves = is.serves;
-  history = is.history;
-  ranges = ap (λ h. spans_of h.items) is.headers ∙ heap.ranges;
-  apart = Rattle.std.proofs.Common.subst (λ h. AreApart h.items) (sym is.headers) heap.apart;
-  insertions = ap (λ h. h.insertions) is.headers ∙ heap.insertions;
-  name = is.name ∙ heap.name;
-  socket = is.socket ∙ heap.socket;
-  chunks = is.chunks ∙ heap.chunks;
-  lists = Rattle.std.proofs.Common.subst (λ ls. AreNoted (plain_of a).pages ls) (sym is.lists) heap.lists;
-  tiled = heap.tiled;
-  counted = omega (arith, ap (λ h. h.insertions) is.headers, heap.counted, is.len);
-  room = omega (arith, ap (λ h. h.spare) is.headers, heap.room, is.spare);
-  room_history = omega (arith, is.len, is.room, is.spare, heap.room_history);
-  room_lists = omega (arith, is.len_lists, is.room_lists, is.spare, heap.room_lists);
-}
+asked a b entry heap is =
+    let headers : b.headers ≡ a.headers = ap (λ v. v.headers) is.others in
+    let lists : b.page_lists ≡ a.page_lists = ap (λ v. v.page_lists) is.others in
+    record {
+      step = is.step;
+      legal = is.legal;
+      index = ap (λ v. v.index) is.others;
+      serves = ap (λ v. v.serves) is.others;
+      history = is.history;
+      ranges = ap (λ h. spans_of h.items) headers ∙ heap.ranges;
+      apart = Rattle.std.proofs.Common.subst (λ h. AreApart h.items) (sym headers) heap.apart;
+      insertions = ap (λ h. h.insertions) headers ∙ heap.insertions;
+      name = ap (λ v. v.name) is.others ∙ heap.name;
+      socket = ap (λ v. v.socket) is.others ∙ heap.socket;
+      chunks = ap (λ v. v.chunks.items) is.others ∙ heap.chunks;
+      lists = Rattle.std.proofs.Common.subst (λ ls. AreNoted (plain_of a).pages ls.items) (sym lists) heap.lists;
+      tiled = heap.tiled;
+      counted = omega (arith, ap (λ h. h.insertions) headers, heap.counted, is.len);
+      room = omega (arith, ap (λ h. h.spare) headers, heap.room, is.spare);
+      room_history = omega (arith, is.len, is.room, is.spare, heap.room_history);
+      room_lists = omega (arith, ap (λ ls. vec_len ls) lists, ap (λ ls. vec_capacity ls) lists, is.spare, heap.room_lists);
+    }
 
 -- a search by a test that says the same
 find-same : (p q : Keyed Span → Bool) → ((e : Keyed Span) → p e ≡ q e) → (items : Items) → find p items ≡ find q items

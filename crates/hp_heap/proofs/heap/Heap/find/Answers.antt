@@ -35,16 +35,8 @@ unfolding after_call entry_of after_entry after answer_of
 is_asked c = record {
   step = refl;
   legal = record { allowed = tt; answered = ap address_answer (found_is c) };
-  index = refl;
-  serves = refl;
+  others = refl;
   history = c.record.ensures.entry ∙ ap (λ answer. c.self.inside.history.items ++ record { caller = c.args.caller; call = Find c.args.tag; answer = answer } ∷ []) c.address_answer.ensures;
-  headers = refl;
-  name = refl;
-  socket = refl;
-  chunks = refl;
-  lists = refl;
-  len_lists = refl;
-  room_lists = refl;
   spare = omega (arith, c.requires.spare, ap (λ v. v.spare) c.self.view_is);
   len = c.record.ensures.len;
   room = c.record.ensures.room;

@@ -31,16 +31,8 @@ unfolding after_call entry_of after_entry after answer_of statistics_of
 is_asked c = record {
   step = refl;
   legal = record { allowed = tt; answered = ap (λ s. Statistics s) (c.statistics-stats.ensures ∙ ap (λ zs. statistics_of_ranges zs) c.self.invariant.ranges) };
-  index = refl;
-  serves = refl;
+  others = refl;
   history = c.record.ensures.entry;
-  headers = refl;
-  name = refl;
-  socket = refl;
-  chunks = refl;
-  lists = refl;
-  len_lists = refl;
-  room_lists = refl;
   spare = omega (arith, c.requires.spare, ap (λ v. v.spare) c.self.view_is);
   len = c.record.ensures.len;
   room = c.record.ensures.room;
