@@ -25,4 +25,8 @@ pub mod BuiltLemmas
 pub mod MadeLemmas
 pub mod LawLemmas
 pub mod OnceLemmas
+mod AlikeLemmas
+mod MovedOptions
+mod MovedShapes
+mod MovedReads
 pub mod MovedLemmas
