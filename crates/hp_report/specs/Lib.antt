@@ -7,6 +7,7 @@ pub mod LineTexts
 pub mod HeapTexts
 pub mod CallTexts
 pub mod EntryTexts
+pub mod HeapParts
 pub mod SegmentTexts
 pub mod LogTexts
 pub mod TableTexts

@@ -1,11 +1,11 @@
 //! The lines of the report that answer a workload's lines.
 ghost use Rattle.std.specs.Prelude.{◌≡◌, ◌++◌, OnOk};
 ghost use Rattle.hp_script.specs.Answers.{answer_text, answer_numbers};
-ghost use Rattle.hp_report.specs.LineTexts.{line_text, verb_of};
+ghost use Rattle.hp_report.specs.LineTexts.{line_text};
 
 use crate::lines::Lines;
 use crate::page::Page;
-use hp_script::{Act, Answer, Line};
+use hp_script::{Answer, Line};
 use std::alloc::AllocError;
 
 /// Participant lines from one on, each with its answer.
@@ -41,7 +41,7 @@ pub fn put_line(page: &mut Page, line: &Line<'_>, answer: &Answer) -> Result<(),
     page.number(u64::from(line.line))?;
     page.number(u64::from(line.participant))?;
     page.put(b" ")?;
-    page.put(verb_of(&line.act))?;
+    page.put(line.act.verb().as_bytes())?;
     page.put(b" ")?;
     put_answer(page, answer)?;
     page.put(b"\n")
@@ -71,34 +71,5 @@ fn put_answer_numbers(page: &mut Page, answer: &Answer) -> Result<(), AllocError
         Answer::Attached { participant } => page.number(u64::from(*participant)),
         Answer::Statistics { stats } => page.statistics(stats),
         _ => Ok(()),
-    }
-}
-
-// The verb of a participant line.
-fn verb_of(act: &Act<'_>) -> &'static [u8]
-    ensures { result.now ≡ verb_of act.now }
-{
-    match act {
-        Act::Alloc { .. } => b"alloc",
-        Act::Free { .. } => b"free",
-        Act::Resize { .. } => b"resize",
-        Act::Zone { .. } => b"zone",
-        Act::Lookup { .. } => b"lookup",
-        Act::Unzone { .. } => b"unzone",
-        Act::Attach => b"attach",
-        Act::Detach => b"detach",
-        Act::Heap { .. } => b"heap",
-        Act::Unheap { .. } => b"unheap",
-        Act::Add { .. } => b"add",
-        Act::Remove { .. } => b"remove",
-        Act::Map { .. } => b"map",
-        Act::Unmap { .. } => b"unmap",
-        Act::Watch { .. } => b"watch",
-        Act::Unwatch { .. } => b"unwatch",
-        Act::Limit { .. } => b"limit",
-        Act::Unlimit { .. } => b"unlimit",
-        Act::Await { .. } => b"await",
-        Act::Dump { .. } => b"dump",
-        Act::Stats { .. } => b"stats",
     }
 }

@@ -6,6 +6,7 @@ mod ask_lines;
 mod element_lines;
 mod ended;
 mod entry_lines;
+mod heap_part;
 mod heaps;
 mod lines;
 mod list_lines;

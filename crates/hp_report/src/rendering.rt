@@ -15,7 +15,8 @@ ghost use Rattle.hp_report.specs.Writing.{Holds, HoldsFront};
 use crate::answer_lines::AnswerLines;
 use crate::ask_lines::AskLines;
 use crate::ended::Ended;
-use crate::heaps::{write_heaps, write_histories};
+use crate::heap_part::HeapPart;
+use crate::heaps::write_heaps;
 use crate::lines::{hand_on, write_lines};
 use crate::names::Names;
 use crate::page::Page;
@@ -101,8 +102,8 @@ fn write_memory<'a, K: Sink>(
         (way (K.held sink.new) (K.faults sink.new) page.new)
         (heaps_text (known names.now) heaps.now ++ histories_text (known names.now) heaps.now) result }
 {
-    write_heaps(sink, page, heaps, names)?;
-    write_histories(sink, page, heaps, names)
+    write_heaps(sink, page, heaps, names, HeapPart::Elements)?;
+    write_heaps(sink, page, heaps, names, HeapPart::Histories)
 }
 
 // Pools, lists and segments, the records of the log, and the outcomes of asks.

@@ -11,4 +11,4 @@ returns-in_err-write_heaps g c =
     c.in_err-write_heaps.ensures refl c.from_residual.ensures.1 (λ other same. same)
 
 pub returns : goal.returns
-returns g c = ends_so _ c.write_histories.result (goes_on (heaps_text (known c.args.names.now) c.args.heaps.now) _ (begins _ _) c.in_ok-write_heaps.ensures refl) c.write_histories.ensures
+returns g c = ends_so _ c.write_heaps-2.result (goes_on (heaps_text (known c.args.names.now) c.args.heaps.now) _ (begins _ _) c.in_ok-write_heaps.ensures refl) c.write_heaps-2.ensures

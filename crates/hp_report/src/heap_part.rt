@@ -1,0 +1,8 @@
+/// A part of the report that shows the heaps one after another. Own.
+#[derive(Clone, Copy, Debug, PartialEq, Eq)]
+pub enum HeapPart {
+    /// The heaps that have a name, each with its elements by address.
+    Elements,
+    /// The histories of all heaps.
+    Histories,
+}
