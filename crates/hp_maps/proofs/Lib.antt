@@ -15,5 +15,5 @@ mod ChunkLemmas
 mod LeaveLemmas
 mod StayLemmas
 mod BesideLemmas
-mod ReadyLemmas
+pub mod ReadyLemmas
 mod Worked

@@ -208,7 +208,7 @@ ready_to_attach lists maps records to chunk ready clear pages room =
     }
 
 -- a table lags behind a longer log as it did behind the shorter one
-lags_behind_more : (records more : List LogRecord) (n to further : ℕ) (table : List Row) → to ≤ length records → to ≤ further
+pub lags_behind_more : (records more : List LogRecord) (n to further : ℕ) (table : List Row) → to ≤ length records → to ≤ further
     → Lags records n to table → Lags (records ++ more) n further table
 lags_behind_more records more n to further table within beyond lag =
     let from = lag.from in
