@@ -97,3 +97,8 @@ IsGiveOf knows slot given = GivesFor knows (knows.taken slot) given
 abbrev pub MadeBy : ℕ → Kept → (ℕ → List Entry) → Type 0
 MadeBy who (Heap heap) made = made heap.plain.index ≡ entries_of who heap.history
 MadeBy who (Segments segs) made = ⊤
+
+-- the value is none of the heap with that index, so the entries there are as they were
+abbrev pub IsElsewhere : ℕ → Kept → Type 0
+IsElsewhere index (Heap heap) = index ≢ heap.plain.index
+IsElsewhere index (Segments segs) = ⊤

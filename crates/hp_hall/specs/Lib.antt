@@ -4,3 +4,11 @@ pub mod Giving
 pub mod Own
 pub mod Mail
 pub mod Weights
+pub mod HallView
+pub mod Course
+pub mod HallSteps
+pub mod SlotStates
+pub mod MailKept
+pub mod HallInside
+pub mod Opening
+pub mod Moved

@@ -1,5 +1,6 @@
 -- The number by which serving returns: what a frame weighs: the rule "Messages" of docs/PARTICIPANTS.md.
-use Rattle.std.specs.Prelude.{◌≡◌, ◌⊎◌, ℕ, ◌-◌, ◌==◌, ◌||◌, Bool, true, false, nat_lt, List, Option, Some, None, Result, Ok, Err, slice_index_or, sum_by, if◌then◌else◌}
+use Rattle.std.specs.Prelude.{◌≡◌, ◌≤◌, ◌⊎◌, ℕ, ◌-◌, ◌==◌, ◌||◌, Bool, true, false, nat_lt, List, Option, Some, None, Result, Ok, Err, slice_index_or, sum_by, if◌then◌else◌}
+use Rattle.std.proofs.Common.{arith}
 use Rattle.hp_frame.specs.declared.frame.Frame.{Frame}
 
 -- An ask may bring a growth: the first round of one weighs 96, and an ask that is held 187. A SYNC brings a reply. What doesn't read is
@@ -47,3 +48,12 @@ counted pending (Some deadline) = pending deadline
 abbrev pub IsPending : ℕ → (ℕ → ℕ) → Bool → Option ℕ → Type 0
 IsPending scale pending moved None = (moved ≡ true) ⊎ (scale ≡ 0)
 IsPending scale pending moved (Some deadline) = pending deadline ≡ scale
+
+at_most_one : (later : Bool) → (if later then 1 else 0) ≤ 1
+at_most_one true = omega arith
+at_most_one false = omega arith
+
+-- no deadline counts for more than 1
+pub pending_most_one : (clock deadline : ℕ) → pending_at clock deadline ≤ 1
+unfolding pending_at
+pending_most_one clock deadline = at_most_one (nat_lt clock deadline)

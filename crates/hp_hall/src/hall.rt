@@ -3,8 +3,8 @@ ghost use Rattle.hp_base.specs.Streams.{HasRisen};
 ghost use Rattle.hp_heap.specs.declared.entry.Entry.{Entry};
 ghost use Rattle.hp_log.specs.declared.log_record.LogRecord.{LogRecord};
 ghost use Rattle.hp_hall.specs.declared.kept.Kept.{Kept};
-ghost use Rattle.hp_hall.specs.Giving.{IsGiveOf, MadeBy};
-ghost use Rattle.hp_hall.specs.Mail.{MailStep, Posts, Fetches, steps_of};
+ghost use Rattle.hp_hall.specs.Giving.{IsElsewhere, IsGiveOf, MadeBy};
+ghost use Rattle.hp_hall.specs.Mail.{Fetches, Gives, MailStep, Posts, Takes, steps_of};
 ghost use Rattle.hp_hall.specs.Own.{Own, after_ack, after_partial};
 ghost use Rattle.hp_hall.specs.Slots.{IsSlot, slot_number};
 ghost use Rattle.hp_hall.specs.Values.{Fits, HasEntries, HasLog, IsSoundKept};
@@ -47,7 +47,7 @@ pub trait Hall {
     /// A slot was found held. Plain values are held by nobody else.
     ghost is_busy: { Self → Type 0 };
 
-    /// What a participant did with mailboxes between two states.
+    /// What a participant did between two states: what it took and gave back, posted and fetched.
     ghost did: { Self → Self → ℕ → List MailStep → Type 0 };
 
     /// How often a mailbox was full. It never falls.
@@ -88,7 +88,8 @@ pub trait Hall {
         ensures home_of_others { (number : ℕ) → number ≢ slot_number slot → may_take self.old number → may_take self.new number }
         ensures made { (who heap : ℕ) → made self.new who heap ≡ made self.old who heap }
         ensures own { (who : ℕ) → own self.new who ≡ own self.old who }
-        ensures did { (who : ℕ) → did self.old self.new who [] }
+        ensures did { (who : ℕ) → did self.old self.new who
+            (steps_of who ((me, Takes (slot_number slot) result) ∷ [])) }
         ensures weight { weight self.new ≤ weight self.old }
         ensures clock { clock self.new ≡ clock self.old }
         ensures goes_on { goes_on self.old self.new };
@@ -104,17 +105,19 @@ pub trait Hall {
         ensures entries { IfOk result (λ kept. HasEntries me (made self.old me) kept) }
         ensures log { IfOk result (λ kept. HasLog (seen self.new me) kept) }
         ensures taken { IfOk result (λ kept. taken self.new (slot_number slot) ≡ Some kept) }
+        ensures did { IfOk result (λ kept. (who : ℕ) → did self.old self.new who
+            (steps_of who ((me, Takes (slot_number slot) kept) ∷ []))) }
 
         // It was held, and is as it was.
         ensures busy { IfErr result (λ busy. is_busy self.new) }
         ensures not_taken { IfErr result (λ busy. taken self.new (slot_number slot) ≡ taken self.old (slot_number slot)) }
+        ensures did_nothing { IfErr result (λ busy. (who : ℕ) → did self.old self.new who []) }
         ensures still { IfErr result (λ busy. may_take self.new (slot_number slot)) }
 
         ensures others { (number : ℕ) → number ≢ slot_number slot → taken self.new number ≡ taken self.old number }
         ensures home_of_others { (number : ℕ) → number ≢ slot_number slot → may_take self.old number → may_take self.new number }
         ensures made { (who heap : ℕ) → made self.new who heap ≡ made self.old who heap }
         ensures own { (who : ℕ) → own self.new who ≡ own self.old who }
-        ensures did { (who : ℕ) → did self.old self.new who [] }
         ensures weight { weight self.new ≤ weight self.old }
         ensures clock { clock self.new ≡ clock self.old }
         ensures goes_on { goes_on self.old self.new };
@@ -138,10 +141,11 @@ pub trait Hall {
 
         ensures others { (number : ℕ) → number ≢ slot_number slot → taken self.new number ≡ taken self.old number }
         ensures home_of_others { (number : ℕ) → number ≢ slot_number slot → may_take self.old number → may_take self.new number }
-        ensures made_elsewhere { (heap : ℕ) → heap ≢ slot_number slot → made self.new me heap ≡ made self.old me heap }
+        ensures made_elsewhere { (heap : ℕ) → IsElsewhere heap kept → made self.new me heap ≡ made self.old me heap }
         ensures made_by_others { (who heap : ℕ) → who ≢ me → made self.new who heap ≡ made self.old who heap }
         ensures own { (who : ℕ) → own self.new who ≡ own self.old who }
-        ensures did { (who : ℕ) → did self.old self.new who [] }
+        ensures did { (who : ℕ) → did self.old self.new who
+            (steps_of who ((me, Gives (slot_number slot) kept) ∷ [])) }
         ensures weight { weight self.new ≤ weight self.old }
         ensures clock { clock self.new ≡ clock self.old }
         ensures goes_on { goes_on self.old self.new };
@@ -179,6 +183,7 @@ pub trait Hall {
         requires serves { serves self.old me }
         requires declared { participant < count self.old }
         ensures noted { result ≤ noted self.new me participant }
+        ensures mine { participant ≡ me → result ≡ (own self.old me).number }
         ensures taken { (number : ℕ) → taken self.new number ≡ taken self.old number }
         ensures home { (number : ℕ) → may_take self.old number → may_take self.new number }
         ensures made { (who heap : ℕ) → made self.new who heap ≡ made self.old who heap }
@@ -247,7 +252,7 @@ pub trait Hall {
 
     ghost goes_on_fulls: { (a b : Self) → goes_on a b → fulls a ≤ fulls b };
 
-    /// What was done with mailboxes joins.
+    /// What was done joins.
     ghost did_same: { (a : Self) (who : ℕ) → did a a who [] };
 
     ghost did_then: { (a b c : Self) (who : ℕ) (first second : List MailStep)

@@ -4,15 +4,22 @@
 mod busy;
 mod hall;
 mod kept;
+mod mail_log;
 mod mailbox;
+mod own_part;
+mod plain_hall;
 mod posted;
 mod slot;
+mod slot_state;
+#[cfg(test)]
+mod tests;
 mod waiting;
 
 pub use busy::Busy;
 pub use hall::Hall;
 pub use kept::Kept;
 pub use mailbox::MAILBOX_FRAMES;
+pub use plain_hall::{HallParts, PlainHall};
 pub use posted::Posted;
 pub use slot::{SLOTS, Slot};
 pub use waiting::Waiting;

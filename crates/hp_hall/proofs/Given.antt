@@ -1,0 +1,77 @@
+-- What a give leaves: a value of the same slot, later on, in which nobody but the giver has more entries.
+use Rattle.std.proofs.Common.{◌≡◌, ◌≢◌, ℕ, ◌+◌, eqb, ne_eqb, Bool, true, false, cond, List, [], ◌∷◌, ◌++◌, Option, Some, None, refl, sym, ap, ◌∙◌, if◌then◌else◌}
+use Rattle.std.proofs.lemmas.Bool.{cond-false}
+use Rattle.std.proofs.lemmas.List.{append-nil}
+use Rattle.std.proofs.lemmas.List.Elements.{filter-append}
+use Rattle.hp_heap.specs.declared.entry.Entry.{Entry}
+use Rattle.hp_heap.specs.History.{entries_of}
+use Rattle.hp_segs.specs.Moved.{SegsCall, Leads}
+use Rattle.hp_segs.specs.SegsView.{SegsView}
+use Rattle.hp_hall.specs.declared.kept.Kept.{Kept}
+use Rattle.hp_hall.specs.declared.kept.Kept.TheVariants.{Heap, Segments}
+use Rattle.hp_hall.specs.Course.{IsLaterKept}
+use Rattle.hp_hall.specs.Giving.{Knows, GivesFor, GivesForm, IsNumbered, logs, enrols, owns}
+use Rattle.hp_hall.specs.HallView.{SlotView, taken_from}
+use Rattle.hp_hall.specs.Values.{Fits, history_of}
+
+entries_of-append : (who : ℕ) (xs ys : List Entry) → entries_of who (xs ++ ys) ≡ entries_of who xs ++ entries_of who ys
+unfolding entries_of
+entries_of-append who xs ys = filter-append (λ (entry : Entry). eqb entry.caller.participant who) xs ys
+
+-- entries that are numbered on are nobody else's
+entries_of-other : (who other count : ℕ) (entries : List Entry) → other ≢ who → IsNumbered who count entries → entries_of other entries ≡ []
+unfolding entries_of
+entries_of-other who other count [] apart numbered = refl
+entries_of-other who other count (entry ∷ entries) apart numbered =
+    cond-false (eqb entry.caller.participant other) (entry ∷ entries_of other entries) (entries_of other entries)
+    (ne_eqb entry.caller.participant other (λ same. apart (sym same ∙ ap (λ c. c.participant) numbered.0)))
+    ∙ entries_of-other who other (count + 1) entries apart numbered.1
+
+-- the slot of a value that may be given: its value is the one that was taken
+pub record IsGivenFor (knows : Knows) (slot : Option SlotView) (kept : Kept) : Type 0 where
+  pub before : SlotView
+  pub there : slot ≡ Some before
+  pub gives : GivesFor knows (Some before.kept) kept
+
+given_out : (knows : Knows) (out : Bool) (before kept : Kept) → GivesFor knows (if out then Some before else None) kept
+    → GivesFor knows (Some before) kept
+given_out knows true before kept gives = gives
+given_out knows false before kept gives = absurd gives
+
+pub given : (knows : Knows) (slot : Option SlotView) (kept : Kept) → GivesFor knows (taken_from slot) kept → IsGivenFor knows slot kept
+given knows None kept gives = absurd gives
+given knows (Some before) kept gives = record { before = before; there = refl; gives = given_out knows before.out before.kept kept gives }
+
+pub still_fit : (knows : Knows) (number : ℕ) (before kept : Kept) → Fits number before → GivesFor knows (Some before) kept → Fits number kept
+still_fit knows number (Heap before) (Heap kept) fits gives = (gives.index ∙ fits.0, fits.1)
+still_fit knows number (Heap before) (Segments kept) fits gives = absurd gives
+still_fit knows number (Segments before) (Heap kept) fits gives = absurd gives
+still_fit knows number (Segments before) (Segments kept) fits gives = fits
+
+calls_of : (knows : Knows) (before kept : SegsView) → GivesForm knows before kept → (calls : List SegsCall) × Leads calls before kept
+calls_of knows before kept (logs form) = (form.moved.calls, form.moved.leads)
+calls_of knows before kept (enrols form) = (form.moved.calls, form.moved.leads)
+calls_of knows before kept (owns form) = (form.moved.calls, form.moved.leads)
+
+pub later_given : (knows : Knows) (before kept : Kept) → GivesFor knows (Some before) kept → IsLaterKept before kept
+later_given knows (Heap before) (Heap kept) gives = record {
+  index = gives.index;
+  serves = gives.serves;
+  more = gives.own;
+  history = gives.history;
+}
+later_given knows (Heap before) (Segments kept) gives = absurd gives
+later_given knows (Segments before) (Heap kept) gives = absurd gives
+later_given knows (Segments before) (Segments kept) gives =
+    let moved = calls_of knows before kept gives.form in
+    record { calls = moved.0; leads = moved.1; more = gives.more; log = gives.log }
+
+pub same_for_others : (knows : Knows) (before kept : Kept) (who : ℕ) → who ≢ knows.who → GivesFor knows (Some before) kept
+    → entries_of who (history_of kept) ≡ entries_of who (history_of before)
+same_for_others knows (Heap before) (Heap kept) who apart gives =
+    ap (entries_of who) gives.history ∙ entries_of-append who before.history gives.own
+    ∙ ap (λ (own : List Entry). entries_of who before.history ++ own) (entries_of-other knows.who who _ gives.own apart gives.numbered)
+    ∙ append-nil (entries_of who before.history)
+same_for_others knows (Heap before) (Segments kept) who apart gives = absurd gives
+same_for_others knows (Segments before) (Heap kept) who apart gives = absurd gives
+same_for_others knows (Segments before) (Segments kept) who apart gives = refl

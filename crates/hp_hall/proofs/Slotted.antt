@@ -1,0 +1,126 @@
+-- What a changed slot leaves of a hall.
+use Rattle.std.proofs.Common.{◌≡◌, ◌≢◌, ℕ, zero, suc, ◌<◌, ◌⊎◌, List, [], ◌∷◌, ◌++◌, length, set, Option, Some, None, refl, sym, ap, subst, ◌∙◌, ⊎_elim, arith, length-set}
+use Rattle.std.specs.List.{slice_get}
+use Rattle.std.proofs.lemmas.Bool.{cases_eq}
+use Rattle.std.proofs.lemmas.List.{append-nil}
+use Rattle.std.proofs.lemmas.Option.{slice_get_within}
+use Rattle.hp_frame.specs.declared.frame.Frame.{Frame}
+use Rattle.hp_hall.specs.declared.kept.Kept.{Kept}
+use Rattle.hp_hall.specs.Course.{IsCourse, IsLater, IsLaterKept, course_then, kept_same, slot_same}
+use Rattle.hp_hall.specs.HallSteps.{after_give, after_take, home_slot, out_slot, with_mail, with_slot}
+use Rattle.hp_hall.specs.HallView.{HallView, IsHall, SlotView, slot_at}
+use Rattle.hp_hall.specs.Mail.{MailStep, Gives, Takes, IsMailStep, after_step}
+use Rattle.hp_hall.specs.Own.{Own}
+use Rattle.hp_hall.specs.Values.{Fits}
+use Rattle.hp_hall.proofs.Mailed.{course_mail}
+
+pub slice_get-set_same : {X : Type 0} (xs : List X) (i : ℕ) (y : X) → i < length xs → slice_get (set xs i y) i ≡ Some y
+slice_get-set_same [] i y below = absurd (omega arith)
+slice_get-set_same (x ∷ xs) zero y below = refl
+slice_get-set_same (x ∷ xs) (suc i) y below = slice_get-set_same xs i y (omega arith)
+
+pub slice_get-set_other : {X : Type 0} (xs : List X) (i k : ℕ) (y : X) → k ≢ i → slice_get (set xs i y) k ≡ slice_get xs k
+slice_get-set_other [] i k y apart = refl
+slice_get-set_other (x ∷ xs) zero zero y apart = absurd (apart refl)
+slice_get-set_other (x ∷ xs) zero (suc k) y apart = refl
+slice_get-set_other (x ∷ xs) (suc i) zero y apart = refl
+slice_get-set_other (x ∷ xs) (suc i) (suc k) y apart = slice_get-set_other xs i k y (λ same. apart (ap suc same))
+
+-- what stands at a place that was written is what was written
+set_reads : {X : Type 0} (xs : List X) (i : ℕ) (x y : X) → slice_get (set xs i y) i ≡ Some x → y ≡ x
+set_reads [] i x y there = cc
+set_reads (z ∷ zs) zero x y there = cc
+set_reads (z ∷ zs) (suc i) x y there = set_reads zs i x y there
+
+-- a hall with another value of the slot is one
+pub hall_changed : (old new : HallView) (number : ℕ) (slot : SlotView) → IsHall old → Fits number slot.kept → new.slots ≡ set old.slots number slot
+    → new.boxes ≡ old.boxes → new.owns ≡ old.owns → IsHall new
+hall_changed old new number slot hall fits slots boxes owns = record {
+  slots = ap length slots ∙ length-set old.slots number slot ∙ hall.slots;
+  fits = λ k now there.
+      let here : slice_get (set old.slots number slot) k ≡ Some now = ap (λ (l : List SlotView). slice_get l k) (sym slots) ∙ there in
+      ⊎_elim
+      (λ (same : k ≡ number).
+      let read : slot ≡ now = set_reads old.slots number now slot (ap (slice_get (set old.slots number slot)) (sym same) ∙ here) in
+      subst (λ (n : ℕ). Fits n now.kept) (sym same) (subst (λ (s : SlotView). Fits number s.kept) read fits))
+      (λ (apart : k ≢ number). hall.fits k now (sym (slice_get-set_other old.slots number k slot apart) ∙ here))
+      (cases_eq k number);
+  boxes = ap length boxes ∙ hall.boxes ∙ sym (ap length owns);
+  few = omega (arith, hall.few, ap length owns);
+}
+
+-- a slot has come to this by a step, and nothing else of the values has changed
+pub record MovesSlot (number : ℕ) (slot : SlotView) (who : ℕ) (step : MailStep) (old new : HallView) : Type 0 where
+  pub here : slot_at new number ≡ Some slot
+  pub elsewhere : (other : ℕ) → other ≢ number → slot_at new other ≡ slot_at old other
+  pub owns : new.owns ≡ old.owns
+  pub boxes : new.boxes ≡ old.boxes
+  pub clock : new.clock ≡ old.clock
+  pub mail : new.mail ≡ old.mail ++ (who, step) ∷ []
+  pub course : IsCourse old new
+
+module _ (hall : HallView) (number : ℕ) (before slot : SlotView) (there : slot_at hall number ≡ Some before) (later : IsLaterKept before.kept slot.kept) where
+  later_slots : (k : ℕ) → IsLater (slot_at hall k) (slot_at (with_slot number slot hall) k)
+  later_slots k =
+      let now : List SlotView = set hall.slots number slot in
+      ⊎_elim
+      (λ (same : k ≡ number).
+      let old : slice_get hall.slots k ≡ Some before = ap (slice_get hall.slots) same ∙ there in
+      let below : number < length hall.slots = slice_get_within hall.slots number before there in
+      let new : slice_get now k ≡ Some slot = ap (slice_get now) same ∙ slice_get-set_same hall.slots number slot below in
+      subst (λ (o : Option SlotView). IsLater o (slice_get now k)) (sym old) (subst (λ (n : Option SlotView). IsLater (Some before) n) (sym new) later))
+      (λ (apart : k ≢ number).
+      subst (λ (n : Option SlotView). IsLater (slice_get hall.slots k) n) (sym (slice_get-set_other hall.slots number k slot apart)) (slot_same (slice_get hall.slots k)))
+      (cases_eq k number)
+
+  course_slot : IsCourse hall (with_slot number slot hall)
+  course_slot = record {
+    count = refl;
+    slots = later_slots;
+    numbers = λ who. omega arith;
+    fulls = omega arith;
+    clock = omega arith;
+    steps = [];
+    mail = sym (append-nil hall.mail);
+    boxes = refl;
+  }
+
+pub took : (old new : HallView) (who number : ℕ) (kept : Kept) → slot_at old number ≡ Some (home_slot kept) → new ≡ after_take who number kept old
+    → MovesSlot number (out_slot kept) who (Takes number kept) old new
+took old new who number kept there is =
+    let slotted : HallView = with_slot number (out_slot kept) old in
+    subst (MovesSlot number (out_slot kept) who (Takes number kept) old) (sym is) (record {
+      here = slice_get-set_same old.slots number (out_slot kept) (slice_get_within old.slots number (home_slot kept) there);
+      elsewhere = λ other apart. slice_get-set_other old.slots number other (out_slot kept) apart;
+      owns = refl;
+      boxes = refl;
+      clock = refl;
+      mail = refl;
+      course = course_then old slotted (after_take who number kept old) (course_slot old number (home_slot kept) (out_slot kept) there (kept_same kept))
+          (course_mail slotted who (Takes number kept) old.fulls tt (omega arith));
+    })
+
+pub gave : (old new : HallView) (who number : ℕ) (before : SlotView) (kept : Kept) → slot_at old number ≡ Some before → IsLaterKept before.kept kept
+    → new ≡ after_give who number kept old → MovesSlot number (home_slot kept) who (Gives number kept) old new
+gave old new who number before kept there later is =
+    let slotted : HallView = with_slot number (home_slot kept) old in
+    subst (MovesSlot number (home_slot kept) who (Gives number kept) old) (sym is) (record {
+      here = slice_get-set_same old.slots number (home_slot kept) (slice_get_within old.slots number before there);
+      elsewhere = λ other apart. slice_get-set_other old.slots number other (home_slot kept) apart;
+      owns = refl;
+      boxes = refl;
+      clock = refl;
+      mail = refl;
+      course = course_then old slotted (after_give who number kept old) (course_slot old number before (home_slot kept) there later)
+          (course_mail slotted who (Gives number kept) old.fulls tt (omega arith));
+    })
+
+-- what is read of a slot stays everywhere if it stays at the slot that changed
+pub read_alike : {X : Type 0} (read : Option SlotView → X) (number : ℕ) (slot : SlotView) (old new : HallView) → slot_at new number ≡ Some slot
+    → ((other : ℕ) → other ≢ number → slot_at new other ≡ slot_at old other) → read (Some slot) ≡ read (slot_at old number)
+    → (k : ℕ) → read (slot_at new k) ≡ read (slot_at old k)
+read_alike read number slot old new here elsewhere alike k =
+    ⊎_elim
+    (λ (same : k ≡ number). ap (λ (n : ℕ). read (slot_at new n)) same ∙ ap read here ∙ alike ∙ ap (λ (n : ℕ). read (slot_at old n)) (sym same))
+    (λ (apart : k ≢ number). ap read (elsewhere k apart))
+    (cases_eq k number)

@@ -1,0 +1,29 @@
+use Rattle.std.proofs.Common.{List, length, slice_get, sym, ap, ◌∙◌, arith}
+use Rattle.std.proofs.lemmas.List.{length-replicate}
+use Rattle.hp_heap.specs.History.{entries_of}
+use Rattle.hp_hall.specs.HallView.{SlotView, history_in}
+use Rattle.hp_hall.specs.Own.{after_ack}
+use Rattle.hp_hall.proofs.Opened.{opened_fits, opened_length, opened_unused}
+use Rattle.hp_hall.proofs.plain_hall.PlainHall.new.Goals as goal
+
+pub invariant_of-result : goal.invariant_of-result
+invariant_of-result c =
+    let heaps = c.args.heaps in
+    let count = ap length c.in_ok-first_parts.ensures ∙ length-replicate c.args.participants (after_ack 0) in
+    record {
+      hall = record {
+        slots = ap length c.in_ok-slots.ensures.slots ∙ opened_length heaps.items c.args.segs c.requires.heaps.count;
+        fits = λ number slot there.
+            opened_fits heaps.items c.args.segs c.requires.heaps number slot
+            (ap (λ (l : List SlotView). slice_get l number) (sym c.in_ok-slots.ensures.slots) ∙ there);
+        boxes = ap length c.in_ok-empty_boxes.ensures ∙ length-replicate c.args.participants _ ∙ sym count;
+        few = omega (arith, count, c.requires.few);
+      };
+      emptied = c.in_ok-slots.ensures.emptied;
+      room = omega (arith, c.into_slots.ensures.room, c.requires.heaps.count, heaps.ok.0, heaps.ok.1);
+    }
+
+pub returns-clause-unused : goal.returns-clause-unused
+returns-clause-unused c = λ unused who number.
+    ap (λ (l : List SlotView). entries_of who (history_in (slice_get l number))) c.in_ok-slots.ensures.slots
+    ∙ opened_unused c.args.heaps.items c.args.segs c.args.participants unused who number

@@ -1,0 +1,23 @@
+use Rattle.std.proofs.Common.{ℕ, refl, subst}
+use Rattle.hp_hall.specs.HallInside.{hall_view}
+use Rattle.hp_hall.specs.HallSteps.{home_slot, out_slot}
+use Rattle.hp_hall.specs.Values.{Fits}
+use Rattle.hp_hall.proofs.Slotted.{hall_changed}
+use Rattle.hp_hall.proofs.plain_hall.PlainHall.take_at.Goals as goal
+
+pub returns-clause-fits : goal.returns-clause-fits
+returns-clause-fits c =
+    let kept = c.take_from-kept.result in
+    let number : ℕ = c.number-number.result in
+    subst (λ (n : ℕ). Fits n kept) c.number-number.ensures (c.self.invariant.hall.fits number (home_slot kept) c.take_from-kept.ensures.kept)
+
+pub invariant_of-self : goal.invariant_of-self
+invariant_of-self c =
+    let kept = c.take_from-kept.result in
+    let number : ℕ = c.number-number.result in
+    let fits : Fits number kept = c.self.invariant.hall.fits number (home_slot kept) c.take_from-kept.ensures.kept in
+    record {
+      hall = hall_changed (hall_view c.self.inside) _ number (out_slot kept) c.self.invariant.hall fits c.take_from-kept.ensures.slots refl refl;
+      emptied = c.self.invariant.emptied;
+      room = c.self.invariant.room;
+    }

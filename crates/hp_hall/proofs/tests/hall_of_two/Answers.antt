@@ -1,0 +1,16 @@
+use Rattle.std.proofs.Common.{length, sym, ap, subst, ◌∙◌}
+use Rattle.std.proofs.lemmas.List.{length-replicate}
+use Rattle.hp_hall.specs.HallView.{HallView}
+use Rattle.hp_hall.specs.Opening.{AreHome}
+use Rattle.hp_hall.specs.Own.{after_ack}
+use Rattle.hp_hall.proofs.Opened.{opened_home}
+use Rattle.hp_hall.proofs.tests.hall_of_two.Goals as goal
+
+pub returns-clause-two : goal.returns-clause-two
+returns-clause-two c = ap (λ (h : HallView). length h.owns) c.in_ok-hall.ensures.hall ∙ length-replicate 2 (after_ack 0)
+
+pub returns-clause-home : goal.returns-clause-home
+returns-clause-home c = subst AreHome (sym c.in_ok-hall.ensures.hall) (opened_home 2 _ _ c.in_ok-heaps.ensures.order.count)
+
+pub returns-clause-unused : goal.returns-clause-unused
+returns-clause-unused c = c.in_ok-hall.ensures.unused c.in_ok-heaps.ensures.unused
