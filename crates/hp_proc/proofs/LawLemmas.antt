@@ -1,18 +1,17 @@
 -- The lemmas of the laws: outcomes stay, traces join, and entries are numbered on.
-use Rattle.std.proofs.Common.{◌≡◌, refl, ◌∙◌, ap, subst, arith, ℕ, zero, suc, ◌+◌, ◌-◌, ◌==◌, Bool, true, false, List, [], ◌∷◌, ◌++◌, length, find, Option, Some, None, slice_get, if◌then◌else◌}
+use Rattle.std.proofs.Common.{◌≡◌, ◌∙◌, ap, subst, arith, ℕ, zero, suc, ◌+◌, ◌-◌, Bool, List, [], ◌∷◌, ◌++◌, length, find, Option, Some, None, slice_get}
 use Rattle.std.specs.Option.{option_or, option_and_then}
 use Rattle.std.proofs.lemmas.List.Folds.{find-append}
 use Rattle.hp_base.specs.declared.row.Run.{Run}
 use Rattle.hp_log.specs.declared.log_record.LogRecord.{LogRecord}
-use Rattle.hp_segs.specs.SegsView.{added_run, is_outcome_for, run_of}
+use Rattle.hp_segs.specs.SegsView.{added_run, is_outcome_for}
 use Rattle.hp_segs.specs.declared.outcome.AskLog.{AskLog}
 use Rattle.hp_segs.specs.declared.outcome.Outcome.{Outcome}
 use Rattle.hp_segs.specs.declared.outcome.Outcome.TheVariants.{Granted, Refused, Stale, Freed}
 use Rattle.hp_proc.specs.Doing.{Doing, Done, PagesAsked, Goes, Leads}
-use Rattle.hp_proc.specs.Doing.Done.{Called, Asked, GaveUp, Looked, CaughtUp}
 use Rattle.hp_proc.specs.Doing.Doing.{Calls, Asks, GivesUp, Looks, CatchesUp, Ended}
 use Rattle.hp_proc.specs.Courses.{OwnCall}
-use Rattle.hp_proc.specs.Histories.{entry_for, entries_for}
+use Rattle.hp_proc.specs.Histories.{entries_for}
 use Rattle.hp_proc.specs.Outcomes.{Gives, IsAnsweredSo}
 
 -- a run that a record adds is added by the record of that place in every longer log

@@ -1,2 +1,4 @@
 mod LawLemmas
 mod Worked
+mod WorkedEnds
+mod WorkedServing

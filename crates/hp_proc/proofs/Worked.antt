@@ -1,5 +1,5 @@
 -- Worked values: what lines do, and what they leave in histories and in the log.
-use Rattle.std.proofs.Common.{◌≡◌, refl, ℕ, ◌^◌, Bool, true, false, List, [], ◌∷◌, Option, Some, None}
+use Rattle.std.proofs.Common.{◌≡◌, refl, ℕ, ◌^◌, true, false, List, [], ◌∷◌, Option, Some, None}
 use Rattle.std.specs.List.{list_any}
 use Rattle.hp_base.specs.Requests.{IsAccepted}
 use Rattle.hp_base.specs.declared.pool_line.PoolLine.{PoolLine}
@@ -13,18 +13,16 @@ use Rattle.hp_log.specs.declared.log_record.LogRecord.TheVariants.{Add, Drop}
 use Rattle.hp_script.specs.declared.answer.Answer.TheVariants as answer
 use Rattle.hp_script.specs.declared.line.Act.TheVariants as act
 use Rattle.hp_segs.specs.declared.outcome.AskLog.{AskLog}
-use Rattle.hp_segs.specs.declared.outcome.Cause.TheVariants as why
-use Rattle.hp_segs.specs.declared.outcome.Outcome.TheVariants.{Granted, Refused, Freed}
+use Rattle.hp_segs.specs.declared.outcome.Outcome.TheVariants.{Granted}
 use Rattle.hp_proc.specs.Doing.{Doing, Done, PagesAsked, Goes, Leads}
-use Rattle.hp_proc.specs.Doing.Done.{Called, Asked, GaveUp, Looked, CaughtUp}
+use Rattle.hp_proc.specs.Doing.Done.{Called, Asked, GaveUp}
 use Rattle.hp_proc.specs.Heaps.{NamedHeap, own_first, page_sizes_for}
 use Rattle.hp_proc.specs.Allocating.{with_hint, without_hint, serving}
-use Rattle.hp_proc.specs.Freeing.{SearchedHeap, looking, freeing, resizing_to}
-use Rattle.hp_proc.specs.Lines.{attaching}
+use Rattle.hp_proc.specs.Freeing.{SearchedHeap, looking, freeing}
 use Rattle.hp_proc.specs.Courses.{OwnCall}
 use Rattle.hp_proc.specs.Histories.{entries_for, entry_for, granted_runs, returned_runs}
 use Rattle.hp_proc.specs.Outcomes.{registers}
-use Rattle.hp_proc.specs.Ends.{is_grant}
+use Rattle.hp_proc.specs.LinesDone.{is_grant}
 use Rattle.hp_segs.specs.SegsView.{closed_number}
 
 abbrev pool : ℕ → ℕ → PoolLine

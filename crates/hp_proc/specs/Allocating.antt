@@ -1,7 +1,6 @@
 -- What an allocation line does: it searches heap after heap, and asks for pages page size after page size.
 use Rattle.std.specs.Prelude.{ℕ, ◌+◌, ◌-◌, List, [], ◌∷◌, Option, Some, None, if◌then◌else◌}
 use Rattle.hp_base.specs.declared.pool_line.PoolLine.{PoolLine}
-use Rattle.hp_base.specs.declared.request.BadRequest.{BadRequest}
 use Rattle.hp_base.specs.declared.request.Request.{Request}
 use Rattle.hp_base.specs.declared.row.Run.{Run}
 use Rattle.hp_base.specs.declared.tag.Tag.{Tag}
@@ -10,7 +9,7 @@ use Rattle.hp_heap.specs.declared.entry.HeapCall.TheVariants as call
 use Rattle.hp_heap.specs.declared.entry.HeapAnswer.{HeapAnswer}
 use Rattle.hp_heap.specs.declared.entry.HeapAnswer.TheVariants as gives
 use Rattle.hp_script.specs.declared.answer.Answer.TheVariants as answer
-use Rattle.hp_proc.specs.Doing.{Doing, PagesAsked}
+use Rattle.hp_proc.specs.Doing.{Doing}
 use Rattle.hp_proc.specs.Heaps.{NamedHeap, page_sizes_for}
 
 -- the bit of the flags by which their page sizes are a hint alone

@@ -1,10 +1,11 @@
 -- What one participant's lines do, one after another, by what its earlier lines left.
-use Rattle.std.specs.Prelude.{◌≡◌, ℕ, ◌+◌, Bool, true, false, ◌==◌, List, [], ◌∷◌, ◌++◌, length, find, Option, Some, None, slice_get, slice_index, ⊤, if◌then◌else◌}
+use Rattle.std.specs.Prelude.{◌≡◌, ℕ, Bool, true, false, ◌==◌, List, [], ◌∷◌, ◌++◌, find, Option, Some, None, slice_get, slice_index, ⊤}
 use Rattle.std.specs.Option.{option_map}
 use Rattle.hp_base.specs.Requests.{refusal_of, rounded_size, raised_align}
+use Rattle.hp_base.specs.declared.caught.Caught.{Caught}
+use Rattle.hp_base.specs.declared.caught.Caught.TheVariants as caught
 use Rattle.hp_base.specs.declared.pool_line.PoolLine.{PoolLine}
 use Rattle.hp_base.specs.declared.request.Request.{Request}
-use Rattle.hp_heap.specs.declared.entry.Entry.{Entry}
 use Rattle.hp_heap.specs.declared.entry.HeapCall.{HeapCall}
 use Rattle.hp_heap.specs.declared.entry.HeapAnswer.{HeapAnswer}
 use Rattle.hp_script.specs.Acts.{label_used}
@@ -17,11 +18,11 @@ use Rattle.hp_script.specs.declared.line.Act.{Act}
 use Rattle.hp_script.specs.declared.line.Act.TheVariants as act
 use Rattle.hp_script.specs.declared.options.Options.{Options}
 use Rattle.hp_script.specs.declared.workload.Workload.{Workload}
-use Rattle.hp_proc.specs.Doing.{Doing, Done, Leads}
+use Rattle.hp_proc.specs.Doing.{Done}
 use Rattle.hp_proc.specs.Doing.Done.{Called, Asked, GaveUp, Looked, CaughtUp}
 use Rattle.hp_proc.specs.Heaps.{sockets_of, socket_heaps}
 use Rattle.hp_proc.specs.Freeing.{SearchedHeap}
-use Rattle.hp_proc.specs.Lines.{Facts, Maker, doing_of}
+use Rattle.hp_proc.specs.Lines.{Facts, Maker}
 
 -- a call of the heap with that index, and its answer
 pub record OwnCall : Type 0 where
@@ -47,14 +48,20 @@ numbered_in (GaveUp heap run ∷ trace) = GaveUp heap run ∷ numbered_in trace
 numbered_in (Looked records ∷ trace) = numbered_in trace
 numbered_in (CaughtUp to caught ∷ trace) = numbered_in trace
 
--- the numbers of records that were seen in a trace
-abbrev pub seen_in : List Done → List ℕ
-seen_in [] = []
-seen_in (Called heap call answer ∷ trace) = seen_in trace
-seen_in (Asked asked run ∷ trace) = seen_in trace
-seen_in (GaveUp heap run ∷ trace) = seen_in trace
-seen_in (Looked records ∷ trace) = records ∷ seen_in trace
-seen_in (CaughtUp to caught ∷ trace) = seen_in trace
+-- the number of the mapping call by which a catching up was refused
+abbrev pub call_refused : Caught → List ℕ
+call_refused caught.Done = []
+call_refused (caught.Refused row number) = number ∷ []
+call_refused (caught.Elsewhere row number got) = number ∷ []
+
+-- the numbers of the mapping calls by which the catchings up of a trace were refused
+abbrev pub refusals_in : List Done → List ℕ
+refusals_in [] = []
+refusals_in (Called heap call answer ∷ trace) = refusals_in trace
+refusals_in (Asked asked run ∷ trace) = refusals_in trace
+refusals_in (GaveUp heap run ∷ trace) = refusals_in trace
+refusals_in (Looked records ∷ trace) = refusals_in trace
+refusals_in (CaughtUp to caught ∷ trace) = call_refused caught ++ refusals_in trace
 
 -- the index of the heap that the last call of a trace was made on
 abbrev pub last_heap : List OwnCall → Option ℕ
@@ -67,9 +74,11 @@ pub record OwnElement : Type 0 where
   pub line : ℕ
   pub heap : ℕ
 
--- what a participant's lines so far left: whether it is attached, and where the elements of its allocations lie
+-- what a participant's lines so far left: whether it is attached, how many records it took in when it attached last, and where the
+-- elements of its allocations lie
 pub record Standing : Type 0 where
   pub attached : Bool
+  pub records : ℕ
   pub elements : List OwnElement
 
 -- whether a participant is attached after a line
@@ -77,6 +86,11 @@ abbrev pub attached_after : Act → Answer → Bool → Bool
 attached_after act.Attach (answer.Records records) attached = true
 attached_after act.Detach answer.Done attached = false
 attached_after _ given attached = attached
+
+-- how many records a participant had taken in when it attached last, where so many before a line
+abbrev pub records_after : Act → Answer → ℕ → ℕ
+records_after act.Attach (answer.Records records) before = records
+records_after _ given before = before
 
 abbrev pub element_in : ℕ → Option ℕ → List OwnElement
 element_in line None = []
@@ -91,6 +105,7 @@ element_brought line _ given trace = []
 abbrev pub after_line : Line → Answer → List Done → Standing → Standing
 after_line line given trace standing = record {
   attached = attached_after line.act given standing.attached;
+  records = records_after line.act given standing.records;
   elements = standing.elements ++ element_brought line line.act given trace;
 }
 

@@ -1,5 +1,5 @@
 -- What the lines do that name an element by its label: they look for it, and then free or resize it.
-use Rattle.std.specs.Prelude.{ℕ, ◌^◌, Bool, false, List, [], ◌∷◌, Option, Some, None, is_some, nat_lt, ◌==◌, if◌then◌else◌}
+use Rattle.std.specs.Prelude.{ℕ, ◌^◌, Bool, false, List, [], ◌∷◌, Option, is_some, nat_lt, ◌==◌, if◌then◌else◌}
 use Rattle.hp_base.specs.Requests.{rounded_size}
 use Rattle.hp_base.specs.declared.request.BadRequest.TheVariants as bad
 use Rattle.hp_base.specs.declared.tag.Tag.{Tag}
@@ -8,7 +8,6 @@ use Rattle.hp_heap.specs.declared.entry.HeapAnswer.{HeapAnswer}
 use Rattle.hp_heap.specs.declared.entry.HeapAnswer.TheVariants as gives
 use Rattle.hp_script.specs.declared.answer.Answer.TheVariants as answer
 use Rattle.hp_proc.specs.Doing.{Doing}
-use Rattle.hp_proc.specs.Heaps.{NamedHeap}
 
 -- a heap in which an element is looked for: its index, and the socket whose pages it takes, where it does
 pub record SearchedHeap : Type 0 where

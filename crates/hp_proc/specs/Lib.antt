@@ -4,7 +4,17 @@ pub mod Allocating
 pub mod Freeing
 pub mod Lines
 pub mod Courses
+pub mod LinesDone
 pub mod Outcomes
 pub mod Histories
+pub mod Seen
+pub mod Awaits
 pub mod Ends
 pub mod Laws
+pub mod Frames
+pub mod Party
+pub mod Tied
+pub mod Serving
+pub mod Posting
+pub mod Falling
+pub mod Coordinating

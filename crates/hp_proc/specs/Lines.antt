@@ -1,9 +1,7 @@
 -- What each line does, by what is known before it.
-use Rattle.std.specs.Prelude.{◌≡◌, ℕ, Bool, true, false, not, ◌&&◌, ◌==◌, List, [], ◌∷◌, ◌++◌, map, find, filter, Option, Some, None, slice_get, slice_index, if◌then◌else◌, ⊤}
-use Rattle.std.specs.List.{list_any}
+use Rattle.std.specs.Prelude.{ℕ, Bool, true, false, not, ◌&&◌, ◌==◌, List, map, find, Option, Some, None, if◌then◌else◌, ⊤}
 use Rattle.std.specs.Option.{option_map, option_to_list}
-use Rattle.std.specs.Str.{bytes_eq}
-use Rattle.hp_base.specs.Requests.{refusal_of, rounded_size, raised_align}
+use Rattle.hp_base.specs.Requests.{refusal_of}
 use Rattle.hp_base.specs.declared.caught.Caught.{Caught}
 use Rattle.hp_base.specs.declared.caught.Caught.TheVariants as caught
 use Rattle.hp_base.specs.declared.pool_line.PoolLine.{PoolLine}
@@ -13,13 +11,12 @@ use Rattle.hp_base.specs.declared.tag.Tag.{Tag}
 use Rattle.hp_heap.specs.declared.entry.HeapCall.TheVariants as call
 use Rattle.hp_heap.specs.declared.entry.HeapAnswer.{HeapAnswer}
 use Rattle.hp_heap.specs.declared.entry.HeapAnswer.TheVariants as gives
-use Rattle.hp_script.specs.declared.answer.Answer.{Answer}
 use Rattle.hp_script.specs.declared.answer.Answer.TheVariants as answer
 use Rattle.hp_script.specs.declared.line.Line.{Line}
 use Rattle.hp_script.specs.declared.line.Act.{Act}
 use Rattle.hp_script.specs.declared.line.Act.TheVariants as act
 use Rattle.hp_script.specs.declared.options.Options.{Options}
-use Rattle.hp_proc.specs.Doing.{Doing, Done, Leads}
+use Rattle.hp_proc.specs.Doing.{Doing}
 use Rattle.hp_proc.specs.Heaps.{NamedHeap, heaps_for, has_name}
 use Rattle.hp_proc.specs.Allocating.{serving}
 use Rattle.hp_proc.specs.Freeing.{SearchedHeap, looking, freeing, resizing_to}

@@ -1,5 +1,5 @@
 -- What came of a participant's asks: looked up in the segment value by participant and number, where it stays once it is there.
-use Rattle.std.specs.Prelude.{◌≡◌, ℕ, ◌+◌, ◌-◌, ◌*◌, ◌<◌, ◌≤◌, Bool, true, false, not, ◌&&◌, ◌==◌, List, [], ◌∷◌, find, take, Option, Some, None, IsTrue, Contains, slice_get, ⊤}
+use Rattle.std.specs.Prelude.{◌≡◌, ℕ, ◌+◌, ◌-◌, ◌*◌, ◌<◌, ◌≤◌, Bool, false, not, ◌&&◌, ◌==◌, List, find, take, Option, Some, None, IsTrue, Contains, slice_get, ⊤}
 use Rattle.std.specs.List.{list_any}
 use Rattle.std.specs.Str.{bytes_eq}
 use Rattle.hp_base.specs.declared.row.Run.{Run}
@@ -15,9 +15,9 @@ use Rattle.hp_segs.specs.declared.outcome.AskLog.{AskLog}
 use Rattle.hp_segs.specs.declared.outcome.Cause.{Cause}
 use Rattle.hp_segs.specs.declared.outcome.Cause.TheVariants as why
 use Rattle.hp_segs.specs.declared.outcome.Outcome.{Outcome}
-use Rattle.hp_segs.specs.declared.outcome.Outcome.TheVariants.{Granted, Refused, Stale, Freed}
+use Rattle.hp_segs.specs.declared.outcome.Outcome.TheVariants.{Granted, Refused, Freed}
 use Rattle.hp_proc.specs.Doing.{Done, PagesAsked}
-use Rattle.hp_proc.specs.Doing.Done.{Called, Asked, GaveUp, Looked, CaughtUp}
+use Rattle.hp_proc.specs.Doing.Done.{Asked, GaveUp}
 use Rattle.hp_proc.specs.Courses.{numbered_in}
 
 -- a participant's ask of that number, for a asked

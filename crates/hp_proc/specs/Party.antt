@@ -1,0 +1,58 @@
+-- What contracts see of a participant.
+use Rattle.std.specs.Prelude.{ℕ, ◌+◌, ◌-◌, ◌^◌, ◌==◌, min, Bool, false, List, replicate, Option, Some, None, if◌then◌else◌}
+use Rattle.hp_base.specs.declared.plan_entry.PlanEntry.{PlanEntry}
+use Rattle.hp_core.specs.Core.{Core, due_of}
+use Rattle.hp_core.specs.declared.phase.Phase.TheVariants.{Idle}
+use Rattle.hp_maps.specs.MapsView.{MapsView}
+use Rattle.hp_proc.specs.declared.sent.Sent.{Sent}
+
+pub record Party : Type 0 where
+  -- its number, and its own NUMA socket
+  pub me : ℕ
+  pub socket : ℕ
+  -- whether it has a table
+  pub joined : Bool
+  pub maps : MapsView
+  -- what becomes of its messages
+  pub plan : List PlanEntry
+  -- how long it waits for others, in milliseconds
+  pub deadline : ℕ
+  -- the coordinator, which participant 0 has
+  pub core : Option Core
+  -- the number of its last ask, and whether the coordinator's answer to it has come
+  pub asked : ℕ
+  pub answered : Bool
+  pub sent : Sent
+
+-- when the deadline of its coordinator's round passes
+abbrev pub due_in : Option Core → Option ℕ
+due_in None = None
+due_in (Some core) = due_of core.deadline core.phase
+
+-- one more, up to the greatest number
+abbrev pub one_more : ℕ → ℕ
+one_more count = min (count + 1) (2 ^ 64 - 1)
+
+-- participant 0 has a coordinator under which nothing is under way and no ask is held
+abbrev pub first_core : ℕ → ℕ → Option Core
+first_core me deadline =
+    if me == 0 then Some (record { deadline = deadline; phase = Idle; held = replicate 16 None }) else None
+
+-- a participant that has sent and been asked nothing
+abbrev pub opening_party : ℕ → ℕ → Bool → MapsView → List PlanEntry → ℕ → Party
+opening_party me socket joined maps plan deadline = record {
+  me = me;
+  socket = socket;
+  joined = joined;
+  maps = maps;
+  plan = plan;
+  deadline = deadline;
+  core = first_core me deadline;
+  asked = 0;
+  answered = false;
+  sent = record { replies = 0; syncs = replicate 16 0; answers = replicate 16 0 };
+}
+
+-- a participant that has sent one reply more
+abbrev pub after_reply : Party → Party
+after_reply party = record party { sent = record party.sent { replies = one_more party.sent.replies } }
