@@ -5,3 +5,8 @@ pub mod MoveLemmas
 pub mod AddLemmas
 pub mod TieLemmas
 pub mod TieSteps
+pub mod GivingLemmas
+pub mod GivingSteps
+pub mod SameAsk
+pub mod StepWalk
+pub mod ArmedSteps

@@ -10,3 +10,4 @@ pub mod Moves
 pub mod Outs
 pub mod Laws
 pub mod Tied
+pub mod Giving

@@ -1,4 +1,5 @@
 //! Laws of the coordinator's moves, above the definitions that its step cites.
+ghost use Rattle.hp_core.specs.Giving.{CatchesNote, StepsGive, StepsLeaveArmed};
 ghost use Rattle.hp_core.specs.Laws.{AddsExactly, DenialsAreJudged, LatesAreLate, MovesAreMoved, MovesAreSteps};
 ghost use Rattle.hp_core.specs.Tied.{MovesTie, NoneIsGone, StepsTie};
 
@@ -22,4 +23,14 @@ pub fn tie_law()
     ensures steps { StepsTie }
     ensures moves { MovesTie }
     ensures none_gone { NoneIsGone }
+{}
+
+/// What others hold the giver of a segment value to. A member that has caught up, or failed to, only notes a failure. A step
+/// of the coordinator arms nobody and leaves the roster; and each member has acknowledged what it grants, by the numbers
+/// of the poll, or as participant 0, alone, that has mapped all records. The open growth stays that of the ask with which
+/// its participant is armed. Own.
+pub fn giving_law()
+    ensures caught { CatchesNote }
+    ensures steps { StepsGive }
+    ensures armed { StepsLeaveArmed }
 {}

@@ -20,6 +20,6 @@ pub use asked::Asked;
 pub use coordinator::Coordinator;
 pub use event::CoreEvent;
 pub use following::follow;
-pub use laws::{core_law, tie_law};
+pub use laws::{core_law, giving_law, tie_law};
 pub use out::Out;
 pub use phase::{Phase, Round, RoundKind};
