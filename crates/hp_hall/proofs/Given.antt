@@ -1,5 +1,5 @@
 -- What a give leaves: a value of the same slot, later on, in which nobody but the giver has more entries.
-use Rattle.std.proofs.Common.{◌≡◌, ◌≢◌, ℕ, ◌+◌, eqb, ne_eqb, Bool, true, false, cond, List, [], ◌∷◌, ◌++◌, Option, Some, None, refl, sym, ap, ◌∙◌, if◌then◌else◌}
+use Rattle.std.proofs.Common.{◌≡◌, ◌≢◌, ℕ, ◌+◌, eqb, ne_eqb, Bool, true, false, List, [], ◌∷◌, ◌++◌, Option, Some, None, refl, sym, ap, ◌∙◌, if◌then◌else◌}
 use Rattle.std.proofs.lemmas.Bool.{cond-false}
 use Rattle.std.proofs.lemmas.List.{append-nil}
 use Rattle.std.proofs.lemmas.List.Elements.{filter-append}
@@ -11,8 +11,18 @@ use Rattle.hp_hall.specs.declared.kept.Kept.{Kept}
 use Rattle.hp_hall.specs.declared.kept.Kept.TheVariants.{Heap, Segments}
 use Rattle.hp_hall.specs.Course.{IsLaterKept}
 use Rattle.hp_hall.specs.Giving.{Knows, GivesFor, GivesForm, IsNumbered, logs, enrols, owns}
-use Rattle.hp_hall.specs.HallView.{SlotView, taken_from}
+use Rattle.hp_hall.specs.HallView.{HallView, SlotView, made_in, own_at, slot_at, taken_from}
 use Rattle.hp_hall.specs.Values.{Fits, history_of}
+
+-- what a participant of a hall of plain values knows
+abbrev pub known : HallView → ℕ → Knows
+known hall me = record {
+  who = me;
+  taken = λ number. taken_from (slot_at hall number);
+  made = made_in hall me;
+  number = (own_at hall me).number;
+  noted = λ other. (own_at hall other).number;
+}
 
 entries_of-append : (who : ℕ) (xs ys : List Entry) → entries_of who (xs ++ ys) ≡ entries_of who xs ++ entries_of who ys
 unfolding entries_of

@@ -1,8 +1,10 @@
 pub mod Given
+pub mod Gives
 pub mod Mailed
 pub mod Opened
 pub mod Owned
 pub mod Pending
 pub mod Read
 pub mod Slotted
+pub mod Stepped
 pub mod Taking

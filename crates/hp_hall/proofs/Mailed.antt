@@ -1,5 +1,5 @@
 -- Steps with mailboxes: what they weigh, what they are noted as, and the course of a hall that made one.
-use Rattle.std.proofs.Common.{◌≡◌, ◌≢◌, ◌↔◌, ℕ, ◌+◌, ◌*◌, ◌<◌, ◌≤◌, min, ◌-◌, ◌^◌, eqb, ltb, cond, Bool, true, false, List, [], ◌∷◌, ◌++◌, length, get_or, set, drop, map, replicate, Option, Some, None, refl, sym, ap, ◌∙◌, arith}
+use Rattle.std.proofs.Common.{◌≡◌, ◌≢◌, ◌↔◌, ℕ, ◌+◌, ◌*◌, ◌<◌, ◌≤◌, eqb, cond, Bool, true, false, List, [], ◌∷◌, ◌++◌, length, set, drop, map, replicate, refl, ap, ◌∙◌, arith}
 use Rattle.std.specs.List.{filter, slice_get, sum_by}
 use Rattle.std.proofs.lemmas.List.{map-append}
 use Rattle.std.proofs.lemmas.List.Elements.{filter-append}
@@ -12,7 +12,7 @@ use Rattle.hp_hall.specs.declared.posted.Posted.{Posted}
 use Rattle.hp_hall.specs.declared.posted.Posted.TheVariants.{Sent, Twice, Lost, Full}
 use Rattle.hp_hall.specs.Course.{IsCourse, slot_same}
 use Rattle.hp_hall.specs.HallSteps.{fulls_after, with_mail}
-use Rattle.hp_hall.specs.HallView.{HallView, HasDone, slot_at}
+use Rattle.hp_hall.specs.HallView.{HallView, slot_at}
 use Rattle.hp_hall.specs.Mail.{MailStep, IsMailStep, box_after, box_of, copies, posted_as, steps_of}
 use Rattle.hp_hall.specs.Weights.{box_weight, boxes_weight, fetched_weight, frame_weight}
 

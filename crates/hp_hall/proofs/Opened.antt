@@ -1,17 +1,16 @@
 -- The slots of a hall as it opens and as it ends.
-use Rattle.std.proofs.Common.{◌≡◌, ℕ, zero, suc, ◌+◌, ◌-◌, ◌<◌, ◌⊎◌, Bool, true, false, List, [], ◌∷◌, ◌++◌, length, get_or, take, drop, map, Option, Some, None, refl, sym, ap, subst, ◌∙◌, inl, inr, ⊎_elim, arith, length-append}
+use Rattle.std.proofs.Common.{◌≡◌, ℕ, zero, suc, ◌+◌, ◌<◌, ◌⊎◌, Bool, true, false, List, [], ◌∷◌, ◌++◌, length, get_or, take, drop, map, Option, Some, None, refl, sym, ap, subst, ◌∙◌, inl, inr, ⊎_elim, arith, length-append}
 use Rattle.std.specs.List.{slice_get}
 use Rattle.std.proofs.lemmas.List.{append_assoc, length-map, map-append, nil_from_length}
 use Rattle.std.proofs.lemmas.Option.{slice_get_within}
 use Rattle.hp_base.specs.declared.limits.TheConstants.{MAX_HEAPS}
-use Rattle.hp_heap.specs.declared.entry.Entry.{Entry}
 use Rattle.hp_heap.specs.History.{HeapView, entries_of}
 use Rattle.hp_segs.specs.SegsView.{SegsView}
 use Rattle.hp_hall.specs.declared.kept.Kept.{Kept}
 use Rattle.hp_hall.specs.declared.kept.Kept.TheVariants.{Heap, Segments}
 use Rattle.hp_hall.specs.declared.slot.TheConstants.{SLOTS}
 use Rattle.hp_hall.specs.HallSteps.{heap_slot, home_slot, opening_hall, slots_of}
-use Rattle.hp_hall.specs.HallView.{HallView, IsHall, IsHome, SlotView, history_in, made_in, slot_at}
+use Rattle.hp_hall.specs.HallView.{HallView, IsHall, IsHome, SlotView, history_in, made_in}
 use Rattle.hp_hall.specs.Moved.{AreSlotsOf, IsFirstHeap, IsLastSegs}
 use Rattle.hp_hall.specs.Opening.{AreHome, AreInOrder, AreUnused}
 use Rattle.hp_hall.specs.Values.{Fits, history_of}

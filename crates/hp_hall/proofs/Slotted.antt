@@ -1,18 +1,17 @@
 -- What a changed slot leaves of a hall.
-use Rattle.std.proofs.Common.{◌≡◌, ◌≢◌, ℕ, zero, suc, ◌<◌, ◌⊎◌, List, [], ◌∷◌, ◌++◌, length, set, Option, Some, None, refl, sym, ap, subst, ◌∙◌, ⊎_elim, arith, length-set}
+use Rattle.std.proofs.Common.{◌≡◌, ◌≢◌, ℕ, zero, suc, ◌<◌, List, [], ◌∷◌, length, set, Option, Some, refl, sym, ap, subst, ◌∙◌, ⊎_elim, arith, length-set}
 use Rattle.std.specs.List.{slice_get}
 use Rattle.std.proofs.lemmas.Bool.{cases_eq}
 use Rattle.std.proofs.lemmas.List.{append-nil}
 use Rattle.std.proofs.lemmas.Option.{slice_get_within}
-use Rattle.hp_frame.specs.declared.frame.Frame.{Frame}
 use Rattle.hp_hall.specs.declared.kept.Kept.{Kept}
 use Rattle.hp_hall.specs.Course.{IsCourse, IsLater, IsLaterKept, course_then, kept_same, slot_same}
 use Rattle.hp_hall.specs.HallSteps.{after_give, after_take, home_slot, out_slot, with_mail, with_slot}
-use Rattle.hp_hall.specs.HallView.{HallView, IsHall, SlotView, slot_at}
+use Rattle.hp_hall.specs.HallView.{HallView, IsHall, IsHome, SlotView, slot_at, taken_from}
 use Rattle.hp_hall.specs.Mail.{MailStep, Gives, Takes, IsMailStep, after_step}
-use Rattle.hp_hall.specs.Own.{Own}
 use Rattle.hp_hall.specs.Values.{Fits}
 use Rattle.hp_hall.proofs.Mailed.{course_mail}
+use Rattle.hp_hall.proofs.Stepped.{MakesStep, makes_step}
 
 pub slice_get-set_same : {X : Type 0} (xs : List X) (i : ℕ) (y : X) → i < length xs → slice_get (set xs i y) i ≡ Some y
 slice_get-set_same [] i y below = absurd (omega arith)
@@ -53,11 +52,10 @@ hall_changed old new number slot hall fits slots boxes owns = record {
 pub record MovesSlot (number : ℕ) (slot : SlotView) (who : ℕ) (step : MailStep) (old new : HallView) : Type 0 where
   pub here : slot_at new number ≡ Some slot
   pub elsewhere : (other : ℕ) → other ≢ number → slot_at new other ≡ slot_at old other
-  pub owns : new.owns ≡ old.owns
+  pub taken : (other : ℕ) → other ≢ number → taken_from (slot_at new other) ≡ taken_from (slot_at old other)
+  pub home : (other : ℕ) → other ≢ number → IsHome (slot_at old other) → IsHome (slot_at new other)
   pub boxes : new.boxes ≡ old.boxes
-  pub clock : new.clock ≡ old.clock
-  pub mail : new.mail ≡ old.mail ++ (who, step) ∷ []
-  pub course : IsCourse old new
+  pub makes : MakesStep who step old new
 
 module _ (hall : HallView) (number : ℕ) (before slot : SlotView) (there : slot_at hall number ≡ Some before) (later : IsLaterKept before.kept slot.kept) where
   later_slots : (k : ℕ) → IsLater (slot_at hall k) (slot_at (with_slot number slot hall) k)
@@ -85,35 +83,36 @@ module _ (hall : HallView) (number : ℕ) (before slot : SlotView) (there : slot
     boxes = refl;
   }
 
+moves_slot : (old new : HallView) (who number : ℕ) (slot : SlotView) (step : MailStep) → number < length old.slots
+    → new ≡ with_mail who step old.fulls (with_slot number slot old) → IsMailStep who step old.boxes → after_step who step old.boxes ≡ old.boxes
+    → IsCourse old (with_slot number slot old) → MovesSlot number slot who step old new
+moves_slot old new who number slot step below is mailed still course =
+    let slotted : HallView = with_slot number slot old in
+    let elsewhere : (other : ℕ) → other ≢ number → slot_at new other ≡ slot_at old other =
+    λ other apart. ap (λ (h : HallView). slot_at h other) is ∙ slice_get-set_other old.slots number other slot apart in
+    record {
+      here = ap (λ (h : HallView). slot_at h number) is ∙ slice_get-set_same old.slots number slot below;
+      elsewhere = elsewhere;
+      taken = λ other apart. ap taken_from (elsewhere other apart);
+      home = λ other apart home. subst IsHome (sym (elsewhere other apart)) home;
+      boxes = ap (λ (h : HallView). h.boxes) is ∙ still;
+      makes = makes_step old new who step (ap (λ (h : HallView). h.mail) is) (ap (λ (h : HallView). h.owns) is)
+          (ap (λ (h : HallView). h.clock) is)
+          (subst (IsCourse old) (sym is) (course_then old slotted (with_mail who step old.fulls slotted) course (course_mail slotted who step old.fulls mailed (omega arith))));
+    }
+
+-- what a take leaves, and what a give does
 pub took : (old new : HallView) (who number : ℕ) (kept : Kept) → slot_at old number ≡ Some (home_slot kept) → new ≡ after_take who number kept old
     → MovesSlot number (out_slot kept) who (Takes number kept) old new
 took old new who number kept there is =
-    let slotted : HallView = with_slot number (out_slot kept) old in
-    subst (MovesSlot number (out_slot kept) who (Takes number kept) old) (sym is) (record {
-      here = slice_get-set_same old.slots number (out_slot kept) (slice_get_within old.slots number (home_slot kept) there);
-      elsewhere = λ other apart. slice_get-set_other old.slots number other (out_slot kept) apart;
-      owns = refl;
-      boxes = refl;
-      clock = refl;
-      mail = refl;
-      course = course_then old slotted (after_take who number kept old) (course_slot old number (home_slot kept) (out_slot kept) there (kept_same kept))
-          (course_mail slotted who (Takes number kept) old.fulls tt (omega arith));
-    })
+    moves_slot old new who number (out_slot kept) (Takes number kept) (slice_get_within old.slots number (home_slot kept) there) is tt refl
+    (course_slot old number (home_slot kept) (out_slot kept) there (kept_same kept))
 
 pub gave : (old new : HallView) (who number : ℕ) (before : SlotView) (kept : Kept) → slot_at old number ≡ Some before → IsLaterKept before.kept kept
     → new ≡ after_give who number kept old → MovesSlot number (home_slot kept) who (Gives number kept) old new
 gave old new who number before kept there later is =
-    let slotted : HallView = with_slot number (home_slot kept) old in
-    subst (MovesSlot number (home_slot kept) who (Gives number kept) old) (sym is) (record {
-      here = slice_get-set_same old.slots number (home_slot kept) (slice_get_within old.slots number before there);
-      elsewhere = λ other apart. slice_get-set_other old.slots number other (home_slot kept) apart;
-      owns = refl;
-      boxes = refl;
-      clock = refl;
-      mail = refl;
-      course = course_then old slotted (after_give who number kept old) (course_slot old number before (home_slot kept) there later)
-          (course_mail slotted who (Gives number kept) old.fulls tt (omega arith));
-    })
+    moves_slot old new who number (home_slot kept) (Gives number kept) (slice_get_within old.slots number before there) is tt refl
+    (course_slot old number before (home_slot kept) there later)
 
 -- what is read of a slot stays everywhere if it stays at the slot that changed
 pub read_alike : {X : Type 0} (read : Option SlotView → X) (number : ℕ) (slot : SlotView) (old new : HallView) → slot_at new number ≡ Some slot

@@ -1,5 +1,5 @@
 -- What the trait says of a take and of a give, over what they leave.
-use Rattle.std.proofs.Common.{◌≡◌, ◌≢◌, ℕ, List, [], ◌∷◌, Option, Some, refl, sym, ap, ◌∙◌, ⊎_elim, ◌++◌}
+use Rattle.std.proofs.Common.{◌≡◌, ◌≢◌, ℕ, List, Option, Some, refl, sym, ap, ◌∙◌, ⊎_elim}
 use Rattle.std.proofs.lemmas.Bool.{cases_eq}
 use Rattle.hp_heap.specs.declared.entry.Entry.{Entry}
 use Rattle.hp_heap.specs.History.{entries_of}
@@ -8,22 +8,17 @@ use Rattle.hp_hall.specs.declared.kept.Kept.TheVariants.{Heap, Segments}
 use Rattle.hp_hall.specs.Course.{IsLaterKept}
 use Rattle.hp_hall.specs.Giving.{IsElsewhere, Knows, GivesFor}
 use Rattle.hp_hall.specs.HallSteps.{home_slot, out_slot}
-use Rattle.hp_hall.specs.HallView.{HallView, SlotView, HasDone, history_in, made_in, slot_at}
-use Rattle.hp_hall.specs.Mail.{MailStep, Takes, Gives, steps_of}
+use Rattle.hp_hall.specs.HallView.{HallView, SlotView, history_in, made_in, slot_at}
+use Rattle.hp_hall.specs.Mail.{MailStep}
 use Rattle.hp_hall.specs.Values.{Fits, history_of}
 use Rattle.hp_hall.proofs.Given.{same_for_others}
-use Rattle.hp_hall.proofs.Mailed.{steps_of-push}
 use Rattle.hp_hall.proofs.Slotted.{MovesSlot, read_alike}
 
 -- the entries of a participant in a slot
 abbrev entries_in : ℕ → Option SlotView → List Entry
 entries_in who slot = entries_of who (history_in slot)
 
--- a step that is noted is the last of its maker's
-pub did_step : (old new : HallView) (me : ℕ) (step : MailStep) → new.mail ≡ old.mail ++ (me, step) ∷ [] → (who : ℕ)
-    → HasDone old new who (steps_of who ((me, step) ∷ []))
-did_step old new me step noted who = ap (steps_of who) noted ∙ steps_of-push who me step old.mail
-
+-- a take leaves all entries as they were
 pub made_still : (number : ℕ) (kept : Kept) (me : ℕ) (step : MailStep) (old new : HallView) → slot_at old number ≡ Some (home_slot kept)
     → MovesSlot number (out_slot kept) me step old new → (who heap : ℕ) → made_in new who heap ≡ made_in old who heap
 made_still number kept me step old new there moves who heap =

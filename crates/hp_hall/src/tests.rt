@@ -1,10 +1,11 @@
 //! Two participants in a hall of plain values, by hand.
 ghost use Rattle.std.specs.Prelude.{◌≡◌, ◌<◌, ℕ, [], IfOk, length};
-ghost use Rattle.hp_hall.specs.HallView.{made_in};
+ghost use Rattle.hp_hall.specs.HallView.{made_in, own_at};
 ghost use Rattle.hp_hall.specs.Opening.{AreHome, AreInOrder, AreUnused};
 
 mod messages;
 mod slots;
+mod values;
 
 use crate::*;
 use hp_base::{MAX_HEAPS, PoolLine, Request};
@@ -66,6 +67,7 @@ fn hall_of_two(alloc: Global) -> Result<PlainHall, Fail>
     ensures two { IfOk result (λ hall. length hall.owns ≡ 2) }
     ensures home { IfOk result (λ hall. AreHome hall) }
     ensures unused { IfOk result (λ hall. (who number : ℕ) → made_in hall who number ≡ []) }
+    ensures nothing_yet { IfOk result (λ hall. (own_at hall 1).number ≡ 0) }
 {
     let segs = grown_segs(alloc)?;
     let heaps = vacant_heaps(alloc)?;

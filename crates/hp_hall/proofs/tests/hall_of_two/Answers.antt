@@ -1,6 +1,6 @@
 use Rattle.std.proofs.Common.{length, sym, ap, subst, ◌∙◌}
 use Rattle.std.proofs.lemmas.List.{length-replicate}
-use Rattle.hp_hall.specs.HallView.{HallView}
+use Rattle.hp_hall.specs.HallView.{HallView, own_at}
 use Rattle.hp_hall.specs.Opening.{AreHome}
 use Rattle.hp_hall.specs.Own.{after_ack}
 use Rattle.hp_hall.proofs.Opened.{opened_home}
@@ -14,3 +14,6 @@ returns-clause-home c = subst AreHome (sym c.in_ok-hall.ensures.hall) (opened_ho
 
 pub returns-clause-unused : goal.returns-clause-unused
 returns-clause-unused c = c.in_ok-hall.ensures.unused c.in_ok-heaps.ensures.unused
+
+pub returns-clause-nothing_yet : goal.returns-clause-nothing_yet
+returns-clause-nothing_yet c = ap (λ (h : HallView). (own_at h 1).number) c.in_ok-hall.ensures.hall

@@ -1,0 +1,42 @@
+-- What a call that makes one step leaves, whichever call it is.
+use Rattle.std.proofs.Common.{◌≡◌, ℕ, List, [], ◌∷◌, ◌++◌, ◌≤◌, sym, ap, subst, ◌∙◌}
+use Rattle.std.specs.List.{slice_index_or}
+use Rattle.hp_hall.specs.Course.{IsCourse}
+use Rattle.hp_hall.specs.HallSteps.{with_mail}
+use Rattle.hp_hall.specs.HallView.{HallView, HasDone, IsHome, made_in, own_at, slot_at, taken_from}
+use Rattle.hp_hall.specs.Mail.{IsMailStep, MailStep, steps_of}
+use Rattle.hp_hall.specs.Own.{Own, after_ack}
+use Rattle.hp_hall.proofs.Mailed.{course_mail, steps_of-push}
+
+-- the step is the last of its maker's, own parts and the clock are as they were, and the hall goes on
+pub record MakesStep (who : ℕ) (step : MailStep) (old new : HallView) : Type 0 where
+  pub did : (other : ℕ) → HasDone old new other (steps_of other ((who, step) ∷ []))
+  pub own : (other : ℕ) → own_at new other ≡ own_at old other
+  pub clock : new.clock ≡ old.clock
+  pub course : IsCourse old new
+
+pub makes_step : (old new : HallView) (who : ℕ) (step : MailStep) → new.mail ≡ old.mail ++ (who, step) ∷ [] → new.owns ≡ old.owns
+    → new.clock ≡ old.clock → IsCourse old new → MakesStep who step old new
+makes_step old new who step mail owns clock course = record {
+  did = λ other. ap (steps_of other) mail ∙ steps_of-push other who step old.mail;
+  own = λ other. ap (λ (l : List Own). slice_index_or l other (after_ack 0)) owns;
+  clock = clock;
+  course = course;
+}
+
+-- a step with mailboxes alone: all slots are as they were
+pub record MakesMail (who : ℕ) (step : MailStep) (old new : HallView) : Type 0 where
+  pub makes : MakesStep who step old new
+  pub taken : (number : ℕ) → taken_from (slot_at new number) ≡ taken_from (slot_at old number)
+  pub home : (number : ℕ) → IsHome (slot_at old number) → IsHome (slot_at new number)
+  pub made : (other heap : ℕ) → made_in new other heap ≡ made_in old other heap
+
+pub makes_mail : (old new : HallView) (who : ℕ) (step : MailStep) (fulls : ℕ) → new ≡ with_mail who step fulls old
+    → IsMailStep who step old.boxes → old.fulls ≤ fulls → MakesMail who step old new
+makes_mail old new who step fulls is mailed rises = record {
+  makes = makes_step old new who step (ap (λ (h : HallView). h.mail) is) (ap (λ (h : HallView). h.owns) is)
+      (ap (λ (h : HallView). h.clock) is) (subst (IsCourse old) (sym is) (course_mail old who step fulls mailed rises));
+  taken = λ number. ap (λ (h : HallView). taken_from (slot_at h number)) is;
+  home = λ number home. subst (λ (h : HallView). IsHome (slot_at h number)) (sym is) home;
+  made = λ other heap. ap (λ (h : HallView). made_in h other heap) is;
+}
