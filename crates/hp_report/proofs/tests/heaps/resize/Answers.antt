@@ -1,0 +1,11 @@
+-- What is found by its tag is busy.
+use Rattle.hp_heap.proofs.TaggedLemmas.{tagged_busy}
+use Rattle.hp_report.proofs.tests.heaps.resize.Goals as goal
+
+pub resize-requires-clause-allowed : goal.resize-requires-clause-allowed
+resize-requires-clause-allowed c = record {
+  busy = tagged_busy c.tag_of.result c.in-Some.addr c.find.new.self.plain c.in-Some.ensures.there;
+  some = c.requires.some;
+  lines = c.requires.lines;
+  most = c.requires.most;
+}
