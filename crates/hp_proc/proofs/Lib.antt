@@ -1,4 +1,22 @@
 mod LawLemmas
+mod Tying
+mod Spoken
+mod GivenSteps
+mod Handed
+mod Telling
+mod Carrying
+mod Posted
+mod Served
+mod StepFalls
+mod Scaled
+mod Weighs
+mod Noting
+mod Steps
+mod MemberLemmas
 mod Worked
 mod WorkedEnds
 mod WorkedServing
+pub mod SoloSeats
+pub mod SoloTies
+pub mod SoloWeights
+mod SoloTurns

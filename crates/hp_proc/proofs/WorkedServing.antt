@@ -1,5 +1,5 @@
 -- Worked values: whom SYNCs go to, which messages are asks, and what participant 0's rounds and held asks weigh.
-use Rattle.std.proofs.Common.{◌≡◌, refl, ℕ, ◌+◌, true, false, List, [], ◌∷◌, Option, Some, None, replicate, arith}
+use Rattle.std.proofs.Common.{◌≡◌, refl, ◌+◌, true, false, [], ◌∷◌, Some, None, arith}
 use Rattle.hp_core.specs.Core.{Core}
 use Rattle.hp_core.specs.declared.asked.Asked.TheVariants.{Shrink}
 use Rattle.hp_core.specs.declared.phase.Phase.{Phase}
@@ -10,7 +10,7 @@ use Rattle.hp_core.specs.declared.phase.RoundKind.TheVariants as kind
 use Rattle.hp_frame.specs.declared.message.Body.TheVariants.{Alloc, Free}
 use Rattle.hp_proc.specs.Coordinating.{IsNoAsk, undeclared_asker, undeclared_giver}
 use Rattle.hp_proc.specs.Falling.{own_weight}
-use Rattle.hp_proc.specs.Posting.{is_asker, is_told, sent_once_more, syncs_after}
+use Rattle.hp_proc.specs.Posting.{is_asker, is_told, syncs_after}
 
 -- of three participants the members 1 and 2 are told, and not participant 0, nor a member that the hall doesn't have
 tells_first : is_told 3 14 1 ≡ true

@@ -1,11 +1,10 @@
 -- What participant 0 does when it serves: the rule "Coordinating" of docs/PARTICIPANTS.md.
-use Rattle.std.specs.Prelude.{◌≡◌, ◌≢◌, ℕ, ◌+◌, ◌≤◌, ◌<◌, ◌^◌, ◌-◌, ◌⊎◌, ⊤, Bool, true, false, ◌&&◌, ◌||◌, ◌==◌, List, [], ◌∷◌, ◌++◌, length, Option, Some, None, slice_index}
-use Rattle.hp_base.specs.Mapping.{is_done}
+use Rattle.std.specs.Prelude.{◌≡◌, ◌≢◌, ℕ, ◌+◌, ◌≤◌, ◌<◌, ⊤, Bool, true, false, ◌==◌, List, [], ◌∷◌, ◌++◌, length, Option, Some, None, slice_index}
 use Rattle.hp_base.specs.Requests.{raised_align, refusal_of, rounded_size}
 use Rattle.hp_base.specs.declared.caught.Caught.{Caught}
 use Rattle.hp_base.specs.declared.request.BadRequest.{BadRequest}
 use Rattle.hp_base.specs.declared.request.Request.{Request}
-use Rattle.hp_core.specs.Core.{Core, Stepped, due_of, holds_ask}
+use Rattle.hp_core.specs.Core.{Core, Stepped, holds_ask}
 use Rattle.hp_core.specs.Following.{failure_of}
 use Rattle.hp_core.specs.Stepping.{stepped}
 use Rattle.hp_core.specs.declared.event.CoreEvent.{CoreEvent}

@@ -80,12 +80,17 @@ used_up (Shrink from number) answer = 0
 used_up (SelfMapped caught now) answer = maps_weight answer
 used_up (Poll now acks) answer = 1
 
+-- all of it together falls, and so much is used up besides
+abbrev pub UsesUp : ℕ → ℕ → Core → Core → Out → Type 0
+UsesUp brings uses old new answer =
+    most_weight new.phase + held_sum new.held + out_weight answer + uses ≤ least_weight old.phase + held_sum old.held + brings
+
 -- what is under way stays, and the held asks bring what goes out; or all of it together falls, and so much is used up besides
 abbrev pub FallsBy : ℕ → ℕ → Core → Core → Out → Type 0
 FallsBy brings uses old new answer =
     ((new.phase ≡ old.phase) × (new.deadline ≡ old.deadline)
     × (held_sum new.held + out_weight answer + maps_weight answer ≤ held_sum old.held + brings))
-    ⊎ (most_weight new.phase + held_sum new.held + out_weight answer + uses ≤ least_weight old.phase + held_sum old.held + brings)
+    ⊎ UsesUp brings uses old new answer
 
 -- what a step makes fall
 abbrev pub Falls : CoreEvent → Core → Core → Out → Type 0

@@ -18,3 +18,5 @@ pub mod Serving
 pub mod Posting
 pub mod Falling
 pub mod Coordinating
+pub mod Solo
+pub mod SoloCourse

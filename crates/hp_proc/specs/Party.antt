@@ -1,5 +1,6 @@
 -- What contracts see of a participant.
-use Rattle.std.specs.Prelude.{ℕ, ◌+◌, ◌-◌, ◌^◌, ◌==◌, min, Bool, false, List, replicate, Option, Some, None, if◌then◌else◌}
+use Rattle.std.specs.Prelude.{◌≡◌, ℕ, ◌+◌, ◌-◌, ◌^◌, ◌<◌, ◌==◌, min, Bool, false, List, replicate, Option, Some, None, is_some, if◌then◌else◌}
+use Rattle.hp_base.specs.declared.limits.TheConstants.{MAX_PARTICIPANTS}
 use Rattle.hp_base.specs.declared.plan_entry.PlanEntry.{PlanEntry}
 use Rattle.hp_core.specs.Core.{Core, due_of}
 use Rattle.hp_core.specs.declared.phase.Phase.TheVariants.{Idle}
@@ -29,6 +30,17 @@ abbrev pub due_in : Option Core → Option ℕ
 due_in None = None
 due_in (Some core) = due_of core.deadline core.phase
 
+-- a participant with this coordinator and this table
+abbrev pub with_table : Core → MapsView → Bool → Party → Party
+with_table core maps joined party = record party { core = Some core; maps = maps; joined = joined }
+
+-- what serving leaves of a participant as it was
+pub record IsSameParty (old new : Party) : Type 0 where
+  pub me : new.me ≡ old.me
+  pub socket : new.socket ≡ old.socket
+  pub plan : new.plan ≡ old.plan
+  pub deadline : new.deadline ≡ old.deadline
+
 -- one more, up to the greatest number
 abbrev pub one_more : ℕ → ℕ
 one_more count = min (count + 1) (2 ^ 64 - 1)
@@ -37,6 +49,11 @@ one_more count = min (count + 1) (2 ^ 64 - 1)
 abbrev pub first_core : ℕ → ℕ → Option Core
 first_core me deadline =
     if me == 0 then Some (record { deadline = deadline; phase = Idle; held = replicate 16 None }) else None
+
+-- a participant has one of the numbers 0 to 15, and participant 0 alone a coordinator
+pub record IsParticipant (me : ℕ) (core : Option Core) : Type 0 where
+  pub declared : me < MAX_PARTICIPANTS
+  pub coordinator : is_some core ≡ (me == 0)
 
 -- a participant that has sent and been asked nothing
 abbrev pub opening_party : ℕ → ℕ → Bool → MapsView → List PlanEntry → ℕ → Party

@@ -1,5 +1,5 @@
 -- What a participant does when it serves: the rule "Serving" of docs/PARTICIPANTS.md.
-use Rattle.std.specs.Prelude.{◌≡◌, ℕ, ◌<◌, ◌^◌, Bool, true, false, ◌||◌, ◌&&◌, ◌==◌, List, [], ◌∷◌, length, Option, Some, None}
+use Rattle.std.specs.Prelude.{◌≡◌, ◌<◌, ◌^◌, Bool, true, false, ◌||◌, ◌&&◌, ◌==◌, List, [], ◌∷◌, length, Option, Some, None}
 use Rattle.hp_base.specs.Mapping.{is_done}
 use Rattle.hp_base.specs.Plans.{action_of}
 use Rattle.hp_base.specs.declared.caught.Caught.{Caught}
@@ -8,7 +8,7 @@ use Rattle.hp_base.specs.declared.plan_entry.MsgKind.TheVariants as message
 use Rattle.hp_core.specs.Following.{after_catching, reply_of}
 use Rattle.hp_frame.specs.declared.frame.Frame.{Frame}
 use Rattle.hp_frame.specs.declared.message.Body.{Body}
-use Rattle.hp_frame.specs.declared.message.Body.TheVariants.{Alloc, Free, Sync, Answer}
+use Rattle.hp_frame.specs.declared.message.Body.TheVariants.{Sync, Answer}
 use Rattle.hp_hall.specs.Mail.{MailStep, Fetches, Gives, Posts, Takes}
 use Rattle.hp_hall.specs.declared.kept.Kept.TheVariants.{Segments}
 use Rattle.hp_hall.specs.declared.posted.Posted.{Posted}
@@ -62,8 +62,9 @@ pub data IsFollowed (party after : Party) (taken : SegsView) (steps : List MailS
   -- it is not in the roster
   is_out : is_member taken.roster party.me ≡ false → steps ≡ gives_segments taken ∷ [] → after ≡ party → goes ≡ true
       → IsFollowed party after taken steps goes
-  -- its mapper has made too many calls
-  is_worn : IsWorn party.maps → steps ≡ gives_segments taken ∷ [] → after ≡ party → goes ≡ false → IsFollowed party after taken steps goes
+  -- it is, and its mapper has made too many calls
+  is_worn : is_member taken.roster party.me ≡ true → IsWorn party.maps → steps ≡ gives_segments taken ∷ [] → after ≡ party → goes ≡ false
+      → IsFollowed party after taken steps goes
 
 -- a RESULT to the participant's last ask came
 abbrev pub is_answer_to : Party → Body → Bool

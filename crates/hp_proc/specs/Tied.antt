@@ -1,6 +1,5 @@
 -- What ties a participant's table to what a hall knows of it: the rule "Tables" of docs/PARTICIPANTS.md.
-use Rattle.std.specs.Prelude.{◌≡◌, ℕ, ◌≤◌, Bool, true, false, ◌||◌, List, [], length, if◌then◌else◌}
-use Rattle.hp_base.specs.Mapping.{is_done}
+use Rattle.std.specs.Prelude.{◌≡◌, ℕ, ◌≤◌, Bool, List, [], length, if◌then◌else◌}
 use Rattle.hp_base.specs.declared.caught.Caught.{Caught}
 use Rattle.hp_base.specs.declared.caught.Caught.TheVariants.{Done, Refused, Elsewhere}
 use Rattle.hp_base.specs.declared.limits.TheConstants.{MAX_SEGMENTS}
@@ -8,7 +7,6 @@ use Rattle.hp_hall.specs.Own.{Own, after_ack, after_partial}
 use Rattle.hp_log.specs.declared.log_record.LogRecord.{LogRecord}
 use Rattle.hp_maps.specs.Catching.{Lags}
 use Rattle.hp_maps.specs.MapsView.{MapsView, chunk_rows, table_in}
-use Rattle.hp_proc.specs.Party.{Party}
 
 -- a table has taken in a number of records, and lags behind the log by no record further on than was unmapped;
 -- it has no chunk's rows, and room for the slots of all lists

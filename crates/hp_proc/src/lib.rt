@@ -1,11 +1,23 @@
-//! What participants do: their lines, how they serve, and what a run of a workload leaves. So far both are definitions, and a
-//! participant can be made.
+//! What participants do: how they serve, in any hall and in one in which they take turns in one thread. What their lines do and
+//! what a run of a workload leaves are definitions so far.
 #![tactic(auto)]
 
+mod asking;
+mod calls;
+mod catching;
+mod following;
+mod framing;
+mod handing;
 mod laws;
+mod mapping;
 mod participant;
+mod polling;
+mod posting;
 mod sent;
+mod server;
+mod solo_hall;
 
 pub use laws::{answer_law, leading_law, numbering_law};
 pub use participant::Participant;
 pub use sent::Sent;
+pub use solo_hall::SoloHall;

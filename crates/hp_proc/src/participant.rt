@@ -8,6 +8,12 @@ use hp_core::Coordinator;
 use hp_maps::{LocalMaps, Planned};
 use std::marker::Model;
 
+mod carrying;
+mod heeding;
+mod member;
+mod resting;
+mod serving;
+
 /// One process: it has a table, and participant 0 also the coordinator of growths. It does the lines of the workload that begin
 /// with its number, and serves what others send it. After a primary or a secondary process of Multi-process Support.
 #[derive(Drop)]
@@ -25,9 +31,7 @@ pub struct Participant<'p, M: Mapper> {
 }
 
 impl<'p, M: Mapper> Model for Participant<'p, M> {
-    ghost use Rattle.std.specs.Prelude.{◌<◌};
-    ghost use Rattle.hp_base.specs.declared.limits.TheConstants.{MAX_PARTICIPANTS};
-    ghost use Rattle.hp_proc.specs.Party.{Party};
+    ghost use Rattle.hp_proc.specs.Party.{IsParticipant, Party};
 
     ghost Value = { Party };
 
@@ -44,7 +48,7 @@ impl<'p, M: Mapper> Model for Participant<'p, M> {
       sent = a.sent;
     } };
 
-    ghost invariant = { λ a. a.me < MAX_PARTICIPANTS };
+    ghost invariant = { λ a. IsParticipant a.me a.coordinator };
 }
 
 // The coordinator of a participant: participant 0 has one.
@@ -94,6 +98,13 @@ impl<'p, M: Mapper> Participant<'p, M> {
                 answers: [0; 16],
             },
         }
+    }
+
+    /// Its number. Own.
+    pub fn number(&self) -> u8
+        ensures { result ≡ self.now.me }
+    {
+        self.me
     }
 
     /// When the deadline of its coordinator's round passes. It is `None` where no round is under way, and for a participant

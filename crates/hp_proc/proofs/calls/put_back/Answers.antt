@@ -1,0 +1,17 @@
+-- The value is as it was taken.
+use Rattle.hp_hall.specs.Giving.{Knows}
+use Rattle.hp_proc.proofs.Noting.{as_it_was, gives_in_place, noted_gives}
+use Rattle.hp_proc.proofs.calls.put_back.Goals as goal
+
+pub give_segments-requires-clause-gives : goal.give_segments-requires-clause-gives
+give_segments-requires-clause-gives g c =
+    let hall = c.args.hall.now in
+    let me = c.args.me in
+    let knows : Knows = record {
+      who = me;
+      taken = g.H.Hall.taken hall;
+      made = g.H.Hall.made hall me;
+      number = (g.H.Hall.own hall me).number;
+      noted = g.H.Hall.noted hall me;
+    } in
+    gives_in_place knows c.args.segs c.args.segs c.requires.taken (noted_gives knows c.args.segs c.args.segs (as_it_was c.args.segs))

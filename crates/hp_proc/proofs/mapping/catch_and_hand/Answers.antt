@@ -1,0 +1,51 @@
+-- The table is tied to the log as it was taken, and so to the log that is given back.
+use Rattle.std.proofs.Common.{◌∙◌, [], refl, sym, subst, arith}
+use Rattle.hp_proc.specs.Tied.{IsTied}
+use Rattle.hp_proc.proofs.Handed.{mapped_number, tied_still}
+use Rattle.hp_proc.proofs.mapping.catch_and_hand.Goals as goal
+
+pub hand-requires-clause-known : goal.hand-requires-clause-known
+hand-requires-clause-known g c = λ none.
+    let number =
+    mapped_number c.args.segs.log (g.H.Hall.own c.take_in-caught.new.hall 0) c.args.joined.now c.args.maps.now c.take_in-caught.new.maps
+    c.take_in-caught.result c.take_in-caught.ensures.caught c.take_in-caught.ensures.tied none
+    in
+    let noted = c.load_ack-number.ensures.noted in
+    let mine = c.load_ack-number.ensures.mine refl in
+    let later = g.met.H.Hall.goes_on_noted _ _ 0 0 c.now-now.ensures.goes_on in
+    omega (arith, number, noted, mine, later)
+
+pub returns-clause-handed : goal.returns-clause-handed
+returns-clause-handed g c =
+    let handed = c.hand.ensures.handed in (
+      handed.0,
+      g.met.H.Hall.did_then _ _ _ 0 [] _ (c.take_in-caught.ensures.did 0)
+          (g.met.H.Hall.did_then _ _ _ 0 [] _ (c.load_ack-number.ensures.did 0)
+          (g.met.H.Hall.did_then _ _ _ 0 [] _ (c.now-now.ensures.did 0) handed.1)),
+      c.take_in-caught.result,
+      c.now-now.result,
+      c.take_in-caught.ensures.caught,
+      c.has_table-has.ensures,
+      handed.2,
+    )
+
+pub returns-clause-tied : goal.returns-clause-tied
+returns-clause-tied g c =
+    let log = c.hand.ensures.log in
+    let own = c.hand.ensures.own 0 ∙ c.now-now.ensures.own 0 ∙ c.load_ack-number.ensures.own 0 in
+    tied_still c.args.segs.log (g.H.Hall.seen c.hand.new.hall 0) log.0 (g.H.Hall.own c.take_in-caught.new.hall 0) (g.H.Hall.own c.hand.new.hall 0)
+    c.has_table-has.result c.take_in-caught.new.maps log.1 own
+    (subst (λ joined. IsTied c.args.segs.log (g.H.Hall.own c.take_in-caught.new.hall 0) joined c.take_in-caught.new.maps)
+    (sym c.has_table-has.ensures) c.take_in-caught.ensures.tied)
+
+pub returns-clause-did_others : goal.returns-clause-did_others
+returns-clause-did_others g c = λ who apart.
+    g.met.H.Hall.did_then _ _ _ who [] [] (c.take_in-caught.ensures.did who)
+    (g.met.H.Hall.did_then _ _ _ who [] [] (c.load_ack-number.ensures.did who)
+    (g.met.H.Hall.did_then _ _ _ who [] [] (c.now-now.ensures.did who) (c.hand.ensures.did_others who apart)))
+
+pub returns-clause-goes_on : goal.returns-clause-goes_on
+returns-clause-goes_on g c =
+    g.met.H.Hall.goes_on_then _ _ _ c.take_in-caught.ensures.goes_on
+    (g.met.H.Hall.goes_on_then _ _ _ c.load_ack-number.ensures.goes_on
+    (g.met.H.Hall.goes_on_then _ _ _ c.now-now.ensures.goes_on c.hand.ensures.goes_on))

@@ -1,0 +1,31 @@
+-- It has caught up with its own coordinator and table.
+use Rattle.std.proofs.Common.{◌≡◌, ◌∙◌, subst}
+use Rattle.std.specs.Prelude.{Some}
+use Rattle.std.specs.Result.{result_ok}
+use Rattle.hp_proc.specs.Coordinating.{IsMapped}
+use Rattle.hp_proc.specs.Party.{Party, with_table}
+use Rattle.hp_proc.proofs.Posted.{table_back}
+use Rattle.hp_proc.proofs.participant.Participant.map_again.Goals as goal
+
+pub returns-clause-mapped : goal.returns-clause-mapped
+returns-clause-mapped g c =
+    let inside : Party = record {
+      me = c.self.inside.me;
+      socket = c.self.inside.socket;
+      joined = c.self.inside.joined;
+      maps = c.self.inside.maps;
+      plan = c.self.inside.plan.now;
+      deadline = c.self.inside.deadline;
+      core = c.self.inside.coordinator;
+      asked = c.self.inside.asked;
+      answered = c.self.inside.answered;
+      sent = c.self.inside.sent;
+    } in
+    let mapped = c.map_self.ensures.mapped in
+    let is : c.self.inside.coordinator ≡ Some c.in-Some.core = cc in (
+      mapped.0,
+      mapped.1,
+      subst
+          (λ (party : Party). IsMapped party (with_table c.map_self.new.core c.map_self.new.maps c.map_self.new.joined inside) mapped.0
+          (result_ok c.map_self.result)) (table_back inside c.in-Some.core is ∙ c.self.view_is) (mapped.2 inside),
+    )

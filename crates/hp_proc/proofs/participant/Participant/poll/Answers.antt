@@ -1,0 +1,50 @@
+-- The numbers are loaded, and handed over.
+use Rattle.std.proofs.Common.{[], subst, arith}
+use Rattle.std.specs.Prelude.{is_ok}
+use Rattle.hp_core.specs.declared.event.CoreEvent.TheVariants.{Poll}
+use Rattle.hp_proc.specs.Coordinating.{IsHandled}
+use Rattle.hp_proc.specs.Falling.{own_weight}
+use Rattle.hp_proc.proofs.Carrying.{due_before}
+use Rattle.hp_proc.proofs.Handed.{tied_still}
+use Rattle.hp_proc.proofs.Scaled.{own_weight_still}
+use Rattle.hp_proc.proofs.participant.Participant.poll.Goals as goal
+
+pub handle-requires-clause-tied : goal.handle-requires-clause-tied
+handle-requires-clause-tied g c =
+    let seen = c.load_acks-acks.ensures.seen in
+    tied_still (g.H.Hall.seen c.args.hall.now 0) (g.H.Hall.seen c.load_acks-acks.new.hall 0) seen.0 (g.H.Hall.own c.args.hall.now 0)
+    (g.H.Hall.own c.load_acks-acks.new.hall 0) c.args.self.now.joined c.args.self.now.maps seen.1 (c.load_acks-acks.ensures.own 0) c.requires.tied
+
+pub returns-clause-polled : goal.returns-clause-polled
+returns-clause-polled g c =
+    let handled = c.handle.ensures.handled in (
+      c.load_acks-acks.result,
+      handled.0,
+      g.met.H.Hall.did_then _ _ _ 0 [] _ (c.load_acks-acks.ensures.did 0) handled.1,
+      subst (λ n. IsHandled n (Poll c.args.now c.load_acks-acks.result) c.args.self.now c.handle.new.self handled.0 (is_ok c.handle.result))
+          c.load_acks-acks.ensures.count handled.2,
+    )
+
+pub returns-clause-weight : goal.returns-clause-weight
+returns-clause-weight g c =
+    let own =
+    own_weight_still g.H.Hall.scale g.H.Hall.pending (g.H.Hall.clock c.args.hall.now) (g.H.Hall.clock c.load_acks-acks.new.hall) c.args.self.now.core
+    c.load_acks-acks.ensures.clock
+    in
+    let lighter = c.load_acks-acks.ensures.weight in
+    let falls = c.handle.ensures.weight in
+    omega (arith, own, lighter, falls)
+
+pub returns-clause-due : goal.returns-clause-due
+returns-clause-due g c = λ due.
+    due_before c.handle.result g.H.Hall.scale g.H.Hall.pending (g.H.Hall.clock c.args.hall.now) (g.H.Hall.clock c.load_acks-acks.new.hall)
+    c.args.self.now.core (g.H.Hall.weight c.args.hall.now) (g.H.Hall.weight c.load_acks-acks.new.hall) (g.H.Hall.weight c.handle.new.hall)
+    (own_weight g.H.Hall.scale (g.H.Hall.pending (g.H.Hall.clock c.handle.new.hall)) c.handle.new.self.core) c.load_acks-acks.ensures.clock
+    c.load_acks-acks.ensures.weight (c.handle.ensures.due (due c.load_acks-acks.result))
+
+pub returns-clause-did_others : goal.returns-clause-did_others
+returns-clause-did_others g c = λ who apart.
+    g.met.H.Hall.did_then _ _ _ who [] [] (c.load_acks-acks.ensures.did who) (c.handle.ensures.did_others who apart)
+
+pub returns-clause-goes_on : goal.returns-clause-goes_on
+returns-clause-goes_on g c = g.met.H.Hall.goes_on_then _ _ _ c.load_acks-acks.ensures.goes_on c.handle.ensures.goes_on

@@ -1,0 +1,38 @@
+-- A poll that is due is made.
+use Rattle.std.proofs.Common.{◌*◌, refl, ap, arith}
+use Rattle.std.specs.Prelude.{ℕ, true, false}
+use Rattle.std.specs.Result.{result_ok}
+use Rattle.std.proofs.lemmas.Result.{err_from_is_err_and}
+use Rattle.hp_proc.specs.Falling.{served_of}
+use Rattle.hp_proc.specs.Coordinating.{IsRested}
+use Rattle.hp_proc.proofs.Carrying.{done_differs, stop_differs}
+use Rattle.hp_proc.proofs.participant.Participant.poll_due.Goals as goal
+
+pub returns-clause-rested : goal.returns-clause-rested
+returns-clause-rested g c =
+    let polled = c.in_ok-poll.ensures.polled in
+    (polled.1, polled.2, IsRested.polls c.args.now polled.0 true (c.requires.due polled.0) polled.3 refl)
+
+pub returns-clause-weight : goal.returns-clause-weight
+returns-clause-weight g c = c.in_ok-poll.ensures.due c.requires.due
+
+pub returns-clause-moves : goal.returns-clause-moves
+returns-clause-moves g c = done_differs _ refl
+
+pub returns-in_err-poll-clause-rested : goal.returns-in_err-poll-clause-rested
+returns-in_err-poll-clause-rested g c =
+    let stopped = err_from_is_err_and c.from_residual.result c.from_residual.ensures.1 in
+    let polled = c.in_err-poll.ensures.polled in
+    (polled.1, polled.2, IsRested.polls c.args.now polled.0 false (c.requires.due polled.0) polled.3 (ap result_ok stopped.1))
+
+pub returns-in_err-poll-clause-weight : goal.returns-in_err-poll-clause-weight
+returns-in_err-poll-clause-weight g c =
+    let falls = c.in_err-poll.ensures.weight in
+    let stopped = err_from_is_err_and c.from_residual.result c.from_residual.ensures.1 in
+    let served = ap (λ (n : ℕ). g.H.Hall.scale * n) (ap served_of stopped.1) in
+    omega (arith, falls, served)
+
+pub returns-in_err-poll-clause-moves : goal.returns-in_err-poll-clause-moves
+returns-in_err-poll-clause-moves g c =
+    let stopped = err_from_is_err_and c.from_residual.result c.from_residual.ensures.1 in
+    stop_differs c.from_residual.result (ap result_ok stopped.1)

@@ -1,0 +1,42 @@
+-- The clock is read, and a poll is made.
+use Rattle.std.proofs.Common.{[], subst, arith}
+use Rattle.std.specs.Prelude.{is_ok}
+use Rattle.hp_core.specs.declared.event.CoreEvent.TheVariants.{Poll}
+use Rattle.hp_proc.specs.Coordinating.{IsHandled}
+use Rattle.hp_proc.proofs.Handed.{tied_still}
+use Rattle.hp_proc.proofs.Scaled.{own_weight_still}
+use Rattle.hp_proc.proofs.participant.Participant.poll_now.Goals as goal
+
+pub poll-requires-clause-tied : goal.poll-requires-clause-tied
+poll-requires-clause-tied g c =
+    let seen = g.met.H.Hall.goes_on_seen _ _ 0 c.now-now.ensures.goes_on in
+    tied_still (g.H.Hall.seen c.args.hall.now 0) (g.H.Hall.seen c.now-now.new.self 0) seen.0 (g.H.Hall.own c.args.hall.now 0)
+    (g.H.Hall.own c.now-now.new.self 0) c.args.self.now.joined c.args.self.now.maps seen.1 (c.now-now.ensures.own 0) c.requires.tied
+
+pub returns-clause-polled : goal.returns-clause-polled
+returns-clause-polled g c =
+    let polled = c.poll.ensures.polled in
+    let count = g.met.H.Hall.goes_on_count _ _ c.now-now.ensures.goes_on in (
+      c.now-now.result,
+      polled.0,
+      polled.1,
+      g.met.H.Hall.did_then _ _ _ 0 [] _ (c.now-now.ensures.did 0) polled.2,
+      subst (λ n. IsHandled n (Poll c.now-now.result polled.0) c.args.self.now c.poll.new.self polled.1 (is_ok c.poll.result)) count polled.3,
+    )
+
+pub returns-clause-weight : goal.returns-clause-weight
+returns-clause-weight g c =
+    let own =
+    own_weight_still g.H.Hall.scale g.H.Hall.pending (g.H.Hall.clock c.args.hall.now) (g.H.Hall.clock c.now-now.new.self) c.args.self.now.core
+    c.now-now.ensures.clock
+    in
+    let lighter = c.now-now.ensures.weight in
+    let falls = c.poll.ensures.weight in
+    omega (arith, own, lighter, falls)
+
+pub returns-clause-did_others : goal.returns-clause-did_others
+returns-clause-did_others g c = λ who apart.
+    g.met.H.Hall.did_then _ _ _ who [] [] (c.now-now.ensures.did who) (c.poll.ensures.did_others who apart)
+
+pub returns-clause-goes_on : goal.returns-clause-goes_on
+returns-clause-goes_on g c = g.met.H.Hall.goes_on_then _ _ _ c.now-now.ensures.goes_on c.poll.ensures.goes_on

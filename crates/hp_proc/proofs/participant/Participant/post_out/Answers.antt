@@ -1,0 +1,40 @@
+-- SYNCs go to members, and a RESULT to its asker.
+use Rattle.std.proofs.Common.{refl, sym, subst}
+use Rattle.hp_core.specs.declared.out.Out.{Out}
+use Rattle.hp_proc.specs.Party.{Party}
+use Rattle.hp_proc.specs.Posting.{IsPosted}
+use Rattle.hp_proc.proofs.Posted.{posted_syncs, with_syncs}
+use Rattle.hp_proc.proofs.participant.Participant.post_out.Goals as goal
+
+pub returns-in-Sync-clause-posted : goal.returns-in-Sync-clause-posted
+returns-in-Sync-clause-posted g c =
+    let inside : Party = record {
+      me = c.self.inside.me;
+      socket = c.self.inside.socket;
+      joined = c.self.inside.joined;
+      maps = c.self.inside.maps;
+      plan = c.self.inside.plan.now;
+      deadline = c.self.inside.deadline;
+      core = c.self.inside.coordinator;
+      asked = c.self.inside.asked;
+      answered = c.self.inside.answered;
+      sent = c.self.inside.sent;
+    } in
+    let told = c.tell_all.ensures.told in (
+      told.1,
+      told.2,
+      subst
+          (λ (party : Party). IsPosted (g.H.Hall.count c.args.hall.now) party (with_syncs c.tell_all.new.syncs inside) c.args.answer told.1)
+          c.self.view_is
+          (posted_syncs (g.H.Hall.count c.args.hall.now) inside (with_syncs c.tell_all.new.syncs inside) c.args.answer c.in-Sync.generation c.in-Sync.round
+          c.in-Sync.members told.0 told.1 c.tell_all.new.syncs c.in-Sync.is told.3 told.4 c.tell_all.ensures.counted refl),
+    )
+
+pub returns-in-Answer-clause-posted : goal.returns-in-Answer-clause-posted
+returns-in-Answer-clause-posted g c =
+    let posted = c.post_answer.ensures.posted in (
+      posted.0,
+      posted.1,
+      subst (λ (answer : Out). IsPosted (g.H.Hall.count c.args.hall.now) c.args.self.now c.post_answer.new.self answer posted.0)
+          (sym c.in-Answer.is) posted.2,
+    )

@@ -1,0 +1,16 @@
+-- Where a round is under way a poll is made.
+use Rattle.std.proofs.Common.{[], refl, sym}
+use Rattle.hp_proc.specs.Coordinating.{IsAnswered}
+use Rattle.hp_proc.proofs.participant.Participant.take_reply.Goals as goal
+
+pub returns-in-Some-clause-answered : goal.returns-in-Some-clause-answered
+returns-in-Some-clause-answered g c =
+    let polled = c.poll_now.ensures.polled in (
+      polled.2,
+      polled.3,
+      IsAnswered.polls _ polled.0 polled.1 c.requires.reply (sym c.in-Some.ensures) polled.4,
+    )
+
+pub returns-in-None-clause-answered : goal.returns-in-None-clause-answered
+returns-in-None-clause-answered g c =
+    ([], g.met.H.Hall.did_same _ 0, IsAnswered.rests c.requires.reply (sym c.in-None.ensures) refl refl refl)

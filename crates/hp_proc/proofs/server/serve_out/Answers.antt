@@ -1,0 +1,52 @@
+use Rattle.std.proofs.Common.{◌≡◌, ℕ, Bool, true, false, Result, Ok, Err, refl, sym, subst, arith}
+use Rattle.hp_base.specs.declared.limits.TheConstants.{MAX_HEAPS}
+use Rattle.hp_hall.specs.HallView.{own_at, seen_in}
+use Rattle.hp_proc.specs.Falling.{served_of}
+use Rattle.hp_proc.specs.Tied.{IsTied}
+use Rattle.hp_proc.proofs.SoloTies.{party_served_same, party_served_then}
+use Rattle.hp_proc.proofs.server.serve_out.Goals as goal
+
+-- who goes on has done something
+served_more : {E : Type 0} (result : Result Bool E) (more : Bool) → result ≡ Ok more → more ≡ true → served_of result ≡ 1
+served_more (Ok true) more is goes = refl
+served_more (Ok false) more is goes = cc
+served_more (Err refusal) more is goes = cc
+
+pub serving-init : goal.serving-init
+serving-init g c = record {
+  served = party_served_same c.args.hall.now c.args.participant.now c.requires.tied;
+  weight = omega arith;
+}
+
+pub serve_once-requires : goal.serve_once-requires
+serve_once-requires g c =
+    let is = c.serving.invariant.served in
+    let hall = c.serving.hall in
+    let after = c.serving.participant in
+    record {
+      me = omega (arith, is.same.me, is.serving.course.count, c.requires.me);
+      there = is.serving.home MAX_HEAPS c.requires.there;
+      tied = subst (λ (me : ℕ). IsTied (seen_in hall) (own_at hall me) after.joined after.maps) (sym is.same.me) is.tied;
+    }
+
+pub returns-in_err-more-clause-served : goal.returns-in_err-more-clause-served
+returns-in_err-more-clause-served g c =
+    party_served_then c.args.hall.now c.serving.hall c.serve_once.new.hall c.args.participant.now c.serving.participant c.serve_once.new.participant
+    c.serving.invariant.served c.serve_once.ensures.served
+
+pub returns-then-not-more-clause-served : goal.returns-then-not-more-clause-served
+returns-then-not-more-clause-served g c =
+    party_served_then c.args.hall.now c.serving.hall c.serve_once.new.hall c.args.participant.now c.serving.participant c.serve_once.new.participant
+    c.serving.invariant.served c.serve_once.ensures.served
+
+pub serving-preserved : goal.serving-preserved
+serving-preserved g c = record {
+  served = party_served_then c.args.hall.now c.serving.hall c.serve_once.new.hall c.args.participant.now c.serving.participant c.serve_once.new.participant
+      c.serving.invariant.served c.serve_once.ensures.served;
+  weight = omega (
+    arith,
+    c.serving.invariant.weight,
+    c.serve_once.ensures.weight,
+    served_more c.serve_once.result c.in_ok-more.more c.in_ok-more.was c.if-not-more.false,
+  );
+}

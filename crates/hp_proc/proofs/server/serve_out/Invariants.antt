@@ -1,0 +1,14 @@
+use Rattle.std.proofs.Common.{◌+◌, ◌≤◌, Some}
+use Rattle.hp_hall.specs.Weights.{boxes_weight, pending_at}
+use Rattle.hp_proc.specs.Solo.{IsPartyServed, if_moved, party_weight}
+use Rattle.hp_proc.proofs.server.serve_out.Given as goal
+
+abbrev pub invariant-serving : goal.invariant-serving
+invariant-serving g l = record {
+  served : IsPartyServed l.initial.hall l.hall l.initial.participant l.participant;
+  weight : boxes_weight l.hall.boxes + party_weight (pending_at l.hall.clock) (Some l.participant) + if_moved l.moved
+      ≤ boxes_weight l.initial.hall.boxes + party_weight (pending_at l.initial.hall.clock) (Some l.initial.participant);
+}
+
+abbrev pub decreases-serving : goal.decreases-serving
+decreases-serving g l = boxes_weight l.hall.boxes + party_weight (pending_at l.hall.clock) (Some l.participant)

@@ -1,0 +1,105 @@
+//! Participant 0 catches up with the log for its coordinator.
+ghost use Rattle.std.specs.Prelude.{◌≡◌, ◌≢◌, ℕ, ◌^◌, ◌<◌, ◌≤◌, ◌++◌, ◌||◌, List, [], Some, None};
+ghost use Rattle.std.specs.Result.{result_ok};
+ghost use Rattle.hp_base.specs.Mapping.{is_done};
+ghost use Rattle.hp_base.specs.declared.caught.Caught.{Caught};
+ghost use Rattle.hp_base.specs.declared.limits.TheConstants.{MAX_HEAPS};
+ghost use Rattle.hp_core.specs.declared.event.CoreEvent.TheVariants.{SelfMapped};
+ghost use Rattle.hp_hall.specs.Mail.{MailStep};
+ghost use Rattle.hp_hall.specs.declared.kept.Kept.{Kept};
+ghost use Rattle.hp_log.specs.declared.log_record.LogRecord.{LogRecord};
+ghost use Rattle.hp_maps.specs.MapsView.{calls_of};
+ghost use Rattle.hp_segs.specs.Sound.{IsSound};
+ghost use Rattle.hp_proc.specs.Coordinating.{IsHanded, IsMapped};
+ghost use Rattle.hp_proc.specs.Party.{Party, with_table};
+ghost use Rattle.hp_proc.specs.Serving.{CatchesUp};
+ghost use Rattle.hp_proc.specs.Tied.{IsTied};
+
+use crate::calls::{put_back, take_segments};
+use crate::catching::{has_table, is_worn, take_in};
+use crate::handing::hand;
+use hp_base::Mapper;
+use hp_core::{Coordinator, CoreEvent, Out};
+use hp_hall::Hall;
+use hp_maps::LocalMaps;
+use hp_segs::Segs;
+use std::alloc::AllocError;
+
+// Participant 0, which has taken the segment value, catches up with its log, and tells its coordinator what became of that.
+fn catch_and_hand<H: Hall, M: Mapper>(
+    hall: &mut H,
+    core: &mut Coordinator,
+    maps: &mut LocalMaps<M>,
+    joined: &mut bool,
+    segs: Segs,
+) -> Result<Out, AllocError>
+    requires serves { H.serves hall.old 0 }
+    requires declared { 0 < H.count hall.old }
+    requires taken { H.taken hall.old MAX_HEAPS ≡ Some (Kept.Segments segs) }
+    requires sound { IsSound segs }
+    requires log { segs.log ≡ H.seen hall.old 0 }
+    requires tied { IsTied segs.log (H.own hall.old 0) joined.old maps.old }
+    requires calls { calls_of maps.old ≤ 2 ^ 63 }
+    ensures handed { (steps : List MailStep) × H.did hall.old hall.new 0 steps × (caught : Caught) × (now : ℕ)
+        × CatchesUp segs.log maps.old maps.new caught × (joined.new ≡ (joined.old || is_done caught))
+        × IsHanded (SelfMapped caught now) core.old core.new segs steps (result_ok result) }
+    ensures tied { IsTied (H.seen hall.new 0) (H.own hall.new 0) joined.new maps.new }
+    ensures own { (who : ℕ) → who ≢ 0 → H.own hall.new who ≡ H.own hall.old who }
+    ensures free { H.taken hall.new MAX_HEAPS ≡ None }
+    ensures home { H.may_take hall.new MAX_HEAPS }
+    ensures weight { H.weight hall.new ≤ H.weight hall.old }
+
+    ensures others { (number : ℕ) → number ≢ MAX_HEAPS → H.taken hall.new number ≡ H.taken hall.old number }
+    ensures home_of_others { (number : ℕ) → number ≢ MAX_HEAPS → H.may_take hall.old number → H.may_take hall.new number }
+    ensures made { (who heap : ℕ) → H.made hall.new who heap ≡ H.made hall.old who heap }
+    ensures did_others { (who : ℕ) → who ≢ 0 → H.did hall.old hall.new who [] }
+    ensures clock { H.clock hall.new ≡ H.clock hall.old }
+    ensures count { H.count hall.new ≡ H.count hall.old }
+    ensures still { H.serves hall.new 0 }
+    ensures goes_on { H.goes_on hall.old hall.new }
+{
+    let caught = take_in(hall, 0, *joined, maps, &segs);
+    let has = has_table(*joined, &caught);
+    *joined = has;
+    // Its own number is one of those that it knows of.
+    let _number = hall.load_ack(0, 0);
+    let now = hall.now(0);
+    hand(hall, core, segs, CoreEvent::SelfMapped { caught, now })
+}
+
+/// Participant 0 takes the segment value, catches up with the log as it stands, and tells its coordinator. Where its mapper has made
+/// too many calls, it gives the value back as it was. After the synchronisation of memory maps in Multi-process Support.
+pub(crate) fn map_self<H: Hall, M: Mapper>(
+    hall: &mut H,
+    core: &mut Coordinator,
+    maps: &mut LocalMaps<M>,
+    joined: &mut bool,
+) -> Result<Out, AllocError>
+    requires serves { H.serves hall.old 0 }
+    requires declared { 0 < H.count hall.old }
+    requires free { H.taken hall.old MAX_HEAPS ≡ None }
+    requires home { H.may_take hall.old MAX_HEAPS }
+    requires tied { IsTied (H.seen hall.old 0) (H.own hall.old 0) joined.old maps.old }
+    ensures mapped { (steps : List MailStep) × H.did hall.old hall.new 0 steps
+        × ((party : Party) → IsMapped (with_table core.old maps.old joined.old party) (with_table core.new maps.new joined.new party) steps
+        (result_ok result)) }
+    ensures tied { IsTied (H.seen hall.new 0) (H.own hall.new 0) joined.new maps.new }
+    ensures own { (who : ℕ) → who ≢ 0 → H.own hall.new who ≡ H.own hall.old who }
+    ensures taken { (number : ℕ) → H.taken hall.new number ≡ H.taken hall.old number }
+    ensures home { (number : ℕ) → H.may_take hall.old number → H.may_take hall.new number }
+    ensures weight { H.weight hall.new ≤ H.weight hall.old }
+
+    ensures made { (who heap : ℕ) → H.made hall.new who heap ≡ H.made hall.old who heap }
+    ensures did_others { (who : ℕ) → who ≢ 0 → H.did hall.old hall.new who [] }
+    ensures clock { H.clock hall.new ≡ H.clock hall.old }
+    ensures count { H.count hall.new ≡ H.count hall.old }
+    ensures still { H.serves hall.new 0 }
+    ensures goes_on { H.goes_on hall.old hall.new }
+{
+    let segs = take_segments(hall, 0);
+    if is_worn(maps) {
+        put_back(hall, 0, segs);
+        return Err(AllocError);
+    }
+    catch_and_hand(hall, core, maps, joined, segs)
+}
