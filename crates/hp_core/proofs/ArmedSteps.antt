@@ -25,7 +25,7 @@ none_open segs alone = subst (λ growth. IfSome growth (IsOfArmed segs.asks segs
 starts_armed : (segs : SegsView) → segs.growth ≡ None → HoldsStarted HasArmedGrowth segs
 starts_armed segs alone = record {
   stale = λ from number. none_open (after_stale from number segs) alone;
-  refused = λ ask cause. none_open (after_close ask cause (after_drop segs)) alone;
+  refused = λ ask cause armed. none_open (after_close ask cause (after_drop segs)) alone;
   opened = λ ask run armed fresh. record { its_ask = armed; above = fresh };
   freed = λ from number. none_open (after_freed from number (after_drop segs)) alone;
 }
@@ -63,7 +63,7 @@ note_armed : (segs : SegsView) (cause : Cause) (taken : Bool) → HasArmedGrowth
 note_armed segs cause true old = noting_armed segs.asks segs.armed cause segs.growth old
 note_armed segs cause false old = old
 
-noted_armed : (segs : SegsView) (failure : Option Failure) → HasArmedGrowth segs → HasArmedGrowth (noted 0 segs failure)
+pub noted_armed : (segs : SegsView) (failure : Option Failure) → HasArmedGrowth segs → HasArmedGrowth (noted 0 segs failure)
 noted_armed segs None old = old
 noted_armed segs (Some one) old =
     note_armed segs (MapFailed 0 one.call one.row.addr one.got) (is_noted segs 0 one.call one.row segs.growth) old

@@ -36,7 +36,7 @@ pub record Gives (acked : ℕ → ℕ → Type 0) (old new : SegsView) : Type 0 
       → is_member old.roster member ≡ true → acked generation member
 
 -- the one element of a list
-only_one : (one entry : AskLog) → Contains (one ∷ []) entry → one ≡ entry
+pub only_one : (one entry : AskLog) → Contains (one ∷ []) entry → one ≡ entry
 only_one one entry has = elim (Contains-push_cases [] one entry has) [
   | inl nothing ↦ absurd (omega (arith, nothing.1))
   | inr same ↦ same

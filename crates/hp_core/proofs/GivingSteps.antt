@@ -33,7 +33,7 @@ module _ (acked : ℕ → ℕ → Type 0) (segs : SegsView) where
         gives_ungranted acked segs (after_stale from number segs)
         (record { from = from; number = number; outcome = Stale (closed_number segs.asks from); at = length segs.log; ask = None })
         refl refl refl refl;
-    refused = λ ask cause.
+    refused = λ ask cause armed.
         gives_ungranted acked segs (after_close ask cause (after_drop segs))
         (record { from = ask.from; number = ask.number; outcome = Refused cause; at = length (after_drop segs).log; ask = Some ask })
         refl refl refl refl;

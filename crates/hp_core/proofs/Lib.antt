@@ -10,3 +10,4 @@ pub mod GivingSteps
 pub mod SameAsk
 pub mod StepWalk
 pub mod ArmedSteps
+pub mod AnsweredSteps

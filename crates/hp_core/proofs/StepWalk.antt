@@ -37,7 +37,7 @@ use Rattle.hp_core.proofs.SameAsk.{same_ask}
 -- it holds after each thing that may be done with an ask that is started
 pub record HoldsStarted (P : SegsView → Type 0) (segs : SegsView) : Type 0 where
   pub stale : (from number : ℕ) → P (after_stale from number segs)
-  pub refused : (ask : Ask) (cause : Cause) → P (after_close ask cause (after_drop segs))
+  pub refused : (ask : Ask) (cause : Cause) → armed_ask segs ask.from ≡ Some ask → P (after_close ask cause (after_drop segs))
   pub opened : (ask : Ask) (run : Run) → armed_ask segs ask.from ≡ Some ask → closed_number segs.asks ask.from < ask.number
       → P (after_open ask run (after_drop segs))
   pub freed : (from number : ℕ) → P (after_freed from number (after_drop segs))
@@ -82,11 +82,11 @@ module _ (P : SegsView → Type 0) where
       module _ (ask : Ask) (armed : armed_ask segs ask.from ≡ Some ask) (fresh : closed_number segs.asks ask.from < ask.number) where
         judged_holds : (run : Run) (denied : Option (List ℕ × ℕ)) → Holds (judged ask run (after_drop segs) denied)
         judged_holds run None = starts.opened ask run armed fresh
-        judged_holds run (Some denied) = starts.refused ask (cause.Denied denied.0 denied.1 (total_with ask run (after_drop segs)))
+        judged_holds run (Some denied) = starts.refused ask (cause.Denied denied.0 denied.1 (total_with ask run (after_drop segs))) armed
 
         planned_holds : (plan : Result Run PlanRefusal) → Holds (planned denial ask (after_drop segs) plan)
         planned_holds (Ok run) = judged_holds run (denial ask.socket (total_with ask run (after_drop segs)))
-        planned_holds (Err refusal) = starts.refused ask (cause_of refusal)
+        planned_holds (Err refusal) = starts.refused ask (cause_of refusal) armed
 
       fresh_holds : (one : Asked) → is_closed one segs ≡ false → Holds (started_by denial segs one)
       fresh_holds (want.Grow ask) fresh =

@@ -2,9 +2,11 @@
 use Rattle.std.specs.Prelude.{◌≡◌, ℕ, ◌≤◌, true, List, length, drop, Contains, Option, Some, None, slice_index}
 use Rattle.hp_base.specs.declared.caught.Caught.{Caught}
 use Rattle.hp_segs.specs.GrowthLaws.{HasArmedGrowth}
+use Rattle.hp_segs.specs.LaterSteps.{armed_ask}
 use Rattle.hp_segs.specs.Moved.{IsMovedBy, is_log_call}
 use Rattle.hp_segs.specs.SegsView.{SegsView, granted_by, is_member}
 use Rattle.hp_segs.specs.Sound.{IsSound}
+use Rattle.hp_segs.specs.declared.ask.Ask.{Ask}
 use Rattle.hp_segs.specs.declared.outcome.AskLog.{AskLog}
 use Rattle.hp_core.specs.Core.{Core}
 use Rattle.hp_core.specs.Following.{after_catching, failure_of}
@@ -56,3 +58,13 @@ StepsGive = (denial : ℕ → ℕ → Option (List ℕ × ℕ)) (event : CoreEve
 abbrev pub StepsLeaveArmed : Type 0
 StepsLeaveArmed = (denial : ℕ → ℕ → Option (List ℕ × ℕ)) (event : CoreEvent) (core : Core) (segs : SegsView) → HasArmedGrowth segs
     → HasArmedGrowth (stepped denial event core segs).segs
+
+-- each outcome that came to be logged beside its ask is of the ask with which its participant was armed
+abbrev pub AnswersArmed : SegsView → SegsView → Type 0
+AnswersArmed old new = (entry : AskLog) (ask : Ask) → Contains (drop (length old.asks) new.asks) entry → entry.ask ≡ Some ask
+    → armed_ask old entry.from ≡ Some ask
+
+-- so it is with those that a step logs, where the open growth is of such an ask
+abbrev pub StepsAnswerArmed : Type 0
+StepsAnswerArmed = (denial : ℕ → ℕ → Option (List ℕ × ℕ)) (event : CoreEvent) (core : Core) (segs : SegsView) → HasArmedGrowth segs
+    → AnswersArmed segs (stepped denial event core segs).segs

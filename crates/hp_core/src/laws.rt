@@ -1,5 +1,5 @@
 //! Laws of the coordinator's moves, above the definitions that its step cites.
-ghost use Rattle.hp_core.specs.Giving.{CatchesNote, StepsGive, StepsLeaveArmed};
+ghost use Rattle.hp_core.specs.Giving.{CatchesNote, StepsAnswerArmed, StepsGive, StepsLeaveArmed};
 ghost use Rattle.hp_core.specs.Laws.{AddsExactly, DenialsAreJudged, LatesAreLate, MovesAreMoved, MovesAreSteps};
 ghost use Rattle.hp_core.specs.Tied.{MovesTie, NoneIsGone, StepsTie};
 
@@ -28,9 +28,10 @@ pub fn tie_law()
 /// What others hold the giver of a segment value to. A member that has caught up, or failed to, only notes a failure. A step
 /// of the coordinator arms nobody and leaves the roster; and each member has acknowledged what it grants, by the numbers
 /// of the poll, or as participant 0, alone, that has mapped all records. The open growth stays that of the ask with which
-/// its participant is armed. Own.
+/// its participant is armed, and each outcome that a step logs beside its ask is of such an ask. Own.
 pub fn giving_law()
     ensures caught { CatchesNote }
     ensures steps { StepsGive }
     ensures armed { StepsLeaveArmed }
+    ensures answered { StepsAnswerArmed }
 {}
