@@ -13,6 +13,8 @@ mod Weighs
 mod Noting
 mod Steps
 mod MemberLemmas
+mod AskedLemmas
+mod Waits
 mod Worked
 mod WorkedEnds
 mod WorkedServing
@@ -20,3 +22,5 @@ pub mod SoloSeats
 pub mod SoloTies
 pub mod SoloWeights
 mod SoloTurns
+mod StageLemmas
+mod SoloWaits

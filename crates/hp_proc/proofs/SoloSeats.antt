@@ -1,11 +1,12 @@
 -- A hall of one thread when a participant goes away for its line, and when it comes back.
 use Rattle.std.proofs.Common.{◌≡◌, ℕ, zero, suc, ◌<◌, List, length, replicate, set, Option, Some, None, refl, sym, ap, ◌∙◌, subst, length-set}
+use Rattle.std.specs.Option.{IfSome}
 use Rattle.std.proofs.lemmas.List.{length-replicate}
 use Rattle.hp_hall.proofs.Slotted.{slice_get-set_other, slice_get-set_same}
 use Rattle.hp_hall.specs.HallView.{HallView}
 use Rattle.hp_proc.proofs.MemberLemmas.{at_each}
 use Rattle.hp_proc.specs.Party.{Party}
-use Rattle.hp_proc.specs.Solo.{IsSolo, IsTiedAt, ServerView, nobody, party_at, party_in}
+use Rattle.hp_proc.specs.Solo.{AreTied, IsSolo, IsTiedAt, ServerView, nobody, party_at, party_in}
 
 none_not_some : (o : Option Party) (party : Party) → o ≡ None → o ≡ Some party → ⊥
 none_not_some o party none some = cc
@@ -23,6 +24,12 @@ solo_away hall servers me after is below gone = record {
       (none_not_some (party_at (set servers me after) me) party (ap party_in (slice_get-set_same servers me after below) ∙ gone) found))
       (λ who apart party found. is.tied who party (sym (ap party_in (slice_get-set_other servers me who after apart)) ∙ found));
 }
+
+-- who is there is tied
+pub who_goes : (hall : HallView) (servers : List ServerView) (me : ℕ) (party : Option Party) → AreTied hall servers → party ≡ party_at servers me
+    → IfSome party (IsTiedAt hall me)
+who_goes hall servers me None tied is = tt
+who_goes hall servers me (Some party) tied is = tied me party (sym is)
 
 -- the one of a number comes back
 pub solo_back : (hall : HallView) (servers : List ServerView) (me : ℕ) (after : ServerView) (party : Party)

@@ -1,9 +1,10 @@
--- A turn of a wait in a hall of one thread: what a jump of the clock leaves, and that it uses up one.
-use Rattle.std.proofs.Common.{◌≡◌, ℕ, ◌+◌, ◌<◌, ◌≤◌, Bool, false, List, Option, Some, sym, ap, subst, arith}
+-- A turn of a wait in a hall of one thread: what a jump of the clock leaves, and that it uses up one; and who stands beside one that waits.
+use Rattle.std.proofs.Common.{◌≡◌, ℕ, ◌+◌, ◌<◌, ◌≤◌, Bool, true, false, List, length, Option, Some, None, refl, sym, ap, subst, arith}
+use Rattle.std.proofs.lemmas.Option.{slice_get_within}
 use Rattle.hp_hall.proofs.Pending.{later_from_pending}
 use Rattle.hp_hall.specs.HallView.{HallView}
 use Rattle.hp_hall.specs.Weights.{IsPending, boxes_weight, counted, pause_weight, pending_at}
-use Rattle.hp_proc.specs.Solo.{IsNextDue, IsSolo, ServerView, SoloView, servers_weight, solo_weight}
+use Rattle.hp_proc.specs.Solo.{IsNextDue, IsNotBeside, IsServerAtRest, IsSolo, ServerView, SoloView, server_at, servers_weight, solo_weight}
 use Rattle.hp_proc.proofs.SoloWeights.{jump_falls}
 
 -- the invariant of the hall after a jump of its clock
@@ -45,3 +46,19 @@ pub pause_later : (clock : ℕ) (moved : Bool) (until : Option ℕ) (deadline : 
     → IsPending 1 (pending_at clock) moved until → clock < deadline
 pause_later clock moved until deadline some pending =
     later_from_pending clock deadline (subst (λ (o : Option ℕ). IsPending 1 (pending_at clock) moved o) some pending)
+
+-- one that waits does not stand beside itself
+pub not_beside : (me : ℕ) (above : Bool) → IsNotBeside me above me
+not_beside me false below = omega (arith, below)
+not_beside me true below = omega (arith, below)
+
+rests_some : (clock : ℕ) (server : Option ServerView) → ((there : ServerView) → server ≡ Some there → IsServerAtRest clock server)
+    → IsServerAtRest clock server
+rests_some clock None rests = tt
+rests_some clock (Some there) rests = rests there refl
+
+-- nobody is to rest whom the hall does not have
+pub rests_within : (clock : ℕ) (servers : List ServerView) (who : ℕ) → (who < length servers → IsServerAtRest clock (server_at servers who))
+    → IsServerAtRest clock (server_at servers who)
+rests_within clock servers who rests =
+    rests_some clock (server_at servers who) (λ there is. rests (slice_get_within servers who there is))

@@ -18,5 +18,6 @@ pub mod Serving
 pub mod Posting
 pub mod Falling
 pub mod Coordinating
+pub mod Waiting
 pub mod Solo
 pub mod SoloCourse

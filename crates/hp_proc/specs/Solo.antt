@@ -1,6 +1,7 @@
 -- A hall in which participants take turns in one thread, as contracts see it: the rule "Turns in one thread" of docs/PARTICIPANTS.md.
 use Rattle.std.specs.Prelude.{◌≡◌, ◌≢◌, ℕ, ◌+◌, ◌<◌, ◌≤◌, ◌⊎◌, ◌^◌, ◌-◌, Bool, true, false, List, [], length, Option, Some, None, slice_get, sum_by, if◌then◌else◌, ⊤}
 use Rattle.std.specs.List.{list_any}
+use Rattle.hp_base.specs.declared.limits.TheConstants.{MAX_HEAPS}
 use Rattle.hp_hall.specs.Course.{IsCourse}
 use Rattle.hp_hall.specs.HallView.{HallView, HasDone, IsHome, made_in, own_at, seen_in, slot_at, taken_from}
 use Rattle.hp_hall.specs.Weights.{boxes_weight, pending_at}
@@ -22,6 +23,10 @@ pub record SoloView : Type 0 where
 -- a place whose participant is away
 abbrev pub nobody : ServerView
 nobody = record { party = None; stopped = false }
+
+-- a place once its participant has gone, or one has come; whether it has stopped stays
+abbrev pub with_party : Option Party → ServerView → ServerView
+with_party party server = record server { party = party }
 
 abbrev pub server_at : List ServerView → ℕ → Option ServerView
 server_at servers who = slice_get servers who
@@ -52,6 +57,13 @@ AreTied hall servers = (who : ℕ) (party : Party) → party_at servers who ≡ 
 pub record IsSolo (hall : SoloView) : Type 0 where
   pub count : length hall.servers ≡ length hall.plain.owns
   pub tied : AreTied hall.plain hall.servers
+
+-- one that does a line may wait: it is away from its place, nobody holds the segment value, and its table is tied
+pub record MayWait (hall : SoloView) (party : Party) : Type 0 where
+  pub declared : party.me < length hall.plain.owns
+  pub away : IsAway (server_at hall.servers party.me)
+  pub home : IsHome (slot_at hall.plain MAX_HEAPS)
+  pub tied : IsTied (seen_in hall.plain) (own_at hall.plain party.me) party.joined party.maps
 
 -- 1 where something moved
 abbrev pub if_moved : Bool → ℕ
@@ -125,6 +137,15 @@ IsServedAs old new (Some party) (Some after) = IsPartyServed old new party after
 -- a number does not stand between two others
 abbrev pub IsOutside : ℕ → ℕ → ℕ → Type 0
 IsOutside from to who = (who < from) ⊎ (to ≤ who)
+
+-- who stands below one that waits, or above it
+abbrev pub IsBeside : ℕ → Bool → ℕ → Type 0
+IsBeside me false who = who < me
+IsBeside me true who = me < who
+
+-- who does not
+abbrev pub IsNotBeside : ℕ → Bool → ℕ → Type 0
+IsNotBeside me above who = IsBeside me above who → ⊥
 
 -- when the deadline of a participant's round passes
 abbrev pub due_at : Option Party → Option ℕ

@@ -16,8 +16,10 @@ mod posting;
 mod sent;
 mod server;
 mod solo_hall;
+#[cfg(test)]
+mod tests;
 
-pub use laws::{answer_law, leading_law, numbering_law};
+pub use laws::{answer_law, asking_law, leading_law, numbering_law};
 pub use participant::Participant;
 pub use sent::Sent;
 pub use solo_hall::SoloHall;

@@ -13,6 +13,7 @@ mod heeding;
 mod member;
 mod resting;
 mod serving;
+mod waiting;
 
 /// One process: it has a table, and participant 0 also the coordinator of growths. It does the lines of the workload that begin
 /// with its number, and serves what others send it. After a primary or a secondary process of Multi-process Support.
@@ -105,6 +106,14 @@ impl<'p, M: Mapper> Participant<'p, M> {
         ensures { result ≡ self.now.me }
     {
         self.me
+    }
+
+    // What it has mapped.
+    #[cfg(test)]
+    pub(crate) fn maps(&self) -> &LocalMaps<Planned<'p, M>>
+        ensures { result.now ≡ self.now.maps }
+    {
+        &self.maps
     }
 
     /// When the deadline of its coordinator's round passes. It is `None` where no round is under way, and for a participant

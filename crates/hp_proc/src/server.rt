@@ -47,7 +47,7 @@ impl<'p, M: Mapper> Server<'p, M> {
         ensures served { IsServedAs hall.old hall.new self.old.party self.new.party }
         ensures weight { boxes_weight hall.new.boxes + server_weight (pending_at hall.new.clock) self.new + if_moved result
             ≤ boxes_weight hall.old.boxes + server_weight (pending_at hall.old.clock) self.old }
-        ensures rests { result ≡ false → self.new.stopped ≡ false → IsAtRest hall.new.clock self.new.party }
+        ensures rests { self.new.stopped ≡ false → IsAtRest hall.new.clock self.new.party }
         ensures stopped { self.old.stopped ≡ true → self.new.stopped ≡ true }
     {
         match serve_some(hall, &mut self.participant) {
@@ -103,7 +103,7 @@ fn serve_some<M: Mapper>(
     ensures served { IsServedAs hall.old hall.new participant.old participant.new }
     ensures weight { boxes_weight hall.new.boxes + party_weight (pending_at hall.new.clock) participant.new + served_of result
         ≤ boxes_weight hall.old.boxes + party_weight (pending_at hall.old.clock) participant.old }
-    ensures rests { result ≡ Ok false → IsAtRest hall.new.clock participant.new }
+    ensures rests { IfOk result (λ moved. IsAtRest hall.new.clock participant.new) }
 {
     match participant {
         None => Ok(false),

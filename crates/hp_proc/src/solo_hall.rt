@@ -1,11 +1,13 @@
 //! A hall in which participants take turns in one thread.
-ghost use Rattle.std.specs.Prelude.{◌≡◌, ◌≢◌, ◌<◌, ℕ, Some, IfOk, length, replicate};
-ghost use Rattle.hp_proc.specs.Solo.{IsAway, IsNextDue, IsTiedAt, has_stopped, nobody, party_at, server_at};
+ghost use Rattle.std.specs.Prelude.{◌≡◌, ◌≢◌, ◌<◌, ℕ, None, Some, IfOk, IfSome, length, option_map, replicate};
+ghost use Rattle.hp_proc.specs.Solo.{IsAway, IsNextDue, IsTiedAt, has_stopped, nobody, party_at, server_at, with_party};
 ghost use Rattle.hp_proc.specs.SoloCourse.{IsSoloCourse};
 
 mod calls;
 mod deadlines;
 mod serving;
+#[cfg(test)]
+mod tests;
 mod waiting;
 
 use crate::participant::Participant;
@@ -47,7 +49,9 @@ impl<'p, M: Mapper> SoloHall<'p, M> {
     pub fn away(&mut self, me: u8) -> Option<Participant<'p, M>>
         requires declared { me < length self.old.plain.owns }
         ensures party { result ≡ party_at self.old.servers me }
+        ensures tied { IfSome result (λ party. IsTiedAt self.new.plain me party) }
         ensures away { IsAway (server_at self.new.servers me) }
+        ensures place { server_at self.new.servers me ≡ option_map (with_party None) (server_at self.old.servers me) }
         ensures others { (who : ℕ) → who ≢ me → server_at self.new.servers who ≡ server_at self.old.servers who }
         ensures plain { self.new.plain ≡ self.old.plain }
     {
@@ -59,6 +63,8 @@ impl<'p, M: Mapper> SoloHall<'p, M> {
         requires declared { participant.me < length self.old.plain.owns }
         requires tied { IsTiedAt self.old.plain participant.me participant }
         ensures party { party_at self.new.servers participant.entry.me ≡ Some participant.entry }
+        ensures place { server_at self.new.servers participant.entry.me
+            ≡ option_map (with_party (Some participant.entry)) (server_at self.old.servers participant.entry.me) }
         ensures others { (who : ℕ) → who ≢ participant.entry.me → server_at self.new.servers who ≡ server_at self.old.servers who }
         ensures plain { self.new.plain ≡ self.old.plain }
     {

@@ -1,5 +1,5 @@
 //! Participants that serve, one after another.
-ghost use Rattle.std.specs.Prelude.{◌≡◌, ◌≢◌, ℕ, ◌+◌, ◌≤◌, ◌<◌, ◌||◌, false, length};
+ghost use Rattle.std.specs.Prelude.{◌≡◌, ◌≢◌, ℕ, ◌+◌, ◌≤◌, ◌<◌, ◌||◌, length};
 ghost use Rattle.hp_base.specs.declared.limits.TheConstants.{MAX_HEAPS};
 ghost use Rattle.hp_hall.specs.HallView.{IsHome, slot_at};
 ghost use Rattle.hp_hall.specs.Weights.{boxes_weight, pending_at};
@@ -26,7 +26,7 @@ pub fn serve_range<M: Mapper>(
     ensures count { length servers.new.items ≡ length servers.old.items }
     ensures weight { boxes_weight hall.new.boxes + servers_weight (pending_at hall.new.clock) servers.new.items + if_moved result
         ≤ boxes_weight hall.old.boxes + servers_weight (pending_at hall.old.clock) servers.old.items }
-    ensures rests { result ≡ false → (who : ℕ) → from ≤ who → who < to → IsServerAtRest hall.new.clock (server_at servers.new.items who) }
+    ensures rests { (who : ℕ) → from ≤ who → who < to → IsServerAtRest hall.new.clock (server_at servers.new.items who) }
 {
     let mut moved = false;
     for number in from..to {
@@ -53,7 +53,7 @@ fn serve_at<M: Mapper>(
     ensures weight { boxes_weight hall.new.boxes + servers_weight (pending_at hall.new.clock) servers.new.items + if_moved result
         ≤ boxes_weight hall.old.boxes + servers_weight (pending_at hall.old.clock) servers.old.items }
     ensures others { (who : ℕ) → who ≢ number → server_at servers.new.items who ≡ server_at servers.old.items who }
-    ensures rests { result ≡ false → IsServerAtRest hall.new.clock (server_at servers.new.items number) }
+    ensures rests { IsServerAtRest hall.new.clock (server_at servers.new.items number) }
 {
     let server = &mut servers[number];
     server.serve(hall)

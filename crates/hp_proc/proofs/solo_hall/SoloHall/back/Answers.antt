@@ -1,6 +1,8 @@
-use Rattle.std.proofs.Common.{◌≡◌, ◌<◌, length, set, Some, sym, ap, ◌∙◌, subst}
+use Rattle.std.proofs.Common.{◌≡◌, ◌<◌, length, option_map, set, Some, refl, sym, ap, ◌∙◌, subst}
+use Rattle.std.specs.List.{slice_get}
+use Rattle.std.proofs.lemmas.Option.{slice_get_read}
 use Rattle.hp_hall.proofs.Slotted.{slice_get-set_other, slice_get-set_same}
-use Rattle.hp_proc.specs.Solo.{IsTiedAt, ServerView, SoloView, party_at, party_in, server_at}
+use Rattle.hp_proc.specs.Solo.{IsTiedAt, ServerView, SoloView, party_at, party_in, server_at, with_party}
 use Rattle.hp_proc.proofs.SoloSeats.{solo_back}
 use Rattle.hp_proc.proofs.solo_hall.SoloHall.back.Goals as goal
 
@@ -31,3 +33,23 @@ returns-clause-others g c =
     λ who apart.
     slice_get-set_other c.self.inside.servers.items c.number-me.result who c.back.new.self (λ same. apart (same ∙ c.number-me.ensures))
     ∙ ap (λ (hall : SoloView). server_at hall.servers who) c.self.view_is
+
+pub returns-clause-place : goal.returns-clause-place
+returns-clause-place g c =
+    let servers = c.self.inside.servers.items in
+    let server = c.index_mut.result.now in
+    let participant = c.args.participant in
+    let me = c.number-me.ensures in
+    let below : participant.me < length servers =
+    subst (λ n. participant.me < n) (sym c.self.invariant.count)
+    (subst (λ (hall : SoloView). participant.me < length hall.plain.owns) (sym c.self.view_is) c.requires.declared) in
+    let there : slice_get servers c.number-me.result ≡ Some server =
+    slice_get_read servers (length servers) c.number-me.result server refl
+    (subst (λ n. n < length servers) (sym me) below) c.index_mut.ensures.value in
+    let here : slice_get (set servers c.number-me.result c.back.new.self) participant.me ≡ Some c.back.new.self =
+    subst (λ n. slice_get (set servers n c.back.new.self) participant.me ≡ Some c.back.new.self) (sym me)
+    (slice_get-set_same servers participant.me c.back.new.self below) in
+    here
+    ∙ ap (λ (place : ServerView). Some place) c.back.ensures
+    ∙ sym (ap (option_map (with_party (Some participant))) (subst (λ n. slice_get servers n ≡ Some server) me there))
+    ∙ ap (λ (hall : SoloView). option_map (with_party (Some participant)) (server_at hall.servers participant.me)) c.self.view_is

@@ -33,6 +33,5 @@ returns g c =
       count = length-set servers c.args.number after;
       weight = served_falls old new servers c.args.number server after c.serve.result there one.serving.clock c.serve.ensures.weight;
       others = λ who apart. slice_get-set_other servers c.args.number who after apart;
-      rests = λ none.
-          subst (IsServerAtRest new.clock) (sym (slice_get-set_same servers c.args.number after c.requires.within)) (c.serve.ensures.rests none);
+      rests = subst (IsServerAtRest new.clock) (sym (slice_get-set_same servers c.args.number after c.requires.within)) c.serve.ensures.rests;
     }

@@ -17,10 +17,6 @@ moved_once false second both is = omega (arith, ap if_moved is)
 moved_once true false both is = omega (arith, ap if_moved is)
 moved_once true true both is = omega (arith, ap if_moved is)
 
-none_moved : (first second both : Bool) → both ≡ (first || second) → both ≡ false → (first ≡ false) × (second ≡ false)
-none_moved false second both is none = (refl, sym is ∙ none)
-none_moved true second both is none = cc
-
 -- nothing is left for those before, and for the one that served last
 rests_more : (was now : ℕ) (old new : List ServerView) (from number : ℕ) → now ≡ was
     → ((who : ℕ) → who ≢ number → server_at new who ≡ server_at old who)
@@ -42,7 +38,7 @@ loop-number-init g c = record {
   later = λ who. server_same (server_at c.args.servers.now.items who);
   count = refl;
   weight = omega arith;
-  rests = λ none who begun below. absurd (omega arith);
+  rests = λ who begun below. absurd (omega arith);
 }
 
 pub serve_at-served-requires : goal.serve_at-served-requires
@@ -73,13 +69,12 @@ loop-number-preserved g c =
           later_then c.args.servers.now.items c.loop-number.servers.items c.serve_at-served.new.servers.items was.later one.later;
       count = one.count ∙ was.count;
       weight = omega (arith, was.weight, one.weight, moved_once c.loop-number.moved c.serve_at-served.result c.either-moved.result c.either-moved.ensures);
-      rests = λ none.
-          let each = none_moved c.loop-number.moved c.serve_at-served.result c.either-moved.result c.either-moved.ensures none in
+      rests =
           rests_more c.loop-number.hall.clock c.serve_at-served.new.hall.clock c.loop-number.servers.items c.serve_at-served.new.servers.items
-          c.args.from number one.serving.clock one.others (was.rests each.0) (one.rests each.1);
+          c.args.from number one.serving.clock one.others was.rests one.rests;
     }
 
 pub returns-clause-rests : goal.returns-clause-rests
-returns-clause-rests g c = λ none who begun below.
+returns-clause-rests g c = λ who begun below.
     let behind : c.args.to ≤ c.loop-number.number = omega arith in
-    c.loop-number.invariant.rests none who begun (omega (arith, below, behind))
+    c.loop-number.invariant.rests who begun (omega (arith, below, behind))

@@ -1,0 +1,181 @@
+//! What the one that does a line does by hand: a call of the hall each.
+ghost use Rattle.std.specs.Prelude.{◌≡◌, ◌<◌, ◌≤◌, ℕ};
+ghost use Rattle.hp_hall.specs.Weights.{pending_at};
+ghost use Rattle.hp_proc.specs.Solo.{MayWait};
+
+use super::super::SoloHall;
+use crate::calls::{put_back, take_segments};
+use crate::framing::framed;
+use crate::participant::Participant;
+use crate::tests::PAGE;
+use hp_base::{Action, MemMapper};
+use hp_frame::Body;
+use hp_hall::{Hall, Posted, Waiting};
+use hp_segs::{Cause, Outcome, Segs};
+use std::alloc::AllocError;
+
+/// It posts its first ask to participant 0, as one of that number.
+pub fn ask(
+    hall: &mut SoloHall<'_, MemMapper>,
+    party: &Participant<'_, MemMapper>,
+    from: u8,
+) -> Posted
+    requires from { from < 2 }
+    requires may { MayWait hall.old party.now }
+    ensures may { MayWait hall.new party.now }
+{
+    let me = party.number();
+    let frame = framed(Body::Alloc {
+        from,
+        number: 1,
+        heap: 0,
+        socket: 0,
+        page: PAGE,
+        size: 1000,
+        align: 0,
+        bound: 0,
+        flags: 0,
+    });
+    hall.post(me, 0, frame, Action::Deliver)
+}
+
+/// Those below or above it serve.
+pub fn others(
+    hall: &mut SoloHall<'_, MemMapper>,
+    party: &Participant<'_, MemMapper>,
+    above: bool,
+) -> Result<bool, AllocError>
+    requires may { MayWait hall.old party.now }
+    ensures may { MayWait hall.new party.now }
+{
+    hall.others(party.number(), above)
+}
+
+/// It serves once itself.
+pub fn serve(
+    hall: &mut SoloHall<'_, MemMapper>,
+    party: &mut Participant<'_, MemMapper>,
+) -> Result<bool, AllocError>
+    requires may { MayWait hall.old party.old }
+    ensures may { MayWait hall.new party.new }
+{
+    party.serve(hall)
+}
+
+/// A turn of its wait, but for the pause: who did something, of those below, itself and those above.
+pub fn turn(
+    hall: &mut SoloHall<'_, MemMapper>,
+    party: &mut Participant<'_, MemMapper>,
+) -> Result<(bool, bool, bool), AllocError>
+    requires may { MayWait hall.old party.old }
+    ensures may { MayWait hall.new party.new }
+{
+    let below = others(hall, party, false)?;
+    let itself = serve(hall, party)?;
+    let above = others(hall, party, true)?;
+    Ok((below, itself, above))
+}
+
+/// The reading of its clock.
+pub fn read(hall: &mut SoloHall<'_, MemMapper>, party: &Participant<'_, MemMapper>) -> u64
+    requires may { MayWait hall.old party.now }
+    ensures may { MayWait hall.new party.now }
+    ensures before { (until : ℕ) → result < until → pending_at hall.new.plain.clock until ≡ 1 }
+{
+    hall.now(party.number())
+}
+
+// A pause of a turn in which nothing moved, up to a deadline that is still to come.
+fn pause_before(hall: &mut SoloHall<'_, MemMapper>, party: &Participant<'_, MemMapper>, until: u64)
+    requires may { MayWait hall.old party.now }
+    ensures may { MayWait hall.new party.now }
+{
+    if read(hall, party) < until {
+        hall.pause(party.number(), false, Some(until));
+    }
+}
+
+/// It pauses where nothing moved, up to a deadline that is still to come: the reading of its clock afterwards.
+pub fn pause(
+    hall: &mut SoloHall<'_, MemMapper>,
+    party: &Participant<'_, MemMapper>,
+    until: u64,
+) -> u64
+    requires may { MayWait hall.old party.now }
+    ensures may { MayWait hall.new party.now }
+{
+    pause_before(hall, party, until);
+    read(hall, party)
+}
+
+/// The kind of the first frame of its mailbox, and 0 where that is empty.
+pub fn fetch(hall: &mut SoloHall<'_, MemMapper>, party: &Participant<'_, MemMapper>) -> u8
+    requires may { MayWait hall.old party.now }
+    ensures may { MayWait hall.new party.now }
+{
+    match hall.fetch(party.number()) {
+        None => 0,
+        Some(frame) => frame.bytes[0],
+    }
+}
+
+// How many records one of those up to it has acknowledged.
+fn load(hall: &mut SoloHall<'_, MemMapper>, party: &Participant<'_, MemMapper>, who: u8) -> u64
+    requires who { who ≤ party.now.me }
+    requires may { MayWait hall.old party.now }
+    ensures may { MayWait hall.new party.now }
+{
+    hall.load_ack(party.number(), who)
+}
+
+/// How many records participant 0 has acknowledged, and how many it has itself.
+pub fn acks(hall: &mut SoloHall<'_, MemMapper>, party: &Participant<'_, MemMapper>) -> (u64, u64)
+    requires may { MayWait hall.old party.now }
+    ensures may { MayWait hall.new party.now }
+{
+    let first = load(hall, party, 0);
+    let own = load(hall, party, party.number());
+    (first, own)
+}
+
+/// How an ask ended.
+#[derive(Clone, Copy, Debug, PartialEq, Eq)]
+pub enum End {
+    Granted,
+    // Who was late, and the readings between which it was.
+    Late(u8, u64, u64),
+    Other,
+}
+
+// How the first ask of a segment value ended.
+fn first_end(segs: &Segs) -> End {
+    let Some(entry) = segs.asks().first() else {
+        return End::Other;
+    };
+    match entry.outcome {
+        Outcome::Granted { .. } => End::Granted,
+        Outcome::Refused {
+            cause: Cause::Late {
+                participant,
+                from,
+                to,
+            },
+        } => End::Late(participant, from, to),
+        _ => End::Other,
+    }
+}
+
+/// It takes the segment value, looks how the first ask ended and how many records there are, and gives the value back.
+pub fn outcome(
+    hall: &mut SoloHall<'_, MemMapper>,
+    party: &Participant<'_, MemMapper>,
+) -> (End, usize)
+    requires may { MayWait hall.old party.now }
+    ensures may { MayWait hall.new party.now }
+{
+    let me = party.number();
+    let segs = take_segments(hall, me);
+    let seen = (first_end(&segs), segs.records().len());
+    put_back(hall, me, segs);
+    seen
+}

@@ -1,0 +1,86 @@
+//! Two participants in a hall of plain values, by hand: what each serving does, what it leaves in the log, and in which tables.
+ghost use Rattle.std.specs.Prelude.{◌≡◌, ◌<◌, List, IfOk};
+ghost use Rattle.hp_base.specs.declared.limits.TheConstants.{MAX_PARTICIPANTS};
+ghost use Rattle.hp_hall.specs.Opening.{AreInOrder};
+ghost use Rattle.hp_log.specs.declared.log_record.LogRecord.{LogRecord};
+ghost use Rattle.hp_proc.specs.Tied.{IsTied, nothing_yet};
+
+mod acts;
+mod asks;
+mod frames;
+mod growths;
+mod pages;
+mod stage;
+
+use crate::Participant;
+use acts::Act;
+use hp_base::{MAX_HEAPS, MAX_SEGMENTS, MemMapper, Plan, PoolLine, Request};
+use hp_heap::Heap;
+use hp_maps::{LocalMaps, Planned};
+use hp_segs::{Ask, Segs};
+use stage::Stage;
+use std::alloc::{AllocError, Global};
+use std::test::Fail;
+
+pub(crate) const PAGE: u64 = 0x20_0000;
+
+// Where the first list begins.
+const BASE: u64 = 0x1_0000_0000;
+
+// How long participants wait for others, in milliseconds.
+const DEADLINE: u64 = 200;
+
+// All heaps, without memory.
+pub(crate) fn vacant_heaps(alloc: Global) -> Result<Vec<Heap>, AllocError>
+    ensures { IfOk result (λ heaps. AreInOrder heaps.items) }
+{
+    let mut heaps = Vec::with_capacity(alloc, MAX_HEAPS)?;
+    for index in 0..MAX_HEAPS as u32 {
+        heaps.push_reserved(Heap::vacant(alloc, index));
+    }
+    Ok(heaps)
+}
+
+// The first ask of a participant: a page of 2M for heap 0.
+fn first_ask(from: u8) -> Result<Ask, Fail>
+    ensures { IfOk result (λ ask. ask.from ≡ from) }
+{
+    let request = Request::new(1000, 0, 0, 0).ok().ok_or("a good request")?;
+    Ok(Ask {
+        from,
+        number: 1,
+        heap: 0,
+        socket: 0,
+        page: PAGE,
+        request,
+    })
+}
+
+// A segment value of the pool line `pool 0 2M 4`, of two participants, of whom participant 1 is armed with its first ask.
+fn armed_segs(alloc: Global) -> Result<Segs, Fail> {
+    let pool = PoolLine {
+        socket: 0,
+        page: PAGE,
+        pages: 4,
+        slots: 4,
+    };
+    let mut segs = Segs::new(alloc, [pool].as_slice(), 2, 0)?;
+    segs.arm(&first_ask(1)?)?;
+    Ok(segs)
+}
+
+// A participant that is attached and has taken in nothing, with a table over memory.
+pub(crate) fn member<'p>(
+    alloc: Global,
+    me: u8,
+    plan: &'p Plan,
+) -> Result<Participant<'p, MemMapper>, AllocError>
+    requires declared { me < MAX_PARTICIPANTS }
+    ensures number { IfOk result (λ party. party.me ≡ me) }
+    ensures tied { IfOk result (λ party. (log : List LogRecord) → IsTied log nothing_yet party.joined party.maps) }
+{
+    let rows = MAX_SEGMENTS as usize;
+    let mapper = Planned::new(MemMapper::new(alloc, rows)?, plan, me);
+    let maps = LocalMaps::new(alloc, mapper, rows)?;
+    Ok(Participant::new(me, 0, true, maps, plan, DEADLINE))
+}

@@ -1,0 +1,225 @@
+//! Two participants and their hall.
+ghost use Rattle.std.specs.Prelude.{◌<◌};
+
+use super::pages::retire_page;
+use super::{armed_segs, member, vacant_heaps};
+use crate::Participant;
+use crate::calls::{put_back, take_segments};
+use hp_base::{Action, MapAnswer, MemMapper, Plan, Row};
+use hp_frame::Frame;
+use hp_hall::{Hall, PlainHall, Posted};
+use hp_segs::{AskLog, Cause, Outcome, Segs};
+use std::alloc::{AllocError, Global};
+use std::marker::Model;
+use std::test::Fail;
+
+// A hall of plain values, and its two participants.
+#[derive(Drop)]
+pub(super) struct Stage<'p> {
+    hall: PlainHall,
+    primary: Participant<'p, MemMapper>,
+    secondary: Participant<'p, MemMapper>,
+    plan: &'p Plan,
+}
+
+impl<'p> Model for Stage<'p> {
+    ghost use Rattle.std.specs.Prelude.{◌≡◌, length};
+    ghost use Rattle.hp_hall.specs.HallView.{HallView};
+    ghost use Rattle.hp_hall.specs.Opening.{AreHome};
+    ghost use Rattle.hp_proc.specs.Solo.{IsTiedAt};
+
+    ghost Value = { HallView };
+
+    ghost view = { λ a. a.hall };
+
+    // All values are there, and each participant's table is tied to what the hall knows of it.
+    ghost invariant = { λ a. (length a.hall.owns ≡ 2) × AreHome a.hall × IsTiedAt a.hall 0 a.primary × IsTiedAt a.hall 1 a.secondary };
+}
+
+// How an ask ended.
+#[derive(Clone, Copy, Debug, PartialEq, Eq)]
+pub(super) enum End {
+    Granted(u64),
+    Freed(u64),
+    Stale(u64),
+    // The participant's mapping call of that number, for the page at that address, was answered so.
+    MapFailed(u8, u64, u64, MapAnswer),
+    // The participant had not acknowledged between these readings.
+    Late(u8, u64, u64),
+    Other,
+}
+
+// What the segment value and the tables show.
+#[derive(Clone, Copy, Debug, PartialEq, Eq)]
+pub(super) struct Shown {
+    // How many records the log has, and how many each participant has acknowledged.
+    pub records: usize,
+    pub numbers: (u64, u64),
+    // The free pages of the pool.
+    pub left: u64,
+    // The first row of each table.
+    pub rows: (Option<Row>, Option<Row>),
+    // How many outcomes are logged, and the last one, with the number of its participant and of its ask.
+    pub outcomes: usize,
+    pub last: Option<(u8, u64, End)>,
+}
+
+impl<'p> Stage<'p> {
+    // Two participants that have taken in nothing, in a hall of that segment value.
+    fn over(alloc: Global, plan: &'p Plan, segs: Segs) -> Result<Stage<'p>, AllocError> {
+        let primary = member(alloc, 0, plan)?;
+        let secondary = member(alloc, 1, plan)?;
+        let heaps = vacant_heaps(alloc)?;
+        let hall = PlainHall::new(alloc, 2, heaps, segs)?;
+        Ok(Stage {
+            hall,
+            primary,
+            secondary,
+            plan,
+        })
+    }
+
+    // Participant 1 is armed with its first ask.
+    pub(super) fn new(alloc: Global, plan: &'p Plan) -> Result<Stage<'p>, Fail> {
+        let segs = armed_segs(alloc)?;
+        Ok(Stage::over(alloc, plan, segs)?)
+    }
+
+    // Heap 0 has given a page up besides.
+    pub(super) fn with_retired_page(alloc: Global, plan: &'p Plan) -> Result<Stage<'p>, Fail> {
+        let mut segs = armed_segs(alloc)?;
+        retire_page(&mut segs)?;
+        Ok(Stage::over(alloc, plan, segs)?)
+    }
+
+    // What becomes of the messages and mapping calls.
+    pub(super) fn plan(&self) -> &'p Plan {
+        self.plan
+    }
+
+    // Participant 0 serves once.
+    pub(super) fn serve_primary(&mut self) -> Result<bool, AllocError> {
+        self.primary.serve(&mut self.hall)
+    }
+
+    // Participant 1 serves once.
+    pub(super) fn serve_secondary(&mut self) -> Result<bool, AllocError> {
+        self.secondary.serve(&mut self.hall)
+    }
+
+    // One of the two posts to the other.
+    pub(super) fn post(&mut self, from: u8, frame: Frame, action: Action) -> Posted
+        requires { from < 2 }
+    {
+        self.hall.post(from, 1 - from, frame, action)
+    }
+
+    // The clock jumps, where that reading is not behind it.
+    pub(super) fn jump(&mut self, reading: u64) {
+        if self.hall.clock() <= reading {
+            self.hall.jump(reading);
+        }
+    }
+
+    // How often a mailbox was full.
+    pub(super) fn fulls(&self) -> u64 {
+        self.hall.fulls()
+    }
+
+    // When the deadline of a round passes.
+    pub(super) fn due(&self) -> (Option<u64>, Option<u64>) {
+        (self.primary.due(), self.secondary.due())
+    }
+
+    // The numbers of the participants.
+    pub(super) fn who(&self) -> (u8, u8) {
+        (self.primary.number(), self.secondary.number())
+    }
+
+    // The first row of each table.
+    fn rows(&self) -> (Option<Row>, Option<Row>) {
+        (
+            self.primary.maps().rows().first().copied(),
+            self.secondary.maps().rows().first().copied(),
+        )
+    }
+
+    // How many records one has acknowledged, as the other reads it.
+    fn number_of(&mut self, who: u8) -> u64
+        requires { who < 2 }
+    {
+        self.hall.load_ack(1 - who, who)
+    }
+
+    // What the segment value shows.
+    fn look(&mut self) -> (usize, u64, usize, Option<(u8, u64, End)>) {
+        let segs = take_segments(&mut self.hall, 0);
+        let seen = seen_in(&segs);
+        put_back(&mut self.hall, 0, segs);
+        seen
+    }
+
+    // What the segment value and the tables show.
+    pub(super) fn shown(&mut self) -> Shown {
+        let (records, left, outcomes, last) = self.look();
+        Shown {
+            records,
+            numbers: (self.number_of(0), self.number_of(1)),
+            left,
+            rows: self.rows(),
+            outcomes,
+            last,
+        }
+    }
+}
+
+// How many records there are, and free pages, and outcomes, and the last of these.
+fn seen_in(segs: &Segs) -> (usize, u64, usize, Option<(u8, u64, End)>) {
+    let asks = segs.asks();
+    (
+        segs.records().len(),
+        pages_left(segs),
+        asks.len(),
+        asks.last().map(ended),
+    )
+}
+
+// The free pages of the first pool.
+fn pages_left(segs: &Segs) -> u64 {
+    if segs.pools().is_empty() {
+        0
+    } else {
+        segs.pages_left(0)
+    }
+}
+
+// Whose ask of which number ended, and how.
+fn ended(entry: &AskLog) -> (u8, u64, End) {
+    (entry.from, entry.number, end_of(&entry.outcome))
+}
+
+fn end_of(outcome: &Outcome) -> End {
+    match outcome {
+        Outcome::Granted { generation } => End::Granted(*generation),
+        Outcome::Freed { generation } => End::Freed(*generation),
+        Outcome::Stale { done } => End::Stale(*done),
+        Outcome::Refused { cause } => end_for(cause),
+    }
+}
+
+fn end_for(cause: &Cause) -> End {
+    match cause {
+        Cause::MapFailed {
+            participant,
+            call,
+            addr,
+            got,
+        } => End::MapFailed(*participant, *call, *addr, *got),
+        Cause::Late {
+            participant,
+            from,
+            to,
+        } => End::Late(*participant, *from, *to),
+        _ => End::Other,
+    }
+}
