@@ -1,27 +1,29 @@
 -- What a give leaves: a value of the same slot, later on, in which nobody but the giver has more entries.
-use Rattle.std.proofs.Common.{◌≡◌, ◌≢◌, ℕ, ◌+◌, eqb, ne_eqb, Bool, true, false, List, [], ◌∷◌, ◌++◌, Option, Some, None, refl, sym, ap, ◌∙◌, if◌then◌else◌}
+use Rattle.std.proofs.Common.{◌≡◌, ◌≢◌, ℕ, ◌+◌, eqb, ne_eqb, List, [], ◌∷◌, ◌++◌, Option, Some, None, refl, sym, ap, ◌∙◌}
+use Rattle.std.specs.Option.{option_map}
 use Rattle.std.proofs.lemmas.Bool.{cond-false}
 use Rattle.std.proofs.lemmas.List.{append-nil}
 use Rattle.std.proofs.lemmas.List.Elements.{filter-append}
 use Rattle.hp_heap.specs.declared.entry.Entry.{Entry}
 use Rattle.hp_heap.specs.History.{entries_of}
-use Rattle.hp_segs.specs.Moved.{SegsCall, Leads}
-use Rattle.hp_segs.specs.SegsView.{SegsView}
 use Rattle.hp_hall.specs.declared.kept.Kept.{Kept}
 use Rattle.hp_hall.specs.declared.kept.Kept.TheVariants.{Heap, Segments}
 use Rattle.hp_hall.specs.Course.{IsLaterKept}
-use Rattle.hp_hall.specs.Giving.{Knows, GivesFor, GivesForm, IsNumbered, logs, enrols, owns}
-use Rattle.hp_hall.specs.HallView.{HallView, SlotView, made_in, own_at, slot_at, taken_from}
+use Rattle.hp_hall.specs.Giving.{Knows, GivesFor, IsNumbered}
+use Rattle.hp_hall.specs.HallView.{HallView, SlotView, heard_in, own_at, part_in, seen_in, slot_at, taken_from}
 use Rattle.hp_hall.specs.Values.{Fits, history_of}
+use Rattle.hp_hall.proofs.Formed.{appends_given, calls_given}
 
 -- what a participant of a hall of plain values knows
 abbrev pub known : HallView → ℕ → Knows
 known hall me = record {
   who = me;
   taken = λ number. taken_from (slot_at hall number);
-  made = made_in hall me;
+  part = part_in hall me;
   number = (own_at hall me).number;
   noted = λ other. (own_at hall other).number;
+  seen = seen_in hall;
+  heard = heard_in hall;
 }
 
 entries_of-append : (who : ℕ) (xs ys : List Entry) → entries_of who (xs ++ ys) ≡ entries_of who xs ++ entries_of who ys
@@ -43,25 +45,20 @@ pub record IsGivenFor (knows : Knows) (slot : Option SlotView) (kept : Kept) : T
   pub there : slot ≡ Some before
   pub gives : GivesFor knows (Some before.kept) kept
 
-given_out : (knows : Knows) (out : Bool) (before kept : Kept) → GivesFor knows (if out then Some before else None) kept
+given_out : (knows : Knows) (holder : Option ℕ) (before kept : Kept) → GivesFor knows (option_map (λ who. before) holder) kept
     → GivesFor knows (Some before) kept
-given_out knows true before kept gives = gives
-given_out knows false before kept gives = absurd gives
+given_out knows (Some who) before kept gives = gives
+given_out knows None before kept gives = absurd gives
 
 pub given : (knows : Knows) (slot : Option SlotView) (kept : Kept) → GivesFor knows (taken_from slot) kept → IsGivenFor knows slot kept
 given knows None kept gives = absurd gives
-given knows (Some before) kept gives = record { before = before; there = refl; gives = given_out knows before.out before.kept kept gives }
+given knows (Some before) kept gives = record { before = before; there = refl; gives = given_out knows before.holder before.kept kept gives }
 
 pub still_fit : (knows : Knows) (number : ℕ) (before kept : Kept) → Fits number before → GivesFor knows (Some before) kept → Fits number kept
 still_fit knows number (Heap before) (Heap kept) fits gives = (gives.index ∙ fits.0, fits.1)
 still_fit knows number (Heap before) (Segments kept) fits gives = absurd gives
 still_fit knows number (Segments before) (Heap kept) fits gives = absurd gives
 still_fit knows number (Segments before) (Segments kept) fits gives = fits
-
-calls_of : (knows : Knows) (before kept : SegsView) → GivesForm knows before kept → (calls : List SegsCall) × Leads calls before kept
-calls_of knows before kept (logs form) = (form.moved.calls, form.moved.leads)
-calls_of knows before kept (enrols form) = (form.moved.calls, form.moved.leads)
-calls_of knows before kept (owns form) = (form.moved.calls, form.moved.leads)
 
 pub later_given : (knows : Knows) (before kept : Kept) → GivesFor knows (Some before) kept → IsLaterKept before kept
 later_given knows (Heap before) (Heap kept) gives = record {
@@ -73,8 +70,9 @@ later_given knows (Heap before) (Heap kept) gives = record {
 later_given knows (Heap before) (Segments kept) gives = absurd gives
 later_given knows (Segments before) (Heap kept) gives = absurd gives
 later_given knows (Segments before) (Segments kept) gives =
-    let moved = calls_of knows before kept gives.form in
-    record { calls = moved.0; leads = moved.1; more = gives.more; log = gives.log }
+    let moved = calls_given knows before kept gives.form in
+    let appends = appends_given knows before kept gives.form in
+    record { calls = moved.0; leads = moved.1; more = gives.more; log = gives.log; outcomes = appends.outcomes; asks = appends.asks }
 
 pub same_for_others : (knows : Knows) (before kept : Kept) (who : ℕ) → who ≢ knows.who → GivesFor knows (Some before) kept
     → entries_of who (history_of kept) ≡ entries_of who (history_of before)

@@ -1,5 +1,8 @@
+pub mod Formed
 pub mod Given
+pub mod Giver
 pub mod Gives
+pub mod Halls
 pub mod Mailed
 pub mod Opened
 pub mod Owned
@@ -8,3 +11,16 @@ pub mod Read
 pub mod Slotted
 pub mod Stepped
 pub mod Taking
+pub mod CountedRows
+pub mod StandingGrants
+pub mod StandingMoves
+pub mod StandingAsks
+pub mod StandingArms
+pub mod StandingLists
+pub mod StandingPages
+pub mod StandingClaims
+pub mod StandingBrings
+pub mod StandingRetires
+pub mod StandingCuts
+pub mod StandingSlots
+pub mod StandingGrowths

@@ -1,5 +1,6 @@
 -- The slots of a hall as it opens and as it ends.
-use Rattle.std.proofs.Common.{◌≡◌, ℕ, zero, suc, ◌+◌, ◌<◌, ◌⊎◌, Bool, true, false, List, [], ◌∷◌, ◌++◌, length, get_or, take, drop, map, Option, Some, None, refl, sym, ap, subst, ◌∙◌, inl, inr, ⊎_elim, arith, length-append}
+use Rattle.std.proofs.Common.{◌≡◌, ℕ, zero, suc, ◌+◌, ◌<◌, ◌⊎◌, Bool, false, List, [], ◌∷◌, ◌++◌, length, get_or, take, drop, map, Option, Some, None, refl, sym, ap, subst, ◌∙◌, inl, inr, ⊎_elim, arith, length-append, if◌then◌else◌}
+use Rattle.std.specs.Option.{option_map}
 use Rattle.std.specs.List.{slice_get}
 use Rattle.std.proofs.lemmas.List.{append_assoc, length-map, map-append, nil_from_length}
 use Rattle.std.proofs.lemmas.Option.{slice_get_within}
@@ -10,10 +11,12 @@ use Rattle.hp_hall.specs.declared.kept.Kept.{Kept}
 use Rattle.hp_hall.specs.declared.kept.Kept.TheVariants.{Heap, Segments}
 use Rattle.hp_hall.specs.declared.slot.TheConstants.{SLOTS}
 use Rattle.hp_hall.specs.HallSteps.{heap_slot, home_slot, opening_hall, slots_of}
-use Rattle.hp_hall.specs.HallView.{HallView, IsHall, IsHome, SlotView, history_in, made_in}
+use Rattle.hp_hall.specs.HallView.{HallView, IsHall, IsHome, SlotView, history_in, is_held_by, is_held_heap, part_in, segs_in}
+use Rattle.hp_hall.specs.Holding.{HasPages, owned_by, standing_of}
 use Rattle.hp_hall.specs.Moved.{AreSlotsOf, IsFirstHeap, IsLastSegs}
-use Rattle.hp_hall.specs.Opening.{AreHome, AreInOrder, AreUnused}
+use Rattle.hp_hall.specs.Opening.{AreHome, AreInOrder, AreUnused, HavePages}
 use Rattle.hp_hall.specs.Values.{Fits, history_of}
+use Rattle.hp_hall.proofs.Slotted.{heap_same, segs_not_heap, unheld_heap}
 
 -- which slot a number has
 abbrev IsOpened : List HeapView → SegsView → ℕ → SlotView → Type 0
@@ -53,7 +56,7 @@ no_history None none = refl
 no_history (Some slot) none = none slot refl
 
 pub opened_unused : (heaps : List HeapView) (segs : SegsView) (participants : ℕ) → AreUnused heaps → (who number : ℕ)
-    → made_in (opening_hall participants heaps segs) who number ≡ []
+    → (part_in (opening_hall participants heaps segs) who number).entries ≡ []
 opened_unused heaps segs participants unused who number =
     ap (entries_of who) (no_history (slice_get (slots_of heaps segs) number) (λ slot there.
     ⊎_elim
@@ -62,6 +65,39 @@ opened_unused heaps segs participants unused who number =
     (λ (at : (number ≡ length heaps) × (slot ≡ home_slot (Segments segs))). ap (λ (s : SlotView). history_of s.kept) at.1)
     (opened_at heaps segs number slot there)))
     ∙ entries_of-nil who
+
+-- where the segment value stands
+pub opened_segs : (heaps : List HeapView) (segs : SegsView) (number : ℕ) → length heaps ≡ number
+    → segs_in (slice_get (slots_of heaps segs) number) ≡ Some segs
+opened_segs [] segs zero count = refl
+opened_segs [] segs (suc number) count = cc
+opened_segs (heap ∷ heaps) segs zero count = cc
+opened_segs (heap ∷ heaps) segs (suc number) count = opened_segs heaps segs number (omega (arith, count))
+
+-- each heap of a hall that opens has its pages
+pub opened_pages : (heaps : List HeapView) (segs : SegsView) → HavePages heaps segs → (number : ℕ) (heap : HeapView)
+    → slice_get (slots_of heaps segs) number ≡ Some (heap_slot heap) → HasPages heap.plain.pages (owned_by number segs)
+opened_pages heaps segs pages number heap there =
+    ⊎_elim
+    (λ (at : (h : HeapView) × (slice_get heaps number ≡ Some h) × (heap_slot heap ≡ heap_slot h)).
+    pages number heap (at.1 ∙ ap Some (sym (heap_same heap at.0 at.2))))
+    (λ (at : (number ≡ length heaps) × (heap_slot heap ≡ home_slot (Segments segs))). absurd (segs_not_heap heap segs at.1))
+    (opened_at heaps segs number (heap_slot heap) there)
+
+-- nobody holds a heap of a hall that opens
+unheld : (who : ℕ) (slot : Option SlotView) → ((there : SlotView) → slot ≡ Some there → there.holder ≡ None) → is_held_by who slot ≡ false
+unheld who None none = refl
+unheld who (Some slot) none = ap (is_held_heap who slot.kept) (none slot refl) ∙ unheld_heap who slot.kept
+
+pub opened_unheld : (heaps : List HeapView) (segs : SegsView) (participants who number : ℕ)
+    → (part_in (opening_hall participants heaps segs) who number).holding ≡ None
+opened_unheld heaps segs participants who number =
+    ap (λ (held : Bool). if held then option_map (standing_of number) (segs_in (slice_get (slots_of heaps segs) MAX_HEAPS)) else None)
+    (unheld who (slice_get (slots_of heaps segs) number) (λ slot there.
+    ⊎_elim
+    (λ (at : (heap : HeapView) × (slice_get heaps number ≡ Some heap) × (slot ≡ heap_slot heap)). ap (λ (s : SlotView). s.holder) at.2)
+    (λ (at : (number ≡ length heaps) × (slot ≡ home_slot (Segments segs))). ap (λ (s : SlotView). s.holder) at.1)
+    (opened_at heaps segs number slot there)))
 
 home_in : (heaps : List HeapView) (segs : SegsView) (number : ℕ) → number < length heaps + 1 → IsHome (slice_get (slots_of heaps segs) number)
 home_in [] segs zero below = refl
@@ -74,34 +110,34 @@ pub opened_home : (participants : ℕ) (heaps : List HeapView) (segs : SegsView)
 opened_home participants heaps segs count number below = home_in heaps segs number (omega (arith, count, below))
 
 -- a slot at home of a number has a heap or the segment value
-heap_at_home : (number : ℕ) (kept : Kept) (out : Bool) → number < MAX_HEAPS → Fits number kept → out ≡ false
-    → (heap : HeapView) × ◌≡◌ {A = SlotView} (record { kept = kept; out = out }) (heap_slot heap)
-heap_at_home number (Heap heap) true below fits home = cc
-heap_at_home number (Heap heap) false below fits home = (heap, refl)
-heap_at_home number (Segments segs) out below fits home = absurd (omega (arith, fits))
+heap_at_home : (number : ℕ) (kept : Kept) (holder : Option ℕ) → number < MAX_HEAPS → Fits number kept → holder ≡ None
+    → (heap : HeapView) × ◌≡◌ {A = SlotView} (record { kept = kept; holder = holder }) (heap_slot heap)
+heap_at_home number (Heap heap) (Some who) below fits home = cc
+heap_at_home number (Heap heap) None below fits home = (heap, refl)
+heap_at_home number (Segments segs) holder below fits home = absurd (omega (arith, fits))
 
-segs_at_home : (kept : Kept) (out : Bool) → Fits MAX_HEAPS kept → out ≡ false
-    → (segs : SegsView) × ◌≡◌ {A = SlotView} (record { kept = kept; out = out }) (home_slot (Segments segs))
-segs_at_home (Heap heap) out fits home = absurd (omega (arith, fits.1))
-segs_at_home (Segments segs) true fits home = cc
-segs_at_home (Segments segs) false fits home = (segs, refl)
+segs_at_home : (kept : Kept) (holder : Option ℕ) → Fits MAX_HEAPS kept → holder ≡ None
+    → (segs : SegsView) × ◌≡◌ {A = SlotView} (record { kept = kept; holder = holder }) (home_slot (Segments segs))
+segs_at_home (Heap heap) holder fits home = absurd (omega (arith, fits.1))
+segs_at_home (Segments segs) (Some who) fits home = cc
+segs_at_home (Segments segs) None fits home = (segs, refl)
 
 -- each of the slots, of which the first has this number, fits and is at home
 abbrev AreFitting : ℕ → List SlotView → Type 0
-AreFitting from slots = (k : ℕ) (slot : SlotView) → slice_get slots k ≡ Some slot → Fits (from + k) slot.kept × (slot.out ≡ false)
+AreFitting from slots = (k : ℕ) (slot : SlotView) → slice_get slots k ≡ Some slot → Fits (from + k) slot.kept × (slot.holder ≡ None)
 
 are_slots : (slots : List SlotView) (from count : ℕ) → length slots ≡ count + 1 → from + count ≡ MAX_HEAPS → AreFitting from slots → AreSlotsOf count slots
 are_slots [] from count many sum fit = absurd (omega arith)
 are_slots (slot ∷ slots) from zero many sum fit =
     let first = fit 0 slot refl in
     let at : from + 0 ≡ MAX_HEAPS = sum in
-    let segs = segs_at_home slot.kept slot.out (subst (λ (n : ℕ). Fits n slot.kept) at first.0) first.1 in
+    let segs = segs_at_home slot.kept slot.holder (subst (λ (n : ℕ). Fits n slot.kept) at first.0) first.1 in
     let none : slots ≡ [] = nil_from_length slots (omega arith) in
     record { heaps = []; segs = segs.0; count_is = refl; slots_are = ap (λ (s : SlotView). s ∷ slots) segs.1 ∙ ap (λ (l : List SlotView). home_slot (Segments segs.0) ∷ l) none }
 are_slots (slot ∷ slots) from (suc count) many sum fit =
     let first = fit 0 slot refl in
     let below : from + 0 < MAX_HEAPS = omega arith in
-    let heap = heap_at_home (from + 0) slot.kept slot.out below first.0 first.1 in
+    let heap = heap_at_home (from + 0) slot.kept slot.holder below first.0 first.1 in
     let rest = are_slots slots (from + 1) count (omega arith) (omega arith) (λ k next there.
     let at : from + suc k ≡ from + 1 + k = omega arith in
     let both = fit (suc k) next there in (subst (λ (n : ℕ). Fits n next.kept) at both.0, both.1)) in

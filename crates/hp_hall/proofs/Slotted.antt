@@ -1,15 +1,17 @@
 -- What a changed slot leaves of a hall.
-use Rattle.std.proofs.Common.{◌≡◌, ◌≢◌, ℕ, zero, suc, ◌<◌, List, [], ◌∷◌, length, set, Option, Some, refl, sym, ap, subst, ◌∙◌, ⊎_elim, arith, length-set}
+use Rattle.std.proofs.Common.{◌≡◌, ◌≢◌, ℕ, zero, suc, ◌<◌, List, [], ◌∷◌, length, set, Option, Some, None, false, refl, sym, ap, subst, ◌∙◌, ⊎_elim, arith}
 use Rattle.std.specs.List.{slice_get}
 use Rattle.std.proofs.lemmas.Bool.{cases_eq}
 use Rattle.std.proofs.lemmas.List.{append-nil}
 use Rattle.std.proofs.lemmas.Option.{slice_get_within}
+use Rattle.hp_heap.specs.History.{HeapView}
+use Rattle.hp_segs.specs.SegsView.{SegsView}
 use Rattle.hp_hall.specs.declared.kept.Kept.{Kept}
+use Rattle.hp_hall.specs.declared.kept.Kept.TheVariants.{Heap, Segments}
 use Rattle.hp_hall.specs.Course.{IsCourse, IsLater, IsLaterKept, course_then, kept_same, slot_same}
-use Rattle.hp_hall.specs.HallSteps.{after_give, after_take, home_slot, out_slot, with_mail, with_slot}
-use Rattle.hp_hall.specs.HallView.{HallView, IsHall, IsHome, SlotView, slot_at, taken_from}
+use Rattle.hp_hall.specs.HallSteps.{after_give, after_take, heap_slot, home_slot, out_slot, with_mail, with_slot}
+use Rattle.hp_hall.specs.HallView.{HallView, IsHome, SlotView, is_held_heap, slot_at, taken_from}
 use Rattle.hp_hall.specs.Mail.{MailStep, Gives, Takes, IsMailStep, after_step}
-use Rattle.hp_hall.specs.Values.{Fits}
 use Rattle.hp_hall.proofs.Mailed.{course_mail}
 use Rattle.hp_hall.proofs.Stepped.{MakesStep, makes_step}
 
@@ -25,28 +27,26 @@ slice_get-set_other (x ∷ xs) zero (suc k) y apart = refl
 slice_get-set_other (x ∷ xs) (suc i) zero y apart = refl
 slice_get-set_other (x ∷ xs) (suc i) (suc k) y apart = slice_get-set_other xs i k y (λ same. apart (ap suc same))
 
--- what stands at a place that was written is what was written
-set_reads : {X : Type 0} (xs : List X) (i : ℕ) (x y : X) → slice_get (set xs i y) i ≡ Some x → y ≡ x
-set_reads [] i x y there = cc
-set_reads (z ∷ zs) zero x y there = cc
-set_reads (z ∷ zs) (suc i) x y there = set_reads zs i x y there
+-- what slots tell apart
+pub heap_same : (a b : HeapView) → heap_slot a ≡ heap_slot b → a ≡ b
+heap_same a b same =
+    let kept : Heap a ≡ Heap b = ap (λ (s : SlotView). s.kept) same in
+    cc
 
--- a hall with another value of the slot is one
-pub hall_changed : (old new : HallView) (number : ℕ) (slot : SlotView) → IsHall old → Fits number slot.kept → new.slots ≡ set old.slots number slot
-    → new.boxes ≡ old.boxes → new.owns ≡ old.owns → IsHall new
-hall_changed old new number slot hall fits slots boxes owns = record {
-  slots = ap length slots ∙ length-set old.slots number slot ∙ hall.slots;
-  fits = λ k now there.
-      let here : slice_get (set old.slots number slot) k ≡ Some now = ap (λ (l : List SlotView). slice_get l k) (sym slots) ∙ there in
-      ⊎_elim
-      (λ (same : k ≡ number).
-      let read : slot ≡ now = set_reads old.slots number now slot (ap (slice_get (set old.slots number slot)) (sym same) ∙ here) in
-      subst (λ (n : ℕ). Fits n now.kept) (sym same) (subst (λ (s : SlotView). Fits number s.kept) read fits))
-      (λ (apart : k ≢ number). hall.fits k now (sym (slice_get-set_other old.slots number k slot apart) ∙ here))
-      (cases_eq k number);
-  boxes = ap length boxes ∙ hall.boxes ∙ sym (ap length owns);
-  few = omega (arith, hall.few, ap length owns);
-}
+pub segs_not_heap : (heap : HeapView) (segs : SegsView) → heap_slot heap ≢ home_slot (Segments segs)
+segs_not_heap heap segs same =
+    let kept : Heap heap ≡ Segments segs = ap (λ (s : SlotView). s.kept) same in
+    cc
+
+pub out_not_home : (who : ℕ) (kept home : Kept) → out_slot who kept ≢ home_slot home
+out_not_home who kept home same =
+    let holder : Some who ≡ None = ap (λ (s : SlotView). s.holder) same in
+    cc
+
+-- nobody holds a heap at home
+pub unheld_heap : (who : ℕ) (kept : Kept) → is_held_heap who kept None ≡ false
+unheld_heap who (Heap heap) = refl
+unheld_heap who (Segments segs) = refl
 
 -- a slot has come to this by a step, and nothing else of the values has changed
 pub record MovesSlot (number : ℕ) (slot : SlotView) (who : ℕ) (step : MailStep) (old new : HallView) : Type 0 where
@@ -103,10 +103,10 @@ moves_slot old new who number slot step below is mailed still course =
 
 -- what a take leaves, and what a give does
 pub took : (old new : HallView) (who number : ℕ) (kept : Kept) → slot_at old number ≡ Some (home_slot kept) → new ≡ after_take who number kept old
-    → MovesSlot number (out_slot kept) who (Takes number kept) old new
+    → MovesSlot number (out_slot who kept) who (Takes number kept) old new
 took old new who number kept there is =
-    moves_slot old new who number (out_slot kept) (Takes number kept) (slice_get_within old.slots number (home_slot kept) there) is tt refl
-    (course_slot old number (home_slot kept) (out_slot kept) there (kept_same kept))
+    moves_slot old new who number (out_slot who kept) (Takes number kept) (slice_get_within old.slots number (home_slot kept) there) is tt refl
+    (course_slot old number (home_slot kept) (out_slot who kept) there (kept_same kept))
 
 pub gave : (old new : HallView) (who number : ℕ) (before : SlotView) (kept : Kept) → slot_at old number ≡ Some before → IsLaterKept before.kept kept
     → new ≡ after_give who number kept old → MovesSlot number (home_slot kept) who (Gives number kept) old new

@@ -3,7 +3,7 @@ use Rattle.std.proofs.Common.{◌≡◌, ℕ, List, [], ◌∷◌, ◌++◌, ◌
 use Rattle.std.specs.List.{slice_index_or}
 use Rattle.hp_hall.specs.Course.{IsCourse}
 use Rattle.hp_hall.specs.HallSteps.{with_mail}
-use Rattle.hp_hall.specs.HallView.{HallView, HasDone, IsHome, made_in, own_at, slot_at, taken_from}
+use Rattle.hp_hall.specs.HallView.{HallView, HasDone, IsHome, own_at, part_in, slot_at, taken_from}
 use Rattle.hp_hall.specs.Mail.{IsMailStep, MailStep, steps_of}
 use Rattle.hp_hall.specs.Own.{Own, after_ack}
 use Rattle.hp_hall.proofs.Mailed.{course_mail, steps_of-push}
@@ -29,7 +29,7 @@ pub record MakesMail (who : ℕ) (step : MailStep) (old new : HallView) : Type 0
   pub makes : MakesStep who step old new
   pub taken : (number : ℕ) → taken_from (slot_at new number) ≡ taken_from (slot_at old number)
   pub home : (number : ℕ) → IsHome (slot_at old number) → IsHome (slot_at new number)
-  pub made : (other heap : ℕ) → made_in new other heap ≡ made_in old other heap
+  pub part : (other heap : ℕ) → part_in new other heap ≡ part_in old other heap
 
 pub makes_mail : (old new : HallView) (who : ℕ) (step : MailStep) (fulls : ℕ) → new ≡ with_mail who step fulls old
     → IsMailStep who step old.boxes → old.fulls ≤ fulls → MakesMail who step old new
@@ -38,5 +38,5 @@ makes_mail old new who step fulls is mailed rises = record {
       (ap (λ (h : HallView). h.clock) is) (subst (IsCourse old) (sym is) (course_mail old who step fulls mailed rises));
   taken = λ number. ap (λ (h : HallView). taken_from (slot_at h number)) is;
   home = λ number home. subst (λ (h : HallView). IsHome (slot_at h number)) (sym is) home;
-  made = λ other heap. ap (λ (h : HallView). made_in h other heap) is;
+  part = λ other heap. ap (λ (h : HallView). part_in h other heap) is;
 }

@@ -10,11 +10,12 @@ use Rattle.hp_heap.specs.History.{HeapView}
 use Rattle.hp_log.specs.declared.log_record.LogRecord.{LogRecord}
 use Rattle.hp_segs.specs.Moved.{SegsCall, Leads, after}
 use Rattle.hp_segs.specs.SegsView.{SegsView}
+use Rattle.hp_segs.specs.declared.outcome.AskLog.{AskLog}
 use Rattle.hp_hall.specs.declared.kept.Kept.{Kept}
 use Rattle.hp_hall.specs.declared.kept.Kept.TheVariants.{Heap, Segments}
-use Rattle.hp_hall.specs.HallView.{HallView, SlotView, slot_at, log_in, seen_in, own_at, HasDone}
+use Rattle.hp_hall.specs.HallView.{HallView, SlotView, slot_at, asks_in, heard_in, log_in, seen_in, own_at, HasDone}
 use Rattle.hp_hall.specs.Mail.{MailStep, IsMail, after_step, steps_of}
-use Rattle.hp_hall.specs.Values.{log_of}
+use Rattle.hp_hall.specs.Values.{asks_of, log_of}
 
 -- a heap later on: it opened alike, and its history begins with the earlier one
 pub record IsLaterHeap (old new : HeapView) : Type 0 where
@@ -23,12 +24,14 @@ pub record IsLaterHeap (old new : HeapView) : Type 0 where
   pub more : List Entry
   pub history : new.history ≡ old.history ++ more
 
--- a segment value later on: it moved by calls under their conditions, and its log begins with the earlier one
+-- a segment value later on: it moved by calls under their conditions, and its log and its outcomes begin with the earlier ones
 pub record IsLaterSegs (old new : SegsView) : Type 0 where
   pub calls : List SegsCall
   pub leads : Leads calls old new
   pub more : List LogRecord
   pub log : new.log ≡ old.log ++ more
+  pub outcomes : List AskLog
+  pub asks : new.asks ≡ old.asks ++ outcomes
 
 abbrev pub IsLaterKept : Kept → Kept → Type 0
 IsLaterKept (Heap old) (Heap new) = IsLaterHeap old new
@@ -70,7 +73,14 @@ goes_on_by a b c first second here next = next ∙ ap (λ x. x ++ second) here �
 
 pub kept_same : (kept : Kept) → IsLaterKept kept kept
 kept_same (Heap heap) = record { index = refl; serves = refl; more = []; history = sym (append-nil heap.history) }
-kept_same (Segments segs) = record { calls = []; leads = refl; more = []; log = sym (append-nil segs.log) }
+kept_same (Segments segs) = record {
+  calls = [];
+  leads = refl;
+  more = [];
+  log = sym (append-nil segs.log);
+  outcomes = [];
+  asks = sym (append-nil segs.asks);
+}
 
 pub slot_same : (slot : Option SlotView) → IsLater slot slot
 slot_same None = tt
@@ -88,6 +98,8 @@ kept_then (Segments a) (Segments b) (Segments c) here next = record {
   leads = leads_then here.calls next.calls a b c here.leads next.leads;
   more = here.more ++ next.more;
   log = goes_on_by a.log b.log c.log here.more next.more here.log next.log;
+  outcomes = here.outcomes ++ next.outcomes;
+  asks = goes_on_by a.asks b.asks c.asks here.outcomes next.outcomes here.asks next.asks;
 }
 kept_then (Heap a) (Heap b) (Segments c) here next = absurd next
 kept_then (Heap a) (Segments b) c here next = absurd here
@@ -113,6 +125,18 @@ log_later None None later = ([], refl)
 log_later None (Some b) later = absurd later
 log_later (Some a) None later = absurd later
 log_later (Some a) (Some b) later = kept_log a.kept b.kept later
+
+kept_asks : (a b : Kept) → IsLaterKept a b → (more : List AskLog) × (asks_of b ≡ asks_of a ++ more)
+kept_asks (Heap a) (Heap b) later = ([], refl)
+kept_asks (Heap a) (Segments b) later = absurd later
+kept_asks (Segments a) (Heap b) later = absurd later
+kept_asks (Segments a) (Segments b) later = (later.outcomes, later.asks)
+
+asks_later : (a b : Option SlotView) → IsLater a b → (more : List AskLog) × (asks_in b ≡ asks_in a ++ more)
+asks_later None None later = ([], refl)
+asks_later None (Some b) later = absurd later
+asks_later (Some a) None later = absurd later
+asks_later (Some a) (Some b) later = kept_asks a.kept b.kept later
 
 pub course_same : (a : HallView) → IsCourse a a
 course_same a = record {
@@ -143,6 +167,9 @@ course_serves a b who course below = omega (arith, course.count)
 
 pub course_seen : (a b : HallView) → IsCourse a b → (more : List LogRecord) × (seen_in b ≡ seen_in a ++ more)
 course_seen a b course = log_later (slot_at a MAX_HEAPS) (slot_at b MAX_HEAPS) (course.slots MAX_HEAPS)
+
+pub course_heard : (a b : HallView) → IsCourse a b → (more : List AskLog) × (heard_in b ≡ heard_in a ++ more)
+course_heard a b course = asks_later (slot_at a MAX_HEAPS) (slot_at b MAX_HEAPS) (course.slots MAX_HEAPS)
 
 pub done_same : (a : HallView) (who : ℕ) → HasDone a a who []
 done_same a who = sym (append-nil (steps_of who a.mail))

@@ -1,5 +1,5 @@
 -- What the calls of a hall of plain values leave: the rules "Halls" and "Messages" of docs/PARTICIPANTS.md.
-use Rattle.std.specs.Prelude.{ℕ, ◌+◌, ◌-◌, ◌^◌, min, true, false, List, [], ◌∷◌, ◌++◌, map, replicate, slice_set}
+use Rattle.std.specs.Prelude.{ℕ, ◌+◌, ◌-◌, ◌^◌, min, List, [], ◌∷◌, ◌++◌, Some, None, map, replicate, slice_set}
 use Rattle.hp_base.specs.declared.plan.Action.{Action}
 use Rattle.hp_frame.specs.declared.frame.Frame.{Frame}
 use Rattle.hp_heap.specs.History.{HeapView}
@@ -12,12 +12,12 @@ use Rattle.hp_hall.specs.HallView.{HallView, SlotView}
 use Rattle.hp_hall.specs.Mail.{MailStep, Posts, Takes, Gives, after_step}
 use Rattle.hp_hall.specs.Own.{Own, after_ack}
 
--- a value at home in its slot, and one that was taken
+-- a value at home in its slot, and one that a participant has taken
 abbrev pub home_slot : Kept → SlotView
-home_slot kept = record { kept = kept; out = false }
+home_slot kept = record { kept = kept; holder = None }
 
-abbrev pub out_slot : Kept → SlotView
-out_slot kept = record { kept = kept; out = true }
+abbrev pub out_slot : ℕ → Kept → SlotView
+out_slot who kept = record { kept = kept; holder = Some who }
 
 abbrev pub heap_slot : HeapView → SlotView
 heap_slot heap = home_slot (Heap heap)
@@ -62,7 +62,7 @@ with_mail who step fulls hall = record hall {
 
 -- after a value was taken out of a slot
 abbrev pub after_take : ℕ → ℕ → Kept → HallView → HallView
-after_take who number kept hall = with_mail who (Takes number kept) hall.fulls (with_slot number (out_slot kept) hall)
+after_take who number kept hall = with_mail who (Takes number kept) hall.fulls (with_slot number (out_slot who kept) hall)
 
 -- after a value was given back to its slot
 abbrev pub after_give : ℕ → ℕ → Kept → HallView → HallView

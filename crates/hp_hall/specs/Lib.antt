@@ -1,4 +1,6 @@
 pub mod Slots
+pub mod Holding
+pub mod Standings
 pub mod Values
 pub mod Giving
 pub mod Own

@@ -6,6 +6,8 @@ use Rattle.hp_heap.specs.History as heaps
 use Rattle.hp_heap.specs.History.{entries_of}
 use Rattle.hp_log.specs.declared.log_record.LogRecord.{LogRecord}
 use Rattle.hp_segs.specs.Sound as segments
+use Rattle.hp_segs.specs.declared.outcome.AskLog.{AskLog}
+use Rattle.hp_hall.specs.Holding.{HeapPart}
 use Rattle.hp_hall.specs.declared.kept.Kept.{Kept}
 use Rattle.hp_hall.specs.declared.kept.Kept.TheVariants.{Heap, Segments}
 
@@ -37,12 +39,22 @@ abbrev pub log_of : Kept → List LogRecord
 log_of (Heap heap) = []
 log_of (Segments segs) = segs.log
 
+-- the outcomes of a segment value
+abbrev pub asks_of : Kept → List AskLog
+asks_of (Heap heap) = []
+asks_of (Segments segs) = segs.asks
+
 -- a heap has of a participant the entries that it made there
-abbrev pub HasEntries : ℕ → (ℕ → List Entry) → Kept → Type 0
-HasEntries who made (Heap heap) = entries_of who heap.history ≡ made heap.plain.index
-HasEntries who made (Segments segs) = ⊤
+abbrev pub HasEntries : ℕ → (ℕ → HeapPart) → Kept → Type 0
+HasEntries who part (Heap heap) = entries_of who heap.history ≡ (part heap.plain.index).entries
+HasEntries who part (Segments segs) = ⊤
 
 -- a segment value has the log that was seen
 abbrev pub HasLog : List LogRecord → Kept → Type 0
 HasLog seen (Heap heap) = ⊤
 HasLog seen (Segments segs) = segs.log ≡ seen
+
+-- a segment value has the outcomes that were heard
+abbrev pub HasAsks : List AskLog → Kept → Type 0
+HasAsks heard (Heap heap) = ⊤
+HasAsks heard (Segments segs) = segs.asks ≡ heard

@@ -1,13 +1,14 @@
 ghost use Rattle.std.specs.Prelude.{◌≡◌, ◌≢◌, ◌↔◌, ℕ, ◌+◌, ◌*◌, ◌<◌, ◌≤◌, ◌++◌, List, [], ◌∷◌, Option, Some, None, IfErr, IfOk, length, ◌==◌, if◌then◌else◌};
 ghost use Rattle.hp_base.specs.Streams.{HasRisen};
-ghost use Rattle.hp_heap.specs.declared.entry.Entry.{Entry};
 ghost use Rattle.hp_log.specs.declared.log_record.LogRecord.{LogRecord};
+ghost use Rattle.hp_segs.specs.declared.outcome.AskLog.{AskLog};
 ghost use Rattle.hp_hall.specs.declared.kept.Kept.{Kept};
-ghost use Rattle.hp_hall.specs.Giving.{IsElsewhere, IsGiveOf, MadeBy};
+ghost use Rattle.hp_hall.specs.Giving.{IsGiveOf};
+ghost use Rattle.hp_hall.specs.Holding.{HeapPart, IsGivenAs, IsTakenAs, StandsFor};
 ghost use Rattle.hp_hall.specs.Mail.{Fetches, Gives, MailStep, Posts, Takes, steps_of};
 ghost use Rattle.hp_hall.specs.Own.{Own, after_ack, after_partial};
 ghost use Rattle.hp_hall.specs.Slots.{IsSlot, slot_number};
-ghost use Rattle.hp_hall.specs.Values.{Fits, HasEntries, HasLog, IsSoundKept};
+ghost use Rattle.hp_hall.specs.Values.{Fits, HasAsks, HasEntries, HasLog, IsSoundKept};
 ghost use Rattle.hp_hall.specs.Weights.{fetched_weight, frame_weight};
 
 use crate::busy::Busy;
@@ -32,11 +33,15 @@ pub trait Hall {
     /// Whether a slot may be taken without a try: over plain values, where its value is there.
     ghost may_take: { Self → ℕ → Type 0 };
 
-    /// The entries that a participant made in the heap of an index, as far as they were given back.
-    ghost made: { Self → ℕ → ℕ → List Entry };
+    /// A participant's part in the heap of an index: the entries that it made there, as far as they were given back, and while it holds
+    /// the heap what the segment value has for it. Beside these, in each part alike, the ask with which the participant armed itself last.
+    ghost part: { Self → ℕ → ℕ → HeapPart };
 
     /// What a participant has seen of the log.
     ghost seen: { Self → ℕ → List LogRecord };
+
+    /// What a participant has seen of the outcomes that are logged.
+    ghost heard: { Self → ℕ → List AskLog };
 
     /// A participant's own part: its number, and up to which record it has unmapped.
     ghost own: { Self → ℕ → Own };
@@ -77,16 +82,20 @@ pub trait Hall {
         requires slot { IsSlot slot }
         requires home { may_take self.old (slot_number slot) }
 
-        // What was taken: the slot's value, which is sound, has this participant's entries and its log is what it has seen.
+        // What was taken: the slot's value, which is sound. A heap has this participant's entries and the pages of its own segments; a
+        // segment value has the log and the outcomes that were seen, and has of the heaps held what was known.
         ensures fits { Fits (slot_number slot) result }
         ensures sound { IsSoundKept result }
-        ensures entries { HasEntries me (made self.old me) result }
+        ensures entries { HasEntries me (part self.old me) result }
         ensures log { HasLog (seen self.new me) result }
+        ensures asks { HasAsks (heard self.new me) result }
+        ensures stands { StandsFor me (part self.new me) result }
         ensures taken { taken self.new (slot_number slot) ≡ Some result }
 
         ensures others { (number : ℕ) → number ≢ slot_number slot → taken self.new number ≡ taken self.old number }
         ensures home_of_others { (number : ℕ) → number ≢ slot_number slot → may_take self.old number → may_take self.new number }
-        ensures made { (who heap : ℕ) → made self.new who heap ≡ made self.old who heap }
+        ensures part { IsTakenAs result (part self.old me) (part self.new me) }
+        ensures part_of_others { (who heap : ℕ) → who ≢ me → part self.new who heap ≡ part self.old who heap }
         ensures own { (who : ℕ) → own self.new who ≡ own self.old who }
         ensures did { (who : ℕ) → did self.old self.new who
             (steps_of who ((me, Takes (slot_number slot) result) ∷ [])) }
@@ -102,8 +111,11 @@ pub trait Hall {
 
         ensures fits { IfOk result (λ kept. Fits (slot_number slot) kept) }
         ensures sound { IfOk result (λ kept. IsSoundKept kept) }
-        ensures entries { IfOk result (λ kept. HasEntries me (made self.old me) kept) }
+        ensures entries { IfOk result (λ kept. HasEntries me (part self.old me) kept) }
         ensures log { IfOk result (λ kept. HasLog (seen self.new me) kept) }
+        ensures asks { IfOk result (λ kept. HasAsks (heard self.new me) kept) }
+        ensures stands { IfOk result (λ kept. StandsFor me (part self.new me) kept) }
+        ensures part { IfOk result (λ kept. IsTakenAs kept (part self.old me) (part self.new me)) }
         ensures taken { IfOk result (λ kept. taken self.new (slot_number slot) ≡ Some kept) }
         ensures did { IfOk result (λ kept. (who : ℕ) → did self.old self.new who
             (steps_of who ((me, Takes (slot_number slot) kept) ∷ []))) }
@@ -113,10 +125,11 @@ pub trait Hall {
         ensures not_taken { IfErr result (λ busy. taken self.new (slot_number slot) ≡ taken self.old (slot_number slot)) }
         ensures did_nothing { IfErr result (λ busy. (who : ℕ) → did self.old self.new who []) }
         ensures still { IfErr result (λ busy. may_take self.new (slot_number slot)) }
+        ensures same_part { IfErr result (λ busy. (heap : ℕ) → part self.new me heap ≡ part self.old me heap) }
 
         ensures others { (number : ℕ) → number ≢ slot_number slot → taken self.new number ≡ taken self.old number }
         ensures home_of_others { (number : ℕ) → number ≢ slot_number slot → may_take self.old number → may_take self.new number }
-        ensures made { (who heap : ℕ) → made self.new who heap ≡ made self.old who heap }
+        ensures part_of_others { (who heap : ℕ) → who ≢ me → part self.new who heap ≡ part self.old who heap }
         ensures own { (who : ℕ) → own self.new who ≡ own self.old who }
         ensures weight { weight self.new ≤ weight self.old }
         ensures clock { clock self.new ≡ clock self.old }
@@ -129,20 +142,22 @@ pub trait Hall {
         requires gives { IsGiveOf (record {
           who = me;
           taken = taken self.old;
-          made = made self.old me;
+          part = part self.old me;
           number = (own self.old me).number;
           noted = noted self.old me;
+          seen = seen self.old me;
+          heard = heard self.old me;
         }) (slot_number slot) kept }
 
         ensures taken { taken self.new (slot_number slot) ≡ None }
         ensures home { may_take self.new (slot_number slot) }
-        ensures entries { MadeBy me kept (made self.new me) }
+        ensures part { IsGivenAs me kept (part self.old me) (part self.new me) }
         ensures log { HasLog (seen self.new me) kept }
+        ensures asks { HasAsks (heard self.new me) kept }
 
         ensures others { (number : ℕ) → number ≢ slot_number slot → taken self.new number ≡ taken self.old number }
         ensures home_of_others { (number : ℕ) → number ≢ slot_number slot → may_take self.old number → may_take self.new number }
-        ensures made_elsewhere { (heap : ℕ) → IsElsewhere heap kept → made self.new me heap ≡ made self.old me heap }
-        ensures made_by_others { (who heap : ℕ) → who ≢ me → made self.new who heap ≡ made self.old who heap }
+        ensures part_of_others { (who heap : ℕ) → who ≢ me → part self.new who heap ≡ part self.old who heap }
         ensures own { (who : ℕ) → own self.new who ≡ own self.old who }
         ensures did { (who : ℕ) → did self.old self.new who
             (steps_of who ((me, Gives (slot_number slot) kept) ∷ [])) }
@@ -159,7 +174,7 @@ pub trait Hall {
         ensures others { (who : ℕ) → who ≢ me → own self.new who ≡ own self.old who }
         ensures taken { (number : ℕ) → taken self.new number ≡ taken self.old number }
         ensures home { (number : ℕ) → may_take self.old number → may_take self.new number }
-        ensures made { (who heap : ℕ) → made self.new who heap ≡ made self.old who heap }
+        ensures part { (who heap : ℕ) → part self.new who heap ≡ part self.old who heap }
         ensures did { (who : ℕ) → did self.old self.new who [] }
         ensures weight { weight self.new ≤ weight self.old }
         ensures clock { clock self.new ≡ clock self.old }
@@ -172,7 +187,7 @@ pub trait Hall {
         ensures others { (who : ℕ) → who ≢ me → own self.new who ≡ own self.old who }
         ensures taken { (number : ℕ) → taken self.new number ≡ taken self.old number }
         ensures home { (number : ℕ) → may_take self.old number → may_take self.new number }
-        ensures made { (who heap : ℕ) → made self.new who heap ≡ made self.old who heap }
+        ensures part { (who heap : ℕ) → part self.new who heap ≡ part self.old who heap }
         ensures did { (who : ℕ) → did self.old self.new who [] }
         ensures weight { weight self.new ≤ weight self.old }
         ensures clock { clock self.new ≡ clock self.old }
@@ -186,7 +201,7 @@ pub trait Hall {
         ensures mine { participant ≡ me → result ≡ (own self.old me).number }
         ensures taken { (number : ℕ) → taken self.new number ≡ taken self.old number }
         ensures home { (number : ℕ) → may_take self.old number → may_take self.new number }
-        ensures made { (who heap : ℕ) → made self.new who heap ≡ made self.old who heap }
+        ensures part { (who heap : ℕ) → part self.new who heap ≡ part self.old who heap }
         ensures own { (who : ℕ) → own self.new who ≡ own self.old who }
         ensures did { (who : ℕ) → did self.old self.new who [] }
         ensures weight { weight self.new ≤ weight self.old }
@@ -204,7 +219,7 @@ pub trait Hall {
         ensures full { result ≡ Posted.Full → HasRisen (fulls self.old) (fulls self.new) }
         ensures taken { (number : ℕ) → taken self.new number ≡ taken self.old number }
         ensures home { (number : ℕ) → may_take self.old number → may_take self.new number }
-        ensures made { (who heap : ℕ) → made self.new who heap ≡ made self.old who heap }
+        ensures part { (who heap : ℕ) → part self.new who heap ≡ part self.old who heap }
         ensures own { (who : ℕ) → own self.new who ≡ own self.old who }
         ensures weight { weight self.new ≤ weight self.old + scale * (2 * frame_weight frame) }
         ensures clock { clock self.new ≡ clock self.old }
@@ -216,7 +231,7 @@ pub trait Hall {
         ensures did { (who : ℕ) → did self.old self.new who (steps_of who ((me, Fetches result) ∷ [])) }
         ensures taken { (number : ℕ) → taken self.new number ≡ taken self.old number }
         ensures home { (number : ℕ) → may_take self.old number → may_take self.new number }
-        ensures made { (who heap : ℕ) → made self.new who heap ≡ made self.old who heap }
+        ensures part { (who heap : ℕ) → part self.new who heap ≡ part self.old who heap }
         ensures own { (who : ℕ) → own self.new who ≡ own self.old who }
         ensures weight { weight self.new + scale * fetched_weight result ≤ weight self.old }
         ensures clock { clock self.new ≡ clock self.old }
@@ -228,7 +243,7 @@ pub trait Hall {
         ensures before { (deadline : ℕ) → result < deadline → pending (clock self.new) deadline ≡ scale }
         ensures taken { (number : ℕ) → taken self.new number ≡ taken self.old number }
         ensures home { (number : ℕ) → may_take self.old number → may_take self.new number }
-        ensures made { (who heap : ℕ) → made self.new who heap ≡ made self.old who heap }
+        ensures part { (who heap : ℕ) → part self.new who heap ≡ part self.old who heap }
         ensures own { (who : ℕ) → own self.new who ≡ own self.old who }
         ensures did { (who : ℕ) → did self.old self.new who [] }
         ensures weight { weight self.new ≤ weight self.old }
@@ -240,13 +255,15 @@ pub trait Hall {
 
     ghost goes_on_then: { (a b c : Self) → goes_on a b → goes_on b c → goes_on a c };
 
-    /// On its course a hall has the same participants, goes on to serve those whom it served, and what was seen of the log, the
-    /// numbers that are known of others and the count of full mailboxes grow.
+    /// On its course a hall has the same participants, goes on to serve those whom it served, and what was seen of the log and
+    /// of the outcomes, the numbers that are known of others and the count of full mailboxes grow.
     ghost goes_on_count: { (a b : Self) → goes_on a b → count b ≡ count a };
 
     ghost goes_on_serves: { (a b : Self) (who : ℕ) → goes_on a b → serves a who → serves b who };
 
     ghost goes_on_seen: { (a b : Self) (who : ℕ) → goes_on a b → (more : List LogRecord) × (seen b who ≡ seen a who ++ more) };
+
+    ghost goes_on_heard: { (a b : Self) (who : ℕ) → goes_on a b → (more : List AskLog) × (heard b who ≡ heard a who ++ more) };
 
     ghost goes_on_noted: { (a b : Self) (who other : ℕ) → goes_on a b → noted a who other ≤ noted b who other };
 

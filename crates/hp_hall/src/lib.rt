@@ -4,6 +4,7 @@
 mod busy;
 mod hall;
 mod kept;
+mod laws;
 mod mail_log;
 mod mailbox;
 mod own_part;
@@ -18,6 +19,7 @@ mod waiting;
 pub use busy::Busy;
 pub use hall::Hall;
 pub use kept::Kept;
+pub use laws::{arming_law, holding_law, standing_law};
 pub use mailbox::MAILBOX_FRAMES;
 pub use plain_hall::{HallParts, PlainHall};
 pub use posted::Posted;

@@ -1,10 +1,11 @@
 //! A hall of plain values, in one thread.
-ghost use Rattle.std.specs.Prelude.{◌≡◌, ◌≤◌, ℕ, [], IfOk};
+ghost use Rattle.std.specs.Prelude.{◌≡◌, ◌≤◌, ℕ, [], IfOk, None};
 ghost use Rattle.hp_base.specs.declared.limits.TheConstants.{MAX_PARTICIPANTS};
 ghost use Rattle.hp_hall.specs.Course.{IsCourse};
-ghost use Rattle.hp_hall.specs.HallView.{IsHall, made_in};
+ghost use Rattle.hp_hall.specs.Holding.{IsArmed};
+ghost use Rattle.hp_hall.specs.HallView.{IsHall, part_in};
 ghost use Rattle.hp_hall.specs.HallSteps.{opening_hall, slots_of};
-ghost use Rattle.hp_hall.specs.Opening.{AreHome, AreInOrder, AreUnused};
+ghost use Rattle.hp_hall.specs.Opening.{AreHome, AreInOrder, AreUnused, HavePages};
 
 mod calls;
 mod messages;
@@ -49,6 +50,7 @@ pub struct HallParts {
 }
 
 impl Model for PlainHall {
+    ghost use Rattle.hp_hall.specs.Holding.{IsArmed};
     ghost use Rattle.hp_hall.specs.HallView.{HallView};
 
     ghost Value = { HallView };
@@ -61,8 +63,9 @@ impl Model for PlainHall {
 }
 
 impl PlainHall {
-    /// A hall of these values for so many participants: the heap at each place in the slot of that number. Nothing is out, the
-    /// mailboxes are empty, nobody has acknowledged a record, and the clock stands at 0. Own.
+    /// A hall of these values for so many participants: the heap at each place in the slot of that number. Each heap has the pages
+    /// that the segment value has for it, and that value's growth and outcomes are of armed asks. Nothing is out, the mailboxes are
+    /// empty, nobody has acknowledged a record, and the clock stands at 0. Own.
     pub fn new(
         alloc: Global,
         participants: u8,
@@ -71,11 +74,15 @@ impl PlainHall {
     ) -> Result<PlainHall, AllocError>
         requires few { participants ≤ MAX_PARTICIPANTS }
         requires heaps { AreInOrder heaps.items }
+        requires pages { HavePages heaps.items segs }
+        requires armed { IsArmed segs }
         ensures hall { IfOk result (λ hall. hall ≡ opening_hall participants heaps.items segs) }
 
-        // Over heaps without a call nobody has made an entry.
-        ensures unused { IfOk result (λ hall. AreUnused heaps.items → (who number : ℕ) → made_in hall who number ≡ []) }
+        // Over heaps without a call nobody has made an entry, and nobody holds a heap.
+        ensures unused { IfOk result (λ hall. AreUnused heaps.items → (who number : ℕ) → (part_in hall who number).entries ≡ []) }
+        ensures unheld { IfOk result (λ hall. (who number : ℕ) → (part_in hall who number).holding ≡ None) }
     {
+        let _records = segs.records();
         let mut heaps = heaps;
         let slots = into_slots(alloc, &mut heaps, segs)?;
         Ok(PlainHall {
@@ -123,8 +130,8 @@ impl PlainHall {
         self.clock = reading;
     }
 
-    /// What holds of every hall: each value is one of its slot, and each participant has a mailbox and its own part. It does
-    /// nothing.
+    /// What holds of every hall: each value is one of its slot, each participant has a mailbox and its own part, the segment value is
+    /// sound with its growth and outcomes of armed asks, and each heap at home has the pages that it owns. It does nothing.
     pub fn sound(&self)
         ensures { IsHall self.now }
     {

@@ -1,4 +1,4 @@
-ghost use Rattle.std.specs.Prelude.{◌≡◌, true, false, length};
+ghost use Rattle.std.specs.Prelude.{◌≡◌, Some, None, length};
 ghost use Rattle.hp_hall.specs.HallSteps.{home_slot, out_slot};
 ghost use Rattle.hp_hall.specs.Values.{log_of};
 
@@ -7,7 +7,8 @@ use std::marker::Model;
 use std::mem;
 use std::snapshot::Snapshot;
 
-// A slot of a hall of plain values: its value, or the value as it was taken, of which the number of records alone is kept.
+// A slot of a hall of plain values: its value, or the value as it was taken and who holds it. Of a value that is out the number of
+// records alone is kept.
 #[derive(Drop)]
 pub(crate) struct SlotState {
     state: State,
@@ -16,7 +17,7 @@ pub(crate) struct SlotState {
 #[derive(Drop)]
 enum State {
     Home(Kept),
-    Out(Snapshot<Kept>, usize),
+    Out(Snapshot<Kept>, usize, u8),
 }
 
 impl Model for SlotState {
@@ -41,14 +42,14 @@ impl SlotState {
         }
     }
 
-    // Its value goes out.
-    pub fn take(&mut self) -> Kept
-        requires home { self.old.out ≡ false }
+    // Its value goes out, to the participant that holds it from then on.
+    pub fn take(&mut self, who: u8) -> Kept
+        requires home { self.old.holder ≡ None }
         ensures kept { self.old ≡ home_slot result }
-        ensures out { self.new ≡ out_slot result }
+        ensures out { self.new ≡ out_slot who result }
     {
         let out = match &self.state {
-            State::Home(kept) => State::Out(Snapshot::of(kept), kept.records()),
+            State::Home(kept) => State::Out(Snapshot::of(kept), kept.records(), who),
             State::Out(..) => unreachable!(),
         };
         match mem::replace(&mut self.state, out) {
@@ -70,13 +71,13 @@ impl SlotState {
     {
         match &self.state {
             State::Home(kept) => kept.records(),
-            State::Out(_, records) => *records,
+            State::Out(_, records, _) => *records,
         }
     }
 
     // Its value, at the end.
     pub fn into_kept(self) -> Kept
-        requires home { self.out ≡ false }
+        requires home { self.holder ≡ None }
         ensures { self ≡ home_slot result }
     {
         match self.state {

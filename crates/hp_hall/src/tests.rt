@@ -1,6 +1,8 @@
 //! Two participants in a hall of plain values, by hand.
-ghost use Rattle.std.specs.Prelude.{◌≡◌, ◌<◌, ℕ, [], IfOk, length};
-ghost use Rattle.hp_hall.specs.HallView.{made_in, own_at};
+ghost use Rattle.std.specs.Prelude.{◌≡◌, ◌<◌, ℕ, [], IfOk, Some, length, slice_get};
+ghost use Rattle.hp_heap.specs.History.{HeapView};
+ghost use Rattle.hp_hall.specs.HallView.{own_at, part_in};
+ghost use Rattle.hp_hall.specs.Holding.{IsArmed, owned_by};
 ghost use Rattle.hp_hall.specs.Opening.{AreHome, AreInOrder, AreUnused};
 
 mod messages;
@@ -20,6 +22,7 @@ const PAGE: u64 = 0x20_0000;
 fn vacant_heaps(alloc: Global) -> Result<Vec<Heap>, AllocError>
     ensures order { IfOk result (λ heaps. AreInOrder heaps.items) }
     ensures unused { IfOk result (λ heaps. AreUnused heaps.items) }
+    ensures bare { IfOk result (λ heaps. (number : ℕ) (heap : HeapView) → slice_get heaps.items number ≡ Some heap → heap.plain.pages ≡ []) }
 {
     let mut heaps = Vec::with_capacity(alloc, MAX_HEAPS)?;
     for index in 0..MAX_HEAPS as u32 {
@@ -28,8 +31,11 @@ fn vacant_heaps(alloc: Global) -> Result<Vec<Heap>, AllocError>
     Ok(heaps)
 }
 
-// A segment value with the record of an open growth.
-fn grown_segs(alloc: Global) -> Result<Segs, Fail> {
+// A segment value with the record of an open growth, whose asker is armed with its ask. No heap owns a segment.
+fn grown_segs(alloc: Global) -> Result<Segs, Fail>
+    ensures armed { IfOk result (λ segs. IsArmed segs) }
+    ensures unowned { IfOk result (λ segs. (heap : ℕ) → owned_by heap segs ≡ []) }
+{
     let pool = PoolLine {
         socket: 0,
         page: PAGE,
@@ -46,6 +52,7 @@ fn grown_segs(alloc: Global) -> Result<Segs, Fail> {
         page: PAGE,
         request,
     };
+    segs.arm(&ask)?;
     segs.reserve_records(1)?;
     let Ok(run) = segs.plan_run(&ask) else {
         return Err("a planned run".into());
@@ -66,7 +73,7 @@ fn read(hall: &mut PlainHall, me: u8) -> u64
 fn hall_of_two(alloc: Global) -> Result<PlainHall, Fail>
     ensures two { IfOk result (λ hall. length hall.owns ≡ 2) }
     ensures home { IfOk result (λ hall. AreHome hall) }
-    ensures unused { IfOk result (λ hall. (who number : ℕ) → made_in hall who number ≡ []) }
+    ensures unused { IfOk result (λ hall. (who number : ℕ) → (part_in hall who number).entries ≡ []) }
     ensures nothing_yet { IfOk result (λ hall. (own_at hall 1).number ≡ 0) }
 {
     let segs = grown_segs(alloc)?;

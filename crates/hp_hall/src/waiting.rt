@@ -15,7 +15,7 @@ pub trait Waiting: Hall {
         requires home { Self.may_take self.old MAX_HEAPS }
         ensures taken { (number : ℕ) → Self.taken self.new number ≡ Self.taken self.old number }
         ensures home { (number : ℕ) → Self.may_take self.old number → Self.may_take self.new number }
-        ensures made { (heap : ℕ) → Self.made self.new me heap ≡ Self.made self.old me heap }
+        ensures part { (heap : ℕ) → Self.part self.new me heap ≡ Self.part self.old me heap }
         ensures own { Self.own self.new me ≡ Self.own self.old me }
         ensures did { Self.did self.old self.new me [] }
         ensures weight { Self.weight self.new + Self.scale * moved_of result ≤ Self.weight self.old }
@@ -33,7 +33,7 @@ pub trait Waiting: Hall {
         ensures clock { (Self.clock self.new ≡ Self.clock self.old) ⊎ IsSomeAnd until (λ deadline. Self.clock self.new ≤ deadline) }
         ensures taken { (number : ℕ) → Self.taken self.new number ≡ Self.taken self.old number }
         ensures home { (number : ℕ) → Self.may_take self.old number → Self.may_take self.new number }
-        ensures made { (heap : ℕ) → Self.made self.new me heap ≡ Self.made self.old me heap }
+        ensures part { (heap : ℕ) → Self.part self.new me heap ≡ Self.part self.old me heap }
         ensures own { Self.own self.new me ≡ Self.own self.old me }
         ensures did { Self.did self.old self.new me [] }
         ensures goes_on { Self.goes_on self.old self.new };

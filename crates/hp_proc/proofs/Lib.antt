@@ -11,6 +11,7 @@ mod StepFalls
 mod Scaled
 mod Weighs
 mod Noting
+pub mod Standing
 mod Steps
 mod MemberLemmas
 mod AskedLemmas

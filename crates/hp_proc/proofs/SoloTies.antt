@@ -1,11 +1,11 @@
 -- Participants that serve in one thread: their ties over the course of the hall, and what serving one after another leaves.
-use Rattle.std.proofs.Common.{◌≡◌, ◌≢◌, ℕ, ◌<◌, Bool, true, false, if◌then◌else◌, List, [], length, set, Option, Some, None, refl, sym, ap, subst, ◌∙◌, ⊎_elim, arith}
+use Rattle.std.proofs.Common.{◌≡◌, ◌≢◌, ℕ, ◌<◌, Bool, true, List, [], length, set, Option, Some, None, refl, sym, ap, subst, ◌∙◌, ⊎_elim, arith}
 use Rattle.std.specs.List.{slice_get}
+use Rattle.std.specs.Option.{option_map}
 use Rattle.std.proofs.lemmas.Bool.{cases_eq}
 use Rattle.std.proofs.lemmas.Option.{same_Some, slice_get_within}
 use Rattle.hp_hall.proofs.Slotted.{slice_get-set_other, slice_get-set_same}
 use Rattle.hp_hall.specs.Course.{IsCourse, course_same, course_seen, course_then, done_same, done_then}
-use Rattle.hp_hall.specs.declared.kept.Kept.{Kept}
 use Rattle.hp_hall.specs.HallView.{HallView, SlotView, IsHome, own_at, seen_in, taken_from}
 use Rattle.hp_hall.specs.Own.{Own}
 use Rattle.hp_maps.specs.MapsView.{MapsView}
@@ -30,14 +30,10 @@ tied_on old new who party course same at = record {
       (tied_later old new (own_at old who) party.joined party.maps course at.tied);
 }
 
-free_if : (out : Bool) (kept : Kept) → out ≡ false → (if out then Some kept else None) ≡ None
-free_if true kept home = cc
-free_if false kept home = refl
-
 -- what is there was not taken
 pub free_home : (slot : Option SlotView) → IsHome slot → taken_from slot ≡ None
 free_home None home = absurd home
-free_home (Some slot) home = free_if slot.out slot.kept home
+free_home (Some slot) home = ap (option_map (λ holder. slot.kept)) home
 
 -- who is away is not there
 away_none : (server : Option ServerView) → IsAway server → party_in server ≡ None
@@ -92,7 +88,7 @@ serving_same apart hall = record {
   course = course_same hall;
   taken = λ number. refl;
   home = λ number home. home;
-  made = λ who heap. refl;
+  part = λ who heap. refl;
   own = λ who is. refl;
   did = λ who is. done_same hall who;
   clock = refl;
@@ -103,7 +99,7 @@ serving_then apart a b c here next = record {
   course = course_then a b c here.course next.course;
   taken = λ number. next.taken number ∙ here.taken number;
   home = λ number home. next.home number (here.home number home);
-  made = λ who heap. next.made who heap ∙ here.made who heap;
+  part = λ who heap. next.part who heap ∙ here.part who heap;
   own = λ who is. next.own who is ∙ here.own who is;
   did = λ who is. done_then a b c who [] [] (here.did who is) (next.did who is);
   clock = next.clock ∙ here.clock;
@@ -115,7 +111,7 @@ serving_narrow apart fewer old new narrow is = record {
   course = is.course;
   taken = is.taken;
   home = is.home;
-  made = is.made;
+  part = is.part;
   own = λ who few. is.own who (narrow who few);
   did = λ who few. is.did who (narrow who few);
   clock = is.clock;

@@ -3,7 +3,7 @@ use Rattle.std.specs.Prelude.{◌≡◌, ◌≢◌, ℕ, ◌+◌, ◌<◌, ◌�
 use Rattle.std.specs.List.{list_any}
 use Rattle.hp_base.specs.declared.limits.TheConstants.{MAX_HEAPS}
 use Rattle.hp_hall.specs.Course.{IsCourse}
-use Rattle.hp_hall.specs.HallView.{HallView, HasDone, IsHome, made_in, own_at, seen_in, slot_at, taken_from}
+use Rattle.hp_hall.specs.HallView.{HallView, HasDone, IsHome, part_in, own_at, seen_in, slot_at, taken_from}
 use Rattle.hp_hall.specs.Weights.{boxes_weight, pending_at}
 use Rattle.hp_proc.specs.Falling.{own_weight}
 use Rattle.hp_proc.specs.Party.{IsSameParty, Party, due_in}
@@ -111,7 +111,7 @@ pub record IsServing (apart : ℕ → Type 0) (old new : HallView) : Type 0 wher
   pub course : IsCourse old new
   pub taken : (number : ℕ) → taken_from (slot_at new number) ≡ taken_from (slot_at old number)
   pub home : (number : ℕ) → IsHome (slot_at old number) → IsHome (slot_at new number)
-  pub made : (who heap : ℕ) → made_in new who heap ≡ made_in old who heap
+  pub part : (who heap : ℕ) → part_in new who heap ≡ part_in old who heap
   pub own : (who : ℕ) → apart who → own_at new who ≡ own_at old who
   pub did : (who : ℕ) → apart who → HasDone old new who []
   pub clock : new.clock ≡ old.clock

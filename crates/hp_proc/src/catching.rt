@@ -61,7 +61,7 @@ pub(crate) fn take_in<H: Hall, M: Mapper>(
     ensures noted { (who other : ℕ) → H.noted hall.old who other ≤ H.noted hall.new who other }
     ensures taken { (number : ℕ) → H.taken hall.new number ≡ H.taken hall.old number }
     ensures home { (number : ℕ) → H.may_take hall.old number → H.may_take hall.new number }
-    ensures made { (who heap : ℕ) → H.made hall.new who heap ≡ H.made hall.old who heap }
+    ensures part { (who heap : ℕ) → H.part hall.new who heap ≡ H.part hall.old who heap }
     ensures did { (who : ℕ) → H.did hall.old hall.new who [] }
     ensures weight { H.weight hall.new ≤ H.weight hall.old }
     ensures clock { H.clock hall.new ≡ H.clock hall.old }

@@ -7,6 +7,7 @@ ghost use Rattle.hp_base.specs.declared.plan_entry.MsgKind.{MsgKind};
 ghost use Rattle.hp_core.specs.Following.{after_catching, reply_of};
 ghost use Rattle.hp_frame.specs.Spelling.{HasFieldValues};
 ghost use Rattle.hp_frame.specs.declared.frame.Frame.{Frame};
+ghost use Rattle.hp_hall.specs.Holding.{AreStanding};
 ghost use Rattle.hp_hall.specs.declared.kept.Kept.{Kept};
 ghost use Rattle.hp_hall.specs.declared.posted.Posted.{Posted};
 ghost use Rattle.hp_hall.specs.Mail.{Posts};
@@ -42,7 +43,7 @@ fn post_reply<H: Hall>(hall: &mut H, me: u8, plan: &Plan, replies: u64, body: Bo
     ensures seen { (more : List LogRecord) × (H.seen hall.new me ≡ H.seen hall.old me ++ more) }
     ensures taken { (number : ℕ) → H.taken hall.new number ≡ H.taken hall.old number }
     ensures home { (number : ℕ) → H.may_take hall.old number → H.may_take hall.new number }
-    ensures made { (who heap : ℕ) → H.made hall.new who heap ≡ H.made hall.old who heap }
+    ensures part { (who heap : ℕ) → H.part hall.new who heap ≡ H.part hall.old who heap }
     ensures own { (who : ℕ) → H.own hall.new who ≡ H.own hall.old who }
     ensures did_others { (who : ℕ) → who ≢ me → H.did hall.old hall.new who [] }
     ensures clock { H.clock hall.new ≡ H.clock hall.old }
@@ -60,6 +61,7 @@ fn give_noted<H: Hall>(hall: &mut H, me: u8, caught: &Caught, segs: Segs) -> Bod
     requires serves { H.serves hall.old me }
     requires member { is_member segs.roster me ≡ true }
     requires taken { H.taken hall.old MAX_HEAPS ≡ Some (Kept.Segments segs) }
+    requires standing { AreStanding me (H.part hall.old me) segs }
     ensures reply { result ≡ reply_of me caught.now segs }
     ensures log { H.seen hall.new me ≡ segs.log }
     ensures free { H.taken hall.new MAX_HEAPS ≡ None }
@@ -69,7 +71,7 @@ fn give_noted<H: Hall>(hall: &mut H, me: u8, caught: &Caught, segs: Segs) -> Bod
 
     ensures others { (number : ℕ) → number ≢ MAX_HEAPS → H.taken hall.new number ≡ H.taken hall.old number }
     ensures home_of_others { (number : ℕ) → number ≢ MAX_HEAPS → H.may_take hall.old number → H.may_take hall.new number }
-    ensures made { (who heap : ℕ) → H.made hall.new who heap ≡ H.made hall.old who heap }
+    ensures part { (who heap : ℕ) → H.part hall.new who heap ≡ H.part hall.old who heap }
     ensures own { (who : ℕ) → H.own hall.new who ≡ H.own hall.old who }
     ensures did_others { (who : ℕ) → who ≢ me → H.did hall.old hall.new who [] }
     ensures clock { H.clock hall.new ≡ H.clock hall.old }
@@ -100,6 +102,7 @@ pub(crate) fn obey<H: Hall, M: Mapper>(
     requires member { is_member segs.roster me ≡ true }
     requires seen { segs.log ≡ H.seen hall.old me }
     requires taken { H.taken hall.old MAX_HEAPS ≡ Some (Kept.Segments segs) }
+    requires standing { AreStanding me (H.part hall.old me) segs }
     requires tied { IsTied segs.log (H.own hall.old me) joined maps.old }
     requires calls { calls_of maps.old ≤ 2 ^ 63 }
     ensures caught { CatchesUp segs.log maps.old maps.new result }
@@ -113,7 +116,7 @@ pub(crate) fn obey<H: Hall, M: Mapper>(
 
     ensures others { (number : ℕ) → number ≢ MAX_HEAPS → H.taken hall.new number ≡ H.taken hall.old number }
     ensures home_of_others { (number : ℕ) → number ≢ MAX_HEAPS → H.may_take hall.old number → H.may_take hall.new number }
-    ensures made { (who heap : ℕ) → H.made hall.new who heap ≡ H.made hall.old who heap }
+    ensures part { (who heap : ℕ) → H.part hall.new who heap ≡ H.part hall.old who heap }
     ensures own { (who : ℕ) → who ≢ me → H.own hall.new who ≡ H.own hall.old who }
     ensures did_others { (who : ℕ) → who ≢ me → H.did hall.old hall.new who [] }
     ensures clock { H.clock hall.new ≡ H.clock hall.old }

@@ -5,7 +5,9 @@ ghost use Rattle.hp_base.specs.declared.limits.TheConstants.{MAX_HEAPS};
 ghost use Rattle.hp_core.specs.Conditions.{NamesParticipants};
 ghost use Rattle.hp_core.specs.Core.{IsStepped};
 ghost use Rattle.hp_hall.specs.Giving.{GivesSegments, Knows};
+ghost use Rattle.hp_hall.specs.Holding.{AreStanding};
 ghost use Rattle.hp_hall.specs.Mail.{MailStep};
+ghost use Rattle.hp_hall.specs.Standings.{LeavesStanding};
 ghost use Rattle.hp_hall.specs.declared.kept.Kept.{Kept};
 ghost use Rattle.hp_log.specs.declared.log_record.LogRecord.{LogRecord};
 ghost use Rattle.hp_segs.specs.SegsView.{SegsView};
@@ -45,6 +47,9 @@ fn step_with_room(
     // What it leaves may be given back by whoever knows what the event tells.
     ensures gives { (knows : Knows) → IsTrueOf knows.noted (length segs.old.log) event
         → GivesSegments knows segs.old segs.new }
+
+    // It leaves what the value has for each heap, and the ask of each who is armed.
+    ensures leaves { LeavesStanding segs.old segs.new }
 {
     core_law();
     make_room(segs)?;
@@ -62,6 +67,7 @@ pub(crate) fn hand<H: Hall>(
 ) -> Result<Out, AllocError>
     requires serves { H.serves hall.old 0 }
     requires taken { H.taken hall.old MAX_HEAPS ≡ Some (Kept.Segments segs) }
+    requires standing { AreStanding 0 (H.part hall.old 0) segs }
     requires sound { IsSound segs }
     requires names { NamesParticipants event }
     requires known { IsTrueOf (H.noted hall.old 0) (length segs.log) event }
@@ -74,7 +80,7 @@ pub(crate) fn hand<H: Hall>(
 
     ensures others { (number : ℕ) → number ≢ MAX_HEAPS → H.taken hall.new number ≡ H.taken hall.old number }
     ensures home_of_others { (number : ℕ) → number ≢ MAX_HEAPS → H.may_take hall.old number → H.may_take hall.new number }
-    ensures made { (who heap : ℕ) → H.made hall.new who heap ≡ H.made hall.old who heap }
+    ensures part { (who heap : ℕ) → H.part hall.new who heap ≡ H.part hall.old who heap }
     ensures own { (who : ℕ) → H.own hall.new who ≡ H.own hall.old who }
     ensures did_others { (who : ℕ) → who ≢ 0 → H.did hall.old hall.new who [] }
     ensures clock { H.clock hall.new ≡ H.clock hall.old }
@@ -107,7 +113,7 @@ pub(crate) fn take_and_hand<H: Hall>(
     ensures home { (number : ℕ) → H.may_take hall.old number → H.may_take hall.new number }
     ensures weight { H.weight hall.new ≤ H.weight hall.old }
 
-    ensures made { (who heap : ℕ) → H.made hall.new who heap ≡ H.made hall.old who heap }
+    ensures part { (who heap : ℕ) → H.part hall.new who heap ≡ H.part hall.old who heap }
     ensures own { (who : ℕ) → H.own hall.new who ≡ H.own hall.old who }
     ensures did_others { (who : ℕ) → who ≢ 0 → H.did hall.old hall.new who [] }
     ensures clock { H.clock hall.new ≡ H.clock hall.old }

@@ -5,6 +5,7 @@ ghost use Rattle.hp_base.specs.Mapping.{is_done};
 ghost use Rattle.hp_base.specs.declared.caught.Caught.{Caught};
 ghost use Rattle.hp_base.specs.declared.limits.TheConstants.{MAX_HEAPS};
 ghost use Rattle.hp_core.specs.declared.event.CoreEvent.TheVariants.{SelfMapped};
+ghost use Rattle.hp_hall.specs.Holding.{AreStanding};
 ghost use Rattle.hp_hall.specs.Mail.{MailStep};
 ghost use Rattle.hp_hall.specs.declared.kept.Kept.{Kept};
 ghost use Rattle.hp_log.specs.declared.log_record.LogRecord.{LogRecord};
@@ -36,6 +37,7 @@ fn catch_and_hand<H: Hall, M: Mapper>(
     requires serves { H.serves hall.old 0 }
     requires declared { 0 < H.count hall.old }
     requires taken { H.taken hall.old MAX_HEAPS ≡ Some (Kept.Segments segs) }
+    requires standing { AreStanding 0 (H.part hall.old 0) segs }
     requires sound { IsSound segs }
     requires log { segs.log ≡ H.seen hall.old 0 }
     requires tied { IsTied segs.log (H.own hall.old 0) joined.old maps.old }
@@ -51,7 +53,7 @@ fn catch_and_hand<H: Hall, M: Mapper>(
 
     ensures others { (number : ℕ) → number ≢ MAX_HEAPS → H.taken hall.new number ≡ H.taken hall.old number }
     ensures home_of_others { (number : ℕ) → number ≢ MAX_HEAPS → H.may_take hall.old number → H.may_take hall.new number }
-    ensures made { (who heap : ℕ) → H.made hall.new who heap ≡ H.made hall.old who heap }
+    ensures part { (who heap : ℕ) → H.part hall.new who heap ≡ H.part hall.old who heap }
     ensures did_others { (who : ℕ) → who ≢ 0 → H.did hall.old hall.new who [] }
     ensures clock { H.clock hall.new ≡ H.clock hall.old }
     ensures count { H.count hall.new ≡ H.count hall.old }
@@ -89,7 +91,7 @@ pub(crate) fn map_self<H: Hall, M: Mapper>(
     ensures home { (number : ℕ) → H.may_take hall.old number → H.may_take hall.new number }
     ensures weight { H.weight hall.new ≤ H.weight hall.old }
 
-    ensures made { (who heap : ℕ) → H.made hall.new who heap ≡ H.made hall.old who heap }
+    ensures part { (who heap : ℕ) → H.part hall.new who heap ≡ H.part hall.old who heap }
     ensures did_others { (who : ℕ) → who ≢ 0 → H.did hall.old hall.new who [] }
     ensures clock { H.clock hall.new ≡ H.clock hall.old }
     ensures count { H.count hall.new ≡ H.count hall.old }

@@ -20,7 +20,7 @@ fn load_number<H: Hall>(hall: &mut H, count: u8, member: u8) -> u64
     ensures more_noted { (other : ℕ) → H.noted hall.old 0 other ≤ H.noted hall.new 0 other }
     ensures taken { (number : ℕ) → H.taken hall.new number ≡ H.taken hall.old number }
     ensures home { (number : ℕ) → H.may_take hall.old number → H.may_take hall.new number }
-    ensures made { (who heap : ℕ) → H.made hall.new who heap ≡ H.made hall.old who heap }
+    ensures part { (who heap : ℕ) → H.part hall.new who heap ≡ H.part hall.old who heap }
     ensures own { (who : ℕ) → H.own hall.new who ≡ H.own hall.old who }
     ensures did { (who : ℕ) → H.did hall.old hall.new who [] }
     ensures weight { H.weight hall.new ≤ H.weight hall.old }
@@ -44,7 +44,7 @@ pub(crate) fn load_acks<H: Hall>(hall: &mut H) -> [u64; 16]
     ensures seen { (more : List LogRecord) × (H.seen hall.new 0 ≡ H.seen hall.old 0 ++ more) }
     ensures taken { (number : ℕ) → H.taken hall.new number ≡ H.taken hall.old number }
     ensures home { (number : ℕ) → H.may_take hall.old number → H.may_take hall.new number }
-    ensures made { (who heap : ℕ) → H.made hall.new who heap ≡ H.made hall.old who heap }
+    ensures part { (who heap : ℕ) → H.part hall.new who heap ≡ H.part hall.old who heap }
     ensures own { (who : ℕ) → H.own hall.new who ≡ H.own hall.old who }
     ensures did { (who : ℕ) → H.did hall.old hall.new who [] }
     ensures weight { H.weight hall.new ≤ H.weight hall.old }

@@ -63,7 +63,7 @@ pub(crate) fn post_next<H: Hall>(
     ensures seen { (more : List LogRecord) × (H.seen hall.new 0 ≡ H.seen hall.old 0 ++ more) }
     ensures taken { (number : ℕ) → H.taken hall.new number ≡ H.taken hall.old number }
     ensures home { (number : ℕ) → H.may_take hall.old number → H.may_take hall.new number }
-    ensures made { (who heap : ℕ) → H.made hall.new who heap ≡ H.made hall.old who heap }
+    ensures part { (who heap : ℕ) → H.part hall.new who heap ≡ H.part hall.old who heap }
     ensures own { (who : ℕ) → H.own hall.new who ≡ H.own hall.old who }
     ensures did_others { (who : ℕ) → who ≢ 0 → H.did hall.old hall.new who [] }
     ensures clock { H.clock hall.new ≡ H.clock hall.old }
@@ -97,7 +97,7 @@ fn tell_one<H: Hall>(
     ensures seen { (more : List LogRecord) × (H.seen hall.new 0 ≡ H.seen hall.old 0 ++ more) }
     ensures taken { (number : ℕ) → H.taken hall.new number ≡ H.taken hall.old number }
     ensures home { (number : ℕ) → H.may_take hall.old number → H.may_take hall.new number }
-    ensures made { (who heap : ℕ) → H.made hall.new who heap ≡ H.made hall.old who heap }
+    ensures part { (who heap : ℕ) → H.part hall.new who heap ≡ H.part hall.old who heap }
     ensures own { (who : ℕ) → H.own hall.new who ≡ H.own hall.old who }
     ensures did_others { (who : ℕ) → who ≢ 0 → H.did hall.old hall.new who [] }
     ensures clock { H.clock hall.new ≡ H.clock hall.old }
@@ -122,7 +122,7 @@ fn tell_each<H: Hall>(hall: &mut H, plan: &Plan, syncs: &mut [u64; 16], frame: F
     ensures seen { (more : List LogRecord) × (H.seen hall.new 0 ≡ H.seen hall.old 0 ++ more) }
     ensures taken { (number : ℕ) → H.taken hall.new number ≡ H.taken hall.old number }
     ensures home { (number : ℕ) → H.may_take hall.old number → H.may_take hall.new number }
-    ensures made { (who heap : ℕ) → H.made hall.new who heap ≡ H.made hall.old who heap }
+    ensures part { (who heap : ℕ) → H.part hall.new who heap ≡ H.part hall.old who heap }
     ensures own { (who : ℕ) → H.own hall.new who ≡ H.own hall.old who }
     ensures did_others { (who : ℕ) → who ≢ 0 → H.did hall.old hall.new who [] }
     ensures clock { H.clock hall.new ≡ H.clock hall.old }
@@ -158,7 +158,7 @@ pub(crate) fn tell_all<H: Hall>(
     ensures seen { (more : List LogRecord) × (H.seen hall.new 0 ≡ H.seen hall.old 0 ++ more) }
     ensures taken { (number : ℕ) → H.taken hall.new number ≡ H.taken hall.old number }
     ensures home { (number : ℕ) → H.may_take hall.old number → H.may_take hall.new number }
-    ensures made { (who heap : ℕ) → H.made hall.new who heap ≡ H.made hall.old who heap }
+    ensures part { (who heap : ℕ) → H.part hall.new who heap ≡ H.part hall.old who heap }
     ensures own { (who : ℕ) → H.own hall.new who ≡ H.own hall.old who }
     ensures did_others { (who : ℕ) → who ≢ 0 → H.did hall.old hall.new who [] }
     ensures clock { H.clock hall.new ≡ H.clock hall.old }

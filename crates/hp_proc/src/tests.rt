@@ -1,7 +1,9 @@
 //! Two participants in a hall of plain values, by hand: what each serving does, what it leaves in the log, and in which tables.
-ghost use Rattle.std.specs.Prelude.{◌≡◌, ◌<◌, List, IfOk};
+ghost use Rattle.std.specs.Prelude.{◌≡◌, ◌<◌, ℕ, List, [], Some, IfOk, slice_get};
 ghost use Rattle.hp_base.specs.declared.limits.TheConstants.{MAX_PARTICIPANTS};
+ghost use Rattle.hp_hall.specs.Holding.{IsArmed, owned_by};
 ghost use Rattle.hp_hall.specs.Opening.{AreInOrder};
+ghost use Rattle.hp_heap.specs.History.{HeapView};
 ghost use Rattle.hp_log.specs.declared.log_record.LogRecord.{LogRecord};
 ghost use Rattle.hp_proc.specs.Tied.{IsTied, nothing_yet};
 
@@ -9,7 +11,6 @@ mod acts;
 mod asks;
 mod frames;
 mod growths;
-mod pages;
 mod stage;
 
 use crate::Participant;
@@ -32,7 +33,8 @@ const DEADLINE: u64 = 200;
 
 // All heaps, without memory.
 pub(crate) fn vacant_heaps(alloc: Global) -> Result<Vec<Heap>, AllocError>
-    ensures { IfOk result (λ heaps. AreInOrder heaps.items) }
+    ensures order { IfOk result (λ heaps. AreInOrder heaps.items) }
+    ensures bare { IfOk result (λ heaps. (number : ℕ) (heap : HeapView) → slice_get heaps.items number ≡ Some heap → heap.plain.pages ≡ []) }
 {
     let mut heaps = Vec::with_capacity(alloc, MAX_HEAPS)?;
     for index in 0..MAX_HEAPS as u32 {
@@ -56,8 +58,12 @@ fn first_ask(from: u8) -> Result<Ask, Fail>
     })
 }
 
-// A segment value of the pool line `pool 0 2M 4`, of two participants, of whom participant 1 is armed with its first ask.
-fn armed_segs(alloc: Global) -> Result<Segs, Fail> {
+// A segment value of the pool line `pool 0 2M 4`, of two participants, of whom one is armed with its first ask. No heap owns a segment.
+pub(crate) fn armed_segs(alloc: Global, asker: u8) -> Result<Segs, Fail>
+    requires { asker < 2 }
+    ensures armed { IfOk result (λ segs. IsArmed segs) }
+    ensures unowned { IfOk result (λ segs. (heap : ℕ) → owned_by heap segs ≡ []) }
+{
     let pool = PoolLine {
         socket: 0,
         page: PAGE,
@@ -65,7 +71,8 @@ fn armed_segs(alloc: Global) -> Result<Segs, Fail> {
         slots: 4,
     };
     let mut segs = Segs::new(alloc, [pool].as_slice(), 2, 0)?;
-    segs.arm(&first_ask(1)?)?;
+    let ask = first_ask(asker)?;
+    segs.arm(&ask)?;
     Ok(segs)
 }
 

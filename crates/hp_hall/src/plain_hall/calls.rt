@@ -9,8 +9,8 @@ use hp_frame::Frame;
 
 impl Hall for PlainHall {
     ghost use Rattle.std.specs.Prelude.{◌<◌, length};
-    ghost use Rattle.hp_hall.specs.Course.{IsCourse, course_same, course_then, course_serves, course_seen, done_same, done_then};
-    ghost use Rattle.hp_hall.specs.HallView.{HasDone, IsHome, made_in, own_at, seen_in, slot_at, taken_from};
+    ghost use Rattle.hp_hall.specs.Course.{IsCourse, course_same, course_then, course_serves, course_seen, course_heard, done_same, done_then};
+    ghost use Rattle.hp_hall.specs.HallView.{HasDone, IsHome, heard_in, own_at, part_in, seen_in, slot_at, taken_from};
     ghost use Rattle.hp_hall.specs.Weights.{boxes_weight, pending_at, pending_most_one};
 
     ghost count = { λ hall. length hall.owns };
@@ -21,9 +21,11 @@ impl Hall for PlainHall {
 
     ghost may_take = { λ hall number. IsHome (slot_at hall number) };
 
-    ghost made = { made_in };
+    ghost part = { part_in };
 
     ghost seen = { λ hall who. seen_in hall };
+
+    ghost heard = { λ hall who. heard_in hall };
 
     ghost own = { own_at };
 
@@ -50,6 +52,7 @@ impl Hall for PlainHall {
     }
 
     fn take(&mut self, me: u8, slot: Slot) -> Kept {
+        self.sound();
         let kept = self.take_at(me, slot);
         kept.sound();
         kept
@@ -62,6 +65,7 @@ impl Hall for PlainHall {
 
     fn give(&mut self, me: u8, slot: Slot, kept: Kept) {
         self.sound();
+        kept.sound();
         self.give_at(me, slot, kept);
     }
 
@@ -100,6 +104,8 @@ impl Hall for PlainHall {
     ghost goes_on_serves = { course_serves };
 
     ghost goes_on_seen = { λ a b who course. course_seen a b course };
+
+    ghost goes_on_heard = { λ a b who course. course_heard a b course };
 
     ghost goes_on_noted = { λ a b who other course. course.numbers other };
 

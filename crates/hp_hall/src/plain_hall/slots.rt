@@ -1,6 +1,6 @@
 ghost use Rattle.std.specs.Prelude.{◌≡◌, ◌<◌, Some, length, slice_get, slice_set};
 ghost use Rattle.hp_hall.specs.HallSteps.{after_give, after_take, home_slot, out_slot};
-ghost use Rattle.hp_hall.specs.HallView.{IsHome, slot_at};
+ghost use Rattle.hp_hall.specs.HallView.{IsHall, IsHome, slot_at};
 ghost use Rattle.hp_hall.specs.Slots.{IsSlot, slot_number};
 ghost use Rattle.hp_hall.specs.Values.{Fits};
 
@@ -19,15 +19,15 @@ impl PlainHall {
         ensures hall { self.new ≡ after_take me (slot_number slot) result self.old }
     {
         let number = slot.number();
-        let kept = take_from(&mut self.slots, number);
+        let kept = take_from(&mut self.slots, me, number);
         self.mail = self.mail.with_take(me, number, &kept);
         kept
     }
 
-    // A participant gives a value back to its slot, and it is noted.
+    // A participant gives a value back to its slot, where that leaves a hall, and it is noted.
     pub(crate) fn give_at(&mut self, me: u8, slot: Slot, kept: Kept)
         requires slot { IsSlot slot }
-        requires fits { Fits (slot_number slot) kept }
+        requires hall { IsHall (after_give me (slot_number slot) kept self.old) }
         ensures { self.new ≡ after_give me (slot_number slot) kept self.old }
     {
         let number = slot.number();
@@ -36,13 +36,13 @@ impl PlainHall {
     }
 }
 
-// The value of a slot goes out.
-fn take_from(slots: &mut Vec<SlotState>, number: usize) -> Kept
+// The value of a slot goes out, to a participant.
+fn take_from(slots: &mut Vec<SlotState>, who: u8, number: usize) -> Kept
     requires { IsHome (slice_get slots.old.items number) }
     ensures kept { slice_get slots.old.items number ≡ Some (home_slot result) }
-    ensures slots { slots.new.items ≡ slice_set slots.old.items number (out_slot result) }
+    ensures slots { slots.new.items ≡ slice_set slots.old.items number (out_slot who result) }
 {
-    slots[number].take()
+    slots[number].take(who)
 }
 
 // A value comes into a slot.

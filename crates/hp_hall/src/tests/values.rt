@@ -2,7 +2,7 @@
 ghost use Rattle.std.specs.Prelude.{◌≡◌, ◌≢◌, ◌<◌, ℕ, [], OnOk, length};
 ghost use Rattle.hp_base.specs.declared.limits.TheConstants.{MAX_HEAPS};
 ghost use Rattle.hp_hall.specs.Giving.{GivesSegments, Knows};
-ghost use Rattle.hp_hall.specs.HallView.{made_in, own_at};
+ghost use Rattle.hp_hall.specs.HallView.{IsHome, own_at, part_in, slot_at, taken_from};
 ghost use Rattle.hp_hall.specs.Opening.{AreHome};
 
 use super::hall_of_two;
@@ -17,10 +17,10 @@ fn call_first(hall: &mut PlainHall, me: u8, index: u32) -> Result<(), AllocError
     requires me { me < length hall.old.owns }
     requires index { index < MAX_HEAPS }
     requires home { AreHome hall.old }
-    requires first { (heap : ℕ) → made_in hall.old me heap ≡ [] }
+    requires first { (heap : ℕ) → (part_in hall.old me heap).entries ≡ [] }
     ensures home { OnOk result (AreHome hall.new) }
     ensures count { length hall.new.owns ≡ length hall.old.owns }
-    ensures others { OnOk result ((who heap : ℕ) → who ≢ me → made_in hall.new who heap ≡ made_in hall.old who heap) }
+    ensures others { OnOk result ((who heap : ℕ) → who ≢ me → part_in hall.new who heap ≡ part_in hall.old who heap) }
 {
     let mut heap = hall.take(me, Slot::Heap(index)).into_heap();
     heap.reserve(1)?;
@@ -60,8 +60,11 @@ fn join(segs: &mut Segs, me: u8, records: u64)
 fn take_and_leave(hall: &mut PlainHall, me: u8)
     requires me { me < length hall.old.owns }
     requires secondary { 0 < me }
-    requires home { AreHome hall.old }
-    ensures home { AreHome hall.new }
+    requires there { IsHome (slot_at hall.old MAX_HEAPS) }
+    ensures home { AreHome hall.old → AreHome hall.new }
+    ensures taken { (number : ℕ) → number ≢ MAX_HEAPS → taken_from (slot_at hall.new number) ≡ taken_from (slot_at hall.old number) }
+    ensures home_of_others { (number : ℕ) → IsHome (slot_at hall.old number) → IsHome (slot_at hall.new number) }
+    ensures others { (who heap : ℕ) → who ≢ me → part_in hall.new who heap ≡ part_in hall.old who heap }
     ensures own { (other : ℕ) → own_at hall.new other ≡ own_at hall.old other }
     ensures count { length hall.new.owns ≡ length hall.old.owns }
 {
@@ -69,6 +72,30 @@ fn take_and_leave(hall: &mut PlainHall, me: u8)
     let mut segs = hall.take(me, Slot::Segments).into_segments();
     leave(&mut segs, me);
     hall.give(me, Slot::Segments, Kept::Segments(segs));
+}
+
+// A participant takes the heap of an index; while it holds that, another takes the segment value, leaves the roster and gives the value
+// back; then the first asks for the heap's statistics as the first of its calls, and gives it back.
+fn call_across(hall: &mut PlainHall, me: u8, other: u8, index: u32) -> Result<(), AllocError>
+    requires me { me < length hall.old.owns }
+    requires other { other < length hall.old.owns }
+    requires apart { me ≢ other }
+    requires secondary { 0 < other }
+    requires index { index < MAX_HEAPS }
+    requires home { AreHome hall.old }
+    requires first { (heap : ℕ) → (part_in hall.old me heap).entries ≡ [] }
+    ensures home { OnOk result (AreHome hall.new) }
+    ensures count { length hall.new.owns ≡ length hall.old.owns }
+{
+    let mut heap = hall.take(me, Slot::Heap(index)).into_heap();
+    take_and_leave(hall, other);
+    heap.reserve(1)?;
+    let _stats = heap.stats(Caller {
+        participant: me,
+        number: 1,
+    });
+    hall.give(me, Slot::Heap(index), Kept::Heap(heap));
+    Ok(())
 }
 
 // A participant that has acknowledged nothing takes the segment value, acknowledges all records, joins the roster where
@@ -128,6 +155,17 @@ fn tells_the_calls_of_a_heap(rt: HostRuntime) -> Result<(), Fail> {
         (1, 0)
     );
     assert_eq!(rt; parts.heaps[2].history().len(), 0);
+    Ok(())
+}
+
+#[test]
+fn holds_a_heap_while_another_gives(rt: HostRuntime) -> Result<(), Fail> {
+    let mut hall = hall_of_two(rt.alloc())?;
+    call_across(&mut hall, 0, 1, 3)?;
+    let parts = hall.into_parts();
+    assert_eq!(rt; parts.segs.roster(), 1);
+    assert_eq!(rt; parts.heaps.len(), MAX_HEAPS);
+    assert_eq!(rt; parts.heaps[3].history().len(), 1);
     Ok(())
 }
 

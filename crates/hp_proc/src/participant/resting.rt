@@ -37,7 +37,7 @@ impl<'p, M: Mapper> Participant<'p, M> {
 
         ensures taken { (number : ℕ) → H.taken hall.new number ≡ H.taken hall.old number }
         ensures home { (number : ℕ) → H.may_take hall.old number → H.may_take hall.new number }
-        ensures made { (who heap : ℕ) → H.made hall.new who heap ≡ H.made hall.old who heap }
+        ensures part { (who heap : ℕ) → H.part hall.new who heap ≡ H.part hall.old who heap }
         ensures own { (who : ℕ) → who ≢ 0 → H.own hall.new who ≡ H.own hall.old who }
         ensures did_others { (who : ℕ) → who ≢ 0 → H.did hall.old hall.new who [] }
         ensures clock { H.clock hall.new ≡ H.clock hall.old }
@@ -66,7 +66,7 @@ impl<'p, M: Mapper> Participant<'p, M> {
 
         ensures taken { (number : ℕ) → H.taken hall.new number ≡ H.taken hall.old number }
         ensures home { (number : ℕ) → H.may_take hall.old number → H.may_take hall.new number }
-        ensures made { (who heap : ℕ) → H.made hall.new who heap ≡ H.made hall.old who heap }
+        ensures part { (who heap : ℕ) → H.part hall.new who heap ≡ H.part hall.old who heap }
         ensures own { (who : ℕ) → who ≢ 0 → H.own hall.new who ≡ H.own hall.old who }
         ensures did_others { (who : ℕ) → who ≢ 0 → H.did hall.old hall.new who [] }
         ensures clock { H.clock hall.new ≡ H.clock hall.old }
@@ -107,7 +107,7 @@ impl<'p, M: Mapper> Participant<'p, M> {
 
         ensures taken { (number : ℕ) → H.taken hall.new number ≡ H.taken hall.old number }
         ensures home { (number : ℕ) → H.may_take hall.old number → H.may_take hall.new number }
-        ensures made { (who heap : ℕ) → H.made hall.new who heap ≡ H.made hall.old who heap }
+        ensures part { (who heap : ℕ) → H.part hall.new who heap ≡ H.part hall.old who heap }
         ensures own { (who : ℕ) → who ≢ 0 → H.own hall.new who ≡ H.own hall.old who }
         ensures did_others { (who : ℕ) → who ≢ 0 → H.did hall.old hall.new who [] }
         ensures clock { H.clock hall.new ≡ H.clock hall.old }
@@ -138,7 +138,7 @@ impl<'p, M: Mapper> Participant<'p, M> {
 
         ensures taken { (number : ℕ) → H.taken hall.new number ≡ H.taken hall.old number }
         ensures home { (number : ℕ) → H.may_take hall.old number → H.may_take hall.new number }
-        ensures made { (who heap : ℕ) → H.made hall.new who heap ≡ H.made hall.old who heap }
+        ensures part { (who heap : ℕ) → H.part hall.new who heap ≡ H.part hall.old who heap }
         ensures own { (who : ℕ) → who ≢ 0 → H.own hall.new who ≡ H.own hall.old who }
         ensures did_others { (who : ℕ) → who ≢ 0 → H.did hall.old hall.new who [] }
         ensures clock { H.clock hall.new ≡ H.clock hall.old }

@@ -1,5 +1,6 @@
 //! How a participant waits: its turns, and the wait for an answer.
-ghost use Rattle.std.specs.Prelude.{◌≡◌, ℕ, ◌+◌, ◌-◌, ◌*◌, ◌^◌, ◌<◌, ◌≤◌, ◌||◌, ◌⊎◌, List, [], false, true, None, Ok, Some, IfOk, OnErr, OnOk, is_ok};
+ghost use Rattle.std.specs.Prelude.{◌≡◌, ℕ, ◌+◌, ◌-◌, ◌*◌, ◌^◌, ◌<◌, ◌≤◌, ◌||◌, ◌⊎◌};
+ghost use Rattle.std.specs.Prelude.{List, [], false, true, None, Ok, Some, IfOk, OnErr, OnOk, is_ok};
 ghost use Rattle.std.specs.Result.{result_ok};
 ghost use Rattle.hp_base.specs.declared.limits.TheConstants.{MAX_HEAPS};
 ghost use Rattle.hp_hall.specs.Mail.{MailStep};
@@ -53,7 +54,7 @@ impl<'p, M: Mapper> Participant<'p, M> {
 
         ensures taken { (number : ℕ) → H.taken hall.new number ≡ H.taken hall.old number }
         ensures home { (number : ℕ) → H.may_take hall.old number → H.may_take hall.new number }
-        ensures made { (who heap : ℕ) → H.made hall.new who heap ≡ H.made hall.old who heap }
+        ensures part { (who heap : ℕ) → H.part hall.new who heap ≡ H.part hall.old who heap }
         ensures clock { H.clock hall.new ≡ H.clock hall.old }
         ensures goes_on { H.goes_on hall.old hall.new }
     {
@@ -78,7 +79,7 @@ impl<'p, M: Mapper> Participant<'p, M> {
 
         ensures taken { (number : ℕ) → H.taken hall.new number ≡ H.taken hall.old number }
         ensures home { (number : ℕ) → H.may_take hall.old number → H.may_take hall.new number }
-        ensures made { (who heap : ℕ) → H.made hall.new who heap ≡ H.made hall.old who heap }
+        ensures part { (who heap : ℕ) → H.part hall.new who heap ≡ H.part hall.old who heap }
         ensures own { (who : ℕ) → H.own hall.new who ≡ H.own hall.old who }
         ensures did { (who : ℕ) → H.did hall.old hall.new who [] }
         ensures weight { H.weight hall.new ≤ H.weight hall.old }
@@ -107,7 +108,7 @@ impl<'p, M: Mapper> Participant<'p, M> {
 
         ensures taken { (number : ℕ) → H.taken hall.new number ≡ H.taken hall.old number }
         ensures home { (number : ℕ) → H.may_take hall.old number → H.may_take hall.new number }
-        ensures made { (heap : ℕ) → H.made hall.new self.old.me heap ≡ H.made hall.old self.old.me heap }
+        ensures part { (heap : ℕ) → H.part hall.new self.old.me heap ≡ H.part hall.old self.old.me heap }
         ensures clock { H.clock hall.new ≡ H.clock hall.old }
         ensures goes_on { H.goes_on hall.old hall.new }
     {
@@ -123,14 +124,14 @@ impl<'p, M: Mapper> Participant<'p, M> {
         requires serves { H.serves hall.old self.now.me }
         requires before { H.pending (H.clock hall.old) until ≡ H.scale }
         ensures falls { H.weight hall.new + own_weight H.scale (H.pending (H.clock hall.new)) self.now.core
-                + H.pending (H.clock hall.new) until + pause_weight H.scale moved
+            + H.pending (H.clock hall.new) until + pause_weight H.scale moved
             ≤ H.weight hall.old + own_weight H.scale (H.pending (H.clock hall.old)) self.now.core + H.pending (H.clock hall.old) until }
         ensures paused { PausesFor (λ deadline. H.pending (H.clock hall.old) deadline ≡ H.scale) until
             (due_in self.now.core) (H.clock hall.old) (H.clock hall.new) }
 
         ensures taken { (number : ℕ) → H.taken hall.new number ≡ H.taken hall.old number }
         ensures home { (number : ℕ) → H.may_take hall.old number → H.may_take hall.new number }
-        ensures made { (heap : ℕ) → H.made hall.new self.now.me heap ≡ H.made hall.old self.now.me heap }
+        ensures part { (heap : ℕ) → H.part hall.new self.now.me heap ≡ H.part hall.old self.now.me heap }
         ensures own { H.own hall.new self.now.me ≡ H.own hall.old self.now.me }
         ensures did { H.did hall.old hall.new self.now.me [] }
         ensures goes_on { H.goes_on hall.old hall.new }
@@ -157,10 +158,10 @@ impl<'p, M: Mapper> Participant<'p, M> {
 
         // Each turn makes this number smaller, and one that somebody stopped does not raise it.
         ensures falls { OnOk result (H.weight hall.new + own_weight H.scale (H.pending (H.clock hall.new)) self.new.core
-                + H.pending (H.clock hall.new) until
+            + H.pending (H.clock hall.new) until
             < H.weight hall.old + own_weight H.scale (H.pending (H.clock hall.old)) self.old.core + H.pending (H.clock hall.old) until) }
         ensures err { OnErr result (H.weight hall.new + own_weight H.scale (H.pending (H.clock hall.new)) self.new.core
-                + H.pending (H.clock hall.new) until
+            + H.pending (H.clock hall.new) until
             ≤ H.weight hall.old + own_weight H.scale (H.pending (H.clock hall.old)) self.old.core + H.pending (H.clock hall.old) until) }
 
         // It ends with a pause until the sooner of its deadlines. Where nothing moved, its own round's had not passed.
@@ -173,7 +174,7 @@ impl<'p, M: Mapper> Participant<'p, M> {
         // What stays.
         ensures taken { (number : ℕ) → H.taken hall.new number ≡ H.taken hall.old number }
         ensures home { (number : ℕ) → H.may_take hall.old number → H.may_take hall.new number }
-        ensures made { (heap : ℕ) → H.made hall.new self.old.me heap ≡ H.made hall.old self.old.me heap }
+        ensures part { (heap : ℕ) → H.part hall.new self.old.me heap ≡ H.part hall.old self.old.me heap }
         ensures same { IsSameParty self.old self.new }
         ensures asks { LeavesAsked self.old self.new }
         ensures goes_on { H.goes_on hall.old hall.new }
@@ -198,7 +199,12 @@ impl<'p, M: Mapper> Participant<'p, M> {
 
     // Takes turns until a reading of the clock has reached the deadline, or, where it heeds that, its last ask is answered. Returned
     // is the last reading.
-    pub(crate) fn wait<H: Waiting>(&mut self, hall: &mut H, until: u64, heeds: bool) -> Result<u64, AllocError>
+    pub(crate) fn wait<H: Waiting>(
+        &mut self,
+        hall: &mut H,
+        until: u64,
+        heeds: bool,
+    ) -> Result<u64, AllocError>
         requires serves { H.serves hall.old self.old.me }
         requires me { self.old.me < H.count hall.old }
         requires free { H.taken hall.old MAX_HEAPS ≡ None }
@@ -214,12 +220,12 @@ impl<'p, M: Mapper> Participant<'p, M> {
         ensures reading { IfOk result (λ reading. IsReading (λ deadline. H.pending (H.clock hall.new) deadline ≡ H.scale) reading) }
         ensures clock { (H.clock hall.new ≡ H.clock hall.old) ⊎ (H.clock hall.new ≤ until) }
         ensures weight { H.weight hall.new + own_weight H.scale (H.pending (H.clock hall.new)) self.new.core
-                + H.pending (H.clock hall.new) until
+            + H.pending (H.clock hall.new) until
             ≤ H.weight hall.old + own_weight H.scale (H.pending (H.clock hall.old)) self.old.core + H.pending (H.clock hall.old) until }
 
         ensures taken { (number : ℕ) → H.taken hall.new number ≡ H.taken hall.old number }
         ensures home { (number : ℕ) → H.may_take hall.old number → H.may_take hall.new number }
-        ensures made { (heap : ℕ) → H.made hall.new self.old.me heap ≡ H.made hall.old self.old.me heap }
+        ensures part { (heap : ℕ) → H.part hall.new self.old.me heap ≡ H.part hall.old self.old.me heap }
         ensures same { IsSameParty self.old self.new }
         ensures asks { LeavesAsked self.old self.new }
         ensures goes_on { H.goes_on hall.old hall.new }

@@ -5,8 +5,8 @@ use hp_hall::{Busy, Hall, Kept, Posted, Slot};
 
 impl<'p, M: Mapper> Hall for SoloHall<'p, M> {
     ghost use Rattle.std.specs.Prelude.{length};
-    ghost use Rattle.hp_hall.specs.Course.{course_seen, done_same, done_then};
-    ghost use Rattle.hp_hall.specs.HallView.{HasDone, IsHome, made_in, own_at, seen_in, slot_at, taken_from};
+    ghost use Rattle.hp_hall.specs.Course.{course_heard, course_seen, done_same, done_then};
+    ghost use Rattle.hp_hall.specs.HallView.{HasDone, IsHome, heard_in, own_at, part_in, seen_in, slot_at, taken_from};
     ghost use Rattle.hp_hall.specs.Weights.{pending_at, pending_most_one};
     ghost use Rattle.hp_proc.specs.Solo.{IsAway, server_at, solo_weight};
     ghost use Rattle.hp_proc.specs.SoloCourse.{IsSoloCourse, solo_same, solo_serves, solo_then};
@@ -19,9 +19,11 @@ impl<'p, M: Mapper> Hall for SoloHall<'p, M> {
 
     ghost may_take = { λ hall number. IsHome (slot_at hall.plain number) };
 
-    ghost made = { λ hall. made_in hall.plain };
+    ghost part = { λ hall. part_in hall.plain };
 
     ghost seen = { λ hall who. seen_in hall.plain };
+
+    ghost heard = { λ hall who. heard_in hall.plain };
 
     ghost own = { λ hall. own_at hall.plain };
 
@@ -92,6 +94,8 @@ impl<'p, M: Mapper> Hall for SoloHall<'p, M> {
     ghost goes_on_serves = { solo_serves };
 
     ghost goes_on_seen = { λ a b who course. course_seen a.plain b.plain course.plain };
+
+    ghost goes_on_heard = { λ a b who course. course_heard a.plain b.plain course.plain };
 
     ghost goes_on_noted = { λ a b who other course. course.plain.numbers other };
 

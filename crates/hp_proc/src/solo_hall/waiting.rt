@@ -10,7 +10,7 @@ use std::alloc::AllocError;
 impl<'p, M: Mapper> Waiting for SoloHall<'p, M> {
     ghost use Rattle.std.specs.Prelude.{◌≡◌, ◌+◌, ◌*◌, ◌≤◌, ◌⊎◌, ℕ, [], None, Ok, IfSome, IsOk, IsSomeAnd, false, true};
     ghost use Rattle.hp_base.specs.declared.limits.TheConstants.{MAX_HEAPS};
-    ghost use Rattle.hp_hall.specs.HallView.{HasDone, IsHome, made_in, own_at, slot_at, taken_from};
+    ghost use Rattle.hp_hall.specs.HallView.{HasDone, IsHome, part_in, own_at, slot_at, taken_from};
     ghost use Rattle.hp_hall.specs.Weights.{IsPending, counted, moved_of, pause_weight, pending_at};
     ghost use Rattle.hp_proc.specs.Solo.{
       IsAway,
@@ -31,7 +31,7 @@ impl<'p, M: Mapper> Waiting for SoloHall<'p, M> {
         requires home { IsHome (slot_at self.old.plain MAX_HEAPS) }
         ensures taken { (number : ℕ) → taken_from (slot_at self.new.plain number) ≡ taken_from (slot_at self.old.plain number) }
         ensures home { (number : ℕ) → IsHome (slot_at self.old.plain number) → IsHome (slot_at self.new.plain number) }
-        ensures made { (heap : ℕ) → made_in self.new.plain me heap ≡ made_in self.old.plain me heap }
+        ensures part { (heap : ℕ) → part_in self.new.plain me heap ≡ part_in self.old.plain me heap }
         ensures own { own_at self.new.plain me ≡ own_at self.old.plain me }
         ensures did { HasDone self.old.plain self.new.plain me [] }
         ensures weight { solo_weight self.new + 1 * moved_of result ≤ solo_weight self.old }
@@ -57,7 +57,7 @@ impl<'p, M: Mapper> Waiting for SoloHall<'p, M> {
         ensures clock { (self.new.plain.clock ≡ self.old.plain.clock) ⊎ IsSomeAnd until (λ deadline. self.new.plain.clock ≤ deadline) }
         ensures taken { (number : ℕ) → taken_from (slot_at self.new.plain number) ≡ taken_from (slot_at self.old.plain number) }
         ensures home { (number : ℕ) → IsHome (slot_at self.old.plain number) → IsHome (slot_at self.new.plain number) }
-        ensures made { (heap : ℕ) → made_in self.new.plain me heap ≡ made_in self.old.plain me heap }
+        ensures part { (heap : ℕ) → part_in self.new.plain me heap ≡ part_in self.old.plain me heap }
         ensures own { own_at self.new.plain me ≡ own_at self.old.plain me }
         ensures did { HasDone self.old.plain self.new.plain me [] }
         ensures goes_on { IsSoloCourse self.old self.new }

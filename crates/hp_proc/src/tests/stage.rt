@@ -1,7 +1,6 @@
 //! Two participants and their hall.
 ghost use Rattle.std.specs.Prelude.{◌<◌};
 
-use super::pages::retire_page;
 use super::{armed_segs, member, vacant_heaps};
 use crate::Participant;
 use crate::calls::{put_back, take_segments};
@@ -65,8 +64,9 @@ pub(super) struct Shown {
 }
 
 impl<'p> Stage<'p> {
-    // Two participants that have taken in nothing, in a hall of that segment value.
-    fn over(alloc: Global, plan: &'p Plan, segs: Segs) -> Result<Stage<'p>, AllocError> {
+    // Two participants that have taken in nothing, of whom participant 1 is armed with its first ask.
+    pub(super) fn new(alloc: Global, plan: &'p Plan) -> Result<Stage<'p>, Fail> {
+        let segs = armed_segs(alloc, 1)?;
         let primary = member(alloc, 0, plan)?;
         let secondary = member(alloc, 1, plan)?;
         let heaps = vacant_heaps(alloc)?;
@@ -77,19 +77,6 @@ impl<'p> Stage<'p> {
             secondary,
             plan,
         })
-    }
-
-    // Participant 1 is armed with its first ask.
-    pub(super) fn new(alloc: Global, plan: &'p Plan) -> Result<Stage<'p>, Fail> {
-        let segs = armed_segs(alloc)?;
-        Ok(Stage::over(alloc, plan, segs)?)
-    }
-
-    // Heap 0 has given a page up besides.
-    pub(super) fn with_retired_page(alloc: Global, plan: &'p Plan) -> Result<Stage<'p>, Fail> {
-        let mut segs = armed_segs(alloc)?;
-        retire_page(&mut segs)?;
-        Ok(Stage::over(alloc, plan, segs)?)
     }
 
     // What becomes of the messages and mapping calls.

@@ -4,7 +4,12 @@ use Rattle.hp_hall.specs.HallView.{HallView, own_at}
 use Rattle.hp_hall.specs.Opening.{AreHome}
 use Rattle.hp_hall.specs.Own.{after_ack}
 use Rattle.hp_hall.proofs.Opened.{opened_home}
+use Rattle.hp_hall.proofs.Gives.{bare_pages}
 use Rattle.hp_hall.proofs.tests.hall_of_two.Goals as goal
+
+pub new-requires-clause-pages : goal.new-requires-clause-pages
+new-requires-clause-pages c = λ number heap there.
+    bare_pages _ _ (c.in_ok-heaps.ensures.bare number heap there) (c.in_ok-segs.ensures.unowned number)
 
 pub returns-clause-two : goal.returns-clause-two
 returns-clause-two c = ap (λ (h : HallView). length h.owns) c.in_ok-hall.ensures.hall ∙ length-replicate 2 (after_ack 0)

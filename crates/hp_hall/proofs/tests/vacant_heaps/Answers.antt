@@ -35,8 +35,8 @@ loop-index-preserved c =
       count = omega (arith, c.push_reserved.ensures.len, is.count);
       room = omega (arith, c.push_reserved.ensures.capacity, is.room);
       each = λ number heap there.
-          each_more (λ k h. (h.plain.index ≡ k) × (h.history ≡ [])) heaps.items c.vacant.result is.each
-          (ap (λ (p : PlainHeap). p.index) c.vacant.ensures.plain ∙ index, c.vacant.ensures.history) number heap
+          each_more (λ k h. (h.plain.index ≡ k) × (h.history ≡ []) × (h.plain.pages ≡ [])) heaps.items c.vacant.result is.each
+          (ap (λ (p : PlainHeap). p.index) c.vacant.ensures.plain ∙ index, c.vacant.ensures.history, ap (λ (p : PlainHeap). p.pages) c.vacant.ensures.plain) number heap
           (subst (λ (l : List HeapView). slice_get l number ≡ Some heap) c.push_reserved.ensures.items there);
     }
 
@@ -51,3 +51,6 @@ returns-clause-order c =
 
 pub returns-clause-unused : goal.returns-clause-unused
 returns-clause-unused c = λ number heap there. (c.loop-index.invariant.each number heap there).1
+
+pub returns-clause-bare : goal.returns-clause-bare
+returns-clause-bare c = λ number heap there. (c.loop-index.invariant.each number heap there).2

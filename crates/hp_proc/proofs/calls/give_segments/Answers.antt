@@ -1,18 +1,9 @@
--- The give is the participant's own step, and nobody else's.
-use Rattle.std.proofs.Common.{subst}
-use Rattle.hp_base.specs.declared.limits.TheConstants.{MAX_HEAPS}
-use Rattle.hp_hall.specs.Mail.{Gives}
-use Rattle.hp_hall.specs.declared.kept.Kept.TheVariants.{Segments}
-use Rattle.hp_proc.proofs.Steps.{other_step, own_step}
+-- The giver's parts are as they were, and so are those of others.
+use Rattle.std.proofs.Common.{◌≡◌, ◌∙◌}
+use Rattle.hp_proc.proofs.MemberLemmas.{at_each}
 use Rattle.hp_proc.proofs.calls.give_segments.Goals as goal
 
-pub returns-clause-did : goal.returns-clause-did
-returns-clause-did g c =
-    subst (g.H.Hall.did c.args.hall.now c.give.new.self c.args.me) (own_step c.args.me (Gives MAX_HEAPS (Segments c.args.segs)))
-    (c.give.ensures.did c.args.me)
-
-pub returns-clause-did_others : goal.returns-clause-did_others
-returns-clause-did_others g c =
-    λ who apart.
-    subst (g.H.Hall.did c.args.hall.now c.give.new.self who) (other_step who c.args.me (Gives MAX_HEAPS (Segments c.args.segs)) apart)
-    (c.give.ensures.did who)
+pub returns-clause-part : goal.returns-clause-part
+returns-clause-part g c = λ who heap.
+    at_each (λ who. g.H.Hall.part c.give_back.new.hall who heap ≡ g.H.Hall.part c.args.hall.now who heap) c.args.me
+    (c.give_back.ensures.part heap ∙ c.requires.same heap) (λ who apart. c.give_back.ensures.part_of_others who heap apart) who

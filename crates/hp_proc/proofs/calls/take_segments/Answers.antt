@@ -1,10 +1,28 @@
 -- What was taken is a segment value, by the participant's own step and nobody else's.
-use Rattle.std.proofs.Common.{◌∙◌, [], ◌∷◌, subst}
+use Rattle.std.proofs.Common.{◌≡◌, ◌∙◌, [], ◌∷◌, subst}
 use Rattle.hp_base.specs.declared.limits.TheConstants.{MAX_HEAPS}
+use Rattle.hp_hall.specs.Holding.{IsTakenAs, StandsFor}
 use Rattle.hp_hall.specs.Mail.{Takes}
-use Rattle.hp_hall.specs.Values.{HasLog}
+use Rattle.hp_hall.specs.Values.{HasAsks, HasLog}
+use Rattle.hp_proc.proofs.MemberLemmas.{at_each}
 use Rattle.hp_proc.proofs.Steps.{other_step, own_step}
 use Rattle.hp_proc.proofs.calls.take_segments.Goals as goal
+
+pub returns-clause-asks : goal.returns-clause-asks
+returns-clause-asks g c = subst (HasAsks (g.H.Hall.heard c.take.new.self c.args.me)) c.into_segments.ensures c.take.ensures.asks
+
+pub returns-clause-standing : goal.returns-clause-standing
+returns-clause-standing g c =
+    subst (StandsFor c.args.me (g.H.Hall.part c.take.new.self c.args.me)) c.into_segments.ensures c.take.ensures.stands
+
+pub returns-clause-part : goal.returns-clause-part
+returns-clause-part g c =
+    let taken =
+    subst (λ kept. IsTakenAs kept (g.H.Hall.part c.args.hall.now c.args.me) (g.H.Hall.part c.take.new.self c.args.me))
+    c.into_segments.ensures c.take.ensures.part in
+    λ who heap.
+    at_each (λ who. g.H.Hall.part c.take.new.self who heap ≡ g.H.Hall.part c.args.hall.now who heap) c.args.me (taken heap)
+    (λ who apart. c.take.ensures.part_of_others who heap apart) who
 
 pub returns-clause-seen : goal.returns-clause-seen
 returns-clause-seen g c =

@@ -9,8 +9,15 @@ use Rattle.hp_proc.specs.Frames.{Says}
 use Rattle.hp_proc.specs.Party.{one_more}
 use Rattle.hp_proc.specs.Serving.{gives_segments}
 use Rattle.hp_proc.specs.Tied.{IsTied}
+use Rattle.hp_proc.proofs.Standing.{standing_with}
 use Rattle.hp_proc.proofs.Tying.{tied_along}
 use Rattle.hp_proc.proofs.following.obey.Goals as goal
+
+pub give_noted-reply-requires-clause-standing : goal.give_noted-reply-requires-clause-standing
+give_noted-reply-requires-clause-standing g c =
+    let me = c.args.me in
+    standing_with me (g.H.Hall.part c.args.hall.now me) (g.H.Hall.part c.take_in-caught.new.hall me) c.args.segs
+    (λ heap. c.take_in-caught.ensures.part me heap) c.requires.standing
 
 pub returns-clause-tied : goal.returns-clause-tied
 returns-clause-tied g c =

@@ -1,16 +1,26 @@
 -- What a step leaves may be given back, by what its event tells.
 use Rattle.std.proofs.Common.{sym, subst}
 use Rattle.hp_hall.specs.Giving.{GivesSegments}
-use Rattle.hp_proc.proofs.GivenSteps.{given_by_step}
-use Rattle.hp_proc.proofs.Noting.{as_it_was, noted_gives}
+use Rattle.hp_hall.specs.Standings.{LeavesStanding}
+use Rattle.hp_proc.proofs.GivenSteps.{given_by_step, step_leaves}
+use Rattle.hp_proc.proofs.Noting.{as_it_was, leaves_itself, noted_gives}
 use Rattle.hp_proc.proofs.handing.step_with_room.Goals as goal
 
 pub returns-in_err-make_room-clause-gives : goal.returns-in_err-make_room-clause-gives
 returns-in_err-make_room-clause-gives c = λ knows known.
     let taken = c.args.segs.now in
-    subst (GivesSegments knows taken) (sym c.in_err-make_room.ensures.err) (noted_gives knows taken taken (as_it_was taken))
+    subst (GivesSegments knows taken) (sym c.in_err-make_room.ensures.err) (noted_gives knows taken taken (as_it_was taken) (λ old. old))
+
+pub returns-in_err-make_room-clause-leaves : goal.returns-in_err-make_room-clause-leaves
+returns-in_err-make_room-clause-leaves c =
+    subst (LeavesStanding c.args.segs.now) (sym c.in_err-make_room.ensures.err) (leaves_itself c.args.segs.now)
 
 pub returns-clause-gives : goal.returns-clause-gives
 returns-clause-gives c = λ knows known.
     given_by_step knows c.args.event c.args.core.now c.step.new.self c.args.segs.now c.make_room.new.segs c.step.new.segs c.step.result
     c.in_ok-make_room.ensures.ok c.requires.sound (c.core_law.ensures.moved _ _ _ _ c.step.ensures.moves) c.step.ensures.step known
+
+pub returns-clause-leaves : goal.returns-clause-leaves
+returns-clause-leaves c =
+    step_leaves c.args.event c.args.core.now c.step.new.self c.args.segs.now c.make_room.new.segs c.step.new.segs c.step.result
+    c.in_ok-make_room.ensures.ok c.requires.sound (c.core_law.ensures.moved _ _ _ _ c.step.ensures.moves) c.step.ensures.step

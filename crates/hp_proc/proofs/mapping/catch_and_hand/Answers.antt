@@ -2,6 +2,7 @@
 use Rattle.std.proofs.Common.{◌∙◌, [], refl, sym, subst, arith}
 use Rattle.hp_proc.specs.Tied.{IsTied}
 use Rattle.hp_proc.proofs.Handed.{mapped_number, tied_still}
+use Rattle.hp_proc.proofs.Standing.{standing_with}
 use Rattle.hp_proc.proofs.mapping.catch_and_hand.Goals as goal
 
 pub hand-requires-clause-known : goal.hand-requires-clause-known
@@ -14,6 +15,12 @@ hand-requires-clause-known g c = λ none.
     let mine = c.load_ack-number.ensures.mine refl in
     let later = g.met.H.Hall.goes_on_noted _ _ 0 0 c.now-now.ensures.goes_on in
     omega (arith, number, noted, mine, later)
+
+pub hand-requires-clause-standing : goal.hand-requires-clause-standing
+hand-requires-clause-standing g c =
+    standing_with 0 (g.H.Hall.part c.args.hall.now 0) (g.H.Hall.part c.now-now.new.self 0) c.args.segs
+    (λ heap. c.now-now.ensures.part 0 heap ∙ c.load_ack-number.ensures.part 0 heap ∙ c.take_in-caught.ensures.part 0 heap)
+    c.requires.standing
 
 pub returns-clause-handed : goal.returns-clause-handed
 returns-clause-handed g c =

@@ -9,7 +9,7 @@ invariant-loop-member g l = record {
   seen : (more : List LogRecord) × (g.H.Hall.seen l.hall 0 ≡ g.H.Hall.seen l.fn.hall 0 ++ more);
   taken : (number : ℕ) → g.H.Hall.taken l.hall number ≡ g.H.Hall.taken l.fn.hall number;
   home : (number : ℕ) → g.H.Hall.may_take l.fn.hall number → g.H.Hall.may_take l.hall number;
-  made : (who heap : ℕ) → g.H.Hall.made l.hall who heap ≡ g.H.Hall.made l.fn.hall who heap;
+  part : (who heap : ℕ) → g.H.Hall.part l.hall who heap ≡ g.H.Hall.part l.fn.hall who heap;
   own : (who : ℕ) → g.H.Hall.own l.hall who ≡ g.H.Hall.own l.fn.hall who;
   did : (who : ℕ) → g.H.Hall.did l.fn.hall l.hall who [];
   weight : g.H.Hall.weight l.hall ≤ g.H.Hall.weight l.fn.hall;

@@ -35,16 +35,19 @@ loop-index-preserved c =
       count = omega (arith, c.push_reserved.ensures.len, is.count);
       room = omega (arith, c.push_reserved.ensures.capacity, is.room);
       each = λ number heap there.
-          each_more (λ k h. h.plain.index ≡ k) heaps.items c.vacant.result is.each
-          (ap (λ (p : PlainHeap). p.index) c.vacant.ensures.plain ∙ index) number heap
+          each_more (λ k h. (h.plain.index ≡ k) × (h.plain.pages ≡ [])) heaps.items c.vacant.result is.each
+          (ap (λ (p : PlainHeap). p.index) c.vacant.ensures.plain ∙ index, ap (λ (p : PlainHeap). p.pages) c.vacant.ensures.plain) number heap
           (subst (λ (l : List HeapView). slice_get l number ≡ Some heap) c.push_reserved.ensures.items there);
     }
 
-pub returns : goal.returns
-returns c =
+pub returns-clause-order : goal.returns-clause-order
+returns-clause-order c =
     let is = c.loop-index.invariant in
     let heaps = c.loop-index.heaps in
     record {
       count = omega (arith, is.count, heaps.ok.0, c.loop-index-test.false, c.loop-index.auto.index-end);
-      index = is.each;
+      index = λ number heap there. (is.each number heap there).0;
     }
+
+pub returns-clause-bare : goal.returns-clause-bare
+returns-clause-bare c = λ number heap there. (c.loop-index.invariant.each number heap there).1

@@ -7,5 +7,5 @@ abbrev pub invariant-loop-index : goal.invariant-loop-index
 invariant-loop-index l = record {
   count : vec_len l.heaps ≡ l.index;
   room : MAX_HEAPS ≤ vec_capacity l.heaps;
-  each : (number : ℕ) (heap : HeapView) → slice_get l.heaps.items number ≡ Some heap → heap.plain.index ≡ number;
+  each : (number : ℕ) (heap : HeapView) → slice_get l.heaps.items number ≡ Some heap → (heap.plain.index ≡ number) × (heap.plain.pages ≡ []);
 }

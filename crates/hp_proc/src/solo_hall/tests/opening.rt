@@ -5,35 +5,11 @@ ghost use Rattle.hp_hall.specs.HallView.{IsHome, own_at, slot_at};
 ghost use Rattle.hp_proc.specs.Tied.{nothing_yet};
 
 use super::super::SoloHall;
-use crate::tests::{PAGE, member, vacant_heaps};
-use hp_base::{MemMapper, Plan, PoolLine, Request};
+use crate::tests::{armed_segs, member, vacant_heaps};
+use hp_base::{MemMapper, Plan};
 use hp_hall::PlainHall;
-use hp_segs::{Ask, Segs};
 use std::alloc::{AllocError, Global};
 use std::test::Fail;
-
-// Two participants and a pool of four pages of 2M, and one of them armed with its first ask: for 1000 bytes of heap 0.
-fn armed_segs(alloc: Global, asker: u8) -> Result<Segs, Fail>
-    requires { asker < 2 }
-{
-    let pool = PoolLine {
-        socket: 0,
-        page: PAGE,
-        pages: 4,
-        slots: 4,
-    };
-    let mut segs = Segs::new(alloc, [pool].as_slice(), 2, 0)?;
-    let request = Request::new(1000, 0, 0, 0).ok().ok_or("a good request")?;
-    segs.arm(&Ask {
-        from: asker,
-        number: 1,
-        heap: 0,
-        socket: 0,
-        page: PAGE,
-        request,
-    })?;
-    Ok(segs)
-}
 
 // Their plain values.
 fn plain_hall(alloc: Global, asker: u8) -> Result<PlainHall, Fail>

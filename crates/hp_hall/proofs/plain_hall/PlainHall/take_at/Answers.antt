@@ -1,8 +1,9 @@
 use Rattle.std.proofs.Common.{ℕ, refl, subst}
+use Rattle.std.proofs.lemmas.Option.{slice_get_within}
 use Rattle.hp_hall.specs.HallInside.{hall_view}
-use Rattle.hp_hall.specs.HallSteps.{home_slot, out_slot}
+use Rattle.hp_hall.specs.HallSteps.{home_slot}
 use Rattle.hp_hall.specs.Values.{Fits}
-use Rattle.hp_hall.proofs.Slotted.{hall_changed}
+use Rattle.hp_hall.proofs.Halls.{hall_taken}
 use Rattle.hp_hall.proofs.plain_hall.PlainHall.take_at.Goals as goal
 
 pub returns-clause-fits : goal.returns-clause-fits
@@ -15,9 +16,13 @@ pub invariant_of-self : goal.invariant_of-self
 invariant_of-self c =
     let kept = c.take_from-kept.result in
     let number : ℕ = c.number-number.result in
-    let fits : Fits number kept = c.self.invariant.hall.fits number (home_slot kept) c.take_from-kept.ensures.kept in
     record {
-      hall = hall_changed (hall_view c.self.inside) _ number (out_slot kept) c.self.invariant.hall fits c.take_from-kept.ensures.slots refl refl;
+      hall = hall_taken c.args.me number kept (hall_view c.self.inside) _ c.self.invariant.hall c.take_from-kept.ensures.kept (record {
+        below = slice_get_within c.self.inside.slots.items number (home_slot kept) c.take_from-kept.ensures.kept;
+        slots = c.take_from-kept.ensures.slots;
+        boxes = refl;
+        owns = refl;
+      });
       emptied = c.self.invariant.emptied;
       room = c.self.invariant.room;
     }

@@ -20,7 +20,7 @@ invariant-loop-answer g l = record {
   tied : IsTied (g.H.Hall.seen l.hall 0) (g.H.Hall.own l.hall 0) l.self.joined l.self.maps;
   taken : (number : ℕ) → g.H.Hall.taken l.hall number ≡ g.H.Hall.taken l.fn.hall number;
   home : (number : ℕ) → g.H.Hall.may_take l.fn.hall number → g.H.Hall.may_take l.hall number;
-  made : (who heap : ℕ) → g.H.Hall.made l.hall who heap ≡ g.H.Hall.made l.fn.hall who heap;
+  part : (who heap : ℕ) → g.H.Hall.part l.hall who heap ≡ g.H.Hall.part l.fn.hall who heap;
   own : (who : ℕ) → who ≢ 0 → g.H.Hall.own l.hall who ≡ g.H.Hall.own l.fn.hall who;
   did_others : (who : ℕ) → who ≢ 0 → g.H.Hall.did l.fn.hall l.hall who [];
   clock : g.H.Hall.clock l.hall ≡ g.H.Hall.clock l.fn.hall;

@@ -54,9 +54,12 @@ others-requires-2-clause-home g c = c.serve_some.ensures.home MAX_HEAPS (c.other
 
 pub returns-in_err-below-clause-turned : goal.returns-in_err-below-clause-turned
 returns-in_err-below-clause-turned g c =
-    let stopped = err_from_is_err_and c.from_residual.result c.from_residual.ensures.1 in
-    ([], (subst (λ (who : ℕ). g.H.Hall.did c.args.hall.now c.others.new.self who []) (ap (λ (party : Party). party.me) c.self.view_is)
-    c.others.ensures.did), IsTurned.below_stops refl refl (ap result_ok stopped.1))
+    let stopped = err_from_is_err_and c.from_residual.result c.from_residual.ensures.1 in (
+      [],
+      (subst (λ (who : ℕ). g.H.Hall.did c.args.hall.now c.others.new.self who []) (ap (λ (party : Party). party.me) c.self.view_is)
+          c.others.ensures.did),
+      IsTurned.below_stops refl refl (ap result_ok stopped.1),
+    )
 
 pub returns-in_err-below-clause-tied : goal.returns-in_err-below-clause-tied
 returns-in_err-below-clause-tied g c =
@@ -93,7 +96,7 @@ returns-in_err-own-clause-turned g c =
     let one = c.in_err-own.ensures.served in (
       one.0,
       g.met.H.Hall.did_then _ _ _ c.args.self.now.me [] _ (subst (λ (who : ℕ). g.H.Hall.did c.args.hall.now c.others.new.self who []) (ap (λ (party : Party). party.me) c.self.view_is)
-    c.others.ensures.did) one.1,
+          c.others.ensures.did) one.1,
       IsTurned.stops
           (subst (λ (n : ℕ). IsServedOut n c.args.self.now c.serve_some.new.self one.0 None)
           (g.met.H.Hall.goes_on_count _ _ c.others.ensures.goes_on) one.2) (ap result_ok stopped.1),
@@ -129,8 +132,8 @@ returns-in_err-above-clause-turned g c =
       one.0,
       subst (λ (steps : List MailStep). g.H.Hall.did c.args.hall.now c.others-2.new.self me steps) (append-nil one.0)
           (g.met.H.Hall.did_then _ _ _ me _ [] (g.met.H.Hall.did_then _ _ _ me [] _ (subst (λ (who : ℕ). g.H.Hall.did c.args.hall.now c.others.new.self who []) (ap (λ (party : Party). party.me) c.self.view_is)
-    c.others.ensures.did) one.1) (subst (λ (who : ℕ). g.H.Hall.did c.serve_some.new.hall c.others-2.new.self who []) (ap (λ (party : Party). party.me) c.self.view_is)
-    c.others-2.ensures.did)),
+          c.others.ensures.did) one.1) (subst (λ (who : ℕ). g.H.Hall.did c.serve_some.new.hall c.others-2.new.self who []) (ap (λ (party : Party). party.me) c.self.view_is)
+          c.others-2.ensures.did)),
       IsTurned.above_stops c.in_ok-own.own
           (subst (λ (n : ℕ). IsServedOut n c.args.self.now c.serve_some.new.self one.0 (Some c.in_ok-own.own))
           (g.met.H.Hall.goes_on_count _ _ c.others.ensures.goes_on) one.2) (ap result_ok stopped.1),
@@ -181,8 +184,8 @@ returns-clause-turned g c =
       one.0,
       subst (λ (steps : List MailStep). g.H.Hall.did c.args.hall.now c.others-2.new.self me steps) (append-nil one.0)
           (g.met.H.Hall.did_then _ _ _ me _ [] (g.met.H.Hall.did_then _ _ _ me [] _ (subst (λ (who : ℕ). g.H.Hall.did c.args.hall.now c.others.new.self who []) (ap (λ (party : Party). party.me) c.self.view_is)
-    c.others.ensures.did) one.1) (subst (λ (who : ℕ). g.H.Hall.did c.serve_some.new.hall c.others-2.new.self who []) (ap (λ (party : Party). party.me) c.self.view_is)
-    c.others-2.ensures.did)),
+          c.others.ensures.did) one.1) (subst (λ (who : ℕ). g.H.Hall.did c.serve_some.new.hall c.others-2.new.self who []) (ap (λ (party : Party). party.me) c.self.view_is)
+          c.others-2.ensures.did)),
       IsTurned.ends c.in_ok-own.own (c.in_ok-below.below || c.in_ok-above.above)
           (subst (λ (n : ℕ). IsServedOut n c.args.self.now c.serve_some.new.self one.0 (Some c.in_ok-own.own))
           (g.met.H.Hall.goes_on_count _ _ c.others.ensures.goes_on) one.2) (ap Some c.has_moved.ensures),

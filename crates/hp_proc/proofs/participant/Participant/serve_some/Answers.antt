@@ -1,12 +1,11 @@
 -- One serving more, or the last.
-use Rattle.std.proofs.Common.{◌≡◌, ◌∙◌, ℕ, ◌<◌, ◌*◌, ◌++◌, Bool, true, false, None, Ok, Some, [], refl, ap, sym, subst, arith}
-use Rattle.std.specs.Prelude.{Result, nat_lt}
+use Rattle.std.proofs.Common.{◌≡◌, ◌∙◌, ℕ, ◌*◌, ◌++◌, Bool, true, false, None, Ok, Some, [], refl, ap, sym, subst, arith}
+use Rattle.std.specs.Prelude.{nat_lt}
 use Rattle.std.specs.Result.{result_ok}
 use Rattle.std.specs.declared.alloc.AllocError.{AllocError}
 use Rattle.std.proofs.lemmas.Result.{err_from_is_err_and}
 use Rattle.hp_proc.specs.Coordinating.{IsServed}
 use Rattle.hp_proc.specs.Falling.{served_of}
-use Rattle.hp_proc.specs.Party.{IsSameParty}
 use Rattle.hp_proc.specs.Tied.{IsTied}
 use Rattle.hp_proc.specs.Waiting.{AreServings, IsServedOut, most_servings}
 use Rattle.hp_proc.proofs.Carrying.{same_party, same_then, stop_differs}
@@ -22,7 +21,7 @@ loop-time-init g c = record {
   tied = c.requires.tied;
   taken = λ number. refl;
   home = λ number may. may;
-  made = λ who heap. refl;
+  part = λ who heap. refl;
   clock = refl;
   goes_on = g.met.H.Hall.goes_on_same _;
 }
@@ -82,7 +81,7 @@ loop-time-preserved g c =
           c.serve.new.self.maps) me is.tied;
       taken = λ number. is.taken number ∙ was.taken number;
       home = λ number may. is.home number (was.home number may);
-      made = λ who heap. is.made who heap ∙ was.made who heap;
+      part = λ who heap. is.part who heap ∙ was.part who heap;
       clock = is.clock ∙ was.clock;
       goes_on = g.met.H.Hall.goes_on_then _ _ _ was.goes_on is.goes_on;
     }

@@ -20,7 +20,7 @@ invariant-loop-time g l = record {
   tied : IsTied (g.H.Hall.seen l.hall l.fn.self.me) (g.H.Hall.own l.hall l.fn.self.me) l.self.joined l.self.maps;
   taken : (number : ℕ) → g.H.Hall.taken l.hall number ≡ g.H.Hall.taken l.fn.hall number;
   home : (number : ℕ) → g.H.Hall.may_take l.fn.hall number → g.H.Hall.may_take l.hall number;
-  made : (who heap : ℕ) → g.H.Hall.made l.hall who heap ≡ g.H.Hall.made l.fn.hall who heap;
+  part : (who heap : ℕ) → g.H.Hall.part l.hall who heap ≡ g.H.Hall.part l.fn.hall who heap;
   clock : g.H.Hall.clock l.hall ≡ g.H.Hall.clock l.fn.hall;
   goes_on : g.H.Hall.goes_on l.fn.hall l.hall;
 }

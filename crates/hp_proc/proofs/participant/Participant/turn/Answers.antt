@@ -1,16 +1,15 @@
 -- All serve, and the turn ends with a pause.
-use Rattle.std.proofs.Common.{◌≡◌, ◌∙◌, ℕ, ◌+◌, ◌≤◌, List, [], Some, refl, ap, sym, subst, arith}
+use Rattle.std.proofs.Common.{◌≡◌, ◌∙◌, ℕ, List, [], ap, sym, subst, arith}
 use Rattle.std.specs.Result.{result_ok}
 use Rattle.std.proofs.lemmas.List.{append-nil}
 use Rattle.std.proofs.lemmas.Result.{err_from_is_err_and}
 use Rattle.hp_hall.specs.Mail.{MailStep}
-use Rattle.hp_proc.specs.Waiting.{IsTurned, PausesFor}
+use Rattle.hp_proc.specs.Waiting.{IsTurned}
 use Rattle.hp_proc.specs.Party.{due_in}
-use Rattle.hp_proc.specs.Tied.{IsTied}
 use Rattle.hp_proc.proofs.AskedLemmas.{asked_turned}
 use Rattle.hp_proc.proofs.Carrying.{stop_differs}
 use Rattle.hp_proc.proofs.Handed.{tied_still}
-use Rattle.hp_proc.proofs.Waits.{no_ok, ok_is, on_err, pause_since, turn_pays}
+use Rattle.hp_proc.proofs.Waits.{no_ok, on_err, pause_since, turn_pays}
 use Rattle.hp_proc.proofs.participant.Participant.turn.Goals as goal
 
 pub end_turn-requires-clause-serves : goal.end_turn-requires-clause-serves
@@ -104,11 +103,11 @@ returns-clause-rests g c = λ is deadline due early.
     ap (λ (at : ℕ). g.H.Hall.pending at deadline) (sym c.serve_all.ensures.clock)
     ∙ c.serve_all.ensures.rests (c.in_ok-moved.was ∙ is) deadline due early
 
-pub returns-clause-made : goal.returns-clause-made
-returns-clause-made g c = λ heap.
-    subst (λ (who : ℕ). g.H.Hall.made c.end_turn.new.hall who heap ≡ g.H.Hall.made c.serve_all.new.hall who heap) c.serve_all.ensures.same.me
-    (c.end_turn.ensures.made heap)
-    ∙ c.serve_all.ensures.made heap
+pub returns-clause-part : goal.returns-clause-part
+returns-clause-part g c = λ heap.
+    subst (λ (who : ℕ). g.H.Hall.part c.end_turn.new.hall who heap ≡ g.H.Hall.part c.serve_all.new.hall who heap) c.serve_all.ensures.same.me
+    (c.end_turn.ensures.part heap)
+    ∙ c.serve_all.ensures.part heap
 
 pub returns-clause-asks : goal.returns-clause-asks
 returns-clause-asks g c =

@@ -1,5 +1,5 @@
 -- One turn more, or the last reading.
-use Rattle.std.proofs.Common.{◌≡◌, ◌∙◌, ℕ, suc, ◌+◌, ◌<◌, ◌≤◌, ◌⊎◌, ◌++◌, Bool, true, false, List, [], None, Some, refl, ap, sym, subst, inl, inr, ⊎_elim, arith}
+use Rattle.std.proofs.Common.{◌≡◌, ◌∙◌, ℕ, suc, ◌++◌, List, [], None, Some, refl, ap, sym, subst, inl, arith}
 use Rattle.std.specs.Prelude.{is_ok}
 use Rattle.std.proofs.lemmas.List.{append-nil}
 use Rattle.std.proofs.lemmas.Result.{err_from_is_err_and}
@@ -24,7 +24,7 @@ waiting-init g c = record {
   tied = c.requires.tied;
   taken = λ number. refl;
   home = λ number may. may;
-  made = λ heap. refl;
+  part = λ heap. refl;
   goes_on = g.met.H.Hall.goes_on_same _;
 }
 
@@ -175,10 +175,10 @@ waiting-preserved g c =
           c.turn.new.self.maps) me is.tied;
       taken = λ slot. is.taken slot ∙ read.taken slot ∙ was.taken slot;
       home = λ slot may. is.home slot (read.home slot (was.home slot may));
-      made = λ heap.
-          subst (λ (who : ℕ). g.H.Hall.made c.turn.new.hall who heap ≡ g.H.Hall.made c.now-reading.new.self who heap) me (is.made heap)
-          ∙ read.made number heap
-          ∙ was.made heap;
+      part = λ heap.
+          subst (λ (who : ℕ). g.H.Hall.part c.turn.new.hall who heap ≡ g.H.Hall.part c.now-reading.new.self who heap) me (is.part heap)
+          ∙ read.part number heap
+          ∙ was.part heap;
       goes_on = g.met.H.Hall.goes_on_then _ _ _ was.goes_on (g.met.H.Hall.goes_on_then _ _ _ read.goes_on is.goes_on);
     }
 
@@ -237,12 +237,12 @@ returns-in_err-turn-clause-weight g c =
     in
     omega (arith, before, lighter, stopped, until, own)
 
-pub returns-in_err-turn-clause-made : goal.returns-in_err-turn-clause-made
-returns-in_err-turn-clause-made g c = λ heap.
-    subst (λ (who : ℕ). g.H.Hall.made c.turn.new.hall who heap ≡ g.H.Hall.made c.now-reading.new.self who heap) c.waiting.invariant.same.me
-    (c.turn.ensures.made heap)
-    ∙ c.now-reading.ensures.made c.args.self.now.me heap
-    ∙ c.waiting.invariant.made heap
+pub returns-in_err-turn-clause-part : goal.returns-in_err-turn-clause-part
+returns-in_err-turn-clause-part g c = λ heap.
+    subst (λ (who : ℕ). g.H.Hall.part c.turn.new.hall who heap ≡ g.H.Hall.part c.now-reading.new.self who heap) c.waiting.invariant.same.me
+    (c.turn.ensures.part heap)
+    ∙ c.now-reading.ensures.part c.args.self.now.me heap
+    ∙ c.waiting.invariant.part heap
 
 pub returns-in_err-turn-clause-same : goal.returns-in_err-turn-clause-same
 returns-in_err-turn-clause-same g c =

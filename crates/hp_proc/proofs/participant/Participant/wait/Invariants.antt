@@ -19,7 +19,7 @@ invariant-waiting g l = record {
   tied : IsTied (g.H.Hall.seen l.hall l.fn.self.me) (g.H.Hall.own l.hall l.fn.self.me) l.self.joined l.self.maps;
   taken : (number : ℕ) → g.H.Hall.taken l.hall number ≡ g.H.Hall.taken l.fn.hall number;
   home : (number : ℕ) → g.H.Hall.may_take l.fn.hall number → g.H.Hall.may_take l.hall number;
-  made : (heap : ℕ) → g.H.Hall.made l.hall l.fn.self.me heap ≡ g.H.Hall.made l.fn.hall l.fn.self.me heap;
+  part : (heap : ℕ) → g.H.Hall.part l.hall l.fn.self.me heap ≡ g.H.Hall.part l.fn.hall l.fn.self.me heap;
   goes_on : g.H.Hall.goes_on l.fn.hall l.hall;
 }
 

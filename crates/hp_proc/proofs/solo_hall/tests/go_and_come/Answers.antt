@@ -14,6 +14,8 @@ do_line-requires c =
     let party = c.in-Some.party in
     let at : IsTiedAt hall.plain c.args.me party =
     subst (λ (o : Option Party). IfSome o (IsTiedAt hall.plain c.args.me)) c.in-Some.is c.away.ensures.tied in
-    record { may = waits_first hall c.args.me party
-    (subst (λ (plain : HallView). c.args.me < length plain.owns) (sym c.away.ensures.plain) c.requires.me) c.away.ensures.away
-    (subst (λ (plain : HallView). IsHome (slot_at plain MAX_HEAPS)) (sym c.away.ensures.plain) c.requires.home) at }
+    record {
+      may = waits_first hall c.args.me party
+          (subst (λ (plain : HallView). c.args.me < length plain.owns) (sym c.away.ensures.plain) c.requires.me) c.away.ensures.away
+          (subst (λ (plain : HallView). IsHome (slot_at plain MAX_HEAPS)) (sym c.away.ensures.plain) c.requires.home) at;
+    }

@@ -1,25 +1,30 @@
 use Rattle.std.proofs.Common.{ℕ, refl, ap, subst, sym, arith}
+use Rattle.std.proofs.lemmas.Option.{slice_get_within}
 use Rattle.hp_hall.specs.Giving.{Knows}
-use Rattle.hp_hall.specs.HallSteps.{home_slot}
+use Rattle.hp_hall.specs.HallSteps.{after_give, home_slot}
 use Rattle.hp_hall.specs.HallView.{IsHome, slot_at, taken_from}
-use Rattle.hp_hall.specs.Mail.{Gives}
+use Rattle.hp_hall.specs.Mail.{Gives, MailStep}
 use Rattle.hp_hall.specs.Slots.{slot_number}
 use Rattle.hp_hall.specs.Values.{Fits}
 use Rattle.hp_hall.specs.Weights.{boxes_weight}
 use Rattle.hp_hall.proofs.Given.{IsGivenFor, given, known, later_given, still_fit}
-use Rattle.hp_hall.proofs.Read.{has_log, made_by}
+use Rattle.hp_hall.proofs.Giver.{others_given, part_given}
+use Rattle.hp_hall.proofs.Halls.{hall_given}
+use Rattle.hp_hall.proofs.Read.{has_asks, has_log}
 use Rattle.hp_hall.proofs.Slotted.{gave}
-use Rattle.hp_hall.proofs.Taking.{made_by_others, made_elsewhere}
 use Rattle.hp_hall.proofs.plain_hall.calls.PlainHallHall.give.Goals as goal
 
-pub give_at-requires-clause-fits : goal.give_at-requires-clause-fits
-give_at-requires-clause-fits c =
+pub give_at-requires-clause-hall : goal.give_at-requires-clause-hall
+give_at-requires-clause-hall c =
     let old = c.args.self.now in
     let kept = c.args.kept in
     let number : ℕ = slot_number c.args.slot in
     let knows : Knows = known old c.args.me in
     let was : IsGivenFor knows (slot_at old number) kept = given knows (slot_at old number) kept c.requires.gives in
-    still_fit knows number was.before.kept kept (c.sound.ensures.fits number was.before was.there) was.gives
+    let hall = c.sound.ensures in
+    let fits : Fits number kept = still_fit knows number was.before.kept kept (hall.fits number was.before was.there) was.gives in
+    hall_given c.args.me number old (after_give c.args.me number kept old) hall was.before was.before.kept kept refl was.there fits was.gives
+    c.sound-2.ensures (record { below = slice_get_within old.slots number was.before was.there; slots = refl; boxes = refl; owns = refl })
 
 pub returns : goal.returns
 returns c =
@@ -31,18 +36,20 @@ returns c =
     let knows : Knows = known old me in
     let was : IsGivenFor knows (slot_at old number) kept = given knows (slot_at old number) kept c.requires.gives in
     let before = was.before in
-    let fits : Fits number kept = still_fit knows number before.kept kept (c.sound.ensures.fits number before was.there) was.gives in
+    let step : MailStep = Gives number kept in
+    let hall = c.sound.ensures in
+    let fits : Fits number kept = still_fit knows number before.kept kept (hall.fits number before was.there) was.gives in
     let later = later_given knows before.kept kept was.gives in
     let moves = gave old new me number before kept was.there later c.give_at.ensures in
     record {
       taken = ap taken_from moves.here;
       home = subst IsHome (sym moves.here) refl;
-      entries = made_by new number (home_slot kept) moves.here me kept refl fits;
+      part = part_given me number before step old new hall was.there kept fits moves was.gives;
       log = has_log new number (home_slot kept) moves.here kept refl fits;
+      asks = has_asks new number (home_slot kept) moves.here kept refl fits;
       others = moves.taken;
       home_of_others = moves.home;
-      made_elsewhere = made_elsewhere me number before kept me (Gives number kept) old new was.there later fits moves;
-      made_by_others = made_by_others knows number before kept (Gives number kept) old new was.there was.gives moves;
+      part_of_others = others_given me number before step old new hall was.there kept fits moves was.gives;
       own = moves.makes.own;
       did = moves.makes.did;
       weight = omega (arith, ap boxes_weight moves.boxes);

@@ -1,32 +1,38 @@
 use Rattle.std.proofs.Common.{ℕ, refl, ap, arith}
 use Rattle.hp_hall.specs.HallSteps.{home_slot, out_slot}
 use Rattle.hp_hall.specs.HallView.{taken_from}
-use Rattle.hp_hall.specs.Mail.{Takes}
+use Rattle.hp_hall.specs.Mail.{MailStep, Takes}
 use Rattle.hp_hall.specs.Slots.{slot_number}
 use Rattle.hp_hall.specs.Weights.{boxes_weight}
-use Rattle.hp_hall.proofs.Read.{has_entries, has_log}
+use Rattle.hp_hall.proofs.Read.{has_asks, has_entries, has_log}
 use Rattle.hp_hall.proofs.Slotted.{took}
-use Rattle.hp_hall.proofs.Taking.{made_still}
+use Rattle.hp_hall.proofs.Taking.{others_taken, part_taken, stands_taken}
 use Rattle.hp_hall.proofs.plain_hall.calls.PlainHallHall.take.Goals as goal
 
 pub returns : goal.returns
 returns c =
     let old = c.args.self.now in
     let new = c.take_at-kept.new.self in
+    let me = c.args.me in
     let kept = c.take_at-kept.result in
     let number : ℕ = slot_number c.args.slot in
     let there = c.take_at-kept.ensures.kept in
     let fits = c.take_at-kept.ensures.fits in
-    let moves = took old new c.args.me number kept there c.take_at-kept.ensures.hall in
+    let step : MailStep = Takes number kept in
+    let hall = c.sound.ensures in
+    let moves = took old new me number kept there c.take_at-kept.ensures.hall in
     record {
       fits = fits;
-      sound = c.sound.ensures;
-      entries = has_entries old number (home_slot kept) there c.args.me kept refl fits;
-      log = has_log new number (out_slot kept) moves.here kept refl fits;
+      sound = c.sound-2.ensures;
+      entries = has_entries old number (home_slot kept) there me kept refl fits;
+      log = has_log new number (out_slot me kept) moves.here kept refl fits;
+      asks = has_asks new number (out_slot me kept) moves.here kept refl fits;
+      stands = stands_taken me number kept step old new hall there moves kept refl fits;
       taken = ap taken_from moves.here;
       others = moves.taken;
       home_of_others = moves.home;
-      made = made_still number kept c.args.me (Takes number kept) old new there moves;
+      part = part_taken me number kept step old new hall there moves kept refl fits;
+      part_of_others = others_taken me number kept step old new hall there moves;
       own = moves.makes.own;
       did = moves.makes.did;
       weight = omega (arith, ap boxes_weight moves.boxes);

@@ -14,5 +14,7 @@ post-requires-clause-declared c =
 
 pub returns : goal.returns
 returns c =
-    record { may = waits_on c.args.hall.now c.post.new.self c.args.party.now c.post.ensures.goes_on (c.post.ensures.own c.args.party.now.me)
-    (c.post.ensures.home MAX_HEAPS c.requires.may.home) c.requires.may }
+    record {
+      may = waits_on c.args.hall.now c.post.new.self c.args.party.now c.post.ensures.goes_on (c.post.ensures.own c.args.party.now.me)
+          (c.post.ensures.home MAX_HEAPS c.requires.may.home) c.requires.may;
+    }

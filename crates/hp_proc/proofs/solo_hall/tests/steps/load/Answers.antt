@@ -15,5 +15,7 @@ load_ack-requires-clause-declared c =
 
 pub returns : goal.returns
 returns c =
-    record { may = waits_on c.args.hall.now c.load_ack.new.self c.args.party.now c.load_ack.ensures.goes_on (c.load_ack.ensures.own c.args.party.now.me)
-    (c.load_ack.ensures.home MAX_HEAPS c.requires.may.home) c.requires.may }
+    record {
+      may = waits_on c.args.hall.now c.load_ack.new.self c.args.party.now c.load_ack.ensures.goes_on (c.load_ack.ensures.own c.args.party.now.me)
+          (c.load_ack.ensures.home MAX_HEAPS c.requires.may.home) c.requires.may;
+    }

@@ -14,6 +14,8 @@ others-requires-clause-free c = free_home (slot_at c.args.hall.now.plain MAX_HEA
 
 pub returns : goal.returns
 returns c =
-    record { may = waits_on c.args.hall.now c.others.new.self c.args.party.now c.others.ensures.goes_on
-    (subst (λ (n : ℕ). own_at c.others.new.self.plain n ≡ own_at c.args.hall.now.plain n) c.number.ensures c.others.ensures.own)
-    (c.others.ensures.home MAX_HEAPS c.requires.may.home) c.requires.may }
+    record {
+      may = waits_on c.args.hall.now c.others.new.self c.args.party.now c.others.ensures.goes_on
+          (subst (λ (n : ℕ). own_at c.others.new.self.plain n ≡ own_at c.args.hall.now.plain n) c.number.ensures c.others.ensures.own)
+          (c.others.ensures.home MAX_HEAPS c.requires.may.home) c.requires.may;
+    }

@@ -12,6 +12,8 @@ take_segments-segs-requires-clause-serves c =
 pub returns : goal.returns
 returns c =
     let me = c.args.party.now.me in
-    record { may = waits_on c.args.hall.now c.put_back.new.hall c.args.party.now
-    (solo_then c.args.hall.now c.take_segments-segs.new.hall c.put_back.new.hall c.take_segments-segs.ensures.goes_on c.put_back.ensures.goes_on)
-    (c.put_back.ensures.own me ∙ c.take_segments-segs.ensures.own me) c.put_back.ensures.home c.requires.may }
+    record {
+      may = waits_on c.args.hall.now c.put_back.new.hall c.args.party.now
+          (solo_then c.args.hall.now c.take_segments-segs.new.hall c.put_back.new.hall c.take_segments-segs.ensures.goes_on c.put_back.ensures.goes_on)
+          (c.put_back.ensures.own me ∙ c.take_segments-segs.ensures.own me) c.put_back.ensures.home c.requires.may;
+    }

@@ -9,5 +9,7 @@ serve-requires-clause-free c = free_home (slot_at c.args.hall.now.plain MAX_HEAP
 
 pub returns : goal.returns
 returns c =
-    record { may = waits_after c.args.hall.now c.serve.new.hall c.args.party.now c.serve.new.self c.serve.ensures.me c.serve.ensures.goes_on
-    (c.serve.ensures.home MAX_HEAPS c.requires.may.home) c.serve.ensures.tied c.requires.may }
+    record {
+      may = waits_after c.args.hall.now c.serve.new.hall c.args.party.now c.serve.new.self c.serve.ensures.me c.serve.ensures.goes_on
+          (c.serve.ensures.home MAX_HEAPS c.requires.may.home) c.serve.ensures.tied c.requires.may;
+    }

@@ -1,0 +1,116 @@
+-- What a participant has in a heap: the rule "Holding" of docs/PARTICIPANTS.md.
+use Rattle.std.specs.Prelude.{◌≡◌, ◌≢◌, ℕ, Bool, true, false, not, ◌&&◌, ◌==◌, List, filter, Contains, Option, Some, None}
+use Rattle.std.specs.List.{list_any}
+use Rattle.std.specs.Option.{option_map, option_map_or}
+use Rattle.hp_heap.specs.History.{HeapView, entries_of}
+use Rattle.hp_heap.specs.PlainHeap.{HeapPage}
+use Rattle.hp_heap.specs.declared.entry.Entry.{Entry}
+use Rattle.hp_base.specs.declared.row.Row.{Row}
+use Rattle.hp_segs.specs.GrowthLaws.{HasArmedGrowth}
+use Rattle.hp_segs.specs.LaterSteps.{armed_ask}
+use Rattle.hp_segs.specs.SegsView.{SegsView, granted_by, is_owned_by, is_unclaimed}
+use Rattle.hp_segs.specs.declared.ask.Ask.{Ask}
+use Rattle.hp_segs.specs.declared.outcome.AskLog.{AskLog}
+use Rattle.hp_segs.specs.declared.row_state.Segment.{Segment}
+use Rattle.hp_hall.specs.declared.kept.Kept.{Kept}
+use Rattle.hp_hall.specs.declared.kept.Kept.TheVariants.{Heap, Segments}
+
+-- what the segment value has for a heap: the segments that are its own, and the outcomes that granted it runs which it has claimed
+pub record Holding : Type 0 where
+  pub owned : List Segment
+  pub claimed : List AskLog
+
+-- a participant's part in a heap: the entries that it made there, as far as they were given back, the socket whose pages the heap takes,
+-- settled when it opens, and while it holds the heap what the segment value has for it. Beside these, in each part alike, the ask with
+-- which the participant armed itself last.
+pub record HeapPart : Type 0 where
+  pub entries : List Entry
+  pub serves : Option ℕ
+  pub holding : Option Holding
+  pub armed : Option Ask
+
+-- the segments that are a heap's own
+abbrev pub owned_by : ℕ → SegsView → List Segment
+owned_by heap segs = filter (λ segment. is_owned_by heap segment.state) segs.segments
+
+-- an outcome granted the heap a run, and no row of that is Agreed any more
+abbrev pub is_claimed_for : ℕ → List Segment → AskLog → Bool
+is_claimed_for heap segments entry = option_map_or (λ ask. ask.heap == heap) entry.ask false
+    && option_map_or (λ generation. not (is_unclaimed segments generation)) (granted_by entry.outcome) false
+
+-- what the segment value has for a heap
+abbrev pub standing_of : ℕ → SegsView → Holding
+standing_of heap segs = record { owned = owned_by heap segs; claimed = filter (is_claimed_for heap segs.segments) segs.asks }
+
+-- a page of a heap is the row's: it lies in the same slot, at the same address, with the same size and socket
+abbrev pub is_page_of : Row → HeapPage → Bool
+is_page_of row page = (page.list == row.list) && ((page.slot == row.slot) && ((page.addr == row.addr)
+    && ((page.page == row.page) && (page.socket == row.socket))))
+
+-- the pages of a heap are those of its own segments
+pub record HasPages (pages : List HeapPage) (owned : List Segment) : Type 0 where
+  pub owns : (page : HeapPage) → Contains pages page → list_any (λ segment. is_page_of segment.row page) owned ≡ true
+  pub pages_of : (segment : Segment) → Contains owned segment → list_any (is_page_of segment.row) pages ≡ true
+
+-- a heap in hand has the pages that its holding names
+abbrev pub IsHeldWith : HeapView → Option Holding → Type 0
+IsHeldWith heap None = ⊥
+IsHeldWith heap (Some holding) = HasPages heap.plain.pages holding.owned
+
+-- an outcome keeps no other ask under the number with which its participant is armed
+abbrev pub KeepsArmed : SegsView → Type 0
+KeepsArmed segs = (entry : AskLog) (ask armed : Ask) → Contains segs.asks entry → entry.ask ≡ Some ask
+    → armed_ask segs entry.from ≡ Some armed → armed.number ≡ ask.number → armed ≡ ask
+
+-- the open growth, and each outcome that keeps an ask, are of asks with which participants are armed
+pub record IsArmed (segs : SegsView) : Type 0 where
+  pub growth : HasArmedGrowth segs
+  pub kept : KeepsArmed segs
+
+-- what a participant learns of a segment value: of each heap that it holds the value has what was known, it is armed with the ask with
+-- which it armed itself last, and the open growth and the kept asks are those of the armed
+pub record AreStanding (who : ℕ) (parts : ℕ → HeapPart) (segs : SegsView) : Type 0 where
+  pub held : (heap : ℕ) (holding : Holding) → (parts heap).holding ≡ Some holding → holding ≡ standing_of heap segs
+  pub armed : (heap : ℕ) → (parts heap).armed ≡ armed_ask segs who
+  pub sound : IsArmed segs
+
+-- a heap in hand is as its holder's part says: it takes the pages of that socket, and has those of its own segments
+pub record IsAsPart (part : HeapPart) (heap : HeapView) : Type 0 where
+  pub serves : heap.plain.serves ≡ part.serves
+  pub held : IsHeldWith heap part.holding
+
+-- what a taker learns of a value
+abbrev pub StandsFor : ℕ → (ℕ → HeapPart) → Kept → Type 0
+StandsFor who parts (Heap heap) = IsAsPart (parts heap.plain.index) heap
+StandsFor who parts (Segments segs) = AreStanding who parts segs
+
+-- a take of a heap leaves the entries, the socket and the armed ask as they were; what the heap then holds, StandsFor says
+pub record IsPartTaken (old new : HeapPart) : Type 0 where
+  pub entries : new.entries ≡ old.entries
+  pub serves : new.serves ≡ old.serves
+  pub armed : new.armed ≡ old.armed
+
+-- the parts in other heaps are as they were
+abbrev pub AreApart : ℕ → (ℕ → HeapPart) → (ℕ → HeapPart) → Type 0
+AreApart heap old new = (other : ℕ) → other ≢ heap → new other ≡ old other
+
+-- what a take makes of the taker's parts: it holds the heap that it took
+abbrev pub IsTakenAs : Kept → (ℕ → HeapPart) → (ℕ → HeapPart) → Type 0
+IsTakenAs (Heap heap) old new =
+    IsPartTaken (old heap.plain.index) (new heap.plain.index) × AreApart heap.plain.index old new
+IsTakenAs (Segments segs) old new = (heap : ℕ) → new heap ≡ old heap
+
+-- a part behind a give of the segment value: what that has for a heap that is held, and the ask with which the giver is armed
+abbrev pub part_behind : ℕ → SegsView → ℕ → HeapPart → HeapPart
+part_behind who segs heap part =
+    record part { holding = option_map (λ holding. standing_of heap segs) part.holding; armed = armed_ask segs who }
+
+-- a part behind a give of that heap: its entries are those of the heap, and it is held no longer
+abbrev pub part_ended : ℕ → HeapView → HeapPart → HeapPart
+part_ended who heap part = record part { entries = entries_of who heap.history; holding = None }
+
+-- what a give makes of the giver's parts
+abbrev pub IsGivenAs : ℕ → Kept → (ℕ → HeapPart) → (ℕ → HeapPart) → Type 0
+IsGivenAs who (Heap heap) old new =
+    (new heap.plain.index ≡ part_ended who heap (old heap.plain.index)) × AreApart heap.plain.index old new
+IsGivenAs who (Segments segs) old new = (heap : ℕ) → new heap ≡ part_behind who segs heap (old heap)

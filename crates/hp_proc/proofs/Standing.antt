@@ -1,0 +1,42 @@
+-- What a participant has in the heaps where a segment value is given back: the rule "Holding" of docs/PARTICIPANTS.md.
+use Rattle.std.proofs.Common.{◌≡◌, ◌∙◌, ℕ, Option, Some, None, refl, ap, sym}
+use Rattle.std.specs.Option.{option_map}
+use Rattle.hp_segs.specs.LaterSteps.{armed_ask}
+use Rattle.hp_segs.specs.SegsView.{SegsView}
+use Rattle.hp_segs.specs.declared.ask.Ask.{Ask}
+use Rattle.hp_hall.specs.Holding.{AreStanding, HeapPart, Holding, part_behind, standing_of}
+
+-- what is held stays where the value has just that
+held_same : (holding : Holding) (held : Option Holding) → ((known : Holding) → held ≡ Some known → known ≡ holding)
+    → option_map (λ known. holding) held ≡ held
+held_same holding None is = refl
+held_same holding (Some known) is = ap Some (sym (is known refl))
+
+part_same : (part : HeapPart) (holding : Option Holding) (armed : Option Ask) → holding ≡ part.holding → armed ≡ part.armed
+    → record part { holding = holding; armed = armed } ≡ part
+part_same part holding armed held_is armed_is =
+    ap (λ holding. record part { holding = holding; armed = armed }) held_is
+    ∙ ap (λ armed. record part { holding = part.holding; armed = armed }) armed_is
+
+-- a part is as it was behind a value that has for each heap what the taken one had, and arms the giver as that did
+pub behind_same : (who : ℕ) (parts : ℕ → HeapPart) (taken given : SegsView) → AreStanding who parts taken
+    → ((heap : ℕ) → standing_of heap given ≡ standing_of heap taken) → armed_ask given who ≡ armed_ask taken who
+    → (heap : ℕ) → part_behind who given heap (parts heap) ≡ parts heap
+behind_same who parts taken given are leaves armed heap =
+    part_same (parts heap) (option_map (λ known. standing_of heap given) (parts heap).holding) (armed_ask given who)
+    (held_same (standing_of heap given) (parts heap).holding (λ known is. are.held heap known is ∙ sym (leaves heap)))
+    (armed ∙ sym (are.armed heap))
+
+-- and so it is behind the value that was taken
+pub standing_same : (who : ℕ) (parts : ℕ → HeapPart) (taken : SegsView) → AreStanding who parts taken
+    → (heap : ℕ) → part_behind who taken heap (parts heap) ≡ parts heap
+standing_same who parts taken are = behind_same who parts taken taken are (λ heap. refl) refl
+
+-- what is known of a value stays known while the parts stay
+pub standing_with : (who : ℕ) (parts later : ℕ → HeapPart) (taken : SegsView) → ((heap : ℕ) → later heap ≡ parts heap)
+    → AreStanding who parts taken → AreStanding who later taken
+standing_with who parts later taken same are = record {
+  held = λ heap holding is. are.held heap holding (sym (ap (λ (part : HeapPart). part.holding) (same heap)) ∙ is);
+  armed = λ heap. ap (λ (part : HeapPart). part.armed) (same heap) ∙ are.armed heap;
+  sound = are.sound;
+}
