@@ -13,6 +13,16 @@ mod Weighs
 mod Noting
 pub mod Standing
 mod Steps
+mod Armed
+mod AskOutcomes
+mod AskSettled
+mod AskWithdrawn
+mod AskedAlong
+mod Retired
+mod Taken
+mod AskLooks
+mod InTurn
+mod AskDone
 mod MemberLemmas
 mod AskedLemmas
 mod Waits
@@ -24,4 +34,5 @@ pub mod SoloTies
 pub mod SoloWeights
 mod SoloTurns
 mod StageLemmas
+mod RetiredPage
 mod SoloWaits

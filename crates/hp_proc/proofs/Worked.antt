@@ -14,7 +14,8 @@ use Rattle.hp_script.specs.declared.answer.Answer.TheVariants as answer
 use Rattle.hp_script.specs.declared.line.Act.TheVariants as act
 use Rattle.hp_segs.specs.declared.outcome.AskLog.{AskLog}
 use Rattle.hp_segs.specs.declared.outcome.Outcome.TheVariants.{Granted}
-use Rattle.hp_proc.specs.Doing.{Doing, Done, PagesAsked, Goes, Leads}
+use Rattle.hp_proc.specs.Doing.{Doing, Done, Goes, Leads}
+use Rattle.hp_proc.specs.declared.pages_asked.PagesAsked.{PagesAsked}
 use Rattle.hp_proc.specs.Doing.Done.{Called, Asked, GaveUp}
 use Rattle.hp_proc.specs.Heaps.{NamedHeap, own_first, page_sizes_for}
 use Rattle.hp_proc.specs.Allocating.{with_hint, without_hint, serving}

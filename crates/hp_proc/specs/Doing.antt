@@ -1,18 +1,11 @@
 -- What a line does, as a tree of what comes next by what the step before gave; and what was done, as a trace through that tree.
 use Rattle.std.specs.Prelude.{◌≡◌, ℕ, List, [], ◌∷◌, Option}
 use Rattle.hp_base.specs.declared.caught.Caught.{Caught}
-use Rattle.hp_base.specs.declared.request.Request.{Request}
 use Rattle.hp_base.specs.declared.row.Run.{Run}
 use Rattle.hp_heap.specs.declared.entry.HeapCall.{HeapCall}
 use Rattle.hp_heap.specs.declared.entry.HeapAnswer.{HeapAnswer}
 use Rattle.hp_script.specs.declared.answer.Answer.{Answer}
-
--- what a participant asks the coordinator for: pages of a size for the heap of a socket, in which a request has a place
-pub record PagesAsked : Type 0 where
-  pub heap : ℕ
-  pub socket : ℕ
-  pub page : ℕ
-  pub request : Request
+use Rattle.hp_proc.specs.declared.pages_asked.PagesAsked.{PagesAsked}
 
 -- what a line does
 pub data Doing : Type 0 where

@@ -3,15 +3,22 @@ use Rattle.std.specs.Prelude.{◌≡◌, ℕ, ◌+◌, List, ◌++◌, length, O
 use Rattle.hp_base.specs.declared.row.Run.{Run}
 use Rattle.hp_log.specs.declared.log_record.LogRecord.{LogRecord}
 use Rattle.hp_segs.specs.declared.outcome.AskLog.{AskLog}
-use Rattle.hp_proc.specs.Doing.{Doing, Done, PagesAsked, Leads}
+use Rattle.hp_proc.specs.Doing.{Doing, Done, Leads}
+use Rattle.hp_proc.specs.declared.pages_asked.PagesAsked.{PagesAsked}
 use Rattle.hp_proc.specs.Courses.{OwnCall}
 use Rattle.hp_proc.specs.Histories.{entries_for}
-use Rattle.hp_proc.specs.Outcomes.{IsAnsweredSo}
+use Rattle.hp_proc.specs.Outcomes.{AreInTurn, IsAnsweredSo, ask_of}
+use Rattle.hp_proc.specs.Asking.{HasAnswer}
 
 -- the outcome of an ask stays, whatever records and outcomes follow
 abbrev pub StaysAnswered : List LogRecord → List AskLog → Type 0
 StaysAnswered log asks = (more : List LogRecord) (others : List AskLog) (who number : ℕ) (asked : PagesAsked) (run : Option Run)
     → IsAnsweredSo log asks who number asked run → IsAnsweredSo (log ++ more) (asks ++ others) who number asked run
+
+-- where outcomes come in turn, an ask that has its answer is answered so by the only outcome of its number
+abbrev pub AnswersInTurn : List LogRecord → List AskLog → Type 0
+AnswersInTurn log asks = AreInTurn asks → (who number : ℕ) (asked : PagesAsked) (run : Option Run)
+    → HasAnswer log asks (ask_of who number asked) run → IsAnsweredSo log asks who number asked run
 
 -- what leads to a rest, and what leads on from there, lead on together
 abbrev pub LeadsOn : Doing → Type 0

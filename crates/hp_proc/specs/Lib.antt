@@ -21,3 +21,6 @@ pub mod Coordinating
 pub mod Waiting
 pub mod Solo
 pub mod SoloCourse
+pub mod Asking
+pub mod Looking
+pub mod AskSteps

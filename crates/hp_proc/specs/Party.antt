@@ -67,9 +67,25 @@ opening_party me socket joined maps plan deadline = record {
   core = first_core me deadline;
   asked = 0;
   answered = false;
-  sent = record { replies = 0; syncs = replicate 16 0; answers = replicate 16 0 };
+  sent = record { allocs = 0; frees = 0; replies = 0; syncs = replicate 16 0; answers = replicate 16 0 };
 }
 
 -- a participant that has sent one reply more
 abbrev pub after_reply : Party → Party
 after_reply party = record party { sent = record party.sent { replies = one_more party.sent.replies } }
+
+-- a participant that has sent an ask for pages, of that number: it is its last ask, and not answered
+abbrev pub after_alloc : ℕ → Party → Party
+after_alloc number party = record party {
+  asked = number;
+  answered = false;
+  sent = record party.sent { allocs = one_more party.sent.allocs };
+}
+
+-- a participant that has sent a notice that pages were given up, of that number
+abbrev pub after_free : ℕ → Party → Party
+after_free number party = record party {
+  asked = number;
+  answered = false;
+  sent = record party.sent { frees = one_more party.sent.frees };
+}

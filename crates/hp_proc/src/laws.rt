@@ -5,7 +5,7 @@ ghost use Rattle.hp_log.specs.declared.log_record.LogRecord.{LogRecord};
 ghost use Rattle.hp_segs.specs.declared.outcome.AskLog.{AskLog};
 ghost use Rattle.hp_proc.specs.Coordinating.{IsServed};
 ghost use Rattle.hp_proc.specs.Doing.{Doing};
-ghost use Rattle.hp_proc.specs.Laws.{GoesOnNumbered, LeadsOn, StaysAnswered};
+ghost use Rattle.hp_proc.specs.Laws.{AnswersInTurn, GoesOnNumbered, LeadsOn, StaysAnswered};
 ghost use Rattle.hp_proc.specs.Party.{Party};
 ghost use Rattle.hp_proc.specs.Waiting.{LeavesAsked};
 
@@ -13,6 +13,12 @@ ghost use Rattle.hp_proc.specs.Waiting.{LeavesAsked};
 /// every later step. Own.
 pub fn answer_law()
     ensures { (log : List LogRecord) (asks : List AskLog) → StaysAnswered log asks }
+{}
+
+/// Where outcomes come in turn, as they do at the end of a workload, the first grant or refusal of an ask is the only outcome of its
+/// number but stale ones. Own.
+pub fn outcomes_law()
+    ensures { (log : List LogRecord) (asks : List AskLog) → AnswersInTurn log asks }
 {}
 
 /// Traces through a line's tree join: the line may be followed step by step. Own.

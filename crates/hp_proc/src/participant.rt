@@ -8,7 +8,9 @@ use hp_core::Coordinator;
 use hp_maps::{LocalMaps, Planned};
 use std::marker::Model;
 
+mod asking;
 mod carrying;
+mod giving_up;
 mod heeding;
 mod member;
 mod resting;
@@ -94,6 +96,8 @@ impl<'p, M: Mapper> Participant<'p, M> {
             asked: 0,
             answered: false,
             sent: Sent {
+                allocs: 0,
+                frees: 0,
                 replies: 0,
                 syncs: [0; 16],
                 answers: [0; 16],

@@ -4,6 +4,10 @@ ghost use Rattle.hp_proc.specs.Party.{one_more};
 /// How many messages a participant has sent of each kind: by these counts a plan names them. Own.
 #[derive(Clone, Copy, Debug, PartialEq, Eq)]
 pub struct Sent {
+    /// ALLOCs.
+    pub allocs: u64,
+    /// FREEs.
+    pub frees: u64,
     /// Replies to SYNCs.
     pub replies: u64,
     /// SYNCs to each of the participants 0 to 15.

@@ -1,16 +1,18 @@
 //! Two participants in a hall of plain values, by hand: what each serving does, what it leaves in the log, and in which tables.
-ghost use Rattle.std.specs.Prelude.{◌≡◌, ◌<◌, ℕ, List, [], Some, IfOk, slice_get};
+ghost use Rattle.std.specs.Prelude.{◌≡◌, ◌<◌, ℕ, List, [], ◌∷◌, Some, IfOk, slice_get};
 ghost use Rattle.hp_base.specs.declared.limits.TheConstants.{MAX_PARTICIPANTS};
 ghost use Rattle.hp_hall.specs.Holding.{IsArmed, owned_by};
 ghost use Rattle.hp_hall.specs.Opening.{AreInOrder};
 ghost use Rattle.hp_heap.specs.History.{HeapView};
 ghost use Rattle.hp_log.specs.declared.log_record.LogRecord.{LogRecord};
+ghost use Rattle.hp_segs.specs.Opening.{opening};
 ghost use Rattle.hp_proc.specs.Tied.{IsTied, nothing_yet};
 
 mod acts;
 mod asks;
 mod frames;
 mod growths;
+mod pages;
 mod stage;
 
 use crate::Participant;
@@ -19,6 +21,7 @@ use hp_base::{MAX_HEAPS, MAX_SEGMENTS, MemMapper, Plan, PoolLine, Request};
 use hp_heap::Heap;
 use hp_maps::{LocalMaps, Planned};
 use hp_segs::{Ask, Segs};
+use pages::retire_page;
 use stage::Stage;
 use std::alloc::{AllocError, Global};
 use std::test::Fail;
@@ -58,11 +61,9 @@ fn first_ask(from: u8) -> Result<Ask, Fail>
     })
 }
 
-// A segment value of the pool line `pool 0 2M 4`, of two participants, of whom one is armed with its first ask. No heap owns a segment.
-pub(crate) fn armed_segs(alloc: Global, asker: u8) -> Result<Segs, Fail>
-    requires { asker < 2 }
-    ensures armed { IfOk result (λ segs. IsArmed segs) }
-    ensures unowned { IfOk result (λ segs. (heap : ℕ) → owned_by heap segs ≡ []) }
+// A segment value of the pool line `pool 0 2M 4`, of two participants.
+fn opening_segs(alloc: Global) -> Result<Segs, AllocError>
+    ensures { IfOk result (λ segs. segs ≡ opening (record { socket = 0; page = PAGE; pages = 4; slots = 4 } ∷ []) 2 0) }
 {
     let pool = PoolLine {
         socket: 0,
@@ -70,8 +71,29 @@ pub(crate) fn armed_segs(alloc: Global, asker: u8) -> Result<Segs, Fail>
         pages: 4,
         slots: 4,
     };
-    let mut segs = Segs::new(alloc, [pool].as_slice(), 2, 0)?;
+    Segs::new(alloc, [pool].as_slice(), 2, 0)
+}
+
+// One of the two is armed with its first ask. No heap owns a segment.
+pub(crate) fn armed_segs(alloc: Global, asker: u8) -> Result<Segs, Fail>
+    requires { asker < 2 }
+    ensures armed { IfOk result (λ segs. IsArmed segs) }
+    ensures unowned { IfOk result (λ segs. (heap : ℕ) → owned_by heap segs ≡ []) }
+{
+    let mut segs = opening_segs(alloc)?;
     let ask = first_ask(asker)?;
+    segs.arm(&ask)?;
+    Ok(segs)
+}
+
+// Participant 1 is armed, and heap 0 was granted a page by the first ask of participant 0, and has given it up.
+fn retired_segs(alloc: Global) -> Result<Segs, Fail>
+    ensures armed { IfOk result (λ segs. IsArmed segs) }
+    ensures unowned { IfOk result (λ segs. (heap : ℕ) → owned_by heap segs ≡ []) }
+{
+    let mut segs = opening_segs(alloc)?;
+    retire_page(&mut segs)?;
+    let ask = first_ask(1)?;
     segs.arm(&ask)?;
     Ok(segs)
 }

@@ -136,3 +136,44 @@ fn answers_a_notice(rt: HostRuntime) -> Result<(), Fail> {
     ];
     play(&mut stage, acts.as_slice())
 }
+
+// A page that a heap gave up goes back with a notice: the Drop is logged, and both take it in.
+#[test]
+fn drops_what_was_given_up(rt: HostRuntime) -> Result<(), Fail> {
+    let plan = Plan::new(rt.alloc());
+    let mut stage = Stage::with_retired_page(rt.alloc(), &plan)?;
+    let retired = Shown {
+        records: 1,
+        numbers: (0, 0),
+        left: 3,
+        rows: (None, None),
+        outcomes: 1,
+        last: Some((0, 1, End::Granted(1))),
+    };
+    let dropped = Shown {
+        records: 2,
+        numbers: (2, 0),
+        left: 4,
+        outcomes: 2,
+        last: Some((1, 1, End::Freed(2))),
+        ..retired
+    };
+    let acts = [
+        Shows(retired),
+        Free(1),
+        Primary(true),
+        Due(Some(200)),
+        Shows(dropped),
+        Secondary(true),
+        Primary(true),
+        Due(None),
+        Secondary(true),
+        Secondary(false),
+        Primary(false),
+        Shows(Shown {
+            numbers: (2, 2),
+            ..dropped
+        }),
+    ];
+    play(&mut stage, acts.as_slice())
+}

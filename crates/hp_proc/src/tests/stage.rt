@@ -1,7 +1,8 @@
 //! Two participants and their hall.
-ghost use Rattle.std.specs.Prelude.{◌<◌};
+ghost use Rattle.std.specs.Prelude.{◌≡◌, ◌<◌, ℕ, []};
+ghost use Rattle.hp_hall.specs.Holding.{IsArmed, owned_by};
 
-use super::{armed_segs, member, vacant_heaps};
+use super::{armed_segs, member, retired_segs, vacant_heaps};
 use crate::Participant;
 use crate::calls::{put_back, take_segments};
 use hp_base::{Action, MapAnswer, MemMapper, Plan, Row};
@@ -64,9 +65,11 @@ pub(super) struct Shown {
 }
 
 impl<'p> Stage<'p> {
-    // Two participants that have taken in nothing, of whom participant 1 is armed with its first ask.
-    pub(super) fn new(alloc: Global, plan: &'p Plan) -> Result<Stage<'p>, Fail> {
-        let segs = armed_segs(alloc, 1)?;
+    // Two participants that have taken in nothing, in a hall of that segment value.
+    fn over(alloc: Global, plan: &'p Plan, segs: Segs) -> Result<Stage<'p>, AllocError>
+        requires armed { IsArmed segs }
+        requires unowned { (heap : ℕ) → owned_by heap segs ≡ [] }
+    {
         let primary = member(alloc, 0, plan)?;
         let secondary = member(alloc, 1, plan)?;
         let heaps = vacant_heaps(alloc)?;
@@ -77,6 +80,18 @@ impl<'p> Stage<'p> {
             secondary,
             plan,
         })
+    }
+
+    // Participant 1 is armed with its first ask.
+    pub(super) fn new(alloc: Global, plan: &'p Plan) -> Result<Stage<'p>, Fail> {
+        let segs = armed_segs(alloc, 1)?;
+        Ok(Stage::over(alloc, plan, segs)?)
+    }
+
+    // Heap 0 has given a page up besides.
+    pub(super) fn with_retired_page(alloc: Global, plan: &'p Plan) -> Result<Stage<'p>, Fail> {
+        let segs = retired_segs(alloc)?;
+        Ok(Stage::over(alloc, plan, segs)?)
     }
 
     // What becomes of the messages and mapping calls.

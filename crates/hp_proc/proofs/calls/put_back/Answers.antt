@@ -17,7 +17,8 @@ give_segments-requires-clause-gives g c =
       seen = g.H.Hall.seen hall me;
       heard = g.H.Hall.heard hall me;
     } in
-    gives_in_place knows c.args.segs c.args.segs c.requires.taken (noted_gives knows c.args.segs c.args.segs (as_it_was c.args.segs) (λ old. old))
+    gives_in_place knows c.args.segs c.args.segs c.requires.taken
+    (noted_gives knows c.args.segs c.args.segs (as_it_was c.args.segs) (λ old. old))
 
 pub give_segments-requires-clause-same : goal.give_segments-requires-clause-same
 give_segments-requires-clause-same g c =

@@ -1,5 +1,5 @@
--- The pool is within its limits; nothing was granted yet, and no row is there.
-use Rattle.std.proofs.Common.{◌≡◌, List, [], None, Option, sym, ap, subst, ◌∙◌, arith, refl, IfSome}
+-- Nothing was granted yet, and no row is there.
+use Rattle.std.proofs.Common.{◌≡◌, List, [], None, Option, sym, ap, subst, ◌∙◌, IfSome}
 use Rattle.std.specs.Prelude.{Contains}
 use Rattle.hp_segs.specs.GrowthLaws.{IsOfArmed}
 use Rattle.hp_segs.specs.LaterSteps.{after_arm}
@@ -7,15 +7,9 @@ use Rattle.hp_segs.specs.SegsView.{SegsView}
 use Rattle.hp_segs.specs.declared.ask.Ask.{Ask}
 use Rattle.hp_segs.specs.declared.growth.Growth.{Growth}
 use Rattle.hp_segs.specs.declared.outcome.AskLog.{AskLog}
-use Rattle.hp_segs.proofs.OnePool.{one_pool}
 use Rattle.hp_hall.specs.Holding.{IsArmed, owned_by}
 use Rattle.hp_hall.proofs.Gives.{has_nothing}
 use Rattle.hp_proc.proofs.tests.armed_segs.Goals as goal
-
-pub new-requires-clause-pools : goal.new-requires-clause-pools
-new-requires-clause-pools c =
-    rw c.as_slice.ensures
-    (one_pool _ (record { socket = omega arith; page = refl; pages = omega arith; some = omega arith; slots = omega arith }))
 
 -- a value without growth and outcomes
 armed_new : (ask : Ask) (segs : SegsView) → segs.asks ≡ [] → segs.growth ≡ None → IsArmed (after_arm ask segs)

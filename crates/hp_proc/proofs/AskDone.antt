@@ -1,0 +1,59 @@
+-- What was done for an ask, and for a notice, from its parts.
+use Rattle.std.proofs.Common.{◌≡◌, ◌∙◌, ℕ, ◌+◌, true, List, [], ◌∷◌, ◌++◌, Option, refl, ap, sym, subst}
+use Rattle.hp_base.specs.Plans.{action_of}
+use Rattle.hp_base.specs.declared.plan_entry.MsgKind.TheVariants as message
+use Rattle.hp_base.specs.declared.row.Run.{Run}
+use Rattle.hp_frame.specs.declared.frame.Frame.{Frame}
+use Rattle.hp_hall.specs.Mail.{MailStep, Posts}
+use Rattle.hp_hall.specs.declared.posted.Posted.{Posted}
+use Rattle.hp_segs.specs.LaterSteps.{after_arm}
+use Rattle.hp_segs.specs.SegsView.{SegsView}
+use Rattle.hp_segs.specs.declared.ask.Ask.{Ask}
+use Rattle.hp_proc.specs.AskSteps.{DoesAsk, DoesNotify, IsAwaitedBy, IsSentAs}
+use Rattle.hp_proc.specs.Asking.{alloc_body, free_body}
+use Rattle.hp_proc.specs.Frames.{Says}
+use Rattle.hp_proc.specs.Outcomes.{ask_of}
+use Rattle.hp_proc.specs.Party.{Party, after_alloc, after_free, one_more}
+use Rattle.hp_proc.specs.Serving.{gives_segments, takes_segments}
+use Rattle.hp_proc.specs.Waiting.{IsWaited}
+use Rattle.hp_proc.specs.declared.pages_asked.PagesAsked.{PagesAsked}
+
+-- a participant's next ALLOC, and its next FREE, as the plan has them
+abbrev pub posts_alloc : Party → Frame → Posted → MailStep
+posts_alloc party frame posted = Posts 0 frame (action_of party.plan message.Alloc party.me (one_more party.sent.allocs)) posted
+
+abbrev pub posts_free : Party → Frame → Posted → MailStep
+posts_free party frame posted = Posts 0 frame (action_of party.plan message.Free party.me (one_more party.sent.frees)) posted
+
+pub does_ask : (count : ℕ) (party mid after : Party) (asked : PagesAsked) (ask : Ask) (since : ℕ) (taken : SegsView) (frame : Frame)
+    (posted : Posted) (rest : List MailStep) (run : Option Run) → ask ≡ ask_of party.me ask.number asked → after.asked ≡ ask.number
+    → mid ≡ after_alloc ask.number party → Says frame (alloc_body ask) → IsAwaitedBy count mid after ask since rest run
+    → DoesAsk count party after asked
+    ((takes_segments taken ∷ gives_segments (after_arm ask taken) ∷ posts_alloc party frame posted ∷ []) ++ rest) run
+does_ask count party mid after asked ask since taken frame posted rest run ask_is after_is mid_is says awaited =
+    let named : ask ≡ ask_of party.me after.asked asked = ask_is ∙ ap (λ number. ask_of party.me number asked) (sym after_is) in
+    record {
+      since = since;
+      sending = takes_segments taken ∷ gives_segments (after_arm ask taken) ∷ posts_alloc party frame posted ∷ [];
+      rest = rest;
+      sent = subst (λ named. IsSentAs party named
+          (takes_segments taken ∷ gives_segments (after_arm ask taken) ∷ posts_alloc party frame posted ∷ [])) named
+          (record { taken = taken; frame = frame; posted = posted; says = says; are = refl });
+      awaited = subst (λ ask. IsAwaitedBy count (after_alloc after.asked party) after ask since rest run) named
+          (subst (λ number. IsAwaitedBy count (after_alloc number party) after ask since rest run) (sym after_is)
+          (subst (λ mid. IsAwaitedBy count mid after ask since rest run) mid_is awaited));
+      are = refl;
+    }
+
+pub does_notify : (count : ℕ) (party mid after : Party) (heap number : ℕ) (run : Run) (frame : Frame) (posted : Posted)
+    (waited : List MailStep)
+    → number ≡ party.asked + 1 → mid ≡ after_free number party → Says frame (free_body party.me number heap run)
+    → IsWaited count true mid after waited true → DoesNotify count party after heap run (posts_free party frame posted ∷ waited)
+does_notify count party mid after heap number run frame posted waited number_is mid_is says waits = record {
+  frame = frame;
+  posted = posted;
+  waited = waited;
+  says = subst (λ number. Says frame (free_body party.me number heap run)) number_is says;
+  waits = subst (λ mid. IsWaited count true mid after waited true) (mid_is ∙ ap (λ number. after_free number party) number_is) waits;
+  are = refl;
+}

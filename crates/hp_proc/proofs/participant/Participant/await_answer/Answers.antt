@@ -1,0 +1,70 @@
+-- It awaits its answer as it did before the wait and before a look that found nothing, and its table is tied along the look.
+use Rattle.std.proofs.Common.{◌∙◌, List, refl, sym, subst}
+use Rattle.hp_hall.specs.Mail.{MailStep}
+use Rattle.hp_proc.specs.AskSteps.{IsAwaitedBy, IsSettledLate}
+use Rattle.hp_proc.specs.Asking.{IsAwaiting}
+use Rattle.hp_proc.specs.Tied.{IsTied}
+use Rattle.hp_proc.proofs.AskedAlong.{awaits_along, if_ok}
+use Rattle.hp_proc.proofs.Tying.{tied_since}
+use Rattle.hp_proc.proofs.participant.Participant.await_answer.Goals as goal
+
+pub look-requires-clause-awaits : goal.look-requires-clause-awaits
+look-requires-clause-awaits g c =
+    let me = c.args.self.now.me in
+    let ask = c.args.ask.now in
+    subst (λ who. IsAwaiting ask (g.H.Hall.part c.wait.new.hall who)) (sym c.requires.own)
+    (awaits_along ask (g.H.Hall.part c.args.hall.now me) (g.H.Hall.part c.wait.new.hall me) c.wait.ensures.part c.requires.awaits)
+
+pub settle_late-requires-clause-tied : goal.settle_late-requires-clause-tied
+settle_late-requires-clause-tied g c =
+    let me = c.args.self.now.me in
+    let after = c.wait.new.self in
+    let grown = g.met.H.Hall.goes_on_seen _ _ me c.look.ensures.goes_on in
+    subst (λ who. IsTied (g.H.Hall.seen c.look.new.hall who) (g.H.Hall.own c.look.new.hall who) after.joined after.maps)
+    (sym c.wait.ensures.same.me) (tied_since _ _ grown.0 _ _ _ _ grown.1 (c.look.ensures.own me) c.wait.ensures.tied)
+
+pub settle_late-requires-clause-awaits : goal.settle_late-requires-clause-awaits
+settle_late-requires-clause-awaits g c =
+    let me = c.args.self.now.me in
+    let ask = c.args.ask.now in
+    subst (λ who. IsAwaiting ask (g.H.Hall.part c.look.new.hall who)) (c.requires.own ∙ sym c.wait.ensures.same.me)
+    (awaits_along ask (g.H.Hall.part c.wait.new.hall ask.from) (g.H.Hall.part c.look.new.hall ask.from) c.in-Open.ensures.found
+    (subst (λ who. IsAwaiting ask (g.H.Hall.part c.wait.new.hall who)) (sym c.requires.own)
+    (awaits_along ask (g.H.Hall.part c.args.hall.now me) (g.H.Hall.part c.wait.new.hall me) c.wait.ensures.part c.requires.awaits)))
+
+pub returns-in-Settled-clause-tied : goal.returns-in-Settled-clause-tied
+returns-in-Settled-clause-tied g c =
+    let me = c.args.self.now.me in
+    let grown = g.met.H.Hall.goes_on_seen _ _ me c.look.ensures.goes_on in
+    tied_since _ _ grown.0 _ _ _ _ grown.1 (c.look.ensures.own me) c.wait.ensures.tied
+
+pub returns-in-Settled-clause-did : goal.returns-in-Settled-clause-did
+returns-in-Settled-clause-did g c =
+    let waited = c.in_ok-_reading.ensures.turned in
+    let looked = c.in-Settled.ensures.did in (
+      _,
+      g.met.H.Hall.did_then _ _ _ c.args.self.now.me _ _ waited.1
+          (subst (λ who. g.H.Hall.did c.wait.new.hall c.look.new.hall who looked.0) c.requires.own looked.1),
+      IsAwaitedBy.finds waited.0 looked.0 waited.2 looked.2 refl,
+    )
+
+pub returns-in-Open-clause-did : goal.returns-in-Open-clause-did
+returns-in-Open-clause-did g c =
+    let me = c.args.self.now.me in
+    let ask = c.args.ask.now in
+    let old = c.args.hall.now in
+    let new = c.settle_late.new.hall in
+    let waited = c.in_ok-_reading.ensures.turned in
+    let looked = c.in-Open.ensures.did in
+    let count = c.look.ensures.count ∙ g.met.H.Hall.goes_on_count _ _ c.wait.ensures.goes_on in
+    if_ok _ (λ run. (steps : List MailStep) × g.H.Hall.did old new me steps
+    × IsAwaitedBy (g.H.Hall.count old) c.args.self.now c.settle_late.new.self ask c.args.since steps run) c.settle_late.result
+    (λ run late. (
+      _,
+      g.met.H.Hall.did_then _ _ _ me _ _ waited.1
+          (g.met.H.Hall.did_then _ _ _ me _ _ (subst (λ who. g.H.Hall.did c.wait.new.hall c.look.new.hall who looked.0) c.requires.own
+          looked.1)
+          (subst (λ who. g.H.Hall.did c.look.new.hall new who late.0) c.wait.ensures.same.me late.1)),
+      IsAwaitedBy.settles c.wait.new.self waited.0 looked.0 late.0 waited.2 looked.2
+          (subst (λ count. IsSettledLate count c.wait.new.self c.settle_late.new.self ask c.args.since late.0) count late.2) refl,
+    )) c.settle_late.ensures.did

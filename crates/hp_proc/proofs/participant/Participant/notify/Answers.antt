@@ -1,0 +1,38 @@
+-- The table is tied along the reading of the clock, and the steps follow one another.
+use Rattle.std.proofs.Common.{◌≡◌, ◌∙◌, ◌+◌, true, [], ap, sym, subst}
+use Rattle.hp_proc.specs.Party.{Party}
+use Rattle.hp_proc.specs.Tied.{IsTied}
+use Rattle.hp_proc.specs.Waiting.{IsWaited}
+use Rattle.hp_proc.proofs.AskDone.{does_notify}
+use Rattle.hp_proc.proofs.Tying.{tied_since}
+use Rattle.hp_proc.proofs.participant.Participant.notify.Goals as goal
+
+pub wait-requires-clause-tied : goal.wait-requires-clause-tied
+wait-requires-clause-tied g c =
+    let who = c.args.self.now.me in
+    let new = c.now-since.new.self in
+    let after = c.send_notice.new.self in
+    let grown = g.met.H.Hall.goes_on_seen _ _ who c.now-since.ensures.goes_on in
+    subst (λ who. IsTied (g.H.Hall.seen new who) (g.H.Hall.own new who) after.joined after.maps)
+    (sym (ap (λ (party : Party). party.me) c.send_notice.ensures.sent))
+    (tied_since _ _ grown.0 _ _ _ _ grown.1 (c.now-since.ensures.own who) c.send_notice.ensures.tied)
+
+pub returns-clause-did : goal.returns-clause-did
+returns-clause-did g c =
+    let party = c.args.self.now in
+    let me = party.me in
+    let sent = c.send_notice.ensures.did in
+    let waited = c.in_ok-_reading.ensures.turned in
+    let who = ap (λ (party : Party). party.me) c.send_notice.ensures.sent in
+    let count =
+    g.met.H.Hall.goes_on_count _ _ (g.met.H.Hall.goes_on_then _ _ _ c.send_notice.ensures.goes_on c.now-since.ensures.goes_on) in
+    let number : c.in-Some.number ≡ party.asked + 1 = c.in-Some.ensures.1 ∙ ap (λ (party : Party). party.asked + 1) c.self.view_is in (
+      _,
+      g.met.H.Hall.did_then _ _ _ me _ _ sent.3
+          (g.met.H.Hall.did_then _ _ _ me [] _ (c.now-since.ensures.did me)
+          (subst (λ who. g.H.Hall.did c.now-since.new.self c.wait.new.hall who waited.0) who waited.1)),
+      does_notify (g.H.Hall.count c.args.hall.now) party c.send_notice.new.self c.wait.new.self c.args.heap c.in-Some.number
+          c.args.run.now sent.0
+          sent.1 waited.0 number c.send_notice.ensures.sent sent.2
+          (subst (λ count. IsWaited count true c.send_notice.new.self c.wait.new.self waited.0 true) count waited.2),
+    )

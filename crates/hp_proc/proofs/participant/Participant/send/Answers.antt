@@ -1,0 +1,35 @@
+-- The ask is posted as the plan has the next one, and the table is tied along.
+use Rattle.std.proofs.Common.{◌∙◌, [], ◌∷◌, sym, subst}
+use Rattle.hp_base.specs.Plans.{action_of}
+use Rattle.hp_base.specs.declared.plan_entry.MsgKind.TheVariants.{Alloc}
+use Rattle.hp_hall.specs.Mail.{Posts}
+use Rattle.hp_proc.specs.Frames.{Says}
+use Rattle.hp_proc.specs.Party.{Party, one_more}
+use Rattle.hp_proc.specs.Tied.{IsTied}
+use Rattle.hp_proc.proofs.Tying.{tied_since}
+use Rattle.hp_proc.proofs.participant.Participant.send.Goals as goal
+
+pub returns-clause-did : goal.returns-clause-did
+returns-clause-did g c =
+    let me = c.self.inside.me in
+    let old = c.args.hall.now in
+    let new = c.post_own.new.hall in
+    let did = c.post_own.ensures.did in (
+      did.0,
+      did.1,
+      subst (Says did.0) c.alloc_body-body.ensures did.2,
+      subst (λ (party : Party). g.H.Hall.did old new party.me
+          (Posts 0 did.0 (action_of party.plan Alloc party.me (one_more party.sent.allocs)) did.1 ∷ [])) c.self.view_is
+          (subst (λ k. g.H.Hall.did old new me (Posts 0 did.0 (action_of c.self.inside.plan.now Alloc me k) did.1 ∷ []))
+          c.one_more-number.ensures
+          (g.met.H.Hall.did_then _ _ _ me [] _ (c.now-since.ensures.did me) did.3)),
+    )
+
+pub returns-clause-tied : goal.returns-clause-tied
+returns-clause-tied g c =
+    let who = c.args.self.now.me in
+    let new = c.post_own.new.hall in
+    let on = g.met.H.Hall.goes_on_then _ _ _ c.now-since.ensures.goes_on c.post_own.ensures.goes_on in
+    let grown = g.met.H.Hall.goes_on_seen _ _ who on in
+    subst (λ (party : Party). IsTied (g.H.Hall.seen new who) (g.H.Hall.own new who) party.joined party.maps) (sym c.self.view_is)
+    (tied_since _ _ grown.0 _ _ _ _ grown.1 (c.post_own.ensures.own who ∙ c.now-since.ensures.own who) c.requires.tied)

@@ -1,0 +1,41 @@
+-- It awaits its answer as it did before the wait, its table is tied along the settling, and the steps follow one another.
+use Rattle.std.proofs.Common.{◌≤◌, [], ◌∷◌, refl, sym, subst}
+use Rattle.hp_proc.specs.Asking.{IsAwaiting, after_settling}
+use Rattle.hp_proc.specs.Serving.{gives_segments, takes_segments}
+use Rattle.hp_proc.proofs.AskedAlong.{awaits_along}
+use Rattle.hp_proc.proofs.Tying.{tied_since}
+use Rattle.hp_proc.proofs.participant.Participant.settle_late.Goals as goal
+
+pub settle-run-requires-clause-awaits : goal.settle-run-requires-clause-awaits
+settle-run-requires-clause-awaits g c =
+    let me = c.args.self.now.me in
+    let ask = c.args.ask.now in
+    subst (λ who. IsAwaiting ask (g.H.Hall.part c.wait.new.hall who)) (sym c.requires.own)
+    (awaits_along ask (g.H.Hall.part c.args.hall.now me) (g.H.Hall.part c.wait.new.hall me) c.wait.ensures.part c.requires.awaits)
+
+pub returns-clause-tied : goal.returns-clause-tied
+returns-clause-tied g c =
+    let me = c.args.self.now.me in
+    let grown = g.met.H.Hall.goes_on_seen _ _ me c.settle-run.ensures.goes_on in
+    tied_since _ _ grown.0 _ _ _ _ grown.1 (c.settle-run.ensures.own me) c.wait.ensures.tied
+
+pub returns-clause-did : goal.returns-clause-did
+returns-clause-did g c =
+    let me = c.args.self.now.me in
+    let ask = c.args.ask.now in
+    let waited = c.in_ok-now.ensures.turned in
+    let settled = c.settle-run.ensures.did in (
+      _,
+      g.met.H.Hall.did_then _ _ _ me _ _ waited.1
+          (subst (λ who. g.H.Hall.did c.wait.new.hall c.settle-run.new.hall who
+          (takes_segments settled.0 ∷ gives_segments (after_settling ask c.args.since c.in_ok-now.now settled.0) ∷ [])) c.requires.own
+          settled.1),
+      record {
+        waited = waited.0;
+        taken = settled.0;
+        now = c.in_ok-now.now;
+        waits = waited.2;
+        late = subst (λ until. until ≤ c.in_ok-now.now) c.waits_until-until.ensures (c.in_ok-now.ensures.waited refl);
+        are = refl;
+      },
+    )

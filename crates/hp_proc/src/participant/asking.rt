@@ -1,0 +1,173 @@
+//! How a participant asks for pages.
+ghost use Rattle.std.specs.Prelude.{◌≡◌, ◌≢◌, ℕ, ◌<◌, List, [], ◌∷◌, false, None, IfOk, IsSome, OnErr, OnOk};
+ghost use Rattle.hp_base.specs.Plans.{action_of};
+ghost use Rattle.hp_base.specs.declared.limits.TheConstants.{MAX_HEAPS, MAX_PARTICIPANTS};
+ghost use Rattle.hp_base.specs.declared.plan_entry.MsgKind.{MsgKind};
+ghost use Rattle.hp_frame.specs.declared.frame.Frame.{Frame};
+ghost use Rattle.hp_hall.specs.Mail.{MailStep, Posts};
+ghost use Rattle.hp_hall.specs.declared.posted.Posted.{Posted};
+ghost use Rattle.hp_proc.specs.Asking.{GrowsHeld, IsAsked, IsAwaiting, IsHeldAsBefore, HasSettledAsks, Settles, alloc_body};
+ghost use Rattle.hp_proc.specs.AskSteps.{DoesAsk, IsAwaitedBy, IsSettledLate, waits_until};
+ghost use Rattle.hp_proc.specs.Frames.{Says};
+ghost use Rattle.hp_proc.specs.Party.{IsSameParty, after_alloc, one_more};
+ghost use Rattle.hp_proc.specs.Tied.{IsTied};
+
+use super::Participant;
+use crate::arming::arm;
+use crate::own_posts::{alloc_body, post_own};
+use crate::pages_asked::PagesAsked;
+use crate::sent::one_more;
+use crate::settling::{Found, look, settle};
+use hp_base::{Mapper, MsgKind, Run};
+use hp_hall::{Hall, Waiting};
+use hp_segs::Ask;
+use std::alloc::AllocError;
+
+impl<'p, M: Mapper> Participant<'p, M> {
+    // Until when it waits for an answer, where that is a reading of the clock from before it asked: for three of its deadlines.
+    pub(super) fn waits_until(&self, since: u64) -> u64
+        ensures { result ≡ waits_until since self.now.deadline }
+    {
+        since.saturating_add(self.deadline.saturating_mul(3))
+    }
+
+    // Sends an ask with which it is armed, and notes it as its last one. Returned is a reading of the clock from before it was sent.
+    fn send<H: Hall>(&mut self, hall: &mut H, ask: &Ask) -> u64
+        requires serves { H.serves hall.old self.old.me }
+        requires me { self.old.me < H.count hall.old }
+        requires own { ask.now.from ≡ self.old.me }
+        requires tied { IsTied (H.seen hall.old self.old.me) (H.own hall.old self.old.me) self.old.joined self.old.maps }
+        ensures sent { self.new ≡ after_alloc ask.now.number self.old }
+        ensures did { (frame : Frame) × (posted : Posted) × Says frame (alloc_body ask.now) × H.did hall.old hall.new self.old.me
+            (Posts 0 frame (action_of self.old.plan MsgKind.Alloc self.old.me (one_more self.old.sent.allocs)) posted ∷ []) }
+        ensures tied { IsTied (H.seen hall.new self.old.me) (H.own hall.new self.old.me) self.new.joined self.new.maps }
+
+        ensures taken { (number : ℕ) → H.taken hall.new number ≡ H.taken hall.old number }
+        ensures home { (number : ℕ) → H.may_take hall.old number → H.may_take hall.new number }
+        ensures part { (who heap : ℕ) → H.part hall.new who heap ≡ H.part hall.old who heap }
+        ensures count { H.count hall.new ≡ H.count hall.old }
+        ensures still { H.serves hall.new self.old.me }
+        ensures goes_on { H.goes_on hall.old hall.new }
+    {
+        let since = hall.now(self.me);
+        let number = one_more(self.sent.allocs);
+        let body = alloc_body(ask);
+        post_own(hall, self.me, self.plan, MsgKind::Alloc, number, body);
+        self.asked = ask.number;
+        self.answered = false;
+        self.sent.allocs = number;
+        since
+    }
+
+    // Waits until its deadlines have passed, whether it was answered or not, and then settles its ask.
+    fn settle_late<H: Waiting>(
+        &mut self,
+        hall: &mut H,
+        ask: &Ask,
+        since: u64,
+    ) -> Result<Option<Run>, AllocError>
+        requires serves { H.serves hall.old self.old.me }
+        requires me { self.old.me < H.count hall.old }
+        requires free { H.taken hall.old MAX_HEAPS ≡ None }
+        requires home { H.may_take hall.old MAX_HEAPS }
+        requires tied { IsTied (H.seen hall.old self.old.me) (H.own hall.old self.old.me) self.old.joined self.old.maps }
+        requires own { ask.now.from ≡ self.old.me }
+        requires few { ask.now.from < MAX_PARTICIPANTS }
+        requires awaits { IsAwaiting ask.now (H.part hall.old self.old.me) }
+        ensures settles { IfOk result (λ run. Settles (H.seen hall.new self.old.me) (H.heard hall.new self.old.me) ask.now
+            (H.part hall.old self.old.me) (H.part hall.new self.old.me) run) }
+        ensures err { OnErr result ((heap : ℕ) → H.part hall.new self.old.me heap ≡ H.part hall.old self.old.me heap) }
+        ensures did { IfOk result (λ run. (steps : List MailStep) × H.did hall.old hall.new self.old.me steps
+            × IsSettledLate (H.count hall.old) self.old self.new ask.now since steps) }
+        ensures tied { IsTied (H.seen hall.new self.old.me) (H.own hall.new self.old.me) self.new.joined self.new.maps }
+        ensures asked { self.new.asked ≡ self.old.asked }
+        ensures same { IsSameParty self.old self.new }
+
+        ensures taken { (number : ℕ) → H.taken hall.new number ≡ H.taken hall.old number }
+        ensures home { (number : ℕ) → H.may_take hall.old number → H.may_take hall.new number }
+        ensures goes_on { H.goes_on hall.old hall.new }
+    {
+        let until = self.waits_until(since);
+        let now = self.wait(hall, until, false)?;
+        let run = settle(hall, ask, since, now);
+        Ok(run)
+    }
+
+    // Waits for the answer to the ask that it sent behind that reading of the clock, for three deadlines at most, and then looks. Where it
+    // was answered and nothing stands, it waits until the deadlines have passed.
+    fn await_answer<H: Waiting>(
+        &mut self,
+        hall: &mut H,
+        ask: &Ask,
+        since: u64,
+    ) -> Result<Option<Run>, AllocError>
+        requires serves { H.serves hall.old self.old.me }
+        requires me { self.old.me < H.count hall.old }
+        requires free { H.taken hall.old MAX_HEAPS ≡ None }
+        requires home { H.may_take hall.old MAX_HEAPS }
+        requires tied { IsTied (H.seen hall.old self.old.me) (H.own hall.old self.old.me) self.old.joined self.old.maps }
+        requires own { ask.now.from ≡ self.old.me }
+        requires few { ask.now.from < MAX_PARTICIPANTS }
+        requires awaits { IsAwaiting ask.now (H.part hall.old self.old.me) }
+        ensures settles { IfOk result (λ run. Settles (H.seen hall.new self.old.me) (H.heard hall.new self.old.me) ask.now
+            (H.part hall.old self.old.me) (H.part hall.new self.old.me) run) }
+        ensures err { OnErr result ((heap : ℕ) → H.part hall.new self.old.me heap ≡ H.part hall.old self.old.me heap) }
+        ensures did { IfOk result (λ run. (steps : List MailStep) × H.did hall.old hall.new self.old.me steps
+            × IsAwaitedBy (H.count hall.old) self.old self.new ask.now since steps run) }
+        ensures tied { IsTied (H.seen hall.new self.old.me) (H.own hall.new self.old.me) self.new.joined self.new.maps }
+        ensures asked { self.new.asked ≡ self.old.asked }
+        ensures same { IsSameParty self.old self.new }
+
+        ensures taken { (number : ℕ) → H.taken hall.new number ≡ H.taken hall.old number }
+        ensures home { (number : ℕ) → H.may_take hall.old number → H.may_take hall.new number }
+        ensures goes_on { H.goes_on hall.old hall.new }
+    {
+        let until = self.waits_until(since);
+        let _reading = self.wait(hall, until, true)?;
+        match look(hall, ask) {
+            Found::Settled { run } => Ok(run),
+            Found::Open => self.settle_late(hall, ask, since),
+        }
+    }
+
+    /// Asks the coordinator for pages for a heap that it holds, waits for the answer, and claims the run that was granted; the answer is
+    /// `None` where the ask was refused, or taken back after three deadlines. It serves while it waits, and holds the slots that it held
+    /// before. Without memory to be armed, and where a participant stops while it serves, the ask is left. After the growth of a heap by a
+    /// secondary process in rte_malloc, under Multi-process Support.
+    pub fn ask<H: Waiting>(
+        &mut self,
+        hall: &mut H,
+        asked: &PagesAsked,
+    ) -> Result<Option<Run>, AllocError>
+        requires serves { H.serves hall.old self.old.me }
+        requires me { self.old.me < H.count hall.old }
+        requires free { H.taken hall.old MAX_HEAPS ≡ None }
+        requires home { H.may_take hall.old MAX_HEAPS }
+        requires tied { IsTied (H.seen hall.old self.old.me) (H.own hall.old self.old.me) self.old.joined self.old.maps }
+        requires holds { IsSome (H.part hall.old self.old.me asked.now.heap).holding }
+        requires settled { HasSettledAsks self.old.me (H.part hall.old self.old.me) (H.heard hall.old self.old.me) }
+
+        // What it did, what it asked for and was answered, and what came to the heap.
+        ensures did { IfOk result (λ run. (steps : List MailStep) × H.did hall.old hall.new self.old.me steps
+            × DoesAsk (H.count hall.old) self.old self.new asked.now steps run) }
+        ensures asked { IfOk result (λ run. IsAsked (H.seen hall.new self.old.me) (H.heard hall.new self.old.me) self.old.me
+            self.old.asked self.new.asked asked.now run) }
+        ensures grows { IfOk result (λ run. GrowsHeld asked.now.heap run (H.part hall.old self.old.me asked.now.heap)
+            (H.part hall.new self.old.me asked.now.heap)) }
+        ensures settled { OnOk result (HasSettledAsks self.old.me (H.part hall.new self.old.me) (H.heard hall.new self.old.me)) }
+
+        // What it has in all other heaps stays, and in that one too where it stopped.
+        ensures others { (heap : ℕ) → heap ≢ asked.now.heap
+            → IsHeldAsBefore (H.part hall.old self.old.me heap) (H.part hall.new self.old.me heap) }
+        ensures err { OnErr result ((heap : ℕ) → IsHeldAsBefore (H.part hall.old self.old.me heap) (H.part hall.new self.old.me heap)) }
+        ensures tied { IsTied (H.seen hall.new self.old.me) (H.own hall.new self.old.me) self.new.joined self.new.maps }
+        ensures same { IsSameParty self.old self.new }
+        ensures taken { (number : ℕ) → H.taken hall.new number ≡ H.taken hall.old number }
+        ensures home { (number : ℕ) → H.may_take hall.old number → H.may_take hall.new number }
+        ensures goes_on { H.goes_on hall.old hall.new }
+    {
+        let ask = arm(hall, self.me, self.asked, asked)?;
+        let since = self.send(hall, &ask);
+        self.await_answer(hall, &ask, since)
+    }
+}
