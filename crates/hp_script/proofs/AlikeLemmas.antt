@@ -1,5 +1,5 @@
 -- What is read alike: outcomes that are alike, and what differs in where its parts stand alone.
-use Rattle.std.proofs.Common.{◌≡◌, ℕ, ◌-◌, Bool, true, false, refl, cond}
+use Rattle.std.proofs.Common.{◌≡◌, ℕ, Bool, true, false, refl, cond}
 use Rattle.std.specs.Prelude.{Option, Some, None, Result, Ok, Err, ⊤, is_some, is_none}
 use Rattle.std.specs.Option.{option_map}
 use Rattle.hp_script.specs.Part.{Part}

@@ -1,6 +1,6 @@
 -- The line of an accepted text that makes a label is among the makers of the text.
 use Rattle.std.proofs.Common.{◌≡◌, ℕ, suc, zero, ◌+◌, ◌<◌, ◌≤◌, Bool, true, false, ◌&&◌, List, [], ◌∷◌, length, get_or, refl, sym, ap, ◌∙◌, cond, arith}
-use Rattle.std.specs.Prelude.{Option, Some, None, codes, not}
+use Rattle.std.specs.Prelude.{Option, Some, codes, not}
 use Rattle.std.specs.List.{list_all}
 use Rattle.std.specs.Map.{lookup}
 use Rattle.std.proofs.lemmas.Slice.Eq.{bytes_eq-Decides}

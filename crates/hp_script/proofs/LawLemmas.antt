@@ -1,6 +1,6 @@
 -- The laws of lines, of readings that are joined, and of verbs.
 use Rattle.std.proofs.Common.{◌≡◌, ℕ, ◌+◌, true, false, List, [], ◌∷◌, ◌++◌, length, map, refl, sym, ap, ◌∙◌, inl, inr, arith}
-use Rattle.std.specs.Prelude.{Option, Some, Result, Ok, Err, All}
+use Rattle.std.specs.Prelude.{Some, Result, Ok, Err, All}
 use Rattle.std.proofs.lemmas.List.Splits.{slice_split_at}
 use Rattle.hp_script.specs.Part.{Part}
 use Rattle.hp_script.specs.Text.{is_separator, placed, parts_of, without_return, lines_in}
@@ -9,7 +9,7 @@ use Rattle.hp_script.specs.Shapes.{is_participant_line, shape_of}
 use Rattle.hp_script.specs.Verbs.{verb_named}
 use Rattle.hp_script.specs.ActVerbs.{verb_of, verb_word}
 use Rattle.hp_script.specs.Reading.{read_line}
-use Rattle.hp_script.specs.Workloads.{Refusal, go_on, read_further, read_from}
+use Rattle.hp_script.specs.Workloads.{go_on, read_further, read_from}
 use Rattle.hp_script.specs.declared.bad_kind.BadKind.{BadKind}
 use Rattle.hp_script.specs.declared.line.Act.{Act}
 use Rattle.hp_script.specs.declared.line.Act.TheVariants as act

@@ -1,6 +1,6 @@
 -- What lines of an accepted text free or resize, lines of the workload make.
-use Rattle.std.proofs.Common.{◌≡◌, ℕ, ◌+◌, ◌<◌, Bool, true, false, ◌&&◌, ◌||◌, List, [], ◌∷◌, ◌++◌, length, get_or, refl, sym, ap, subst, ◌∙◌, cond, ◌⊎◌, inl, inr, arith}
-use Rattle.std.specs.Prelude.{Option, Some, None, IsSome, Result, Ok, Err, IfOk, All, ⊤, is_some, is_none, nat_lt, codes, ◌==◌}
+use Rattle.std.proofs.Common.{◌≡◌, ℕ, ◌+◌, Bool, true, false, ◌&&◌, ◌||◌, List, [], ◌∷◌, ◌++◌, get_or, refl, sym, ap, ◌∙◌, cond, ◌⊎◌, inl, inr, arith}
+use Rattle.std.specs.Prelude.{Option, Some, None, IsSome, Ok, IfOk, All, ⊤, is_some, is_none, nat_lt, codes, ◌==◌}
 use Rattle.std.specs.List.{find, list_any}
 use Rattle.std.specs.Option.{option_or, option_map_or}
 use Rattle.std.proofs.lemmas.Bool.Decides.{nat_tests}
@@ -15,11 +15,11 @@ use Rattle.hp_script.specs.Acts.{label_used, is_unknown}
 use Rattle.hp_script.specs.Judge.{number_field, party_field}
 use Rattle.hp_script.specs.Options.{options_of}
 use Rattle.hp_script.specs.Numbers.{number}
-use Rattle.hp_script.specs.Labels.{name_made, makes_name, maker_of, IsMadeIn, AreMade}
+use Rattle.hp_script.specs.Labels.{name_made, makes_name, maker_of, AreMade}
 use Rattle.hp_script.specs.Makers.{Makers, makers_of, made_by, is_maker, first_maker, is_unmade}
 use Rattle.hp_script.specs.Setups.{nothing, with_later, setup_step}
 use Rattle.hp_script.specs.ShapesMemory.{alloc_line, zone_line}
-use Rattle.hp_script.specs.Shapes.{is_participant_line, participant_line, setup_line, shape_of}
+use Rattle.hp_script.specs.Shapes.{is_participant_line, participant_line, shape_of}
 use Rattle.hp_script.specs.Verbs.{verb_named}
 use Rattle.hp_script.specs.Reading.{with_written, read_line}
 use Rattle.hp_script.specs.Workloads.{read_from, reading_at}
@@ -27,14 +27,12 @@ use Rattle.hp_script.specs.declared.bad_kind.BadKind.TheVariants as bad
 use Rattle.hp_script.specs.declared.line.Act.{Act}
 use Rattle.hp_script.specs.declared.line.Act.TheVariants as act
 use Rattle.hp_script.specs.declared.line.Line.{Line}
-use Rattle.hp_script.specs.declared.verb.Verb.{Verb}
 use Rattle.hp_script.specs.declared.verb.Verb.TheVariants as verb
 use Rattle.hp_script.specs.declared.shape.Shape.{Shape}
 use Rattle.hp_script.specs.declared.shape.Shape.TheVariants.{Setup, Does, Awaits}
 use Rattle.hp_script.specs.declared.reader.Reader.{Reader}
 use Rattle.hp_script.proofs.SpanLemmas.{KeepsLines, setup_keeps}
-use Rattle.hp_script.proofs.MakerLemmas.{no_call_makes}
-use Rattle.hp_script.proofs.StepLemmas.{through, passed, present, answered, with_line, AddsLine, Adds, Says, read_line_says, going, along}
+use Rattle.hp_script.proofs.StepLemmas.{through, passed, present, answered, Adds, read_line_says, going, along}
 
 both : (first second : Bool) → (first && second) ≡ true → (first ≡ true) × (second ≡ true)
 both true second is = (refl, is)

@@ -7,7 +7,6 @@ use Rattle.std.specs.Map.{lookup}
 use Rattle.std.specs.Option.{option_or}
 use Rattle.hp_script.specs.Part.{Part}
 use Rattle.hp_script.specs.Text.{is_call}
-use Rattle.hp_script.specs.Shapes.{is_participant_line}
 use Rattle.hp_script.specs.Makers.{Makers, made_by, is_maker, first_maker}
 use Rattle.hp_script.specs.Made.{Notes}
 use Rattle.hp_script.specs.Known.{line_known}

@@ -1,5 +1,5 @@
 -- What is read of a text does not depend on where it stands.
-use Rattle.std.proofs.Common.{◌≡◌, ℕ, ◌+◌, ◌-◌, Bool, true, false, ◌&&◌, ◌||◌, List, [], ◌∷◌, length, map, refl, ap, ◌∙◌, cond}
+use Rattle.std.proofs.Common.{◌≡◌, ℕ, ◌+◌, Bool, true, false, ◌&&◌, ◌||◌, List, [], ◌∷◌, length, map, refl, ap, ◌∙◌, cond}
 use Rattle.std.specs.Prelude.{Option, Some, Result, Ok, Err, not, codes, filter}
 use Rattle.std.specs.List.{list_any, list_all, slice_split, find}
 use Rattle.std.specs.Option.{option_map, option_map_or}

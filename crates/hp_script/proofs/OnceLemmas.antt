@@ -1,6 +1,6 @@
 -- A participant is marked as absent, or as one with a socket, exactly where an accepted line says so.
-use Rattle.std.proofs.Common.{◌≡◌, ℕ, suc, zero, ◌+◌, ◌*◌, ◌^◌, ◌<◌, Bool, true, false, ◌||◌, List, [], ◌∷◌, length, refl, sym, ap, ◌∙◌, inl, inr, arith}
-use Rattle.std.specs.Prelude.{Option, Some, None, Result, Ok, Err, IfOk, is_some, nat_le, nat_lt, not, max, bit_or, ◌==◌}
+use Rattle.std.proofs.Common.{◌≡◌, ℕ, ◌+◌, ◌*◌, ◌^◌, ◌<◌, Bool, true, false, ◌||◌, List, [], ◌∷◌, length, refl, sym, ap, ◌∙◌, inl, inr, arith}
+use Rattle.std.specs.Prelude.{Some, Ok, IfOk, is_some, nat_le, nat_lt, not, max, ◌==◌}
 use Rattle.std.specs.Int.{bit_at}
 use Rattle.std.specs.List.{list_any}
 use Rattle.std.proofs.Math.Nat.{mul-pos}
@@ -8,7 +8,7 @@ use Rattle.std.proofs.lemmas.Bool.Decides.{nat_tests}
 use Rattle.std.proofs.lemmas.Nat.{pow_pos}
 use Rattle.std.proofs.lemmas.Nat.Bits.{and_pow, bit_at_or, bit_at-zero, bit_at-pow_same, bit_at-pow_other}
 use Rattle.hp_script.specs.Part.{Part}
-use Rattle.hp_script.specs.Text.{fields_of, is_skipped}
+use Rattle.hp_script.specs.Text.{fields_of}
 use Rattle.hp_script.specs.Marks.{is_marked, with_mark}
 use Rattle.hp_script.specs.Counts.{segments_of, is_same_pool, message_event, mapping_event, is_planned}
 use Rattle.hp_script.specs.Makers.{Makers}

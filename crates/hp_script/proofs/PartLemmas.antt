@@ -2,7 +2,7 @@
 use Rattle.std.proofs.Common.{◌≡◌, ℕ, ◌+◌, ◌-◌, List, length, take, drop, refl, arith}
 use Rattle.std.proofs.lemmas.List.{take_all, length-drop}
 use denote.Ref.{Bor}
-use Rattle.hp_script.specs.Part.{Part, part_at}
+use Rattle.hp_script.specs.Part.{part_at}
 
 -- a slice at an address of a text is the part of it there
 pub part_is : (start : ℕ) (slice : Bor (List ℕ)) (base : ℕ × ℕ) (text : List ℕ) → slice.now ≡ text → slice.ref_ptr ≡ (base.0, base.1 + start)

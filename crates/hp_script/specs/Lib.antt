@@ -29,6 +29,7 @@ pub mod Later
 pub mod Facts
 pub mod Built
 pub mod Labels
+pub mod Places
 pub mod ActVerbs
 pub mod Keys
 pub mod Said

@@ -6,10 +6,10 @@ use crate::name_key::NameKey;
 use std::alloc::{AllocError, Global};
 use std::collections::HashMap;
 
-/// The first lines that make names with a verb.
+/// The first line that makes each name: its number in the text, or its index among some lines.
 #[derive(Drop)]
 pub struct FirstLines<'a> {
-    pub lines: HashMap<NameKey<'a>, u32>,
+    pub lines: HashMap<NameKey<'a>, usize>,
 }
 
 impl<'a> FirstLines<'a> {
@@ -24,9 +24,9 @@ impl<'a> FirstLines<'a> {
         }
     }
 
-    /// The number of the first line that makes the name. Where no line is noted, the name is not hashed.
+    /// The number or index of the first line that makes the name. Where no line is noted, the name is not hashed.
     #[tactic(auto, using(crate::proofs::MakerLemmas::none_known))]
-    pub fn line_of(&self, name: &[u8]) -> Option<u32>
+    pub fn line_of(&self, name: &[u8]) -> Option<usize>
         ensures { result ≡ line_known self.now name.now }
     {
         if self.lines.is_empty() {
@@ -35,8 +35,8 @@ impl<'a> FirstLines<'a> {
         self.lines.get(&NameKey { text: name }).copied()
     }
 
-    /// Notes the number of a line that makes the name, unless an earlier one does.
-    pub fn note(&mut self, name: &'a [u8], number: u32) -> Result<(), AllocError>
+    /// Notes the number or index of a line that makes the name, unless an earlier one does.
+    pub fn note(&mut self, name: &'a [u8], number: usize) -> Result<(), AllocError>
         ensures { OnOk result ((other : List ℕ) → line_known self.new other ≡ option_or (line_known self.old other) (if bytes_eq name.entry.now other then Some number else None)) }
     {
         self.lines.entry(NameKey { text: name })?.or_insert(number);

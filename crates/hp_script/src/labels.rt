@@ -25,8 +25,8 @@ fn makes_name(name: &[u8], line: &Line) -> bool
     }
 }
 
-// What an act makes.
-fn name_made<'a, 'b>(act: &'b Act<'a>) -> Option<&'b Token<'a>>
+/// What an act makes.
+pub(crate) fn name_made<'a, 'b>(act: &'b Act<'a>) -> Option<&'b Token<'a>>
     ensures { option_map (λ name. name.now) result ≡ name_made act.now }
 {
     match act {

@@ -36,7 +36,7 @@ impl<'a> KnownMakers<'a> {
     }
 
     // Notes the number of a line at the name that it makes.
-    fn note_line(&mut self, line: &Piece<'a>, number: u32) -> Result<(), AllocError>
+    fn note_line(&mut self, line: &Piece<'a>, number: usize) -> Result<(), AllocError>
         ensures allocs { OnOk result (Notes (codes "alloc") line.now number (known self.old).alloc_line (known self.new).alloc_line) }
         ensures zones { OnOk result (Notes (codes "zone") line.now number (known self.old).zone_line (known self.new).zone_line) }
     {
@@ -62,11 +62,11 @@ impl<'a> KnownMakers<'a> {
     }
 }
 
-fn is_earlier(first: Option<u32>, number: u32) -> bool
+fn is_earlier(first: Option<usize>, number: u32) -> bool
     ensures { result ≡ is_earlier first number }
 {
     match first {
         None => false,
-        Some(first) => first < number,
+        Some(first) => first < number as usize,
     }
 }

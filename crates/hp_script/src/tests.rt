@@ -4,6 +4,7 @@ use std::alloc::Global;
 use std::test::*;
 
 mod facts;
+mod index;
 mod later;
 mod limits;
 mod lines;
