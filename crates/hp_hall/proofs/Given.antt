@@ -1,5 +1,6 @@
 -- What a give leaves: a value of the same slot, later on, in which nobody but the giver has more entries.
 use Rattle.std.proofs.Common.{◌≡◌, ◌≢◌, ℕ, ◌+◌, eqb, ne_eqb, List, [], ◌∷◌, ◌++◌, Option, Some, None, refl, sym, ap, ◌∙◌}
+use Rattle.std.specs.List.{AllByRecursion}
 use Rattle.std.specs.Option.{option_map}
 use Rattle.std.proofs.lemmas.Bool.{cond-false}
 use Rattle.std.proofs.lemmas.List.{append-nil}
@@ -26,18 +27,26 @@ known hall me = record {
   heard = heard_in hall;
 }
 
-entries_of-append : (who : ℕ) (xs ys : List Entry) → entries_of who (xs ++ ys) ≡ entries_of who xs ++ entries_of who ys
+pub entries_of-append : (who : ℕ) (xs ys : List Entry) → entries_of who (xs ++ ys) ≡ entries_of who xs ++ entries_of who ys
 unfolding entries_of
 entries_of-append who xs ys = filter-append (λ (entry : Entry). eqb entry.caller.participant who) xs ys
 
--- entries that are numbered on are nobody else's
-entries_of-other : (who other count : ℕ) (entries : List Entry) → other ≢ who → IsNumbered who count entries → entries_of other entries ≡ []
+-- entries that are numbered on are of one participant
+pub numbered_only : (who count : ℕ) (entries : List Entry) → IsNumbered who count entries
+    → AllByRecursion (λ entry. entry.caller.participant ≡ who) entries
+numbered_only who count [] numbered = tt
+numbered_only who count (entry ∷ entries) numbered =
+    (ap (λ c. c.participant) numbered.0, numbered_only who (count + 1) entries numbered.1)
+
+-- entries of one participant are nobody else's
+pub entries_of-other : (who other : ℕ) (entries : List Entry) → other ≢ who → AllByRecursion (λ entry. entry.caller.participant ≡ who) entries
+    → entries_of other entries ≡ []
 unfolding entries_of
-entries_of-other who other count [] apart numbered = refl
-entries_of-other who other count (entry ∷ entries) apart numbered =
+entries_of-other who other [] apart only = refl
+entries_of-other who other (entry ∷ entries) apart only =
     cond-false (eqb entry.caller.participant other) (entry ∷ entries_of other entries) (entries_of other entries)
-    (ne_eqb entry.caller.participant other (λ same. apart (sym same ∙ ap (λ c. c.participant) numbered.0)))
-    ∙ entries_of-other who other (count + 1) entries apart numbered.1
+    (ne_eqb entry.caller.participant other (λ same. apart (sym same ∙ only.0)))
+    ∙ entries_of-other who other entries apart only.1
 
 -- the slot of a value that may be given: its value is the one that was taken
 pub record IsGivenFor (knows : Knows) (slot : Option SlotView) (kept : Kept) : Type 0 where
@@ -78,7 +87,7 @@ pub same_for_others : (knows : Knows) (before kept : Kept) (who : ℕ) → who �
     → entries_of who (history_of kept) ≡ entries_of who (history_of before)
 same_for_others knows (Heap before) (Heap kept) who apart gives =
     ap (entries_of who) gives.history ∙ entries_of-append who before.history gives.own
-    ∙ ap (λ (own : List Entry). entries_of who before.history ++ own) (entries_of-other knows.who who _ gives.own apart gives.numbered)
+    ∙ ap (λ (own : List Entry). entries_of who before.history ++ own) (entries_of-other knows.who who gives.own apart (numbered_only knows.who _ gives.own gives.numbered))
     ∙ append-nil (entries_of who before.history)
 same_for_others knows (Heap before) (Segments kept) who apart gives = absurd gives
 same_for_others knows (Segments before) (Heap kept) who apart gives = absurd gives

@@ -1,3 +1,5 @@
+pub mod Agreeing
+pub mod Beside
 pub mod Formed
 pub mod Given
 pub mod Giver
@@ -11,6 +13,8 @@ pub mod Read
 pub mod Slotted
 pub mod Stepped
 pub mod Taking
+pub mod Walks
+mod WorkedKeeping
 pub mod CountedRows
 pub mod StandingGrants
 pub mod StandingMoves

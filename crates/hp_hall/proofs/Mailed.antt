@@ -1,5 +1,5 @@
 -- Steps with mailboxes: what they weigh, what they are noted as, and the course of a hall that made one.
-use Rattle.std.proofs.Common.{◌≡◌, ◌≢◌, ◌↔◌, ℕ, ◌+◌, ◌*◌, ◌<◌, ◌≤◌, eqb, cond, Bool, true, false, List, [], ◌∷◌, ◌++◌, length, set, drop, map, replicate, refl, ap, ◌∙◌, arith}
+use Rattle.std.proofs.Common.{◌≡◌, ◌≢◌, ◌↔◌, ℕ, ◌+◌, ◌*◌, ◌<◌, ◌≤◌, eqb, cond, Bool, true, false, List, [], ◌∷◌, ◌++◌, length, set, drop, map, replicate, refl, ap, sym, ◌∙◌, arith}
 use Rattle.std.specs.List.{filter, slice_get, sum_by}
 use Rattle.std.proofs.lemmas.List.{map-append}
 use Rattle.std.proofs.lemmas.List.Elements.{filter-append}
@@ -13,6 +13,7 @@ use Rattle.hp_hall.specs.declared.posted.Posted.TheVariants.{Sent, Twice, Lost, 
 use Rattle.hp_hall.specs.Course.{IsCourse, slot_same}
 use Rattle.hp_hall.specs.HallSteps.{fulls_after, with_mail}
 use Rattle.hp_hall.specs.HallView.{HallView, slot_at}
+use Rattle.hp_hall.specs.Keeping.{ShowsValues, values_after, values_in}
 use Rattle.hp_hall.specs.Mail.{MailStep, IsMailStep, box_after, box_of, copies, posted_as, steps_of}
 use Rattle.hp_hall.specs.Weights.{box_weight, boxes_weight, fetched_weight, frame_weight}
 
@@ -53,9 +54,10 @@ steps_of-push who me step mail =
     let what : (ℕ × MailStep) → MailStep = λ (s : ℕ × MailStep). s.1 in
     ap (map what) (filter-append by mail ((me, step) ∷ [])) ∙ map-append what (filter by mail) (filter by ((me, step) ∷ []))
 
-pub course_mail : (hall : HallView) (who : ℕ) (step : MailStep) (fulls : ℕ) → IsMailStep who step hall.boxes → hall.fulls ≤ fulls
+pub course_mail : (hall : HallView) (who : ℕ) (step : MailStep) (fulls : ℕ) → who < length hall.owns → IsMailStep who step hall.boxes
+    → ShowsValues who step (values_in hall) → values_after step (values_in hall) ≡ values_in hall → hall.fulls ≤ fulls
     → IsCourse hall (with_mail who step fulls hall)
-course_mail hall who step fulls is more = record {
+course_mail hall who step fulls declared is shows still more = record {
   count = refl;
   slots = λ number. slot_same (slot_at hall number);
   numbers = λ other. omega arith;
@@ -64,6 +66,8 @@ course_mail hall who step fulls is more = record {
   steps = (who, step) ∷ [];
   mail = refl;
   boxes = (is, refl);
+  kept = (record { declared = declared; shows = shows }, sym still);
+  agreed = λ agreed. agreed;
 }
 
 -- how a delivered frame comes out is never that it was lost

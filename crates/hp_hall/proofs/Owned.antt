@@ -6,6 +6,7 @@ use Rattle.hp_hall.specs.Course.{IsCourse, slot_same}
 use Rattle.hp_hall.specs.HallSteps.{with_own}
 use Rattle.hp_hall.specs.HallView.{HallView, own_at, slot_at}
 use Rattle.hp_hall.specs.Own.{Own, after_ack}
+use Rattle.hp_hall.proofs.Slotted.{agreed_alike}
 
 pub own_here : (hall : HallView) (who : ℕ) (own : Own) → who < length hall.owns → own_at (with_own who own hall) who ≡ own
 own_here hall who own below = get_or-set_same hall.owns who own (after_ack 0) below
@@ -35,6 +36,8 @@ course_own hall who own below rises = record {
   steps = [];
   mail = sym (append-nil hall.mail);
   boxes = refl;
+  kept = refl;
+  agreed = agreed_alike hall (with_own who own hall) refl (numbers_rise hall who own below rises);
 }
 
 pub course_jump : (hall old : HallView) (reading : ℕ) → hall ≡ old → old.clock ≤ reading → IsCourse old (record hall { clock = reading })
@@ -47,4 +50,6 @@ course_jump hall old reading same later = subst (λ (h : HallView). IsCourse old
   steps = [];
   mail = sym (append-nil old.mail);
   boxes = refl;
+  kept = refl;
+  agreed = λ agreed. agreed;
 })

@@ -1,9 +1,10 @@
 -- What a call that makes one step leaves, whichever call it is.
-use Rattle.std.proofs.Common.{◌≡◌, ℕ, List, [], ◌∷◌, ◌++◌, ◌≤◌, sym, ap, subst, ◌∙◌}
+use Rattle.std.proofs.Common.{◌≡◌, ℕ, List, [], ◌∷◌, ◌++◌, ◌<◌, ◌≤◌, length, sym, ap, subst, ◌∙◌}
 use Rattle.std.specs.List.{slice_index_or}
 use Rattle.hp_hall.specs.Course.{IsCourse}
 use Rattle.hp_hall.specs.HallSteps.{with_mail}
 use Rattle.hp_hall.specs.HallView.{HallView, HasDone, IsHome, own_at, part_in, slot_at, taken_from}
+use Rattle.hp_hall.specs.Keeping.{ShowsValues, values_after, values_in}
 use Rattle.hp_hall.specs.Mail.{IsMailStep, MailStep, steps_of}
 use Rattle.hp_hall.specs.Own.{Own, after_ack}
 use Rattle.hp_hall.proofs.Mailed.{course_mail, steps_of-push}
@@ -32,10 +33,11 @@ pub record MakesMail (who : ℕ) (step : MailStep) (old new : HallView) : Type 0
   pub part : (other heap : ℕ) → part_in new other heap ≡ part_in old other heap
 
 pub makes_mail : (old new : HallView) (who : ℕ) (step : MailStep) (fulls : ℕ) → new ≡ with_mail who step fulls old
-    → IsMailStep who step old.boxes → old.fulls ≤ fulls → MakesMail who step old new
-makes_mail old new who step fulls is mailed rises = record {
+    → who < length old.owns → IsMailStep who step old.boxes → ShowsValues who step (values_in old)
+    → values_after step (values_in old) ≡ values_in old → old.fulls ≤ fulls → MakesMail who step old new
+makes_mail old new who step fulls is declared mailed shows still rises = record {
   makes = makes_step old new who step (ap (λ (h : HallView). h.mail) is) (ap (λ (h : HallView). h.owns) is)
-      (ap (λ (h : HallView). h.clock) is) (subst (IsCourse old) (sym is) (course_mail old who step fulls mailed rises));
+      (ap (λ (h : HallView). h.clock) is) (subst (IsCourse old) (sym is) (course_mail old who step fulls declared mailed shows still rises));
   taken = λ number. ap (λ (h : HallView). taken_from (slot_at h number)) is;
   home = λ number home. subst (λ (h : HallView). IsHome (slot_at h number)) (sym is) home;
   part = λ other heap. ap (λ (h : HallView). part_in h other heap) is;

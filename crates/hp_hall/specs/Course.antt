@@ -14,6 +14,7 @@ use Rattle.hp_segs.specs.declared.outcome.AskLog.{AskLog}
 use Rattle.hp_hall.specs.declared.kept.Kept.{Kept}
 use Rattle.hp_hall.specs.declared.kept.Kept.TheVariants.{Heap, Segments}
 use Rattle.hp_hall.specs.HallView.{HallView, SlotView, slot_at, asks_in, heard_in, log_in, seen_in, own_at, HasDone}
+use Rattle.hp_hall.specs.Keeping.{AreAgreed, IsKeptBy, values_after, values_in}
 use Rattle.hp_hall.specs.Mail.{MailStep, IsMail, after_step, steps_of}
 use Rattle.hp_hall.specs.Values.{asks_of, log_of}
 
@@ -47,7 +48,8 @@ IsLater (Some old) None = ⊥
 IsLater (Some old) (Some new) = IsLaterKept old.kept new.kept
 
 -- from one state of a hall to a later one: the same participants; each slot's value is one of later on; numbers, the count of full
--- mailboxes and the clock do not fall; and the mailboxes are those that the steps made on the way leave
+-- mailboxes and the clock do not fall; the mailboxes and the values in the slots are those that the steps made on the way leave; and
+-- granted records that all members have taken in stay so
 pub record IsCourse (old new : HallView) : Type 0 where
   pub count : length new.owns ≡ length old.owns
   pub slots : (number : ℕ) → IsLater (slot_at old number) (slot_at new number)
@@ -57,6 +59,8 @@ pub record IsCourse (old new : HallView) : Type 0 where
   pub steps : List (ℕ × MailStep)
   pub mail : new.mail ≡ old.mail ++ steps
   pub boxes : IsMail steps old.boxes new.boxes
+  pub kept : IsKeptBy (length old.owns) steps (values_in old) (values_in new)
+  pub agreed : AreAgreed old → AreAgreed new
 
 leads_then : (first second : List SegsCall) (a b c : SegsView) → Leads first a b → Leads second b c → Leads (first ++ second) a c
 leads_then [] second a b c here next = subst (λ (x : SegsView). Leads second x c) here next
@@ -66,6 +70,12 @@ mail_then : (first second : List (ℕ × MailStep)) (a b c : List (List Frame)) 
     → IsMail (first ++ second) a c
 mail_then [] second a b c here next = subst (λ (x : List (List Frame)). IsMail second x c) here next
 mail_then (step ∷ steps) second a b c here next = (here.0, mail_then steps second (after_step step.0 step.1 a) b c here.1 next)
+
+values_then : (count : ℕ) (first second : List (ℕ × MailStep)) (a b c : List Kept) → IsKeptBy count first a b → IsKeptBy count second b c
+    → IsKeptBy count (first ++ second) a c
+values_then count [] second a b c here next = subst (λ (values : List Kept). IsKeptBy count second values c) here next
+values_then count (step ∷ steps) second a b c here next =
+    (here.0, values_then count steps second (values_after step.1 a) b c here.1 next)
 
 -- two lists that each go on from the one before
 goes_on_by : {X : Type 0} (a b c first second : List X) → b ≡ a ++ first → c ≡ b ++ second → c ≡ a ++ (first ++ second)
@@ -148,6 +158,8 @@ course_same a = record {
   steps = [];
   mail = sym (append-nil a.mail);
   boxes = refl;
+  kept = refl;
+  agreed = λ agreed. agreed;
 }
 
 pub course_then : (a b c : HallView) → IsCourse a b → IsCourse b c → IsCourse a c
@@ -160,6 +172,9 @@ course_then a b c here next = record {
   steps = here.steps ++ next.steps;
   mail = goes_on_by a.mail b.mail c.mail here.steps next.steps here.mail next.mail;
   boxes = mail_then here.steps next.steps a.boxes b.boxes c.boxes here.boxes next.boxes;
+  kept = values_then (length a.owns) here.steps next.steps (values_in a) (values_in b) (values_in c) here.kept
+      (subst (λ (n : ℕ). IsKeptBy n next.steps (values_in b) (values_in c)) here.count next.kept);
+  agreed = λ agreed. next.agreed (here.agreed agreed);
 }
 
 pub course_serves : (a b : HallView) (who : ℕ) → IsCourse a b → who < length a.owns → who < length b.owns

@@ -7,7 +7,9 @@ pub mod Own
 pub mod Mail
 pub mod Weights
 pub mod HallView
+pub mod Keeping
 pub mod Course
+pub mod CourseLaws
 pub mod HallSteps
 pub mod SlotStates
 pub mod MailKept

@@ -19,7 +19,7 @@ mod waiting;
 pub use busy::Busy;
 pub use hall::Hall;
 pub use kept::Kept;
-pub use laws::{arming_law, holding_law, standing_law};
+pub use laws::{arming_law, course_law, holding_law, standing_law};
 pub use mailbox::MAILBOX_FRAMES;
 pub use plain_hall::{HallParts, PlainHall};
 pub use posted::Posted;

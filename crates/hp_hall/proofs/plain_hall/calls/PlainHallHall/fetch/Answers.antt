@@ -1,4 +1,4 @@
-use Rattle.std.proofs.Common.{◌<◌, length, ap, arith}
+use Rattle.std.proofs.Common.{◌<◌, length, refl, ap, arith}
 use Rattle.hp_hall.specs.HallView.{HallView}
 use Rattle.hp_hall.specs.Mail.{Fetches}
 use Rattle.hp_hall.specs.Weights.{boxes_weight, fetched_weight}
@@ -12,7 +12,7 @@ returns c =
     let new = c.fetch_at.new.self in
     let first = c.fetch_at.ensures.first in
     let hall = c.fetch_at.ensures.hall in
-    let mails = makes_mail old new c.args.me (Fetches c.fetch_at.result) old.fulls hall first (omega arith) in
+    let mails = makes_mail old new c.args.me (Fetches c.fetch_at.result) old.fulls hall c.requires.serves first tt refl (omega arith) in
     let below : c.args.me < length old.boxes = omega (arith, c.sound.ensures.boxes, c.requires.serves) in
     record {
       did = mails.makes.did;

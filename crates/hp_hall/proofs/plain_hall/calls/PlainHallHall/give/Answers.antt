@@ -7,6 +7,7 @@ use Rattle.hp_hall.specs.Mail.{Gives, MailStep}
 use Rattle.hp_hall.specs.Slots.{slot_number}
 use Rattle.hp_hall.specs.Values.{Fits}
 use Rattle.hp_hall.specs.Weights.{boxes_weight}
+use Rattle.hp_hall.proofs.Agreeing.{agreed_given, given_by}
 use Rattle.hp_hall.proofs.Given.{IsGivenFor, given, known, later_given, still_fit}
 use Rattle.hp_hall.proofs.Giver.{others_given, part_given}
 use Rattle.hp_hall.proofs.Halls.{hall_given}
@@ -40,7 +41,9 @@ returns c =
     let hall = c.sound.ensures in
     let fits : Fits number kept = still_fit knows number before.kept kept (hall.fits number before was.there) was.gives in
     let later = later_given knows before.kept kept was.gives in
-    let moves = gave old new me number before kept was.there later c.give_at.ensures in
+    let by = given_by knows before.kept kept was.gives in
+    let agreed = agreed_given me number old hall before was.there kept fits was.gives in
+    let moves = gave old new me number c.requires.serves before kept was.there later by c.sound-2.ensures agreed c.give_at.ensures in
     record {
       taken = ap taken_from moves.here;
       home = subst IsHome (sym moves.here) refl;

@@ -1,4 +1,4 @@
-use Rattle.std.proofs.Common.{◌≡◌, ◌<◌, ◌≤◌, ◌↔◌, ℕ, length, ap, subst, sym, arith}
+use Rattle.std.proofs.Common.{◌≡◌, ◌<◌, ◌≤◌, ◌↔◌, ℕ, length, refl, ap, subst, sym, arith}
 use Rattle.hp_base.specs.declared.plan.Action.TheVariants.{Lose}
 use Rattle.hp_base.specs.Streams.{HasRisen}
 use Rattle.hp_hall.specs.declared.posted.Posted.{Posted}
@@ -21,7 +21,7 @@ returns c =
     let hall = c.post_at.ensures.hall in
     let fulls = ap (λ (h : HallView). h.fulls) hall in
     let rises = subst (λ (n : ℕ). old.fulls ≤ n) fulls c.post_at.ensures.rises in
-    let mails = makes_mail old new c.args.me (Posts c.args.to frame action posted) (fulls_after posted old.fulls) hall c.post_at.ensures.posted rises in
+    let mails = makes_mail old new c.args.me (Posts c.args.to frame action posted) (fulls_after posted old.fulls) hall c.requires.serves c.post_at.ensures.posted tt refl rises in
     let below : c.args.to < length old.boxes = omega (arith, c.sound.ensures.boxes, c.requires.declared) in
     record {
       did = mails.makes.did;

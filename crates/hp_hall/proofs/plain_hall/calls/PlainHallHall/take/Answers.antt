@@ -20,7 +20,7 @@ returns c =
     let fits = c.take_at-kept.ensures.fits in
     let step : MailStep = Takes number kept in
     let hall = c.sound.ensures in
-    let moves = took old new me number kept there c.take_at-kept.ensures.hall in
+    let moves = took old new me number c.requires.serves kept there c.take_at-kept.ensures.hall in
     record {
       fits = fits;
       sound = c.sound-2.ensures;
