@@ -22,7 +22,7 @@ run_stays [] more place run is = grind arith
 run_stays (entry ∷ log) more zero run is = is
 run_stays (entry ∷ log) more (suc place) run is = run_stays log more place run is
 
-gives_stays : (log more : List LogRecord) (outcome : Outcome) (run : Option Run) → Gives log outcome run → Gives (log ++ more) outcome run
+pub gives_stays : (log more : List LogRecord) (outcome : Outcome) (run : Option Run) → Gives log outcome run → Gives (log ++ more) outcome run
 gives_stays log more (Granted generation) (Some run) given = run_stays log more (generation - 1) run given
 gives_stays log more (Granted generation) None given = elim given [ ]
 gives_stays log more (Refused cause) None given = given
@@ -31,7 +31,7 @@ gives_stays log more (Stale done) run given = elim given [ ]
 gives_stays log more (Freed generation) run given = elim given [ ]
 
 -- what is found stays found
-find_stays : {X : Type 0} → (p : X → Bool) (xs more : List X) (x : X) → find p xs ≡ Some x → find p (xs ++ more) ≡ Some x
+pub find_stays : {X : Type 0} → (p : X → Bool) (xs more : List X) (x : X) → find p xs ≡ Some x → find p (xs ++ more) ≡ Some x
 find_stays p xs more x found = find-append p xs more ∙ ap (λ first. option_or first (find p more)) found
 
 pub stays_answered : (log : List LogRecord) (logged : List AskLog) (more : List LogRecord) (others : List AskLog) (who number : ℕ) (asked : PagesAsked)

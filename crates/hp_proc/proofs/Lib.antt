@@ -13,6 +13,7 @@ mod Weighs
 mod Noting
 pub mod Standing
 mod Steps
+mod Looked
 mod Armed
 mod AskOutcomes
 mod AskSettled
@@ -33,6 +34,27 @@ pub mod SoloSeats
 pub mod SoloTies
 pub mod SoloWeights
 mod SoloTurns
+mod SoloQuiet
+mod SoloLooks
 mod StageLemmas
 mod RetiredPage
 mod SoloWaits
+mod Mapped
+mod SocketHeapLemmas
+mod ChosenHeaps
+mod Noted
+mod Joining
+mod HandCalls
+mod HandGiven
+mod PagesStay
+mod SoloOpened
+mod SoloEnds
+mod SoloDrained
+mod HandMoved
+mod HandCut
+mod LineFacts
+mod Makers
+mod HandAsked
+mod HandTried
+mod AllocFacts
+mod HallMoments

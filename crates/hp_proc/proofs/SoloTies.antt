@@ -122,7 +122,7 @@ pub party_served_same : (hall : HallView) (party : Party) → IsTied (seen_in ha
     → IsPartyServed hall hall party party
 party_served_same hall party tied = record {
   serving = serving_same (λ who. who ≢ party.me) hall;
-  same = record { me = refl; socket = refl; plan = refl; deadline = refl };
+  same = record { me = refl; socket = refl; plan = refl; deadline = refl; context = refl };
   tied = tied;
 }
 
@@ -166,7 +166,7 @@ served_tied old new number (Some party) (Some after) now numbered served is =
       tied = subst (λ (who : ℕ). IsTied (seen_in new) (own_at new who) after.joined after.maps) me served.tied;
     })
 
-served_later : (old new : HallView) (party after : Option Party) → IsServedAs old new party after → IsLaterParty party after
+pub served_later : (old new : HallView) (party after : Option Party) → IsServedAs old new party after → IsLaterParty party after
 served_later old new None None served = tt
 served_later old new None (Some after) served = absurd served
 served_later old new (Some party) None served = absurd served

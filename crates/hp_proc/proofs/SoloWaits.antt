@@ -1,5 +1,5 @@
 -- One that does a line in a hall of one thread may wait when it goes, and still after a call or a serving.
-use Rattle.std.proofs.Common.{◌≡◌, ◌<◌, ℕ, zero, suc, List, length, replicate, slice_index_or, refl, sym, subst}
+use Rattle.std.proofs.Common.{◌≡◌, ◌<◌, ℕ, List, length, refl, sym, subst}
 use Rattle.hp_base.specs.declared.limits.TheConstants.{MAX_HEAPS}
 use Rattle.hp_hall.specs.HallView.{HallView, IsHome, own_at, seen_in, slot_at}
 use Rattle.hp_hall.specs.Own.{Own}
@@ -9,12 +9,6 @@ use Rattle.hp_proc.specs.Solo.{IsAway, IsTiedAt, MayWait, SoloView, server_at}
 use Rattle.hp_proc.specs.SoloCourse.{IsSoloCourse, solo_serves}
 use Rattle.hp_proc.specs.Tied.{IsTied, nothing_yet}
 use Rattle.hp_proc.proofs.SoloTies.{tied_on}
-
--- nobody has acknowledged a record when a hall opens
-pub opened_own : (participants who : ℕ) → slice_index_or (replicate participants nothing_yet) who nothing_yet ≡ nothing_yet
-opened_own zero who = refl
-opened_own (suc participants) zero = refl
-opened_own (suc participants) (suc who) = opened_own participants who
 
 -- one that has taken in nothing is tied to a hall that knows so
 pub tied_first : (hall : HallView) (who : ℕ) (party : Party) → own_at hall who ≡ nothing_yet → party.me ≡ who

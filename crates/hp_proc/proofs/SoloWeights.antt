@@ -59,7 +59,7 @@ due_there : (servers : List ServerView) (who : ℕ) (next : ℕ) (server : Optio
 due_there servers who next None is due = cc
 due_there servers who next (Some server) is due = (server, is, due)
 
-servers_due : (clock next : ℕ) (servers : List ServerView) → IsPendingDue clock servers next
+pub servers_due : (clock next : ℕ) (servers : List ServerView) → IsPendingDue clock servers next
     → servers_weight (pending_at next) servers + 1 ≤ servers_weight (pending_at clock) servers
 servers_due clock next servers is =
     let later = is.2 in

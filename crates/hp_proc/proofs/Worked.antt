@@ -19,7 +19,8 @@ use Rattle.hp_proc.specs.declared.pages_asked.PagesAsked.{PagesAsked}
 use Rattle.hp_proc.specs.Doing.Done.{Called, Asked, GaveUp}
 use Rattle.hp_proc.specs.Heaps.{NamedHeap, own_first, page_sizes_for}
 use Rattle.hp_proc.specs.Allocating.{with_hint, without_hint, serving}
-use Rattle.hp_proc.specs.Freeing.{SearchedHeap, looking, freeing}
+use Rattle.hp_proc.specs.Freeing.{looking, freeing}
+use Rattle.hp_proc.specs.declared.searched_heap.SearchedHeap.{SearchedHeap}
 use Rattle.hp_proc.specs.Courses.{OwnCall}
 use Rattle.hp_proc.specs.Histories.{entries_for, entry_for, granted_runs, returned_runs}
 use Rattle.hp_proc.specs.Outcomes.{registers}

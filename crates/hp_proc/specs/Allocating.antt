@@ -1,5 +1,5 @@
 -- What an allocation line does: it searches heap after heap, and asks for pages page size after page size.
-use Rattle.std.specs.Prelude.{ℕ, ◌+◌, ◌-◌, List, [], ◌∷◌, Option, Some, None, if◌then◌else◌}
+use Rattle.std.specs.Prelude.{ℕ, Bool, true, false, ◌+◌, ◌-◌, List, [], ◌∷◌, Option, Some, None, if◌then◌else◌}
 use Rattle.hp_base.specs.declared.pool_line.PoolLine.{PoolLine}
 use Rattle.hp_base.specs.declared.request.Request.{Request}
 use Rattle.hp_base.specs.declared.row.Run.{Run}
@@ -8,6 +8,7 @@ use Rattle.hp_heap.specs.Choice.{is_hint}
 use Rattle.hp_heap.specs.declared.entry.HeapCall.TheVariants as call
 use Rattle.hp_heap.specs.declared.entry.HeapAnswer.{HeapAnswer}
 use Rattle.hp_heap.specs.declared.entry.HeapAnswer.TheVariants as gives
+use Rattle.hp_script.specs.declared.answer.Answer.{Answer}
 use Rattle.hp_script.specs.declared.answer.Answer.TheVariants as answer
 use Rattle.hp_proc.specs.Doing.{Doing}
 use Rattle.hp_proc.specs.Heaps.{NamedHeap, page_sizes_for}
@@ -38,11 +39,24 @@ abbrev pub unless_found : Doing → HeapAnswer → Doing
 unless_found otherwise (gives.Address address) = Doing.Ended (answer.Address address)
 unless_found otherwise _ = otherwise
 
--- a run came to a heap, which is searched again; it has a place for the request, so an address is found, as the end of a workload says
+-- a heap to which a run came is searched again; that has a place for the request, so an address is found, as the end of a workload says
+abbrev pub searching_again : ℕ → Request → Tag → Doing
+searching_again heap request tag = Doing.Calls heap (call.Alloc request tag) (unless_found (Doing.Ended answer.None))
+
+-- a run comes to a heap, where one is granted
 abbrev pub with_run : ℕ → Request → Tag → Doing → Option Run → Doing
 with_run heap request tag otherwise None = otherwise
-with_run heap request tag otherwise (Some run) = Doing.Calls heap (call.Grow run)
-    (λ _. Doing.Calls heap (call.Alloc request tag) (unless_found (Doing.Ended answer.None)))
+with_run heap request tag otherwise (Some run) = Doing.Calls heap (call.Grow run) (λ _. searching_again heap request tag)
+
+-- what is left of a line once pages were asked for: a run came, or none did
+abbrev pub behind_asking : ℕ → Request → Tag → Doing → Bool → Doing
+behind_asking heap request tag otherwise true = searching_again heap request tag
+behind_asking heap request tag otherwise false = otherwise
+
+-- a line is answered, or goes on otherwise
+abbrev pub unless_answered : Doing → Option Answer → Doing
+unless_answered otherwise None = otherwise
+unless_answered otherwise (Some given) = Doing.Ended given
 
 -- pages are asked for, page size after page size, until a run is granted
 abbrev pub asking : ℕ → ℕ → Request → Tag → Doing → List ℕ → Doing

@@ -21,8 +21,9 @@ use Rattle.hp_script.specs.declared.workload.Workload.{Workload}
 use Rattle.hp_proc.specs.Doing.{Done}
 use Rattle.hp_proc.specs.Doing.Done.{Called, Asked, GaveUp, Looked, CaughtUp}
 use Rattle.hp_proc.specs.Heaps.{sockets_of, socket_heaps}
-use Rattle.hp_proc.specs.Freeing.{SearchedHeap}
+use Rattle.hp_proc.specs.declared.searched_heap.SearchedHeap.{SearchedHeap}
 use Rattle.hp_proc.specs.Lines.{Facts, Maker}
+use Rattle.hp_proc.specs.declared.own_element.OwnElement.{OwnElement}
 
 -- a call of the heap with that index, and its answer
 pub record OwnCall : Type 0 where
@@ -68,11 +69,6 @@ abbrev pub last_heap : List OwnCall → Option ℕ
 last_heap [] = None
 last_heap (own ∷ []) = Some own.heap
 last_heap (own ∷ (next ∷ calls)) = last_heap (next ∷ calls)
-
--- where the element of an allocation line lies: the number of the line, and the index of the heap
-pub record OwnElement : Type 0 where
-  pub line : ℕ
-  pub heap : ℕ
 
 -- what a participant's lines so far left: whether it is attached, how many records it took in when it attached last, and where the
 -- elements of its allocations lie

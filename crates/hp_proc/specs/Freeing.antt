@@ -1,18 +1,22 @@
 -- What the lines do that name an element by its label: they look for it, and then free or resize it.
-use Rattle.std.specs.Prelude.{ℕ, ◌^◌, Bool, false, List, [], ◌∷◌, Option, is_some, nat_lt, ◌==◌, if◌then◌else◌}
+use Rattle.std.specs.Prelude.{◌≡◌, ℕ, ◌^◌, ◌%◌, ◌<◌, ◌≤◌, ⊤, Bool, false, List, [], ◌∷◌, Option, Some, None, is_some, nat_lt, ◌==◌, if◌then◌else◌}
 use Rattle.hp_base.specs.Requests.{rounded_size}
+use Rattle.hp_base.specs.declared.request.BadRequest.{BadRequest}
 use Rattle.hp_base.specs.declared.request.BadRequest.TheVariants as bad
 use Rattle.hp_base.specs.declared.tag.Tag.{Tag}
 use Rattle.hp_heap.specs.declared.entry.HeapCall.TheVariants as call
 use Rattle.hp_heap.specs.declared.entry.HeapAnswer.{HeapAnswer}
 use Rattle.hp_heap.specs.declared.entry.HeapAnswer.TheVariants as gives
+use Rattle.hp_script.specs.declared.answer.Answer.{Answer}
 use Rattle.hp_script.specs.declared.answer.Answer.TheVariants as answer
+use Rattle.hp_heap.specs.PlainHeap.{PlainHeap}
+use Rattle.hp_heap.specs.Resizing.{CanAskSize}
 use Rattle.hp_proc.specs.Doing.{Doing}
-
--- a heap in which an element is looked for: its index, and the socket whose pages it takes, where it does
-pub record SearchedHeap : Type 0 where
-  pub index : ℕ
-  pub serves : Option ℕ
+use Rattle.hp_proc.specs.declared.searched_heap.SearchedHeap.{SearchedHeap}
+use Rattle.hp_proc.specs.declared.element_act.ElementAct.{ElementAct}
+use Rattle.hp_proc.specs.declared.element_act.ElementAct.TheVariants.{Free, Resize}
+use Rattle.hp_proc.specs.declared.element_act.Left.{Left}
+use Rattle.hp_proc.specs.declared.element_act.Left.TheVariants.{Answered, GaveUp}
 
 -- an element was found, or is looked for further
 abbrev pub going_on : (ℕ → Doing) → Doing → HeapAnswer → Doing
@@ -51,14 +55,54 @@ abbrev pub resized : HeapAnswer → Doing
 resized gives.Yes = Doing.Ended answer.Yes
 resized _ = Doing.Ended answer.No
 
+-- what such a line is answered, by whether the element has the new size
+abbrev pub resized_answer : Bool → Answer
+resized_answer had = if had then answer.Yes else answer.No
+
 -- an element is resized, but that of a memzone is not
 abbrev pub resizing : Bool → ℕ → SearchedHeap → ℕ → Doing
 resizing zone size place address =
     if zone then Doing.Ended answer.IsZone else Doing.Calls place.index (call.Resize address size) resized
 
--- a size is judged, and then the element is looked for and resized
+-- why a new size is refused, where it is
+abbrev pub resize_refusal : ℕ → Option BadRequest
+resize_refusal size = if size == 0 then Some bad.Zero else (if nat_lt (2 ^ 63) (rounded_size size) then Some bad.Overflow else None)
+
+-- a size that is judged: the line is refused, or goes on
+abbrev pub if_sized : Option BadRequest → Doing → Doing
+if_sized (Some kind) doing = Doing.Ended (answer.BadRequest kind)
+if_sized None doing = doing
+
+-- an element is looked for, and gets that size in whole cache lines
 abbrev pub resizing_to : ℕ → Tag → List SearchedHeap → Doing
-resizing_to size tag places =
-    if size == 0 then Doing.Ended (answer.BadRequest bad.Zero)
-    else (if nat_lt (2 ^ 63) (rounded_size size) then Doing.Ended (answer.BadRequest bad.Overflow)
-    else looking tag (resizing tag.zone (rounded_size size)) places)
+resizing_to size tag = looking tag (resizing tag.zone (rounded_size size))
+
+-- what a line does with its element: it frees it, or gives it another size
+abbrev pub acting : ElementAct → SearchedHeap → ℕ → Doing
+acting Free place address = freeing place address
+acting (Resize zone size) place address = resizing zone size place address
+
+-- what is left of the line when its heap is given back: its answer, or that a run that the heap gave up has to be told of
+abbrev pub left_of : ℕ → Left → Doing
+left_of heap (Answered given) = Doing.Ended given
+left_of heap (GaveUp run) = Doing.GivesUp heap run (Doing.Ended answer.Done)
+
+-- an element may be acted on so: it is there, and its new size may be asked for
+abbrev pub MayAct : ElementAct → ℕ → PlainHeap → Type 0
+MayAct Free address heap = ⊤
+MayAct (Resize zone size) address heap = zone ≡ false → CanAskSize address size heap
+
+-- the new size is some, in whole cache lines
+abbrev pub IsSizedWell : ElementAct → Type 0
+IsSizedWell Free = ⊤
+IsSizedWell (Resize zone size) = (size % 64 ≡ 0) × (0 < size) × (size ≤ 2 ^ 63)
+
+-- what is left of a line once a heap was searched for its element: it goes on with further heaps, or the heap acted
+abbrev pub behind_looking : ℕ → Doing → Option Left → Doing
+behind_looking heap otherwise None = otherwise
+behind_looking heap otherwise (Some left) = left_of heap left
+
+-- what is done with an element: it is freed, or gets a size, where one is given
+abbrev pub act_for : Bool → Option ℕ → ElementAct
+act_for zone None = Free
+act_for zone (Some size) = Resize zone size

@@ -19,7 +19,8 @@ use Rattle.hp_script.specs.declared.options.Options.{Options}
 use Rattle.hp_proc.specs.Doing.{Doing}
 use Rattle.hp_proc.specs.Heaps.{NamedHeap, heaps_for, has_name}
 use Rattle.hp_proc.specs.Allocating.{serving}
-use Rattle.hp_proc.specs.Freeing.{SearchedHeap, looking, freeing, resizing_to}
+use Rattle.hp_proc.specs.Freeing.{freeing, if_sized, looking, resize_refusal, resizing_to}
+use Rattle.hp_proc.specs.declared.searched_heap.SearchedHeap.{SearchedHeap}
 
 -- the line that makes a label or a memzone's name
 pub record Maker : Type 0 where
@@ -109,7 +110,7 @@ doing_of line (act.Alloc label size options) facts = if_attached facts.attached 
 doing_of line (act.Free label) facts =
     if_attached facts.attached (on_element line.participant facts (λ tag. looking tag freeing) facts.maker)
 doing_of line (act.Resize label size) facts =
-    if_attached facts.attached (on_element line.participant facts (λ tag. resizing_to size tag) facts.maker)
+    if_attached facts.attached (if_sized (resize_refusal size) (on_element line.participant facts (resizing_to size) facts.maker))
 doing_of line act.Attach facts = attaching facts.attached
 doing_of line act.Detach facts = if_attached facts.attached (Doing.Ended answer.Done)
 doing_of line (act.Await other lines) facts = Doing.Ended answer.Done

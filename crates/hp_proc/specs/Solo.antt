@@ -1,9 +1,10 @@
 -- A hall in which participants take turns in one thread, as contracts see it: the rule "Turns in one thread" of docs/PARTICIPANTS.md.
-use Rattle.std.specs.Prelude.{◌≡◌, ◌≢◌, ℕ, ◌+◌, ◌<◌, ◌≤◌, ◌⊎◌, ◌^◌, ◌-◌, Bool, true, false, List, [], length, Option, Some, None, slice_get, sum_by, if◌then◌else◌, ⊤}
+use Rattle.std.specs.Prelude.{◌≡◌, ◌≢◌, ℕ, ◌+◌, ◌<◌, ◌≤◌, ◌⊎◌, ◌^◌, ◌-◌, Bool, true, false, List, [], ◌∷◌, ◌++◌, length, Option, Some, None, IsSome, slice_get, sum_by, if◌then◌else◌, ⊤}
 use Rattle.std.specs.List.{list_any}
 use Rattle.hp_base.specs.declared.limits.TheConstants.{MAX_HEAPS}
 use Rattle.hp_hall.specs.Course.{IsCourse}
 use Rattle.hp_hall.specs.HallView.{HallView, HasDone, IsHome, part_in, own_at, seen_in, slot_at, taken_from}
+use Rattle.hp_hall.specs.Mail.{Fetches, MailStep, box_of}
 use Rattle.hp_hall.specs.Weights.{boxes_weight, pending_at}
 use Rattle.hp_proc.specs.Falling.{own_weight}
 use Rattle.hp_proc.specs.Party.{IsSameParty, Party, due_in}
@@ -134,6 +135,35 @@ IsServedAs old new None (Some after) = ⊥
 IsServedAs old new (Some party) None = ⊥
 IsServedAs old new (Some party) (Some after) = IsPartyServed old new party after
 
+-- a participant looks into its mailbox, which is empty, and does nothing else
+pub record FindsNothing (old new : HallView) (who : ℕ) : Type 0 where
+  pub did : HasDone old new who (Fetches None ∷ [])
+  pub boxes : new.boxes ≡ old.boxes
+  pub empty : box_of new.boxes who ≡ []
+
+-- so does one that is there, and nothing is done for one that is away
+abbrev pub HasNothingToDo : HallView → HallView → Option Party → Type 0
+HasNothingToDo old new None = new ≡ old
+HasNothingToDo old new (Some party) = FindsNothing old new party.me
+
+-- a participant looks last into its mailbox, which is empty then
+abbrev pub LooksLast : HallView → HallView → ℕ → Type 0
+LooksLast old new who = (steps : List MailStep) × HasDone old new who (steps ++ Fetches None ∷ [])
+
+-- so does one that is there
+abbrev pub HasLookedLast : HallView → HallView → Option Party → Type 0
+HasLookedLast old new None = ⊤
+HasLookedLast old new (Some party) = LooksLast old new party.me
+
+-- so does one that is there and serves still
+abbrev pub LooksLastAt : HallView → HallView → ℕ → Option ServerView → Type 0
+LooksLastAt old new who None = ⊤
+LooksLastAt old new who (Some server) = server.stopped ≡ false → IsSome server.party → LooksLast old new who
+
+-- a number stands between two others, the first of them counted in
+abbrev pub IsBetween : ℕ → ℕ → ℕ → Type 0
+IsBetween from to who = (from ≤ who) × (who < to)
+
 -- a number does not stand between two others
 abbrev pub IsOutside : ℕ → ℕ → ℕ → Type 0
 IsOutside from to who = (who < from) ⊎ (to ≤ who)
@@ -165,6 +195,24 @@ IsAtRest clock (Some party) = IsResting clock party
 abbrev pub IsServerAtRest : ℕ → Option ServerView → Type 0
 IsServerAtRest clock None = ⊤
 IsServerAtRest clock (Some server) = server.stopped ≡ false → IsAtRest clock server.party
+
+-- of those on a side nobody has met a refusal of memory
+abbrev pub HaveNotStopped : (ℕ → Type 0) → List ServerView → Type 0
+HaveNotStopped beside servers = (who : ℕ) (server : ServerView) → beside who → server_at servers who ≡ Some server → server.stopped ≡ false
+
+-- a place is as it was, and the participant that is there looked into its mailbox, found it empty, and did nothing else
+pub record IsIdle (old new : SoloView) (who : ℕ) (server : ServerView) : Type 0 where
+  pub stays : server_at new.servers who ≡ Some server
+  pub looked : IsSome server.party → HasDone old.plain new.plain who (Fetches None ∷ [])
+
+-- nothing moved on a side: whoever there had met no refusal of memory was idle; and if nobody had, the mailboxes are as they were, and
+-- those of the side are empty
+pub record IsQuiet (beside : ℕ → Type 0) (old new : SoloView) : Type 0 where
+  pub idle : (who : ℕ) (server : ServerView) → beside who → server_at old.servers who ≡ Some server → server.stopped ≡ false
+      → IsIdle old new who server
+  pub boxes : HaveNotStopped beside old.servers → new.plain.boxes ≡ old.plain.boxes
+  pub empty : HaveNotStopped beside old.servers → (who : ℕ) → beside who → IsSome (party_at old.servers who)
+      → box_of new.plain.boxes who ≡ []
 
 -- a deadline of a participant is still to come
 abbrev pub IsPendingDue : ℕ → List ServerView → ℕ → Type 0

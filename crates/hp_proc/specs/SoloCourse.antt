@@ -13,7 +13,7 @@ pub record IsSoloCourse (old new : SoloView) : Type 0 where
 
 pub party_same : (party : Option Party) → IsLaterParty party party
 party_same None = tt
-party_same (Some party) = record { me = refl; socket = refl; plan = refl; deadline = refl }
+party_same (Some party) = record { me = refl; socket = refl; plan = refl; deadline = refl; context = refl }
 
 pub server_same : (server : Option ServerView) → IsLaterAt server server
 server_same None = tt
@@ -25,6 +25,7 @@ same_then a b c here next = record {
   socket = next.socket ∙ here.socket;
   plan = next.plan ∙ here.plan;
   deadline = next.deadline ∙ here.deadline;
+  context = next.context ∙ here.context;
 }
 
 party_then : (a b c : Option Party) → IsLaterParty a b → IsLaterParty b c → IsLaterParty a c

@@ -2,16 +2,25 @@ ghost use Rattle.std.specs.Prelude.{◌≡◌, ◌≤◌, ◌<◌, []};
 ghost use Rattle.hp_base.specs.declared.limits.TheConstants.{MAX_DEADLINE, MAX_PARTICIPANTS};
 ghost use Rattle.hp_proc.specs.Party.{due_in, first_core, opening_party};
 
+use crate::line_context::LineContext;
 use crate::sent::Sent;
 use hp_base::{Mapper, Plan};
 use hp_core::Coordinator;
 use hp_maps::{LocalMaps, Planned};
 use std::marker::Model;
 
+mod allocating;
 mod asking;
 mod carrying;
+mod ending;
+mod freeing;
 mod giving_up;
+mod growing;
+mod heap_calls;
 mod heeding;
+mod holding;
+mod lines;
+mod looking;
 mod member;
 mod resting;
 mod serving;
@@ -31,6 +40,7 @@ pub struct Participant<'p, M: Mapper> {
     asked: u64,
     answered: bool,
     sent: Sent,
+    context: LineContext<'p>,
 }
 
 impl<'p, M: Mapper> Model for Participant<'p, M> {
@@ -49,6 +59,7 @@ impl<'p, M: Mapper> Model for Participant<'p, M> {
       asked = a.asked;
       answered = a.answered;
       sent = a.sent;
+      context = a.context;
     } };
 
     ghost invariant = { λ a. IsParticipant a.me a.coordinator };
@@ -68,7 +79,7 @@ fn coordinator_of(me: u8, deadline: u64) -> Option<Coordinator>
 impl<'p, M: Mapper> Participant<'p, M> {
     /// The participant with that number, of 0 to 15, on that NUMA socket. `joined` says whether it is attached at the start, with
     /// no record taken in; its table is over a mapper of that plan's for it. `deadline` is how long it waits for others, 1 to
-    /// 3,600,000 milliseconds. Own.
+    /// 3,600,000 milliseconds, and `context` what it knows when it does a line. Own.
     pub fn new(
         me: u8,
         socket: u32,
@@ -76,6 +87,7 @@ impl<'p, M: Mapper> Participant<'p, M> {
         maps: LocalMaps<Planned<'p, M>>,
         plan: &'p Plan,
         deadline: u64,
+        context: LineContext<'p>,
     ) -> Participant<'p, M>
         requires declared { me < MAX_PARTICIPANTS }
         requires some { 1 ≤ deadline }
@@ -83,7 +95,7 @@ impl<'p, M: Mapper> Participant<'p, M> {
         requires rows { maps.rows ≡ [] }
         requires number { maps.number ≡ 0 }
         requires calls { maps.answers ≡ [] }
-        ensures { result ≡ opening_party me socket joined maps.entry plan.now deadline }
+        ensures { result ≡ opening_party me socket joined maps.entry plan.now deadline context.entry }
     {
         Participant {
             me,
@@ -102,6 +114,7 @@ impl<'p, M: Mapper> Participant<'p, M> {
                 syncs: [0; 16],
                 answers: [0; 16],
             },
+            context,
         }
     }
 

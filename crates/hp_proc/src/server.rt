@@ -1,15 +1,33 @@
 //! Who serves in a hall of one thread.
-ghost use Rattle.std.specs.Prelude.{◌≡◌, ◌+◌, ◌<◌, ◌≤◌, false, None, Ok, Some, true, IfOk, length, replicate};
+ghost use Rattle.std.specs.Prelude.{◌≡◌, ◌+◌, ◌<◌, ◌≤◌, List, false, None, Ok, Some, true, IfOk, IsSome, is_none, length, replicate};
 ghost use Rattle.hp_base.specs.declared.limits.TheConstants.{MAX_HEAPS};
-ghost use Rattle.hp_hall.specs.HallView.{IsHome, own_at, seen_in, slot_at};
+ghost use Rattle.hp_hall.specs.HallView.{HasDone, IsHome, own_at, seen_in, slot_at};
+ghost use Rattle.hp_hall.specs.Mail.{MailStep};
 ghost use Rattle.hp_hall.specs.Weights.{boxes_weight, pending_at};
+ghost use Rattle.hp_proc.specs.Ending.{LeavesThere};
 ghost use Rattle.hp_proc.specs.Falling.{served_of};
-ghost use Rattle.hp_proc.specs.Solo.{IsAtRest, IsPartyServed, IsResting, IsServedAs, IsTiedIn, due_at, if_moved, nobody, party_weight, server_weight};
+ghost use Rattle.hp_proc.specs.Solo.{
+  FindsNothing,
+  HasLookedLast,
+  HasNothingToDo,
+  IsAtRest,
+  IsPartyServed,
+  IsResting,
+  IsServedAs,
+  IsTiedIn,
+  LooksLast,
+  due_at,
+  if_moved,
+  nobody,
+  party_weight,
+  server_weight,
+};
 ghost use Rattle.hp_proc.specs.Tied.{IsTied};
 
 use crate::participant::Participant;
 use hp_base::Mapper;
 use hp_hall::PlainHall;
+use hp_maps::Table;
 use std::alloc::{AllocError, Global};
 use std::marker::Model;
 
@@ -48,6 +66,9 @@ impl<'p, M: Mapper> Server<'p, M> {
         ensures weight { boxes_weight hall.new.boxes + server_weight (pending_at hall.new.clock) self.new + if_moved result
             ≤ boxes_weight hall.old.boxes + server_weight (pending_at hall.old.clock) self.old }
         ensures rests { self.new.stopped ≡ false → IsAtRest hall.new.clock self.new.party }
+        ensures looks { self.new.stopped ≡ false → HasLookedLast hall.old hall.new self.old.party }
+        ensures idle { result ≡ false → self.old.stopped ≡ false → self.new ≡ self.old }
+        ensures found { result ≡ false → self.old.stopped ≡ false → HasNothingToDo hall.old hall.new self.old.party }
         ensures stopped { self.old.stopped ≡ true → self.new.stopped ≡ true }
     {
         match serve_some(hall, &mut self.participant) {
@@ -85,6 +106,24 @@ impl<'p, M: Mapper> Server<'p, M> {
         }
     }
 
+    // The table of its participant, which is there.
+    pub fn table(&self, alloc: Global) -> Result<Table, AllocError>
+        requires { IsSome self.now.party }
+        ensures { IfOk result (λ table. LeavesThere self.now.party table) }
+    {
+        match &self.participant {
+            None => unreachable!(),
+            Some(participant) => participant.table(alloc),
+        }
+    }
+
+    // Whether its participant is away.
+    pub fn is_away(&self) -> bool
+        ensures { result ≡ is_none self.now.party }
+    {
+        self.participant.is_none()
+    }
+
     // Whether it has stopped.
     pub fn is_stopped(&self) -> bool
         ensures { result ≡ self.now.stopped }
@@ -104,6 +143,9 @@ fn serve_some<M: Mapper>(
     ensures weight { boxes_weight hall.new.boxes + party_weight (pending_at hall.new.clock) participant.new + served_of result
         ≤ boxes_weight hall.old.boxes + party_weight (pending_at hall.old.clock) participant.old }
     ensures rests { IfOk result (λ moved. IsAtRest hall.new.clock participant.new) }
+    ensures looks { IfOk result (λ moved. HasLookedLast hall.old hall.new participant.old) }
+    ensures idle { result ≡ Ok false → participant.new ≡ participant.old }
+    ensures found { result ≡ Ok false → HasNothingToDo hall.old hall.new participant.old }
 {
     match participant {
         None => Ok(false),
@@ -123,6 +165,9 @@ fn serve_out<M: Mapper>(
     ensures weight { boxes_weight hall.new.boxes + party_weight (pending_at hall.new.clock) (Some participant.new) + served_of result
         ≤ boxes_weight hall.old.boxes + party_weight (pending_at hall.old.clock) (Some participant.old) }
     ensures rests { IfOk result (λ moved. IsResting hall.new.clock participant.new) }
+    ensures looks { IfOk result (λ moved. LooksLast hall.old hall.new participant.old.me) }
+    ensures idle { result ≡ Ok false → participant.new ≡ participant.old }
+    ensures found { result ≡ Ok false → FindsNothing hall.old hall.new participant.old.me }
 {
     let mut moved = false;
     'serving: loop {
@@ -146,6 +191,9 @@ fn serve_once<M: Mapper>(
     ensures weight { boxes_weight hall.new.boxes + party_weight (pending_at hall.new.clock) (Some participant.new) + served_of result
         ≤ boxes_weight hall.old.boxes + party_weight (pending_at hall.old.clock) (Some participant.old) }
     ensures rests { result ≡ Ok false → IsResting hall.new.clock participant.new }
+    ensures did { (steps : List MailStep) × HasDone hall.old hall.new participant.old.me steps }
+    ensures idle { result ≡ Ok false → participant.new ≡ participant.old }
+    ensures found { result ≡ Ok false → FindsNothing hall.old hall.new participant.old.me }
 {
     participant.serve(hall)
 }

@@ -5,6 +5,8 @@ ghost use Rattle.hp_proc.specs.SoloCourse.{IsSoloCourse};
 
 mod calls;
 mod deadlines;
+mod draining;
+mod ending;
 mod serving;
 #[cfg(test)]
 mod tests;

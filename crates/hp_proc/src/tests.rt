@@ -1,5 +1,5 @@
 //! Two participants in a hall of plain values, by hand: what each serving does, what it leaves in the log, and in which tables.
-ghost use Rattle.std.specs.Prelude.{◌≡◌, ◌<◌, ℕ, List, [], ◌∷◌, Some, IfOk, slice_get};
+ghost use Rattle.std.specs.Prelude.{◌≡◌, ◌<◌, ℕ, List, [], ◌∷◌, Some, IfOk, IsSome, slice_get};
 ghost use Rattle.hp_base.specs.declared.limits.TheConstants.{MAX_PARTICIPANTS};
 ghost use Rattle.hp_hall.specs.Holding.{IsArmed, owned_by};
 ghost use Rattle.hp_hall.specs.Opening.{AreInOrder};
@@ -10,14 +10,17 @@ ghost use Rattle.hp_proc.specs.Tied.{IsTied, nothing_yet};
 
 mod acts;
 mod asks;
+mod contexts;
+mod ends;
 mod frames;
 mod growths;
 mod pages;
+pub(crate) mod shown;
 mod stage;
 
-use crate::Participant;
+use crate::{LineContext, Participant};
 use acts::Act;
-use hp_base::{MAX_HEAPS, MAX_SEGMENTS, MemMapper, Plan, PoolLine, Request};
+use hp_base::{MAX_HEAPS, MAX_SEGMENTS, MemMapper, MsgKind, Plan, PlanEntry, PoolLine, Request};
 use hp_heap::Heap;
 use hp_maps::{LocalMaps, Planned};
 use hp_segs::{Ask, Segs};
@@ -29,25 +32,39 @@ use std::test::Fail;
 pub(crate) const PAGE: u64 = 0x20_0000;
 
 // Where the first list begins.
-const BASE: u64 = 0x1_0000_0000;
+pub(crate) const BASE: u64 = 0x1_0000_0000;
 
 // How long participants wait for others, in milliseconds.
 const DEADLINE: u64 = 200;
 
+// A heap without memory: the first one is that of socket 0.
+fn empty_heap(alloc: Global, index: u32) -> Heap
+    ensures index { result.plain.index ≡ index }
+    ensures bare { result.plain.pages ≡ [] }
+    ensures serves { index ≡ 0 → IsSome result.plain.serves }
+{
+    if index == 0 {
+        Heap::socket(alloc, 0, 0)
+    } else {
+        Heap::vacant(alloc, index)
+    }
+}
+
 // All heaps, without memory.
-pub(crate) fn vacant_heaps(alloc: Global) -> Result<Vec<Heap>, AllocError>
+pub(crate) fn empty_heaps(alloc: Global) -> Result<Vec<Heap>, AllocError>
     ensures order { IfOk result (λ heaps. AreInOrder heaps.items) }
     ensures bare { IfOk result (λ heaps. (number : ℕ) (heap : HeapView) → slice_get heaps.items number ≡ Some heap → heap.plain.pages ≡ []) }
+    ensures serves { IfOk result (λ heaps. (heap : HeapView) → slice_get heaps.items 0 ≡ Some heap → IsSome heap.plain.serves) }
 {
     let mut heaps = Vec::with_capacity(alloc, MAX_HEAPS)?;
     for index in 0..MAX_HEAPS as u32 {
-        heaps.push_reserved(Heap::vacant(alloc, index));
+        heaps.push_reserved(empty_heap(alloc, index));
     }
     Ok(heaps)
 }
 
 // The first ask of a participant: a page of 2M for heap 0.
-fn first_ask(from: u8) -> Result<Ask, Fail>
+pub(crate) fn first_ask(from: u8) -> Result<Ask, Fail>
     ensures { IfOk result (λ ask. ask.from ≡ from) }
 {
     let request = Request::new(1000, 0, 0, 0).ok().ok_or("a good request")?;
@@ -62,7 +79,7 @@ fn first_ask(from: u8) -> Result<Ask, Fail>
 }
 
 // A segment value of the pool line `pool 0 2M 4`, of two participants.
-fn opening_segs(alloc: Global) -> Result<Segs, AllocError>
+pub(crate) fn opening_segs(alloc: Global) -> Result<Segs, AllocError>
     ensures { IfOk result (λ segs. segs ≡ opening (record { socket = 0; page = PAGE; pages = 4; slots = 4 } ∷ []) 2 0) }
 {
     let pool = PoolLine {
@@ -98,6 +115,21 @@ fn retired_segs(alloc: Global) -> Result<Segs, Fail>
     Ok(segs)
 }
 
+// A plan of what becomes of a first message of participant 1, or for it.
+pub(crate) fn add_message(plan: &mut Plan, kind: MsgKind, twice: bool) -> Result<(), Fail> {
+    if !plan.entries().is_empty() {
+        return Err("an empty plan".into());
+    }
+    plan.add(PlanEntry::Message {
+        kind,
+        party: 1,
+        k: 1,
+        twice,
+        line: 5,
+    })?;
+    Ok(())
+}
+
 // A participant that is attached and has taken in nothing, with a table over memory.
 pub(crate) fn member<'p>(
     alloc: Global,
@@ -111,5 +143,6 @@ pub(crate) fn member<'p>(
     let rows = MAX_SEGMENTS as usize;
     let mapper = Planned::new(MemMapper::new(alloc, rows)?, plan, me);
     let maps = LocalMaps::new(alloc, mapper, rows)?;
-    Ok(Participant::new(me, 0, true, maps, plan, DEADLINE))
+    let context = LineContext::new(alloc, None, true);
+    Ok(Participant::new(me, 0, true, maps, plan, DEADLINE, context))
 }

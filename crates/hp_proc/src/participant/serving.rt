@@ -123,6 +123,7 @@ impl<'p, M: Mapper> Participant<'p, M> {
         ensures socket { self.new.socket ≡ self.old.socket }
         ensures plan { self.new.plan ≡ self.old.plan }
         ensures deadline { self.new.deadline ≡ self.old.deadline }
+        ensures context { self.new.context ≡ self.old.context }
     {
         if self.is_primary() {
             self.serve_core(hall)

@@ -1,5 +1,6 @@
 //! The deadlines that participants wait for.
-ghost use Rattle.std.specs.Prelude.{◌≡◌, ◌<◌, ◌≤◌, ◌⊎◌, ℕ, Option, Some};
+ghost use Rattle.std.specs.Prelude.{◌≡◌, ◌<◌, ◌≤◌, ◌⊎◌, ℕ, IfNone, IfSome, Option, Some};
+ghost use Rattle.hp_proc.specs.Draining.{IsLeastDue, IsNoneDue};
 ghost use Rattle.hp_proc.specs.Solo.{IsNextDue, IsSooner};
 
 use crate::server::Server;
@@ -16,6 +17,19 @@ pub fn next_due<M: Mapper>(servers: &[Server<'_, M>], clock: u64, until: u64) ->
         next = sooner(clock, next, due);
     }
     next
+}
+
+// The least deadline of participants that are there that is still to come. One at the end of the clock's type never passes, and counts for
+// none.
+pub fn least_due<M: Mapper>(servers: &[Server<'_, M>], clock: u64) -> Option<u64>
+    ensures least { IfSome result (IsLeastDue clock servers.now) }
+    ensures none { IfNone result (IsNoneDue clock servers.now) }
+{
+    if clock == u64::MAX {
+        return None;
+    }
+    let next = next_due(servers, clock, u64::MAX);
+    if next == u64::MAX { None } else { Some(next) }
 }
 
 // The lesser of two deadlines, of which the second counts where it is still to come.

@@ -1,9 +1,21 @@
 //! Participants that serve, one after another.
-ghost use Rattle.std.specs.Prelude.{◌≡◌, ◌≢◌, ℕ, ◌+◌, ◌≤◌, ◌<◌, ◌||◌, length};
+ghost use Rattle.std.specs.Prelude.{◌≡◌, ◌≢◌, ℕ, ◌+◌, ◌≤◌, ◌<◌, ◌||◌, false, length};
 ghost use Rattle.hp_base.specs.declared.limits.TheConstants.{MAX_HEAPS};
 ghost use Rattle.hp_hall.specs.HallView.{IsHome, slot_at};
 ghost use Rattle.hp_hall.specs.Weights.{boxes_weight, pending_at};
-ghost use Rattle.hp_proc.specs.Solo.{AreLater, AreTied, IsOutside, IsServerAtRest, IsServing, if_moved, server_at, servers_weight};
+ghost use Rattle.hp_proc.specs.Solo.{
+  AreLater,
+  AreTied,
+  IsBetween,
+  IsOutside,
+  IsQuiet,
+  IsServerAtRest,
+  IsServing,
+  LooksLastAt,
+  if_moved,
+  server_at,
+  servers_weight,
+};
 
 use crate::server::Server;
 use hp_base::Mapper;
@@ -27,6 +39,10 @@ pub fn serve_range<M: Mapper>(
     ensures weight { boxes_weight hall.new.boxes + servers_weight (pending_at hall.new.clock) servers.new.items + if_moved result
         ≤ boxes_weight hall.old.boxes + servers_weight (pending_at hall.old.clock) servers.old.items }
     ensures rests { (who : ℕ) → from ≤ who → who < to → IsServerAtRest hall.new.clock (server_at servers.new.items who) }
+    ensures looks { (who : ℕ) → from ≤ who → who < to → LooksLastAt hall.old hall.new who (server_at servers.new.items who) }
+    ensures others { (who : ℕ) → IsOutside from to who → server_at servers.new.items who ≡ server_at servers.old.items who }
+    ensures quiet { result ≡ false → IsQuiet (IsBetween from to) (record { plain = hall.old; servers = servers.old.items })
+        (record { plain = hall.new; servers = servers.new.items }) }
 {
     let mut moved = false;
     for number in from..to {
@@ -54,6 +70,9 @@ fn serve_at<M: Mapper>(
         ≤ boxes_weight hall.old.boxes + servers_weight (pending_at hall.old.clock) servers.old.items }
     ensures others { (who : ℕ) → who ≢ number → server_at servers.new.items who ≡ server_at servers.old.items who }
     ensures rests { IsServerAtRest hall.new.clock (server_at servers.new.items number) }
+    ensures looks { LooksLastAt hall.old hall.new number (server_at servers.new.items number) }
+    ensures quiet { result ≡ false → IsQuiet (λ who. who ≡ number) (record { plain = hall.old; servers = servers.old.items })
+        (record { plain = hall.new; servers = servers.new.items }) }
 {
     let server = &mut servers[number];
     server.serve(hall)

@@ -4,17 +4,23 @@ ghost use Rattle.hp_base.specs.declared.limits.TheConstants.{MAX_HEAPS};
 ghost use Rattle.hp_hall.specs.HallView.{IsHome, slot_at};
 ghost use Rattle.hp_proc.specs.Solo.{MayWait};
 
+mod asking;
+mod draining;
 mod opening;
+mod pages;
 mod steps;
 
 use super::SoloHall;
 use crate::participant::Participant;
-use hp_base::{MemMapper, Plan};
+use crate::tests::add_message;
+use crate::tests::shown::End;
+use hp_base::{MemMapper, MsgKind, Plan};
 use hp_hall::{Posted, Waiting};
+use hp_maps::Table;
 use opening::hall_of_two;
-use std::alloc::AllocError;
+use std::alloc::{AllocError, Global};
 use std::test::Fail;
-use steps::{End, acks, ask, fetch, others, outcome, pause, turn};
+use steps::{acks, ask, fetch, others, outcome, pause, take_turn, turn};
 
 // Participant 1 asks, and waits until it is answered: participant 0 opens the growth, 1 maps and replies, 0 grants it, and 1 hears of it.
 // Then nothing is left, and the clock jumps to the deadline of 1.
@@ -31,7 +37,7 @@ fn be_granted(
     let rested = turn(hall, party)? == (false, false, false);
     let jumped = pause(hall, party, 50) == 50;
     let told = acks(hall, party) == (1, 1);
-    let ended = outcome(hall, party) == (End::Granted, 1);
+    let ended = outcome(hall, party) == (Some((1, 1, End::Granted(1))), 1);
     Ok(asked && opened && granted && rested && jumped && told && ended)
 }
 
@@ -49,7 +55,7 @@ fn grant_to_itself(
     let granted = turn(hall, party)? == (false, true, false);
     let heard = turn(hall, party)? == (false, true, false);
     let rested = turn(hall, party)? == (false, false, false);
-    let ended = outcome(hall, party) == (End::Granted, 1);
+    let ended = outcome(hall, party) == (Some((0, 1, End::Granted(1))), 1);
     Ok(asked && opened && due && granted && heard && rested && ended && party.due().is_none())
 }
 
@@ -68,10 +74,32 @@ fn be_late(
     let waited = (pause(hall, party, 300), others(hall, party, false)?) == (300, false);
     let answered = (pause(hall, party, 500), others(hall, party, false)?) == (400, true);
     let told = acks(hall, party) == (2, 0);
-    let ended = outcome(hall, party) == (End::Late(1, 0, 200), 2);
+    let ended = outcome(hall, party) == (Some((1, 1, End::Late(1, 0, 200))), 2);
     let heard = (fetch(hall, party), fetch(hall, party), fetch(hall, party)) == (3, 3, 4);
     let all = fetch(hall, party) == 0;
     Ok(asked && opened && cancelled && waited && answered && told && ended && heard && all)
+}
+
+// One of the two asks, and the first SYNC is lost: a turn opens the growth, and in the next nothing moves, so that the clock jumps to the
+// deadline of participant 0, at 200, which is sooner than the one that is waited for. Then 0 cancels, 1 catches up and replies, 0 answers,
+// and the asker hears of it. At last the clock jumps to the deadline that is waited for.
+fn take_turns(
+    hall: &mut SoloHall<'_, MemMapper>,
+    party: &mut Participant<'_, MemMapper>,
+    from: u8,
+) -> Result<bool, AllocError>
+    requires from { from < 2 }
+    requires may { MayWait hall.old party.old }
+    ensures may { MayWait hall.new party.new }
+{
+    let asked = ask(hall, party, from) == Posted::Sent;
+    let opened = take_turn(hall, party, 500)? == (true, 0);
+    let jumped = take_turn(hall, party, 500)? == (false, 200);
+    let cancelled = take_turn(hall, party, 500)? == (true, 200);
+    let answered = take_turn(hall, party, 500)? == (true, 200);
+    let rested = take_turn(hall, party, 500)? == (false, 500);
+    let ended = outcome(hall, party) == (Some((from, 1, End::Late(1, 0, 200))), 2);
+    Ok(asked && opened && jumped && cancelled && answered && rested && ended)
 }
 
 // What the one does in its line.
@@ -80,6 +108,8 @@ enum Line {
     BeGranted,
     GrantToItself,
     BeLate,
+    TakeTurns,
+    TakeTurnsAsPrimary,
 }
 
 // It does its line: whether all came out as it should.
@@ -95,6 +125,8 @@ fn do_line(
         Line::BeGranted => be_granted(hall, party),
         Line::GrantToItself => grant_to_itself(hall, party),
         Line::BeLate => be_late(hall, party),
+        Line::TakeTurns => take_turns(hall, party, 1),
+        Line::TakeTurnsAsPrimary => take_turns(hall, party, 0),
     }
 }
 
@@ -138,5 +170,64 @@ fn jumps_to_the_least_deadline(rt: HostRuntime) -> Result<(), Fail> {
     let right = go_and_come(&mut hall, 1, Line::BeLate);
     let plain = hall.into_plain();
     assert_eq!(rt; (right, plain.clock(), plain.fulls()), (true, 400, 0));
+    Ok(())
+}
+
+// The one of that number takes turns, and the first SYNC is lost.
+fn turn_by_turn(alloc: Global, me: u8, line: Line) -> Result<(bool, u64, u64), Fail>
+    requires { me < 2 }
+{
+    let mut plan = Plan::new(alloc);
+    add_message(&mut plan, MsgKind::Sync, false)?;
+    let mut hall = hall_of_two(alloc, &plan, me)?;
+    let right = go_and_come(&mut hall, me, line);
+    let plain = hall.into_plain();
+    Ok((right, plain.clock(), plain.fulls()))
+}
+
+#[test]
+fn jumps_in_a_turn_in_which_nothing_moves(rt: HostRuntime) -> Result<(), Fail> {
+    let ended = turn_by_turn(rt.alloc(), 1, Line::TakeTurns)?;
+    assert_eq!(rt; ended, (true, 500, 0));
+    Ok(())
+}
+
+#[test]
+fn jumps_to_the_deadline_of_its_own_round(rt: HostRuntime) -> Result<(), Fail> {
+    let ended = turn_by_turn(rt.alloc(), 0, Line::TakeTurnsAsPrimary)?;
+    assert_eq!(rt; ended, (true, 500, 0));
+    Ok(())
+}
+
+// Whether a table is of one that is attached, and has so many rows by so many records.
+fn has_rows(table: &Table, number: u64, rows: usize) -> bool {
+    table.joined && table.number == number && table.rows.len() == rows
+}
+
+// Each leaves its table once both are there.
+#[test]
+fn leaves_both_tables(rt: HostRuntime) -> Result<(), Fail> {
+    let plan = Plan::new(rt.alloc());
+    let mut hall = hall_of_two(rt.alloc(), &plan, 0)?;
+    let right = go_and_come(&mut hall, 0, Line::GrantToItself);
+    if !hall.has_all() {
+        return Err("both are there".into());
+    }
+    let end = hall.end(rt.alloc())?;
+    let whole = end.tables.iter().all(|table| has_rows(table, 1, 1));
+    assert_eq!(rt;
+        (right, whole, end.tables.len(), end.plain.clock()),
+        (true, true, 2, 0)
+    );
+    Ok(())
+}
+
+#[test]
+fn tells_that_one_is_away(rt: HostRuntime) -> Result<(), Fail> {
+    let plan = Plan::new(rt.alloc());
+    let mut hall = hall_of_two(rt.alloc(), &plan, 0)?;
+    let all = hall.has_all();
+    let gone = hall.away(1).is_some();
+    assert_eq!(rt; (all, gone, hall.has_all()), (true, true, false));
     Ok(())
 }

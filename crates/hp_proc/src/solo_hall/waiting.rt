@@ -1,5 +1,5 @@
 ghost use Rattle.std.specs.Prelude.{◌≡◌, ◌<◌, ◌≤◌, ℕ};
-ghost use Rattle.hp_proc.specs.Solo.{IsBeside, IsNotBeside, IsOutside};
+ghost use Rattle.hp_proc.specs.Solo.{IsBeside, IsBetween, IsNotBeside, IsOutside};
 
 use super::SoloHall;
 use super::serving::serve_range;
@@ -17,8 +17,10 @@ impl<'p, M: Mapper> Waiting for SoloHall<'p, M> {
       IsBeside,
       IsNextDue,
       IsNotBeside,
+      IsQuiet,
       IsServerAtRest,
       IsServing,
+      LooksLastAt,
       has_stopped,
       server_at,
       solo_weight,
@@ -38,10 +40,17 @@ impl<'p, M: Mapper> Waiting for SoloHall<'p, M> {
         ensures clock { self.new.plain.clock ≡ self.old.plain.clock }
         ensures goes_on { IsSoloCourse self.old self.new }
 
-        // It never fails. Those alone who stand on that side serve, and then each of them that has met no refusal rests.
+        // It never fails. Those alone who stand on that side serve. Each of them that has met no refusal rests then, and looked last into
+        // its mailbox, which was empty.
         ensures always { IsOk result }
         ensures serving { IsServing (IsNotBeside me above) self.old.plain self.new.plain }
+        ensures places { (who : ℕ) → IsNotBeside me above who → server_at self.new.servers who ≡ server_at self.old.servers who }
         ensures rests { (who : ℕ) → IsBeside me above who → IsServerAtRest self.new.plain.clock (server_at self.new.servers who) }
+        ensures looks { (who : ℕ) → IsBeside me above who
+            → LooksLastAt self.old.plain self.new.plain who (server_at self.new.servers who) }
+
+        // Where nothing moved, each of them that had met no refusal has looked into its mailbox once, and found it empty.
+        ensures quiet { result ≡ Ok false → IsQuiet (IsBeside me above) self.old self.new }
     {
         let (from, to) = apart(me as usize, above, self.servers.len());
         let moved = serve_range(&mut self.plain, &mut self.servers, from, to);
@@ -89,7 +98,8 @@ fn apart(me: usize, above: bool, count: usize) -> (usize, usize)
     requires { me < count }
     ensures within { result.1 ≤ count }
     ensures outside { (who : ℕ) → IsNotBeside me above who → IsOutside result.0 result.1 who }
-    ensures beside { (who : ℕ) → IsBeside me above who → who < count → (result.0 ≤ who) × (who < result.1) }
+    ensures beside { (who : ℕ) → IsBeside me above who → who < count → IsBetween result.0 result.1 who }
+    ensures between { (who : ℕ) → IsBetween result.0 result.1 who → IsBeside me above who }
 {
     if above { (me + 1, count) } else { (0, me) }
 }

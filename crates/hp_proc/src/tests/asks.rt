@@ -1,10 +1,11 @@
 //! Asks that come twice or are lost, and notices.
 
 use super::acts::{Act, play};
-use super::stage::{End, Shown, Stage};
-use super::{BASE, PAGE};
+use super::shown::End;
+use super::stage::{Shown, Stage};
+use super::{BASE, PAGE, add_message};
 use Act::*;
-use hp_base::{MsgKind, Plan, PlanEntry, Row};
+use hp_base::{MsgKind, Plan, Row};
 use hp_hall::Posted;
 use std::test::Fail;
 
@@ -17,21 +18,6 @@ const MAPPED: Row = Row {
     slot: 0,
     generation: 1,
 };
-
-// A plan of what becomes of a first message of participant 1.
-fn add_message(plan: &mut Plan, kind: MsgKind, twice: bool) -> Result<(), Fail> {
-    if !plan.entries().is_empty() {
-        return Err("an empty plan".into());
-    }
-    plan.add(PlanEntry::Message {
-        kind,
-        party: 1,
-        k: 1,
-        twice,
-        line: 5,
-    })?;
-    Ok(())
-}
 
 // The ALLOC comes twice: the second one is held while the round of the first is under way, and found to be stale.
 #[test]

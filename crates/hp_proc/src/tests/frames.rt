@@ -1,7 +1,8 @@
 //! Frames that say nothing, and a mailbox that is full.
 
 use super::acts::{Act, alloc_of, play, play_again};
-use super::stage::{End, Shown, Stage};
+use super::shown::End;
+use super::stage::{Shown, Stage};
 use Act::*;
 use hp_base::Plan;
 use hp_frame::Body;

@@ -1,7 +1,8 @@
 //! Growths that are granted, are late, or whose mapping fails.
 
 use super::acts::{Act, play};
-use super::stage::{End, Shown, Stage};
+use super::shown::End;
+use super::stage::{Shown, Stage};
 use super::{BASE, PAGE};
 use Act::*;
 use hp_base::{MapAnswer, Plan, PlanEntry, Row};
@@ -9,7 +10,7 @@ use hp_hall::Posted;
 use std::test::Fail;
 
 // The first page of the first list, where the first record mapped it.
-const FIRST_ROW: Row = Row {
+pub(super) const FIRST_ROW: Row = Row {
     addr: BASE,
     page: PAGE,
     socket: 0,

@@ -2,13 +2,14 @@
 ghost use Rattle.std.specs.Prelude.{◌≡◌, ◌<◌, ℕ, []};
 ghost use Rattle.hp_hall.specs.Holding.{IsArmed, owned_by};
 
-use super::{armed_segs, member, retired_segs, vacant_heaps};
+use super::shown::{End, SegsShown, shown_in};
+use super::{armed_segs, empty_heaps, member, retired_segs};
 use crate::Participant;
 use crate::calls::{put_back, take_segments};
-use hp_base::{Action, MapAnswer, MemMapper, Plan, Row};
+use hp_base::{Action, MemMapper, Plan, Row};
 use hp_frame::Frame;
 use hp_hall::{Hall, PlainHall, Posted};
-use hp_segs::{AskLog, Cause, Outcome, Segs};
+use hp_segs::Segs;
 use std::alloc::{AllocError, Global};
 use std::marker::Model;
 use std::test::Fail;
@@ -36,19 +37,6 @@ impl<'p> Model for Stage<'p> {
     ghost invariant = { λ a. (length a.hall.owns ≡ 2) × AreHome a.hall × IsTiedAt a.hall 0 a.primary × IsTiedAt a.hall 1 a.secondary };
 }
 
-// How an ask ended.
-#[derive(Clone, Copy, Debug, PartialEq, Eq)]
-pub(super) enum End {
-    Granted(u64),
-    Freed(u64),
-    Stale(u64),
-    // The participant's mapping call of that number, for the page at that address, was answered so.
-    MapFailed(u8, u64, u64, MapAnswer),
-    // The participant had not acknowledged between these readings.
-    Late(u8, u64, u64),
-    Other,
-}
-
 // What the segment value and the tables show.
 #[derive(Clone, Copy, Debug, PartialEq, Eq)]
 pub(super) struct Shown {
@@ -72,7 +60,7 @@ impl<'p> Stage<'p> {
     {
         let primary = member(alloc, 0, plan)?;
         let secondary = member(alloc, 1, plan)?;
-        let heaps = vacant_heaps(alloc)?;
+        let heaps = empty_heaps(alloc)?;
         let hall = PlainHall::new(alloc, 2, heaps, segs)?;
         Ok(Stage {
             hall,
@@ -153,75 +141,34 @@ impl<'p> Stage<'p> {
         self.hall.load_ack(1 - who, who)
     }
 
+    // Both end.
+    pub(super) fn end(self, alloc: Global) -> Result<(crate::End, crate::End), AllocError> {
+        let Stage {
+            primary,
+            secondary,
+            ..
+        } = self;
+        Ok((primary.end(alloc)?, secondary.end(alloc)?))
+    }
+
     // What the segment value shows.
-    fn look(&mut self) -> (usize, u64, usize, Option<(u8, u64, End)>) {
+    fn look(&mut self) -> SegsShown {
         let segs = take_segments(&mut self.hall, 0);
-        let seen = seen_in(&segs);
+        let shown = shown_in(&segs);
         put_back(&mut self.hall, 0, segs);
-        seen
+        shown
     }
 
     // What the segment value and the tables show.
     pub(super) fn shown(&mut self) -> Shown {
-        let (records, left, outcomes, last) = self.look();
+        let segs = self.look();
         Shown {
-            records,
+            records: segs.records,
             numbers: (self.number_of(0), self.number_of(1)),
-            left,
+            left: segs.left,
             rows: self.rows(),
-            outcomes,
-            last,
+            outcomes: segs.outcomes,
+            last: segs.last,
         }
-    }
-}
-
-// How many records there are, and free pages, and outcomes, and the last of these.
-fn seen_in(segs: &Segs) -> (usize, u64, usize, Option<(u8, u64, End)>) {
-    let asks = segs.asks();
-    (
-        segs.records().len(),
-        pages_left(segs),
-        asks.len(),
-        asks.last().map(ended),
-    )
-}
-
-// The free pages of the first pool.
-fn pages_left(segs: &Segs) -> u64 {
-    if segs.pools().is_empty() {
-        0
-    } else {
-        segs.pages_left(0)
-    }
-}
-
-// Whose ask of which number ended, and how.
-fn ended(entry: &AskLog) -> (u8, u64, End) {
-    (entry.from, entry.number, end_of(&entry.outcome))
-}
-
-fn end_of(outcome: &Outcome) -> End {
-    match outcome {
-        Outcome::Granted { generation } => End::Granted(*generation),
-        Outcome::Freed { generation } => End::Freed(*generation),
-        Outcome::Stale { done } => End::Stale(*done),
-        Outcome::Refused { cause } => end_for(cause),
-    }
-}
-
-fn end_for(cause: &Cause) -> End {
-    match cause {
-        Cause::MapFailed {
-            participant,
-            call,
-            addr,
-            got,
-        } => End::MapFailed(*participant, *call, *addr, *got),
-        Cause::Late {
-            participant,
-            from,
-            to,
-        } => End::Late(*participant, *from, *to),
-        _ => End::Other,
     }
 }

@@ -1,8 +1,13 @@
-use Rattle.std.proofs.Common.{◌≡◌, ℕ, Bool, true, false, Result, Ok, Err, refl, sym, subst, arith}
+use Rattle.std.proofs.Common.{◌≡◌, ℕ, Bool, true, false, Result, Ok, Err, [], ◌∷◌, ◌++◌, None, refl, sym, ap, subst, ◌∙◌, arith}
 use Rattle.hp_base.specs.declared.limits.TheConstants.{MAX_HEAPS}
-use Rattle.hp_hall.specs.HallView.{own_at, seen_in}
+use Rattle.hp_hall.specs.Course.{done_same, done_then}
+use Rattle.hp_hall.specs.HallView.{HallView, HasDone, own_at, seen_in}
+use Rattle.hp_hall.specs.Mail.{Fetches}
 use Rattle.hp_proc.specs.Falling.{served_of}
+use Rattle.hp_proc.specs.Party.{Party}
+use Rattle.hp_proc.specs.Solo.{FindsNothing}
 use Rattle.hp_proc.specs.Tied.{IsTied}
+use Rattle.hp_proc.proofs.SoloLooks.{last_behind}
 use Rattle.hp_proc.proofs.SoloTies.{party_served_same, party_served_then}
 use Rattle.hp_proc.proofs.server.serve_out.Goals as goal
 
@@ -16,6 +21,9 @@ pub serving-init : goal.serving-init
 serving-init g c = record {
   served = party_served_same c.args.hall.now c.args.participant.now c.requires.tied;
   weight = omega arith;
+  did = ([], done_same c.args.hall.now c.args.participant.now.me);
+  still_hall = λ still. refl;
+  still_party = λ still. refl;
 }
 
 pub serve_once-requires : goal.serve_once-requires
@@ -49,4 +57,37 @@ serving-preserved g c = record {
     c.serve_once.ensures.weight,
     served_more c.serve_once.result c.in_ok-more.more c.in_ok-more.was c.if-not-more.false,
   );
+  did = (
+    c.serving.invariant.did.0 ++ c.serve_once.ensures.did.0,
+    done_then c.args.hall.now c.serving.hall c.serve_once.new.hall c.args.participant.now.me c.serving.invariant.did.0 c.serve_once.ensures.did.0
+        c.serving.invariant.did.1
+        (subst (λ (who : ℕ). HasDone c.serving.hall c.serve_once.new.hall who c.serve_once.ensures.did.0) c.serving.invariant.served.same.me
+        c.serve_once.ensures.did.1),
+  );
+  still_hall = λ still. cc;
+  still_party = λ still. cc;
 }
+
+pub returns-then-not-more-clause-idle : goal.returns-then-not-more-clause-idle
+returns-then-not-more-clause-idle g c = λ nothing.
+    let still : c.serving.moved ≡ false = cc in
+    c.serve_once.ensures.idle (c.in_ok-more.was ∙ ap Ok c.if-not-more.true) ∙ c.serving.invariant.still_party still
+
+pub returns-then-not-more-clause-found : goal.returns-then-not-more-clause-found
+returns-then-not-more-clause-found g c = λ nothing.
+    let still : c.serving.moved ≡ false = cc in
+    let hall = c.serving.hall in
+    let new = c.serve_once.new.hall in
+    let me = c.args.participant.now.me in
+    subst (λ (before : HallView). FindsNothing before new me) (c.serving.invariant.still_hall still)
+    (subst (λ (party : Party). FindsNothing hall new party.me) (c.serving.invariant.still_party still)
+    (c.serve_once.ensures.found (c.in_ok-more.was ∙ ap Ok c.if-not-more.true)))
+
+pub returns-then-not-more-clause-looks : goal.returns-then-not-more-clause-looks
+returns-then-not-more-clause-looks g c =
+    let did = c.serving.invariant.did in
+    let hall = c.serving.hall in
+    let new = c.serve_once.new.hall in
+    let found = c.serve_once.ensures.found (c.in_ok-more.was ∙ ap Ok c.if-not-more.true) in
+    last_behind c.args.hall.now hall new c.args.participant.now.me did.0 did.1
+    ([], subst (λ (who : ℕ). HasDone hall new who (Fetches None ∷ [])) c.serving.invariant.served.same.me found.did)

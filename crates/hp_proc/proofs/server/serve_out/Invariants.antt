@@ -1,4 +1,6 @@
-use Rattle.std.proofs.Common.{◌+◌, ◌≤◌, Some}
+use Rattle.std.proofs.Common.{◌≡◌, ◌+◌, ◌≤◌, List, Some, false}
+use Rattle.hp_hall.specs.HallView.{HasDone}
+use Rattle.hp_hall.specs.Mail.{MailStep}
 use Rattle.hp_hall.specs.Weights.{boxes_weight, pending_at}
 use Rattle.hp_proc.specs.Solo.{IsPartyServed, if_moved, party_weight}
 use Rattle.hp_proc.proofs.server.serve_out.Given as goal
@@ -8,6 +10,9 @@ invariant-serving g l = record {
   served : IsPartyServed l.initial.hall l.hall l.initial.participant l.participant;
   weight : boxes_weight l.hall.boxes + party_weight (pending_at l.hall.clock) (Some l.participant) + if_moved l.moved
       ≤ boxes_weight l.initial.hall.boxes + party_weight (pending_at l.initial.hall.clock) (Some l.initial.participant);
+  did : (steps : List MailStep) × HasDone l.initial.hall l.hall l.initial.participant.me steps;
+  still_hall : l.moved ≡ false → l.hall ≡ l.initial.hall;
+  still_party : l.moved ≡ false → l.participant ≡ l.initial.participant;
 }
 
 abbrev pub decreases-serving : goal.decreases-serving

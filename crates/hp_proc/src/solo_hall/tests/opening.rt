@@ -1,37 +1,28 @@
-//! A hall of two participants, who are both there, and of whom one is armed with an ask.
-ghost use Rattle.std.specs.Prelude.{◌≡◌, ◌<◌, ℕ, IfOk, OnOk, length};
+//! Halls of two participants, who are both there.
+ghost use Rattle.std.specs.Prelude.{◌≡◌, ◌<◌, ℕ, [], IfOk, OnOk, length};
 ghost use Rattle.hp_base.specs.declared.limits.TheConstants.{MAX_HEAPS};
 ghost use Rattle.hp_hall.specs.HallView.{IsHome, own_at, slot_at};
+ghost use Rattle.hp_hall.specs.Holding.{IsArmed, owned_by};
+ghost use Rattle.hp_proc.specs.SoloAsks.{IsOpening, MayBeginToAsk};
 ghost use Rattle.hp_proc.specs.Tied.{nothing_yet};
 
 use super::super::SoloHall;
-use crate::tests::{armed_segs, member, vacant_heaps};
+use crate::tests::{armed_segs, empty_heaps, member, opening_segs};
 use hp_base::{MemMapper, Plan};
 use hp_hall::PlainHall;
+use hp_segs::Segs;
 use std::alloc::{AllocError, Global};
 use std::test::Fail;
 
 // Their plain values.
-fn plain_hall(alloc: Global, asker: u8) -> Result<PlainHall, Fail>
-    requires { asker < 2 }
-    ensures two { IfOk result (λ hall. length hall.owns ≡ 2) }
-    ensures home { IfOk result (λ hall. IsHome (slot_at hall MAX_HEAPS)) }
-    ensures nothing_yet { IfOk result (λ hall. (who : ℕ) → own_at hall who ≡ nothing_yet) }
+fn plain_hall(alloc: Global, segs: Segs) -> Result<PlainHall, AllocError>
+    requires armed { IsArmed segs }
+    requires unowned { (heap : ℕ) → owned_by heap segs ≡ [] }
+    ensures opening { IfOk result (IsOpening segs) }
 {
-    let segs = armed_segs(alloc, asker)?;
-    let heaps = vacant_heaps(alloc)?;
-    Ok(PlainHall::new(alloc, 2, heaps, segs)?)
-}
-
-// A hall from which both are away.
-fn vacant_hall<'p>(alloc: Global, asker: u8) -> Result<SoloHall<'p, MemMapper>, Fail>
-    requires { asker < 2 }
-    ensures two { IfOk result (λ hall. length hall.plain.owns ≡ 2) }
-    ensures home { IfOk result (λ hall. IsHome (slot_at hall.plain MAX_HEAPS)) }
-    ensures nothing_yet { IfOk result (λ hall. (who : ℕ) → own_at hall.plain who ≡ nothing_yet) }
-{
-    let plain = plain_hall(alloc, asker)?;
-    Ok(SoloHall::new(alloc, plain)?)
+    let heaps = empty_heaps(alloc)?;
+    let hall = PlainHall::new(alloc, 2, heaps, segs)?;
+    Ok(hall)
 }
 
 // The one of a number comes.
@@ -51,6 +42,23 @@ fn come<'p>(
     Ok(())
 }
 
+// A hall over that segment value, in which both are there.
+fn hall_over<'p>(
+    alloc: Global,
+    plan: &'p Plan,
+    segs: Segs,
+) -> Result<SoloHall<'p, MemMapper>, AllocError>
+    requires armed { IsArmed segs }
+    requires unowned { (heap : ℕ) → owned_by heap segs ≡ [] }
+    ensures opening { IfOk result (λ hall. IsOpening segs hall.plain) }
+{
+    let plain = plain_hall(alloc, segs)?;
+    let mut hall = SoloHall::new(alloc, plain)?;
+    come(&mut hall, alloc, plan, 0)?;
+    come(&mut hall, alloc, plan, 1)?;
+    Ok(hall)
+}
+
 /// A hall of the two, in which both are there, and `asker` is armed with its first ask.
 pub fn hall_of_two<'p>(
     alloc: Global,
@@ -61,8 +69,19 @@ pub fn hall_of_two<'p>(
     ensures two { IfOk result (λ hall. length hall.plain.owns ≡ 2) }
     ensures home { IfOk result (λ hall. IsHome (slot_at hall.plain MAX_HEAPS)) }
 {
-    let mut hall = vacant_hall(alloc, asker)?;
-    come(&mut hall, alloc, plan, 0)?;
-    come(&mut hall, alloc, plan, 1)?;
-    Ok(hall)
+    let segs = armed_segs(alloc, asker)?;
+    Ok(hall_over(alloc, plan, segs)?)
+}
+
+/// A hall of the two, in which both are there, and nobody has asked.
+pub fn hall_for_asks<'p>(
+    alloc: Global,
+    plan: &'p Plan,
+) -> Result<SoloHall<'p, MemMapper>, AllocError>
+    ensures two { IfOk result (λ hall. length hall.plain.owns ≡ 2) }
+    ensures home { IfOk result (λ hall. IsHome (slot_at hall.plain MAX_HEAPS)) }
+    ensures begins { IfOk result (λ hall. (who : ℕ) → MayBeginToAsk hall.plain who) }
+{
+    let segs = opening_segs(alloc)?;
+    hall_over(alloc, plan, segs)
 }

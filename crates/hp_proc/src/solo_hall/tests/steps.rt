@@ -8,10 +8,10 @@ use crate::calls::{put_back, take_segments};
 use crate::framing::framed;
 use crate::participant::Participant;
 use crate::tests::PAGE;
+use crate::tests::shown::{End, SegsShown, shown_in};
 use hp_base::{Action, MemMapper};
 use hp_frame::Body;
 use hp_hall::{Hall, Posted, Waiting};
-use hp_segs::{Cause, Outcome, Segs};
 use std::alloc::AllocError;
 
 /// It posts its first ask to participant 0, as one of that number.
@@ -95,6 +95,48 @@ fn pause_before(hall: &mut SoloHall<'_, MemMapper>, party: &Participant<'_, MemM
     }
 }
 
+// A turn of a wait until a deadline that is still to come.
+fn turn_until(
+    hall: &mut SoloHall<'_, MemMapper>,
+    party: &mut Participant<'_, MemMapper>,
+    until: u64,
+) -> Result<bool, AllocError>
+    requires may { MayWait hall.old party.old }
+    requires before { pending_at hall.old.plain.clock until ≡ 1 }
+    ensures may { MayWait hall.new party.new }
+{
+    party.turn(hall, until)
+}
+
+// A turn of a wait until a deadline. Where that is not to come, it counts as one in which something moved.
+fn turn_before(
+    hall: &mut SoloHall<'_, MemMapper>,
+    party: &mut Participant<'_, MemMapper>,
+    until: u64,
+) -> Result<bool, AllocError>
+    requires may { MayWait hall.old party.old }
+    ensures may { MayWait hall.new party.new }
+{
+    if read(hall, party) < until {
+        turn_until(hall, party, until)
+    } else {
+        Ok(true)
+    }
+}
+
+/// It takes a turn of a wait until a deadline that is still to come: whether something moved, and the reading of its clock afterwards.
+pub fn take_turn(
+    hall: &mut SoloHall<'_, MemMapper>,
+    party: &mut Participant<'_, MemMapper>,
+    until: u64,
+) -> Result<(bool, u64), AllocError>
+    requires may { MayWait hall.old party.old }
+    ensures may { MayWait hall.new party.new }
+{
+    let moved = turn_before(hall, party, until)?;
+    Ok((moved, read(hall, party)))
+}
+
 /// It pauses where nothing moved, up to a deadline that is still to come: the reading of its clock afterwards.
 pub fn pause(
     hall: &mut SoloHall<'_, MemMapper>,
@@ -138,44 +180,26 @@ pub fn acks(hall: &mut SoloHall<'_, MemMapper>, party: &Participant<'_, MemMappe
     (first, own)
 }
 
-/// How an ask ended.
-#[derive(Clone, Copy, Debug, PartialEq, Eq)]
-pub enum End {
-    Granted,
-    // Who was late, and the readings between which it was.
-    Late(u8, u64, u64),
-    Other,
-}
-
-// How the first ask of a segment value ended.
-fn first_end(segs: &Segs) -> End {
-    let Some(entry) = segs.asks().first() else {
-        return End::Other;
-    };
-    match entry.outcome {
-        Outcome::Granted { .. } => End::Granted,
-        Outcome::Refused {
-            cause: Cause::Late {
-                participant,
-                from,
-                to,
-            },
-        } => End::Late(participant, from, to),
-        _ => End::Other,
-    }
-}
-
-/// It takes the segment value, looks how the first ask ended and how many records there are, and gives the value back.
-pub fn outcome(
-    hall: &mut SoloHall<'_, MemMapper>,
-    party: &Participant<'_, MemMapper>,
-) -> (End, usize)
+/// It takes the segment value, looks what that shows, and gives it back.
+pub fn look(hall: &mut SoloHall<'_, MemMapper>, party: &Participant<'_, MemMapper>) -> SegsShown
     requires may { MayWait hall.old party.now }
     ensures may { MayWait hall.new party.now }
 {
     let me = party.number();
     let segs = take_segments(hall, me);
-    let seen = (first_end(&segs), segs.records().len());
+    let shown = shown_in(&segs);
     put_back(hall, me, segs);
-    seen
+    shown
+}
+
+/// How the last ask ended, with the number of its participant and its own, and how many records there are.
+pub fn outcome(
+    hall: &mut SoloHall<'_, MemMapper>,
+    party: &Participant<'_, MemMapper>,
+) -> (Option<(u8, u64, End)>, usize)
+    requires may { MayWait hall.old party.now }
+    ensures may { MayWait hall.new party.now }
+{
+    let shown = look(hall, party);
+    (shown.last, shown.records)
 }

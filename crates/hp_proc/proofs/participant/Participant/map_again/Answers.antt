@@ -20,6 +20,7 @@ returns-clause-mapped g c =
       asked = c.self.inside.asked;
       answered = c.self.inside.answered;
       sent = c.self.inside.sent;
+      context = c.self.inside.context;
     } in
     let mapped = c.map_self.ensures.mapped in
     let is : c.self.inside.coordinator ≡ Some c.in-Some.core = cc in (

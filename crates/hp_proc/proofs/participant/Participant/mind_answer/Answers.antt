@@ -27,4 +27,4 @@ returns-clause-tied g c =
 
 pub returns-clause-same : goal.returns-clause-same
 returns-clause-same g c =
-    subst (IsSameParty c.args.self.now) (sym c.hear.ensures) (record { me = refl; socket = refl; plan = refl; deadline = refl })
+    subst (IsSameParty c.args.self.now) (sym c.hear.ensures) (record { me = refl; socket = refl; plan = refl; deadline = refl; context = refl })

@@ -46,6 +46,7 @@ returns-clause-posted g c =
       asked = c.self.inside.asked;
       answered = c.self.inside.answered;
       sent = c.self.inside.sent;
+      context = c.self.inside.context;
     } in
     let posted = c.post_next.ensures.posted in
     let below : c.args.to < g.H.Hall.count c.args.hall.now =

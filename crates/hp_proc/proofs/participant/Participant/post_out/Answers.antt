@@ -19,6 +19,7 @@ returns-in-Sync-clause-posted g c =
       asked = c.self.inside.asked;
       answered = c.self.inside.answered;
       sent = c.self.inside.sent;
+      context = c.self.inside.context;
     } in
     let told = c.tell_all.ensures.told in (
       told.1,

@@ -76,7 +76,7 @@ loop-time-preserved g c =
       );
       weight = omega (arith, scaled, before, falls);
       same = same_then c.args.self.now c.loop-time.self c.serve.new.self was.same
-          (record { me = is.me; socket = is.socket; plan = is.plan; deadline = is.deadline });
+          (record { me = is.me; socket = is.socket; plan = is.plan; deadline = is.deadline; context = is.context });
       tied = subst (λ (who : ℕ). IsTied (g.H.Hall.seen c.serve.new.hall who) (g.H.Hall.own c.serve.new.hall who) c.serve.new.self.joined
           c.serve.new.self.maps) me is.tied;
       taken = λ number. is.taken number ∙ was.taken number;
@@ -123,7 +123,7 @@ pub returns-in_err-more-clause-same : goal.returns-in_err-more-clause-same
 returns-in_err-more-clause-same g c =
     let is = c.serve.ensures in
     same_then c.args.self.now c.loop-time.self c.serve.new.self c.loop-time.invariant.same
-    (record { me = is.me; socket = is.socket; plan = is.plan; deadline = is.deadline })
+    (record { me = is.me; socket = is.socket; plan = is.plan; deadline = is.deadline; context = is.context })
 
 pub returns-in_err-more-clause-goes_on : goal.returns-in_err-more-clause-goes_on
 returns-in_err-more-clause-goes_on g c = g.met.H.Hall.goes_on_then _ _ _ c.loop-time.invariant.goes_on c.serve.ensures.goes_on
@@ -163,7 +163,7 @@ pub returns-then-not-more-clause-same : goal.returns-then-not-more-clause-same
 returns-then-not-more-clause-same g c =
     let is = c.serve.ensures in
     same_then c.args.self.now c.loop-time.self c.serve.new.self c.loop-time.invariant.same
-    (record { me = is.me; socket = is.socket; plan = is.plan; deadline = is.deadline })
+    (record { me = is.me; socket = is.socket; plan = is.plan; deadline = is.deadline; context = is.context })
 
 pub returns-then-not-more-clause-goes_on : goal.returns-then-not-more-clause-goes_on
 returns-then-not-more-clause-goes_on g c = g.met.H.Hall.goes_on_then _ _ _ c.loop-time.invariant.goes_on c.serve.ensures.goes_on

@@ -1,10 +1,13 @@
 -- One that served stands where it stood, and all others stay.
-use Rattle.std.proofs.Common.{◌≡◌, length, Some, refl, sym, subst, arith, length-set}
+use Rattle.std.proofs.Common.{◌≡◌, length, Some, refl, sym, ap, subst, ◌∙◌, arith, length-set}
 use Rattle.std.specs.List.{slice_get}
 use Rattle.std.proofs.lemmas.Option.{slice_get_read}
 use Rattle.hp_hall.proofs.Slotted.{slice_get-set_other, slice_get-set_same}
-use Rattle.hp_proc.specs.Solo.{IsServerAtRest}
-use Rattle.hp_proc.proofs.SoloTies.{served_one, tied_in}
+use Rattle.hp_proc.specs.Party.{Party}
+use Rattle.hp_proc.specs.Solo.{IsServerAtRest, LooksLastAt, party_in}
+use Rattle.hp_proc.proofs.SoloLooks.{last_one}
+use Rattle.hp_proc.proofs.SoloQuiet.{quiet_one}
+use Rattle.hp_proc.proofs.SoloTies.{served_later, served_one, tied_in}
 use Rattle.hp_proc.proofs.SoloWeights.{served_falls}
 use Rattle.hp_proc.proofs.solo_hall.serving.serve_at.Goals as goal
 
@@ -26,6 +29,8 @@ returns g c =
     let there : slice_get servers c.args.number ≡ Some server =
     slice_get_read servers (length servers) c.args.number server refl c.requires.within c.index_mut-server.ensures.value in
     let one = served_one old new servers c.args.number server after there c.requires.tied c.serve.ensures.served c.serve.ensures.stopped in
+    let numbered : (party : Party) → server.party ≡ Some party → party.me ≡ c.args.number =
+    λ party is. (c.requires.tied c.args.number party (ap party_in there ∙ is)).number in
     record {
       serving = one.serving;
       tied = one.tied;
@@ -34,4 +39,11 @@ returns g c =
       weight = served_falls old new servers c.args.number server after c.serve.result there one.serving.clock c.serve.ensures.weight;
       others = λ who apart. slice_get-set_other servers c.args.number who after apart;
       rests = subst (IsServerAtRest new.clock) (sym (slice_get-set_same servers c.args.number after c.requires.within)) c.serve.ensures.rests;
+      looks = subst (LooksLastAt old new c.args.number) (sym (slice_get-set_same servers c.args.number after c.requires.within))
+          (λ going some.
+          last_one old new c.args.number server.party after.party numbered (served_later old new server.party after.party c.serve.ensures.served)
+          (c.serve.ensures.looks going) some);
+      quiet = λ nothing.
+          quiet_one old new servers c.args.number server after there numbered
+          (c.serve.ensures.idle nothing) (c.serve.ensures.found nothing);
     }

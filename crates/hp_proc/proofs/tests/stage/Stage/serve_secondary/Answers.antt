@@ -32,7 +32,7 @@ invariant_of-self c =
         did = is.did_others;
         clock = is.clock;
       };
-      same = record { me = is.me; socket = is.socket; plan = is.plan; deadline = is.deadline };
+      same = record { me = is.me; socket = is.socket; plan = is.plan; deadline = is.deadline; context = is.context };
       tied = is.tied;
     })
     c.self.invariant

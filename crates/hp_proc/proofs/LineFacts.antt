@@ -1,0 +1,199 @@
+-- What is known when a line begins, where no request of it was accepted so far, and what a line leaves that brings no element.
+use Rattle.std.proofs.Common.{◌≡◌, ◌∙◌, ℕ, ◌^◌, ◌<◌, Bool, true, false, cond, not, ◌||◌, ◌==◌, List, [], ◌++◌, append-nil, Option, Some, None, refl, ap, sym, subst, arith}
+use Rattle.std.specs.Prelude.{find, nat_le, ⊤}
+use Rattle.std.proofs.lemmas.Bool.{leb-false}
+use Rattle.std.proofs.lemmas.Bool.Decides.{nat_tests}
+use Rattle.hp_base.proofs.RequestLemmas.{accepted_is}
+use Rattle.hp_base.specs.Requests.{IsAccepted, is_align, is_bound, is_too_large, raised_align, refusal_of, rounded_size}
+use Rattle.hp_base.specs.Round.{fitting}
+use Rattle.hp_base.specs.declared.request.BadRequest.{BadRequest}
+use Rattle.hp_base.specs.declared.request.BadRequest.TheVariants as bad
+use Rattle.hp_base.specs.declared.request.Request.{Request}
+use Rattle.hp_hall.specs.Mail.{MailStep}
+use Rattle.hp_script.specs.Acts.{label_used}
+use Rattle.hp_script.specs.declared.answer.Answer.{Answer}
+use Rattle.hp_script.specs.declared.answer.Answer.TheVariants as answer
+use Rattle.hp_script.specs.declared.line.Act.{Act}
+use Rattle.hp_script.specs.declared.line.Act.TheVariants as act
+use Rattle.hp_script.specs.declared.line.Line.{Line}
+use Rattle.hp_script.specs.declared.options.Options.{Options}
+use Rattle.hp_proc.specs.Contexts.{AreFactsOf, Context}
+use Rattle.hp_proc.specs.Courses.{HasRequest, IsRequestFor, Standing, after_line, attached_after, element_brought, heap_of_element, maker_for, records_after}
+use Rattle.hp_proc.specs.Doing.{Doing, Done}
+use Rattle.hp_proc.specs.Heaps.{has_name, socket_heaps}
+use Rattle.hp_proc.proofs.Joining.{does_same}
+use Rattle.hp_proc.specs.Freeing.{freeing, if_sized, looking, resize_refusal, resizing_to}
+use Rattle.hp_proc.specs.Lines.{Facts, allocating, doing_of, dumping, if_attached, on_element, tag_of}
+use Rattle.hp_proc.specs.Party.{IsSameParty, Party, with_calls}
+use Rattle.hp_proc.specs.Progress.{Does, DoesLine, IsLineOfOne, Moment}
+
+-- a test that refuses nothing fails, and the next ones refuse nothing
+refusing : (test : Bool) (kind : BadRequest) (rest : Option BadRequest) → cond test (Some kind) rest ≡ None → (test ≡ false) × (rest ≡ None)
+refusing true kind rest none = cc
+refusing false kind rest none = (refl, none)
+
+last_test : (test : Bool) → cond test None (Some bad.Bound) ≡ None → test ≡ true
+last_test true none = refl
+last_test false none = cc
+
+both_false : (a b : Bool) → (a || b) ≡ false → (a ≡ false) × (b ≡ false)
+both_false true b is = cc
+both_false false b is = (refl, is)
+
+not_false : (b : Bool) → not b ≡ false → b ≡ true
+not_false true is = refl
+not_false false is = cc
+
+fits_so : (n : ℕ) → n < 2 ^ 64 → Some n ≡ fitting n
+fits_so n below = grind (arith, nat_tests)
+
+-- what is not refused is accepted
+accepted_so : (size align bound : ℕ) → refusal_of size align bound ≡ None → IsAccepted (rounded_size size) (raised_align align) bound
+accepted_so size align bound none =
+    let some = refusing (size == 0) bad.Zero _ none in
+    let fits = refusing (is_too_large size align) bad.Overflow _ some.1 in
+    let aligns = refusing (not (is_align align)) bad.Align _ fits.1 in
+    let block = last_test (is_bound (rounded_size size) bound) aligns.1 in
+    let small = both_false (nat_le (2 ^ 64) (rounded_size size)) _ fits.0 in
+    let positive : 0 < size = grind (arith, nat_tests, some.0) in
+    accepted_is size (rounded_size size) align (raised_align align) bound positive
+    (fits_so (rounded_size size) (leb-false (2 ^ 64) (rounded_size size) small.0)) refl (not_false (is_align align) aligns.0) block small.1
+
+request_by : (size : ℕ) (options : Options) (refusal : Option BadRequest) → refusal_of size options.align options.bound ≡ refusal
+    → (request : Option Request) × (refusal ≡ None → (accepted : Request) × (request ≡ Some accepted) × IsRequestFor size options accepted)
+request_by size options (Some kind) is = (None, λ none. cc)
+request_by size options None is =
+    let request : Request = record {
+      size = rounded_size size;
+      align = raised_align options.align;
+      bound = options.bound;
+      flags = options.flags;
+      accepted = accepted_so size options.align options.bound is;
+    } in
+    (Some request, λ none. (request, refl, record { size_is = refl; align_is = refl; bound_is = refl; flags_are = refl }))
+
+-- each line of a participant that is alone has its request, where it is one that has one
+pub has_request : (deed : Act) → IsLineOfOne deed → (request : Option Request) × HasRequest deed request
+has_request (act.Alloc label size options) built = request_by size options (refusal_of size options.align options.bound) refl
+has_request (act.Free label) built = (None, tt)
+has_request (act.Resize label size) built = (None, tt)
+has_request (act.Dump heap) built = (None, tt)
+has_request _ built = absurd built
+
+-- what is known when a line begins
+abbrev pub facts_for : ℕ → Context → Act → Option Request → Facts
+facts_for socket context deed request = record {
+  attached = context.standing.attached;
+  own_socket = socket;
+  pools = context.pools;
+  named = socket_heaps context.pools;
+  request = request;
+  maker = maker_for context.lines (label_used deed);
+  own_heap = heap_of_element context.pools context.standing.elements (maker_for context.lines (label_used deed));
+}
+
+pub facts_known : (socket : ℕ) (context : Context) (line : Line) (request : Option Request) → HasRequest line.act request
+    → AreFactsOf socket context line (facts_for socket context line.act request)
+facts_known socket context line request has = record {
+  attached = refl;
+  own_socket = refl;
+  pools = refl;
+  named = refl;
+  request = has;
+  maker = refl;
+  own_heap = refl;
+}
+
+-- a line that brings no element leaves what earlier lines left
+abbrev pub BringsNone : Act → Type 0
+BringsNone (act.Free label) = ⊤
+BringsNone (act.Resize label size) = ⊤
+BringsNone (act.Dump heap) = ⊤
+BringsNone _ = ⊥
+
+leaves_standing : (line : Line) (deed : Act) → BringsNone deed → (given : Answer) (trace : List Done) (standing : Standing)
+    → record {
+      attached = attached_after deed given standing.attached;
+      records = records_after deed given standing.records;
+      elements = standing.elements ++ element_brought line deed given trace;
+    } ≡ standing
+leaves_standing line (act.Free label) none given trace standing =
+    ap (λ elements. record standing { elements = elements }) (append-nil standing.elements)
+leaves_standing line (act.Resize label size) none given trace standing =
+    ap (λ elements. record standing { elements = elements }) (append-nil standing.elements)
+leaves_standing line (act.Dump heap) none given trace standing =
+    ap (λ elements. record standing { elements = elements }) (append-nil standing.elements)
+leaves_standing line _ none given trace standing = absurd none
+
+-- so does one that is answered by who is not attached
+detached_leaves : (line : Line) (deed : Act) → IsLineOfOne deed → (trace : List Done) (standing : Standing)
+    → record {
+      attached = attached_after deed answer.Detached standing.attached;
+      records = records_after deed answer.Detached standing.records;
+      elements = standing.elements ++ element_brought line deed answer.Detached trace;
+    } ≡ standing
+detached_leaves line (act.Alloc label size options) built trace standing =
+    ap (λ elements. record standing { elements = elements }) (append-nil standing.elements)
+detached_leaves line (act.Free label) built trace standing =
+    ap (λ elements. record standing { elements = elements }) (append-nil standing.elements)
+detached_leaves line (act.Resize label size) built trace standing =
+    ap (λ elements. record standing { elements = elements }) (append-nil standing.elements)
+detached_leaves line (act.Dump heap) built trace standing =
+    ap (λ elements. record standing { elements = elements }) (append-nil standing.elements)
+detached_leaves line _ built trace standing = absurd built
+
+module _ (before after : Party) (same : IsSameParty (with_calls after.context.calls before) after) (line : Line) (given : Answer)
+    (trace : List Done) where
+  standing_is : after.context.standing ≡ before.context.standing
+  standing_is = ap (λ (context : Context). context.standing) same.context
+
+  -- what a line left that brings no element
+  pub left_behind : (deed : Act) → line.act ≡ deed → BringsNone deed
+      → after.context.standing ≡ after_line line given trace before.context.standing
+  left_behind deed is none = standing_is
+      ∙ sym (leaves_standing line line.act (subst BringsNone (sym is) none) given trace before.context.standing)
+
+-- a line that brings no element was done, by what was known of it
+pub line_done : (count : ℕ) (did : List MailStep → Type 0) (line : Line) (given : Answer) (old new : Moment) (facts : Facts) (deed : Act)
+    → AreFactsOf old.party.socket old.party.context line facts
+    → Does count did (doing_of line line.act facts) (Doing.Ended given) old new
+    → IsSameParty (with_calls new.party.context.calls old.party) new.party → line.act ≡ deed → BringsNone deed
+    → DoesLine count did line given old new
+line_done count did line given old new facts deed known does same is none = record {
+  facts = facts;
+  known = known;
+  does = does;
+  left = left_behind old.party new.party same line given does.trace deed is none;
+}
+
+-- the tree of a line whose participant is not attached
+detached_ends : (line : Line) (deed : Act) → IsLineOfOne deed → (facts : Facts) → facts.attached ≡ false
+    → doing_of line deed facts ≡ Doing.Ended answer.Detached
+unfolding doing_of
+detached_ends line (act.Alloc label size options) built facts is =
+    ap (λ (attached : Bool). if_attached attached (allocating facts (tag_of line) size options)) is
+detached_ends line (act.Free label) built facts is =
+    ap (λ (attached : Bool). if_attached attached (on_element line.participant facts (λ tag. looking tag freeing) facts.maker)) is
+detached_ends line (act.Resize label size) built facts is =
+    ap (λ (attached : Bool). if_attached attached
+    (if_sized (resize_refusal size) (on_element line.participant facts (resizing_to size) facts.maker))) is
+detached_ends line (act.Dump heap) built facts is =
+    ap (λ (attached : Bool). if_attached attached (dumping (find (has_name heap.text) facts.named))) is
+detached_ends line _ built facts is = absurd built
+
+-- who is not attached does nothing of its line
+pub detached_done : (count : ℕ) (did : List MailStep → Type 0) → did [] → (line : Line) (moment : Moment) → IsLineOfOne line.act
+    → moment.party.context.standing.attached ≡ false → DoesLine count did line answer.Detached moment moment
+detached_done count did none line moment built is =
+    let party = moment.party in
+    let request = has_request line.act built in
+    let facts : Facts = facts_for party.socket party.context line.act request.0 in
+    let does : Does count did (doing_of line line.act facts) (Doing.Ended answer.Detached) moment moment =
+    subst (λ (doing : Doing). Does count did doing (Doing.Ended answer.Detached) moment moment) (sym (detached_ends line line.act built facts is))
+    (does_same count did (Doing.Ended answer.Detached) moment none) in
+    record {
+      facts = facts;
+      known = facts_known party.socket party.context line request.0 request.1;
+      does = does;
+      left = sym (detached_leaves line line.act built does.trace party.context.standing);
+    }

@@ -1,0 +1,81 @@
+-- The element that the label stands for is looked for where it lies.
+use Rattle.std.proofs.Common.{◌≡◌, ◌∙◌, ℕ, Bool, List, Option, Some, None, ap, sym, subst}
+use Rattle.std.specs.List.{Contains}
+use Rattle.hp_base.specs.declared.tag.Tag.{Tag}
+use Rattle.hp_script.specs.Labels.{maker_of}
+use Rattle.hp_script.specs.declared.answer.Answer.TheVariants as answer
+use Rattle.hp_script.specs.declared.line.Line.{Line}
+use Rattle.hp_proc.specs.Contexts.{AreFactsOf, Context, IsPlaceOf, searched_by}
+use Rattle.hp_proc.specs.Courses.{is_zone_act, maker_from}
+use Rattle.hp_proc.specs.Doing.{Doing}
+use Rattle.hp_proc.specs.Freeing.{act_for, acting, looking}
+use Rattle.hp_proc.specs.Lines.{Facts, on_element, tag_made}
+use Rattle.hp_proc.specs.Party.{Party}
+use Rattle.hp_proc.specs.Progress.{Does, moment_of}
+use Rattle.hp_proc.specs.declared.element_act.ElementAct.{ElementAct}
+use Rattle.hp_proc.specs.declared.searched_heap.SearchedHeap.{SearchedHeap}
+use Rattle.hp_proc.proofs.AskedAlong.{if_ok}
+use Rattle.hp_proc.proofs.Joining.{does_same}
+use Rattle.hp_proc.proofs.Makers.{made, unmade}
+use Rattle.hp_proc.proofs.participant.Participant.act_on.Goals as goal
+
+-- the tag, the act and the heaps by which the code looks are those of the line's maker
+looked_for : (who me : ℕ) (context mine : Context) (maker : Line) (size : Option ℕ) (zone : Bool) (action : ElementAct)
+    (places given : List SearchedHeap) → me ≡ who → mine ≡ context → zone ≡ is_zone_act maker.act → action ≡ act_for zone size
+    → given ≡ places → places ≡ searched_by me mine (maker_from maker)
+    → looking (record { who = me; zone = zone; number = maker.line }) (acting action) given
+    ≡ looking (tag_made who (maker_from maker)) (acting (act_for (is_zone_act maker.act) size)) (searched_by who context (maker_from maker))
+looked_for who me context mine maker size zone action places given is_me is_mine is_zone is_action is_given are =
+    let heaps = searched_by who context (maker_from maker) in
+    ap (λ (given : List SearchedHeap). looking (record { who = me; zone = zone; number = maker.line }) (acting action) given)
+    (is_given ∙ are ∙ ap (λ (me : ℕ). searched_by me mine (maker_from maker)) is_me
+    ∙ ap (λ (context : Context). searched_by who context (maker_from maker)) is_mine)
+    ∙ ap (λ (action : ElementAct). looking (record { who = me; zone = zone; number = maker.line }) (acting action) heaps) is_action
+    ∙ ap (λ (zone : Bool). looking (record { who = me; zone = zone; number = maker.line }) (acting (act_for zone size)) heaps) is_zone
+    ∙ ap (λ (me : ℕ). looking (record { who = me; zone = is_zone_act maker.act; number = maker.line })
+    (acting (act_for (is_zone_act maker.act) size)) heaps) is_me
+
+pub returns-in_default-clause-does : goal.returns-in_default-clause-does
+returns-in_default-clause-does g c = λ facts known.
+    let party = c.args.self.now in
+    let me = party.me in
+    let hall = c.args.hall.now in
+    let goes : Tag → List SearchedHeap → Doing = λ (tag : Tag). looking tag (acting (act_for tag.zone c.args.size)) in
+    let moment = moment_of party (g.H.Hall.part hall me) (g.H.Hall.seen hall me) (g.H.Hall.heard hall me) in
+    let none : maker_of party.context.lines c.args.label.now.text ≡ None =
+    subst (λ (text : List ℕ). maker_of party.context.lines text ≡ None) c.as_bytes.ensures.text
+    (subst (λ (party : Party). maker_of party.context.lines c.as_bytes.result.now ≡ None) c.self.view_is (sym c.in_default.ensures)) in
+    subst (λ (doing : Doing). Does (g.H.Hall.count hall) (g.H.Hall.did hall hall me) doing (Doing.Ended answer.NoElement) moment moment)
+    (unmade me party.socket party.context c.args.line.now c.args.label.now facts known c.requires.label goes none)
+    (does_same (g.H.Hall.count hall) (g.H.Hall.did hall hall me) (Doing.Ended answer.NoElement) moment (g.met.H.Hall.did_same hall me))
+
+pub look_for-requires-clause-places : goal.look_for-requires-clause-places
+look_for-requires-clause-places g c = λ place among.
+    subst (λ (party : Party). IsPlaceOf party.context.pools place) c.self.view_is
+    (c.in_ok-places.ensures.of_pools place (subst (λ (places : List SearchedHeap). Contains places place) c.deref.ensures.value among))
+
+pub returns-clause-does : goal.returns-clause-does
+returns-clause-does g c =
+    let party = c.args.self.now in
+    let me = party.me in
+    let old = c.args.hall.now in
+    let new = c.look_for.new.hall in
+    let maker = c.in-Some.maker.now in
+    let zone = c.is_zone-zone.result in
+    let goes : Tag → List SearchedHeap → Doing = λ (tag : Tag). looking tag (acting (act_for tag.zone c.args.size)) in
+    let first = moment_of party (g.H.Hall.part old me) (g.H.Hall.seen old me) (g.H.Hall.heard old me) in
+    let last = moment_of c.look_for.new.self (g.H.Hall.part new me) (g.H.Hall.seen new me) (g.H.Hall.heard new me) in
+    let found : maker_of party.context.lines c.args.label.now.text ≡ Some maker =
+    subst (λ (text : List ℕ). maker_of party.context.lines text ≡ Some maker) c.as_bytes.ensures.text
+    (subst (λ (party : Party). maker_of party.context.lines c.as_bytes.result.now ≡ Some maker) c.self.view_is (sym c.in-Some.ensures)) in
+    let is = looked_for me c.self.inside.me party.context c.self.inside.context maker c.args.size zone c.act_for-action.result
+    c.in_ok-places.places.items c.deref.result.now (ap (λ (party : Party). party.me) c.self.view_is)
+    (ap (λ (party : Party). party.context) c.self.view_is) c.is_zone-zone.ensures c.act_for-action.ensures c.deref.ensures.value
+    c.in_ok-places.ensures.places in
+    if_ok _ (λ given. (facts : Facts) → AreFactsOf party.socket party.context c.args.line.now facts
+    → Does (g.H.Hall.count old) (g.H.Hall.did old new me) (on_element me facts goes facts.maker) (Doing.Ended given) first last)
+    c.look_for.result
+    (λ given does facts known.
+    subst (λ (doing : Doing). Does (g.H.Hall.count old) (g.H.Hall.did old new me) doing (Doing.Ended given) first last)
+    (is ∙ made me party.socket party.context c.args.line.now c.args.label.now facts known c.requires.label goes maker found) does)
+    c.look_for.ensures.does

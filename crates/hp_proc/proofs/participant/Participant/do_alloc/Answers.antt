@@ -1,0 +1,29 @@
+-- An allocation line whose request is refused, and one whose request is served.
+use Rattle.std.proofs.Common.{sym}
+use Rattle.hp_proc.specs.Progress.{moment_of}
+use Rattle.hp_proc.proofs.AllocFacts.{line_refused}
+use Rattle.hp_proc.proofs.participant.Participant.do_alloc.Goals as goal
+
+pub returns-in-Err-clause-does : goal.returns-in-Err-clause-does
+returns-in-Err-clause-does g c =
+    let party = c.args.self.now in
+    let hall = c.args.hall.now in
+    let me = party.me in
+    let moment = moment_of party (g.H.Hall.part hall me) (g.H.Hall.seen hall me) (g.H.Hall.heard hall me) in
+    let label = c.requires.act in
+    line_refused c.args.line.now label.0 c.args.size c.args.options.now label.1 moment c.requires.attached (g.H.Hall.count hall)
+    (g.H.Hall.did hall hall me) c.in-Err.kind (sym c.in-Err.ensures.refused) (g.met.H.Hall.did_same hall me)
+
+pub serve_line-requires-clause-asks : goal.serve_line-requires-clause-asks
+serve_line-requires-clause-asks g c = record {
+  label = c.requires.act.0;
+  size = c.args.size;
+  its_act = c.requires.act.1;
+  accepted = sym c.in-Ok.ensures.refused;
+  is = record {
+    size_is = c.in-Ok.ensures.size;
+    align_is = c.in-Ok.ensures.align;
+    bound_is = c.in-Ok.ensures.bound;
+    flags_are = c.in-Ok.ensures.flags;
+  };
+}

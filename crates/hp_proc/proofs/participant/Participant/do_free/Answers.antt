@@ -1,0 +1,42 @@
+-- What a free does is what its facts say.
+use Rattle.std.proofs.Common.{◌≡◌, ◌∙◌, ℕ, Bool, true, None, ap, sym, subst}
+use Rattle.hp_script.specs.declared.line.Act.{Act}
+use Rattle.hp_script.specs.declared.line.Act.TheVariants as act
+use Rattle.hp_script.specs.declared.line.Line.{Line}
+use Rattle.hp_script.specs.Part.{Part}
+use Rattle.hp_proc.specs.Courses.{HasRequest}
+use Rattle.hp_proc.specs.Doing.{Doing}
+use Rattle.hp_proc.specs.Freeing.{acting, act_for, freeing, looking}
+use Rattle.hp_proc.specs.Lines.{Facts, doing_of, if_attached, on_element}
+use Rattle.hp_proc.specs.Progress.{Does, DoesLine, moment_of}
+use Rattle.hp_proc.proofs.AskedAlong.{if_ok}
+use Rattle.hp_proc.proofs.LineFacts.{facts_for, facts_known, line_done}
+use Rattle.hp_proc.proofs.participant.Participant.do_free.Goals as goal
+
+-- the tree of a free, where its participant is attached
+frees : (line : Line) (who : ℕ) (label : Part) (facts : Facts) → line.participant ≡ who → line.act ≡ act.Free label → facts.attached ≡ true
+    → on_element who facts (λ tag. looking tag (acting (act_for tag.zone None))) facts.maker ≡ doing_of line line.act facts
+unfolding doing_of
+frees line who label facts own deed attached =
+    ap (λ (who : ℕ). on_element who facts (λ tag. looking tag freeing) facts.maker) (sym own)
+    ∙ ap (λ (attached : Bool). if_attached attached (on_element line.participant facts (λ tag. looking tag freeing) facts.maker)) (sym attached)
+    ∙ ap (λ (deed : Act). doing_of line deed facts) (sym deed)
+
+pub returns-clause-does : goal.returns-clause-does
+returns-clause-does g c =
+    let party = c.args.self.now in
+    let me = party.me in
+    let old = c.args.hall.now in
+    let new = c.act_on.new.hall in
+    let after = c.act_on.new.self in
+    let line = c.args.line.now in
+    let before = moment_of party (g.H.Hall.part old me) (g.H.Hall.seen old me) (g.H.Hall.heard old me) in
+    let behind = moment_of after (g.H.Hall.part new me) (g.H.Hall.seen new me) (g.H.Hall.heard new me) in
+    let facts = facts_for party.socket party.context line.act None in
+    let known = facts_known party.socket party.context line None
+    (subst (λ (deed : Act). HasRequest deed None) (sym c.requires.act) tt) in
+    if_ok _ (λ given. DoesLine (g.H.Hall.count old) (g.H.Hall.did old new me) line given before behind) c.act_on.result
+    (λ given does. line_done (g.H.Hall.count old) (g.H.Hall.did old new me) line given before behind facts (act.Free c.args.label.now) known
+    (subst (λ (doing : Doing). Does (g.H.Hall.count old) (g.H.Hall.did old new me) doing (Doing.Ended given) before behind)
+    (frees line me c.args.label.now facts c.requires.own c.requires.act c.requires.attached) (does facts known))
+    c.act_on.ensures.same c.requires.act tt) c.act_on.ensures.does

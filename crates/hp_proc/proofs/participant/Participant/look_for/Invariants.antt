@@ -1,0 +1,21 @@
+use Rattle.std.proofs.Common.{◌≡◌, ◌≤◌, ℕ, None, drop}
+use Rattle.hp_base.specs.declared.limits.TheConstants.{MAX_HEAPS}
+use Rattle.hp_proc.specs.Freeing.{acting, looking}
+use Rattle.hp_proc.specs.Party.{IsSameParty, with_calls}
+use Rattle.hp_proc.specs.Progress.{Does, MayDo, moment_of}
+use Rattle.hp_proc.specs.Tied.{IsTied}
+use Rattle.hp_proc.proofs.participant.Participant.look_for.Given as goal
+
+abbrev pub invariant-loop-place : goal.invariant-loop-place
+invariant-loop-place g l = record {
+  does : Does (g.H.Hall.count l.fn.hall) (g.H.Hall.did l.fn.hall l.hall l.fn.self.me) (looking l.tag (acting l.action) l.places)
+      (looking l.tag (acting l.action) (drop l.place-index l.places))
+      (moment_of l.fn.self (g.H.Hall.part l.fn.hall l.fn.self.me) (g.H.Hall.seen l.fn.hall l.fn.self.me) (g.H.Hall.heard l.fn.hall l.fn.self.me))
+      (moment_of l.self (g.H.Hall.part l.hall l.fn.self.me) (g.H.Hall.seen l.hall l.fn.self.me) (g.H.Hall.heard l.hall l.fn.self.me));
+  ready : MayDo (moment_of l.self (g.H.Hall.part l.hall l.fn.self.me) (g.H.Hall.seen l.hall l.fn.self.me) (g.H.Hall.heard l.hall l.fn.self.me));
+  tied : IsTied (g.H.Hall.seen l.hall l.fn.self.me) (g.H.Hall.own l.hall l.fn.self.me) l.self.joined l.self.maps;
+  same : IsSameParty (with_calls l.self.context.calls l.fn.self) l.self;
+  free : (number : ℕ) → g.H.Hall.taken l.hall number ≡ None;
+  home : (number : ℕ) → number ≤ MAX_HEAPS → g.H.Hall.may_take l.hall number;
+  goes_on : g.H.Hall.goes_on l.fn.hall l.hall;
+}

@@ -1,0 +1,241 @@
+-- One heap more is tried, and it answered the line or was passed.
+use Rattle.std.proofs.Common.{◌≡◌, ◌∙◌, ◌+◌, ◌<◌, ◌∷◌, ◌==◌, ℕ, List, [], drop, get_or, length, map, Option, Some, None, true, false, refl, ap, sym, subst, arith}
+use Rattle.std.proofs.lemmas.List.{drop_all, drop_more}
+use Rattle.std.proofs.lemmas.List.Elements.{Contains-get_or}
+use Rattle.hp_proc.specs.Allocating.{serving, trying}
+use Rattle.hp_proc.specs.Contexts.{Context, IsSocketHeapOf, named_heap}
+use Rattle.hp_proc.specs.Party.{IsSameParty, Party, with_calls}
+use Rattle.hp_proc.specs.Progress.{Brings, Does, MayDo, Moment, Tries}
+use Rattle.hp_proc.specs.Tied.{IsTied}
+use Rattle.hp_proc.specs.declared.socket_heap.SocketHeap.{SocketHeap}
+use Rattle.hp_proc.proofs.AllocFacts.{socket_few}
+use Rattle.hp_proc.proofs.HallMoments.{at, told_alike}
+use Rattle.hp_proc.proofs.HandTried.{brings_then}
+use Rattle.hp_proc.proofs.Joining.{does_same, does_then}
+use Rattle.hp_base.specs.declared.pool_line.PoolLine.{PoolLine}
+use Rattle.hp_base.specs.declared.request.Request.{Request}
+use Rattle.hp_base.specs.declared.tag.Tag.{Tag}
+use Rattle.hp_script.specs.declared.answer.Answer.{Answer}
+use Rattle.hp_script.specs.declared.answer.Answer.TheVariants as gives
+use Rattle.hp_hall.specs.Mail.{MailStep}
+use Rattle.std.proofs.lemmas.Bool.{eqb-true, false≢true}
+use Rattle.hp_proc.specs.Doing.{Doing}
+use Rattle.hp_proc.proofs.participant.Participant.serve_request.Goals as goal
+
+pub loop-place-init : goal.loop-place-init
+loop-place-init g c = record {
+  passed = does_same _ _ _ _ (g.met.H.Hall.did_same _ _);
+  few = omega arith;
+  ready = c.requires.ready;
+  tied = c.requires.tied;
+  same = record { me = refl; socket = refl; plan = refl; deadline = refl; context = refl };
+  free = c.requires.free;
+  home = c.requires.home;
+  goes_on = g.met.H.Hall.goes_on_same _;
+}
+
+pub try_heap-requires-clause-serves : goal.try_heap-requires-clause-serves
+try_heap-requires-clause-serves g c =
+    let was = c.loop-place.invariant in
+    subst (λ (who : ℕ). g.H.Hall.serves c.loop-place.hall who) (sym was.same.me)
+    (g.met.H.Hall.goes_on_serves _ _ _ was.goes_on c.requires.serves)
+
+pub try_heap-requires-clause-me : goal.try_heap-requires-clause-me
+try_heap-requires-clause-me g c =
+    let was = c.loop-place.invariant in
+    omega (arith, g.met.H.Hall.goes_on_count _ _ was.goes_on, was.same.me, c.requires.me)
+
+-- it made calls one after another
+same_calls : (first second third : Party) → IsSameParty (with_calls second.context.calls first) second
+    → IsSameParty (with_calls third.context.calls second) third → IsSameParty (with_calls third.context.calls first) third
+same_calls first second third here there = record {
+  me = there.me ∙ here.me;
+  socket = there.socket ∙ here.socket;
+  plan = there.plan ∙ here.plan;
+  deadline = there.deadline ∙ here.deadline;
+  context = there.context ∙ ap (λ (context : Context). record context { calls = third.context.calls }) here.context;
+}
+
+abbrev none_at : SocketHeap
+none_at = record { index = 0; socket = 0 }
+
+-- where there is a place, the heaps are tried
+served_within : (pools : List PoolLine) (request : Request) (tag : Tag) (places : List SocketHeap) (i : ℕ) → i < length places
+    → trying pools request tag (map named_heap places) ≡ serving pools request tag (map named_heap places)
+served_within pools request tag [] i within = absurd (omega (arith, within))
+served_within pools request tag (place ∷ places) i within = refl
+
+served_some : (pools : List PoolLine) (request : Request) (tag : Tag) (places : List SocketHeap) → false ≡ (length places == 0)
+    → trying pools request tag (map named_heap places) ≡ serving pools request tag (map named_heap places)
+served_some pools request tag [] some = absurd (false≢true some)
+served_some pools request tag (place ∷ places) some = refl
+
+served_none : (pools : List PoolLine) (request : Request) (tag : Tag) (places : List SocketHeap) → true ≡ (length places == 0)
+    → Doing.Ended gives.NoHeap ≡ serving pools request tag (map named_heap places)
+served_none pools request tag [] none = refl
+served_none pools request tag (place ∷ places) none = absurd (omega (arith, eqb-true (length (place ∷ places)) 0 (sym none)))
+
+none_differs : (address : ℕ) → gives.None ≡ gives.Address address → ⊥
+none_differs address equal = cc
+
+no_heap_differs : (address : ℕ) → gives.NoHeap ≡ gives.Address address → ⊥
+no_heap_differs address equal = cc
+
+-- an answer that is no address is brought from any heap
+brings_none : (heap count : ℕ) (did : List MailStep → Type 0) (doing : Doing) (answer : Answer) (old new : Moment)
+    → ((address : ℕ) → answer ≡ gives.Address address → ⊥) → Does count did doing (Doing.Ended answer) old new
+    → Brings heap count did doing answer old new
+brings_none heap count did doing answer old new other does = record { does = does; last = λ address is. absurd (other address is) }
+
+pub try_heap-requires-clause-place : goal.try_heap-requires-clause-place
+try_heap-requires-clause-place g c =
+    let item = get_or c.args.places.now c.loop-place.place-index none_at in
+    subst (λ (context : Context). IsSocketHeapOf context.pools item) (sym c.loop-place.invariant.same.context)
+    (c.requires.places item (Contains-get_or c.args.places.now c.loop-place.place-index none_at c.loop-place-test.true))
+
+pub loop-place-preserved : goal.loop-place-preserved
+loop-place-preserved g c =
+    let was = c.loop-place.invariant in
+    let me = c.args.self.now.me in
+    let first = c.args.hall.now in
+    let second = c.loop-place.hall in
+    let third = c.try_heap.new.hall in
+    let pools = c.args.self.now.context.pools in
+    let request = c.args.request.now in
+    let tag = c.args.tag in
+    let places = c.args.places.now in
+    let i = c.loop-place.place-index in
+    let item = get_or places i none_at in
+    let doing = trying pools request tag (map named_heap places) in
+    let left = trying pools request tag (map named_heap (item ∷ drop (i + 1) places)) in
+    let otherwise = trying pools request tag (map named_heap (drop (i + 1) places)) in
+    let before = at g.H.Hall.count g.H.Hall.did g.H.Hall.part g.H.Hall.seen g.H.Hall.heard first me c.args.self.now in
+    let here : Does (g.H.Hall.count first) (g.H.Hall.did first second me) doing left before (at g.H.Hall.count g.H.Hall.did g.H.Hall.part g.H.Hall.seen g.H.Hall.heard second me c.loop-place.self) =
+    subst (λ (rest : List SocketHeap). Does (g.H.Hall.count first) (g.H.Hall.did first second me) doing
+    (trying pools request tag (map named_heap rest)) before (at g.H.Hall.count g.H.Hall.did g.H.Hall.part g.H.Hall.seen g.H.Hall.heard second me c.loop-place.self))
+    (drop_more places i none_at c.loop-place-test.true) was.passed in
+    let tried : Tries item.index (g.H.Hall.count first) (g.H.Hall.did second third me) left otherwise None
+    (at g.H.Hall.count g.H.Hall.did g.H.Hall.part g.H.Hall.seen g.H.Hall.heard second me c.loop-place.self) (at g.H.Hall.count g.H.Hall.did g.H.Hall.part g.H.Hall.seen g.H.Hall.heard third me c.try_heap.new.self) =
+    subst (λ (context : Context). Tries item.index (g.H.Hall.count first) (g.H.Hall.did second third me)
+    (trying context.pools request tag (map named_heap (item ∷ drop (i + 1) places)))
+    (trying context.pools request tag (map named_heap (drop (i + 1) places))) None
+    (at g.H.Hall.count g.H.Hall.did g.H.Hall.part g.H.Hall.seen g.H.Hall.heard second me c.loop-place.self) (at g.H.Hall.count g.H.Hall.did g.H.Hall.part g.H.Hall.seen g.H.Hall.heard third me c.try_heap.new.self)) was.same.context
+    (told_alike g.H.Hall.count g.H.Hall.did g.H.Hall.part g.H.Hall.seen g.H.Hall.heard (λ count did old new. Tries item.index count did
+    (trying c.loop-place.self.context.pools request tag (map named_heap (item ∷ drop (i + 1) places)))
+    (trying c.loop-place.self.context.pools request tag (map named_heap (drop (i + 1) places))) None old new)
+    (g.H.Hall.count second) (g.H.Hall.count first) second third c.loop-place.self.me me (λ moment. moment) (λ moment. moment) c.loop-place.self
+    c.try_heap.new.self was.same.me (g.met.H.Hall.goes_on_count _ _ was.goes_on)
+    (subst (λ (given : Option Answer). Tries item.index (g.H.Hall.count second) (g.H.Hall.did second third c.loop-place.self.me)
+    (trying c.loop-place.self.context.pools request tag (map named_heap (item ∷ drop (i + 1) places)))
+    (trying c.loop-place.self.context.pools request tag (map named_heap (drop (i + 1) places))) given
+    (at g.H.Hall.count g.H.Hall.did g.H.Hall.part g.H.Hall.seen g.H.Hall.heard second c.loop-place.self.me c.loop-place.self) (at g.H.Hall.count g.H.Hall.did g.H.Hall.part g.H.Hall.seen g.H.Hall.heard third c.loop-place.self.me c.try_heap.new.self))
+    c.in_default.is (c.in_ok-answer.ensures.does (map named_heap (drop (i + 1) places))))) in
+    let one = c.try_heap.ensures in
+    let party = c.try_heap.new.self in
+    record {
+      passed = does_then (g.H.Hall.count first) (g.H.Hall.did first second me) (g.H.Hall.did second third me) (g.H.Hall.did first third me) doing
+          left otherwise before (at g.H.Hall.count g.H.Hall.did g.H.Hall.part g.H.Hall.seen g.H.Hall.heard second me c.loop-place.self) (at g.H.Hall.count g.H.Hall.did g.H.Hall.part g.H.Hall.seen g.H.Hall.heard third me party) (g.met.H.Hall.did_then first second third me) here
+          tried.does;
+      few = socket_few c.args.self.now.context.pools (get_or c.args.places.now c.loop-place.place-index none_at)
+          (c.requires.places (get_or c.args.places.now c.loop-place.place-index none_at)
+          (Contains-get_or c.args.places.now c.loop-place.place-index none_at c.loop-place-test.true));
+      ready = subst (λ (who : ℕ). MayDo (at g.H.Hall.count g.H.Hall.did g.H.Hall.part g.H.Hall.seen g.H.Hall.heard third who party)) (sym one.same.me) c.in_ok-answer.ensures.ready;
+      tied = subst (λ (who : ℕ). IsTied (g.H.Hall.seen third who) (g.H.Hall.own third who) party.joined party.maps) (sym one.same.me) one.tied;
+      same = same_calls c.args.self.now c.loop-place.self party was.same one.same;
+      free = one.free;
+      home = one.home;
+      goes_on = g.met.H.Hall.goes_on_then _ _ _ was.goes_on one.goes_on;
+    }
+
+pub returns-in-Some-clause-does : goal.returns-in-Some-clause-does
+returns-in-Some-clause-does g c =
+    let was = c.loop-place.invariant in
+    let me = c.args.self.now.me in
+    let first = c.args.hall.now in
+    let second = c.loop-place.hall in
+    let third = c.try_heap.new.hall in
+    let pools = c.args.self.now.context.pools in
+    let request = c.args.request.now in
+    let tag = c.args.tag in
+    let places = c.args.places.now in
+    let i = c.loop-place.place-index in
+    let item = get_or places i none_at in
+    let doing = trying pools request tag (map named_heap places) in
+    let left = trying pools request tag (map named_heap (item ∷ drop (i + 1) places)) in
+    let otherwise = trying pools request tag (map named_heap (drop (i + 1) places)) in
+    let before = at g.H.Hall.count g.H.Hall.did g.H.Hall.part g.H.Hall.seen g.H.Hall.heard first me c.args.self.now in
+    let here : Does (g.H.Hall.count first) (g.H.Hall.did first second me) doing left before (at g.H.Hall.count g.H.Hall.did g.H.Hall.part g.H.Hall.seen g.H.Hall.heard second me c.loop-place.self) =
+    subst (λ (rest : List SocketHeap). Does (g.H.Hall.count first) (g.H.Hall.did first second me) doing
+    (trying pools request tag (map named_heap rest)) before (at g.H.Hall.count g.H.Hall.did g.H.Hall.part g.H.Hall.seen g.H.Hall.heard second me c.loop-place.self))
+    (drop_more places i none_at c.loop-place-test.true) was.passed in
+    let tried : Tries item.index (g.H.Hall.count first) (g.H.Hall.did second third me) left otherwise (Some c.in-Some.answer)
+    (at g.H.Hall.count g.H.Hall.did g.H.Hall.part g.H.Hall.seen g.H.Hall.heard second me c.loop-place.self) (at g.H.Hall.count g.H.Hall.did g.H.Hall.part g.H.Hall.seen g.H.Hall.heard third me c.try_heap.new.self) =
+    subst (λ (context : Context). Tries item.index (g.H.Hall.count first) (g.H.Hall.did second third me)
+    (trying context.pools request tag (map named_heap (item ∷ drop (i + 1) places)))
+    (trying context.pools request tag (map named_heap (drop (i + 1) places))) (Some c.in-Some.answer)
+    (at g.H.Hall.count g.H.Hall.did g.H.Hall.part g.H.Hall.seen g.H.Hall.heard second me c.loop-place.self) (at g.H.Hall.count g.H.Hall.did g.H.Hall.part g.H.Hall.seen g.H.Hall.heard third me c.try_heap.new.self)) was.same.context
+    (told_alike g.H.Hall.count g.H.Hall.did g.H.Hall.part g.H.Hall.seen g.H.Hall.heard (λ count did old new. Tries item.index count did
+    (trying c.loop-place.self.context.pools request tag (map named_heap (item ∷ drop (i + 1) places)))
+    (trying c.loop-place.self.context.pools request tag (map named_heap (drop (i + 1) places))) (Some c.in-Some.answer) old new)
+    (g.H.Hall.count second) (g.H.Hall.count first) second third c.loop-place.self.me me (λ moment. moment) (λ moment. moment) c.loop-place.self
+    c.try_heap.new.self was.same.me (g.met.H.Hall.goes_on_count _ _ was.goes_on)
+    (subst (λ (given : Option Answer). Tries item.index (g.H.Hall.count second) (g.H.Hall.did second third c.loop-place.self.me)
+    (trying c.loop-place.self.context.pools request tag (map named_heap (item ∷ drop (i + 1) places)))
+    (trying c.loop-place.self.context.pools request tag (map named_heap (drop (i + 1) places))) given
+    (at g.H.Hall.count g.H.Hall.did g.H.Hall.part g.H.Hall.seen g.H.Hall.heard second c.loop-place.self.me c.loop-place.self) (at g.H.Hall.count g.H.Hall.did g.H.Hall.part g.H.Hall.seen g.H.Hall.heard third c.loop-place.self.me c.try_heap.new.self))
+    c.in-Some.is (c.in_ok-answer.ensures.does (map named_heap (drop (i + 1) places))))) in
+    subst (λ (doing : Doing). Brings item.index (g.H.Hall.count first) (g.H.Hall.did first third me) doing c.in-Some.answer before
+    (at g.H.Hall.count g.H.Hall.did g.H.Hall.part g.H.Hall.seen g.H.Hall.heard third me c.try_heap.new.self)) (served_within pools request tag places i c.loop-place-test.true)
+    (brings_then (g.H.Hall.count first) (g.H.Hall.did first second me) (g.H.Hall.did second third me) (g.H.Hall.did first third me) doing left
+    before (at g.H.Hall.count g.H.Hall.did g.H.Hall.part g.H.Hall.seen g.H.Hall.heard second me c.loop-place.self) (at g.H.Hall.count g.H.Hall.did g.H.Hall.part g.H.Hall.seen g.H.Hall.heard third me c.try_heap.new.self) (g.met.H.Hall.did_then first second third me) otherwise
+    c.in-Some.answer item.index here tried)
+
+pub returns-in-Some-clause-few : goal.returns-in-Some-clause-few
+returns-in-Some-clause-few g c = socket_few c.args.self.now.context.pools (get_or c.args.places.now c.loop-place.place-index none_at)
+    (c.requires.places (get_or c.args.places.now c.loop-place.place-index none_at)
+    (Contains-get_or c.args.places.now c.loop-place.place-index none_at c.loop-place-test.true))
+
+pub returns-in-Some-clause-ready : goal.returns-in-Some-clause-ready
+returns-in-Some-clause-ready g c =
+    subst (λ (who : ℕ). MayDo (at g.H.Hall.count g.H.Hall.did g.H.Hall.part g.H.Hall.seen g.H.Hall.heard c.try_heap.new.hall who c.try_heap.new.self)) c.loop-place.invariant.same.me
+    c.in_ok-answer.ensures.ready
+
+pub returns-clause-does : goal.returns-clause-does
+returns-clause-does g c =
+    let me = c.args.self.now.me in
+    let first = c.args.hall.now in
+    let hall = c.loop-place.hall in
+    let pools = c.args.self.now.context.pools in
+    let places = c.args.places.now in
+    brings_none c.loop-place.last (g.H.Hall.count first) (g.H.Hall.did first hall me)
+    (serving pools c.args.request.now c.args.tag (map named_heap places)) gives.None (at g.H.Hall.count g.H.Hall.did g.H.Hall.part g.H.Hall.seen g.H.Hall.heard first me c.args.self.now)
+    (at g.H.Hall.count g.H.Hall.did g.H.Hall.part g.H.Hall.seen g.H.Hall.heard hall me c.loop-place.self) none_differs
+    (subst (λ (doing : Doing). Does (g.H.Hall.count first) (g.H.Hall.did first hall me) doing (Doing.Ended gives.None)
+    (at g.H.Hall.count g.H.Hall.did g.H.Hall.part g.H.Hall.seen g.H.Hall.heard first me c.args.self.now) (at g.H.Hall.count g.H.Hall.did g.H.Hall.part g.H.Hall.seen g.H.Hall.heard hall me c.loop-place.self))
+    (served_some pools c.args.request.now c.args.tag places c.if-is_empty.ensures)
+    (subst (λ (rest : List SocketHeap). Does (g.H.Hall.count first) (g.H.Hall.did first hall me)
+    (trying pools c.args.request.now c.args.tag (map named_heap places)) (trying pools c.args.request.now c.args.tag (map named_heap rest))
+    (at g.H.Hall.count g.H.Hall.did g.H.Hall.part g.H.Hall.seen g.H.Hall.heard first me c.args.self.now) (at g.H.Hall.count g.H.Hall.did g.H.Hall.part g.H.Hall.seen g.H.Hall.heard hall me c.loop-place.self))
+    (drop_all c.loop-place.place-index places c.loop-place-test.false) c.loop-place.invariant.passed))
+
+pub returns-in_err-answer-clause-goes_on : goal.returns-in_err-answer-clause-goes_on
+returns-in_err-answer-clause-goes_on g c = g.met.H.Hall.goes_on_then _ _ _ c.loop-place.invariant.goes_on c.try_heap.ensures.goes_on
+
+pub returns-in-Some-clause-goes_on : goal.returns-in-Some-clause-goes_on
+returns-in-Some-clause-goes_on g c = g.met.H.Hall.goes_on_then _ _ _ c.loop-place.invariant.goes_on c.try_heap.ensures.goes_on
+
+pub returns-then-is_empty-clause-does : goal.returns-then-is_empty-clause-does
+returns-then-is_empty-clause-does g c =
+    let me = c.args.self.now.me in
+    let first = c.args.hall.now in
+    let pools = c.args.self.now.context.pools in
+    let moment = at g.H.Hall.count g.H.Hall.did g.H.Hall.part g.H.Hall.seen g.H.Hall.heard first me c.args.self.now in
+    brings_none 0 (g.H.Hall.count first) (g.H.Hall.did first first me)
+    (serving pools c.args.request.now c.args.tag (map named_heap c.args.places.now)) gives.NoHeap moment moment no_heap_differs
+    (subst (λ (doing : Doing). Does (g.H.Hall.count first) (g.H.Hall.did first first me) doing (Doing.Ended gives.NoHeap) moment moment)
+    (served_none pools c.args.request.now c.args.tag c.args.places.now c.if-is_empty.ensures)
+    (does_same (g.H.Hall.count first) (g.H.Hall.did first first me) (Doing.Ended gives.NoHeap) moment (g.met.H.Hall.did_same first me)))
+
+pub returns-clause-ready : goal.returns-clause-ready
+returns-clause-ready g c =
+    subst (λ (who : ℕ). MayDo (at g.H.Hall.count g.H.Hall.did g.H.Hall.part g.H.Hall.seen g.H.Hall.heard c.loop-place.hall who c.loop-place.self)) c.loop-place.invariant.same.me c.loop-place.invariant.ready

@@ -1,0 +1,26 @@
+use Rattle.std.proofs.Common.{◌≡◌, ◌<◌, ◌≤◌, ℕ, drop, map, None}
+use Rattle.hp_base.specs.declared.limits.TheConstants.{MAX_HEAPS}
+use Rattle.hp_proc.specs.Allocating.{trying}
+use Rattle.hp_proc.specs.Contexts.{named_heap}
+use Rattle.hp_proc.specs.Party.{IsSameParty, with_calls}
+use Rattle.hp_proc.specs.Progress.{Does, MayDo}
+use Rattle.hp_proc.specs.Tied.{IsTied}
+use Rattle.hp_proc.proofs.HallMoments.{at}
+use Rattle.hp_proc.proofs.participant.Participant.serve_request.Given as goal
+
+-- the heaps so far were passed
+abbrev pub invariant-loop-place : goal.invariant-loop-place
+invariant-loop-place g l = record {
+  passed : Does (g.H.Hall.count l.fn.hall) (g.H.Hall.did l.fn.hall l.hall l.fn.self.me)
+      (trying l.fn.self.context.pools l.fn.request l.fn.tag (map named_heap l.fn.places))
+      (trying l.fn.self.context.pools l.fn.request l.fn.tag (map named_heap (drop l.place-index l.fn.places)))
+      (at g.H.Hall.count g.H.Hall.did g.H.Hall.part g.H.Hall.seen g.H.Hall.heard l.fn.hall l.fn.self.me l.fn.self)
+      (at g.H.Hall.count g.H.Hall.did g.H.Hall.part g.H.Hall.seen g.H.Hall.heard l.hall l.fn.self.me l.self);
+  few : l.last < MAX_HEAPS;
+  ready : MayDo (at g.H.Hall.count g.H.Hall.did g.H.Hall.part g.H.Hall.seen g.H.Hall.heard l.hall l.self.me l.self);
+  tied : IsTied (g.H.Hall.seen l.hall l.self.me) (g.H.Hall.own l.hall l.self.me) l.self.joined l.self.maps;
+  same : IsSameParty (with_calls l.self.context.calls l.fn.self) l.self;
+  free : (number : ℕ) → g.H.Hall.taken l.hall number ≡ None;
+  home : (number : ℕ) → number ≤ MAX_HEAPS → g.H.Hall.may_take l.hall number;
+  goes_on : g.H.Hall.goes_on l.fn.hall l.hall;
+}

@@ -1,0 +1,58 @@
+-- What a participant does of its line, step by step: the rule "Lines" of docs/PARTICIPANTS.md.
+use Rattle.std.specs.Prelude.{◌≡◌, ℕ, ◌+◌, Bool, List, [], ◌∷◌, ◌++◌, Option, Some}
+use Rattle.hp_base.specs.declared.row.Run.{Run}
+use Rattle.hp_hall.specs.Mail.{MailStep, Gives, Takes}
+use Rattle.hp_hall.specs.declared.kept.Kept.TheVariants.{Heap}
+use Rattle.hp_heap.specs.History.{HeapView}
+use Rattle.hp_heap.specs.declared.entry.HeapAnswer.{HeapAnswer}
+use Rattle.hp_heap.specs.declared.entry.HeapCall.{HeapCall}
+use Rattle.hp_log.specs.declared.log_record.LogRecord.{LogRecord}
+use Rattle.hp_segs.specs.SegsView.{SegsView}
+use Rattle.hp_segs.specs.Steps.{after_retire}
+use Rattle.hp_segs.specs.declared.outcome.AskLog.{AskLog}
+use Rattle.hp_proc.specs.AskSteps.{DoesAsk, DoesNotify}
+use Rattle.hp_proc.specs.Asking.{IsAsked}
+use Rattle.hp_proc.specs.Doing.{Done}
+use Rattle.hp_proc.specs.Doing.Done.{Asked, Called, CaughtUp, GaveUp, Looked}
+use Rattle.hp_proc.specs.Courses.{Standing}
+use Rattle.hp_proc.specs.Party.{Party, after_call, with_standing}
+use Rattle.hp_proc.specs.Serving.{gives_segments, takes_segments}
+use Rattle.hp_proc.specs.Waiting.{IsTurned}
+use Rattle.hp_proc.specs.declared.pages_asked.PagesAsked.{PagesAsked}
+
+-- what a participant did, with the steps that it made in the hall
+pub data Acts (count : ℕ) : Party → Party → List Done → List MailStep → Type 0 where
+  nothing : (party : Party) → Acts count party party [] []
+  -- it waited a turn for a heap that another one held
+  waits_turn : (party after : Party) (moved : Bool) (steps : List MailStep) → IsTurned count party after steps (Some moved)
+      → Acts count party after [] steps
+  -- it took a heap, or gave one back
+  takes_heap : (party : Party) (heap : HeapView) → Acts count party party [] (Takes heap.plain.index (Heap heap) ∷ [])
+  gives_heap : (party : Party) (heap : HeapView) → Acts count party party [] (Gives heap.plain.index (Heap heap) ∷ [])
+  -- it made a call of the heap in its hand
+  makes_call : (party : Party) (heap : ℕ) (call : HeapCall) (answer : HeapAnswer)
+      → Acts count party (after_call party) (Called heap call answer ∷ []) []
+  -- it asked for pages
+  asks_pages : (party after : Party) (asked : PagesAsked) (run : Option Run) (steps : List MailStep) → DoesAsk count party after asked steps run
+      → Acts count party after (Asked asked run ∷ []) steps
+  -- it gave up a run of the heap in its hand
+  retires_run : (party : Party) (run : Run) (taken : SegsView)
+      → Acts count party party [] (takes_segments taken ∷ gives_segments (after_retire run taken) ∷ [])
+  -- it told the coordinator so
+  notifies_run : (party after : Party) (heap : ℕ) (run : Run) (steps : List MailStep) → DoesNotify count party after heap run steps
+      → Acts count party after (GaveUp heap run ∷ []) steps
+  -- it noted what its line left
+  notes_left : (party : Party) (standing : Standing) → Acts count party (with_standing standing party) [] []
+  -- one thing after another
+  and_then : (party mid after : Party) (first rest : List Done) (before behind : List MailStep) → Acts count party mid first before
+      → Acts count mid after rest behind → Acts count party after (first ++ rest) (before ++ behind)
+
+-- the asks and notices of a trace took numbers one above another, from one to the next, and each ask has its answer
+unfoldable pub AreAsked : List LogRecord → List AskLog → ℕ → ℕ → ℕ → List Done → Type 0
+AreAsked log asks who before after [] = after ≡ before
+AreAsked log asks who before after (Asked asked run ∷ trace) =
+    (mid : ℕ) × IsAsked log asks who before mid asked run × AreAsked log asks who mid after trace
+AreAsked log asks who before after (GaveUp heap run ∷ trace) = AreAsked log asks who (before + 1) after trace
+AreAsked log asks who before after (Called heap call answer ∷ trace) = AreAsked log asks who before after trace
+AreAsked log asks who before after (Looked records ∷ trace) = AreAsked log asks who before after trace
+AreAsked log asks who before after (CaughtUp to caught ∷ trace) = AreAsked log asks who before after trace

@@ -1,0 +1,149 @@
+-- How a participant goes on with its line: the rule "Lines" of docs/PARTICIPANTS.md.
+use Rattle.std.specs.Prelude.{◌≡◌, ◌≢◌, ℕ, ◌+◌, ◌<◌, ◌==◌, List, ◌++◌, length, Option, Some, None, slice_get, ⊤, if◌then◌else◌}
+use Rattle.hp_base.specs.Requests.{refusal_of}
+use Rattle.hp_base.specs.declared.request.Request.{Request}
+use Rattle.hp_base.specs.declared.tag.Caller.{Caller}
+use Rattle.hp_base.specs.declared.limits.TheConstants.{MAX_HEAPS}
+use Rattle.hp_hall.specs.Giving.{IsNumbered, entries_made}
+use Rattle.hp_hall.specs.Holding.{HeapPart, IsHeldWith}
+use Rattle.hp_hall.specs.Mail.{MailStep}
+use Rattle.hp_hall.specs.declared.kept.Kept.{Kept}
+use Rattle.hp_hall.specs.declared.kept.Kept.TheVariants.{Heap}
+use Rattle.hp_heap.specs.History as heaps
+use Rattle.hp_heap.specs.History.{HeapView, entries_of}
+use Rattle.hp_heap.specs.declared.entry.Entry.{Entry}
+use Rattle.hp_log.specs.declared.log_record.LogRecord.{LogRecord}
+use Rattle.hp_script.specs.declared.answer.Answer.{Answer}
+use Rattle.hp_script.specs.declared.answer.Answer.TheVariants as gives
+use Rattle.hp_script.specs.declared.line.Act.{Act}
+use Rattle.hp_script.specs.declared.line.Act.TheVariants as act
+use Rattle.hp_script.specs.declared.line.Line.{Line}
+use Rattle.hp_script.specs.declared.options.Options.{Options}
+use Rattle.hp_script.specs.Part.{Part}
+use Rattle.hp_segs.specs.declared.outcome.AskLog.{AskLog}
+use Rattle.hp_proc.specs.Acting.{Acts, AreAsked}
+use Rattle.hp_proc.specs.Allocating.{unless_answered}
+use Rattle.hp_proc.specs.Asking.{HasSettledAsks}
+use Rattle.hp_proc.specs.Contexts.{AreFactsOf, after_calls}
+use Rattle.hp_proc.specs.Courses.{IsRequestFor, after_line, calls_in, last_heap}
+use Rattle.hp_proc.specs.Doing.{Doing, Done, Leads}
+use Rattle.hp_proc.specs.Heaps.{sockets_of}
+use Rattle.hp_proc.specs.Lines.{Facts, doing_of}
+use Rattle.hp_proc.specs.Histories.{entries_for}
+use Rattle.hp_proc.specs.Party.{IsSameParty, Party, with_context}
+
+-- a participant at a moment of its line: itself, its parts in the heaps, and what it has seen of the log and of the outcomes
+pub record Moment : Type 0 where
+  pub party : Party
+  pub parts : ℕ → HeapPart
+  pub log : List LogRecord
+  pub asks : List AskLog
+
+abbrev pub moment_of : Party → (ℕ → HeapPart) → List LogRecord → List AskLog → Moment
+moment_of party parts log asks = record { party = party; parts = parts; log = log; asks = asks }
+
+-- parts with what a heap in hand has of its holder's entries already
+abbrev pub with_hand : ℕ → HeapView → (ℕ → HeapPart) → ℕ → HeapPart
+with_hand who heap parts index =
+    if index == heap.plain.index then record (parts index) { entries = entries_of who heap.history } else parts index
+
+-- a moment at which it has a heap in hand
+abbrev pub in_hand : HeapView → Moment → Moment
+in_hand heap moment = record moment { parts = with_hand moment.party.me heap moment.parts }
+
+-- what it did of a line, from one moment to a later one: its trace leads from what was left to do to what is left now; each heap has its
+-- calls, numbered on over all heaps; and each of its asks has its answer
+pub record Does (count : ℕ) (did : List MailStep → Type 0) (doing rest : Doing) (old new : Moment) : Type 0 where
+  pub trace : List Done
+  pub steps : List MailStep
+  pub leads : Leads doing trace rest
+  pub made : did steps
+  pub acts : Acts count old.party new.party trace steps
+  pub entries : (heap : ℕ) → (new.parts heap).entries
+      ≡ (old.parts heap).entries ++ entries_for old.party.me heap (old.party.context.calls + 1) (calls_in trace)
+  pub serves : (heap : ℕ) → (new.parts heap).serves ≡ (old.parts heap).serves
+  pub counted : new.party.context
+      ≡ record (after_calls (length (calls_in trace)) old.party.context) { standing = new.party.context.standing }
+  pub same : IsSameParty (with_context new.party.context old.party) new.party
+  pub asked : AreAsked new.log new.asks old.party.me old.party.asked new.party.asked trace
+  pub more : List LogRecord
+  pub log : new.log ≡ old.log ++ more
+  pub outcomes : List AskLog
+  pub asks : new.asks ≡ old.asks ++ outcomes
+
+-- so it did, and its last call was one of that heap
+pub record DoesIn (heap count : ℕ) (did : List MailStep → Type 0) (doing rest : Doing) (old new : Moment) : Type 0 where
+  pub does : Does count did doing rest old new
+  pub last : last_heap (calls_in does.trace) ≡ Some heap
+
+-- it tried that heap, which answered its line or was passed; where the answer is an address, its last call was one of that heap
+pub record Tries (heap count : ℕ) (did : List MailStep → Type 0) (doing otherwise : Doing) (given : Option Answer) (old new : Moment)
+    : Type 0 where
+  pub does : Does count did doing (unless_answered otherwise given) old new
+  pub last : (address : ℕ) → given ≡ Some (gives.Address address) → last_heap (calls_in does.trace) ≡ Some heap
+
+-- it did so to that answer; where that is an address, its last call was one of that heap
+pub record Brings (heap count : ℕ) (did : List MailStep → Type 0) (doing : Doing) (answer : Answer) (old new : Moment) : Type 0 where
+  pub does : Does count did doing (Doing.Ended answer) old new
+  pub last : (address : ℕ) → answer ≡ gives.Address address → last_heap (calls_in does.trace) ≡ Some heap
+
+-- a line was done, by what is known when it began, and was answered so; what it left is noted
+pub record DoesLine (count : ℕ) (did : List MailStep → Type 0) (line : Line) (answer : Answer) (old new : Moment) : Type 0 where
+  pub facts : Facts
+  pub known : AreFactsOf old.party.socket old.party.context line facts
+  pub does : Does count did (doing_of line line.act facts) (Doing.Ended answer) old new
+  pub left : new.party.context.standing ≡ after_line line answer does.trace old.party.context.standing
+
+-- the line is an allocation with these options, whose size and options are not refused, and this is its request
+pub record IsAllocation (line : Line) (options : Options) (request : Request) : Type 0 where
+  pub label : Part
+  pub size : ℕ
+  pub its_act : line.act ≡ act.Alloc label size options
+  pub accepted : refusal_of size options.align options.bound ≡ None
+  pub is : IsRequestFor size options request
+
+-- a line of a participant that is alone, as far as these are built
+abbrev pub IsLineOfOne : Act → Type 0
+IsLineOfOne (act.Alloc label size options) = ⊤
+IsLineOfOne (act.Free label) = ⊤
+IsLineOfOne (act.Resize label size) = ⊤
+IsLineOfOne (act.Dump heap) = ⊤
+IsLineOfOne _ = ⊥
+
+-- each heap takes the pages of its socket
+abbrev pub AreOfSockets : Moment → Type 0
+AreOfSockets moment = (heap : ℕ) → (moment.parts heap).serves ≡ slice_get (sockets_of moment.party.context.pools) heap
+
+-- the participant may do its line: it holds no heap, its asks are settled, and its calls are those that the heaps keep
+pub record MayDo (moment : Moment) : Type 0 where
+  pub sockets : AreOfSockets moment
+  pub unheld : (heap : ℕ) → (moment.parts heap).holding ≡ None
+  pub settled : HasSettledAsks moment.party.me moment.parts moment.asks
+  pub counted : moment.party.context.calls ≡ entries_made moment.parts
+
+-- it has a heap in hand, which it has taken: the heap's history is that one's and entries of its own, numbered on over all heaps, and its
+-- pages are those of the heap's own segments; it holds no other
+pub record IsInHand (taken : ℕ → Option Kept) (moment : Moment) (heap : HeapView) : Type 0 where
+  pub was : HeapView
+  pub taken_is : taken heap.plain.index ≡ Some (Heap was)
+  pub few : heap.plain.index < MAX_HEAPS
+  pub index : heap.plain.index ≡ was.plain.index
+  pub serves : heap.plain.serves ≡ was.plain.serves
+  pub own : List Entry
+  pub history : heap.history ≡ was.history ++ own
+  pub numbered : IsNumbered moment.party.me (entries_made moment.parts) own
+  pub earlier : entries_of moment.party.me was.history ≡ (moment.parts heap.plain.index).entries
+  pub held : IsHeldWith heap (moment.parts heap.plain.index).holding
+  pub sound : heaps.IsSound heap
+  pub its_socket : heap.plain.serves ≡ (moment.parts heap.plain.index).serves
+  pub sockets : AreOfSockets moment
+  pub others : (other : ℕ) → other ≢ heap.plain.index → (moment.parts other).holding ≡ None
+  pub counted : moment.party.context.calls ≡ entries_made moment.parts + length own
+
+-- the caller of a participant's next call
+abbrev pub caller_of : Party → Caller
+caller_of party = record { participant = party.me; number = party.context.calls + 1 }
+
+-- it is so with the asks of a participant that are settled
+abbrev pub AreSettled : Moment → Type 0
+AreSettled moment = HasSettledAsks moment.party.me moment.parts moment.asks

@@ -1,0 +1,8 @@
+use hp_maps::Table;
+
+/// What a participant leaves at the end of a run. Own.
+#[derive(Debug, Drop)]
+pub struct End {
+    /// Its table as it stands.
+    pub table: Table,
+}

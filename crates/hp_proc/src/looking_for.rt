@@ -1,0 +1,82 @@
+//! Where the element of a line is looked for, and what is done with it.
+ghost use Rattle.std.specs.Prelude.{◌≡◌, ◌==◌, ◌&&◌, not, Contains, IfOk, map};
+ghost use Rattle.std.specs.Option.{option_to_list};
+ghost use Rattle.hp_proc.specs.Contexts.{IsPlaceOf, searched_by, searched_heap};
+ghost use Rattle.hp_proc.specs.Courses.{is_zone_act, maker_from};
+ghost use Rattle.hp_proc.specs.Freeing.{act_for};
+ghost use Rattle.hp_proc.specs.declared.searched_heap.SearchedHeap.{SearchedHeap};
+
+use crate::element_act::ElementAct;
+use crate::line_context::LineContext;
+use crate::searched_heap::SearchedHeap;
+use crate::socket_heap::SocketHeap;
+use hp_script::{Act, Line};
+use std::alloc::{AllocError, Global};
+
+impl<'p> LineContext<'p> {
+    // The heaps in which a participant looks for what a line made: that of its own element, or each of a socket.
+    pub(crate) fn places_for(
+        &self,
+        who: u8,
+        maker: &Line<'_>,
+    ) -> Result<Vec<SearchedHeap>, AllocError>
+        ensures places { IfOk result (λ places. places.items ≡ searched_by who self.now (maker_from maker.now)) }
+        ensures of_pools { IfOk result (λ places. (place : SearchedHeap) → Contains places.items place → IsPlaceOf self.now.pools place) }
+    {
+        if is_own(who, maker) {
+            let places = one_place(self.alloc, self.place_of(maker.line))?;
+            return Ok(places);
+        }
+        let places = all_places(self.alloc, self.heaps())?;
+        Ok(places)
+    }
+}
+
+// Whether a line is a participant's own, and its element lies where the participant noted.
+fn is_own(who: u8, maker: &Line<'_>) -> bool
+    ensures { result ≡ ((maker.now.participant == who) && not (is_zone_act maker.now.act)) }
+{
+    maker.participant == who && !is_zone(&maker.act)
+}
+
+// A place, where there is one.
+fn one_place(alloc: Global, place: Option<SearchedHeap>) -> Result<Vec<SearchedHeap>, AllocError>
+    ensures { IfOk result (λ places. places.items ≡ option_to_list place) }
+{
+    let mut places = Vec::new(alloc);
+    if let Some(place) = place {
+        places.push(place)?;
+    }
+    Ok(places)
+}
+
+// The places of all heaps of sockets.
+fn all_places(alloc: Global, heaps: &[SocketHeap]) -> Result<Vec<SearchedHeap>, AllocError>
+    ensures { IfOk result (λ places. places.items ≡ map searched_heap heaps.now) }
+{
+    let mut places = Vec::with_capacity(alloc, heaps.len())?;
+    for heap in heaps {
+        places.push(SearchedHeap {
+            index: heap.index,
+            serves: Some(heap.socket),
+        })?;
+    }
+    Ok(places)
+}
+
+// Whether an act reserves a memzone.
+pub(crate) fn is_zone(act: &Act<'_>) -> bool
+    ensures { result ≡ is_zone_act act.now }
+{
+    matches!(act, Act::Zone { .. })
+}
+
+// What is done with an element: it is freed, or gets a size, where one is given.
+pub(crate) fn act_for(zone: bool, size: Option<u64>) -> ElementAct
+    ensures { result ≡ act_for zone size }
+{
+    match size {
+        None => ElementAct::Free,
+        Some(size) => ElementAct::Resize { zone, size },
+    }
+}

@@ -1,0 +1,267 @@
+//! An allocation: its heaps are tried one after another, and each may grow.
+ghost use Rattle.std.specs.List.{All};
+ghost use Rattle.std.specs.Option.{option_map};
+ghost use Rattle.std.specs.Prelude.{◌≡◌, ℕ, ◌+◌, ◌^◌, ◌<◌, ◌≤◌, ◌∷◌, List, Some, None, IfOk, OnErr, OnOk, map, Contains, true};
+ghost use Rattle.hp_base.specs.declared.limits.TheConstants.{MAX_HEAPS};
+ghost use Rattle.hp_base.specs.declared.tag.Tag.{Tag};
+ghost use Rattle.hp_script.specs.Part.{Part};
+ghost use Rattle.hp_script.specs.declared.answer.Answer.{Answer};
+ghost use Rattle.hp_script.specs.declared.line.Act.TheVariants as act;
+ghost use Rattle.hp_proc.specs.Allocating.{serving, trying};
+ghost use Rattle.hp_proc.specs.Contexts.{IsNextLine, IsSocketHeapOf, named_heap};
+ghost use Rattle.hp_proc.specs.Heaps.{NamedHeap, heaps_for, socket_heaps};
+ghost use Rattle.hp_proc.specs.Party.{IsSameParty, after_answer, with_calls, with_context};
+ghost use Rattle.hp_proc.specs.Progress.{AreSettled, Brings, DoesLine, IsAllocation, IsInHand, MayDo, Tries, in_hand, moment_of};
+ghost use Rattle.hp_proc.specs.Tied.{IsTied};
+ghost use Rattle.hp_proc.specs.declared.socket_heap.SocketHeap.{SocketHeap};
+
+use super::Participant;
+use crate::page_sizes::without_hint;
+use crate::socket_heap::SocketHeap;
+use hp_base::{Mapper, Request, Tag};
+use hp_hall::Waiting;
+use hp_heap::Heap;
+use hp_script::{Answer, Line, Options};
+use std::alloc::AllocError;
+
+// The calls of one heap that an allocation makes at most: a search, a growth, a search.
+const CALLS: usize = 3;
+
+// A request with other flags.
+fn with_flags(request: &Request, flags: u32) -> Request
+    ensures { result ≡ record request.now { flags = flags } }
+{
+    Request {
+        size: request.size,
+        align: request.align,
+        bound: request.bound,
+        flags,
+    }
+}
+
+impl<'p, M: Mapper> Participant<'p, M> {
+    // Searches the heap in its hand. Without an address there it asks for pages, and where some are granted it searches again. The
+    // answer is the line's, or none where the heap is passed.
+    fn allocate_held<H: Waiting>(
+        &mut self,
+        hall: &mut H,
+        heap: &mut Heap,
+        place: &SocketHeap,
+        request: &Request,
+        tag: Tag,
+    ) -> Result<Option<Answer>, AllocError>
+        requires serves { H.serves hall.old self.old.me }
+        requires me { self.old.me < H.count hall.old }
+        requires free { H.taken hall.old MAX_HEAPS ≡ None }
+        requires home { H.may_take hall.old MAX_HEAPS }
+        requires tied { IsTied (H.seen hall.old self.old.me) (H.own hall.old self.old.me) self.old.joined self.old.maps }
+        requires in_hand { IsInHand (H.taken hall.old) (moment_of self.old (H.part hall.old self.old.me) (H.seen hall.old self.old.me) (H.heard hall.old self.old.me)) heap.old }
+        requires settled { AreSettled (moment_of self.old (H.part hall.old self.old.me) (H.seen hall.old self.old.me) (H.heard hall.old self.old.me)) }
+        requires its { place.now.index ≡ heap.old.plain.index }
+        requires of_socket { heap.old.plain.serves ≡ Some place.now.socket }
+        requires spare { 3 ≤ heap.old.spare }
+        requires counted { self.old.context.calls + 3 < 2 ^ 64 }
+        ensures does { IfOk result (λ given. (heaps : List NamedHeap) → Tries place.now.index (H.count hall.old) (H.did hall.old hall.new self.old.me) (trying self.old.context.pools request.now tag (named_heap place.now ∷ heaps)) (trying self.old.context.pools request.now tag heaps) given
+            (in_hand heap.old (moment_of self.old (H.part hall.old self.old.me) (H.seen hall.old self.old.me) (H.heard hall.old self.old.me)))
+            (in_hand heap.new (moment_of self.new (H.part hall.new self.old.me) (H.seen hall.new self.old.me) (H.heard hall.new self.old.me)))) }
+        ensures in_hand { IsInHand (H.taken hall.new) (moment_of self.new (H.part hall.new self.old.me) (H.seen hall.new self.old.me) (H.heard hall.new self.old.me)) heap.new }
+        ensures index { heap.new.plain.index ≡ heap.old.plain.index }
+        ensures its_socket { heap.new.plain.serves ≡ heap.old.plain.serves }
+        ensures settled { OnOk result (AreSettled (moment_of self.new (H.part hall.new self.old.me) (H.seen hall.new self.old.me) (H.heard hall.new self.old.me))) }
+        ensures tied { IsTied (H.seen hall.new self.old.me) (H.own hall.new self.old.me) self.new.joined self.new.maps }
+        ensures same { IsSameParty (with_calls self.new.context.calls self.old) self.new }
+
+        ensures taken { (number : ℕ) → H.taken hall.new number ≡ H.taken hall.old number }
+        ensures home { (number : ℕ) → H.may_take hall.old number → H.may_take hall.new number }
+        ensures goes_on { H.goes_on hall.old hall.new }
+    {
+        let first = with_flags(request, without_hint(request.flags));
+        if let Some(addr) = self.allocate_in(heap, &first, tag) {
+            return Ok(Some(Answer::Address { addr }));
+        }
+        if !self.grow(hall, heap, place, request)? {
+            return Ok(None);
+        }
+        match self.allocate_in(heap, request, tag) {
+            Some(addr) => Ok(Some(Answer::Address { addr })),
+            None => Ok(Some(Answer::None)),
+        }
+    }
+
+    // Tries a heap for a request. The answer is the line's, or none where the heap is passed.
+    fn try_heap<H: Waiting>(
+        &mut self,
+        hall: &mut H,
+        place: &SocketHeap,
+        request: &Request,
+        tag: Tag,
+    ) -> Result<Option<Answer>, AllocError>
+        requires place { IsSocketHeapOf self.old.context.pools place.now }
+        requires serves { H.serves hall.old self.old.me }
+        requires me { self.old.me < H.count hall.old }
+        requires free { (number : ℕ) → H.taken hall.old number ≡ None }
+        requires home { (number : ℕ) → number ≤ MAX_HEAPS → H.may_take hall.old number }
+        requires tied { IsTied (H.seen hall.old self.old.me) (H.own hall.old self.old.me) self.old.joined self.old.maps }
+        requires ready { MayDo (moment_of self.old (H.part hall.old self.old.me) (H.seen hall.old self.old.me) (H.heard hall.old self.old.me)) }
+        ensures does { IfOk result (λ given. (heaps : List NamedHeap) → Tries place.now.index (H.count hall.old) (H.did hall.old hall.new self.old.me) (trying self.old.context.pools request.now tag (named_heap place.now ∷ heaps)) (trying self.old.context.pools request.now tag heaps) given
+            (moment_of self.old (H.part hall.old self.old.me) (H.seen hall.old self.old.me) (H.heard hall.old self.old.me))
+            (moment_of self.new (H.part hall.new self.old.me) (H.seen hall.new self.old.me) (H.heard hall.new self.old.me))) }
+        ensures ready { OnOk result (MayDo (moment_of self.new (H.part hall.new self.old.me) (H.seen hall.new self.old.me) (H.heard hall.new self.old.me))) }
+        ensures tied { IsTied (H.seen hall.new self.old.me) (H.own hall.new self.old.me) self.new.joined self.new.maps }
+        ensures same { IsSameParty (with_calls self.new.context.calls self.old) self.new }
+
+        ensures free { (number : ℕ) → H.taken hall.new number ≡ None }
+        ensures home { (number : ℕ) → number ≤ MAX_HEAPS → H.may_take hall.new number }
+        ensures goes_on { H.goes_on hall.old hall.new }
+    {
+        let mut heap = self.hold(hall, place.index, CALLS)?;
+        let given = self.allocate_held(hall, &mut heap, place, request, tag);
+        self.put(hall, heap);
+        given
+    }
+
+    // Serves a request from the first of the heaps that has or gets memory for it. Beside the answer stands the heap that was tried last.
+    fn serve_request<H: Waiting>(
+        &mut self,
+        hall: &mut H,
+        places: &[SocketHeap],
+        request: &Request,
+        tag: Tag,
+    ) -> Result<(Answer, u32), AllocError>
+        requires places { (place : SocketHeap) → Contains places.now place → IsSocketHeapOf self.old.context.pools place }
+        requires serves { H.serves hall.old self.old.me }
+        requires me { self.old.me < H.count hall.old }
+        requires free { (number : ℕ) → H.taken hall.old number ≡ None }
+        requires home { (number : ℕ) → number ≤ MAX_HEAPS → H.may_take hall.old number }
+        requires tied { IsTied (H.seen hall.old self.old.me) (H.own hall.old self.old.me) self.old.joined self.old.maps }
+        requires ready { MayDo (moment_of self.old (H.part hall.old self.old.me) (H.seen hall.old self.old.me) (H.heard hall.old self.old.me)) }
+        ensures does { IfOk result (λ given. Brings given.1 (H.count hall.old) (H.did hall.old hall.new self.old.me) (serving self.old.context.pools request.now tag (map named_heap places.now)) given.0
+            (moment_of self.old (H.part hall.old self.old.me) (H.seen hall.old self.old.me) (H.heard hall.old self.old.me))
+            (moment_of self.new (H.part hall.new self.old.me) (H.seen hall.new self.old.me) (H.heard hall.new self.old.me))) }
+        ensures few { IfOk result (λ given. given.1 < MAX_HEAPS) }
+        ensures ready { OnOk result (MayDo (moment_of self.new (H.part hall.new self.old.me) (H.seen hall.new self.old.me) (H.heard hall.new self.old.me))) }
+        ensures tied { IsTied (H.seen hall.new self.old.me) (H.own hall.new self.old.me) self.new.joined self.new.maps }
+        ensures same { IsSameParty (with_calls self.new.context.calls self.old) self.new }
+
+        ensures free { (number : ℕ) → H.taken hall.new number ≡ None }
+        ensures home { (number : ℕ) → number ≤ MAX_HEAPS → H.may_take hall.new number }
+        ensures goes_on { H.goes_on hall.old hall.new }
+    {
+        if places.is_empty() {
+            return Ok((Answer::NoHeap, 0));
+        }
+        let mut last = 0;
+        for place in places {
+            last = place.index;
+            if let Some(answer) = self.try_heap(hall, place, request, tag)? {
+                return Ok((answer, last));
+            }
+        }
+        Ok((Answer::None, last))
+    }
+
+    // Notes in which heap the element of its line lies, where the line was answered with an address.
+    fn note_answer(&mut self, line: u32, answer: Answer, heap: u32) -> Result<(), AllocError>
+        requires next { All (λ element. element.line < line) self.old.context.standing.elements }
+        requires few { heap < MAX_HEAPS }
+        ensures noted { OnOk result (self.new ≡ after_answer line heap answer self.old) }
+        ensures err { OnErr result (self.new ≡ self.old) }
+    {
+        if let Answer::Address { .. } = answer {
+            self.context.note_element(line, heap)?;
+        }
+        Ok(())
+    }
+
+    // Makes room for the element of its line.
+    fn reserve_element(&mut self) -> Result<(), AllocError>
+        ensures { self.new ≡ self.old }
+    {
+        self.context.reserve_element()
+    }
+
+    // The heaps that its allocation tries, in their order.
+    fn heaps_for(&self, options: &Options<'_>) -> Result<Vec<SocketHeap>, AllocError>
+        ensures heaps { IfOk result (λ places. map named_heap places.items ≡ heaps_for self.now.socket (socket_heaps self.now.context.pools)
+            (option_map (λ name. name.text) options.now.heap) options.now.socket) }
+        ensures of_pools { IfOk result (λ places. (place : SocketHeap) → Contains places.items place
+            → IsSocketHeapOf self.now.context.pools place) }
+    {
+        self.context.heaps_for(self.socket, options)
+    }
+
+    // Serves the request of an allocation line.
+    fn serve_line<H: Waiting>(
+        &mut self,
+        hall: &mut H,
+        line: &Line<'_>,
+        request: &Request,
+        options: &Options<'_>,
+    ) -> Result<Answer, AllocError>
+        requires attached { self.old.context.standing.attached ≡ true }
+        requires next { IsNextLine self.old.context line.now }
+        requires asks { IsAllocation line.now options.now request.now }
+        requires serves { H.serves hall.old self.old.me }
+        requires me { self.old.me < H.count hall.old }
+        requires free { (number : ℕ) → H.taken hall.old number ≡ None }
+        requires home { (number : ℕ) → number ≤ MAX_HEAPS → H.may_take hall.old number }
+        requires tied { IsTied (H.seen hall.old self.old.me) (H.own hall.old self.old.me) self.old.joined self.old.maps }
+        requires ready { MayDo (moment_of self.old (H.part hall.old self.old.me) (H.seen hall.old self.old.me) (H.heard hall.old self.old.me)) }
+        ensures does { IfOk result (λ given. DoesLine (H.count hall.old) (H.did hall.old hall.new self.old.me) line.now given
+            (moment_of self.old (H.part hall.old self.old.me) (H.seen hall.old self.old.me) (H.heard hall.old self.old.me))
+            (moment_of self.new (H.part hall.new self.old.me) (H.seen hall.new self.old.me) (H.heard hall.new self.old.me))) }
+        ensures ready { OnOk result (MayDo (moment_of self.new (H.part hall.new self.old.me) (H.seen hall.new self.old.me) (H.heard hall.new self.old.me))) }
+        ensures tied { IsTied (H.seen hall.new self.old.me) (H.own hall.new self.old.me) self.new.joined self.new.maps }
+        ensures same { IsSameParty (with_context self.new.context self.old) self.new }
+
+        ensures free { (number : ℕ) → H.taken hall.new number ≡ None }
+        ensures home { (number : ℕ) → number ≤ MAX_HEAPS → H.may_take hall.new number }
+        ensures goes_on { H.goes_on hall.old hall.new }
+    {
+        self.reserve_element()?;
+        let places = self.heaps_for(options)?;
+        let tag = Tag {
+            who: line.participant,
+            zone: false,
+            number: line.line,
+        };
+        let (answer, heap) = self.serve_request(hall, &places, request, tag)?;
+        self.note_answer(line.line, answer, heap)?;
+        Ok(answer)
+    }
+
+    // An allocation line.
+    pub(crate) fn do_alloc<H: Waiting>(
+        &mut self,
+        hall: &mut H,
+        line: &Line<'_>,
+        size: u64,
+        options: &Options<'_>,
+    ) -> Result<Answer, AllocError>
+        requires attached { self.old.context.standing.attached ≡ true }
+        requires own { line.now.participant ≡ self.old.me }
+        requires next { IsNextLine self.old.context line.now }
+        requires act { (label : Part) × (line.now.act ≡ act.Alloc label size options.now) }
+        requires serves { H.serves hall.old self.old.me }
+        requires me { self.old.me < H.count hall.old }
+        requires free { (number : ℕ) → H.taken hall.old number ≡ None }
+        requires home { (number : ℕ) → number ≤ MAX_HEAPS → H.may_take hall.old number }
+        requires tied { IsTied (H.seen hall.old self.old.me) (H.own hall.old self.old.me) self.old.joined self.old.maps }
+        requires ready { MayDo (moment_of self.old (H.part hall.old self.old.me) (H.seen hall.old self.old.me) (H.heard hall.old self.old.me)) }
+        ensures does { IfOk result (λ given. DoesLine (H.count hall.old) (H.did hall.old hall.new self.old.me) line.now given
+            (moment_of self.old (H.part hall.old self.old.me) (H.seen hall.old self.old.me) (H.heard hall.old self.old.me))
+            (moment_of self.new (H.part hall.new self.old.me) (H.seen hall.new self.old.me) (H.heard hall.new self.old.me))) }
+        ensures ready { OnOk result (MayDo (moment_of self.new (H.part hall.new self.old.me) (H.seen hall.new self.old.me) (H.heard hall.new self.old.me))) }
+        ensures tied { IsTied (H.seen hall.new self.old.me) (H.own hall.new self.old.me) self.new.joined self.new.maps }
+        ensures same { IsSameParty (with_context self.new.context self.old) self.new }
+
+        ensures free { (number : ℕ) → H.taken hall.new number ≡ None }
+        ensures home { (number : ℕ) → number ≤ MAX_HEAPS → H.may_take hall.new number }
+        ensures goes_on { H.goes_on hall.old hall.new }
+    {
+        match Request::new(size, options.align, options.bound, options.flags) {
+            Ok(request) => self.serve_line(hall, line, &request, options),
+            Err(kind) => Ok(Answer::BadRequest { kind }),
+        }
+    }
+}

@@ -1,0 +1,187 @@
+//! The lines that a participant does.
+ghost use Rattle.std.specs.Prelude.{◌≡◌, ℕ, ◌^◌, ◌<◌, ◌≤◌, Some, None, IfOk, OnOk, MatchResult, true};
+ghost use Rattle.hp_base.specs.Requests.{rounded_size};
+ghost use Rattle.hp_base.specs.declared.limits.TheConstants.{MAX_HEAPS};
+ghost use Rattle.hp_base.specs.declared.request.BadRequest.TheVariants as bad;
+ghost use Rattle.hp_script.specs.declared.line.Act.TheVariants as act;
+ghost use Rattle.hp_proc.specs.Contexts.{IsNextLine};
+ghost use Rattle.hp_proc.specs.Freeing.{resize_refusal};
+ghost use Rattle.hp_proc.specs.Party.{IsSameParty, with_context};
+ghost use Rattle.hp_proc.specs.Progress.{DoesLine, IsLineOfOne, MayDo, moment_of};
+ghost use Rattle.hp_proc.specs.Tied.{IsTied};
+
+use super::Participant;
+use hp_base::{BadRequest, Mapper, round64};
+use hp_hall::Waiting;
+use hp_script::{Act, Answer, Line, Token};
+use std::alloc::AllocError;
+
+// The greatest size, in bytes, that an element may be asked to have.
+const MOST: u64 = 1 << 63;
+
+// A new size in whole cache lines, where it is none that is refused.
+fn rounded(size: u64) -> Result<u64, BadRequest>
+    ensures { MatchResult result (λ rounded. (rounded ≡ rounded_size size) × (0 < rounded) × (rounded ≤ 2 ^ 63)) (λ kind. resize_refusal size ≡ Some kind) }
+{
+    if size == 0 {
+        return Err(BadRequest::Zero);
+    }
+    match round64(size) {
+        None => Err(BadRequest::Overflow),
+        Some(rounded) => most(rounded),
+    }
+}
+
+// A rounded size, where it is not above the greatest.
+fn most(size: u64) -> Result<u64, BadRequest>
+    ensures { MatchResult result (λ rounded. (rounded ≡ size) × (size ≤ 2 ^ 63)) (λ kind. (kind ≡ bad.Overflow) × (2 ^ 63 < size)) }
+{
+    if size > MOST {
+        return Err(BadRequest::Overflow);
+    }
+    Ok(size)
+}
+
+impl<'p, M: Mapper> Participant<'p, M> {
+    // A line that frees.
+    fn do_free<H: Waiting>(
+        &mut self,
+        hall: &mut H,
+        line: &Line<'_>,
+        label: &Token<'_>,
+    ) -> Result<Answer, AllocError>
+        requires attached { self.old.context.standing.attached ≡ true }
+        requires own { line.now.participant ≡ self.old.me }
+        requires act { line.now.act ≡ act.Free label.now }
+        requires serves { H.serves hall.old self.old.me }
+        requires me { self.old.me < H.count hall.old }
+        requires free { (number : ℕ) → H.taken hall.old number ≡ None }
+        requires home { (number : ℕ) → number ≤ MAX_HEAPS → H.may_take hall.old number }
+        requires tied { IsTied (H.seen hall.old self.old.me) (H.own hall.old self.old.me) self.old.joined self.old.maps }
+        requires ready { MayDo (moment_of self.old (H.part hall.old self.old.me) (H.seen hall.old self.old.me) (H.heard hall.old self.old.me)) }
+        ensures does { IfOk result (λ given. DoesLine (H.count hall.old) (H.did hall.old hall.new self.old.me) line.now given
+            (moment_of self.old (H.part hall.old self.old.me) (H.seen hall.old self.old.me) (H.heard hall.old self.old.me))
+            (moment_of self.new (H.part hall.new self.old.me) (H.seen hall.new self.old.me) (H.heard hall.new self.old.me))) }
+        ensures ready { OnOk result (MayDo (moment_of self.new (H.part hall.new self.old.me) (H.seen hall.new self.old.me) (H.heard hall.new self.old.me))) }
+        ensures tied { IsTied (H.seen hall.new self.old.me) (H.own hall.new self.old.me) self.new.joined self.new.maps }
+        ensures same { IsSameParty (with_context self.new.context self.old) self.new }
+
+        ensures free { (number : ℕ) → H.taken hall.new number ≡ None }
+        ensures home { (number : ℕ) → number ≤ MAX_HEAPS → H.may_take hall.new number }
+        ensures goes_on { H.goes_on hall.old hall.new }
+    {
+        self.act_on(hall, line, label, None)
+    }
+
+    // A line that resizes.
+    fn do_resize<H: Waiting>(
+        &mut self,
+        hall: &mut H,
+        line: &Line<'_>,
+        label: &Token<'_>,
+        size: u64,
+    ) -> Result<Answer, AllocError>
+        requires attached { self.old.context.standing.attached ≡ true }
+        requires own { line.now.participant ≡ self.old.me }
+        requires act { line.now.act ≡ act.Resize label.now size }
+        requires serves { H.serves hall.old self.old.me }
+        requires me { self.old.me < H.count hall.old }
+        requires free { (number : ℕ) → H.taken hall.old number ≡ None }
+        requires home { (number : ℕ) → number ≤ MAX_HEAPS → H.may_take hall.old number }
+        requires tied { IsTied (H.seen hall.old self.old.me) (H.own hall.old self.old.me) self.old.joined self.old.maps }
+        requires ready { MayDo (moment_of self.old (H.part hall.old self.old.me) (H.seen hall.old self.old.me) (H.heard hall.old self.old.me)) }
+        ensures does { IfOk result (λ given. DoesLine (H.count hall.old) (H.did hall.old hall.new self.old.me) line.now given
+            (moment_of self.old (H.part hall.old self.old.me) (H.seen hall.old self.old.me) (H.heard hall.old self.old.me))
+            (moment_of self.new (H.part hall.new self.old.me) (H.seen hall.new self.old.me) (H.heard hall.new self.old.me))) }
+        ensures ready { OnOk result (MayDo (moment_of self.new (H.part hall.new self.old.me) (H.seen hall.new self.old.me) (H.heard hall.new self.old.me))) }
+        ensures tied { IsTied (H.seen hall.new self.old.me) (H.own hall.new self.old.me) self.new.joined self.new.maps }
+        ensures same { IsSameParty (with_context self.new.context self.old) self.new }
+
+        ensures free { (number : ℕ) → H.taken hall.new number ≡ None }
+        ensures home { (number : ℕ) → number ≤ MAX_HEAPS → H.may_take hall.new number }
+        ensures goes_on { H.goes_on hall.old hall.new }
+    {
+        match rounded(size) {
+            Ok(size) => self.act_on(hall, line, label, Some(size)),
+            Err(kind) => Ok(Answer::BadRequest { kind }),
+        }
+    }
+
+    // A line that asks for the statistics of a heap.
+    fn do_dump<H: Waiting>(
+        &mut self,
+        hall: &mut H,
+        line: &Line<'_>,
+        name: &Token<'_>,
+    ) -> Result<Answer, AllocError>
+        requires attached { self.old.context.standing.attached ≡ true }
+        requires own { line.now.participant ≡ self.old.me }
+        requires act { line.now.act ≡ act.Dump name.now }
+        requires serves { H.serves hall.old self.old.me }
+        requires me { self.old.me < H.count hall.old }
+        requires free { (number : ℕ) → H.taken hall.old number ≡ None }
+        requires home { (number : ℕ) → number ≤ MAX_HEAPS → H.may_take hall.old number }
+        requires tied { IsTied (H.seen hall.old self.old.me) (H.own hall.old self.old.me) self.old.joined self.old.maps }
+        requires ready { MayDo (moment_of self.old (H.part hall.old self.old.me) (H.seen hall.old self.old.me) (H.heard hall.old self.old.me)) }
+        ensures does { IfOk result (λ given. DoesLine (H.count hall.old) (H.did hall.old hall.new self.old.me) line.now given
+            (moment_of self.old (H.part hall.old self.old.me) (H.seen hall.old self.old.me) (H.heard hall.old self.old.me))
+            (moment_of self.new (H.part hall.new self.old.me) (H.seen hall.new self.old.me) (H.heard hall.new self.old.me))) }
+        ensures ready { OnOk result (MayDo (moment_of self.new (H.part hall.new self.old.me) (H.seen hall.new self.old.me) (H.heard hall.new self.old.me))) }
+        ensures tied { IsTied (H.seen hall.new self.old.me) (H.own hall.new self.old.me) self.new.joined self.new.maps }
+        ensures same { IsSameParty (with_context self.new.context self.old) self.new }
+
+        ensures free { (number : ℕ) → H.taken hall.new number ≡ None }
+        ensures home { (number : ℕ) → number ≤ MAX_HEAPS → H.may_take hall.new number }
+        ensures goes_on { H.goes_on hall.old hall.new }
+    {
+        let Some(index) = self.context.index_named(name) else {
+            return Ok(Answer::NotFound);
+        };
+        let mut heap = self.hold(hall, index, 1)?;
+        let stats = self.stats_in(&mut heap);
+        self.put(hall, heap);
+        Ok(Answer::Statistics { stats })
+    }
+
+    /// Does one of its lines, and gives the answer: an allocation, a free, a resize or a dump. It holds no slot before and after. Where
+    /// memory runs out, the numbers of its calls, or a mapper's calls, it does no further line. After rte_malloc_socket, rte_free,
+    /// malloc_elem_resize and rte_malloc_dump_stats.
+    pub fn do_line<H: Waiting>(
+        &mut self,
+        hall: &mut H,
+        line: &Line<'_>,
+    ) -> Result<Answer, AllocError>
+        requires own { line.now.participant ≡ self.old.me }
+        requires next { IsNextLine self.old.context line.now }
+        requires built { IsLineOfOne line.now.act }
+        requires serves { H.serves hall.old self.old.me }
+        requires me { self.old.me < H.count hall.old }
+        requires free { (number : ℕ) → H.taken hall.old number ≡ None }
+        requires home { (number : ℕ) → number ≤ MAX_HEAPS → H.may_take hall.old number }
+        requires tied { IsTied (H.seen hall.old self.old.me) (H.own hall.old self.old.me) self.old.joined self.old.maps }
+        requires ready { MayDo (moment_of self.old (H.part hall.old self.old.me) (H.seen hall.old self.old.me) (H.heard hall.old self.old.me)) }
+
+        // What it did, by what was known when it began, and what that leaves.
+        ensures does { IfOk result (λ given. DoesLine (H.count hall.old) (H.did hall.old hall.new self.old.me) line.now given
+            (moment_of self.old (H.part hall.old self.old.me) (H.seen hall.old self.old.me) (H.heard hall.old self.old.me))
+            (moment_of self.new (H.part hall.new self.old.me) (H.seen hall.new self.old.me) (H.heard hall.new self.old.me))) }
+        ensures ready { OnOk result (MayDo (moment_of self.new (H.part hall.new self.old.me) (H.seen hall.new self.old.me) (H.heard hall.new self.old.me))) }
+        ensures tied { IsTied (H.seen hall.new self.old.me) (H.own hall.new self.old.me) self.new.joined self.new.maps }
+        ensures same { IsSameParty (with_context self.new.context self.old) self.new }
+
+        ensures free { (number : ℕ) → H.taken hall.new number ≡ None }
+        ensures home { (number : ℕ) → number ≤ MAX_HEAPS → H.may_take hall.new number }
+        ensures goes_on { H.goes_on hall.old hall.new }
+    {
+        if !self.context.attached {
+            return Ok(Answer::Detached);
+        }
+        match &line.act {
+            Act::Alloc { size, options, .. } => self.do_alloc(hall, line, *size, options),
+            Act::Free { label } => self.do_free(hall, line, label),
+            Act::Resize { label, size } => self.do_resize(hall, line, label, *size),
+            Act::Dump { heap } => self.do_dump(hall, line, heap),
+            _ => unreachable!(),
+        }
+    }
+}

@@ -1,0 +1,245 @@
+//! A line looks for its element in heaps, and acts on it where it is there.
+ghost use Rattle.std.specs.Prelude.{◌≡◌, ℕ, ◌+◌, ◌^◌, ◌<◌, ◌≤◌, ◌∷◌, List, Some, None, IfOk, OnOk, Contains, false};
+ghost use Rattle.hp_base.specs.declared.limits.TheConstants.{MAX_HEAPS};
+ghost use Rattle.hp_base.specs.declared.tag.Tag.{Tag};
+ghost use Rattle.hp_script.specs.Acts.{label_used};
+ghost use Rattle.hp_proc.specs.Allocating.{unless_answered};
+ghost use Rattle.hp_proc.specs.Contexts.{AreFactsOf, IsPlaceOf};
+ghost use Rattle.hp_proc.specs.Doing.{Doing};
+ghost use Rattle.hp_proc.specs.Freeing.{IsSizedWell, act_for, acting, behind_looking, left_of, looking};
+ghost use Rattle.hp_proc.specs.Lines.{Facts, on_element};
+ghost use Rattle.hp_proc.specs.Party.{IsSameParty, with_calls};
+ghost use Rattle.hp_proc.specs.Progress.{AreSettled, Does, IsInHand, MayDo, in_hand, moment_of};
+ghost use Rattle.hp_proc.specs.Tied.{IsTied};
+ghost use Rattle.hp_proc.specs.declared.searched_heap.SearchedHeap.{SearchedHeap};
+
+use super::Participant;
+use crate::element_act::{ElementAct, Left};
+use crate::looking_for::{act_for, is_zone};
+use crate::searched_heap::SearchedHeap;
+use hp_base::{Mapper, Tag};
+use hp_hall::{Hall, Waiting};
+use hp_heap::Heap;
+use hp_script::{Answer, Line, Token};
+use std::alloc::AllocError;
+
+// The calls of one heap that such a line makes at most: a search, a free, a cut.
+const CALLS: usize = 3;
+
+impl<'p, M: Mapper> Participant<'p, M> {
+    // Looks for the element with a tag in the heap in its hand, and acts on it where it is there.
+    fn look_held<H: Hall>(
+        &mut self,
+        hall: &mut H,
+        heap: &mut Heap,
+        place: &SearchedHeap,
+        tag: Tag,
+        action: ElementAct,
+    ) -> Option<Left>
+        requires size { IsSizedWell action }
+        requires serves { H.serves hall.old self.old.me }
+        requires me { self.old.me < H.count hall.old }
+        requires free { H.taken hall.old MAX_HEAPS ≡ None }
+        requires home { H.may_take hall.old MAX_HEAPS }
+        requires tied { IsTied (H.seen hall.old self.old.me) (H.own hall.old self.old.me) self.old.joined self.old.maps }
+        requires in_hand { IsInHand (H.taken hall.old) (moment_of self.old (H.part hall.old self.old.me) (H.seen hall.old self.old.me) (H.heard hall.old self.old.me)) heap.old }
+        requires settled { AreSettled (moment_of self.old (H.part hall.old self.old.me) (H.seen hall.old self.old.me) (H.heard hall.old self.old.me)) }
+        requires its { place.now.index ≡ heap.old.plain.index }
+        requires of_socket { place.now.serves ≡ heap.old.plain.serves }
+        requires spare { 3 ≤ heap.old.spare }
+        requires counted { self.old.context.calls + 3 < 2 ^ 64 }
+        ensures does { (places : List SearchedHeap) → Does (H.count hall.old) (H.did hall.old hall.new self.old.me) (looking tag (acting action) (place.now ∷ places)) (behind_looking place.now.index (looking tag (acting action) places) result)
+            (in_hand heap.old (moment_of self.old (H.part hall.old self.old.me) (H.seen hall.old self.old.me) (H.heard hall.old self.old.me)))
+            (in_hand heap.new (moment_of self.new (H.part hall.new self.old.me) (H.seen hall.new self.old.me) (H.heard hall.new self.old.me))) }
+        ensures in_hand { IsInHand (H.taken hall.new) (moment_of self.new (H.part hall.new self.old.me) (H.seen hall.new self.old.me) (H.heard hall.new self.old.me)) heap.new }
+        ensures index { heap.new.plain.index ≡ heap.old.plain.index }
+        ensures its_socket { heap.new.plain.serves ≡ heap.old.plain.serves }
+        ensures settled { AreSettled (moment_of self.new (H.part hall.new self.old.me) (H.seen hall.new self.old.me) (H.heard hall.new self.old.me)) }
+        ensures tied { IsTied (H.seen hall.new self.old.me) (H.own hall.new self.old.me) self.new.joined self.new.maps }
+        ensures same { IsSameParty (with_calls self.new.context.calls self.old) self.new }
+
+        ensures taken { (number : ℕ) → H.taken hall.new number ≡ H.taken hall.old number }
+        ensures home { (number : ℕ) → H.may_take hall.old number → H.may_take hall.new number }
+        ensures goes_on { H.goes_on hall.old hall.new }
+    {
+        let addr = self.find_in(heap, tag)?;
+        Some(self.act_held(hall, heap, place, addr, action))
+    }
+
+    // Tells the coordinator of a run that was given up, where one was; it answers the line then.
+    fn tell<H: Waiting>(
+        &mut self,
+        hall: &mut H,
+        heap: u32,
+        left: Left,
+    ) -> Result<Answer, AllocError>
+        requires serves { H.serves hall.old self.old.me }
+        requires me { self.old.me < H.count hall.old }
+        requires free { (number : ℕ) → H.taken hall.old number ≡ None }
+        requires home { (number : ℕ) → number ≤ MAX_HEAPS → H.may_take hall.old number }
+        requires tied { IsTied (H.seen hall.old self.old.me) (H.own hall.old self.old.me) self.old.joined self.old.maps }
+        requires ready { MayDo (moment_of self.old (H.part hall.old self.old.me) (H.seen hall.old self.old.me) (H.heard hall.old self.old.me)) }
+        ensures does { IfOk result (λ given. Does (H.count hall.old) (H.did hall.old hall.new self.old.me) (left_of heap left) (Doing.Ended given)
+            (moment_of self.old (H.part hall.old self.old.me) (H.seen hall.old self.old.me) (H.heard hall.old self.old.me))
+            (moment_of self.new (H.part hall.new self.old.me) (H.seen hall.new self.old.me) (H.heard hall.new self.old.me))) }
+        ensures ready { OnOk result (MayDo (moment_of self.new (H.part hall.new self.old.me) (H.seen hall.new self.old.me) (H.heard hall.new self.old.me))) }
+        ensures tied { IsTied (H.seen hall.new self.old.me) (H.own hall.new self.old.me) self.new.joined self.new.maps }
+        ensures same { IsSameParty (with_calls self.new.context.calls self.old) self.new }
+
+        ensures free { (number : ℕ) → H.taken hall.new number ≡ None }
+        ensures home { (number : ℕ) → H.may_take hall.old number → H.may_take hall.new number }
+        ensures goes_on { H.goes_on hall.old hall.new }
+    {
+        match left {
+            Left::Answered { answer } => Ok(answer),
+            Left::GaveUp { run } => {
+                self.notify(hall, heap, &run)?;
+                Ok(Answer::Done)
+            }
+        }
+    }
+
+    // Holds a heap while it looks for the element with a tag there, and acts on it where it is there. What is then left of the line has no
+    // heap in hand.
+    fn look_there<H: Waiting>(
+        &mut self,
+        hall: &mut H,
+        place: &SearchedHeap,
+        tag: Tag,
+        action: ElementAct,
+    ) -> Result<Option<Left>, AllocError>
+        requires size { IsSizedWell action }
+        requires place { IsPlaceOf self.old.context.pools place.now }
+        requires serves { H.serves hall.old self.old.me }
+        requires me { self.old.me < H.count hall.old }
+        requires free { (number : ℕ) → H.taken hall.old number ≡ None }
+        requires home { (number : ℕ) → number ≤ MAX_HEAPS → H.may_take hall.old number }
+        requires tied { IsTied (H.seen hall.old self.old.me) (H.own hall.old self.old.me) self.old.joined self.old.maps }
+        requires ready { MayDo (moment_of self.old (H.part hall.old self.old.me) (H.seen hall.old self.old.me) (H.heard hall.old self.old.me)) }
+        ensures does { IfOk result (λ left. (places : List SearchedHeap) → Does (H.count hall.old) (H.did hall.old hall.new self.old.me) (looking tag (acting action) (place.now ∷ places)) (behind_looking place.now.index (looking tag (acting action) places) left)
+            (moment_of self.old (H.part hall.old self.old.me) (H.seen hall.old self.old.me) (H.heard hall.old self.old.me))
+            (moment_of self.new (H.part hall.new self.old.me) (H.seen hall.new self.old.me) (H.heard hall.new self.old.me))) }
+        ensures ready { OnOk result (MayDo (moment_of self.new (H.part hall.new self.old.me) (H.seen hall.new self.old.me) (H.heard hall.new self.old.me))) }
+        ensures tied { IsTied (H.seen hall.new self.old.me) (H.own hall.new self.old.me) self.new.joined self.new.maps }
+        ensures same { IsSameParty (with_calls self.new.context.calls self.old) self.new }
+
+        ensures free { (number : ℕ) → H.taken hall.new number ≡ None }
+        ensures home { (number : ℕ) → number ≤ MAX_HEAPS → H.may_take hall.new number }
+        ensures goes_on { H.goes_on hall.old hall.new }
+    {
+        let mut heap = self.hold(hall, place.index, CALLS)?;
+        let left = self.look_held(hall, &mut heap, place, tag, action);
+        self.put(hall, heap);
+        Ok(left)
+    }
+
+    // Looks for the element with a tag in a heap, and acts on it where it is there. The answer is the line's, or none where it is not.
+    fn look_in<H: Waiting>(
+        &mut self,
+        hall: &mut H,
+        place: &SearchedHeap,
+        tag: Tag,
+        action: ElementAct,
+    ) -> Result<Option<Answer>, AllocError>
+        requires size { IsSizedWell action }
+        requires place { IsPlaceOf self.old.context.pools place.now }
+        requires serves { H.serves hall.old self.old.me }
+        requires me { self.old.me < H.count hall.old }
+        requires free { (number : ℕ) → H.taken hall.old number ≡ None }
+        requires home { (number : ℕ) → number ≤ MAX_HEAPS → H.may_take hall.old number }
+        requires tied { IsTied (H.seen hall.old self.old.me) (H.own hall.old self.old.me) self.old.joined self.old.maps }
+        requires ready { MayDo (moment_of self.old (H.part hall.old self.old.me) (H.seen hall.old self.old.me) (H.heard hall.old self.old.me)) }
+        ensures does { IfOk result (λ given. (places : List SearchedHeap) → Does (H.count hall.old) (H.did hall.old hall.new self.old.me) (looking tag (acting action) (place.now ∷ places)) (unless_answered (looking tag (acting action) places) given)
+            (moment_of self.old (H.part hall.old self.old.me) (H.seen hall.old self.old.me) (H.heard hall.old self.old.me))
+            (moment_of self.new (H.part hall.new self.old.me) (H.seen hall.new self.old.me) (H.heard hall.new self.old.me))) }
+        ensures ready { OnOk result (MayDo (moment_of self.new (H.part hall.new self.old.me) (H.seen hall.new self.old.me) (H.heard hall.new self.old.me))) }
+        ensures tied { IsTied (H.seen hall.new self.old.me) (H.own hall.new self.old.me) self.new.joined self.new.maps }
+        ensures same { IsSameParty (with_calls self.new.context.calls self.old) self.new }
+
+        ensures free { (number : ℕ) → H.taken hall.new number ≡ None }
+        ensures home { (number : ℕ) → number ≤ MAX_HEAPS → H.may_take hall.new number }
+        ensures goes_on { H.goes_on hall.old hall.new }
+    {
+        let Some(left) = self.look_there(hall, place, tag, action)? else {
+            return Ok(None);
+        };
+        let answer = self.tell(hall, place.index, left)?;
+        Ok(Some(answer))
+    }
+
+    // Looks for the element with a tag in heaps, one after another, and acts on it in the first that has it.
+    fn look_for<H: Waiting>(
+        &mut self,
+        hall: &mut H,
+        places: &[SearchedHeap],
+        tag: Tag,
+        action: ElementAct,
+    ) -> Result<Answer, AllocError>
+        requires size { IsSizedWell action }
+        requires places { (place : SearchedHeap) → Contains places.now place → IsPlaceOf self.old.context.pools place }
+        requires serves { H.serves hall.old self.old.me }
+        requires me { self.old.me < H.count hall.old }
+        requires free { (number : ℕ) → H.taken hall.old number ≡ None }
+        requires home { (number : ℕ) → number ≤ MAX_HEAPS → H.may_take hall.old number }
+        requires tied { IsTied (H.seen hall.old self.old.me) (H.own hall.old self.old.me) self.old.joined self.old.maps }
+        requires ready { MayDo (moment_of self.old (H.part hall.old self.old.me) (H.seen hall.old self.old.me) (H.heard hall.old self.old.me)) }
+        ensures does { IfOk result (λ given. Does (H.count hall.old) (H.did hall.old hall.new self.old.me) (looking tag (acting action) places.now) (Doing.Ended given)
+            (moment_of self.old (H.part hall.old self.old.me) (H.seen hall.old self.old.me) (H.heard hall.old self.old.me))
+            (moment_of self.new (H.part hall.new self.old.me) (H.seen hall.new self.old.me) (H.heard hall.new self.old.me))) }
+        ensures ready { OnOk result (MayDo (moment_of self.new (H.part hall.new self.old.me) (H.seen hall.new self.old.me) (H.heard hall.new self.old.me))) }
+        ensures tied { IsTied (H.seen hall.new self.old.me) (H.own hall.new self.old.me) self.new.joined self.new.maps }
+        ensures same { IsSameParty (with_calls self.new.context.calls self.old) self.new }
+
+        ensures free { (number : ℕ) → H.taken hall.new number ≡ None }
+        ensures home { (number : ℕ) → number ≤ MAX_HEAPS → H.may_take hall.new number }
+        ensures goes_on { H.goes_on hall.old hall.new }
+    {
+        for place in places {
+            if let Some(answer) = self.look_in(hall, place, tag, action)? {
+                return Ok(answer);
+            }
+        }
+        Ok(Answer::NoElement)
+    }
+
+    // Acts on the element that a label or name stands for: it is freed, or gets a size, where one is given.
+    pub(crate) fn act_on<H: Waiting>(
+        &mut self,
+        hall: &mut H,
+        line: &Line<'_>,
+        label: &Token<'_>,
+        size: Option<u64>,
+    ) -> Result<Answer, AllocError>
+        requires label { label_used line.now.act ≡ Some label.now }
+        requires size { IsSizedWell (act_for false size) }
+        requires serves { H.serves hall.old self.old.me }
+        requires me { self.old.me < H.count hall.old }
+        requires free { (number : ℕ) → H.taken hall.old number ≡ None }
+        requires home { (number : ℕ) → number ≤ MAX_HEAPS → H.may_take hall.old number }
+        requires tied { IsTied (H.seen hall.old self.old.me) (H.own hall.old self.old.me) self.old.joined self.old.maps }
+        requires ready { MayDo (moment_of self.old (H.part hall.old self.old.me) (H.seen hall.old self.old.me) (H.heard hall.old self.old.me)) }
+        ensures does { IfOk result (λ given. (facts : Facts) → AreFactsOf self.old.socket self.old.context line.now facts → Does (H.count hall.old) (H.did hall.old hall.new self.old.me) (on_element self.old.me facts (λ tag. looking tag (acting (act_for tag.zone size))) facts.maker) (Doing.Ended given)
+            (moment_of self.old (H.part hall.old self.old.me) (H.seen hall.old self.old.me) (H.heard hall.old self.old.me))
+            (moment_of self.new (H.part hall.new self.old.me) (H.seen hall.new self.old.me) (H.heard hall.new self.old.me))) }
+        ensures ready { OnOk result (MayDo (moment_of self.new (H.part hall.new self.old.me) (H.seen hall.new self.old.me) (H.heard hall.new self.old.me))) }
+        ensures tied { IsTied (H.seen hall.new self.old.me) (H.own hall.new self.old.me) self.new.joined self.new.maps }
+        ensures same { IsSameParty (with_calls self.new.context.calls self.old) self.new }
+
+        ensures free { (number : ℕ) → H.taken hall.new number ≡ None }
+        ensures home { (number : ℕ) → number ≤ MAX_HEAPS → H.may_take hall.new number }
+        ensures goes_on { H.goes_on hall.old hall.new }
+    {
+        let Some(maker) = self.context.maker_of(label.as_bytes()) else {
+            return Ok(Answer::NoElement);
+        };
+        let places = self.context.places_for(self.me, maker)?;
+        let zone = is_zone(&maker.act);
+        let tag = Tag {
+            who: self.me,
+            zone,
+            number: maker.line,
+        };
+        let action = act_for(zone, size);
+        self.look_for(hall, &places, tag, action)
+    }
+}

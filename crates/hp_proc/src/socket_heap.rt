@@ -1,0 +1,6 @@
+/// The heap of a socket: its index among the heaps, and the number of the socket. After the heaps of malloc_heap.
+#[derive(Clone, Copy, Debug, PartialEq, Eq)]
+pub struct SocketHeap {
+    pub index: u32,
+    pub socket: u32,
+}

@@ -1,0 +1,11 @@
+use hp_hall::PlainHall;
+use hp_maps::Table;
+
+/// What a hall in which participants take turns in one thread leaves at its end. Own.
+#[derive(Drop)]
+pub struct SoloEnd {
+    /// The tables of the participants, by number.
+    pub tables: Vec<Table>,
+    /// The plain values.
+    pub plain: PlainHall,
+}

@@ -1,0 +1,96 @@
+//! What a workload says that lines go by.
+ghost use Rattle.std.specs.Prelude.{◌≡◌, IfOk};
+ghost use Rattle.std.specs.Option.{option_map};
+ghost use Rattle.hp_script.specs.Labels.{maker_of};
+ghost use Rattle.hp_proc.specs.Contexts.{AreSocketHeaps};
+ghost use Rattle.hp_proc.specs.Heaps.{names_socket};
+
+use crate::socket_heap::SocketHeap;
+use hp_base::PoolLine;
+use hp_script::{Line, MakerIndex};
+use std::alloc::{AllocError, Global};
+use std::marker::Model;
+
+// The socket numbers that a pool line may name are below this one.
+const SOCKETS: u32 = 32;
+
+/// What a workload says that its lines go by: the pools, with the heap of each socket that they name, and the lines, which make labels.
+/// Contracts see the pools and the lines. Own.
+#[derive(Drop)]
+pub struct WorkloadFacts<'p> {
+    pools: &'p [PoolLine],
+    // The lines, with what finds those that make names.
+    makers: MakerIndex<'p>,
+    heaps: Vec<SocketHeap>,
+}
+
+impl<'p> Model for WorkloadFacts<'p> {
+    ghost use Rattle.hp_proc.specs.Contexts.{AreSocketHeaps, Said};
+
+    ghost Value = { Said };
+
+    ghost view = { λ a. record { pools = a.pools.now; lines = a.makers } };
+
+    ghost invariant = { λ a. AreSocketHeaps a.pools.now a.heaps.items };
+}
+
+impl<'p> WorkloadFacts<'p> {
+    /// Those of a workload with these pool lines and these lines. Own.
+    pub fn of(
+        alloc: Global,
+        pools: &'p [PoolLine],
+        lines: &'p [Line<'p>],
+    ) -> Result<WorkloadFacts<'p>, AllocError>
+        ensures { IfOk result (λ facts. facts ≡ record { pools = pools.now; lines = lines.now }) }
+    {
+        let makers = MakerIndex::of(alloc, lines)?;
+        let heaps = heaps_of(alloc, pools)?;
+        Ok(WorkloadFacts {
+            pools,
+            makers,
+            heaps,
+        })
+    }
+
+    // The pool lines.
+    pub(crate) fn pools(&self) -> &'p [PoolLine]
+        ensures { result.now ≡ self.now.pools }
+    {
+        self.pools
+    }
+
+    // The heaps of the sockets, by index.
+    pub(crate) fn heaps(&self) -> &[SocketHeap]
+        ensures { AreSocketHeaps self.now.pools result.now }
+    {
+        self.heaps.as_slice()
+    }
+
+    // The line that makes a label or a memzone's name.
+    pub(crate) fn maker_of(&self, name: &[u8]) -> Option<&'p Line<'p>>
+        ensures { option_map (λ line. line.now) result ≡ maker_of self.now.lines name.now }
+    {
+        self.makers.maker_of(name)
+    }
+}
+
+// The heap of each socket that a pool line names, by rising socket number.
+fn heaps_of(alloc: Global, pools: &[PoolLine]) -> Result<Vec<SocketHeap>, AllocError>
+    ensures { IfOk result (λ heaps. AreSocketHeaps pools.now heaps.items) }
+{
+    let mut heaps = Vec::with_capacity(alloc, SOCKETS as usize)?;
+    for socket in 0..SOCKETS {
+        if names_socket(pools, socket) {
+            let index = heaps.len() as u32;
+            heaps.push(SocketHeap { index, socket })?;
+        }
+    }
+    Ok(heaps)
+}
+
+// Whether a pool line names the socket.
+fn names_socket(pools: &[PoolLine], socket: u32) -> bool
+    ensures { result ≡ names_socket pools.now socket }
+{
+    pools.iter().any(|line| line.socket == socket)
+}
