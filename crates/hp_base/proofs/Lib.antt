@@ -8,4 +8,5 @@ pub mod NameLemmas
 pub mod RequestLemmas
 pub mod StreamLemmas
 mod PlanLemmas
+pub mod PlannedMapping
 mod MappingLemmas

@@ -1,6 +1,7 @@
 -- What a mapper holds, when it may map, and what each call leaves: the rule "The mapper" of docs/OUTSIDE.md.
-use Rattle.std.specs.Prelude.{◌≡◌, ℕ, ◌+◌, ◌-◌, ◌*◌, ◌^◌, ◌<◌, Bool, true, false, not, ◌&&◌, ◌==◌, List, [], ◌∷◌, ◌++◌, length, filter, map, All}
+use Rattle.std.specs.Prelude.{◌≡◌, ℕ, ◌+◌, ◌-◌, ◌*◌, ◌^◌, ◌<◌, Bool, true, false, not, ◌&&◌, ◌==◌, List, [], ◌∷◌, ◌++◌, length, filter, map, All, Option, Some, None}
 use Rattle.std.specs.List.{list_any}
+use Rattle.hp_base.specs.Streams.{list_has}
 use Rattle.hp_base.specs.declared.caught.Caught.{Caught}
 use Rattle.hp_base.specs.declared.caught.Caught.TheVariants as caught
 use Rattle.hp_base.specs.declared.row.Row.{Row}
@@ -51,6 +52,15 @@ held_after row Refused held = held
 -- what is held once a row is unmapped: all others, in their order
 abbrev pub without_row : Row → List Held → List Held
 without_row row held = filter (λ one. not (is_row row one.row)) held
+
+-- a row may fail at a mapping call: the call is among those at which the mapper may fail, or these are not told
+abbrev pub may_fail_at : Option (List ℕ) → ℕ → Bool
+may_fail_at None call = true
+may_fail_at (Some calls) call = list_has call calls
+
+-- a mapper is steady: it may fail at no call, so each row comes out at its own place
+abbrev pub IsSteady : Option (List ℕ) → Type 0
+IsSteady may_fail = may_fail ≡ Some []
 
 -- when a mapper may be asked to map a row, by what it holds, its capacity and the number of its mapping calls so far
 pub record CanMap (row : Row) (held : List Held) (capacity calls : ℕ) : Type 0 where

@@ -1,5 +1,5 @@
 -- What a plan says of a message and of a mapping call: the rule "Plans" of docs/OUTSIDE.md.
-use Rattle.std.specs.Prelude.{◌≡◌, ℕ, ◌≤◌, ◌<◌, Bool, true, false, ◌&&◌, ◌==◌, List, find, All, AllPairs, Contains}
+use Rattle.std.specs.Prelude.{◌≡◌, ℕ, ◌≤◌, ◌<◌, Bool, true, false, ◌&&◌, ◌==◌, List, [], ◌∷◌, find, if◌then◌else◌, All, AllPairs, Contains}
 use Rattle.std.specs.List.{list_any}
 use Rattle.std.specs.Option.{option_map_or}
 use Rattle.hp_base.specs.declared.limits.TheConstants.{MAX_COUNT}
@@ -39,6 +39,17 @@ names_same (Mapping party call elsewhere line) other = names_mapping party call 
 -- an entry of the plan names what another one does ("Plans")
 abbrev pub has_named : List PlanEntry → PlanEntry → Bool
 has_named plan entry = list_any (λ other. names_same other entry) plan
+
+-- an entry of the plan names that mapping call of that party ("Plans")
+abbrev pub plans_mapping : List PlanEntry → ℕ → ℕ → Bool
+plans_mapping plan party call = list_any (names_mapping party call) plan
+
+-- the mapping calls of a party that the plan names, in the order of its entries ("Plans")
+abbrev pub planned_calls : List PlanEntry → ℕ → List ℕ
+planned_calls [] party = []
+planned_calls (Message kind its_party k twice line ∷ plan) party = planned_calls plan party
+planned_calls (Mapping its_party call elsewhere line ∷ plan) party =
+    if party == its_party then call ∷ planned_calls plan party else planned_calls plan party
 
 -- two entries name different things ("Plans")
 abbrev pub IsOtherEntry : PlanEntry → PlanEntry → Type 0

@@ -1,5 +1,15 @@
-ghost use Rattle.std.specs.Prelude.{ℕ, ◌<◌};
-ghost use Rattle.hp_base.specs.Laws.{HasLimits, HasNumbers, ComputesClass, ClassesRise, Rounds, ComputesPlace, JudgesMemory};
+ghost use Rattle.std.specs.Prelude.{ℕ, ◌<◌, List};
+ghost use Rattle.hp_base.specs.Laws.{
+  ClassesRise,
+  ComputesClass,
+  ComputesPlace,
+  HasLimits,
+  HasNumbers,
+  JudgesMemory,
+  PlansMapping,
+  Rounds,
+};
+ghost use Rattle.hp_base.specs.declared.plan_entry.PlanEntry.{PlanEntry};
 
 /// Each size has one class, which the computed number is, and the classes rise with the sizes. This law and the
 /// others here are proved of all numbers; their functions have no code.
@@ -33,4 +43,10 @@ pub fn numbers_law()
 /// a plan, and the deadline.
 pub fn limits_law()
     ensures { HasLimits }
+{}
+
+/// A plan names a mapping call of a party exactly where it has an entry for it, and then lists it; where it names none it asks
+/// the mapper.
+pub fn plan_law()
+    ensures { (plan : List PlanEntry) (party call : ℕ) → PlansMapping plan party call }
 {}

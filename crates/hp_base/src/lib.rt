@@ -42,7 +42,7 @@ pub use clock::{Clock, StepClock};
 pub use data_place::place;
 pub use event::{Event, EventKind};
 pub use judge::{Judge, NoLimits};
-pub use laws::{class_law, limits_law, memory_law, numbers_law, place_law, rounding_law};
+pub use laws::{class_law, limits_law, memory_law, numbers_law, place_law, plan_law, rounding_law};
 pub use limits::{
     MAX_COUNT, MAX_DEADLINE, MAX_HEAPS, MAX_LINES, MAX_LIST_SEGMENTS, MAX_LISTS, MAX_PARTICIPANTS,
     MAX_SEGMENTS, MAX_SOCKETS, MAX_WORKLOAD_BYTES,

@@ -1,5 +1,5 @@
-ghost use Rattle.std.specs.Prelude.{◌≡◌, ◌≤◌, ◌∷◌, ◌++◌, [], ℕ, List, filter, length, not, vec_capacity, vec_len};
-ghost use Rattle.hp_base.specs.Mapping.{Held, CanMap, held_after, is_refused, is_row, own_place, without_row};
+ghost use Rattle.std.specs.Prelude.{◌≡◌, ◌+◌, ◌≤◌, ◌∷◌, ◌++◌, [], ℕ, List, Option, Some, false, filter, length, not, vec_capacity, vec_len};
+ghost use Rattle.hp_base.specs.Mapping.{Held, CanMap, held_after, is_refused, is_row, may_fail_at, own_place, without_row};
 ghost use Rattle.hp_base.specs.Streams.{CountsFault};
 ghost use Rattle.hp_base.specs.declared.map_answer.MapAnswer.{MapAnswer};
 
@@ -25,20 +25,30 @@ pub trait Mapper: Drop {
     /// How often mapping has failed.
     ghost faults: { Self → ℕ };
 
+    /// The mapping calls, counted from 1, at which it may fail, where that is told: refuse the row, or map it at another
+    /// place. Where it is not told it may fail at any. Mapping and unmapping never change this.
+    ghost may_fail: { Self → Option (List ℕ) };
+
     /// Maps a row, at its own place or another, or refuses it.
     fn map(&mut self, row: &Row) -> MapAnswer
         requires { CanMap row.now (held self.old) (capacity self.old) (length (answers self.old)) }
         ensures held { held self.new ≡ held_after row.now result (held self.old) }
         ensures capacity { capacity self.new ≡ capacity self.old }
         ensures answers { answers self.new ≡ answers self.old ++ result ∷ [] }
-        ensures cause { CountsFault (faults self.old) (faults self.new) (is_refused result) };
+        ensures cause { CountsFault (faults self.old) (faults self.new) (is_refused result) }
+        ensures may_fail { may_fail self.new ≡ may_fail self.old }
+
+        // At a call at which it may not fail, the row comes out at its own place.
+        ensures steady { may_fail_at (may_fail self.old) (length (answers self.old) + 1) ≡ false
+            → result ≡ own_place row.now };
 
     /// Unmaps a row, if it is held.
     fn unmap(&mut self, row: &Row)
         ensures held { held self.new ≡ without_row row.now (held self.old) }
         ensures capacity { capacity self.new ≡ capacity self.old }
         ensures answers { answers self.new ≡ answers self.old }
-        ensures faults { faults self.new ≡ faults self.old };
+        ensures faults { faults self.new ≡ faults self.old }
+        ensures may_fail { may_fail self.new ≡ may_fail self.old };
 }
 
 /// A mapper that keeps its rows, each at its own place, and refuses at the calls that it is told.
@@ -107,6 +117,7 @@ impl MemMapper {
 impl Mapper for MemMapper {
     ghost use Rattle.hp_base.specs.Mapping.{owned};
     ghost use Rattle.hp_base.specs.MemMapping.{after_map, after_unmap, answer_to};
+    ghost use Rattle.hp_base.specs.Streams.{list_has};
 
     ghost held = { λ m. owned m.rows };
 
@@ -116,12 +127,16 @@ impl Mapper for MemMapper {
 
     ghost faults = { λ m. m.faults };
 
+    ghost may_fail = { λ m. Some m.fails };
+
     fn map(&mut self, row: &Row) -> MapAnswer
         requires { CanMap row.now (owned self.old.rows) self.old.capacity (length self.old.answers) }
         ensures held { owned self.new.rows ≡ held_after row.now result (owned self.old.rows) }
         ensures capacity { self.new.capacity ≡ self.old.capacity }
         ensures answers { self.new.answers ≡ self.old.answers ++ result ∷ [] }
         ensures cause { CountsFault self.old.faults self.new.faults (is_refused result) }
+        ensures may_fail { Some self.new.fails ≡ Some self.old.fails }
+        ensures steady { list_has (length self.old.answers + 1) self.old.fails ≡ false → result ≡ own_place row.now }
 
         // Which answer it is, and the mapper after it.
         ensures answer { result ≡ answer_to self.old row.now }
@@ -142,6 +157,7 @@ impl Mapper for MemMapper {
         ensures capacity { self.new.capacity ≡ self.old.capacity }
         ensures answers { self.new.answers ≡ self.old.answers }
         ensures faults { self.new.faults ≡ self.old.faults }
+        ensures may_fail { Some self.new.fails ≡ Some self.old.fails }
 
         // The mapper without it.
         ensures after { self.new ≡ after_unmap self.old row.now }

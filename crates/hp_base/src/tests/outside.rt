@@ -1,6 +1,8 @@
-ghost use Rattle.std.specs.Prelude.{◌≡◌, ◌+◌, ◌*◌, ◌<◌};
+ghost use Rattle.std.specs.Prelude.{◌≡◌, ◌+◌, ◌*◌, ◌<◌, Some, false, true, IfOk};
+ghost use Rattle.hp_base.specs.Mapping.{IsSteady, may_fail_at};
 
 use crate::*;
+use std::alloc::{AllocError, Global};
 use std::test::Fail;
 
 const PAGE: u64 = 0x20_0000;
@@ -41,6 +43,31 @@ fn a_mapper_refuses_its_second_call(rt: HostRuntime) -> Result<(), Fail> {
     assert_eq!(rt; mapper.rows(), [row(0), row(1)].as_slice());
     mapper.unmap(&row(0));
     assert_eq!(rt; mapper.rows(), [row(1)].as_slice());
+    Ok(())
+}
+
+// A mapper that is told no call to fail at is steady.
+fn steady_mapper(alloc: Global) -> Result<MemMapper, AllocError>
+    ensures { IfOk result (λ mapper. IsSteady (Some mapper.fails)) }
+{
+    MemMapper::new(alloc, 3)
+}
+
+// One that is told calls 2 and 5 may fail at these, and at call 3 it may not.
+fn unsteady_mapper(alloc: Global) -> Result<MemMapper, AllocError>
+    ensures second { IfOk result (λ mapper. may_fail_at (Some mapper.fails) 2 ≡ true) }
+    ensures third { IfOk result (λ mapper. may_fail_at (Some mapper.fails) 3 ≡ false) }
+    ensures fifth { IfOk result (λ mapper. may_fail_at (Some mapper.fails) 5 ≡ true) }
+{
+    let mut mapper = MemMapper::new(alloc, 3)?;
+    mapper.fail_at(Vec::from_slice(alloc, &[2, 5])?);
+    Ok(mapper)
+}
+
+#[test]
+fn a_mapper_may_fail_where_it_is_told(rt: HostRuntime) -> Result<(), Fail> {
+    assert!(rt; steady_mapper(rt.alloc())?.rows().is_empty());
+    assert!(rt; unsteady_mapper(rt.alloc())?.rows().is_empty());
     Ok(())
 }
 
