@@ -9,10 +9,11 @@ use Rattle.hp_base.specs.declared.caught.Caught.TheVariants as caught
 use Rattle.hp_base.specs.declared.row.Row.{Row}
 use Rattle.hp_log.specs.Log.{run_in, table_at}
 use Rattle.hp_log.specs.declared.log_record.LogRecord.{LogRecord}
+use Rattle.hp_log.specs.declared.log_record.LogRecord.TheVariants.{Add, Drop}
 use Rattle.hp_log.proofs.Counts.{count_append, count_filter, count_split}
 use Rattle.hp_maps.specs.Catching.{CanCatchUp, IsMappableRun, Lags, goes, is_dropped, kept, new_rows, newer, number_after, rows_after, undropped}
 use Rattle.hp_maps.specs.MapsView.{AreApart, MapsView, calls_of, chunk_rows, is_of_log, table_in}
-use Rattle.hp_maps.specs.Unmapping.{CanTakeIn, IsWithin}
+use Rattle.hp_maps.specs.Unmapping.{CanTakeIn, IsWithin, has_drop}
 use Rattle.hp_maps.proofs.ListFacts.{filter_agree, filter_drops, filter_keeps, filter_twice}
 use Rattle.hp_maps.proofs.TableLaw.{table_law, undropped_lag, undropped_none}
 use Rattle.hp_maps.proofs.TakeLemmas.{all_new_rows, new_within}
@@ -48,6 +49,21 @@ chunks_kept records rows =
     filter_twice (λ row. not (is_of_log row)) (λ row. not (goes records row)) rows
     ∙ filter_agree _ (λ row. not (is_of_log row)) rows
     (every _ (λ row. of_chunk_kept (is_of_log row) (is_dropped records row)) rows)
+
+-- records that are no Drop leave all rows
+none_dropped : (records : List LogRecord) (row : Row) → has_drop records ≡ false → is_dropped records row ≡ false
+none_dropped [] row none = refl
+none_dropped (Add run heap ∷ records) row none = none_dropped records row none
+none_dropped (Drop run ∷ records) row none = cc
+
+pub all_kept : (records : List LogRecord) (rows : List Row) → has_drop records ≡ false → kept records rows ≡ rows
+all_kept records rows none =
+    filter_keeps (λ row. not (goes records row)) rows
+    (every _ (λ row. ap not (ap (λ b. is_of_log row && b) (none_dropped records row none) ∙ never (is_of_log row))) rows)
+  where
+    never : (b : Bool) → (b && false) ≡ false
+    never true = refl
+    never false = refl
 
 -- what records bring is of the log
 new_of_log : (n : ℕ) (records : List LogRecord) → All (λ row. is_of_log row ≡ true) (new_rows n records)

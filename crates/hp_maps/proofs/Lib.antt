@@ -1,6 +1,7 @@
 mod ListFacts
 mod HeldLemmas
 mod MapLemmas
+pub mod PlannedLemmas
 mod NewRows
 mod TableLaw
 mod TakeLemmas

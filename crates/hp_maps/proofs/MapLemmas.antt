@@ -1,17 +1,17 @@
 -- Rows that are mapped one after the other, and unmapped again where one of them failed.
-use Rattle.std.proofs.Common.{◌≡◌, ◌≤◌, ◌<◌, ℕ, ◌+◌, ◌-◌, ◌==◌, Bool, true, false, cond, List, [], ◌∷◌, ◌++◌, length, map, take, drop, get_or, Some, refl, ap, ◌∙◌, sym, subst, arith, add-one, length-append, length-take, length-drop, take-suc, get_or-drop, append_assoc}
+use Rattle.std.proofs.Common.{◌≡◌, ◌≤◌, ◌<◌, ℕ, ◌+◌, ◌-◌, ◌==◌, Bool, true, false, cond, List, [], ◌∷◌, ◌++◌, length, map, take, drop, get_or, Option, Some, refl, ap, ◌∙◌, sym, subst, arith, inl, inr, add-one, length-append, length-take, length-drop, take-suc, get_or-drop, append_assoc}
 use Rattle.std.proofs.Math.Seq.{take-add}
 use Rattle.std.specs.List.{list_any}
-use Rattle.std.proofs.lemmas.Bool.{eq-eqb, eqb-true, and_from, and_parts}
+use Rattle.std.proofs.lemmas.Bool.{cases_Bool, eq-eqb, eqb-true, and_from, and_parts}
 use Rattle.std.proofs.lemmas.List.{length-map, take-append-drop, map-append}
 use Rattle.std.proofs.lemmas.List.Elements.{All-get_or}
 use Rattle.std.proofs.lemmas.Option.{slice_get-get_or}
-use Rattle.hp_base.specs.Mapping.{Held, CanMap, at_own_place, has_addr, is_refused, own_place, owned}
+use Rattle.hp_base.specs.Mapping.{Held, CanMap, at_own_place, has_addr, is_refused, may_fail_at, own_place, owned}
 use Rattle.hp_base.specs.declared.map_answer.MapAnswer.{MapAnswer}
 use Rattle.hp_base.specs.declared.map_answer.MapAnswer.TheVariants.{At, Refused}
 use Rattle.hp_base.specs.declared.row.Row.{Row}
 use Rattle.hp_log.proofs.Counts.{count_append, count_cons}
-use Rattle.hp_maps.specs.Catching.{HasAnswered, HasFailed}
+use Rattle.hp_maps.specs.Catching.{HasAnswered, HasFailed, HasReason}
 use Rattle.hp_maps.specs.MapsView.{AreApart}
 use Rattle.hp_maps.specs.Unmapping.{CanMapRows, IsWithin, caught_by, held_own, is_own, rows_mapped, without_rows}
 use Rattle.hp_maps.proofs.HeldLemmas.{all_placed, held_addr, without_behind}
@@ -158,6 +158,18 @@ answered_failed rows start at d got now before first calls call from within is_b
         → is_own (get_or rows at d) answer ≡ false → HasAnswered (drop start rows) first now (caught_by (get_or rows at d) call answer)
     by_answer (At addr page socket) had away = (had, record { mapped = refl; other = not_own (get_or rows at d) (At addr page socket) away })
     by_answer Refused had away = had
+
+-- the call that failed is one at which the mapper may fail
+pub failed_reason : (row : Row) (got : MapAnswer) (may_fail : Option (List ℕ)) (before call : ℕ) → is_own row got ≡ false
+    → (may_fail_at may_fail (before + 1) ≡ false → got ≡ own_place row) → call ≡ before + 1 → HasReason may_fail (caught_by row call got)
+failed_reason row got may_fail before call other steady its_call = elim (cases_Bool (may_fail_at may_fail call)) [
+  | inl may ↦ by_answer got may
+  | inr never ↦ absurd (not_own row got other (steady (ap (may_fail_at may_fail) (sym its_call) ∙ never)))
+]
+  where
+    by_answer : (answer : MapAnswer) → may_fail_at may_fail call ≡ true → HasReason may_fail (caught_by row call answer)
+    by_answer (At addr page socket) may = may
+    by_answer Refused may = may
 
 pub own_unrefused : (row : Row) (got : MapAnswer) → is_own row got ≡ true → is_refused got ≡ false
 own_unrefused row (At addr page socket) own = refl

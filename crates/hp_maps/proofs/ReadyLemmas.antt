@@ -229,7 +229,7 @@ lags_behind_more records more n to further table within beyond lag =
     }
 
 pub new_is_ready : NewIsReady
-new_is_ready lists capacity faults records to log within room = record {
+new_is_ready lists capacity faults may_fail records to log within room = record {
   from = omega arith;
   within = within;
   log = log;

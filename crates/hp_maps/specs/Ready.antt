@@ -1,6 +1,6 @@
 -- What a participant knows when it catches up or attaches a chunk, where the log is one of lists that lie apart. It gives the conditions of
 -- these calls.
-use Rattle.std.specs.Prelude.{◌≡◌, ◌⊎◌, ℕ, ◌+◌, ◌-◌, ◌/◌, ◌^◌, ◌<◌, ◌≤◌, List, [], ◌++◌, length}
+use Rattle.std.specs.Prelude.{◌≡◌, ◌⊎◌, ℕ, ◌+◌, ◌-◌, ◌/◌, ◌^◌, ◌<◌, ◌≤◌, List, Option, [], ◌++◌, length}
 use Rattle.std.specs.List.{All}
 use Rattle.hp_base.specs.ExternalMemory.{IsExternalMemory}
 use Rattle.hp_base.specs.declared.caught.Caught.{Caught}
@@ -31,9 +31,11 @@ pub record IsReady (lists : List ListPlace) (maps : MapsView) (records : List Lo
 
 -- so it is with a new table, where it has room for all slots
 abbrev pub NewIsReady : Type 0
-NewIsReady = (lists : List ListPlace) (capacity faults : ℕ) (records : List LogRecord) (to : ℕ) → IsLogOf lists records → to ≤ length records
-    → slots_in lists ≤ capacity
-    → IsReady lists (record { rows = []; number = 0; capacity = capacity; answers = []; faults = faults; held = [] }) records to
+NewIsReady = (lists : List ListPlace) (capacity faults : ℕ) (may_fail : Option (List ℕ)) (records : List LogRecord) (to : ℕ) → IsLogOf lists records
+    → to ≤ length records → slots_in lists ≤ capacity
+    → IsReady lists
+    (record { rows = []; number = 0; capacity = capacity; answers = []; faults = faults; may_fail = may_fail; held = [] })
+    records to
 
 -- and again after a catch-up, however it ended, for as much of a longer log
 abbrev pub StaysReady : Type 0

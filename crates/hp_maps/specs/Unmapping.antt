@@ -1,6 +1,6 @@
 -- What is held as rows are mapped and unmapped, one after the other. No public clause cites this module.
-use Rattle.std.specs.Prelude.{◌≡◌, ℕ, ◌+◌, ◌*◌, ◌^◌, ◌<◌, ◌≤◌, Bool, false, ◌&&◌, ◌==◌, List, [], ◌∷◌, ◌++◌, length, take, drop, if◌then◌else◌}
-use Rattle.std.specs.List.{All}
+use Rattle.std.specs.Prelude.{◌≡◌, ℕ, ◌+◌, ◌*◌, ◌^◌, ◌<◌, ◌≤◌, Bool, true, false, ◌&&◌, ◌==◌, List, [], ◌∷◌, ◌++◌, length, take, drop, if◌then◌else◌}
+use Rattle.std.specs.List.{All, list_any}
 use Rattle.hp_base.specs.Mapping.{Held, at_own_place, owned, without_row}
 use Rattle.hp_base.specs.declared.caught.Caught.{Caught}
 use Rattle.hp_base.specs.declared.caught.Caught.TheVariants as caught
@@ -9,8 +9,18 @@ use Rattle.hp_base.specs.declared.map_answer.MapAnswer.TheVariants.{At, Refused}
 use Rattle.hp_base.specs.declared.row.Row.{Row}
 use Rattle.hp_log.specs.Log.{run_in}
 use Rattle.hp_log.specs.declared.log_record.LogRecord.{LogRecord}
+use Rattle.hp_log.specs.declared.log_record.LogRecord.TheVariants.{Add, Drop}
 use Rattle.hp_maps.specs.Catching.{IsMappableRun, kept, new_rows}
 use Rattle.hp_maps.specs.MapsView.{AreApart}
+
+-- the record is a Drop
+abbrev pub is_drop : LogRecord → Bool
+is_drop (Add run heap) = false
+is_drop (Drop run) = true
+
+-- one of the records is a Drop
+abbrev pub has_drop : List LogRecord → Bool
+has_drop records = list_any is_drop records
 
 -- what is held once rows are unmapped, one after the other
 abbrev pub without_rows : List Row → List Held → List Held

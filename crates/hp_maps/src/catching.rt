@@ -2,7 +2,7 @@
 ghost use Rattle.std.specs.Prelude.{◌≡◌, ◌+◌, ◌^◌, ◌<◌, ◌≤◌, length, take, drop, vec_capacity};
 ghost use Rattle.hp_base.specs.Mapping.{is_done, owned};
 ghost use Rattle.hp_base.specs.Streams.{CountsFault};
-ghost use Rattle.hp_maps.specs.Catching.{HasAnswered, kept, new_rows, number_after, rows_after, was_refused};
+ghost use Rattle.hp_maps.specs.Catching.{HasAnswered, HasReason, kept, new_rows, number_after, rows_after, was_refused};
 ghost use Rattle.hp_maps.specs.Unmapping.{CanMapRows, CanTakeIn, calls_after, rows_mapped};
 
 use crate::mapping::{drop_rows, map_rows};
@@ -31,6 +31,8 @@ pub fn take_in<M: Mapper>(
     ensures capacity { M.capacity mapper.new ≡ M.capacity mapper.old }
     ensures memory { vec_capacity rows.old ≤ vec_capacity rows.new }
     ensures cause { CountsFault (M.faults mapper.old) (M.faults mapper.new) (was_refused result) }
+    ensures may_fail { M.may_fail mapper.new ≡ M.may_fail mapper.old }
+    ensures reason { HasReason (M.may_fail mapper.old) result }
 {
     drop_rows(mapper, rows, records);
     let start = rows.len();
@@ -54,6 +56,8 @@ pub fn map_behind<M: Mapper>(
     ensures capacity { M.capacity mapper.new ≡ M.capacity mapper.old }
     ensures memory { vec_capacity rows.new ≡ vec_capacity rows.old }
     ensures cause { CountsFault (M.faults mapper.old) (M.faults mapper.new) (was_refused result) }
+    ensures may_fail { M.may_fail mapper.new ≡ M.may_fail mapper.old }
+    ensures reason { HasReason (M.may_fail mapper.old) result }
 {
     let caught = map_rows(mapper, rows.as_slice(), start, *calls);
     *calls = calls_after(&caught, *calls, (rows.len() - start) as u64);

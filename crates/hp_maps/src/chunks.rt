@@ -30,6 +30,7 @@ pub fn drop_chunk<M: Mapper>(mapper: &mut M, rows: &mut Vec<Row>, chunk: &Chunk)
     ensures capacity { M.capacity mapper.new ≡ M.capacity mapper.old }
     ensures answers { M.answers mapper.new ≡ M.answers mapper.old }
     ensures faults { M.faults mapper.new ≡ M.faults mapper.old }
+    ensures may_fail { M.may_fail mapper.new ≡ M.may_fail mapper.old }
 {
     unmap_chunk(mapper, rows.as_slice(), chunk);
     retain_beside(rows, chunk);
@@ -41,6 +42,7 @@ fn unmap_chunk<M: Mapper>(mapper: &mut M, rows: &[Row], chunk: &Chunk)
     ensures capacity { M.capacity mapper.new ≡ M.capacity mapper.old }
     ensures answers { M.answers mapper.new ≡ M.answers mapper.old }
     ensures faults { M.faults mapper.new ≡ M.faults mapper.old }
+    ensures may_fail { M.may_fail mapper.new ≡ M.may_fail mapper.old }
 {
     for row in rows {
         if is_of_chunk(chunk, row) {

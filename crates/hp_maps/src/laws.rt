@@ -1,11 +1,13 @@
 //! Laws of the definitions. They are proved of all values, and their functions have no code.
-ghost use Rattle.std.specs.Prelude.{List, ℕ};
+ghost use Rattle.std.specs.Prelude.{List, Option, ℕ};
 ghost use Rattle.hp_base.specs.declared.caught.Caught.{Caught};
 ghost use Rattle.hp_base.specs.declared.event.EventKind.{EventKind};
+ghost use Rattle.hp_base.specs.declared.plan_entry.PlanEntry.{PlanEntry};
 ghost use Rattle.hp_base.specs.declared.row.Row.{Row};
 ghost use Rattle.hp_base.specs.declared.row.Run.{Run};
 ghost use Rattle.hp_log.specs.declared.log_record.LogRecord.{LogRecord};
 ghost use Rattle.hp_maps.specs.Events.{joins_by};
+ghost use Rattle.hp_maps.specs.PlannedView.{FailsByPlan};
 ghost use Rattle.hp_maps.specs.Ready.{
   AttachedBeside,
   DetachedBeside,
@@ -45,6 +47,11 @@ pub fn few_events_law()
 /// the own places of new rows.
 pub fn stays_mapped_law()
     ensures { (row : Row) → StaysMapped row }
+{}
+
+/// Over a mapper that is steady, a mapper with a plan may fail exactly at the mapping calls of its party that the plan names.
+pub fn planned_law()
+    ensures { (plan : List PlanEntry) (party : ℕ) (other_may_fail : Option (List ℕ)) → FailsByPlan plan party other_may_fail }
 {}
 
 /// In a well-formed log no slot has two rows.

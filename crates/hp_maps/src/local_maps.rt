@@ -43,6 +43,7 @@ impl<M: Mapper> Model for LocalMaps<M> {
       capacity = a.capacity;
       answers = M.answers a.mapper;
       faults = M.faults a.mapper;
+      may_fail = M.may_fail a.mapper;
       held = M.held a.mapper;
     } };
 
@@ -56,6 +57,7 @@ impl<M: Mapper> LocalMaps<M> {
     ghost use Rattle.hp_maps.specs.Catching.{
       CanCatchUp,
       HasAnswered,
+      HasReason,
       Lags,
       kept,
       new_rows,
@@ -76,6 +78,7 @@ impl<M: Mapper> LocalMaps<M> {
           capacity = capacity;
           answers = [];
           faults = M.faults mapper;
+          may_fail = M.may_fail mapper;
           held = [];
         }) }
     {
@@ -136,6 +139,8 @@ impl<M: Mapper> LocalMaps<M> {
         ensures number { self.new.number ≡ number_after self.old.number to result }
         ensures capacity { self.new.capacity ≡ self.old.capacity }
         ensures cause { CountsFault self.old.faults self.new.faults (was_refused result) }
+        ensures may_fail { self.new.may_fail ≡ self.old.may_fail }
+        ensures reason { HasReason self.old.may_fail result }
         ensures mapped { IsMapped self.new }
 
         // Where all is mapped it is the table of the log, and else it lags by the records that it has seen.
@@ -167,6 +172,8 @@ impl<M: Mapper> LocalMaps<M> {
         ensures number { self.new.number ≡ number_after self.old.number to result }
         ensures capacity { self.new.capacity ≡ self.old.capacity }
         ensures cause { CountsFault self.old.faults self.new.faults (was_refused result) }
+        ensures may_fail { self.new.may_fail ≡ self.old.may_fail }
+        ensures reason { HasReason self.old.may_fail result }
         ensures mapped { IsMapped self.new }
         ensures table { is_done result ≡ true → table_in self.new.rows ≡ table_at records.now to }
         ensures lags { Lags records.now self.new.number to (table_in self.new.rows) }

@@ -1,11 +1,11 @@
 //! Rows that a mapper maps and unmaps.
-ghost use Rattle.std.specs.Prelude.{◌≡◌, ◌+◌, ◌*◌, ◌^◌, ◌<◌, ◌≤◌, ◌++◌, ◌∷◌, [], length, take, drop, vec_capacity};
-ghost use Rattle.hp_base.specs.Mapping.{CanMap, is_refused, owned};
+ghost use Rattle.std.specs.Prelude.{◌≡◌, ◌+◌, ◌*◌, ◌^◌, ◌<◌, ◌≤◌, ◌++◌, ◌∷◌, [], false, length, take, drop, vec_capacity};
+ghost use Rattle.hp_base.specs.Mapping.{CanMap, is_refused, may_fail_at, own_place, owned};
 ghost use Rattle.hp_base.specs.Streams.{CountsFault};
-ghost use Rattle.hp_maps.specs.Catching.{HasAnswered, kept, was_refused};
+ghost use Rattle.hp_maps.specs.Catching.{HasAnswered, HasReason, kept, was_refused};
 ghost use Rattle.hp_maps.specs.Unmapping.{CanMapRows, caught_by, held_own, is_own, rows_mapped, without_rows};
 
-use crate::rows::goes;
+use crate::rows::{goes, has_drop};
 use hp_base::{Caught, MapAnswer, Mapper, Row};
 use hp_log::LogRecord;
 
@@ -15,13 +15,15 @@ pub fn unmap_rows<M: Mapper>(mapper: &mut M, rows: &[Row])
     ensures capacity { M.capacity mapper.new ≡ M.capacity mapper.old }
     ensures answers { M.answers mapper.new ≡ M.answers mapper.old }
     ensures faults { M.faults mapper.new ≡ M.faults mapper.old }
+    ensures may_fail { M.may_fail mapper.new ≡ M.may_fail mapper.old }
 {
     for row in rows {
         mapper.unmap(row);
     }
 }
 
-/// Unmaps those of the rows that records drop, and takes them out.
+/// Unmaps those of the rows that records drop, and takes them out. Where none of the records is a Drop, the rows aren't
+/// gone over.
 pub fn drop_rows<M: Mapper>(mapper: &mut M, rows: &mut Vec<Row>, records: &[LogRecord])
     requires { M.held mapper.old ≡ owned rows.old.items }
     ensures rows { rows.new.items ≡ kept records.now rows.old.items }
@@ -30,9 +32,12 @@ pub fn drop_rows<M: Mapper>(mapper: &mut M, rows: &mut Vec<Row>, records: &[LogR
     ensures capacity { M.capacity mapper.new ≡ M.capacity mapper.old }
     ensures answers { M.answers mapper.new ≡ M.answers mapper.old }
     ensures faults { M.faults mapper.new ≡ M.faults mapper.old }
+    ensures may_fail { M.may_fail mapper.new ≡ M.may_fail mapper.old }
 {
-    unmap_dropped(mapper, rows.as_slice(), records);
-    retain_kept(rows, records);
+    if has_drop(records) {
+        unmap_dropped(mapper, rows.as_slice(), records);
+        retain_kept(rows, records);
+    }
 }
 
 fn unmap_dropped<M: Mapper>(mapper: &mut M, rows: &[Row], records: &[LogRecord])
@@ -41,6 +46,7 @@ fn unmap_dropped<M: Mapper>(mapper: &mut M, rows: &[Row], records: &[LogRecord])
     ensures capacity { M.capacity mapper.new ≡ M.capacity mapper.old }
     ensures answers { M.answers mapper.new ≡ M.answers mapper.old }
     ensures faults { M.faults mapper.new ≡ M.faults mapper.old }
+    ensures may_fail { M.may_fail mapper.new ≡ M.may_fail mapper.old }
 {
     for row in rows {
         if goes(records, row) {
@@ -65,6 +71,8 @@ pub fn map_rows<M: Mapper>(mapper: &mut M, rows: &[Row], start: usize, calls: u6
     ensures answered { HasAnswered (drop start rows.now) (M.answers mapper.old) (M.answers mapper.new) result }
     ensures capacity { M.capacity mapper.new ≡ M.capacity mapper.old }
     ensures cause { CountsFault (M.faults mapper.old) (M.faults mapper.new) (was_refused result) }
+    ensures may_fail { M.may_fail mapper.new ≡ M.may_fail mapper.old }
+    ensures reason { HasReason (M.may_fail mapper.old) result }
 {
     for at in start..rows.len() {
         let got = map_own(mapper, &rows[at]);
@@ -93,6 +101,9 @@ fn map_own<M: Mapper>(mapper: &mut M, row: &Row) -> MapAnswer
     ensures capacity { M.capacity mapper.new ≡ M.capacity mapper.old }
     ensures answers { M.answers mapper.new ≡ M.answers mapper.old ++ result ∷ [] }
     ensures cause { CountsFault (M.faults mapper.old) (M.faults mapper.new) (is_refused result) }
+    ensures may_fail { M.may_fail mapper.new ≡ M.may_fail mapper.old }
+    ensures steady { may_fail_at (M.may_fail mapper.old) (length (M.answers mapper.old) + 1) ≡ false
+        → result ≡ own_place row.now }
 {
     let got = mapper.map(row);
     if !is_own(row, got) {

@@ -1,7 +1,7 @@
-ghost use Rattle.std.specs.Prelude.{◌≡◌, ◌+◌, ◌*◌, ◌^◌, ◌<◌, ◌≤◌, ◌++◌, ◌∷◌, [], length, IfSome};
-ghost use Rattle.hp_base.specs.Mapping.{CanMap, held_after, is_refused, is_row, without_row};
+ghost use Rattle.std.specs.Prelude.{◌≡◌, ◌+◌, ◌*◌, ◌^◌, ◌<◌, ◌≤◌, ◌++◌, ◌∷◌, [], false, length, IfSome};
+ghost use Rattle.hp_base.specs.Mapping.{CanMap, held_after, is_refused, is_row, may_fail_at, own_place, without_row};
 ghost use Rattle.hp_base.specs.Streams.{CountsFault};
-ghost use Rattle.hp_maps.specs.PlannedView.{action_for, next_place, IsPlannedAnswer};
+ghost use Rattle.hp_maps.specs.PlannedView.{action_for, may_fail_by, next_place, IsPlannedAnswer};
 ghost use Rattle.hp_maps.specs.PlannedLayout.{misplaced_held};
 
 use crate::rows::is_row;
@@ -36,6 +36,7 @@ impl<'p, M: Mapper> Model for Planned<'p, M> {
       answers = a.answers;
       asked = M.answers a.inner;
       faults = M.faults a.inner + a.refused;
+      other_may_fail = M.may_fail a.inner;
       plan = a.plan.now;
       party = a.party;
     } };
@@ -54,6 +55,7 @@ impl<'p, M: Mapper> Planned<'p, M> {
           answers = [];
           asked = [];
           faults = M.faults inner;
+          other_may_fail = M.may_fail inner;
           plan = plan.now;
           party = party;
         } }
@@ -79,12 +81,18 @@ impl<'p, M: Mapper> Mapper for Planned<'p, M> {
 
     ghost faults = { λ m. m.faults };
 
+    ghost may_fail = { λ m. may_fail_by m.plan m.party m.other_may_fail };
+
     fn map(&mut self, row: &Row) -> MapAnswer
         requires { CanMap row.now self.old.held self.old.capacity (length self.old.answers) }
         ensures held { self.new.held ≡ held_after row.now result self.old.held }
         ensures capacity { self.new.capacity ≡ self.old.capacity }
         ensures answers { self.new.answers ≡ self.old.answers ++ result ∷ [] }
         ensures cause { CountsFault self.old.faults self.new.faults (is_refused result) }
+        ensures may_fail { may_fail_by self.new.plan self.new.party self.new.other_may_fail
+            ≡ may_fail_by self.old.plan self.old.party self.old.other_may_fail }
+        ensures steady { may_fail_at (may_fail_by self.old.plan self.old.party self.old.other_may_fail) (length self.old.answers + 1) ≡ false
+            → result ≡ own_place row.now }
 
         // The answer is what the plan has of that call, and else that of the other mapper.
         ensures planned { IsPlannedAnswer
@@ -92,6 +100,7 @@ impl<'p, M: Mapper> Mapper for Planned<'p, M> {
             row.now result self.old.asked self.new.asked }
         ensures plan { self.new.plan ≡ self.old.plan }
         ensures party { self.new.party ≡ self.old.party }
+        ensures other { self.new.other_may_fail ≡ self.old.other_may_fail }
     {
         self.calls += 1;
         match action_for(self.plan, self.party, self.calls, row) {
@@ -119,10 +128,13 @@ impl<'p, M: Mapper> Mapper for Planned<'p, M> {
         ensures capacity { self.new.capacity ≡ self.old.capacity }
         ensures answers { self.new.answers ≡ self.old.answers }
         ensures faults { self.new.faults ≡ self.old.faults }
+        ensures may_fail { may_fail_by self.new.plan self.new.party self.new.other_may_fail
+            ≡ may_fail_by self.old.plan self.old.party self.old.other_may_fail }
 
         ensures asked { self.new.asked ≡ self.old.asked }
         ensures plan { self.new.plan ≡ self.old.plan }
         ensures party { self.new.party ≡ self.old.party }
+        ensures other { self.new.other_may_fail ≡ self.old.other_may_fail }
     {
         self.inner.unmap(row);
         self.misplaced = without(self.misplaced, row);

@@ -6,6 +6,7 @@ ghost use Rattle.hp_log.specs.Log.{run_in};
 ghost use Rattle.hp_log.specs.Rows.{rows_of, IsSmallRun};
 ghost use Rattle.hp_maps.specs.Catching.{brought, drops, goes, is_dropped, new_rows, undropped};
 ghost use Rattle.hp_maps.specs.MapsView.{is_of_log};
+ghost use Rattle.hp_maps.specs.Unmapping.{has_drop, is_drop};
 
 use hp_base::{Row, Run};
 use hp_log::{LogRecord, contains, row_of};
@@ -44,6 +45,22 @@ pub fn is_dropped(records: &[LogRecord], row: &Row) -> bool
     ensures { result ≡ is_dropped records.now row.now }
 {
     records.iter().any(|entry| drops(row, entry))
+}
+
+/// Whether one of the records is a Drop.
+pub fn has_drop(records: &[LogRecord]) -> bool
+    ensures { result ≡ has_drop records.now }
+{
+    records.iter().any(is_drop)
+}
+
+fn is_drop(entry: &LogRecord) -> bool
+    ensures { result ≡ is_drop entry.now }
+{
+    match entry {
+        LogRecord::Add { .. } => false,
+        LogRecord::Drop { .. } => true,
+    }
 }
 
 /// Whether a row is of the log, and one of the records drops it.

@@ -1,5 +1,5 @@
 //! Worked values: tables over one page and two, refused, misplaced, dropped, full, left, beside a chunk, and what they tell.
-ghost use Rattle.std.specs.Prelude.{◌≡◌, ◌+◌, ◌-◌, ◌*◌, ◌^◌, ◌<◌, ◌≤◌, [], ◌∷◌, length, IfOk, vec_len, vec_capacity};
+ghost use Rattle.std.specs.Prelude.{◌≡◌, Some, ◌+◌, ◌-◌, ◌*◌, ◌^◌, ◌<◌, ◌≤◌, [], ◌∷◌, length, IfOk, vec_len, vec_capacity};
 
 mod chunks;
 mod events;
@@ -46,7 +46,7 @@ const DROP: LogRecord = LogRecord::Drop { run: FIRST };
 // A table of up to four rows over memory.
 fn empty_table(alloc: Global) -> Result<LocalMaps<MemMapper>, AllocError>
     ensures { IfOk result (λ maps. maps
-        ≡ record { rows = []; number = 0; capacity = 4; answers = []; faults = 0; held = [] }) }
+        ≡ record { rows = []; number = 0; capacity = 4; answers = []; faults = 0; may_fail = Some []; held = [] }) }
 {
     LocalMaps::new(alloc, MemMapper::new(alloc, 4)?, 4)
 }

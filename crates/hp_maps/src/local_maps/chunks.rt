@@ -10,7 +10,7 @@ use crate::rows::push_undropped;
 use hp_base::{Caught, Chunk, Mapper};
 
 impl<M: Mapper> LocalMaps<M> {
-    ghost use Rattle.hp_maps.specs.Catching.{HasAnswered, rows_after, was_refused};
+    ghost use Rattle.hp_maps.specs.Catching.{HasAnswered, HasReason, rows_after, was_refused};
     ghost use Rattle.hp_maps.specs.Chunks.{CanAttach, rows_beside, rows_of_chunk};
 
     /// Maps the pages of a chunk of external memory, by rising address. Where the mapper refuses one, or maps it elsewhere,
@@ -22,6 +22,8 @@ impl<M: Mapper> LocalMaps<M> {
         ensures number { self.new.number ≡ self.old.number }
         ensures capacity { self.new.capacity ≡ self.old.capacity }
         ensures cause { CountsFault self.old.faults self.new.faults (was_refused result) }
+        ensures may_fail { self.new.may_fail ≡ self.old.may_fail }
+        ensures reason { HasReason self.old.may_fail result }
         ensures mapped { IsMapped self.new }
     {
         let run = run_of_chunk(chunk);
@@ -37,6 +39,7 @@ impl<M: Mapper> LocalMaps<M> {
         ensures number { self.new.number ≡ self.old.number }
         ensures capacity { self.new.capacity ≡ self.old.capacity }
         ensures faults { self.new.faults ≡ self.old.faults }
+        ensures may_fail { self.new.may_fail ≡ self.old.may_fail }
         ensures mapped { IsMapped self.new }
     {
         drop_chunk(&mut self.mapper, &mut self.rows, chunk);

@@ -21,6 +21,7 @@ impl<M: Mapper> LocalMaps<M> {
         ensures answers { self.new.answers ≡ self.old.answers }
         ensures capacity { self.new.capacity ≡ self.old.capacity }
         ensures faults { self.new.faults ≡ self.old.faults }
+        ensures may_fail { self.new.may_fail ≡ self.old.may_fail }
         ensures mapped { IsMapped self.new }
         ensures told { IsToldByAddress self.old.rows (T.told tell.old) (T.told tell.new) }
         ensures spare { T.spare tell.old ≤ T.spare tell.new + length self.old.rows }

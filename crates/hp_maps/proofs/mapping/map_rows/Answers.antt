@@ -1,11 +1,11 @@
 -- One row more is mapped, or the rows are unmapped again.
-use Rattle.std.proofs.Common.{◌-◌, length, take, drop, map, get_or, arith, length-append, length-take, length-drop, ap, ◌∙◌, sym, subst}
+use Rattle.std.proofs.Common.{◌≡◌, ◌+◌, ◌-◌, ℕ, List, Option, false, length, take, drop, map, get_or, arith, length-append, length-take, length-drop, ap, ◌∙◌, sym, subst}
 use Rattle.std.proofs.lemmas.List.{length-map}
-use Rattle.hp_base.specs.Mapping.{own_place, owned}
+use Rattle.hp_base.specs.Mapping.{may_fail_at, own_place, owned}
 use Rattle.hp_base.specs.declared.caught.Caught.{Caught}
-use Rattle.hp_maps.specs.Catching.{HasAnswered}
+use Rattle.hp_maps.specs.Catching.{HasAnswered, HasReason}
 use Rattle.hp_maps.specs.Unmapping.{rows_mapped}
-use Rattle.hp_maps.proofs.MapLemmas.{can_map_next, held_more, answered_more, rolled_back, answered_failed, own_unrefused, no_row}
+use Rattle.hp_maps.proofs.MapLemmas.{can_map_next, held_more, answered_more, rolled_back, answered_failed, failed_reason, own_unrefused, no_row}
 use Rattle.hp_maps.proofs.mapping.map_rows.Goals as goal
 
 pub map_own-got-requires : goal.map_own-got-requires
@@ -38,6 +38,26 @@ returns-then-not-is_own-clause-held g c =
     c.loop-at.invariant.held other c.map_own-got.ensures.held c.unmap_rows.ensures.held
     ∙ ap (λ (caught : Caught). owned (rows_mapped c.args.rows.now c.args.start caught)) (sym c.failed.ensures)
 
+pub returns-then-not-is_own-clause-reason : goal.returns-then-not-is_own-clause-reason
+returns-then-not-is_own-clause-reason g c =
+    let other = sym c.is_own.ensures ∙ c.if-not-is_own.true in
+    let same = c.loop-at.invariant.may_fail in
+    let row = get_or c.args.rows.now c.loop-at.at no_row in
+    let n = length (g.M.Mapper.answers c.loop-at.mapper) in
+    subst (λ (caught : Caught). HasReason (g.M.Mapper.may_fail c.args.mapper.now) caught) (sym c.failed.ensures)
+    (failed_reason row c.map_own-got.result (g.M.Mapper.may_fail c.args.mapper.now) n _ other
+    (subst (λ (may_fail : Option (List ℕ)). may_fail_at may_fail (n + 1) ≡ false → c.map_own-got.result ≡ own_place row) same c.map_own-got.ensures.steady)
+    (omega (
+      arith,
+      ap length c.loop-at.invariant.answered,
+      c.requires.counted,
+      length-append (g.M.Mapper.answers c.args.mapper.now)
+          (map own_place (take (c.loop-at.at - c.args.start) (drop c.args.start c.args.rows.now))),
+      length-map (take (c.loop-at.at - c.args.start) (drop c.args.start c.args.rows.now)) own_place,
+      length-take (c.loop-at.at - c.args.start) (drop c.args.start c.args.rows.now),
+      length-drop c.args.start c.args.rows.now,
+    )))
+
 pub loop-at-preserved : goal.loop-at-preserved
 loop-at-preserved g c =
     let own = sym c.is_own.ensures ∙ c.if-not-is_own.false in
@@ -47,4 +67,5 @@ loop-at-preserved g c =
           c.loop-at.invariant.answered own c.map_own-got.ensures.answers;
       capacity = c.map_own-got.ensures.capacity ∙ c.loop-at.invariant.capacity;
       faults = c.map_own-got.ensures.cause.same (own_unrefused (get_or c.args.rows.now c.loop-at.at no_row) c.map_own-got.result own) ∙ c.loop-at.invariant.faults;
+      may_fail = c.map_own-got.ensures.may_fail ∙ c.loop-at.invariant.may_fail;
     }

@@ -9,4 +9,5 @@ invariant-loop-at g l = record {
   answered : g.M.Mapper.answers l.mapper ≡ g.M.Mapper.answers l.initial.mapper ++ map own_place (take (l.at - l.start) (drop l.start l.rows));
   capacity : g.M.Mapper.capacity l.mapper ≡ g.M.Mapper.capacity l.initial.mapper;
   faults : g.M.Mapper.faults l.mapper ≡ g.M.Mapper.faults l.initial.mapper;
+  may_fail : g.M.Mapper.may_fail l.mapper ≡ g.M.Mapper.may_fail l.initial.mapper;
 }

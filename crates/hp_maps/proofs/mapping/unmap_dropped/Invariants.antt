@@ -11,4 +11,5 @@ invariant-loop-row g l = record {
   capacity : g.M.Mapper.capacity l.mapper ≡ g.M.Mapper.capacity l.initial.mapper;
   answers : g.M.Mapper.answers l.mapper ≡ g.M.Mapper.answers l.initial.mapper;
   faults : g.M.Mapper.faults l.mapper ≡ g.M.Mapper.faults l.initial.mapper;
+  may_fail : g.M.Mapper.may_fail l.mapper ≡ g.M.Mapper.may_fail l.initial.mapper;
 }

@@ -1,5 +1,5 @@
 -- A new table is ready for the log of the worked values.
-use Rattle.std.proofs.Common.{◌≡◌, arith, ap, rules, subst, sym}
+use Rattle.std.proofs.Common.{◌≡◌, [], Some, arith, ap, rules, subst, sym}
 use Rattle.hp_maps.specs.MapsView.{MapsView}
 use Rattle.hp_maps.specs.Ready.{IsReady}
 use Rattle.hp_maps.proofs.ReadyLemmas.{new_is_ready}
@@ -16,7 +16,7 @@ follow-caught-requires g c =
         worked_lists,
         subst (λ records. IsReady worked_lists c.in_ok-maps.maps records 1) (sym records)
             (subst (λ (maps : MapsView). IsReady worked_lists maps worked_records 1) (sym made)
-            (new_is_ready worked_lists 4 0 worked_records 1 worked_log (omega arith) (omega arith))),
+            (new_is_ready worked_lists 4 0 (Some []) worked_records 1 worked_log (omega arith) (omega arith))),
       );
       spare = omega (arith, number);
     }
