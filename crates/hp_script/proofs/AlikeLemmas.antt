@@ -1,6 +1,6 @@
 -- What is read alike: outcomes that are alike, and what differs in where its parts stand alone.
 use Rattle.std.proofs.Common.{◌≡◌, ℕ, Bool, true, false, refl, cond}
-use Rattle.std.specs.Prelude.{Option, Some, None, Result, Ok, Err, ⊤, is_some, is_none}
+use Rattle.std.specs.Prelude.{Option, Some, None, Result, Ok, Err, ⊤, is_some}
 use Rattle.std.specs.Option.{option_map}
 use Rattle.hp_script.specs.Part.{Part}
 use Rattle.hp_script.specs.Judge.{◌>>=◌}
@@ -50,11 +50,9 @@ SameShape (Does party deed) (Does who other) = (who ≡ party) × SameAct deed o
 SameShape (Awaits party k n) (Awaits who j m) = (who ≡ party) × (j ≡ k) × (m ≡ n)
 SameShape _ _ = ⊥
 
-pub record SameOptions (options other : Options) : Type 0 where
-  pub heap : is_none other.heap ≡ is_none options.heap
-  pub align : other.align ≡ options.align
-  pub bound : other.bound ≡ options.bound
-  pub flags : other.flags ≡ options.flags
+-- nothing is asked of two options but that both are there: whether an act is built does not depend on them
+abbrev pub AnyOptions : Options → Options → Type 0
+AnyOptions options other = ⊤
 
 pub record SameGiven (given other : Given) : Type 0 where
   pub socket : other.socket ≡ given.socket
@@ -62,12 +60,6 @@ pub record SameGiven (given other : Given) : Type 0 where
   pub align : other.align ≡ given.align
   pub bound : other.bound ≡ given.bound
   pub flags : other.flags ≡ given.flags
-
-pub none_of : {A B : Type 0} (o : Option A) (p : Option B) → is_some o ≡ is_some p → is_none o ≡ is_none p
-none_of None None same = refl
-none_of None (Some y) same = absurd cc
-none_of (Some x) None same = absurd cc
-none_of (Some x) (Some y) same = refl
 
 -- a test chooses between outcomes that are alike
 pub choose : {A B : Type 0} (R : A → B → Type 0) (test : Bool) (one two : Option A) (three four : Option B) → Both R one three → Both R two four → Both R (cond test one two) (cond test three four)

@@ -3,10 +3,10 @@ use Rattle.std.proofs.Common.{◌≡◌, ℕ, ◌<◌, List, [], ◌∷◌, ◌+
 use Rattle.std.specs.Prelude.{Ok, ⊤, unwrap_or}
 use denote.Ref.{Bor}
 use Rattle.hp_script.specs.Part.{Part}
-use Rattle.hp_script.specs.Text.{lines_of, fields_of}
+use Rattle.hp_script.specs.Text.{lines_of}
 use Rattle.hp_script.specs.Makers.{Makers, makers_of}
 use Rattle.hp_script.specs.Setups.{nothing, with_later, setup_step}
-use Rattle.hp_script.specs.Reading.{with_written, read_line}
+use Rattle.hp_script.specs.Reading.{read_line}
 use Rattle.hp_script.specs.Workloads.{reading_at}
 use Rattle.hp_script.specs.Limits.{AreDeclared}
 use Rattle.hp_script.specs.declared.line.Act.{Act}
@@ -47,7 +47,7 @@ module _ (makers : Makers) where
   line_declared read more number line before _ same =
       elim (read_line_says makers read number line more same) [
         | inl skipped ↦ rw skipped.1 before
-        | inr says ↦ adds_declared (with_written read number (fields_of line)) more number says.1.said before says.1.adds
+        | inr says ↦ adds_declared read more number says.1.said before says.1.adds
       ]
 
 -- each line of what is read of a text is of a declared participant

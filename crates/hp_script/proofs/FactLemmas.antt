@@ -12,7 +12,7 @@ use Rattle.hp_script.specs.Facts.{IsActOf, IsLineOf, StandsBehind, AwaitBehind, 
 use Rattle.hp_script.specs.Makers.{Makers, makers_of}
 use Rattle.hp_script.specs.Setups.{nothing, with_later, setup_step}
 use Rattle.hp_script.specs.Shapes.{shape_of}
-use Rattle.hp_script.specs.Reading.{with_written, read_line}
+use Rattle.hp_script.specs.Reading.{read_line}
 use Rattle.hp_script.specs.Workloads.{reading_at}
 use Rattle.hp_script.specs.declared.line.Act.{Act}
 use Rattle.hp_script.specs.declared.line.Act.TheVariants as act
@@ -78,7 +78,7 @@ module _ (makers : Makers) where
   line_facts read more number line before _ same =
       elim (read_line_says makers read number line more same) [
         | inl skipped ↦ rw skipped.1 before
-        | inr says ↦ adds_facts (with_written read number (fields_of line)) more number (fields_of line) says.1.said (record { acts = before.acts; awaits = before.awaits }) says.1.shape says.1.adds
+        | inr says ↦ adds_facts read more number (fields_of line) says.1.said before says.1.shape says.1.adds
       ]
 
 -- the facts of the lines of an accepted text

@@ -14,7 +14,7 @@ use Rattle.hp_script.specs.Limits.{MakeOtherLabels, AreParticipantLines}
 use Rattle.hp_script.specs.Makers.{Makers, makers_of, is_maker, is_taken, is_earlier}
 use Rattle.hp_script.specs.Setups.{nothing, with_later, setup_step}
 use Rattle.hp_script.specs.Shapes.{is_participant_line, shape_of}
-use Rattle.hp_script.specs.Reading.{with_written, read_line}
+use Rattle.hp_script.specs.Reading.{read_line}
 use Rattle.hp_script.specs.Workloads.{reading_at}
 use Rattle.hp_script.specs.declared.line.Act.{Act}
 use Rattle.hp_script.specs.declared.line.Act.TheVariants as act
@@ -136,7 +136,7 @@ module _ (makers : Makers) where
   line_lines read more number line has names same =
       elim (read_line_says makers read number line more same) [
         | inl skipped ↦ kept_lines read more number has (ap (λ (some : Reader). some.lines) skipped.1)
-        | inr says ↦ said_lines (with_written read number (fields_of line)) more number line (fields_of line) says.1.said refl (record { some = has.some; keeps = has.keeps; before = has.before; known = has.known }) names says.1.shape says.1.adds
+        | inr says ↦ said_lines read more number line (fields_of line) says.1.said refl has names says.1.shape says.1.adds
       ]
 
 -- the participant lines of an accepted text

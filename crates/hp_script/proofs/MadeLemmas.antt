@@ -21,7 +21,7 @@ use Rattle.hp_script.specs.Setups.{nothing, with_later, setup_step}
 use Rattle.hp_script.specs.ShapesMemory.{alloc_line, zone_line}
 use Rattle.hp_script.specs.Shapes.{is_participant_line, participant_line, shape_of}
 use Rattle.hp_script.specs.Verbs.{verb_named}
-use Rattle.hp_script.specs.Reading.{with_written, read_line}
+use Rattle.hp_script.specs.Reading.{read_line}
 use Rattle.hp_script.specs.Workloads.{read_from, reading_at}
 use Rattle.hp_script.specs.declared.bad_kind.BadKind.TheVariants as bad
 use Rattle.hp_script.specs.declared.line.Act.{Act}
@@ -185,7 +185,7 @@ module _ (makers : Makers) (name : List ℕ) where
             absurd (let differ : true ≡ false = sym by.digit ∙ digit in cc)
         | inr says ↦
             let made = said_makes (fields_of line) says.1.said by says.1.shape in
-            said_adds (with_written read number (fields_of line)) more number says.1.said says.1.adds made.0 made.1 made.2
+            said_adds read more number says.1.said says.1.adds made.0 made.1 made.2
       ]
 
   kept_by : (read more : Reader) (number : ℕ) (said : Shape) → Adds makers read number said more → Make read.lines name → Make more.lines name
@@ -201,7 +201,7 @@ module _ (makers : Makers) (name : List ℕ) where
   line_keeps read more number line same before =
       elim (read_line_says makers read number line more same) [
         | inl skipped ↦ rw skipped.1 before
-        | inr says ↦ kept_by (with_written read number (fields_of line)) more number says.1.said says.1.adds before
+        | inr says ↦ kept_by read more number says.1.said says.1.adds before
       ]
 
   -- a name that was made, or that one of the lines makes, is made in the end
@@ -281,7 +281,7 @@ module _ (makers : Makers) where
   line_known read more number line before _ same =
       elim (read_line_says makers read number line more same) [
         | inl skipped ↦ rw skipped.1 before
-        | inr says ↦ said_known (with_written read number (fields_of line)) more number says.1.said says.1.adds before
+        | inr says ↦ said_known read more number says.1.said says.1.adds before
       ]
 
 used_made : (makers : Makers) (deed : Act) (label : Part) → is_unknown makers deed ≡ false → label_used deed ≡ Some label → is_unmade makers label.text ≡ false

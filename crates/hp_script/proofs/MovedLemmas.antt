@@ -1,5 +1,5 @@
 -- What is read of a text does not depend on where it stands.
-use Rattle.std.proofs.Common.{◌≡◌, ℕ, ◌+◌, Bool, true, false, ◌&&◌, ◌||◌, List, [], ◌∷◌, length, map, refl, ap, ◌∙◌, cond}
+use Rattle.std.proofs.Common.{◌≡◌, ℕ, ◌+◌, Bool, true, false, ◌||◌, List, [], ◌∷◌, length, map, refl, ap, ◌∙◌, cond}
 use Rattle.std.specs.Prelude.{Option, Some, Result, Ok, Err, not, codes, filter}
 use Rattle.std.specs.List.{list_any, list_all, slice_split, find}
 use Rattle.std.specs.Option.{option_map, option_map_or}
@@ -12,8 +12,8 @@ use Rattle.hp_script.specs.Judge.{refuse}
 use Rattle.hp_script.specs.Makers.{Makers, makers_of, made_by, is_maker, first_maker}
 use Rattle.hp_script.specs.Later.{is_built_act, first_act, later_line}
 use Rattle.hp_script.specs.Setups.{nothing}
-use Rattle.hp_script.specs.Shapes.{is_participant_line, shape_of}
-use Rattle.hp_script.specs.Reading.{asks_more, is_other_option, with_written, judged, read_line}
+use Rattle.hp_script.specs.Shapes.{shape_of}
+use Rattle.hp_script.specs.Reading.{judged, read_line}
 use Rattle.hp_script.specs.Workloads.{Refusal, go_on, read_from, reading_at, reading_of, IsRefusalOf}
 use Rattle.hp_script.specs.declared.parse_fault.ParseFault.{ParseFault}
 use Rattle.hp_script.specs.declared.parse_fault.ParseFault.TheVariants as parse_fault
@@ -57,20 +57,9 @@ module _ (base : ℕ × ℕ) where
   long_moved [] = refl
   long_moved (part ∷ parts) = ap (λ (rest : Bool). is_long part || rest) (long_moved parts)
 
-  other_moved : (parts : List Part) → list_any is_other_option (map (moved base) parts) ≡ list_any is_other_option parts
-  other_moved [] = refl
-  other_moved (part ∷ parts) = ap (λ (rest : Bool). is_other_option part || rest) (other_moved parts)
-
   skipped_moved : (fields : List Part) → is_skipped (map (moved base) fields) ≡ is_skipped fields
   skipped_moved [] = refl
   skipped_moved (first ∷ others) = refl
-
-  asks_moved : (fields : List Part) → asks_more (map (moved base) fields) ≡ asks_more fields
-  asks_moved [] = refl
-  asks_moved (first ∷ []) = refl
-  asks_moved (first ∷ word ∷ []) = refl
-  asks_moved (first ∷ word ∷ label ∷ []) = refl
-  asks_moved (first ∷ word ∷ label ∷ size ∷ words) = ap (λ (rest : Bool). is_participant_line first && rest) (other_moved words)
 
   made_moved : (call : List ℕ) (fields : List Part) → made_by call (map (moved base) fields) ≡ made_by call fields
   made_moved call [] = refl
@@ -99,9 +88,9 @@ module _ (base : ℕ × ℕ) where
   unfolding judged
   judged_moved makers read lines same n line =
       follow (λ tokens others. others ≡ map (moved base) tokens) SameRead (tokens_in line) (tokens_in (moved base line)) _ _ (tokens_moved line) (λ tokens others are.
-      rw (are, asks_moved tokens) (
+      rw are (
       follow SameShape SameRead (shape_of tokens) (shape_of (map (moved base) tokens)) _ _ (shape_moved base tokens) (λ said again alike.
-      said_same makers (with_written read n tokens) lines same n said again alike)))
+      said_same makers read lines same n said again alike)))
 
   line_moved : (makers : Makers) (read : Reader) (lines : List Line) (same : SameLines read.lines lines) (n : ℕ) (line : Part) → Alike SameRead (read_line makers read n line) (read_line makers (record read { lines = lines }) n (moved base line))
   unfolding read_line

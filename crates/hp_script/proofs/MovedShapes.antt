@@ -24,7 +24,7 @@ use Rattle.hp_script.specs.declared.verb.NameCall.TheVariants as name_call
 use Rattle.hp_script.specs.declared.verb.RangeCall.{RangeCall}
 use Rattle.hp_script.specs.declared.verb.RangeCall.TheVariants as range_call
 use Rattle.hp_script.specs.declared.verb.MemberCall.{MemberCall}
-use Rattle.hp_script.proofs.AlikeLemmas.{Alike, after, follow, SameAct, SameShape, SameOptions, either, moved}
+use Rattle.hp_script.proofs.AlikeLemmas.{Alike, after, follow, SameAct, SameShape, AnyOptions, either, moved}
 use Rattle.hp_script.proofs.MovedOptions.{given_options}
 
 module _ (base : ℕ × ℕ) where
@@ -39,8 +39,9 @@ module _ (base : ℕ × ℕ) where
   alloc_moved p (label ∷ n ∷ words) =
       after SameShape (party_field p) _ _ (λ party.
       after SameShape (number_field n) _ _ (λ size.
-      follow SameOptions SameShape (ok_or (options_of words) bad.Option) (ok_or (options_of (map (moved base) words)) bad.Option) _ _ (given_options base words) (λ options other alike.
-      (refl, record { made = refl; used = refl; built = rw (alike.heap, alike.align, alike.bound, alike.flags) refl }))))
+      follow AnyOptions SameShape (ok_or (options_of words) bad.Option) (ok_or (options_of (map (moved base) words)) bad.Option) _ _
+      (given_options base words) (λ options other alike.
+      (refl, record { made = refl; used = refl; built = refl }))))
 
   zone_moved : (p : Part) (arguments : List Part) → Alike SameShape (zone_line p arguments) (zone_line (moved base p) (map (moved base) arguments))
   unfolding zone_line
@@ -50,7 +51,8 @@ module _ (base : ℕ × ℕ) where
       after SameShape (party_field p) _ _ (λ party.
       after SameShape (number_field n) _ _ (λ len.
       after SameShape (refuse (nat_lt len 1) bad.Range) _ _ (λ some.
-      follow SameOptions SameShape (ok_or (options_of words) bad.Option) (ok_or (options_of (map (moved base) words)) bad.Option) _ _ (given_options base words) (λ options other alike.
+      follow AnyOptions SameShape (ok_or (options_of words) bad.Option) (ok_or (options_of (map (moved base) words)) bad.Option) _ _
+      (given_options base words) (λ options other alike.
       (refl, record { made = refl; used = refl; built = refl })))))
 
   resize_moved : (p : Part) (arguments : List Part) → Alike SameShape (resize_line p arguments) (resize_line (moved base p) (map (moved base) arguments))

@@ -8,12 +8,11 @@ use Rattle.std.proofs.lemmas.Bool.Decides.{nat_tests}
 use Rattle.std.proofs.lemmas.Nat.{pow_pos}
 use Rattle.std.proofs.lemmas.Nat.Bits.{and_pow, bit_at_or, bit_at-zero, bit_at-pow_same, bit_at-pow_other}
 use Rattle.hp_script.specs.Part.{Part}
-use Rattle.hp_script.specs.Text.{fields_of}
 use Rattle.hp_script.specs.Marks.{is_marked, with_mark}
 use Rattle.hp_script.specs.Counts.{segments_of, is_same_pool, message_event, mapping_event, is_planned}
 use Rattle.hp_script.specs.Makers.{Makers}
 use Rattle.hp_script.specs.Setups.{nothing, is_strange, with_later, set_participants, set_absent, set_socket, set_deadline, add_pool, add_message, add_mapping, setup_step}
-use Rattle.hp_script.specs.Reading.{with_written, read_line}
+use Rattle.hp_script.specs.Reading.{read_line}
 use Rattle.hp_script.specs.Said.{said_in, says, is_absence, is_placement, says_absent, says_socket}
 use Rattle.hp_script.specs.Workloads.{read_from}
 use Rattle.hp_script.specs.declared.bad_kind.BadKind.TheVariants as bad
@@ -130,7 +129,6 @@ module _ (party : ℕ) (low : party < 16) where
 module _ (makers : Makers) (mask : Reader → ℕ) (party : ℕ) (test : SetupLine → Bool)
     (setup_marks : (read : Reader) (number : ℕ) (setup : SetupLine) → IfOk (setup_step read number setup) (Marks mask party read (test setup)))
     (later_keeps : (read : Reader) (number : ℕ) (setup : SetupLine) → mask (with_later read number setup) ≡ mask read)
-    (written_keeps : (read : Reader) (number : ℕ) (fields : List Part) → mask (with_written read number fields) ≡ mask read)
     (line_keeps : (read : Reader) (lines : List Line) → mask (record read { lines = lines }) ≡ mask read) where
   said_marks : (read more : Reader) (number : ℕ) (said : Shape) → Adds makers read number said more → Marks mask party read (says test (Some said)) more
   said_marks read more number (Setup setup) adds =
@@ -143,9 +141,7 @@ module _ (makers : Makers) (mask : Reader → ℕ) (party : ℕ) (test : SetupLi
   line_marks read more number line same =
       elim (read_line_says makers read number line more same) [
         | inl skipped ↦ rw (skipped.1, skipped.0) (or_false (is_marked (mask read) party))
-        | inr said ↦
-            let marks = said_marks (with_written read number (fields_of line)) more number said.1.said said.1.adds in
-            rw (said.0, said.1.shape) (marks ∙ ap (λ (n : ℕ). is_marked n party || says test (Some said.1.said)) (written_keeps read number (fields_of line)))
+        | inr said ↦ rw (said.0, said.1.shape) (said_marks read more number said.1.said said.1.adds)
       ]
 
   lines_mark : (lines : List Part) (read whole : Reader) (number : ℕ) → read_from makers read number lines ≡ Ok whole → Marks mask party read (list_any (λ line. says test (said_in line)) lines) whole
@@ -160,11 +156,13 @@ module _ (makers : Makers) (mask : Reader → ℕ) (party : ℕ) (test : SetupLi
 pub absent_said : (makers : Makers) (lines : List Part) (read : Reader) (party : ℕ) → party < 16 → read_from makers nothing 1 lines ≡ Ok read
     → is_marked read.absent party ≡ list_any (says_absent party) lines
 absent_said makers lines read party low same =
-    lines_mark makers (λ some. some.absent) party (is_absence party) (absent_marks party low) (λ some number setup. refl) (λ some number fields. refl) (λ some lines. refl) lines nothing read 1 same
+    lines_mark makers (λ some. some.absent) party (is_absence party) (absent_marks party low)
+    (λ some number setup. refl) (λ some lines. refl) lines nothing read 1 same
     ∙ rw (none_marked party low) refl
 
 pub placed_said : (makers : Makers) (lines : List Part) (read : Reader) (party : ℕ) → party < 16 → read_from makers nothing 1 lines ≡ Ok read
     → is_marked read.placed party ≡ list_any (says_socket party) lines
 placed_said makers lines read party low same =
-    lines_mark makers (λ some. some.placed) party (is_placement party) (placed_marks party low) (λ some number setup. refl) (λ some number fields. refl) (λ some lines. refl) lines nothing read 1 same
+    lines_mark makers (λ some. some.placed) party (is_placement party) (placed_marks party low)
+    (λ some number setup. refl) (λ some lines. refl) lines nothing read 1 same
     ∙ rw (none_marked party low) refl

@@ -16,7 +16,7 @@ use Rattle.hp_script.specs.Counts.{segments_of, is_same_pool, message_event, map
 use Rattle.hp_script.specs.Makers.{Makers, makers_of}
 use Rattle.hp_script.specs.Setups.{nothing, is_strange, with_later, set_participants, set_absent, set_socket, set_deadline, add_pool, add_message, add_mapping, setup_step}
 use Rattle.hp_script.specs.Shapes.{shape_of}
-use Rattle.hp_script.specs.Reading.{with_written, read_line}
+use Rattle.hp_script.specs.Reading.{read_line}
 use Rattle.hp_script.specs.Workloads.{reading_at}
 use Rattle.hp_script.specs.declared.bad_kind.BadKind.TheVariants as bad
 use Rattle.hp_script.specs.declared.verb.SetupVerb.{SetupVerb}
@@ -77,7 +77,7 @@ module _ (makers : Makers) where
   line_pools read more number line before _ same =
       elim (read_line_says makers read number line more same) [
         | inl skipped ↦ rw skipped.1 before
-        | inr says ↦ said_pools (with_written read number (fields_of line)) more number (fields_of line) says.1.said before says.1.shape says.1.adds
+        | inr says ↦ said_pools read more number (fields_of line) says.1.said before says.1.shape says.1.adds
       ]
 
 -- the pools of an accepted text

@@ -26,7 +26,7 @@ use Rattle.hp_script.specs.declared.event.Event.{Event}
 use Rattle.hp_script.specs.Makers.{Makers, makers_of}
 use Rattle.hp_script.specs.Setups.{nothing, is_strange, with_later, set_participants, set_absent, set_socket, set_deadline, add_pool, add_message, add_mapping, setup_step}
 use Rattle.hp_script.specs.Shapes.{shape_of}
-use Rattle.hp_script.specs.Reading.{asks_more, with_written, read_line}
+use Rattle.hp_script.specs.Reading.{read_line}
 use Rattle.hp_script.specs.Workloads.{reading_at}
 use Rattle.hp_script.specs.declared.bad_kind.BadKind.TheVariants as bad
 use Rattle.hp_script.specs.declared.verb.SetupVerb.{SetupVerb}
@@ -41,7 +41,7 @@ use Rattle.hp_script.proofs.StepLemmas.{passed, answered, Adds, read_line_says, 
 
 -- participant 0 is alone and attached, and no other has a socket of its own
 abbrev pub IsAlone : Reader → Type 0
-IsAlone read = (read.participants ≡ None) × (read.absent ≡ 0) × ((party : ℕ) → 0 < party → slice_index read.sockets party ≡ 0)
+IsAlone read = (unwrap_or read.participants 1 ≡ 1) × (read.absent ≡ 0) × ((party : ℕ) → 0 < party → slice_index read.sockets party ≡ 0)
 
 -- the declared participants so far
 abbrev declared : Reader → ℕ
@@ -134,17 +134,35 @@ absent_count : (o : Option ℕ) → is_some o ≡ false → unwrap_or o 1 ≡ 1
 absent_count None none = refl
 absent_count (Some n) none = absurd cc
 
+-- a setup line behind which none is noted is built, and none was noted before it
+none_noted : (later : Option ℕ) (number : ℕ) (built : Bool) → cond built later (option_or later (Some number)) ≡ None
+    → (built ≡ true) × (later ≡ None)
+none_noted later number true none = (refl, none)
+none_noted later number false none = absurd (never_none later number none)
+
 sockets_set : (sockets : List ℕ) (party socket : ℕ) → length sockets ≡ 16 → ((other : ℕ) → 0 < other → slice_index sockets other ≡ 0) → (other : ℕ) → 0 < other → slice_index (set sockets 0 socket) other ≡ 0
 sockets_set sockets party socket many others other above = grind (arith, common_steps, others other above, above)
 
 -- a socket of another participant is one line that is to be built later
-alone_socket : (read : Reader) (number party socket : ℕ) (test : Bool) → (party == 0) ≡ test → (read.later ≡ None → IsAlone read) → length read.sockets ≡ 16
-    → cond test read.later (option_or read.later (Some number)) ≡ None → (read.participants ≡ None) × (read.absent ≡ 0) × ((other : ℕ) → 0 < other → slice_index (set read.sockets party socket) other ≡ 0)
-alone_socket read number party socket true is alone many none =
-    let first : party ≡ 0 = grind (arith, nat_tests, is) in
-    let before = alone none in
+alone_socket : (read : Reader) (number party socket : ℕ) → (read.later ≡ None → IsAlone read) → length read.sockets ≡ 16
+    → cond (party == 0) read.later (option_or read.later (Some number)) ≡ None
+    → (unwrap_or read.participants 1 ≡ 1) × (read.absent ≡ 0)
+    × ((other : ℕ) → 0 < other → slice_index (set read.sockets party socket) other ≡ 0)
+alone_socket read number party socket alone many none =
+    let noted = none_noted read.later number (party == 0) none in
+    let first : party ≡ 0 = grind (arith, nat_tests, noted.0) in
+    let before = alone noted.1 in
     (before.0, before.1, rw first (sockets_set read.sockets party socket many before.2))
-alone_socket read number party socket false is alone many none = absurd (never_none read.later number none)
+
+-- a number of participants other than 1 is one too
+alone_count : (read : Reader) (number count : ℕ) → (read.later ≡ None → IsAlone read)
+    → cond (count == 1) read.later (option_or read.later (Some number)) ≡ None
+    → (count ≡ 1) × (read.absent ≡ 0) × ((party : ℕ) → 0 < party → slice_index read.sockets party ≡ 0)
+alone_count read number count alone none =
+    let noted = none_noted read.later number (count == 1) none in
+    let one : count ≡ 1 = grind (arith, nat_tests, noted.0) in
+    let before = alone noted.1 in
+    (one, before.1, before.2)
 
 setup_has : (read : Reader) (number : ℕ) (verb : SetupVerb) (arguments : List Part) (setup : SetupLine) → IsSetupBy verb arguments setup → HasSetup read
     → IfOk (setup_step (with_later read number setup) number setup) HasSetup
@@ -158,7 +176,7 @@ setup_has read number verb arguments (Participants count) ranges before =
       many = before.many;
       sockets = before.sockets;
       absent = absent_more (unwrap_or read.participants 1) count read.absent le ranges.2 before.absent;
-      alone = λ none. absurd (never_none read.later number none);
+      alone = alone_count read number count before.alone;
     })
 setup_has read number verb arguments (Absent party) ranges before =
     passed (is_marked read.absent party) bad.Duplicate _ _ (λ once.
@@ -179,7 +197,7 @@ setup_has read number verb arguments (Socket party socket) ranges before =
       many = grind (arith, common_steps, before.many);
       sockets = record { below = All-set (λ some. some < MAX_SOCKETS) read.sockets party socket ranges.1.low before.sockets.below };
       absent = before.absent;
-      alone = alone_socket read number party socket (party == 0) refl before.alone before.many;
+      alone = alone_socket read number party socket before.alone before.many;
     }))
 setup_has read number verb arguments (Deadline ms) ranges before =
     passed (is_some read.deadline) bad.Duplicate _ _ (λ once.
@@ -233,19 +251,11 @@ module _ (makers : Makers) where
   said_setup read more number fields (Does party deed) before shape adds = rw adds.1.added (with_lines read _ before refl refl refl refl refl)
   said_setup read more number fields (Awaits party other k) before shape adds = rw adds.adds.added (with_lines read _ before refl refl refl refl refl)
 
-  -- what a line notes by its options leaves all else
-  written : (read : Reader) (number : ℕ) (fields : List Part) → HasSetup read → HasSetup (with_written read number fields)
-  written read number fields before = record { plan = before.plan; many = before.many; sockets = before.sockets; absent = before.absent; alone = alone (asks_more fields) }
-    where
-      alone : (test : Bool) → cond test (option_or read.later (Some number)) read.later ≡ None → IsAlone read
-      alone true none = absurd (never_none read.later number none)
-      alone false none = before.alone none
-
   line_setup : (read more : Reader) (number : ℕ) (line : Part) → HasSetup read → ⊤ → read_line makers read number line ≡ Ok more → HasSetup more
   line_setup read more number line before _ same =
       elim (read_line_says makers read number line more same) [
         | inl skipped ↦ rw skipped.1 before
-        | inr says ↦ said_setup (with_written read number (fields_of line)) more number (fields_of line) says.1.said (written read number (fields_of line) before) says.1.shape says.1.adds
+        | inr says ↦ said_setup read more number (fields_of line) says.1.said before says.1.shape says.1.adds
       ]
 
 -- what the setup lines of an accepted text leave

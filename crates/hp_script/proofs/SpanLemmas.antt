@@ -16,7 +16,7 @@ use Rattle.hp_script.specs.Makers.{Makers, makers_of}
 use Rattle.hp_script.specs.Setups.{nothing, is_strange, with_later, set_participants, set_absent, set_socket, set_deadline, add_pool, add_message, add_mapping, setup_step, set_up}
 use Rattle.hp_script.specs.Acts.{is_duplicate, is_unknown, add_line, add_act, add_await}
 use Rattle.hp_script.specs.Shapes.{shape_of}
-use Rattle.hp_script.specs.Reading.{with_written, said_step, judged, read_line}
+use Rattle.hp_script.specs.Reading.{said_step, judged, read_line}
 use Rattle.hp_script.specs.Workloads.{Refusal, go_on, read_from, reading_at}
 use Rattle.hp_script.specs.Spans.{IsSlice, AreSlices, IsLentFrom, bytes_behind, tokens_of, all_tokens}
 use Rattle.hp_script.specs.declared.bad_kind.BadKind.{BadKind}
@@ -149,7 +149,7 @@ module _ (bytes : Bor (List ℕ)) where
             elim (outcome (shape_of (fields_of line))) [
               | inr refused ↦ rw refused.1 tt
               | inl said ↦ rw said.1 (
-                  said_step_slices makers (with_written read number (fields_of line)) number a b said.0 before (rw said.1 at (said_slices bytes a b (fields_of line) slices)))
+                  said_step_slices makers read number a b said.0 before (rw said.1 at (said_slices bytes a b (fields_of line) slices)))
             ]))
       ]
 

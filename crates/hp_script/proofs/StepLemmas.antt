@@ -12,7 +12,7 @@ use Rattle.hp_script.specs.Makers.{Makers}
 use Rattle.hp_script.specs.Setups.{is_strange, with_later, setup_step, set_up}
 use Rattle.hp_script.specs.Acts.{is_duplicate, is_unknown, add_line, add_act, add_await}
 use Rattle.hp_script.specs.Shapes.{shape_of}
-use Rattle.hp_script.specs.Reading.{with_written, said_step, judged, read_line}
+use Rattle.hp_script.specs.Reading.{said_step, judged, read_line}
 use Rattle.hp_script.specs.Workloads.{Refusal, go_on, read_from}
 use Rattle.hp_script.specs.declared.bad_kind.BadKind.{BadKind}
 use Rattle.hp_script.specs.declared.bad_kind.BadKind.TheVariants as bad
@@ -118,7 +118,7 @@ pub record Says (makers : Makers) (read : Reader) (number : ℕ) (fields : List 
   pub words : AllByRecursion (λ field. IsWord field.text) fields
   pub said : Shape
   pub shape : shape_of fields ≡ Ok said
-  pub adds : Adds makers (with_written read number fields) number said more
+  pub adds : Adds makers read number said more
 
 judged_says : (makers : Makers) (read : Reader) (number : ℕ) (line : Part) → IfOk (judged makers read number line) (Says makers read number (fields_of line))
 unfolding judged
@@ -126,10 +126,11 @@ judged_says makers read number line =
     through (tokens_in line) _ _ (λ tokens are.
     let tokens_are = tokens_fields line tokens are in
     through (shape_of tokens) _ _ (λ said shape.
-    says tokens_are.1 said (rw tokens_are.0 at shape) (said_step makers (with_written read number tokens) number said)
-    (rw tokens_are.0 (said_step_adds makers (with_written read number (fields_of line)) number said))))
+    says tokens_are.1 said (rw tokens_are.0 at shape) (said_step makers read number said)
+    (said_step_adds makers read number said)))
   where
-    says : AllByRecursion (λ field. IsWord field.text) (fields_of line) → (said : Shape) → shape_of (fields_of line) ≡ Ok said → (step : Result Reader BadKind) → IfOk step (Adds makers (with_written read number (fields_of line)) number said) → IfOk step (Says makers read number (fields_of line))
+    says : AllByRecursion (λ field. IsWord field.text) (fields_of line) → (said : Shape) → shape_of (fields_of line) ≡ Ok said
+        → (step : Result Reader BadKind) → IfOk step (Adds makers read number said) → IfOk step (Says makers read number (fields_of line))
     says words said shape (Ok more) adds = record { words = words; said = said; shape = shape; adds = adds }
     says words said shape (Err kind) adds = tt
 

@@ -1,5 +1,5 @@
 -- What the program does so far, and the first line of a workload that it does not do.
-use Rattle.std.specs.Prelude.{ℕ, Bool, false, not, ◌&&◌, ◌==◌, min, List, [], ◌∷◌, Option, Some, None, is_none}
+use Rattle.std.specs.Prelude.{ℕ, Bool, true, false, not, ◌==◌, min, List, Option, Some, None}
 use Rattle.std.specs.Option.{option_map}
 use Rattle.std.specs.List.{find}
 use Rattle.hp_base.specs.declared.plan_entry.PlanEntry.{PlanEntry}
@@ -8,9 +8,12 @@ use Rattle.hp_script.specs.declared.line.Act.{Act}
 use Rattle.hp_script.specs.declared.line.Act.TheVariants as act
 use Rattle.hp_script.specs.declared.line.Line.{Line}
 
--- of the acts the program does allocations, where no option but the socket asks for something
+-- of the acts the program does allocations with all their options, frees, resizes, and the statistics under the lock
 abbrev pub is_built_act : Act → Bool
-is_built_act (act.Alloc label size options) = is_none options.heap && (options.align == 0 && (options.bound == 0 && options.flags == 0))
+is_built_act (act.Alloc label size options) = true
+is_built_act (act.Free label) = true
+is_built_act (act.Resize label size) = true
+is_built_act (act.Dump heap) = true
 is_built_act _ = false
 
 -- the line of the first act that the program does not do
@@ -22,10 +25,14 @@ abbrev pub entry_line : PlanEntry → ℕ
 entry_line (plan.Message kind party k twice line) = line
 entry_line (plan.Mapping party call elsewhere line) = line
 
--- the line of the first entry of a plan; the program does no plan yet
+-- of the plan the program does what becomes of mapping calls of participant 0; messages are for later
+abbrev pub is_built_entry : PlanEntry → Bool
+is_built_entry (plan.Message kind party k twice line) = false
+is_built_entry (plan.Mapping party call elsewhere line) = party == 0
+
+-- the line of the first entry of a plan that the program does not do
 abbrev pub first_planned : List PlanEntry → Option ℕ
-first_planned [] = None
-first_planned (entry ∷ entries) = Some (entry_line entry)
+first_planned entries = option_map entry_line (find (λ entry. not (is_built_entry entry)) entries)
 
 -- the earlier of two lines, where they are there
 abbrev pub earlier : Option ℕ → Option ℕ → Option ℕ

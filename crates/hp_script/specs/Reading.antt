@@ -1,12 +1,10 @@
 -- One line of a text: what it adds to what was read, or its first refusal.
-use Rattle.std.specs.Prelude.{◌≡◌, ℕ, Bool, false, not, ◌&&◌, List, ◌∷◌, Some, Result, Ok, Err, if◌then◌else◌, codes}
-use Rattle.std.specs.List.{list_any}
-use Rattle.std.specs.Option.{option_or}
-use Rattle.hp_script.specs.Part.{Part, has_front}
+use Rattle.std.specs.Prelude.{◌≡◌, ℕ, Result, Ok, Err, if◌then◌else◌}
+use Rattle.hp_script.specs.Part.{Part}
 use Rattle.hp_script.specs.Text.{fields_of, is_skipped}
 use Rattle.hp_script.specs.Words.{tokens_in}
 use Rattle.hp_script.specs.Judge.{◌>>=◌}
-use Rattle.hp_script.specs.Shapes.{is_participant_line, shape_of}
+use Rattle.hp_script.specs.Shapes.{shape_of}
 use Rattle.hp_script.specs.Makers.{Makers}
 use Rattle.hp_script.specs.Setups.{set_up}
 use Rattle.hp_script.specs.Acts.{add_act, add_await}
@@ -23,25 +21,12 @@ said_step makers read number (Setup setup) = set_up read number setup
 said_step makers read number (Does party deed) = add_act makers read number party deed
 said_step makers read number (Awaits party other k) = add_await read number party other k
 
--- an option is another than `socket=`
-abbrev pub is_other_option : Part → Bool
-is_other_option word = not (has_front (codes "socket=") word)
-
--- a participant line has an option but `socket=`, also one that says its default
-abbrev pub asks_more : List Part → Bool
-asks_more (first ∷ verb ∷ label ∷ size ∷ words) = is_participant_line first && list_any is_other_option words
-asks_more _ = false
-
--- the first line with options that the program does not do yet is noted
-abbrev pub with_written : Reader → ℕ → List Part → Reader
-with_written read number tokens = record read { later = (if asks_more tokens then option_or read.later (Some number) else read.later) }
-
 -- a line that is not skipped is judged by its bytes, by the length of its fields, by its fields, and along the text
 unfoldable pub judged : Makers → Reader → ℕ → Part → Result Reader BadKind
 judged makers read number line = do
   tokens ← tokens_in line
   said ← shape_of tokens
-  said_step makers (with_written read number tokens) number said
+  said_step makers read number said
 
 -- a line adds to what was read, or is refused
 unfoldable pub read_line : Makers → Reader → ℕ → Part → Result Reader BadKind

@@ -80,9 +80,10 @@ setup_step read number (Pool pool) = add_pool read pool
 setup_step read number (Message kind party k twice) = add_message read number kind party k twice
 setup_step read number (Mapping party call elsewhere) = add_mapping read number party call elsewhere
 
--- of the setup lines the program does pools, the deadline and the socket of participant 0; what the plan says is asked of the plan
+-- of the setup lines the program does that there is one participant, pools, the deadline and the socket of participant 0; what the
+-- plan says is asked of the plan
 abbrev pub is_built_setup : Setup → Bool
-is_built_setup (Participants count) = false
+is_built_setup (Participants count) = count == 1
 is_built_setup (Absent party) = false
 is_built_setup (Socket party socket) = party == 0
 is_built_setup (Deadline ms) = true

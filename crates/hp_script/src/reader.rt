@@ -1,9 +1,7 @@
 //! What has been read of a text, line by line.
 
 ghost use Rattle.std.specs.Prelude.{◌≡◌, ◌<◌, ◌≤◌, false, unwrap_or};
-ghost use Rattle.std.specs.List.{list_any};
 ghost use Rattle.hp_script.specs.Setups.{is_built_setup};
-ghost use Rattle.hp_script.specs.Reading.{is_other_option, asks_more};
 
 mod acts;
 mod setups;
@@ -18,7 +16,7 @@ use crate::party_count::PartyCount;
 use crate::piece::Piece;
 use crate::plan_lines::PlanLines;
 use crate::pool_lines::PoolLines;
-use crate::shape::{Setup, Shape, is_participant_line, shape_of};
+use crate::shape::{Setup, Shape, shape_of};
 use crate::text::is_skipped;
 use crate::token::Token;
 use crate::words::read_tokens;
@@ -35,7 +33,7 @@ pub struct Reader<'a> {
     pub placed: u16,
     pub sockets: [u32; 16],
     pub deadline: Option<Deadline>,
-    /// The first setup line, but those of the plan, or line with options that the program does not do yet.
+    /// The first setup line, but those of the plan, that the program does not do yet.
     pub later: Option<u32>,
     pub pools: PoolLines,
     pub plan: PlanLines,
@@ -45,7 +43,7 @@ pub struct Reader<'a> {
 impl<'a> Reader<'a> {
     ghost use Rattle.hp_script.specs.Known.{known};
     ghost use Rattle.hp_script.specs.Setups.{nothing, is_strange, with_later, set_up};
-    ghost use Rattle.hp_script.specs.Reading.{Steps, with_written, read_line, judged, said_step};
+    ghost use Rattle.hp_script.specs.Reading.{Steps, read_line, judged, said_step};
     ghost use Rattle.hp_script.specs.Limits.{IsWithinLimits};
     ghost use Rattle.hp_script.specs.Workloads.{IsWorkloadOf};
 
@@ -107,17 +105,7 @@ impl<'a> Reader<'a> {
     {
         read_tokens(buffer, line)?;
         let said = shape_of(buffer)?;
-        self.note_written(number, buffer);
         self.take_in(makers, number, said)
-    }
-
-    // Notes the number of a participant line with options that the program does not do yet, unless an earlier line is noted.
-    fn note_written(&mut self, number: u32, tokens: &[Token<'a>])
-        ensures { self.new ≡ with_written self.old number tokens.now }
-    {
-        if asks_more(tokens) {
-            self.later = self.later.or(Some(number));
-        }
     }
 
     // Takes in what a line says.
@@ -206,29 +194,13 @@ impl<'a> Reader<'a> {
     }
 }
 
-// Whether a participant line has an option but `socket=`, also one that says its default.
-fn asks_more(tokens: &[Token]) -> bool
-    ensures { result ≡ asks_more tokens.now }
-{
-    match tokens {
-        [first, _, _, _, words @ ..] => is_participant_line(first.as_bytes()) && has_other(words),
-        _ => false,
-    }
-}
-
-// Whether a word is no `socket=`.
-fn has_other(words: &[Token]) -> bool
-    ensures { result ≡ list_any is_other_option words.now }
-{
-    words.iter().any(|word| !word.begins(b"socket="))
-}
-
 // Whether the program does what a setup line says. What the plan says is asked of the plan.
 fn is_built_setup(setup: &Setup) -> bool
     ensures { result ≡ is_built_setup setup.now }
 {
     match setup {
-        Setup::Participants { .. } | Setup::Absent { .. } => false,
+        Setup::Participants { count } => count.number() == 1,
+        Setup::Absent { .. } => false,
         Setup::Socket { party, .. } => *party == 0,
         Setup::Deadline { .. } | Setup::Pool { .. } => true,
         Setup::Message { .. } | Setup::Mapping { .. } => true,

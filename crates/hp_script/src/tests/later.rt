@@ -3,54 +3,72 @@ use crate::{ParseFault, first_later, parse};
 use std::alloc::{AllocError, Global};
 use std::test::*;
 
-// Five setup lines that are built or skipped.
+// Seven setup lines that are built or skipped.
 const SETUP: &str = "pool 0 2M 4
 # participants 2
 socket 00 3
 deadline 100
 pool 1 1G 8 16
+refuse 0 1
+\telsewhere 00 1K\r
 ";
 
-// Four participant lines that are built or skipped.
+// Nine participant lines that are built or skipped.
 const CALLS: &str = "0 alloc a 1000
 
 00 alloc b 0x10 socket=1
  0\talloc free 2M socket=any\r
+0 alloc c 10 heap=ext align=64 bound=4K flags=1
+0 alloc d 10 align=0 bound=0 flags=0
+0 free a
+0 resize free 3M
+00 dump\tsocket_0
 ";
 
 // Participant lines that are not built.
-const FURTHER: &str = "0 free b
-0 alloc y 1 align=64
+const FURTHER: &str = "0 stats socket_0
+0 zone y 1 align=64
 ";
 
 // Texts that are built to their end.
-const ALL_BUILT: [&str; 5] = [
+const ALL_BUILT: [&str; 14] = [
     "",
-    "\n\r\n \t\n# 0 free a",
+    "\n\r\n \t\n# 0 zone a 1",
     "pool 0 2M 4\n",
     "\tsocket\t00 31\r\n000 alloc a 1 socket=0x1f",
     "deadline 1\n0 alloc socket 1",
+    "refuse 0 1\nelsewhere 0 1000000",
+    "elsewhere 00 2\npool 0 2M 4\nrefuse 000 1\n0 alloc a 1",
+    "0 free a\n0 resize a 0\n0 alloc a 0 flags=0xffffffff",
+    "0 dump nothing",
+    "0 alloc c 10 align=3 socket=31",
+    "0 alloc c 10 bound=5",
+    "0 alloc c 10 heap=ext",
+    "participants 1",
+    "refuse 0 1\n\tparticipants  0x01\r\nsocket 0 3\n0 alloc a 1\n0 free a",
 ];
 
 // Setup lines that are not built.
-const SETUP_LINES: [&str; 9] = [
-    "participants 1",
+const SETUP_LINES: [&str; 12] = [
+    "participants 2",
     "participants 3\nabsent 1\nsocket 1 4",
+    "participants 2\nrefuse 1 1",
     "lose alloc 0 1",
     "repeat alloc 0 1",
+    "lose free 0 2",
     "lose sync 0 1",
-    "refuse 0 1",
-    "elsewhere 0 1",
+    "repeat reply 0 1",
+    "lose answer 0 1000000",
+    "lose answer 0 1\nparticipants 4\nelsewhere 3 1",
     "  participants\t0x2\r",
-    "refuse 00 1",
+    "\trepeat sync 00 1",
 ];
 
 // Participant lines that are not built.
-const CALL_LINES: [&str; 27] = [
-    "0 free a",
-    "0 resize a 10",
+const CALL_LINES: [&str; 18] = [
     "0 zone z 100",
     "0 zone z 100 socket=0",
+    "0 zone z 100 align=64",
     "0 lookup z",
     "0 unzone z",
     "0 heap ext",
@@ -64,16 +82,30 @@ const CALL_LINES: [&str; 27] = [
     "0 limit v 0 1",
     "0 unlimit v 0",
     "0 await 0 1",
-    "0 dump socket_0",
     "0 stats socket_0",
-    "0 alloc c 10 heap=ext",
-    "0 alloc c 10 align=0",
-    "0 alloc c 10 align=64",
-    "0 alloc c 10 bound=0",
-    "0 alloc c 10 flags=0",
-    "0 alloc c 10 socket=0 flags=1",
-    "0 alloc c 10 bound=4K socket=any",
-    "\t00 free\tb ",
+    "\t00 stats\tb ",
+];
+
+// Texts with lines of several kinds that are not built, and the number of the first one.
+const EARLIEST: [(&str, u32); 9] = [
+    ("participants 1\nrefuse 0 1\nlose alloc 0 1\n0 zone z 1", 3),
+    ("refuse 0 1\nlose alloc 0 1\nparticipants 2\n1 attach", 2),
+    ("elsewhere 0 1\nparticipants 2\nlose alloc 1 1\n1 attach", 2),
+    (
+        "participants 2\n0 alloc a 1\n1 attach\n1 detach\n0 zone z 1",
+        1,
+    ),
+    (
+        "refuse 0 2\nelsewhere 0 1\nrepeat free 0 1\nlose sync 0 1",
+        3,
+    ),
+    ("refuse 0 2\nlose free 0 1\n0 free a\n0 alloc a 1", 2),
+    ("elsewhere 0 1\n0 alloc a 1\n0 stats s\n0 zone z 1", 3),
+    ("0 alloc a 1\n0 free a\n0 await 0 2\n0 stats s", 3),
+    (
+        "# lose\nrefuse 0 1\n\n0 dump s\n0 resize z 1\n0 zone z 1",
+        6,
+    ),
 ];
 
 fn joined(alloc: Global, parts: &[&str]) -> Result<String, AllocError> {
@@ -96,7 +128,7 @@ fn later(alloc: Global, text: &str) -> Result<Option<u32>, ParseFault> {
 fn built_lines_alone_have_no_later_one(rt: HostRuntime) -> Result<(), Fail> {
     let alloc = rt.alloc();
     let both = joined(alloc, &[SETUP, CALLS])?;
-    assert_eq!(rt; outcome(alloc, both.as_bytes())?, 3);
+    assert_eq!(rt; outcome(alloc, both.as_bytes())?, 8);
     assert_eq!(rt; later(alloc, both.as_str())?, None);
     for text in ALL_BUILT {
         assert!(rt; outcome(alloc, text.as_bytes()).is_ok(), "{text}");
@@ -111,12 +143,22 @@ fn a_later_line_stands_between_built_ones_and_further_ones(rt: HostRuntime) -> R
     for line in SETUP_LINES {
         let text = joined(alloc, &[SETUP, line, "\n", CALLS, FURTHER])?;
         assert!(rt; outcome(alloc, text.as_bytes()).is_ok(), "{line}");
-        assert_eq!(rt; later(alloc, text.as_str())?, Some(6), "{line}");
+        assert_eq!(rt; later(alloc, text.as_str())?, Some(8), "{line}");
     }
     for line in CALL_LINES {
         let text = joined(alloc, &[SETUP, CALLS, line, "\n", FURTHER, "0 zone z 1"])?;
         assert!(rt; outcome(alloc, text.as_bytes()).is_ok(), "{line}");
-        assert_eq!(rt; later(alloc, text.as_str())?, Some(10), "{line}");
+        assert_eq!(rt; later(alloc, text.as_str())?, Some(17), "{line}");
+    }
+    Ok(())
+}
+
+#[test]
+fn of_later_lines_the_first_is_named(rt: HostRuntime) -> Result<(), Fail> {
+    let alloc = rt.alloc();
+    for (text, want) in EARLIEST {
+        assert!(rt; outcome(alloc, text.as_bytes()).is_ok(), "{text}");
+        assert_eq!(rt; later(alloc, text)?, Some(want), "{text}");
     }
     Ok(())
 }
@@ -130,7 +172,7 @@ fn the_last_of_many_lines_is_found(rt: HostRuntime) -> Result<(), Fail> {
         write!(text, "0 alloc l{number} 64 socket=1\n")?;
     }
     assert_eq!(rt; later(alloc, text.as_str())?, None);
-    text.push_str("0 free l1")?;
+    text.push_str("0 stats l1")?;
     assert_eq!(rt; later(alloc, text.as_str())?, Some(20_000));
     Ok(())
 }
