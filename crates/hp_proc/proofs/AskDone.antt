@@ -1,5 +1,5 @@
 -- What was done for an ask, and for a notice, from its parts.
-use Rattle.std.proofs.Common.{◌≡◌, ◌∙◌, ℕ, ◌+◌, true, List, [], ◌∷◌, ◌++◌, Option, refl, ap, sym, subst}
+use Rattle.std.proofs.Common.{◌≡◌, ◌∙◌, ℕ, ◌+◌, ◌^◌, ◌≤◌, true, List, [], ◌∷◌, ◌++◌, Option, refl, ap, sym, subst}
 use Rattle.hp_base.specs.Plans.{action_of}
 use Rattle.hp_base.specs.declared.plan_entry.MsgKind.TheVariants as message
 use Rattle.hp_base.specs.declared.row.Run.{Run}
@@ -10,7 +10,7 @@ use Rattle.hp_segs.specs.LaterSteps.{after_arm}
 use Rattle.hp_segs.specs.SegsView.{SegsView}
 use Rattle.hp_segs.specs.declared.ask.Ask.{Ask}
 use Rattle.hp_proc.specs.AskSteps.{DoesAsk, DoesNotify, IsAwaitedBy, IsSentAs}
-use Rattle.hp_proc.specs.Asking.{alloc_body, free_body}
+use Rattle.hp_proc.specs.Asking.{alloc_body, free_body, next_number}
 use Rattle.hp_proc.specs.Frames.{Says}
 use Rattle.hp_proc.specs.Outcomes.{ask_of}
 use Rattle.hp_proc.specs.Party.{Party, after_alloc, after_free, one_more}
@@ -26,19 +26,21 @@ abbrev pub posts_free : Party → Frame → Posted → MailStep
 posts_free party frame posted = Posts 0 frame (action_of party.plan message.Free party.me (one_more party.sent.frees)) posted
 
 pub does_ask : (count : ℕ) (party mid after : Party) (asked : PagesAsked) (ask : Ask) (since : ℕ) (taken : SegsView) (frame : Frame)
-    (posted : Posted) (rest : List MailStep) (run : Option Run) → ask ≡ ask_of party.me ask.number asked → after.asked ≡ ask.number
+    (posted : Posted) (rest : List MailStep) (run : Option Run) → ask ≡ ask_of party.me ask.number asked
+    → ask.number ≡ next_number party.asked taken.asks party.me → since ≤ 2 ^ 63 → after.asked ≡ ask.number
     → mid ≡ after_alloc ask.number party → Says frame (alloc_body ask) → IsAwaitedBy count mid after ask since rest run
     → DoesAsk count party after asked
     ((takes_segments taken ∷ gives_segments (after_arm ask taken) ∷ posts_alloc party frame posted ∷ []) ++ rest) run
-does_ask count party mid after asked ask since taken frame posted rest run ask_is after_is mid_is says awaited =
+does_ask count party mid after asked ask since taken frame posted rest run ask_is number early after_is mid_is says awaited =
     let named : ask ≡ ask_of party.me after.asked asked = ask_is ∙ ap (λ number. ask_of party.me number asked) (sym after_is) in
     record {
       since = since;
+      early = early;
       sending = takes_segments taken ∷ gives_segments (after_arm ask taken) ∷ posts_alloc party frame posted ∷ [];
       rest = rest;
       sent = subst (λ named. IsSentAs party named
           (takes_segments taken ∷ gives_segments (after_arm ask taken) ∷ posts_alloc party frame posted ∷ [])) named
-          (record { taken = taken; frame = frame; posted = posted; says = says; are = refl });
+          (record { taken = taken; frame = frame; posted = posted; number = number; says = says; are = refl });
       awaited = subst (λ ask. IsAwaitedBy count (after_alloc after.asked party) after ask since rest run) named
           (subst (λ number. IsAwaitedBy count (after_alloc number party) after ask since rest run) (sym after_is)
           (subst (λ mid. IsAwaitedBy count mid after ask since rest run) mid_is awaited));

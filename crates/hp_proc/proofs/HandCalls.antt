@@ -25,7 +25,7 @@ use Rattle.hp_proc.specs.Acting.{Acts, AreAsked}
 use Rattle.hp_proc.specs.Courses.{OwnCall}
 use Rattle.hp_proc.specs.Doing.{Doing, Goes, Leads}
 use Rattle.hp_proc.specs.Doing.Done.{Called}
-use Rattle.hp_proc.specs.Histories.{entries_for, entry_for}
+use Rattle.hp_proc.specs.Histories.{entries_for, entry_for, run_cut}
 use Rattle.hp_proc.specs.Party.{Party, after_call}
 use Rattle.hp_proc.specs.Progress.{Does, DoesIn, IsInHand, Moment, caller_of, in_hand, moment_of, with_hand}
 
@@ -117,19 +117,20 @@ module _ (party : Party) (parts : ℕ → HeapPart) (log : List LogRecord) (asks
       (sym (one_apart party.me (party.context.calls + 1) heap own there.1)))
       (eqb_tells heap old.plain.index)
 
-  -- the next thing that its line does is that call
-  pub does_call : (count : ℕ) (did : List MailStep → Type 0) (then_on : HeapAnswer → Doing) (after : Party) → after ≡ after_call party → did []
+  -- the next thing that its line does is that call, with the steps that it makes along with it
+  pub does_acted : (count : ℕ) (did : List MailStep → Type 0) (then_on : HeapAnswer → Doing) (after : Party) (steps : List MailStep)
+      → after ≡ after_call party → did steps → Acts count party (after_call party) (Called old.plain.index call answer ∷ []) steps
       → Does count did (Doing.Calls old.plain.index call then_on) (then_on answer) (in_hand old (moment_of party parts log asks))
       (in_hand new (moment_of after parts log asks))
   unfolding Leads Goes AreAsked
-  does_call count did then_on after counted none =
+  does_acted count did then_on after steps counted made acts =
       subst (λ (after : Party). Does count did (Doing.Calls old.plain.index call then_on) (then_on answer)
       (in_hand old (moment_of party parts log asks)) (in_hand new (moment_of after parts log asks))) (sym counted) (record {
         trace = Called old.plain.index call answer ∷ [];
-        steps = [];
+        steps = steps;
         leads = (answer, refl, refl);
-        made = none;
-        acts = Acts.makes_call party old.plain.index call answer;
+        made = made;
+        acts = acts;
         entries = entries_by;
         serves = λ heap. hand_serves party.me new parts heap ∙ sym (hand_serves party.me old parts heap);
         counted = refl;
@@ -141,15 +142,24 @@ module _ (party : Party) (parts : ℕ → HeapPart) (log : List LogRecord) (asks
         asks = sym (append-nil asks);
       })
 
+  -- so it is with a call that cuts no run, which makes none
+  pub does_call : (count : ℕ) (did : List MailStep → Type 0) (then_on : HeapAnswer → Doing) (after : Party) → after ≡ after_call party
+      → did [] → run_cut answer ≡ []
+      → Does count did (Doing.Calls old.plain.index call then_on) (then_on answer) (in_hand old (moment_of party parts log asks))
+      (in_hand new (moment_of after parts log asks))
+  does_call count did then_on after counted none whole =
+      does_acted count did then_on after [] counted none (Acts.makes_call party old.plain.index call answer whole)
+
   -- and that is its last call so far
-  pub call_in : (count : ℕ) (did : List MailStep → Type 0) (then_on : HeapAnswer → Doing) (after : Party) → after ≡ after_call party → did []
+  pub call_in : (count : ℕ) (did : List MailStep → Type 0) (then_on : HeapAnswer → Doing) (after : Party) → after ≡ after_call party
+      → did [] → run_cut answer ≡ []
       → DoesIn old.plain.index count did (Doing.Calls old.plain.index call then_on) (then_on answer) (in_hand old (moment_of party parts log asks))
       (in_hand new (moment_of after parts log asks))
-  unfolding does_call Leads Goes AreAsked
-  call_in count did then_on after counted none =
+  unfolding does_acted does_call Leads Goes AreAsked
+  call_in count did then_on after counted none whole =
       subst (λ (after : Party). DoesIn old.plain.index count did (Doing.Calls old.plain.index call then_on) (then_on answer)
       (in_hand old (moment_of party parts log asks)) (in_hand new (moment_of after parts log asks))) (sym counted)
-      (record { does = does_call count did then_on (after_call party) refl none; last = refl })
+      (record { does = does_call count did then_on (after_call party) refl none whole; last = refl })
 
   module _ (taken : ℕ → Option Kept) (hand : IsInHand taken (moment_of party parts log asks) old) where
     pub own_behind : hand.was.history ++ (hand.own ++ entry ∷ []) ≡ old.history ++ entry ∷ []

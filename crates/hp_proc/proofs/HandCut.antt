@@ -1,5 +1,5 @@
--- Whole pages that are cut from a heap in hand, and given up.
-use Rattle.std.proofs.Common.{◌≡◌, ◌≢◌, ◌∙◌, ℕ, Option, Some, None, refl, ap, sym, subst, ⊎_elim}
+-- Whole pages that are cut from a heap in hand, and given up; and calls that cut none.
+use Rattle.std.proofs.Common.{◌≡◌, ◌≢◌, ◌∙◌, ℕ, Bool, true, false, [], Option, Some, None, refl, ap, sym, subst, ⊎_elim}
 use Rattle.std.proofs.lemmas.Bool.Decides.{eqb_tells}
 use Rattle.std.specs.Option.{option_map}
 use Rattle.hp_base.specs.declared.row.Run.{Run}
@@ -9,11 +9,15 @@ use Rattle.hp_heap.specs.Cut.{PageCut, after_cut, after_cut_of, cut_at, run_of}
 use Rattle.hp_heap.specs.History.{HeapView, IsCall}
 use Rattle.hp_heap.specs.Laws.{IsRunCut}
 use Rattle.hp_heap.specs.PlainHeap.{PlainHeap}
-use Rattle.hp_heap.specs.Step.{after, answer_of, run_answer}
+use Rattle.hp_heap.specs.Freeing.{fault_answer}
+use Rattle.hp_heap.specs.Step.{address_answer, after, answer_of, resize_answer, run_answer}
 use Rattle.hp_heap.specs.declared.entry.HeapAnswer.{HeapAnswer}
 use Rattle.hp_heap.specs.declared.entry.HeapAnswer.TheVariants as gives
 use Rattle.hp_heap.specs.declared.entry.HeapCall.TheVariants as call
+use Rattle.hp_heap.specs.declared.freeing.FreeFault.{FreeFault}
+use Rattle.hp_heap.specs.declared.freeing.FreeFault.TheVariants as fault
 use Rattle.hp_proc.specs.Asking.{GivesUp, IsCutFrom, without_run}
+use Rattle.hp_proc.specs.Histories.{run_cut}
 use Rattle.hp_proc.proofs.HandMoved.{IsSamePart}
 
 left_whole : (heap : PlainHeap) (found : Option PageCut) → gives.Nothing ≡ run_answer (option_map run_of found) → after_cut_of found heap ≡ heap
@@ -52,6 +56,20 @@ held_behind_cut addr index run old new before behind same held cut left gives =
     subst (IsHeldWith new) (ap (λ (part : HeapPart). part.holding) (sym gives.left))
     (gives.pages new.plain
     (record { whole = old.plain; address = addr; its_index = sym same; pages = whole; cut = cut; left_is = left }))
+
+-- what a search, a free and a resize answer names no run that was cut
+pub found_whole : (found : Option ℕ) → run_cut (address_answer found) ≡ []
+found_whole None = refl
+found_whole (Some address) = refl
+
+pub freed_whole : (fault : Option FreeFault) → run_cut (fault_answer fault) ≡ []
+freed_whole None = refl
+freed_whole (Some (fault.NotAnElement address)) = refl
+freed_whole (Some (fault.IsZone tag)) = refl
+
+pub resized_whole : (fits : Bool) → run_cut (resize_answer fits) ≡ []
+resized_whole true = refl
+resized_whole false = refl
 
 module _ (index : ℕ) (run : Run) (old new : ℕ → HeapPart) (gives : GivesUp index run (old index) (new index))
     (apart : (other : ℕ) → other ≢ index → new other ≡ old other) where

@@ -1,60 +1,60 @@
-mod LawLemmas
-mod Tying
-mod Spoken
-mod GivenSteps
-mod Handed
-mod Telling
-mod Carrying
-mod Posted
-mod Served
-mod StepFalls
-mod Scaled
-mod Weighs
-mod Noting
+pub mod LawLemmas
+pub mod Tying
+pub mod Spoken
+pub mod GivenSteps
+pub mod Handed
+pub mod Telling
+pub mod Carrying
+pub mod Posted
+pub mod Served
+pub mod StepFalls
+pub mod Scaled
+pub mod Weighs
+pub mod Noting
 pub mod Standing
-mod Steps
-mod Looked
-mod Armed
-mod AskOutcomes
-mod AskSettled
-mod AskWithdrawn
-mod AskedAlong
-mod Retired
-mod Taken
-mod AskLooks
-mod InTurn
-mod AskDone
-mod MemberLemmas
-mod AskedLemmas
-mod Waits
-mod Worked
-mod WorkedEnds
-mod WorkedServing
+pub mod Steps
+pub mod Looked
+pub mod Armed
+pub mod AskOutcomes
+pub mod AskSettled
+pub mod AskWithdrawn
+pub mod AskedAlong
+pub mod Retired
+pub mod Taken
+pub mod AskLooks
+pub mod InTurn
+pub mod AskDone
+pub mod MemberLemmas
+pub mod AskedLemmas
+pub mod Waits
+pub mod Worked
+pub mod WorkedEnds
+pub mod WorkedServing
 pub mod SoloSeats
 pub mod SoloTies
 pub mod SoloWeights
-mod SoloTurns
-mod SoloQuiet
-mod SoloLooks
-mod StageLemmas
-mod RetiredPage
-mod SoloWaits
-mod Mapped
-mod SocketHeapLemmas
-mod ChosenHeaps
-mod Noted
-mod Joining
-mod HandCalls
-mod HandGiven
-mod PagesStay
-mod SoloOpened
-mod SoloEnds
-mod SoloDrained
-mod HandMoved
-mod HandCut
-mod LineFacts
-mod Makers
-mod HandAsked
-mod HandTried
-mod AllocFacts
-mod HallMoments
+pub mod SoloTurns
+pub mod SoloQuiet
+pub mod SoloLooks
+pub mod StageLemmas
+pub mod RetiredPage
+pub mod SoloWaits
+pub mod Mapped
+pub mod SocketHeapLemmas
+pub mod ChosenHeaps
+pub mod Noted
+pub mod Joining
+pub mod HandCalls
+pub mod HandGiven
+pub mod PagesStay
+pub mod SoloOpened
+pub mod SoloEnds
+pub mod SoloDrained
+pub mod HandMoved
+pub mod HandCut
+pub mod LineFacts
+pub mod Makers
+pub mod HandAsked
+pub mod HandTried
+pub mod AllocFacts
+pub mod HallMoments

@@ -5,7 +5,9 @@ use Rattle.hp_hall.specs.Mail.{MailStep, Gives, Takes}
 use Rattle.hp_hall.specs.declared.kept.Kept.TheVariants.{Heap}
 use Rattle.hp_heap.specs.History.{HeapView}
 use Rattle.hp_heap.specs.declared.entry.HeapAnswer.{HeapAnswer}
+use Rattle.hp_heap.specs.declared.entry.HeapAnswer.TheVariants as gives
 use Rattle.hp_heap.specs.declared.entry.HeapCall.{HeapCall}
+use Rattle.hp_heap.specs.declared.entry.HeapCall.TheVariants as call
 use Rattle.hp_log.specs.declared.log_record.LogRecord.{LogRecord}
 use Rattle.hp_segs.specs.SegsView.{SegsView}
 use Rattle.hp_segs.specs.Steps.{after_retire}
@@ -15,6 +17,7 @@ use Rattle.hp_proc.specs.Asking.{IsAsked}
 use Rattle.hp_proc.specs.Doing.{Done}
 use Rattle.hp_proc.specs.Doing.Done.{Asked, Called, CaughtUp, GaveUp, Looked}
 use Rattle.hp_proc.specs.Courses.{Standing}
+use Rattle.hp_proc.specs.Histories.{run_cut}
 use Rattle.hp_proc.specs.Party.{Party, after_call, with_standing}
 use Rattle.hp_proc.specs.Serving.{gives_segments, takes_segments}
 use Rattle.hp_proc.specs.Waiting.{IsTurned}
@@ -29,15 +32,16 @@ pub data Acts (count : ℕ) : Party → Party → List Done → List MailStep �
   -- it took a heap, or gave one back
   takes_heap : (party : Party) (heap : HeapView) → Acts count party party [] (Takes heap.plain.index (Heap heap) ∷ [])
   gives_heap : (party : Party) (heap : HeapView) → Acts count party party [] (Gives heap.plain.index (Heap heap) ∷ [])
-  -- it made a call of the heap in its hand
-  makes_call : (party : Party) (heap : ℕ) (call : HeapCall) (answer : HeapAnswer)
+  -- it made a call of the heap in its hand, which cut no run from it
+  makes_call : (party : Party) (heap : ℕ) (call : HeapCall) (answer : HeapAnswer) → run_cut answer ≡ []
       → Acts count party (after_call party) (Called heap call answer ∷ []) []
+  -- it cut a run from the heap in its hand, and gave it up
+  cuts_run : (party : Party) (heap addr : ℕ) (run : Run) (taken : SegsView)
+      → Acts count party (after_call party) (Called heap (call.Cut addr) (gives.Pages run) ∷ [])
+      (takes_segments taken ∷ gives_segments (after_retire run taken) ∷ [])
   -- it asked for pages
   asks_pages : (party after : Party) (asked : PagesAsked) (run : Option Run) (steps : List MailStep) → DoesAsk count party after asked steps run
       → Acts count party after (Asked asked run ∷ []) steps
-  -- it gave up a run of the heap in its hand
-  retires_run : (party : Party) (run : Run) (taken : SegsView)
-      → Acts count party party [] (takes_segments taken ∷ gives_segments (after_retire run taken) ∷ [])
   -- it told the coordinator so
   notifies_run : (party after : Party) (heap : ℕ) (run : Run) (steps : List MailStep) → DoesNotify count party after heap run steps
       → Acts count party after (GaveUp heap run ∷ []) steps

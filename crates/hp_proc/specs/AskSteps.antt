@@ -9,7 +9,7 @@ use Rattle.hp_hall.specs.declared.posted.Posted.{Posted}
 use Rattle.hp_segs.specs.LaterSteps.{after_arm}
 use Rattle.hp_segs.specs.SegsView.{SegsView}
 use Rattle.hp_segs.specs.declared.ask.Ask.{Ask}
-use Rattle.hp_proc.specs.Asking.{after_settling, alloc_body, free_body}
+use Rattle.hp_proc.specs.Asking.{after_settling, alloc_body, free_body, next_number}
 use Rattle.hp_proc.specs.Frames.{Says}
 use Rattle.hp_proc.specs.Looking.{IsLookAt}
 use Rattle.hp_proc.specs.Outcomes.{ask_of}
@@ -23,11 +23,13 @@ use Rattle.hp_proc.specs.declared.settling.Found.TheVariants.{Settled, Open}
 abbrev pub waits_until : ℕ → ℕ → ℕ
 waits_until since deadline = min (since + 3 * deadline) (2 ^ 64 - 1)
 
--- a participant is armed with an ask and posts it, as the plan has its next one
+-- a participant is armed with an ask and posts it, as the plan has its next one; the ask has the participant's next number, by the outcomes
+-- of the value in which it is armed
 pub record IsSentAs (party : Party) (ask : Ask) (steps : List MailStep) : Type 0 where
   pub taken : SegsView
   pub frame : Frame
   pub posted : Posted
+  pub number : ask.number ≡ next_number party.asked taken.asks party.me
   pub says : Says frame (alloc_body ask)
   pub are : steps ≡ takes_segments taken ∷ gives_segments (after_arm ask taken)
       ∷ Posts 0 frame (action_of party.plan message.Alloc party.me (one_more party.sent.allocs)) posted ∷ []
@@ -50,9 +52,10 @@ pub data IsAwaitedBy (count : ℕ) (party after : Party) (ask : Ask) (since : �
       → IsSettledLate count mid after ask since late → steps ≡ waited ++ (looked ++ late)
       → IsAwaitedBy count party after ask since steps run
 
--- a participant asks for pages, and is answered with the run, or none
+-- a participant asks for pages, and is answered with the run, or none; the reading from before it sent counts as 2 ^ 63 at most
 pub record DoesAsk (count : ℕ) (party after : Party) (asked : PagesAsked) (steps : List MailStep) (run : Option Run) : Type 0 where
   pub since : ℕ
+  pub early : since ≤ 2 ^ 63
   pub sending : List MailStep
   pub rest : List MailStep
   pub sent : IsSentAs party (ask_of party.me after.asked asked) sending

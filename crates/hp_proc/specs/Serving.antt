@@ -13,7 +13,7 @@ use Rattle.hp_hall.specs.Mail.{MailStep, Fetches, Gives, Posts, Takes}
 use Rattle.hp_hall.specs.declared.kept.Kept.TheVariants.{Segments}
 use Rattle.hp_hall.specs.declared.posted.Posted.{Posted}
 use Rattle.hp_log.specs.declared.log_record.LogRecord.{LogRecord}
-use Rattle.hp_maps.specs.Catching.{HasAnswered, new_rows, newer, number_after}
+use Rattle.hp_maps.specs.Catching.{HasAnswered, HasReason, new_rows, newer, number_after}
 use Rattle.hp_maps.specs.MapsView.{MapsView, calls_of}
 use Rattle.hp_segs.specs.SegsView.{SegsView, is_member}
 use Rattle.hp_proc.specs.Frames.{Says, SaysNothing}
@@ -26,10 +26,12 @@ takes_segments segs = Takes MAX_HEAPS (Segments segs)
 abbrev pub gives_segments : SegsView → MailStep
 gives_segments segs = Gives MAX_HEAPS (Segments segs)
 
--- a table catches up with a log, or fails to, by these calls of its mapper
+-- a table catches up with a log, or fails to, by these calls of its mapper; one that fails is a call at which the mapper may fail
 pub record CatchesUp (log : List LogRecord) (old new : MapsView) (caught : Caught) : Type 0 where
   pub answered : HasAnswered (new_rows old.number (newer log old.number (length log))) old.answers new.answers caught
   pub number : new.number ≡ number_after old.number (length log) caught
+  pub reason : HasReason old.may_fail caught
+  pub stays : new.may_fail ≡ old.may_fail
 
 -- a reply is posted to participant 0, as the plan has it for the next reply
 pub record Replies (party : Party) (body : Body) (step : MailStep) : Type 0 where

@@ -94,8 +94,8 @@ pub(crate) fn arm<H: Hall>(
     ensures number { IfOk result (λ ask. ask.number ≡ next_number before (H.heard hall.new me) me) }
     ensures awaits { IfOk result (λ ask. IsAwaiting ask (H.part hall.new me)) }
     ensures held { (heap : ℕ) → IsHeldAsBefore (H.part hall.old me heap) (H.part hall.new me heap) }
-    ensures did { IfOk result (λ ask. (taken : SegsView) × H.did hall.old hall.new me
-        (takes_segments taken ∷ gives_segments (after_arm ask taken) ∷ [])) }
+    ensures did { IfOk result (λ ask. (taken : SegsView) × (ask.number ≡ next_number before taken.asks me)
+        × H.did hall.old hall.new me (takes_segments taken ∷ gives_segments (after_arm ask taken) ∷ [])) }
 
     ensures taken { (number : ℕ) → H.taken hall.new number ≡ H.taken hall.old number }
     ensures home { (number : ℕ) → H.may_take hall.old number → H.may_take hall.new number }

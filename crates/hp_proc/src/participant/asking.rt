@@ -1,5 +1,5 @@
 //! How a participant asks for pages.
-ghost use Rattle.std.specs.Prelude.{◌≡◌, ◌≢◌, ℕ, ◌<◌, List, [], ◌∷◌, false, None, IfOk, IsSome, OnErr, OnOk};
+ghost use Rattle.std.specs.Prelude.{◌≡◌, ◌≢◌, ℕ, ◌^◌, ◌<◌, ◌≤◌, List, [], ◌∷◌, false, None, IfOk, IsSome, OnErr, OnOk};
 ghost use Rattle.hp_base.specs.Plans.{action_of};
 ghost use Rattle.hp_base.specs.declared.limits.TheConstants.{MAX_HEAPS, MAX_PARTICIPANTS};
 ghost use Rattle.hp_base.specs.declared.plan_entry.MsgKind.{MsgKind};
@@ -23,6 +23,10 @@ use hp_hall::{Hall, Waiting};
 use hp_segs::Ask;
 use std::alloc::AllocError;
 
+// The latest reading of its clock from which a participant waits for an answer. A reading from before it asked stays one when it is made
+// smaller; so three deadlines behind it are below the end of the clock's type.
+const LATEST: u64 = 1 << 63;
+
 impl<'p, M: Mapper> Participant<'p, M> {
     // Until when it waits for an answer, where that is a reading of the clock from before it asked: for three of its deadlines.
     pub(super) fn waits_until(&self, since: u64) -> u64
@@ -31,12 +35,14 @@ impl<'p, M: Mapper> Participant<'p, M> {
         since.saturating_add(self.deadline.saturating_mul(3))
     }
 
-    // Sends an ask with which it is armed, and notes it as its last one. Returned is a reading of the clock from before it was sent.
+    // Sends an ask with which it is armed, and notes it as its last one. Returned is a reading of the clock from before it was sent,
+    // or the latest one from which it waits, where that is smaller.
     fn send<H: Hall>(&mut self, hall: &mut H, ask: &Ask) -> u64
         requires serves { H.serves hall.old self.old.me }
         requires me { self.old.me < H.count hall.old }
         requires own { ask.now.from ≡ self.old.me }
         requires tied { IsTied (H.seen hall.old self.old.me) (H.own hall.old self.old.me) self.old.joined self.old.maps }
+        ensures early { result ≤ 2 ^ 63 }
         ensures sent { self.new ≡ after_alloc ask.now.number self.old }
         ensures did { (frame : Frame) × (posted : Posted) × Says frame (alloc_body ask.now) × H.did hall.old hall.new self.old.me
             (Posts 0 frame (action_of self.old.plan MsgKind.Alloc self.old.me (one_more self.old.sent.allocs)) posted ∷ []) }
@@ -49,7 +55,7 @@ impl<'p, M: Mapper> Participant<'p, M> {
         ensures still { H.serves hall.new self.old.me }
         ensures goes_on { H.goes_on hall.old hall.new }
     {
-        let since = hall.now(self.me);
+        let since = hall.now(self.me).min(LATEST);
         let number = one_more(self.sent.allocs);
         let body = alloc_body(ask);
         post_own(hall, self.me, self.plan, MsgKind::Alloc, number, body);

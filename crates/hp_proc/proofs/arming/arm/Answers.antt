@@ -49,5 +49,6 @@ returns-clause-awaits g c =
 pub returns-clause-did : goal.returns-clause-did
 returns-clause-did g c = (
   c.take_segments-segs.result,
+  ap (λ (ask : Ask). ask.number) c.ask_of-ask.ensures ∙ c.in-Some.ensures,
   g.met.H.Hall.did_then _ _ _ c.args.me _ _ c.take_segments-segs.ensures.did c.in_ok-arm_taken.ensures.did,
 )

@@ -19,6 +19,7 @@ use Rattle.hp_proc.specs.Tied.{IsTied}
 use Rattle.hp_proc.specs.declared.element_act.ElementAct.{ElementAct}
 use Rattle.hp_proc.specs.declared.searched_heap.SearchedHeap.{SearchedHeap}
 use Rattle.hp_proc.proofs.HandCalls.{call_index, call_serves, does_call, hand_stays}
+use Rattle.hp_proc.proofs.HandCut.{resized_whole}
 use Rattle.hp_proc.proofs.Joining.{does_same}
 use Rattle.hp_proc.proofs.PagesStay.{resize_pages}
 use Rattle.hp_proc.proofs.participant.Participant.act_held.Goals as goal
@@ -67,7 +68,8 @@ module _ (count : ℕ) (did : List MailStep → Type 0) (none : did []) (taken :
             (resized_is is.0 ∙ ap (λ (given : Answer). Doing.Ended given) (sym is.1))
             (subst (λ (index : ℕ). Does count did (Doing.Calls index (call.Resize addr size) resized) (resized (resize_answer is.0))
             (in_hand heap (moment_of party parts log asks)) (in_hand next (moment_of after parts log asks))) (sym its)
-            (does_call party parts log asks (call.Resize addr size) (resize_answer is.0) heap next is.3 count did resized after is.2 none));
+            (does_call party parts log asks (call.Resize addr size) (resize_answer is.0) heap next is.3 count did resized after is.2 none
+            (resized_whole is.0)));
         in_hand = hand_stays party parts log asks (call.Resize addr size) (resize_answer is.0) heap next is.3 taken hand after is.2
             (resize_pages (caller_of party) addr size (resize_answer is.0) heap next is.3);
         index = call_index (caller_of party) (call.Resize addr size) (resize_answer is.0) heap next is.3;

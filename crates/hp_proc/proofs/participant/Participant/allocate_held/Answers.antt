@@ -15,6 +15,7 @@ use Rattle.hp_proc.specs.Progress.{AreSettled, Does, DoesIn, IsInHand, caller_of
 use Rattle.hp_proc.specs.Tied.{IsTied}
 use Rattle.hp_proc.proofs.HallMoments.{at, does_more}
 use Rattle.hp_proc.proofs.HandCalls.{call_index, call_serves, hand_stays}
+use Rattle.hp_proc.proofs.HandCut.{found_whole}
 use Rattle.hp_proc.proofs.HandTried.{called_then, tries_in, tries_on}
 use Rattle.hp_proc.proofs.Joining.{does_same}
 use Rattle.hp_proc.proofs.PagesStay.{alloc_pages}
@@ -86,7 +87,8 @@ returns-in-Some-clause-does g c = λ heaps.
     called_then party c.allocate_in.new.self (g.H.Hall.part hall me) (g.H.Hall.seen hall me) (g.H.Hall.heard hall me)
     (call.Alloc (with_flags (without_hint request.flags) request) tag) (address_answer c.allocate_in.result) c.args.heap.now
     c.allocate_in.new.heap step c.allocate_in.ensures.counted place.index c.requires.its (g.H.Hall.count hall) (g.H.Hall.did hall hall me) doing
-    (unless_found left) before (does_same (g.H.Hall.count hall) (g.H.Hall.did hall hall me) doing before (g.met.H.Hall.did_same hall me)) in
+    (unless_found left) before (found_whole c.allocate_in.result)
+    (does_same (g.H.Hall.count hall) (g.H.Hall.did hall hall me) doing before (g.met.H.Hall.did_same hall me)) in
     tries_in place.index (g.H.Hall.count hall) (g.H.Hall.did hall hall me) doing otherwise (gives.Address c.in-Some.addr) before
     (in_hand c.allocate_in.new.heap (at g.H.Hall.count g.H.Hall.did g.H.Hall.part g.H.Hall.seen g.H.Hall.heard hall me c.allocate_in.new.self))
     (subst (λ (found : Option ℕ). DoesIn place.index (g.H.Hall.count hall) (g.H.Hall.did hall hall me) doing
@@ -136,7 +138,8 @@ returns-then-not-branch-clause-does g c = λ heaps.
     called_then party c.allocate_in.new.self (g.H.Hall.part hall me) (g.H.Hall.seen hall me) (g.H.Hall.heard hall me)
     (call.Alloc (with_flags (without_hint request.flags) request) tag) (address_answer c.allocate_in.result) c.args.heap.now
     c.allocate_in.new.heap step c.allocate_in.ensures.counted place.index c.requires.its (g.H.Hall.count hall) (g.H.Hall.did hall hall me) doing
-    (unless_found left) before (does_same (g.H.Hall.count hall) (g.H.Hall.did hall hall me) doing before (g.met.H.Hall.did_same hall me)) in
+    (unless_found left) before (found_whole c.allocate_in.result)
+    (does_same (g.H.Hall.count hall) (g.H.Hall.did hall hall me) doing before (g.met.H.Hall.did_same hall me)) in
     let mine : c.allocate_in.new.self.me ≡ me = ap (λ (party : Party). party.me) c.allocate_in.ensures.counted in
     let third = c.grow.new.hall in
     let passed : Does (g.H.Hall.count hall) (g.H.Hall.did hall hall me) doing left before
@@ -196,7 +199,8 @@ returns-in-Some-allocate_in-clause-does g c = λ heaps.
     called_then party c.allocate_in.new.self (g.H.Hall.part hall me) (g.H.Hall.seen hall me) (g.H.Hall.heard hall me)
     (call.Alloc (with_flags (without_hint request.flags) request) tag) (address_answer c.allocate_in.result) c.args.heap.now
     c.allocate_in.new.heap step c.allocate_in.ensures.counted place.index c.requires.its (g.H.Hall.count hall) (g.H.Hall.did hall hall me) doing
-    (unless_found left) before (does_same (g.H.Hall.count hall) (g.H.Hall.did hall hall me) doing before (g.met.H.Hall.did_same hall me)) in
+    (unless_found left) before (found_whole c.allocate_in.result)
+    (does_same (g.H.Hall.count hall) (g.H.Hall.did hall hall me) doing before (g.met.H.Hall.did_same hall me)) in
     let mine : c.allocate_in.new.self.me ≡ me = ap (λ (party : Party). party.me) c.allocate_in.ensures.counted in
     let third = c.grow.new.hall in
     let passed : Does (g.H.Hall.count hall) (g.H.Hall.did hall hall me) doing left before
@@ -224,7 +228,8 @@ returns-in-Some-allocate_in-clause-does g c = λ heaps.
     (call.Alloc request tag) (address_answer c.allocate_in-2.result) c.grow.new.heap c.allocate_in-2.new.heap c.allocate_in-2.ensures.step
     c.allocate_in-2.ensures.counted place.index
     (c.requires.its ∙ sym (c.grow.ensures.index ∙ call_index _ _ _ _ _ c.allocate_in.ensures.step)) (g.H.Hall.count hall)
-    (g.H.Hall.did hall third me) doing (unless_found (Doing.Ended gives.None)) before (subst granted c.if-not-branch.false grown) in
+    (g.H.Hall.did hall third me) doing (unless_found (Doing.Ended gives.None)) before (found_whole c.allocate_in-2.result)
+    (subst granted c.if-not-branch.false grown) in
     tries_in place.index (g.H.Hall.count hall) (g.H.Hall.did hall third me) doing otherwise (gives.Address c.in-Some-allocate_in.addr) before
     (in_hand c.allocate_in-2.new.heap (at g.H.Hall.count g.H.Hall.did g.H.Hall.part g.H.Hall.seen g.H.Hall.heard third me c.allocate_in-2.new.self))
     (subst (λ (found : Option ℕ). DoesIn place.index (g.H.Hall.count hall) (g.H.Hall.did hall third me) doing
@@ -278,7 +283,8 @@ returns-in-None-clause-does g c = λ heaps.
     called_then party c.allocate_in.new.self (g.H.Hall.part hall me) (g.H.Hall.seen hall me) (g.H.Hall.heard hall me)
     (call.Alloc (with_flags (without_hint request.flags) request) tag) (address_answer c.allocate_in.result) c.args.heap.now
     c.allocate_in.new.heap step c.allocate_in.ensures.counted place.index c.requires.its (g.H.Hall.count hall) (g.H.Hall.did hall hall me) doing
-    (unless_found left) before (does_same (g.H.Hall.count hall) (g.H.Hall.did hall hall me) doing before (g.met.H.Hall.did_same hall me)) in
+    (unless_found left) before (found_whole c.allocate_in.result)
+    (does_same (g.H.Hall.count hall) (g.H.Hall.did hall hall me) doing before (g.met.H.Hall.did_same hall me)) in
     let mine : c.allocate_in.new.self.me ≡ me = ap (λ (party : Party). party.me) c.allocate_in.ensures.counted in
     let third = c.grow.new.hall in
     let passed : Does (g.H.Hall.count hall) (g.H.Hall.did hall hall me) doing left before
@@ -306,7 +312,8 @@ returns-in-None-clause-does g c = λ heaps.
     (call.Alloc request tag) (address_answer c.allocate_in-2.result) c.grow.new.heap c.allocate_in-2.new.heap c.allocate_in-2.ensures.step
     c.allocate_in-2.ensures.counted place.index
     (c.requires.its ∙ sym (c.grow.ensures.index ∙ call_index _ _ _ _ _ c.allocate_in.ensures.step)) (g.H.Hall.count hall)
-    (g.H.Hall.did hall third me) doing (unless_found (Doing.Ended gives.None)) before (subst granted c.if-not-branch.false grown) in
+    (g.H.Hall.did hall third me) doing (unless_found (Doing.Ended gives.None)) before (found_whole c.allocate_in-2.result)
+    (subst granted c.if-not-branch.false grown) in
     tries_in place.index (g.H.Hall.count hall) (g.H.Hall.did hall third me) doing otherwise gives.None before
     (in_hand c.allocate_in-2.new.heap (at g.H.Hall.count g.H.Hall.did g.H.Hall.part g.H.Hall.seen g.H.Hall.heard third me c.allocate_in-2.new.self))
     (subst (λ (found : Option ℕ). DoesIn place.index (g.H.Hall.count hall) (g.H.Hall.did hall third me) doing

@@ -154,11 +154,13 @@ returns-clause-did g c =
       g.met.H.Hall.did_then _ _ _ me _ _
           (g.met.H.Hall.did_then _ _ _ me _ _
           (subst (λ who. g.H.Hall.did old c.arm.new.hall who (takes_segments armed.0 ∷ gives_segments (after_arm ask armed.0) ∷ [])) mine
-          armed.1)
+          armed.2)
           sent.3)
           (subst (λ who. g.H.Hall.did c.send-since.new.hall new who awaited.0) who awaited.1),
       does_ask (g.H.Hall.count old) party c.send-since.new.self after asked ask c.send-since.result armed.0 sent.0 sent.1 awaited.0 run
           ask_is
+          (subst (λ (party : Party). ask.number ≡ next_number party.asked armed.0.asks party.me) c.self.view_is armed.1)
+          c.send-since.ensures.early
           (c.await_answer.ensures.asked ∙ ap (λ (party : Party). party.asked) c.send-since.ensures.sent) c.send-since.ensures.sent sent.2
           (subst (λ count. IsAwaitedBy count c.send-since.new.self after ask c.send-since.result awaited.0 run) count awaited.2),
     )) c.await_answer.ensures.did

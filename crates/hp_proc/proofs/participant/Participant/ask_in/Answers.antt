@@ -104,7 +104,7 @@ returns-in-Some-clause-does g c = λ tag otherwise.
     (called_then c.ask.new.self c.grow_in.new.self (g.H.Hall.part new party.me) (g.H.Hall.seen new party.me) (g.H.Hall.heard new party.me)
     (call.Grow c.in-Some.run') gives.Done c.args.heap.now c.grow_in.new.heap c.grow_in.ensures.step c.grow_in.ensures.counted asked.heap
     c.requires.its (g.H.Hall.count old) (g.H.Hall.did old new party.me) (Doing.Asks asked (with_run asked.heap asked.request tag otherwise))
-    (λ answer. searching_again asked.heap asked.request tag) before does).does
+    (λ answer. searching_again asked.heap asked.request tag) before refl does).does
 
 pub returns-in-Some-clause-in_hand : goal.returns-in-Some-clause-in_hand
 returns-in-Some-clause-in_hand g c =

@@ -18,7 +18,7 @@ use Rattle.hp_proc.specs.declared.element_act.Left.TheVariants.{GaveUp}
 use Rattle.hp_proc.specs.declared.searched_heap.SearchedHeap.{SearchedHeap}
 use Rattle.hp_proc.proofs.AskedAlong.{settled_more}
 use Rattle.hp_proc.proofs.Carrying.{same_party}
-use Rattle.hp_proc.proofs.HandCalls.{call_index, call_serves, does_call, hand_stays}
+use Rattle.hp_proc.proofs.HandCalls.{call_index, call_serves, does_acted, does_call, hand_stays}
 use Rattle.hp_proc.proofs.HandCut.{cut_from_held, cut_leaves, cut_nothing, given_up_armed, given_up_part, held_behind_cut}
 use Rattle.hp_proc.proofs.HandMoved.{hand_moved, hand_same}
 use Rattle.hp_proc.proofs.Joining.{does_same, does_still, does_then}
@@ -74,7 +74,7 @@ returns-in-None-clause-does g c =
     (sym (socket_cuts place c.args.addr heap.plain.index c.is_none.result c.if-is_none.false c.is_none.ensures c.requires.its))
     (does_call party part seen heard (call.Cut c.args.addr) gives.Nothing heap c.cut_in.new.heap c.in-None.ensures.step
     (g.H.Hall.count hall) (g.H.Hall.did hall hall me) (giving_up place.index) c.cut_in.new.self c.cut_in.ensures.counted
-    (g.met.H.Hall.did_same hall me))
+    (g.met.H.Hall.did_same hall me) refl)
 
 pub returns-in-None-clause-in_hand : goal.returns-in-None-clause-in_hand
 returns-in-None-clause-in_hand g c =
@@ -128,17 +128,18 @@ returns-in-Some-clause-does g c =
     subst (λ (doing : Doing). Does count (g.H.Hall.did old new me) doing left (in_hand heap (moment_of party part seen heard))
     (in_hand cut (moment_of after later (g.H.Hall.seen new me) (g.H.Hall.heard new me))))
     (sym (socket_cuts place c.args.addr heap.plain.index c.is_none.result c.if-is_none.false c.is_none.ensures c.requires.its))
-    (does_then count (g.H.Hall.did old old me) (g.H.Hall.did old new me) (g.H.Hall.did old new me)
+    (does_then count (g.H.Hall.did old new me) (g.H.Hall.did new new me) (g.H.Hall.did old new me)
     (Doing.Calls heap.plain.index (call.Cut c.args.addr) (giving_up place.index)) left left (in_hand heap (moment_of party part seen heard))
     (in_hand cut (moment_of after part seen heard)) (in_hand cut (moment_of after later (g.H.Hall.seen new me) (g.H.Hall.heard new me)))
-    (λ first second. g.met.H.Hall.did_then old old new me first second)
-    (does_call party part seen heard (call.Cut c.args.addr) (gives.Pages run) heap cut c.in-Some.ensures.step count (g.H.Hall.did old old me)
-    (giving_up place.index) after c.cut_in.ensures.counted (g.met.H.Hall.did_same old me))
-    (does_still count (g.H.Hall.did old new me) left (in_hand cut (moment_of after part seen heard))
-    (in_hand cut (moment_of after later (g.H.Hall.seen new me) (g.H.Hall.heard new me)))
-    (takes_segments did.0 ∷ gives_segments (after_retire run did.0) ∷ [])
+    (λ first second. g.met.H.Hall.did_then old new new me first second)
+    (does_acted party part seen heard (call.Cut c.args.addr) (gives.Pages run) heap cut c.in-Some.ensures.step count
+    (g.H.Hall.did old new me) (giving_up place.index) after (takes_segments did.0 ∷ gives_segments (after_retire run did.0) ∷ [])
+    c.cut_in.ensures.counted
     (subst (λ (who : ℕ). g.H.Hall.did old new who (takes_segments did.0 ∷ gives_segments (after_retire run did.0) ∷ [])) is_me did.1)
-    (Acts.retires_run after run did.0) (λ at. (same at).entries) (λ at. (same at).serves) (same_party after) refl more.0 more.1 outcomes.0
+    (Acts.cuts_run party heap.plain.index c.args.addr run did.0))
+    (does_still count (g.H.Hall.did new new me) left (in_hand cut (moment_of after part seen heard))
+    (in_hand cut (moment_of after later (g.H.Hall.seen new me) (g.H.Hall.heard new me))) [] (g.met.H.Hall.did_same new me)
+    (Acts.nothing after) (λ at. (same at).entries) (λ at. (same at).serves) (same_party after) refl more.0 more.1 outcomes.0
     outcomes.1))
 
 pub returns-in-Some-clause-in_hand : goal.returns-in-Some-clause-in_hand

@@ -150,7 +150,7 @@ returns-clause-does g c =
     let ended = Doing.Ended (answer.Statistics stats) in
     let called : Does count (g.H.Hall.did mid mid me) doing ended second third =
     does_call party (g.H.Hall.part mid me) (g.H.Hall.seen mid me) (g.H.Hall.heard mid me) call.Stats (gives.Statistics stats) heap next
-    c.stats_in-stats.ensures.step count (g.H.Hall.did mid mid me) with_statistics after counted (g.met.H.Hall.did_same mid me) in
+    c.stats_in-stats.ensures.step count (g.H.Hall.did mid mid me) with_statistics after counted (g.met.H.Hall.did_same mid me) refl in
     let put : Does count (g.H.Hall.did mid new me) ended ended third fourth =
     subst (λ (count : ℕ). Does count (g.H.Hall.did mid new me) ended ended third fourth)
     (g.met.H.Hall.goes_on_count _ _ c.hold.ensures.goes_on)

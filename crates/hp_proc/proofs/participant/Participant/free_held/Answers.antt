@@ -18,6 +18,7 @@ use Rattle.hp_proc.specs.Party.{Party, after_call}
 use Rattle.hp_proc.specs.Progress.{Does, IsInHand, caller_of, in_hand, moment_of}
 use Rattle.hp_proc.specs.declared.searched_heap.SearchedHeap.{SearchedHeap}
 use Rattle.hp_proc.proofs.HandCalls.{call_index, call_serves, does_call, hand_stays}
+use Rattle.hp_proc.proofs.HandCut.{freed_whole}
 use Rattle.hp_proc.proofs.Joining.{does_then}
 use Rattle.hp_proc.proofs.PagesStay.{free_pages}
 use Rattle.hp_proc.proofs.participant.Participant.free_held.Goals as goal
@@ -34,7 +35,8 @@ freed_here count did party after parts log asks heap next place addr fault step 
     (in_hand next (moment_of after parts log asks))) is
     (subst (λ (index : ℕ). Does count did (Doing.Calls index (call.Free addr false) (freed place addr)) (freed place addr (fault_answer fault))
     (in_hand heap (moment_of party parts log asks)) (in_hand next (moment_of after parts log asks))) (sym its)
-    (does_call party parts log asks (call.Free addr false) (fault_answer fault) heap next step count did (freed place addr) after counted none))
+    (does_call party parts log asks (call.Free addr false) (fault_answer fault) heap next step count did (freed place addr) after counted
+    none (freed_whole fault)))
 
 -- the heap is in hand with it
 hand_freed : (taken : ℕ → Option Kept) (party after : Party) (parts : ℕ → HeapPart) (log : List LogRecord) (asks : List AskLog)

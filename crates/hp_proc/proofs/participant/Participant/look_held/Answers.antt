@@ -1,5 +1,5 @@
 -- The element is found, and then acted on, or it is not there.
-use Rattle.std.proofs.Common.{◌≡◌, ◌∙◌, ℕ, [], List, Option, ap, sym, subst, ◌∷◌}
+use Rattle.std.proofs.Common.{◌≡◌, ◌∙◌, ℕ, [], List, Option, refl, ap, sym, subst, ◌∷◌}
 use Rattle.hp_base.specs.declared.tag.Tag.{Tag}
 use Rattle.hp_hall.specs.Holding.{HeapPart}
 use Rattle.hp_hall.specs.Mail.{MailStep}
@@ -13,6 +13,7 @@ use Rattle.hp_segs.specs.declared.outcome.AskLog.{AskLog}
 use Rattle.hp_proc.specs.Asking.{HasSettledAsks}
 use Rattle.hp_proc.specs.Doing.{Doing}
 use Rattle.hp_proc.specs.Freeing.{acting, behind_looking, going_on, left_of, looking}
+use Rattle.hp_proc.specs.Histories.{run_cut}
 use Rattle.hp_proc.specs.Party.{Party, after_call}
 use Rattle.hp_proc.specs.Progress.{Does, IsInHand, caller_of, in_hand, moment_of}
 use Rattle.hp_proc.specs.declared.element_act.Left.{Left}
@@ -25,16 +26,16 @@ use Rattle.hp_proc.proofs.participant.Participant.look_held.Goals as goal
 -- the heap was searched, and the line goes on by what that gave
 looked_here : (count : ℕ) (did : List MailStep → Type 0) (party after : Party) (parts : ℕ → HeapPart) (log : List LogRecord)
     (asks : List AskLog) (heap next : HeapView) (place : SearchedHeap) (tag : Tag) (given : HeapAnswer)
-    → IsCall (caller_of party) (call.Find tag) given heap next → after ≡ after_call party → did [] → place.index ≡ heap.plain.index
-    → (found : SearchedHeap → ℕ → Doing) (places : List SearchedHeap)
+    → IsCall (caller_of party) (call.Find tag) given heap next → after ≡ after_call party → did [] → run_cut given ≡ []
+    → place.index ≡ heap.plain.index → (found : SearchedHeap → ℕ → Doing) (places : List SearchedHeap)
     → Does count did (looking tag found (place ∷ places)) (going_on (found place) (looking tag found places) given)
     (in_hand heap (moment_of party parts log asks)) (in_hand next (moment_of after parts log asks))
-looked_here count did party after parts log asks heap next place tag given step counted none its found places =
+looked_here count did party after parts log asks heap next place tag given step counted none whole its found places =
     subst (λ (index : ℕ). Does count did (Doing.Calls index (call.Find tag) (going_on (found place) (looking tag found places)))
     (going_on (found place) (looking tag found places) given) (in_hand heap (moment_of party parts log asks))
     (in_hand next (moment_of after parts log asks))) (sym its)
     (does_call party parts log asks (call.Find tag) given heap next step count did (going_on (found place) (looking tag found places)) after
-    counted none)
+    counted none whole)
 
 -- the heap is in hand then
 hand_looked : (taken : ℕ → Option Kept) (party after : Party) (parts : ℕ → HeapPart) (log : List LogRecord) (asks : List AskLog)
@@ -58,8 +59,8 @@ returns-in_err-addr-clause-does g c = λ places.
     (behind_looking place.index (looking c.args.tag found places) result) (in_hand heap (moment_of party part seen heard))
     (in_hand c.find_in.new.heap (moment_of c.find_in.new.self part seen heard))) (sym c.from_residual.ensures)
     (looked_here (g.H.Hall.count hall) (g.H.Hall.did hall hall party.me) party c.find_in.new.self part seen heard heap c.find_in.new.heap place
-    c.args.tag gives.Nothing c.in_err-addr.ensures.step c.find_in.ensures.counted (g.met.H.Hall.did_same hall party.me) c.requires.its found
-    places)
+    c.args.tag gives.Nothing c.in_err-addr.ensures.step c.find_in.ensures.counted (g.met.H.Hall.did_same hall party.me) refl c.requires.its
+    found places)
 
 pub returns-in_err-addr-clause-in_hand : goal.returns-in_err-addr-clause-in_hand
 returns-in_err-addr-clause-in_hand g c =
@@ -129,8 +130,8 @@ returns-clause-does g c = λ places.
     (in_hand c.act_held.new.heap (moment_of after (g.H.Hall.part new me) (g.H.Hall.seen new me) (g.H.Hall.heard new me)))
     (λ first second. g.met.H.Hall.did_then old old new me first second)
     (looked_here count (g.H.Hall.did old old me) party mid (g.H.Hall.part old me) (g.H.Hall.seen old me) (g.H.Hall.heard old me) heap next place
-    tag (gives.Address addr) c.in_ok-addr.ensures.step c.find_in.ensures.counted (g.met.H.Hall.did_same old me) c.requires.its (acting action)
-    places)
+    tag (gives.Address addr) c.in_ok-addr.ensures.step c.find_in.ensures.counted (g.met.H.Hall.did_same old me) refl c.requires.its
+    (acting action) places)
     (subst (λ (who : ℕ). Does count (g.H.Hall.did old new who) (acting action place addr) left
     (in_hand next (moment_of mid (g.H.Hall.part old who) (g.H.Hall.seen old who) (g.H.Hall.heard old who)))
     (in_hand c.act_held.new.heap (moment_of after (g.H.Hall.part new who) (g.H.Hall.seen new who) (g.H.Hall.heard new who))))

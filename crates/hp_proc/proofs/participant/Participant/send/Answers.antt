@@ -22,14 +22,14 @@ returns-clause-did g c =
           (Posts 0 did.0 (action_of party.plan Alloc party.me (one_more party.sent.allocs)) did.1 ∷ [])) c.self.view_is
           (subst (λ k. g.H.Hall.did old new me (Posts 0 did.0 (action_of c.self.inside.plan.now Alloc me k) did.1 ∷ []))
           c.one_more-number.ensures
-          (g.met.H.Hall.did_then _ _ _ me [] _ (c.now-since.ensures.did me) did.3)),
+          (g.met.H.Hall.did_then _ _ _ me [] _ (c.now.ensures.did me) did.3)),
     )
 
 pub returns-clause-tied : goal.returns-clause-tied
 returns-clause-tied g c =
     let who = c.args.self.now.me in
     let new = c.post_own.new.hall in
-    let on = g.met.H.Hall.goes_on_then _ _ _ c.now-since.ensures.goes_on c.post_own.ensures.goes_on in
+    let on = g.met.H.Hall.goes_on_then _ _ _ c.now.ensures.goes_on c.post_own.ensures.goes_on in
     let grown = g.met.H.Hall.goes_on_seen _ _ who on in
     subst (λ (party : Party). IsTied (g.H.Hall.seen new who) (g.H.Hall.own new who) party.joined party.maps) (sym c.self.view_is)
-    (tied_since _ _ grown.0 _ _ _ _ grown.1 (c.post_own.ensures.own who ∙ c.now-since.ensures.own who) c.requires.tied)
+    (tied_since _ _ grown.0 _ _ _ _ grown.1 (c.post_own.ensures.own who ∙ c.now.ensures.own who) c.requires.tied)
