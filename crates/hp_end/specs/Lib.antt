@@ -1,0 +1,3 @@
+pub mod Alone
+pub mod SoFar
+pub mod EndLaws
