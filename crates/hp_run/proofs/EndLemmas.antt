@@ -1,16 +1,20 @@
 -- An end of a workload: each line has its answer.
-use Rattle.std.proofs.Common.{◌≡◌, ℕ, ◌+◌, List, [], ◌∷◌, ◌++◌, length, length-append, refl, sym, ap, ◌∙◌}
-use Rattle.hp_base.specs.declared.pool_line.PoolLine.{PoolLine}
+use Rattle.std.proofs.Common.{◌≡◌, ◌∙◌, List, length, sym, ap}
+use Rattle.std.proofs.lemmas.List.{length-map}
+use Rattle.hp_heap.specs.History.{HeapView}
+use Rattle.hp_maps.specs.declared.table.Table.{Table}
 use Rattle.hp_script.specs.declared.answer.Answer.{Answer}
 use Rattle.hp_script.specs.declared.line.Line.{Line}
-use Rattle.hp_run.specs.Effects.{Effects}
-use Rattle.hp_run.specs.Serving.{DoesLines}
-use Rattle.hp_run.specs.Serving.DoesLines.{none, next}
-use Rattle.hp_run.specs.declared.session.heaps.SocketHeap.{SocketHeap}
+use Rattle.hp_script.specs.declared.workload.Workload.{Workload}
+use Rattle.hp_segs.specs.SegsView.{SegsView}
+use Rattle.hp_proc.specs.Ends.{IsSoloEnd}
+use Rattle.hp_proc.specs.LinesDone.{Course}
 
 -- as many answers as lines
-pub each_answered : (pools : List PoolLine) (order : List SocketHeap) (lines : List Line) (answers : List Answer) (did : Effects) → DoesLines pools order lines answers did
-    → length answers ≡ length lines
-each_answered pools order _ _ _ none = refl
-each_answered pools order _ _ _ (next lines line answers given did more before act) =
-    length-append answers (given ∷ []) ∙ ap (λ n. n + 1) (each_answered pools order lines answers did before) ∙ sym (length-append lines (line ∷ []))
+pub each_answered : (workload : Workload) (answers : List Answer) (heaps : List HeapView) (segs : SegsView) (tables : List Table)
+    → IsSoloEnd workload answers heaps segs tables → length answers ≡ length workload.lines.items
+each_answered workload answers heaps segs tables is =
+    sym (ap (λ (answers : List Answer). length answers) is.end.answered)
+    ∙ length-map is.end.courses (λ (course : Course). course.answer)
+    ∙ sym (length-map is.end.courses (λ (course : Course). course.line))
+    ∙ ap (λ (lines : List Line). length lines) is.end.lines

@@ -8,13 +8,15 @@ use Rattle.hp_run.specs.Outcome.IsAnswered.{wrote, wrote_nothing}
 use Rattle.hp_run.specs.Outcome.IsWritten.{whole, front, short}
 
 -- what there is to write goes with no failure
-pub answer_writes : (input : List ℕ) (ended : Status) (text : List ℕ) → IsAnswer input ended text → is_write_fault ended ≡ false
-answer_writes input ended text (of_refusal reason refused) = refl
-answer_writes input ended text (of_workload text' report) = refl
+pub answer_writes : (mappers : List (Option (List ℕ))) (input : List ℕ) (ended : Status) (text : List ℕ)
+    → IsAnswer mappers input ended text → is_write_fault ended ≡ false
+answer_writes mappers input ended text (of_refusal reason refused) = refl
+answer_writes mappers input ended text (of_workload text' report) = refl
 
-answer_reads : (input : List ℕ) (ended : Status) (text : List ℕ) → IsAnswer input ended text → is_read_fault ended ≡ false
-answer_reads input ended text (of_refusal reason refused) = refl
-answer_reads input ended text (of_workload text' report) = refl
+answer_reads : (mappers : List (Option (List ℕ))) (input : List ℕ) (ended : Status) (text : List ℕ)
+    → IsAnswer mappers input ended text → is_read_fault ended ≡ false
+answer_reads mappers input ended text (of_refusal reason refused) = refl
+answer_reads mappers input ended text (of_workload text' report) = refl
 
 written_reads : (ended result : Status) (text : List ℕ) (held held' : Option (List ℕ)) (sink_failed : Type 0)
     → IsWritten ended text held held' sink_failed result → is_read_fault ended ≡ false → is_read_fault result ≡ false
@@ -23,8 +25,8 @@ written_reads ended result text held held' sink_failed (front holds failed) read
 written_reads ended result text held held' sink_failed (short holds) reads = refl
 
 -- whatever comes of writing it, reading did not fail
-pub answered_reads : (input : List ℕ) (held held' : Option (List ℕ)) (sink_failed : Type 0) (result : Status)
-    → IsAnswered input held held' sink_failed result → is_read_fault result ≡ false
-answered_reads input held held' sink_failed result (wrote ended result' text answer written) =
-    written_reads ended result text held held' sink_failed written (answer_reads input ended text answer)
-answered_reads input held held' sink_failed result (wrote_nothing same) = refl
+pub answered_reads : (mappers : List (Option (List ℕ))) (input : List ℕ) (held held' : Option (List ℕ)) (sink_failed : Type 0)
+    (result : Status) → IsAnswered mappers input held held' sink_failed result → is_read_fault result ≡ false
+answered_reads mappers input held held' sink_failed result (wrote ended result' text answer written) =
+    written_reads ended result text held held' sink_failed written (answer_reads mappers input ended text answer)
+answered_reads mappers input held held' sink_failed result (wrote_nothing same) = refl

@@ -14,41 +14,41 @@ use Rattle.hp_run.specs.Outcome.IsAnswered.{wrote, wrote_nothing}
 use Rattle.hp_run.specs.Outcome.IsWritten.{whole, front, short}
 use Rattle.hp_run.specs.Outcome.RanOut.{before, amid}
 
-pub ends_written : (words : List (List ℕ)) (left left' held held' : Option (List ℕ)) (source_failed sink_failed : Type 0) (ended result : Status) (text : List ℕ)
-    → IsText words left left' ended text → IsWritten ended text held held' sink_failed result → Ends words left left' held held' source_failed sink_failed result
-ends_written words left left' held held' source_failed sink_failed _ _ _ (usage other same) (whole written) =
-    record { text = _; is = usage other same; written = written }
-ends_written words left left' held held' source_failed sink_failed _ _ _ (usage other same) (front some failed) =
-    record { ended = _; text = _; is = usage other same; front = some; because = failed }
-ends_written words left left' held held' source_failed sink_failed _ _ _ (usage other same) (short some) =
-    amid (record { ended = _; text = _; is = usage other same; front = some; because = tt })
-ends_written words left left' held held' source_failed sink_failed _ _ _ (refused input reason solo gave is) (whole written) =
-    record { text = _; is = refused input reason solo gave is; written = written }
-ends_written words left left' held held' source_failed sink_failed _ _ _ (refused input reason solo gave is) (front some failed) =
-    record { ended = _; text = _; is = refused input reason solo gave is; front = some; because = failed }
-ends_written words left left' held held' source_failed sink_failed _ _ _ (refused input reason solo gave is) (short some) =
-    amid (record { ended = _; text = _; is = refused input reason solo gave is; front = some; because = tt })
-ends_written words left left' held held' source_failed sink_failed _ _ _ (report input text solo gave is) (whole written) =
-    record { text = _; is = report input text solo gave is; written = written }
-ends_written words left left' held held' source_failed sink_failed _ _ _ (report input text solo gave is) (front some failed) =
-    record { ended = _; text = _; is = report input text solo gave is; front = some; because = failed }
-ends_written words left left' held held' source_failed sink_failed _ _ _ (report input text solo gave is) (short some) =
-    amid (record { ended = _; text = _; is = report input text solo gave is; front = some; because = tt })
+module _ (words : List (List ℕ)) (mappers : List (Option (List ℕ))) (left left' : Option (List ℕ)) where
+  -- the text of an answer is that of the words, the mappers and the source
+  text_of_answer : (input : List ℕ) (ended : Status) (text : List ℕ) → is_solo words ≡ true → GaveAll left left' input
+      → IsAnswer mappers input ended text → IsText words mappers left left' ended text
+  text_of_answer input _ _ solo gave (of_refusal reason is) = refused input reason solo gave is
+  text_of_answer input _ _ solo gave (of_workload text is) = report input text solo gave is
 
--- the text of an answer is that of the words and the source
-text_of_answer : (words : List (List ℕ)) (left left' : Option (List ℕ)) (input : List ℕ) (ended : Status) (text : List ℕ)
-    → is_solo words ≡ true → GaveAll left left' input → IsAnswer input ended text → IsText words left left' ended text
-text_of_answer words left left' input _ _ solo gave (of_refusal reason is) = refused input reason solo gave is
-text_of_answer words left left' input _ _ solo gave (of_workload text is) = report input text solo gave is
+  module _ (held held' : Option (List ℕ)) (source_failed sink_failed : Type 0) where
+    pub ends_written : (ended result : Status) (text : List ℕ) → IsText words mappers left left' ended text
+        → IsWritten ended text held held' sink_failed result → Ends words mappers left left' held held' source_failed sink_failed result
+    ends_written _ _ _ (usage other same) (whole written) = record { text = _; is = usage other same; written = written }
+    ends_written _ _ _ (usage other same) (front some failed) =
+        record { ended = _; text = _; is = usage other same; front = some; because = failed }
+    ends_written _ _ _ (usage other same) (short some) =
+        amid (record { ended = _; text = _; is = usage other same; front = some; because = tt })
+    ends_written _ _ _ (refused input reason solo gave is) (whole written) =
+        record { text = _; is = refused input reason solo gave is; written = written }
+    ends_written _ _ _ (refused input reason solo gave is) (front some failed) =
+        record { ended = _; text = _; is = refused input reason solo gave is; front = some; because = failed }
+    ends_written _ _ _ (refused input reason solo gave is) (short some) =
+        amid (record { ended = _; text = _; is = refused input reason solo gave is; front = some; because = tt })
+    ends_written _ _ _ (report input text solo gave is) (whole written) =
+        record { text = _; is = report input text solo gave is; written = written }
+    ends_written _ _ _ (report input text solo gave is) (front some failed) =
+        record { ended = _; text = _; is = report input text solo gave is; front = some; because = failed }
+    ends_written _ _ _ (report input text solo gave is) (short some) =
+        amid (record { ended = _; text = _; is = report input text solo gave is; front = some; because = tt })
 
-pub ends_answered : (words : List (List ℕ)) (left left' held held' : Option (List ℕ)) (source_failed sink_failed : Type 0) (input slice : List ℕ) (result : Status)
-    → is_solo words ≡ true → GaveAll left left' input → slice ≡ input → IsAnswered slice held held' sink_failed result
-    → Ends words left left' held held' source_failed sink_failed result
-ends_answered words left left' held held' source_failed sink_failed input slice _ solo gave same (wrote ended result shown is written) =
-    let its = subst (λ slice. IsAnswer slice ended shown) same is in
-    ends_written words left left' held held' source_failed sink_failed ended result shown (text_of_answer words left left' input ended shown solo gave its) written
-ends_answered words left left' held held' source_failed sink_failed input slice _ solo gave same (wrote_nothing kept) =
-    before (record { solo = solo; because = tt; nothing = kept })
+    pub ends_answered : (input slice : List ℕ) (result : Status) → is_solo words ≡ true → GaveAll left left' input → slice ≡ input
+        → IsAnswered mappers slice held held' sink_failed result
+        → Ends words mappers left left' held held' source_failed sink_failed result
+    ends_answered input slice _ solo gave same (wrote ended result shown is written) =
+        let its = subst (λ slice. IsAnswer mappers slice ended shown) same is in
+        ends_written ended result shown (text_of_answer input ended shown solo gave its) written
+    ends_answered input slice _ solo gave same (wrote_nothing kept) = before (record { solo = solo; because = tt; nothing = kept })
 
 -- a source that tells its bytes gave those
 gave_input : (input : List ℕ) (left' : Option (List ℕ)) (bytes : List ℕ) → GaveAll (Some input) left' bytes → bytes ≡ input
@@ -61,33 +61,38 @@ gave_input input (Some rest) bytes gave =
 gave_more : (input : List ℕ) (left' : Option (List ℕ)) → GaveTooMuch (Some input) left' → LIMIT < length input
 gave_more input None gave = absurd (none-some input (sym gave.took))
 gave_more input (Some rest) gave =
-    let same : length input ≡ length gave.bytes + length rest = ap length (same_Some input (gave.bytes ++ rest) gave.took) ∙ length-append gave.bytes rest in
+    let same : length input ≡ length gave.bytes + length rest =
+    ap length (same_Some input (gave.bytes ++ rest) gave.took) ∙ length-append gave.bytes rest in
     omega (arith, same, gave.long)
 
 -- the status that goes with a text is the one for the words and the input
-status_of_text : (words : List (List ℕ)) (input : List ℕ) (left' : Option (List ℕ)) (ended : Status) (text : List ℕ)
-    → IsText words (Some input) left' ended text → ended ≡ status_of words input
-status_of_text words input left' _ _ (usage other same) = rw other refl
-status_of_text words input left' _ _ (refused bytes reason solo gave is) =
+status_of_text : (words : List (List ℕ)) (mappers : List (Option (List ℕ))) (input : List ℕ) (left' : Option (List ℕ)) (ended : Status)
+    (text : List ℕ) → IsText words mappers (Some input) left' ended text → ended ≡ status_of words input
+status_of_text words mappers input left' _ _ (usage other same) = rw other refl
+status_of_text words mappers input left' _ _ (refused bytes reason solo gave is) =
     let same = gave_input input left' bytes gave in
     let within : nat_lt LIMIT (length bytes) ≡ false = le-ltb LIMIT (length bytes) gave.short in
     subst (λ bytes. status.BadWorkload ≡ status_of words bytes) same (rw (solo, within, is) refl)
-status_of_text words input left' _ _ (report bytes text solo gave is) =
+status_of_text words mappers input left' _ _ (report bytes text solo gave is) =
     let same = gave_input input left' bytes gave in
     let within : nat_lt LIMIT (length bytes) ≡ false = le-ltb LIMIT (length bytes) gave.short in
     subst (λ bytes. status.Ok ≡ status_of words bytes) same (rw (solo, within, is.end.done) refl)
 
 -- how the run ended is the status for the words and the input, or a failure
-pub settled_by_end : (words : List (List ℕ)) (left left' held held' : Option (List ℕ)) (source_failed sink_failed : Type 0) (result : Status)
-    → Ends words left left' held held' source_failed sink_failed result → IfSome left (λ input. IsUnlessFailure (status_of words input) result)
-settled_by_end words None left' held held' source_failed sink_failed result ended = tt
-settled_by_end words (Some input) left' held held' source_failed sink_failed status.ReadFault ended = tt
-settled_by_end words (Some input) left' held held' source_failed sink_failed status.WriteFault ended = tt
-settled_by_end words (Some input) left' held held' source_failed sink_failed status.OutOfMemory ended = tt
-settled_by_end words (Some input) left' held held' source_failed sink_failed status.Ok ended = sym (status_of_text words input left' status.Ok ended.text ended.is)
-settled_by_end words (Some input) left' held held' source_failed sink_failed status.Usage ended = sym (status_of_text words input left' status.Usage ended.text ended.is)
-settled_by_end words (Some input) left' held held' source_failed sink_failed status.BadWorkload ended = sym (status_of_text words input left' status.BadWorkload ended.text ended.is)
-settled_by_end words (Some input) left' held held' source_failed sink_failed status.TooLong ended =
+pub settled_by_end : (words : List (List ℕ)) (mappers : List (Option (List ℕ))) (left left' held held' : Option (List ℕ))
+    (source_failed sink_failed : Type 0) (result : Status) → Ends words mappers left left' held held' source_failed sink_failed result
+    → IfSome left (λ input. IsUnlessFailure (status_of words input) result)
+settled_by_end words mappers None left' held held' source_failed sink_failed result ended = tt
+settled_by_end words mappers (Some input) left' held held' source_failed sink_failed status.ReadFault ended = tt
+settled_by_end words mappers (Some input) left' held held' source_failed sink_failed status.WriteFault ended = tt
+settled_by_end words mappers (Some input) left' held held' source_failed sink_failed status.OutOfMemory ended = tt
+settled_by_end words mappers (Some input) left' held held' source_failed sink_failed status.Ok ended =
+    sym (status_of_text words mappers input left' status.Ok ended.text ended.is)
+settled_by_end words mappers (Some input) left' held held' source_failed sink_failed status.Usage ended =
+    sym (status_of_text words mappers input left' status.Usage ended.text ended.is)
+settled_by_end words mappers (Some input) left' held held' source_failed sink_failed status.BadWorkload ended =
+    sym (status_of_text words mappers input left' status.BadWorkload ended.text ended.is)
+settled_by_end words mappers (Some input) left' held held' source_failed sink_failed status.TooLong ended =
     let long : nat_lt LIMIT (length input) ≡ true = lt-ltb LIMIT (length input) (gave_more input left' ended.because) in
     rw (ended.solo, long) refl
 

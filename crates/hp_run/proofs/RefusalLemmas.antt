@@ -4,14 +4,15 @@ use Rattle.std.specs.Result.{MatchResult, IsErrAnd}
 use Rattle.hp_script.proofs.BuiltLemmas.{built_when_none_later}
 use Rattle.hp_script.proofs.MovedLemmas.{ReadAnywhere, read_anywhere}
 use Rattle.hp_script.specs.Later.{later_line}
-use Rattle.hp_script.specs.Limits.{IsWithinLimits}
+use Rattle.hp_script.specs.Limits.{AreParticipantLines, IsWithinLimits}
 use Rattle.hp_script.specs.Workloads.{IsReadAs, reading_of}
 use Rattle.hp_script.specs.declared.bad_kind.BadKind.{BadKind}
 use Rattle.hp_script.specs.declared.workload.Workload.{Workload}
+use Rattle.hp_base.specs.Plans.{ArePlanEntries}
 use Rattle.hp_base.specs.PoolLines.{ArePoolLines}
 use Rattle.hp_run.specs.Outcome.{IsAcceptedAs, IsFaultOf}
 use Rattle.hp_run.specs.Refusals.{refusal_of}
-use Rattle.hp_run.specs.Session.{IsSameWorkload}
+use Rattle.hp_run.specs.Running.{IsSameWorkload}
 use Rattle.hp_run.specs.declared.refusal.Refusal.{Refusal}
 use Rattle.hp_run.specs.declared.refusal.Refusal.TheVariants.{Bad, Later}
 use Rattle.hp_run.specs.declared.refusal.RunFault.{RunFault}
@@ -32,16 +33,21 @@ later_read bytes workload read nowhere = nowhere.later ∙ rw (read.workload_is.
 
 -- a text that is read, and has no line that is not built
 pub accepted_as : (bytes : List ℕ) (workload : Workload) → IsReadAs bytes workload → IsWithinLimits workload → ArePoolLines workload.pools.items
-    → later_in workload ≡ None → IsAcceptedAs bytes workload
+    → ArePlanEntries workload.participants workload.plan.items → AreParticipantLines workload.lines.items → later_in workload ≡ None
+    → IsAcceptedAs bytes workload
 unfolding refusal_of
-accepted_as bytes workload read limits pools none =
+accepted_as bytes workload read limits pools plan lines none =
     let nowhere = anywhere bytes workload read in
     record {
       done = rw (nowhere.whole, later_read bytes workload read nowhere, none) refl;
       read = read;
-      built = built_when_none_later bytes workload read none;
-      limits = limits;
-      pools = pools;
+      runnable = record {
+        built = built_when_none_later bytes workload read none;
+        limits = limits;
+        pools = pools;
+        plan = plan;
+        lines = lines;
+      };
     }
 
 -- a text that is read, and has a line that is not built

@@ -1,12 +1,8 @@
 pub mod Reading
 pub mod Faults
-pub mod Heaps
-pub mod Effects
-pub mod Serving
-pub mod End
-pub mod Held
-pub mod Session
-pub mod Growth
-pub mod Calling
+pub mod Mappers
+pub mod Opening
+pub mod Running
 pub mod Refusals
+pub mod Failures
 pub mod Outcome

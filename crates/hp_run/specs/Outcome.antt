@@ -1,7 +1,6 @@
 -- How a run of the program ends: what each status says.
 use Rattle.std.specs.Prelude.{◌≡◌, ℕ, Bool, true, false, List, [], ◌∷◌, length, codes, Option, Some, None, is_some, nat_lt, if◌then◌else◌, ⊤}
 use Rattle.std.specs.Str.{bytes_eq}
-use Rattle.hp_base.specs.PoolLines.{ArePoolLines}
 use Rattle.hp_base.specs.declared.status.Status.{Status}
 use Rattle.hp_base.specs.declared.status.Status.TheVariants as status
 use Rattle.hp_script.specs.Workloads.{IsReadAs}
@@ -9,14 +8,14 @@ use Rattle.hp_run.specs.declared.reading.TheConstants.{LIMIT}
 use Rattle.hp_run.specs.Reading.{GaveAll, GaveTooMuch}
 use Rattle.hp_report.specs.Writing.{Holds, HoldsFront}
 use Rattle.hp_report.specs.declared.ended.Ended.{Ended}
-use Rattle.hp_run.specs.End.{IsEnd}
+use Rattle.hp_proc.specs.Ends.{IsSoloEnd}
+use Rattle.hp_run.specs.Failures.{AreFailuresNamed, FailOnce}
 use Rattle.hp_run.specs.Refusals.{refusal_of, refusal_text}
 use Rattle.hp_report.specs.Report.{report as report_of}
 use Rattle.hp_run.specs.declared.refusal.Refusal.{Refusal}
 use Rattle.hp_run.specs.declared.refusal.RunFault.{RunFault}
 use Rattle.hp_run.specs.declared.refusal.RunFault.TheVariants as fault
-use Rattle.hp_script.specs.Built.{IsBuilt}
-use Rattle.hp_script.specs.Limits.{IsWithinLimits}
+use Rattle.hp_run.specs.Running.{IsRunnable}
 use Rattle.hp_script.specs.declared.workload.Workload.{Workload}
 
 -- the words are the one word solo
@@ -29,29 +28,31 @@ is_solo (word ∷ other ∷ others) = false
 abbrev pub usage_text : List ℕ
 usage_text = codes "usage: heapsim solo|run|check|generate <start> <lines> [summary]\n"
 
--- what a run left is an end of the workload that the input is; there are no tables yet
-pub record IsEndFor (input : List ℕ) (ended : Ended) : Type 0 where
+-- what a run left is an end of the workload that the input is, whose lines were done one after another; a mapping failed only where the
+-- plan or the mapper is why, and at no call twice
+pub record IsEndFor (mappers : List (Option (List ℕ))) (input : List ℕ) (ended : Ended) : Type 0 where
   pub done : refusal_of input ≡ None
   pub workload : IsReadAs input ended.workload
-  pub end : IsEnd ended.workload ended.answers.items ended.heaps.items ended.segs
-  pub tables : ended.tables.items ≡ []
+  pub end : IsSoloEnd ended.workload ended.answers.items ended.heaps.items ended.segs ended.tables.items
+  pub failures : AreFailuresNamed ended.workload.plan.items mappers ended.segs.asks
+  pub once : FailOnce ended.segs.asks
 
 -- the text is the report of an end of the workload that the input is
-pub record IsReportFor (input text : List ℕ) : Type 0 where
+pub record IsReportFor (mappers : List (Option (List ℕ))) (input text : List ℕ) : Type 0 where
   pub ended : Ended
-  pub end : IsEndFor input ended
+  pub end : IsEndFor mappers input ended
   pub is : text ≡ report_of ended
 
--- a text that is written, by the words and by what the source had left before and after, with the status that it goes with
-pub data IsText (words : List (List ℕ)) (left left' : Option (List ℕ)) : Status → List ℕ → Type 0 where
+-- a text that is written, by the words, the mappers, and what the source had left before and after, with the status that it goes with
+pub data IsText (words : List (List ℕ)) (mappers : List (Option (List ℕ))) (left left' : Option (List ℕ)) : Status → List ℕ → Type 0 where
   -- the words are none of the forms; nothing is read
-  usage : is_solo words ≡ false → left' ≡ left → IsText words left left' status.Usage usage_text
+  usage : is_solo words ≡ false → left' ≡ left → IsText words mappers left left' status.Usage usage_text
   -- what was read is refused
   refused : (input : List ℕ) (refusal : Refusal) → is_solo words ≡ true → GaveAll left left' input → refusal_of input ≡ Some refusal
-      → IsText words left left' status.BadWorkload (refusal_text refusal)
+      → IsText words mappers left left' status.BadWorkload (refusal_text refusal)
   -- what was read is a workload, and the text is the report of an end of it
-  report : (input text : List ℕ) → is_solo words ≡ true → GaveAll left left' input → IsReportFor input text
-      → IsText words left left' status.Ok text
+  report : (input text : List ℕ) → is_solo words ≡ true → GaveAll left left' input → IsReportFor mappers input text
+      → IsText words mappers left left' status.Ok text
 
 -- a text was written with a status, or a front of it before the sink failed or memory ran out
 pub data IsWritten (ended : Status) (text : List ℕ) (held held' : Option (List ℕ)) (sink_failed : Type 0) : Status → Type 0 where
@@ -60,29 +61,32 @@ pub data IsWritten (ended : Status) (text : List ℕ) (held held' : Option (List
   short : HoldsFront held held' text → IsWritten ended text held held' sink_failed status.OutOfMemory
 
 -- the text is what there is to write for an input, with the status that it goes with
-pub data IsAnswer (input : List ℕ) : Status → List ℕ → Type 0 where
+pub data IsAnswer (mappers : List (Option (List ℕ))) (input : List ℕ) : Status → List ℕ → Type 0 where
   -- the input is refused
-  of_refusal : (reason : Refusal) → refusal_of input ≡ Some reason → IsAnswer input status.BadWorkload (refusal_text reason)
+  of_refusal : (reason : Refusal) → refusal_of input ≡ Some reason → IsAnswer mappers input status.BadWorkload (refusal_text reason)
   -- the input is a workload
-  of_workload : (text : List ℕ) → IsReportFor input text → IsAnswer input status.Ok text
+  of_workload : (text : List ℕ) → IsReportFor mappers input text → IsAnswer mappers input status.Ok text
 
 -- what there is to write for an input was written so, or nothing where memory ran out
-pub data IsAnswered (input : List ℕ) (held held' : Option (List ℕ)) (sink_failed : Type 0) : Status → Type 0 where
-  wrote : (ended result : Status) (text : List ℕ) → IsAnswer input ended text → IsWritten ended text held held' sink_failed result
-      → IsAnswered input held held' sink_failed result
-  wrote_nothing : held' ≡ held → IsAnswered input held held' sink_failed status.OutOfMemory
+pub data IsAnswered (mappers : List (Option (List ℕ))) (input : List ℕ) (held held' : Option (List ℕ)) (sink_failed : Type 0)
+    : Status → Type 0 where
+  wrote : (ended result : Status) (text : List ℕ) → IsAnswer mappers input ended text → IsWritten ended text held held' sink_failed result
+      → IsAnswered mappers input held held' sink_failed result
+  wrote_nothing : held' ≡ held → IsAnswered mappers input held held' sink_failed status.OutOfMemory
 
 -- the text of a status was written, behind what the sink held
-pub record Writes (words : List (List ℕ)) (left left' held held' : Option (List ℕ)) (ended : Status) : Type 0 where
+pub record Writes (words : List (List ℕ)) (mappers : List (Option (List ℕ))) (left left' held held' : Option (List ℕ)) (ended : Status)
+    : Type 0 where
   pub text : List ℕ
-  pub is : IsText words left left' ended text
+  pub is : IsText words mappers left left' ended text
   pub written : Holds held held' text
 
 -- a front of such a text was written, and then this happened: the sink failed, or memory ran out
-pub record WritesFront (words : List (List ℕ)) (left left' held held' : Option (List ℕ)) (happened : Type 0) : Type 0 where
+pub record WritesFront (words : List (List ℕ)) (mappers : List (Option (List ℕ))) (left left' held held' : Option (List ℕ))
+    (happened : Type 0) : Type 0 where
   pub ended : Status
   pub text : List ℕ
-  pub is : IsText words left left' ended text
+  pub is : IsText words mappers left left' ended text
   pub front : HoldsFront held held' text
   pub because : happened
 
@@ -93,19 +97,22 @@ pub record Reads (words : List (List ℕ)) (held held' : Option (List ℕ)) (cau
   pub nothing : held' ≡ held
 
 -- memory ran out: the word is solo and nothing was written, or a front of a text was
-pub data RanOut (words : List (List ℕ)) (left left' held held' : Option (List ℕ)) : Type 0 where
-  before : Reads words held held' ⊤ → RanOut words left left' held held'
-  amid : WritesFront words left left' held held' ⊤ → RanOut words left left' held held'
+pub data RanOut (words : List (List ℕ)) (mappers : List (Option (List ℕ))) (left left' held held' : Option (List ℕ)) : Type 0 where
+  before : Reads words held held' ⊤ → RanOut words mappers left left' held held'
+  amid : WritesFront words mappers left left' held held' ⊤ → RanOut words mappers left left' held held'
 
--- what each status says of the words, the source and the sink, before and after
-abbrev pub Ends : List (List ℕ) → Option (List ℕ) → Option (List ℕ) → Option (List ℕ) → Option (List ℕ) → Type 0 → Type 0 → Status → Type 0
-Ends words left left' held held' source_failed sink_failed status.Ok = Writes words left left' held held' status.Ok
-Ends words left left' held held' source_failed sink_failed status.Usage = Writes words left left' held held' status.Usage
-Ends words left left' held held' source_failed sink_failed status.BadWorkload = Writes words left left' held held' status.BadWorkload
-Ends words left left' held held' source_failed sink_failed status.ReadFault = Reads words held held' source_failed
-Ends words left left' held held' source_failed sink_failed status.WriteFault = WritesFront words left left' held held' sink_failed
-Ends words left left' held held' source_failed sink_failed status.OutOfMemory = RanOut words left left' held held'
-Ends words left left' held held' source_failed sink_failed status.TooLong = Reads words held held' (GaveTooMuch left left')
+-- what each status says of the words and the mappers, and of the source and the sink, before and after
+abbrev pub Ends : List (List ℕ) → List (Option (List ℕ)) → Option (List ℕ) → Option (List ℕ) → Option (List ℕ) → Option (List ℕ) → Type 0
+    → Type 0 → Status → Type 0
+Ends words mappers left left' held held' source_failed sink_failed status.Ok = Writes words mappers left left' held held' status.Ok
+Ends words mappers left left' held held' source_failed sink_failed status.Usage = Writes words mappers left left' held held' status.Usage
+Ends words mappers left left' held held' source_failed sink_failed status.BadWorkload =
+    Writes words mappers left left' held held' status.BadWorkload
+Ends words mappers left left' held held' source_failed sink_failed status.ReadFault = Reads words held held' source_failed
+Ends words mappers left left' held held' source_failed sink_failed status.WriteFault =
+    WritesFront words mappers left left' held held' sink_failed
+Ends words mappers left left' held held' source_failed sink_failed status.OutOfMemory = RanOut words mappers left left' held held'
+Ends words mappers left left' held held' source_failed sink_failed status.TooLong = Reads words held held' (GaveTooMuch left left')
 
 -- the status for words and an input, where reading, writing and memory do not fail
 abbrev pub status_of : List (List ℕ) → List ℕ → Status
@@ -129,10 +136,8 @@ abbrev pub IsFaultOf : Option Refusal → RunFault → Type 0
 IsFaultOf due (fault.Refused refusal) = due ≡ Some refusal
 IsFaultOf due fault.OutOfMemory = ⊤
 
--- the text is not refused and is read as the workload, which is of what is built so far and within its limits, as its pools are
+-- the text is not refused and is read as the workload, which can be run
 pub record IsAcceptedAs (input : List ℕ) (workload : Workload) : Type 0 where
   pub done : refusal_of input ≡ None
   pub read : IsReadAs input workload
-  pub built : IsBuilt workload
-  pub limits : IsWithinLimits workload
-  pub pools : ArePoolLines workload.pools.items
+  pub runnable : IsRunnable workload

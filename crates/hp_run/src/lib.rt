@@ -1,12 +1,15 @@
 //! The program as one call: a workload is read, run and reported.
 #![tactic(auto)]
 
-mod growth;
+mod doing;
+mod mappers;
+mod opening;
 mod reading;
 mod refusal;
-mod session;
+mod running;
 mod top_call;
 
+pub use mappers::mem_mappers;
 pub use top_call::top;
 
 #[cfg(test)]

@@ -1,8 +1,10 @@
-//! Whole runs, over sources and sinks in memory.
+//! Whole runs, over sources, sinks and mappers in memory.
 use super::*;
 use hp_base::{MemSink, MemSource, Status};
 use std::alloc::{AllocError, Global};
 use std::test::Fail;
+
+mod rows;
 
 const EXAMPLE: &str = "pool 0 2M 4\n0 alloc a 1000\n";
 
@@ -30,13 +32,17 @@ fn ran(
     let bytes = Vec::from_slice(alloc, input.as_bytes())?;
     let mut source = MemSource::new(bytes, 1000, Vec::from_slice(alloc, source_fails)?);
     let mut sink = MemSink::new(alloc, 100, Vec::from_slice(alloc, sink_fails)?);
-    let status = top(alloc, given.as_slice(), &mut source, &mut sink);
+    let mappers = mem_mappers(alloc)?;
+    let status = top(alloc, given.as_slice(), &mut source, &mut sink, mappers);
     Ok((status, source, sink))
 }
 
 #[test]
 fn reports_a_run_whole(rt: HostRuntime) -> Result<(), Fail> {
-    for (input, front) in [("", "heapsim report 1\nend\n"), (EXAMPLE, EXAMPLE_FRONT)] {
+    for (input, front) in [
+        ("", "heapsim report 1\ntable 0 in 0 0\nend\n"),
+        (EXAMPLE, EXAMPLE_FRONT),
+    ] {
         let (status, source, sink) = ran(rt.alloc(), &["solo"], input, &NO_CALL, &NO_CALL)?;
         assert_eq!(rt; status, Status::Ok);
         assert!(rt; sink.bytes().starts_with(front.as_bytes()));
@@ -67,20 +73,16 @@ fn refuses_the_first_bad_line_or_the_first_that_is_not_built(rt: HostRuntime) ->
     for (input, refused) in [
         ("pool 0 2M 4\n0 alloc a", "refused line 2 Fields\n"),
         (
-            "participants 1\npool 0 2M 4\n0 alloc a 64\n",
+            "participants 2\npool 0 2M 4\n0 alloc a 64\n",
             "refused line 1 Later\n",
         ),
         (
-            "pool 0 2M 4\n\n# free\nsocket 0 0\ndeadline 200\n0 alloc a 64\n0 alloc b 64 socket=any\n0 free a\n0 alloc c 64\n0 free b\n",
+            "pool 0 2M 4\n\n# free\nsocket 0 0\ndeadline 200\n0 alloc a 64 align=64\n0 free a\n0 zone z 64\n0 alloc c 64\n0 unzone z\n",
             "refused line 8 Later\n",
         ),
         (
-            "pool 0 2M 4\npool 1 2M 4\n0 alloc a 64\n0 alloc b 64 socket=1 align=64\n0 alloc c 64\n",
-            "refused line 4 Later\n",
-        ),
-        (
-            "pool 0 2M 4\nlose alloc 0 1\n0 alloc a 64\n",
-            "refused line 2 Later\n",
+            "pool 0 2M 4\nrefuse 0 1\nlose alloc 0 1\n0 alloc a 64\n0 stats socket_0\n",
+            "refused line 3 Later\n",
         ),
         (
             "pool 0 2M 4\n0 alloc a 64\n0 alloc b 64\n0 zone z 64",
@@ -91,7 +93,7 @@ fn refuses_the_first_bad_line_or_the_first_that_is_not_built(rt: HostRuntime) ->
             "refused line 5 Duplicate\n",
         ),
         (
-            "participants 1\npool 0 2M 4\n0 alloc a 64 socket=32\n",
+            "participants 2\npool 0 2M 4\n0 alloc a 64 socket=32\n",
             "refused line 3 Option\n",
         ),
     ] {
@@ -133,7 +135,14 @@ fn leaves_a_source_that_gives_too_much(rt: HostRuntime) -> Result<(), Fail> {
         let mut source = MemSource::new(bytes, 70_000, Vec::new(rt.alloc()));
         let mut sink = MemSink::new(rt.alloc(), 100, Vec::new(rt.alloc()));
         let words = vec![in rt.alloc(); String::from_str(rt.alloc(), "solo")?]?;
-        let status = top(rt.alloc(), words.as_slice(), &mut source, &mut sink);
+        let mappers = mem_mappers(rt.alloc())?;
+        let status = top(
+            rt.alloc(),
+            words.as_slice(),
+            &mut source,
+            &mut sink,
+            mappers,
+        );
         assert_eq!(rt; status, Status::TooLong);
         assert_eq!(rt; source.left().len(), left);
         assert_eq!(rt; sink.bytes().len(), 0);

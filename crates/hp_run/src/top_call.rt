@@ -1,5 +1,8 @@
 //! The program as one call.
 ghost use Rattle.std.specs.Prelude.{◌≡◌, ◌≤◌, false, map, length, string_bytes, IfOk, IfSome, MatchResult};
+ghost use Rattle.std.specs.List.{All};
+ghost use Rattle.hp_base.specs.declared.limits.TheConstants.{MAX_PARTICIPANTS};
+ghost use Rattle.hp_run.specs.Mappers.{IsUnused};
 ghost use Rattle.hp_base.specs.Streams.{CountsFault, HasRisen};
 ghost use Rattle.hp_run.specs.declared.reading.TheConstants.{LIMIT};
 ghost use Rattle.hp_run.specs.Faults.{is_read_fault, is_write_fault};
@@ -9,8 +12,8 @@ ghost use Rattle.hp_report.specs.Report.{report};
 
 use crate::reading::{ReadFault, read_whole};
 use crate::refusal::{Refusal, RunFault};
-use crate::session::run;
-use hp_base::{Sink, Source, Status};
+use crate::running::run;
+use hp_base::{Mapper, Sink, Source, Status};
 use hp_report::{Ended, RenderFault, render, write_whole};
 use hp_script::{ParseFault, Workload, first_later, parse};
 use std::alloc::{AllocError, Global};
@@ -18,16 +21,20 @@ use std::alloc::{AllocError, Global};
 /// What is written where the words are none that the program takes.
 const USAGE: &[u8] = b"usage: heapsim solo|run|check|generate <start> <lines> [summary]\n";
 
-/// The program: its words, without its name, a workload, and where its report goes. Own.
-pub fn top<S: Source, K: Sink>(
+/// The program: its words, without its name, a workload, where its report goes, and a mapper for each participant that there can be. Own.
+pub fn top<S: Source, K: Sink, M: Mapper>(
     alloc: Global,
     words: &[String],
     source: &mut S,
     sink: &mut K,
+    mappers: Vec<M>,
 ) -> Status
-    // What each status says of the words, the source and the sink.
-    ensures outcome { Ends (map string_bytes words.now) (S.left source.old) (S.left source.new)
-        (K.held sink.old) (K.held sink.new)
+    requires count { length mappers.items ≡ MAX_PARTICIPANTS }
+    requires unused { All (λ mapper. IsUnused (M.held mapper) (M.answers mapper) (M.capacity mapper)) mappers.items }
+
+    // What each status says of the words, the mappers, the source and the sink.
+    ensures outcome { Ends (map string_bytes words.now) (map M.may_fail mappers.items)
+        (S.left source.old) (S.left source.new) (K.held sink.old) (K.held sink.new)
         (HasRisen (S.faults source.old) (S.faults source.new))
         (HasRisen (K.faults sink.old) (K.faults sink.new)) result }
 
@@ -45,7 +52,7 @@ pub fn top<S: Source, K: Sink>(
         return written(sink, USAGE, Status::Usage);
     }
     match read_whole(alloc, source) {
-        Ok(bytes) => answered(alloc, bytes.as_slice(), sink),
+        Ok(bytes) => answered(alloc, bytes.as_slice(), sink, mappers),
         Err(ReadFault::Failed) => Status::ReadFault,
         Err(ReadFault::TooLong) => Status::TooLong,
         Err(ReadFault::OutOfMemory) => Status::OutOfMemory,
@@ -53,14 +60,21 @@ pub fn top<S: Source, K: Sink>(
 }
 
 // Writes what there is to write for the bytes.
-fn answered<K: Sink>(alloc: Global, bytes: &[u8], sink: &mut K) -> Status
-    requires { length bytes.now ≤ LIMIT }
-    ensures written { IsAnswered bytes.now (K.held sink.old) (K.held sink.new)
+fn answered<K: Sink, M: Mapper>(
+    alloc: Global,
+    bytes: &[u8],
+    sink: &mut K,
+    mappers: Vec<M>,
+) -> Status
+    requires short { length bytes.now ≤ LIMIT }
+    requires count { length mappers.items ≡ MAX_PARTICIPANTS }
+    requires unused { All (λ mapper. IsUnused (M.held mapper) (M.answers mapper) (M.capacity mapper)) mappers.items }
+    ensures written { IsAnswered (map M.may_fail mappers.items) bytes.now (K.held sink.old) (K.held sink.new)
         (HasRisen (K.faults sink.old) (K.faults sink.new)) result }
     ensures faults { CountsFault (K.faults sink.old) (K.faults sink.new)
         (is_write_fault result) }
 {
-    match ended_for(alloc, bytes) {
+    match ended_for(alloc, bytes, mappers) {
         Ok(ended) => reported(alloc, &ended, sink),
         Err(RunFault::Refused { refusal }) => refused(alloc, refusal, sink),
         Err(RunFault::OutOfMemory) => Status::OutOfMemory,
@@ -105,12 +119,20 @@ fn is_solo(words: &[String]) -> bool
 }
 
 // What a run of the workload that the bytes are leaves.
-fn ended_for<'a>(alloc: Global, bytes: &'a [u8]) -> Result<Ended<'a>, RunFault>
-    requires { length bytes.now ≤ LIMIT }
-    ensures { MatchResult result (IsEndFor bytes.entry.now) (IsFaultOf (refusal_of bytes.entry.now)) }
+fn ended_for<'a, M: Mapper>(
+    alloc: Global,
+    bytes: &'a [u8],
+    mappers: Vec<M>,
+) -> Result<Ended<'a>, RunFault>
+    requires short { length bytes.now ≤ LIMIT }
+    requires count { length mappers.items ≡ MAX_PARTICIPANTS }
+    requires unused { All (λ mapper. IsUnused (M.held mapper) (M.answers mapper) (M.capacity mapper)) mappers.items }
+    ensures { MatchResult result (IsEndFor (map M.may_fail mappers.items) bytes.entry.now)
+        (IsFaultOf (refusal_of bytes.entry.now)) }
 {
     let workload = accepted(alloc, bytes)?;
-    Ok(run(alloc, workload)?)
+    let mut mappers = mappers;
+    Ok(run(alloc, workload, mappers.swap_remove(0))?)
 }
 
 // The workload that the bytes are, where each of its lines is done by now.

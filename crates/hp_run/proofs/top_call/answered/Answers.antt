@@ -7,11 +7,12 @@ use Rattle.hp_run.proofs.EndLemmas.{each_answered}
 use Rattle.hp_run.proofs.top_call.answered.Goals as goal
 
 pub reported-requires : goal.reported-requires
-reported-requires g c = record { answers = each_answered _ _ _ _ _ c.in-Ok.ensures.end.served }
+reported-requires g c = record { answers = each_answered _ _ _ _ _ c.in-Ok.ensures.end }
 
 pub returns-in-Ok-clause-written : goal.returns-in-Ok-clause-written
 returns-in-Ok-clause-written g c =
-    wrote _ _ _ (of_workload (report c.in-Ok.ended) (record { ended = c.in-Ok.ended; end = c.in-Ok.ensures; is = refl })) c.reported.ensures.written
+    wrote _ _ _ (of_workload (report c.in-Ok.ended) (record { ended = c.in-Ok.ended; end = c.in-Ok.ensures; is = refl }))
+    c.reported.ensures.written
 
 pub returns-in-Err-Refused-clause-written : goal.returns-in-Err-Refused-clause-written
 returns-in-Err-Refused-clause-written g c =

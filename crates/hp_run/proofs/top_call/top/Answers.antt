@@ -8,18 +8,19 @@ use Rattle.hp_run.proofs.top_call.top.Goals as goal
 
 pub returns-then-not-is_solo-clause-outcome : goal.returns-then-not-is_solo-clause-outcome
 returns-then-not-is_solo-clause-outcome g c =
-    ends_written _ _ _ _ _ _ _ _ _ _ (usage (search rules) refl) c.written.ensures.written
+    ends_written _ _ _ _ _ _ _ _ _ _ _ (usage (search rules) refl) c.written.ensures.written
 
 pub returns-in-Ok-clause-outcome : goal.returns-in-Ok-clause-outcome
 returns-in-Ok-clause-outcome g c =
-    ends_answered _ _ _ _ _ _ _ _ _ _ (search rules) c.in-Ok.ensures.read c.as_slice.ensures.value c.answered.ensures.written
+    ends_answered _ _ _ _ _ _ _ _ _ _ _ (search rules) c.in-Ok.ensures.read c.as_slice.ensures.value c.answered.ensures.written
 
 pub returns-in-Ok-clause-settled : goal.returns-in-Ok-clause-settled
 returns-in-Ok-clause-settled g c =
-    settled_by_end _ _ _ _ _ _ _ _ (returns-in-Ok-clause-outcome g c)
+    settled_by_end _ _ _ _ _ _ _ _ _ (returns-in-Ok-clause-outcome g c)
 
 -- what was read was read without a fault, and nothing was read since
 pub returns-in-Ok-clause-source_faults : goal.returns-in-Ok-clause-source_faults
 returns-in-Ok-clause-source_faults g c =
-    let reads : is_read_fault c.answered.result ≡ false = answered_reads _ _ _ _ _ c.answered.ensures.written in
-    subst (λ (failed : Bool). CountsFault (g.S.Source.faults c.args.source.now) (g.S.Source.faults c.read_whole.new.source) failed) (sym reads) c.in-Ok.ensures.cause
+    let reads : is_read_fault c.answered.result ≡ false = answered_reads _ _ _ _ _ _ c.answered.ensures.written in
+    subst (λ (failed : Bool). CountsFault (g.S.Source.faults c.args.source.now) (g.S.Source.faults c.read_whole.new.source) failed)
+    (sym reads) c.in-Ok.ensures.cause

@@ -1,0 +1,147 @@
+-- The heaps, the plan and the hall with which a run begins.
+use Rattle.std.proofs.Common.{◌≡◌, ◌∙◌, ℕ, zero, suc, ◌+◌, ◌<◌, Bool, false, cond, List, [], ◌∷◌, ◌++◌, filter, get_or, get_or-take, length, length-take-le, take, Some, Result, Ok, Err, IfOk, replicate, refl, sym, ap, subst, arith, add-one}
+use Rattle.std.specs.List.{All, AllPairs, range_with_len, slice_get}
+use Rattle.std.proofs.lemmas.List.{get_or_default}
+use Rattle.std.proofs.lemmas.List.Elements.{All-cons, All-get_or, All-nil, filter-append}
+use Rattle.std.proofs.lemmas.List.Folds.{list_any_none}
+use Rattle.std.proofs.lemmas.Option.{get_or_from_slice_get, same_Some, slice_get_within}
+use Rattle.hp_base.specs.Plans.{IsOtherEntry, has_named, names_same}
+use Rattle.hp_base.specs.declared.limits.TheConstants.{MAX_HEAPS}
+use Rattle.hp_base.specs.declared.plan_entry.PlanEntry.{PlanEntry}
+use Rattle.hp_base.specs.declared.pool_line.PoolLine.{PoolLine}
+use Rattle.hp_heap.specs.History.{HeapView, IsSound, opening_of, replay}
+use Rattle.hp_heap.specs.PlainHeap.{PlainHeap}
+use Rattle.hp_heap.specs.declared.entry.Entry.{Entry}
+use Rattle.hp_script.specs.declared.workload.Workload.{Workload}
+use Rattle.hp_hall.proofs.Gives.{bare_pages}
+use Rattle.hp_hall.specs.HallSteps.{opening_hall}
+use Rattle.hp_hall.specs.HallView.{HallView}
+use Rattle.hp_hall.specs.Holding.{owned_by}
+use Rattle.hp_hall.specs.Opening.{HavePages}
+use Rattle.hp_segs.specs.Opening.{opening}
+use Rattle.hp_segs.specs.SegsView.{SegsView}
+use Rattle.hp_proc.specs.Heaps.{names_socket, sockets_of}
+use Rattle.hp_proc.specs.Solo.{IsAway, SoloView, nobody, server_at}
+use Rattle.hp_end.specs.SoFar.{AreFirstHeaps}
+use Rattle.hp_run.specs.Opening.{IsFirstHall, IsFirstHeap}
+
+range_more : (a n j : ℕ) → a + n ≡ j → range_with_len a (suc n) ≡ range_with_len a n ++ j ∷ []
+range_more a zero j is = ap (λ k. k ∷ []) (omega (arith, is))
+range_more a (suc n) j is = ap (λ rest. a ∷ rest) (range_more (a + 1) n j (omega (arith, is)))
+
+-- the named sockets below one number more
+pub named_more : (pools : List PoolLine) (socket : ℕ) (named : Bool) → names_socket pools socket ≡ named
+    → filter (names_socket pools) (range_with_len 0 (socket + 1))
+    ≡ filter (names_socket pools) (range_with_len 0 socket) ++ cond named (socket ∷ []) []
+named_more pools socket named is =
+    ap (λ n. filter (names_socket pools) (range_with_len 0 n)) (add-one socket)
+    ∙ (ap (filter (names_socket pools)) (range_more 0 socket socket (omega arith))
+    ∙ (filter-append (names_socket pools) (range_with_len 0 socket) (socket ∷ [])
+    ∙ ap (λ b. filter (names_socket pools) (range_with_len 0 socket) ++ cond b (socket ∷ []) []) is))
+
+-- heaps before their first call, by index from a number on
+abbrev pub AreOpened : List ℕ → ℕ → List HeapView → Type 0
+AreOpened sockets from [] = Unit {0}
+AreOpened sockets from (heap ∷ heaps) = IsFirstHeap from (slice_get sockets from) heap × AreOpened sockets (from + 1) heaps
+
+-- one heap more
+pub opened_push : (sockets : List ℕ) (from index : ℕ) (heaps : List HeapView) (heap : HeapView) → from + length heaps ≡ index
+    → AreOpened sockets from heaps → IsFirstHeap index (slice_get sockets index) heap → AreOpened sockets from (heaps ++ heap ∷ [])
+opened_push sockets from index [] heap is are first =
+    let same : index ≡ from = omega (arith, is) in
+    (subst (λ (n : ℕ). IsFirstHeap n (slice_get sockets n) heap) same first, tt)
+opened_push sockets from index (front ∷ heaps) heap is are first =
+    (are.0, opened_push sockets (from + 1) index heaps heap (omega (arith, is)) are.1 first)
+
+-- the heap at a place
+opened_at : (sockets : List ℕ) (from : ℕ) (heaps : List HeapView) (place : ℕ) (heap : HeapView) → AreOpened sockets from heaps
+    → slice_get heaps place ≡ Some heap → IsFirstHeap (from + place) (slice_get sockets (from + place)) heap
+opened_at sockets from [] place heap are is = cc
+opened_at sockets from (front ∷ heaps) zero heap are is =
+    let at : from ≡ from + 0 = omega arith in
+    subst (λ (n : ℕ). IsFirstHeap n (slice_get sockets n) heap) at
+    (subst (λ (h : HeapView). IsFirstHeap from (slice_get sockets from) h) (same_Some front heap is) are.0)
+opened_at sockets from (front ∷ heaps) (suc place) heap are is =
+    let at : from + 1 + place ≡ from + suc place = omega arith in
+    subst (λ (n : ℕ). IsFirstHeap n (slice_get sockets n) heap) at (opened_at sockets (from + 1) heaps place heap are.1 is)
+
+first_at : (sockets : List ℕ) (heaps : List HeapView) → AreOpened sockets 0 heaps → (place : ℕ) (heap : HeapView)
+    → slice_get heaps place ≡ Some heap → IsFirstHeap place (slice_get sockets place) heap
+first_at sockets heaps are place heap is =
+    let at : 0 + place ≡ place = omega arith in
+    subst (λ (n : ℕ). IsFirstHeap n (slice_get sockets n) heap) at (opened_at sockets 0 heaps place heap are is)
+
+all_sound : (sockets : List ℕ) (from : ℕ) (heaps : List HeapView) → AreOpened sockets from heaps → All IsSound heaps
+all_sound sockets from [] are = All-nil IsSound
+all_sound sockets from (heap ∷ heaps) are = All-cons IsSound heap heaps are.0.sound (all_sound sockets (from + 1) heaps are.1)
+
+-- all of them are the heaps of a workload before its first line
+pub first_all : (workload : Workload) (heaps : List HeapView) → AreOpened (sockets_of workload.pools.items) 0 heaps
+    → length heaps ≡ MAX_HEAPS → AreFirstHeaps workload heaps
+first_all workload heaps are count =
+    let at = first_at (sockets_of workload.pools.items) heaps are in
+    record {
+      in_order = record { count = count; index = λ number heap is. ap (λ (plain : PlainHeap). plain.index) (at number heap is).plain };
+      unused = λ number heap is. (at number heap is).history;
+      each = λ place heap is. record {
+        index = ap (λ (plain : PlainHeap). plain.index) (at place heap is).plain;
+        serves = ap (λ (plain : PlainHeap). plain.serves) (at place heap is).plain;
+      };
+      sound = all_sound (sockets_of workload.pools.items) 0 heaps are;
+    }
+
+pages_bare : (heap : HeapView) → IsSound heap → heap.history ≡ [] → heap.plain.pages ≡ []
+pages_bare heap sound none =
+    ap (λ (plain : PlainHeap). plain.pages) sound.stands.left
+    ∙ ap (λ (history : List Entry). (replay (opening_of heap.plain) history).pages) none
+
+-- they have no pages
+pub first_bare : (workload : Workload) (heaps : List HeapView) → AreFirstHeaps workload heaps → (number : ℕ) (heap : HeapView)
+    → slice_get heaps number ≡ Some heap → heap.plain.pages ≡ []
+first_bare workload heaps first number heap is =
+    let sound : IsSound heap =
+    subst IsSound (get_or_from_slice_get heaps number heap heap is)
+    (All-get_or IsSound heaps number heap (slice_get_within heaps number heap is) first.sound) in
+    pages_bare heap sound (first.unused number heap is)
+
+-- an entry of a plan names none that an earlier one names
+pub not_named : (entries plan : List PlanEntry) (index : ℕ) (other : PlanEntry) → AllPairs IsOtherEntry entries → plan ≡ take index entries
+    → index < length entries → has_named plan (get_or entries index other) ≡ false
+not_named entries plan index other distinct so_far within =
+    let entry : PlanEntry = get_or entries index other in
+    ap (λ (plan : List PlanEntry). has_named plan entry) so_far
+    ∙ list_any_none (λ (earlier : PlanEntry). names_same earlier entry) (take index entries) (λ i d below.
+    let early : i < index = subst (λ (n : ℕ). i < n) (length-take-le index entries (omega (arith, within))) below in
+    subst (λ (earlier : PlanEntry). names_same earlier entry ≡ false) (sym (get_or-take index entries i d early))
+    (subst (λ (late : PlanEntry). names_same (get_or entries i d) late ≡ false) (get_or_default entries index d other within)
+    (distinct i index d early within)))
+
+-- no segment is a heap's own where a segment value opens
+pub none_owned : (pools : List PoolLine) (segs : SegsView) (heap : ℕ) → segs ≡ opening pools 1 0 → owned_by heap segs ≡ []
+none_owned pools segs heap is = ap (owned_by heap) is
+
+-- the heaps of a workload have the pages that the segment value has for them where both open
+pub first_pages : (workload : Workload) (heaps : List HeapView) (segs : SegsView) → AreFirstHeaps workload heaps
+    → segs ≡ opening workload.pools.items 1 0 → HavePages heaps segs
+first_pages workload heaps segs first is = λ number heap there.
+    bare_pages heap.plain.pages (owned_by number segs) (first_bare workload heaps first number heap there)
+    (none_owned workload.pools.items segs number is)
+
+-- the hall over them, in which participant 0 is away
+pub first_hall_is : (workload : Workload) (heaps : List HeapView) (segs : SegsView) (plain : HallView) (hall : SoloView)
+    → AreFirstHeaps workload heaps → segs ≡ opening workload.pools.items 1 0 → plain ≡ opening_hall 1 heaps segs
+    → hall ≡ record { plain = plain; servers = replicate (length plain.owns) nobody } → IsFirstHall workload hall
+first_hall_is workload heaps segs plain hall first segs_are opens is =
+    let one : length plain.owns ≡ 1 = ap (λ (hall : HallView). length hall.owns) opens in
+    record {
+      heaps = heaps;
+      first = first;
+      plain = ap (λ (hall : SoloView). hall.plain) is ∙ opens ∙ ap (opening_hall 1 heaps) segs_are;
+      away = subst (λ (hall : SoloView). IsAway (server_at hall.servers 0)) (sym is)
+          (subst (λ (n : ℕ). IsAway (server_at (replicate n nobody) 0)) (sym one) refl);
+    }
+
+-- what holds of a value that came holds of it by a further fact
+pub if_ok : {T E : Type 0} (P Q : T → Type 0) (result : Result T E) → ((value : T) → P value → Q value) → IfOk result P → IfOk result Q
+if_ok P Q (Ok value) more holds = more value holds
+if_ok P Q (Err refusal) more holds = tt

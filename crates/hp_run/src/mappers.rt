@@ -1,0 +1,31 @@
+//! The mappers of a run whose tables lie in memory alone.
+ghost use Rattle.std.specs.Prelude.{◌≡◌, IfOk, Some, length};
+ghost use Rattle.std.specs.List.{All};
+ghost use Rattle.hp_base.specs.Mapping.{IsSteady, owned};
+ghost use Rattle.hp_base.specs.declared.limits.TheConstants.{MAX_PARTICIPANTS};
+ghost use Rattle.hp_run.specs.Mappers.{IsUnused};
+
+use hp_base::{MAX_PARTICIPANTS, MAX_SEGMENTS, MemMapper};
+use std::alloc::{AllocError, Global};
+
+/// A mapper for each participant that there can be, which holds nothing and is steady: it refuses no call. Own.
+pub fn mem_mappers(alloc: Global) -> Result<Vec<MemMapper>, AllocError>
+    ensures count { IfOk result (λ mappers. length mappers.items ≡ MAX_PARTICIPANTS) }
+    ensures unused { IfOk result (λ mappers.
+        All (λ mapper. IsUnused (owned mapper.rows) mapper.answers mapper.capacity) mappers.items) }
+    ensures steady { IfOk result (λ mappers. All (λ mapper. IsSteady (Some mapper.fails)) mappers.items) }
+{
+    let mut mappers = Vec::with_capacity(alloc, MAX_PARTICIPANTS as usize)?;
+    for _participant in 0..MAX_PARTICIPANTS {
+        mappers.push(mem_mapper(alloc)?)?;
+    }
+    Ok(mappers)
+}
+
+// One of them.
+fn mem_mapper(alloc: Global) -> Result<MemMapper, AllocError>
+    ensures unused { IfOk result (λ mapper. IsUnused (owned mapper.rows) mapper.answers mapper.capacity) }
+    ensures steady { IfOk result (λ mapper. IsSteady (Some mapper.fails)) }
+{
+    MemMapper::new(alloc, MAX_SEGMENTS as usize)
+}
