@@ -1,5 +1,5 @@
 //! The logged outcomes, with the closed number and the last failed mapping call of each participant.
-ghost use Rattle.std.specs.Prelude.{◌≡◌, ◌-◌, ◌<◌, ◌≤◌, [], ◌∷◌, ◌++◌, None, IfSome, OnOk, find, IsTrue, length, take, vec_capacity};
+ghost use Rattle.std.specs.Prelude.{◌≡◌, ◌-◌, ◌<◌, ◌≤◌, [], ◌∷◌, ◌++◌, None, IfOk, IfSome, OnOk, find, IsTrue, length, take, vec_capacity};
 ghost use Rattle.hp_segs.specs.SegsView.{closed_number, grant_or_refusal_of, grants_or_refuses, is_grant_or_refusal, is_outcome_for, is_stale, outcome_of};
 ghost use Rattle.hp_segs.specs.AsksView.{cause_failure, closed_after, failed_after, failure_of, later_call};
 ghost use Rattle.hp_segs.specs.LaterSteps.{has_failed_from};
@@ -17,7 +17,7 @@ pub(crate) struct Asks {
     // The closed number of each of the participants 0 to 15.
     closed: [u64; 16],
     // The greatest failed mapping call of each participant that a number can name.
-    failed: [Option<u64>; 256],
+    failed: Box<[Option<u64>; 256]>,
 }
 
 impl Model for Asks {
@@ -31,7 +31,7 @@ impl Model for Asks {
       room = min (vec_capacity a.entries - length a.entries.items) (vec_capacity a.above - length a.above.items);
     } };
 
-    ghost invariant = { λ a. AreKeptAsks a.entries.items a.above.items a.closed a.failed };
+    ghost invariant = { λ a. AreKeptAsks a.entries.items a.above.items a.closed a.failed.value };
 }
 
 // Whether the outcome is Stale.
@@ -162,15 +162,16 @@ fn first_answer(entries: &[AskLog], from: u8, number: u64) -> Option<Outcome>
 }
 
 impl Asks {
-    pub(crate) fn new(alloc: Global) -> Asks
-        ensures { result.entries ≡ [] }
+    pub(crate) fn new(alloc: Global) -> Result<Asks, AllocError>
+        ensures { IfOk result (λ asks. asks.entries ≡ []) }
     {
-        Asks {
+        let failed = Box::new(alloc, [None; 256])?;
+        Ok(Asks {
             entries: Vec::new(alloc),
             above: Vec::new(alloc),
             closed: [0; 16],
-            failed: [None; 256],
-        }
+            failed,
+        })
     }
 
     // Room for n outcomes more.

@@ -39,7 +39,7 @@ pub struct Segs {
     retiring: Vec<Run>,
     growth: Option<Growth>,
     roster: [bool; 16],
-    armed: [Option<Ask>; 16],
+    armed: Box<[Option<Ask>; 16]>,
     ranges: Vec<ExternalRange>,
     spare: usize,
 }
@@ -52,10 +52,10 @@ impl Model for Segs {
 
     ghost use Rattle.hp_segs.specs.SegsLayout.{IsKept, view_of};
 
-    ghost view = { λ s. view_of s.table s.asks s.retiring.items s.growth s.roster s.armed s.ranges.items s.spare };
+    ghost view = { λ s. view_of s.table s.asks s.retiring.items s.growth s.roster s.armed.value s.ranges.items s.spare };
 
-    ghost invariant = { λ s. IsKept s.table s.asks s.retiring.items s.growth s.roster s.armed s.ranges.items
-        s.spare (vec_capacity s.retiring) };
+    ghost invariant = { λ s. IsKept s.table s.asks s.retiring.items s.growth s.roster s.armed.value
+        s.ranges.items s.spare (vec_capacity s.retiring) };
 }
 
 impl Segs {
@@ -76,13 +76,16 @@ impl Segs {
         for line in pools {
             slots += line.slots as usize;
         }
+        let asks = Asks::new(alloc)?;
+        let retiring = Vec::with_capacity(alloc, slots)?;
+        let armed = Box::new(alloc, [None; 16])?;
         Ok(Segs {
             table,
-            asks: Asks::new(alloc),
-            retiring: Vec::with_capacity(alloc, slots)?,
+            asks,
+            retiring,
             growth: None,
             roster: roster::opening(participants, absent),
-            armed: [None; 16],
+            armed,
             ranges: Vec::new(alloc),
             spare: 0,
         })

@@ -36,7 +36,7 @@ pub(crate) struct Table {
     // The generation and the state of the row at each slot.
     kept: Vec<ListSlots>,
     // The bytes of the Agreed and Owned rows of the sockets 0 to 31.
-    totals: [u64; 32],
+    totals: Box<[u64; 32]>,
     log: Vec<LogRecord>,
 }
 
@@ -58,7 +58,7 @@ impl Model for Table {
     } };
 
     ghost invariant = { λ t. IsKeptTable t.pools.items t.lists.items t.masks.items t.counts t.kept.items
-        t.totals t.log.items };
+        t.totals.value t.log.items };
 }
 
 // The list of a pool: from the first multiple of its page size at or above the end of the list before.
@@ -107,13 +107,14 @@ impl Table {
             kept.push(ListSlots::new(alloc, info.slots as usize)?)?;
             add_pool(&mut counts, line)?;
         }
+        let totals = Box::new(alloc, [0; 32])?;
         Ok(Table {
             pools: Vec::from_slice(alloc, pools)?,
             lists,
             masks,
             counts,
             kept,
-            totals: [0; 32],
+            totals,
             log: Vec::new(alloc),
         })
     }

@@ -12,5 +12,5 @@ invariant_of-self-2 c =
     (kept_rooms c.max-self-inside.result c.reserve.new.self.room c.reserve-2.new.self.room c.self.invariant
     (omega (arith, c.in_ok-reserve.ensures.room))
     (omega (arith, c.in_ok-reserve-2.ensures.room))
-    s.armed
+    s.armed.value
     (record { rows = sound.rows; asks = sound.asks; places = sound.places }))

@@ -32,7 +32,7 @@ invariant_of-self c =
     let none = rw (← c.self.view_is) at c.requires.unanswered in
     let some = rw (← c.self.view_is) at c.requires.run in
     let ask =
-    get_or_default c.self.inside.armed c.args.from c.index-self-from.result None
+    get_or_default c.self.inside.armed.value c.args.from c.index-deref-from.result None
     (omega (arith, may.participant, c.self.invariant.sound.places.armed_places)) in
-    rw (c.remove.ensures, c.push.ensures, c.records.ensures.records, ask)
+    rw (c.remove.ensures, c.push.ensures, c.records.ensures.records, c.deref.ensures, ask)
     (kept_undone c.args.from c.args.number c.args.since c.args.now c.self.invariant may none c.args.run.now some)

@@ -10,7 +10,7 @@ count_run-requires c =
     let its = rw (← c.self.view_is) at c.requires.growth in
     record {
       socket = socket_small c.self.invariant c.args.run.now its.listed;
-      fits = agreed_fits c.args.run.now c.args.generation c.args.heap its c.self.invariant;
+      fits = rw c.deref_mut.ensures.value (agreed_fits c.args.run.now c.args.generation c.args.heap its c.self.invariant);
     }
 
 pub change_slots-requires : goal.change_slots-requires
@@ -21,7 +21,7 @@ change_slots-requires c =
 pub invariant_of-self : goal.invariant_of-self
 invariant_of-self c =
     let its = rw (← c.self.view_is) at c.requires.growth in
-    rw (c.count_run.ensures, c.change_slots.ensures) (kept_agreed c.args.run.now c.args.generation c.args.heap its c.self.invariant)
+    rw (c.count_run.ensures, c.deref_mut.ensures.value, c.change_slots.ensures) (kept_agreed c.args.run.now c.args.generation c.args.heap its c.self.invariant)
 
 pub returns : goal.returns
 returns c =

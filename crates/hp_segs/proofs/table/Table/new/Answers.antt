@@ -23,4 +23,4 @@ loop-line-preserved c =
 pub invariant_of-result : goal.invariant_of-result
 invariant_of-result c =
     let past : length c.args.pools.now ≤ c.loop-line.line-index = omega arith in
-    rw (c.in_ok-from_slice.ensures.items, c.new-2.ensures.items) (kept_new c.loop-line.line-index c.loop-line.invariant c.requires past)
+    rw (c.in_ok-from_slice.ensures.items, c.new-3.ensures.items, c.in_ok-totals.ensures.ok) (kept_new c.loop-line.line-index c.loop-line.invariant c.requires past)

@@ -11,8 +11,8 @@ uncount_run-requires c =
     let fits = retired_fits c.args.run.now counted c.self.invariant in
     record {
       socket = socket_small c.self.invariant c.args.run.now counted.listed;
-      counted = fits.0;
-      fits = fits.1;
+      counted = rw c.deref_mut.ensures.value fits.0;
+      fits = rw c.deref_mut.ensures.value fits.1;
     }
 
 pub change_slots-requires : goal.change_slots-requires
@@ -23,7 +23,7 @@ change_slots-requires c =
 pub invariant_of-self : goal.invariant_of-self
 invariant_of-self c =
     let counted = rw (← c.self.view_is) at c.requires.counted in
-    rw (c.uncount_run.ensures, c.change_slots.ensures) (kept_retired c.args.run.now counted c.self.invariant)
+    rw (c.uncount_run.ensures, c.deref_mut.ensures.value, c.change_slots.ensures) (kept_retired c.args.run.now counted c.self.invariant)
 
 pub returns : goal.returns
 returns c =

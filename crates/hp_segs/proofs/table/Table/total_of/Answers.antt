@@ -10,17 +10,17 @@ use Rattle.hp_segs.proofs.table.Table.total_of.Goals as goal
 
 pub returns-then-socket-lt-MAX_SOCKETS-clause-total : goal.returns-then-socket-lt-MAX_SOCKETS-clause-total
 returns-then-socket-lt-MAX_SOCKETS-clause-total c =
-    rw (← c.self.view_is)
-    (total_at (kept_segments c.self.inside.kept.items (table_of c.self.inside.log.items)) c.self.inside.totals c.args.socket c.self.invariant.counted
+    rw (← c.self.view_is, c.deref.ensures)
+    (total_at (kept_segments c.self.inside.kept.items (table_of c.self.inside.log.items)) c.self.inside.totals.value c.args.socket c.self.invariant.counted
     c.if-socket-lt-MAX_SOCKETS.true)
 
 pub returns-then-socket-lt-MAX_SOCKETS-clause-fits : goal.returns-then-socket-lt-MAX_SOCKETS-clause-fits
 returns-then-socket-lt-MAX_SOCKETS-clause-fits c =
     let rows = table_of c.self.inside.log.items in
     let at =
-    total_at (kept_segments c.self.inside.kept.items rows) c.self.inside.totals c.args.socket c.self.invariant.counted c.if-socket-lt-MAX_SOCKETS.true in
+    total_at (kept_segments c.self.inside.kept.items rows) c.self.inside.totals.value c.args.socket c.self.invariant.counted c.if-socket-lt-MAX_SOCKETS.true in
     let fits = total_fits c.self.invariant.laid (kept_segments c.self.inside.kept.items rows) c.args.socket (rows_kept c.self.inside.kept.items rows) in
-    omega (arith, at, fits)
+    rw c.deref.ensures (omega (arith, at, fits))
 
 pub returns-else-socket-lt-MAX_SOCKETS-clause-total : goal.returns-else-socket-lt-MAX_SOCKETS-clause-total
 returns-else-socket-lt-MAX_SOCKETS-clause-total c =
