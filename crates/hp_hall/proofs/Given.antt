@@ -1,5 +1,5 @@
 -- What a give leaves: a value of the same slot, later on, in which nobody but the giver has more entries.
-use Rattle.std.proofs.Common.{◌≡◌, ◌≢◌, ℕ, ◌+◌, eqb, ne_eqb, List, [], ◌∷◌, ◌++◌, Option, Some, None, refl, sym, ap, ◌∙◌}
+use Rattle.std.proofs.Common.{◌≡◌, ◌≢◌, ℕ, ◌+◌, eqb, ne_eqb, List, [], ◌∷◌, ◌++◌, Option, Some, None, is_none, false, refl, sym, ap, ◌∙◌}
 use Rattle.std.specs.List.{AllByRecursion}
 use Rattle.std.specs.Option.{option_map}
 use Rattle.std.proofs.lemmas.Bool.{cond-false}
@@ -48,10 +48,11 @@ entries_of-other who other (entry ∷ entries) apart only =
     (ne_eqb entry.caller.participant other (λ same. apart (sym same ∙ only.0)))
     ∙ entries_of-other who other entries apart only.1
 
--- the slot of a value that may be given: its value is the one that was taken
+-- the slot of a value that may be given: its value is out, and is the one that was taken
 pub record IsGivenFor (knows : Knows) (slot : Option SlotView) (kept : Kept) : Type 0 where
   pub before : SlotView
   pub there : slot ≡ Some before
+  pub out : is_none before.holder ≡ false
   pub gives : GivesFor knows (Some before.kept) kept
 
 given_out : (knows : Knows) (holder : Option ℕ) (before kept : Kept) → GivesFor knows (option_map (λ who. before) holder) kept
@@ -59,9 +60,19 @@ given_out : (knows : Knows) (holder : Option ℕ) (before kept : Kept) → Gives
 given_out knows (Some who) before kept gives = gives
 given_out knows None before kept gives = absurd gives
 
+is_out : (knows : Knows) (holder : Option ℕ) (before kept : Kept) → GivesFor knows (option_map (λ who. before) holder) kept
+    → is_none holder ≡ false
+is_out knows (Some who) before kept gives = refl
+is_out knows None before kept gives = absurd gives
+
 pub given : (knows : Knows) (slot : Option SlotView) (kept : Kept) → GivesFor knows (taken_from slot) kept → IsGivenFor knows slot kept
 given knows None kept gives = absurd gives
-given knows (Some before) kept gives = record { before = before; there = refl; gives = given_out knows before.holder before.kept kept gives }
+given knows (Some before) kept gives = record {
+  before = before;
+  there = refl;
+  out = is_out knows before.holder before.kept kept gives;
+  gives = given_out knows before.holder before.kept kept gives;
+}
 
 pub still_fit : (knows : Knows) (number : ℕ) (before kept : Kept) → Fits number before → GivesFor knows (Some before) kept → Fits number kept
 still_fit knows number (Heap before) (Heap kept) fits gives = (gives.index ∙ fits.0, fits.1)

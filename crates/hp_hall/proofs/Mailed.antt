@@ -13,6 +13,7 @@ use Rattle.hp_hall.specs.declared.posted.Posted.TheVariants.{Sent, Twice, Lost, 
 use Rattle.hp_hall.specs.Course.{IsCourse, slot_same}
 use Rattle.hp_hall.specs.HallSteps.{fulls_after, with_mail}
 use Rattle.hp_hall.specs.HallView.{HallView, slot_at}
+use Rattle.hp_hall.specs.InTurn.{ShowsHome, homes_after, homes_in}
 use Rattle.hp_hall.specs.Keeping.{ShowsValues, values_after, values_in}
 use Rattle.hp_hall.specs.Mail.{MailStep, IsMailStep, box_after, box_of, copies, posted_as, steps_of}
 use Rattle.hp_hall.specs.Weights.{box_weight, boxes_weight, fetched_weight, frame_weight}
@@ -55,9 +56,10 @@ steps_of-push who me step mail =
     ap (map what) (filter-append by mail ((me, step) ∷ [])) ∙ map-append what (filter by mail) (filter by ((me, step) ∷ []))
 
 pub course_mail : (hall : HallView) (who : ℕ) (step : MailStep) (fulls : ℕ) → who < length hall.owns → IsMailStep who step hall.boxes
-    → ShowsValues who step (values_in hall) → values_after step (values_in hall) ≡ values_in hall → hall.fulls ≤ fulls
+    → ShowsValues who step (values_in hall) → values_after step (values_in hall) ≡ values_in hall → ShowsHome step (homes_in hall)
+    → homes_after step (homes_in hall) ≡ homes_in hall → hall.fulls ≤ fulls
     → IsCourse hall (with_mail who step fulls hall)
-course_mail hall who step fulls declared is shows still more = record {
+course_mail hall who step fulls declared is shows still shows_home still_home more = record {
   count = refl;
   slots = λ number. slot_same (slot_at hall number);
   numbers = λ other. omega arith;
@@ -67,6 +69,7 @@ course_mail hall who step fulls declared is shows still more = record {
   mail = refl;
   boxes = (is, refl);
   kept = (record { declared = declared; shows = shows }, sym still);
+  turns = (shows_home, sym still_home);
   agreed = λ agreed. agreed;
 }
 

@@ -37,6 +37,7 @@ course_own hall who own below rises = record {
   mail = sym (append-nil hall.mail);
   boxes = refl;
   kept = refl;
+  turns = refl;
   agreed = agreed_alike hall (with_own who own hall) refl (numbers_rise hall who own below rises);
 }
 
@@ -51,5 +52,6 @@ course_jump hall old reading same later = subst (λ (h : HallView). IsCourse old
   mail = sym (append-nil old.mail);
   boxes = refl;
   kept = refl;
+  turns = refl;
   agreed = λ agreed. agreed;
 })

@@ -1,5 +1,5 @@
 -- What a changed slot leaves of a hall.
-use Rattle.std.proofs.Common.{◌≡◌, ◌≢◌, ℕ, zero, suc, ◌<◌, ◌≤◌, List, [], ◌∷◌, length, set, Option, Some, None, false, refl, sym, ap, subst, ◌∙◌, ⊎_elim, arith}
+use Rattle.std.proofs.Common.{◌≡◌, ◌≢◌, ℕ, zero, suc, ◌<◌, ◌≤◌, List, [], ◌∷◌, length, set, Option, Some, None, is_none, false, refl, sym, ap, subst, ◌∙◌, ⊎_elim, arith}
 use Rattle.std.specs.List.{slice_get}
 use Rattle.std.specs.Option.{option_map}
 use Rattle.std.proofs.lemmas.Bool.{cases_eq}
@@ -13,6 +13,7 @@ use Rattle.hp_hall.specs.declared.kept.Kept.TheVariants.{Heap, Segments}
 use Rattle.hp_hall.specs.Course.{IsCourse, IsLater, IsLaterKept, kept_same, slot_same}
 use Rattle.hp_hall.specs.HallSteps.{after_give, after_take, heap_slot, home_slot, out_slot, with_mail, with_slot}
 use Rattle.hp_hall.specs.HallView.{HallView, IsHome, SlotView, is_held_heap, own_at, segs_in, slot_at, taken_from}
+use Rattle.hp_hall.specs.InTurn.{ShowsHome, homes_after, homes_in}
 use Rattle.hp_hall.specs.Keeping.{AreAgreed, IsGivenBy, ShowsValues, values_after, values_in}
 use Rattle.hp_hall.specs.Mail.{MailStep, Gives, Takes, IsMailStep, after_step}
 use Rattle.hp_hall.specs.Values.{IsSoundKept}
@@ -79,9 +80,10 @@ module _ (hall : HallView) (number : ℕ) (before slot : SlotView) (there : slot
 
   -- a step by which the slot came to this is one on the hall's course
   course_slot : (who : ℕ) (step : MailStep) → who < length hall.owns → IsMailStep who step hall.boxes → ShowsValues who step (values_in hall)
-      → values_in (with_slot number slot hall) ≡ values_after step (values_in hall) → (AreAgreed hall → AreAgreed (with_slot number slot hall))
+      → values_in (with_slot number slot hall) ≡ values_after step (values_in hall) → ShowsHome step (homes_in hall)
+      → homes_in (with_slot number slot hall) ≡ homes_after step (homes_in hall) → (AreAgreed hall → AreAgreed (with_slot number slot hall))
       → IsCourse hall (with_mail who step hall.fulls (with_slot number slot hall))
-  course_slot who step declared mailed shows values agreed = record {
+  course_slot who step declared mailed shows values shows_home homes agreed = record {
     count = refl;
     slots = later_slots;
     numbers = λ other. omega arith;
@@ -91,6 +93,7 @@ module _ (hall : HallView) (number : ℕ) (before slot : SlotView) (there : slot
     mail = refl;
     boxes = (mailed, refl);
     kept = (record { declared = declared; shows = shows }, values);
+    turns = (shows_home, homes);
     agreed = agreed;
   }
 
@@ -136,6 +139,12 @@ pub value_at : (hall : HallView) (number : ℕ) (slot : SlotView) → slot_at ha
 value_at hall number slot there =
     slice_get-map (λ (s : SlotView). s.kept) hall.slots number ∙ ap (option_map (λ (s : SlotView). s.kept)) there
 
+-- whether it is there, by number
+home_at : (hall : HallView) (number : ℕ) (slot : SlotView) → slot_at hall number ≡ Some slot
+    → slice_get (homes_in hall) number ≡ Some (is_none slot.holder)
+home_at hall number slot there =
+    slice_get-map (λ (s : SlotView). is_none s.holder) hall.slots number ∙ ap (option_map (λ (s : SlotView). is_none s.holder)) there
+
 module _ (old new : HallView) (who number : ℕ) (declared : who < length old.owns) where
   -- what a take leaves
   pub took : (kept : Kept) → slot_at old number ≡ Some (home_slot kept) → new ≡ after_take who number kept old
@@ -148,17 +157,19 @@ module _ (old new : HallView) (who number : ℕ) (declared : who < length old.ow
       moves_slot old new who number out (Takes number kept) below is refl
       (course_slot old number (home_slot kept) out there (kept_same kept) who (Takes number kept) declared tt value
       (map-set (λ (s : SlotView). s.kept) old.slots number out ∙ set_same (values_in old) number kept value)
+      (home_at old number (home_slot kept) there) (map-set (λ (s : SlotView). is_none s.holder) old.slots number out)
       (agreed_alike old slotted
       (read_alike segs_in number out old slotted (slice_get-set_same old.slots number out below)
       (λ other apart. slice_get-set_other old.slots number other out apart) (ap segs_in (sym there)) MAX_HEAPS)
       (λ other. omega arith)))
 
   -- and what a give does
-  pub gave : (before : SlotView) (kept : Kept) → slot_at old number ≡ Some before → IsLaterKept before.kept kept
-      → IsGivenBy who before.kept kept → IsSoundKept kept → (AreAgreed old → AreAgreed (with_slot number (home_slot kept) old))
+  pub gave : (before : SlotView) (kept : Kept) → slot_at old number ≡ Some before → is_none before.holder ≡ false
+      → IsLaterKept before.kept kept → IsGivenBy who before.kept kept → IsSoundKept kept → (AreAgreed old → AreAgreed (with_slot number (home_slot kept) old))
       → new ≡ after_give who number kept old → MovesSlot number (home_slot kept) who (Gives number kept) old new
-  gave before kept there later by sound agreed is =
+  gave before kept there out later by sound agreed is =
       moves_slot old new who number (home_slot kept) (Gives number kept) (slice_get_within old.slots number before there) is refl
       (course_slot old number before (home_slot kept) there later who (Gives number kept) declared tt
       (record { before = before.kept; there = value_at old number before there; by = by; sound = sound })
-      (map-set (λ (s : SlotView). s.kept) old.slots number (home_slot kept)) agreed)
+      (map-set (λ (s : SlotView). s.kept) old.slots number (home_slot kept)) (home_at old number before there ∙ ap Some out)
+      (map-set (λ (s : SlotView). is_none s.holder) old.slots number (home_slot kept)) agreed)

@@ -4,6 +4,7 @@ use Rattle.std.specs.List.{slice_index_or}
 use Rattle.hp_hall.specs.Course.{IsCourse}
 use Rattle.hp_hall.specs.HallSteps.{with_mail}
 use Rattle.hp_hall.specs.HallView.{HallView, HasDone, IsHome, own_at, part_in, slot_at, taken_from}
+use Rattle.hp_hall.specs.InTurn.{ShowsHome, homes_after, homes_in}
 use Rattle.hp_hall.specs.Keeping.{ShowsValues, values_after, values_in}
 use Rattle.hp_hall.specs.Mail.{IsMailStep, MailStep, steps_of}
 use Rattle.hp_hall.specs.Own.{Own, after_ack}
@@ -34,10 +35,12 @@ pub record MakesMail (who : ℕ) (step : MailStep) (old new : HallView) : Type 0
 
 pub makes_mail : (old new : HallView) (who : ℕ) (step : MailStep) (fulls : ℕ) → new ≡ with_mail who step fulls old
     → who < length old.owns → IsMailStep who step old.boxes → ShowsValues who step (values_in old)
-    → values_after step (values_in old) ≡ values_in old → old.fulls ≤ fulls → MakesMail who step old new
-makes_mail old new who step fulls is declared mailed shows still rises = record {
+    → values_after step (values_in old) ≡ values_in old → ShowsHome step (homes_in old) → homes_after step (homes_in old) ≡ homes_in old
+    → old.fulls ≤ fulls → MakesMail who step old new
+makes_mail old new who step fulls is declared mailed shows still shows_home still_home rises = record {
   makes = makes_step old new who step (ap (λ (h : HallView). h.mail) is) (ap (λ (h : HallView). h.owns) is)
-      (ap (λ (h : HallView). h.clock) is) (subst (IsCourse old) (sym is) (course_mail old who step fulls declared mailed shows still rises));
+      (ap (λ (h : HallView). h.clock) is)
+      (subst (IsCourse old) (sym is) (course_mail old who step fulls declared mailed shows still shows_home still_home rises));
   taken = λ number. ap (λ (h : HallView). taken_from (slot_at h number)) is;
   home = λ number home. subst (λ (h : HallView). IsHome (slot_at h number)) (sym is) home;
   part = λ other heap. ap (λ (h : HallView). part_in h other heap) is;

@@ -1,10 +1,11 @@
 -- What slots keep, worked: one participant, one slot.
-use Rattle.std.proofs.Common.{◌≡◌, ℕ, List, [], ◌∷◌, ◌++◌, Some, refl, sym, subst, arith}
+use Rattle.std.proofs.Common.{◌≡◌, ℕ, Bool, true, false, List, [], ◌∷◌, ◌++◌, Some, refl, sym, subst, arith}
 use Rattle.std.specs.List.{AllByRecursion}
 use Rattle.std.proofs.lemmas.List.{append_cancel_left}
 use Rattle.hp_heap.specs.declared.entry.Entry.{Entry}
 use Rattle.hp_heap.specs.History.{HeapView}
 use Rattle.hp_hall.specs.declared.kept.Kept.{Kept}
+use Rattle.hp_hall.specs.InTurn.{AreTakenInTurn}
 use Rattle.hp_hall.specs.Keeping.{IsHeapGivenBy, IsKeptBy}
 use Rattle.hp_hall.specs.Mail.{MailStep, Takes, Gives}
 
@@ -24,6 +25,17 @@ takes_what_was_given was now first second third by = some_same second third by.1
 
 keeps_what_was_given : (was now first second third : Kept) → IsKeptBy 1 (back_and_forth first second third) (was ∷ []) (now ∷ []) → now ∷ [] ≡ second ∷ []
 keeps_what_was_given was now first second third by = by.1.1.1
+
+-- in turn a slot is not taken while it is out, and not given back while its value is there; and behind the last take it is out
+not_taken_twice : (first second : Kept) (homes : List Bool) → AreTakenInTurn ((0, Takes 0 first) ∷ (1, Takes 0 second) ∷ []) (true ∷ []) homes → ⊥
+not_taken_twice first second homes turns = let there : Some false ≡ Some true = turns.1.0 in cc
+
+not_given_twice : (first second : Kept) (homes : List Bool) → AreTakenInTurn ((0, Gives 0 first) ∷ (1, Gives 0 second) ∷ []) (false ∷ []) homes → ⊥
+not_given_twice first second homes turns = let out : Some true ≡ Some false = turns.1.0 in cc
+
+is_out_last : (first second third : Kept) (homes : List Bool) → AreTakenInTurn (back_and_forth first second third) (true ∷ []) homes
+    → homes ≡ false ∷ []
+is_out_last first second third homes turns = turns.1.1.1
 
 -- with one participant, participant 1 makes no step
 nobody_else : (old new : List Kept) (step : MailStep) → IsKeptBy 1 ((1, step) ∷ []) old new → ⊥

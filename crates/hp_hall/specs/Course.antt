@@ -1,6 +1,6 @@
 -- The course of a hall of plain values: what later states keep of earlier ones, and that this joins. The rule "Halls" of
 -- docs/PARTICIPANTS.md.
-use Rattle.std.specs.Prelude.{◌≡◌, ℕ, ◌≤◌, ◌<◌, List, [], ◌∷◌, ◌++◌, length, Option, Some, None, refl, ⊤}
+use Rattle.std.specs.Prelude.{◌≡◌, ℕ, Bool, ◌≤◌, ◌<◌, List, [], ◌∷◌, ◌++◌, length, Option, Some, None, refl, ⊤}
 use Rattle.std.proofs.Common.{sym, ap, subst, ◌∙◌, arith}
 use Rattle.std.proofs.lemmas.List.{append-nil, append_assoc}
 use Rattle.hp_base.specs.declared.limits.TheConstants.{MAX_HEAPS}
@@ -14,6 +14,7 @@ use Rattle.hp_segs.specs.declared.outcome.AskLog.{AskLog}
 use Rattle.hp_hall.specs.declared.kept.Kept.{Kept}
 use Rattle.hp_hall.specs.declared.kept.Kept.TheVariants.{Heap, Segments}
 use Rattle.hp_hall.specs.HallView.{HallView, SlotView, slot_at, asks_in, heard_in, log_in, seen_in, own_at, HasDone}
+use Rattle.hp_hall.specs.InTurn.{AreTakenInTurn, homes_after, homes_in}
 use Rattle.hp_hall.specs.Keeping.{AreAgreed, IsKeptBy, values_after, values_in}
 use Rattle.hp_hall.specs.Mail.{MailStep, IsMail, after_step, steps_of}
 use Rattle.hp_hall.specs.Values.{asks_of, log_of}
@@ -48,8 +49,8 @@ IsLater (Some old) None = ⊥
 IsLater (Some old) (Some new) = IsLaterKept old.kept new.kept
 
 -- from one state of a hall to a later one: the same participants; each slot's value is one of later on; numbers, the count of full
--- mailboxes and the clock do not fall; the mailboxes and the values in the slots are those that the steps made on the way leave; and
--- granted records that all members have taken in stay so
+-- mailboxes and the clock do not fall; the mailboxes and the values in the slots are those that the steps made on the way leave, and by
+-- these each slot was taken and given back in turn; and granted records that all members have taken in stay so
 pub record IsCourse (old new : HallView) : Type 0 where
   pub count : length new.owns ≡ length old.owns
   pub slots : (number : ℕ) → IsLater (slot_at old number) (slot_at new number)
@@ -60,6 +61,7 @@ pub record IsCourse (old new : HallView) : Type 0 where
   pub mail : new.mail ≡ old.mail ++ steps
   pub boxes : IsMail steps old.boxes new.boxes
   pub kept : IsKeptBy (length old.owns) steps (values_in old) (values_in new)
+  pub turns : AreTakenInTurn steps (homes_in old) (homes_in new)
   pub agreed : AreAgreed old → AreAgreed new
 
 leads_then : (first second : List SegsCall) (a b c : SegsView) → Leads first a b → Leads second b c → Leads (first ++ second) a c
@@ -76,6 +78,11 @@ values_then : (count : ℕ) (first second : List (ℕ × MailStep)) (a b c : Lis
 values_then count [] second a b c here next = subst (λ (values : List Kept). IsKeptBy count second values c) here next
 values_then count (step ∷ steps) second a b c here next =
     (here.0, values_then count steps second (values_after step.1 a) b c here.1 next)
+
+turns_then : (first second : List (ℕ × MailStep)) (a b c : List Bool) → AreTakenInTurn first a b → AreTakenInTurn second b c
+    → AreTakenInTurn (first ++ second) a c
+turns_then [] second a b c here next = subst (λ (homes : List Bool). AreTakenInTurn second homes c) here next
+turns_then (step ∷ steps) second a b c here next = (here.0, turns_then steps second (homes_after step.1 a) b c here.1 next)
 
 -- two lists that each go on from the one before
 goes_on_by : {X : Type 0} (a b c first second : List X) → b ≡ a ++ first → c ≡ b ++ second → c ≡ a ++ (first ++ second)
@@ -159,6 +166,7 @@ course_same a = record {
   mail = sym (append-nil a.mail);
   boxes = refl;
   kept = refl;
+  turns = refl;
   agreed = λ agreed. agreed;
 }
 
@@ -174,6 +182,7 @@ course_then a b c here next = record {
   boxes = mail_then here.steps next.steps a.boxes b.boxes c.boxes here.boxes next.boxes;
   kept = values_then (length a.owns) here.steps next.steps (values_in a) (values_in b) (values_in c) here.kept
       (subst (λ (n : ℕ). IsKeptBy n next.steps (values_in b) (values_in c)) here.count next.kept);
+  turns = turns_then here.steps next.steps (homes_in a) (homes_in b) (homes_in c) here.turns next.turns;
   agreed = λ agreed. next.agreed (here.agreed agreed);
 }
 

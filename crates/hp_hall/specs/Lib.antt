@@ -8,6 +8,7 @@ pub mod Mail
 pub mod Weights
 pub mod HallView
 pub mod Keeping
+pub mod InTurn
 pub mod Course
 pub mod CourseLaws
 pub mod HallSteps

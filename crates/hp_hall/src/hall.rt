@@ -241,6 +241,7 @@ pub trait Hall {
     fn now(&mut self, me: u8) -> u64
         requires serves { serves self.old me }
         ensures before { (deadline : ℕ) → result < deadline → pending (clock self.new) deadline ≡ scale }
+        ensures reached { (deadline : ℕ) → deadline ≤ result → pending (clock self.new) deadline ≡ 0 }
         ensures taken { (number : ℕ) → taken self.new number ≡ taken self.old number }
         ensures home { (number : ℕ) → may_take self.old number → may_take self.new number }
         ensures part { (who heap : ℕ) → part self.new who heap ≡ part self.old who heap }

@@ -43,7 +43,7 @@ returns c =
     let later = later_given knows before.kept kept was.gives in
     let by = given_by knows before.kept kept was.gives in
     let agreed = agreed_given me number old hall before was.there kept fits was.gives in
-    let moves = gave old new me number c.requires.serves before kept was.there later by c.sound-2.ensures agreed c.give_at.ensures in
+    let moves = gave old new me number c.requires.serves before kept was.there was.out later by c.sound-2.ensures agreed c.give_at.ensures in
     record {
       taken = ap taken_from moves.here;
       home = subst IsHome (sym moves.here) refl;
