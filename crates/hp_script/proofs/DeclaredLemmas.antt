@@ -5,7 +5,7 @@ use denote.Ref.{Bor}
 use Rattle.hp_script.specs.Part.{Part}
 use Rattle.hp_script.specs.Text.{lines_of}
 use Rattle.hp_script.specs.Makers.{Makers, makers_of}
-use Rattle.hp_script.specs.Setups.{nothing, with_later, setup_step}
+use Rattle.hp_script.specs.Setups.{nothing, setup_step}
 use Rattle.hp_script.specs.Reading.{read_line}
 use Rattle.hp_script.specs.Workloads.{reading_at}
 use Rattle.hp_script.specs.Limits.{AreDeclared}
@@ -39,7 +39,7 @@ none_declared read none = rw none tt
 module _ (makers : Makers) where
   adds_declared : (read more : Reader) (number : ℕ) (said : Shape) → HasDeclared read → Adds makers read number said more → HasDeclared more
   adds_declared read more number (Setup setup) before adds =
-      none_declared more (answered (KeepsLines read) (setup_step (with_later read number setup) number setup) more adds.1 (setup_keeps (with_later read number setup) number setup) ∙ adds.0)
+      none_declared more (answered (KeepsLines read) (setup_step read number setup) more adds.1 (setup_keeps read number setup) ∙ adds.0)
   adds_declared read more number (Does party deed) before adds = more_declared read more number party deed before adds.1
   adds_declared read more number (Awaits party other k) before adds = more_declared read more number party (act.Await other k) before adds.adds
 

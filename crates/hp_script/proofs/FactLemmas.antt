@@ -10,7 +10,7 @@ use Rattle.hp_script.specs.Text.{lines_of, fields_of}
 use Rattle.hp_script.specs.Counts.{lines_by}
 use Rattle.hp_script.specs.Facts.{IsActOf, IsLineOf, StandsBehind, AwaitBehind, AwaitEarlier}
 use Rattle.hp_script.specs.Makers.{Makers, makers_of}
-use Rattle.hp_script.specs.Setups.{nothing, with_later, setup_step}
+use Rattle.hp_script.specs.Setups.{nothing, setup_step}
 use Rattle.hp_script.specs.Shapes.{shape_of}
 use Rattle.hp_script.specs.Reading.{read_line}
 use Rattle.hp_script.specs.Workloads.{reading_at}
@@ -57,7 +57,7 @@ stands_alone participants lines _ none = tt
 module _ (makers : Makers) where
   adds_facts : (read more : Reader) (number : ℕ) (fields : List Part) (said : Shape) → HasFacts read → shape_of fields ≡ Ok said → Adds makers read number said more → HasFacts more
   adds_facts read more number fields (Setup setup) before shape adds =
-      none_facts more (answered (KeepsLines read) (setup_step (with_later read number setup) number setup) more adds.1 (setup_keeps (with_later read number setup) number setup) ∙ adds.0)
+      none_facts more (answered (KeepsLines read) (setup_step read number setup) more adds.1 (setup_keeps read number setup) ∙ adds.0)
   adds_facts read more number [] (Does party deed) before shape adds = absurd cc
   adds_facts read more number (first ∷ others) (Does party deed) before shape adds =
       elim (shape_says first others (Does party deed) shape) [

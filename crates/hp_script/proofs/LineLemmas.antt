@@ -12,7 +12,7 @@ use Rattle.hp_script.specs.Acts.{label_made, is_duplicate}
 use Rattle.hp_script.specs.Lines.{act_size, size_of}
 use Rattle.hp_script.specs.Limits.{MakeOtherLabels, AreParticipantLines}
 use Rattle.hp_script.specs.Makers.{Makers, makers_of, is_maker, is_taken, is_earlier}
-use Rattle.hp_script.specs.Setups.{nothing, with_later, setup_step}
+use Rattle.hp_script.specs.Setups.{nothing, setup_step}
 use Rattle.hp_script.specs.Shapes.{is_participant_line, shape_of}
 use Rattle.hp_script.specs.Reading.{read_line}
 use Rattle.hp_script.specs.Workloads.{reading_at}
@@ -122,7 +122,7 @@ module _ (makers : Makers) where
   said_lines : (read more : Reader) (number : ℕ) (line : Part) (fields : List Part) (said : Shape) → fields_of line ≡ fields → HasLines number read → AreKnown number line
       → shape_of fields ≡ Ok said → Adds makers read number said more → HasLines (number + 1) more
   said_lines read more number line fields (Setup setup) is has names shape adds =
-      kept_lines read more number has (answered (KeepsLines read) (setup_step (with_later read number setup) number setup) more adds.1 (setup_keeps (with_later read number setup) number setup))
+      kept_lines read more number has (answered (KeepsLines read) (setup_step read number setup) more adds.1 (setup_keeps read number setup))
   said_lines read more number line [] (Does party deed) is has names shape adds = absurd cc
   said_lines read more number line (first ∷ others) (Does party deed) is has names shape adds =
       elim (shape_says first others (Does party deed) shape) [

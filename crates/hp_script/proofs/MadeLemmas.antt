@@ -17,7 +17,7 @@ use Rattle.hp_script.specs.Options.{options_of}
 use Rattle.hp_script.specs.Numbers.{number}
 use Rattle.hp_script.specs.Labels.{name_made, makes_name, maker_of, AreMade}
 use Rattle.hp_script.specs.Makers.{Makers, makers_of, made_by, is_maker, first_maker, is_unmade}
-use Rattle.hp_script.specs.Setups.{nothing, with_later, setup_step}
+use Rattle.hp_script.specs.Setups.{nothing, setup_step}
 use Rattle.hp_script.specs.ShapesMemory.{alloc_line, zone_line}
 use Rattle.hp_script.specs.Shapes.{is_participant_line, participant_line, shape_of}
 use Rattle.hp_script.specs.Verbs.{verb_named}
@@ -190,7 +190,7 @@ module _ (makers : Makers) (name : List ℕ) where
 
   kept_by : (read more : Reader) (number : ℕ) (said : Shape) → Adds makers read number said more → Make read.lines name → Make more.lines name
   kept_by read more number (Setup setup) adds before =
-      let kept = answered (KeepsLines read) (setup_step (with_later read number setup) number setup) more adds.1 (setup_keeps (with_later read number setup) number setup) in
+      let kept = answered (KeepsLines read) (setup_step read number setup) more adds.1 (setup_keeps read number setup) in
       rw kept before
   kept_by read more number (Does party deed) adds before = rw adds.1.added (make_more read.lines (record { line = number; participant = party; act = deed }) name before)
   kept_by read more number (Awaits party other k) adds before =
@@ -270,7 +270,7 @@ module _ (makers : Makers) where
 
   said_known : (read more : Reader) (number : ℕ) (said : Shape) → Adds makers read number said more → All IsKnown read.lines → All IsKnown more.lines
   said_known read more number (Setup setup) adds before =
-      let kept = answered (KeepsLines read) (setup_step (with_later read number setup) number setup) more adds.1 (setup_keeps (with_later read number setup) number setup) in
+      let kept = answered (KeepsLines read) (setup_step read number setup) more adds.1 (setup_keeps read number setup) in
       rw kept before
   said_known read more number (Does party deed) adds before =
       rw adds.1.added (All-push IsKnown read.lines (record { line = number; participant = party; act = deed }) before adds.2)

@@ -10,7 +10,7 @@ use Rattle.hp_script.specs.Text.{is_separator, placed, parts_of, without_return,
 use Rattle.hp_script.specs.Words.{tokens_in}
 use Rattle.hp_script.specs.Judge.{refuse}
 use Rattle.hp_script.specs.Makers.{Makers, makers_of, made_by, is_maker, first_maker}
-use Rattle.hp_script.specs.Later.{is_built_act, first_act, later_line}
+use Rattle.hp_script.specs.Later.{is_built_act, later_line}
 use Rattle.hp_script.specs.Setups.{nothing}
 use Rattle.hp_script.specs.Shapes.{shape_of}
 use Rattle.hp_script.specs.Reading.{judged, read_line}
@@ -120,13 +120,13 @@ module _ (base : ℕ × ℕ) where
   unfolding reading_at
   reading_moved bytes = rw (lines_moved bytes, makers_moved (lines_of bytes)) (from_moved (makers_of (lines_of bytes)) (lines_of bytes) nothing [] tt 1)
 
-same_first : (lines others : List Line) → SameLines lines others → first_act others ≡ first_act lines
-same_first [] [] same = refl
-same_first [] (other ∷ others) same = absurd same
-same_first (line ∷ lines) [] same = absurd same
-same_first (line ∷ lines) (other ∷ others) same = rw same.0.2.built (chosen (is_built_act line.act) (same_first lines others same.1))
+same_later : (lines others : List Line) → SameLines lines others → later_line others ≡ later_line lines
+same_later [] [] same = refl
+same_later [] (other ∷ others) same = absurd same
+same_later (line ∷ lines) [] same = absurd same
+same_later (line ∷ lines) (other ∷ others) same = rw same.0.2.built (chosen (is_built_act line.act) (same_later lines others same.1))
   where
-    chosen : (test : Bool) → first_act others ≡ first_act lines → option_map (λ some. some.line) (cond (not test) (Some other) (find (λ some. not (is_built_act some.act)) others))
+    chosen : (test : Bool) → later_line others ≡ later_line lines → option_map (λ some. some.line) (cond (not test) (Some other) (find (λ some. not (is_built_act some.act)) others))
         ≡ option_map (λ some. some.line) (cond (not test) (Some line) (find (λ some. not (is_built_act some.act)) lines))
     chosen true rest = rest
     chosen false rest = ap (λ (n : ℕ). Some n) same.0.0
@@ -145,7 +145,7 @@ refused_anywhere bytes (parse_fault.Bad line kind) same = refused (reading_at by
 pub record ReadAnywhere (bytes : List ℕ) (read : Reader) : Type 0 where
   pub nowhere : Reader
   pub whole : reading_of bytes ≡ Ok nowhere
-  pub later : later_line nowhere.later nowhere.plan nowhere.lines ≡ later_line read.later read.plan read.lines
+  pub later : later_line nowhere.lines ≡ later_line read.lines
 
 pub read_anywhere : (bytes : Bor (List ℕ)) (read : Reader) → reading_at bytes ≡ Ok read → ReadAnywhere bytes.now read
 read_anywhere bytes read same = alike (reading_at bytes) (reading_of bytes.now) refl (reading_moved (0, 0) bytes) same
@@ -158,5 +158,5 @@ read_anywhere bytes read same = alike (reading_at bytes) (reading_of bytes.now) 
         record {
           nowhere = y;
           whole = is;
-          later = rw (both.is, same_first x.lines both.lines both.same, here) refl;
+          later = rw (both.is, same_later x.lines both.lines both.same, here) refl;
         }

@@ -10,7 +10,7 @@ use Rattle.hp_script.specs.Marks.{is_marked}
 use Rattle.hp_script.specs.Counts.{segments_of, is_same_pool, message_event, mapping_event, is_planned, lines_by}
 use Rattle.hp_script.specs.Makers.{Makers, is_taken, is_unmade}
 use Rattle.hp_script.specs.Acts.{label_made, label_used, is_duplicate, is_unknown, add_line, add_act, add_await}
-use Rattle.hp_script.specs.Setups.{is_strange, with_later, set_participants, set_absent, set_socket, set_deadline, add_pool, add_message, add_mapping, setup_step, set_up}
+use Rattle.hp_script.specs.Setups.{is_strange, set_participants, set_absent, set_socket, set_deadline, add_pool, add_message, add_mapping, setup_step, set_up}
 use Rattle.hp_script.specs.Reading.{said_step}
 use Rattle.hp_script.specs.declared.bad_kind.BadKind.TheVariants as bad
 use Rattle.hp_script.specs.declared.line.Act.{Act}
@@ -115,7 +115,7 @@ module _ (read : Reader) (lines : List Line) (same : SameLines read.lines lines)
 set_up_same : (read : Reader) (lines : List Line) (same : SameLines read.lines lines) (number : ℕ) (setup : SetupLine) → Alike SameRead (set_up read number setup) (set_up (record read { lines = lines }) number setup)
 unfolding set_up
 set_up_same read lines same number setup =
-    rw (same_count read.lines lines same) (after SameRead (refuse (nat_lt 0 (length read.lines)) bad.Order) _ _ (λ order. setup_same (with_later read number setup) lines same number setup))
+    rw (same_count read.lines lines same) (after SameRead (refuse (nat_lt 0 (length read.lines)) bad.Order) _ _ (λ order. setup_same read lines same number setup))
 
 pub said_same : (makers : Makers) (read : Reader) (lines : List Line) (same : SameLines read.lines lines) (number : ℕ) (said other : Shape) → SameShape said other
     → Alike SameRead (said_step makers read number said) (said_step makers (record read { lines = lines }) number other)

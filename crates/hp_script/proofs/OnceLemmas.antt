@@ -11,7 +11,7 @@ use Rattle.hp_script.specs.Part.{Part}
 use Rattle.hp_script.specs.Marks.{is_marked, with_mark}
 use Rattle.hp_script.specs.Counts.{segments_of, is_same_pool, message_event, mapping_event, is_planned}
 use Rattle.hp_script.specs.Makers.{Makers}
-use Rattle.hp_script.specs.Setups.{nothing, is_strange, with_later, set_participants, set_absent, set_socket, set_deadline, add_pool, add_message, add_mapping, setup_step}
+use Rattle.hp_script.specs.Setups.{nothing, is_strange, set_participants, set_absent, set_socket, set_deadline, add_pool, add_message, add_mapping, setup_step}
 use Rattle.hp_script.specs.Reading.{read_line}
 use Rattle.hp_script.specs.Said.{said_in, says, is_absence, is_placement, says_absent, says_socket}
 use Rattle.hp_script.specs.Workloads.{read_from}
@@ -128,12 +128,10 @@ module _ (party : ℕ) (low : party < 16) where
 -- a mask that only setups of one kind change, along the lines
 module _ (makers : Makers) (mask : Reader → ℕ) (party : ℕ) (test : SetupLine → Bool)
     (setup_marks : (read : Reader) (number : ℕ) (setup : SetupLine) → IfOk (setup_step read number setup) (Marks mask party read (test setup)))
-    (later_keeps : (read : Reader) (number : ℕ) (setup : SetupLine) → mask (with_later read number setup) ≡ mask read)
     (line_keeps : (read : Reader) (lines : List Line) → mask (record read { lines = lines }) ≡ mask read) where
   said_marks : (read more : Reader) (number : ℕ) (said : Shape) → Adds makers read number said more → Marks mask party read (says test (Some said)) more
   said_marks read more number (Setup setup) adds =
-      let marks = answered (Marks mask party (with_later read number setup) (test setup)) (setup_step (with_later read number setup) number setup) more adds.1 (setup_marks (with_later read number setup) number setup) in
-      marks ∙ ap (λ (n : ℕ). is_marked n party || test setup) (later_keeps read number setup)
+      answered (Marks mask party read (test setup)) (setup_step read number setup) more adds.1 (setup_marks read number setup)
   said_marks read more number (Does who deed) adds = rw adds.1.added (ap (λ (n : ℕ). is_marked n party) (line_keeps read _) ∙ or_false (is_marked (mask read) party))
   said_marks read more number (Awaits who other k) adds = rw adds.adds.added (ap (λ (n : ℕ). is_marked n party) (line_keeps read _) ∙ or_false (is_marked (mask read) party))
 
@@ -157,12 +155,12 @@ pub absent_said : (makers : Makers) (lines : List Part) (read : Reader) (party :
     → is_marked read.absent party ≡ list_any (says_absent party) lines
 absent_said makers lines read party low same =
     lines_mark makers (λ some. some.absent) party (is_absence party) (absent_marks party low)
-    (λ some number setup. refl) (λ some lines. refl) lines nothing read 1 same
+    (λ some lines. refl) lines nothing read 1 same
     ∙ rw (none_marked party low) refl
 
 pub placed_said : (makers : Makers) (lines : List Part) (read : Reader) (party : ℕ) → party < 16 → read_from makers nothing 1 lines ≡ Ok read
     → is_marked read.placed party ≡ list_any (says_socket party) lines
 placed_said makers lines read party low same =
     lines_mark makers (λ some. some.placed) party (is_placement party) (placed_marks party low)
-    (λ some number setup. refl) (λ some lines. refl) lines nothing read 1 same
+    (λ some lines. refl) lines nothing read 1 same
     ∙ rw (none_marked party low) refl

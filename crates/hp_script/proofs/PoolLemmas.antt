@@ -14,7 +14,7 @@ use Rattle.hp_script.specs.Text.{lines_of, fields_of}
 use Rattle.hp_script.specs.Marks.{is_marked}
 use Rattle.hp_script.specs.Counts.{segments_of, is_same_pool, message_event, mapping_event, is_planned}
 use Rattle.hp_script.specs.Makers.{Makers, makers_of}
-use Rattle.hp_script.specs.Setups.{nothing, is_strange, with_later, set_participants, set_absent, set_socket, set_deadline, add_pool, add_message, add_mapping, setup_step}
+use Rattle.hp_script.specs.Setups.{nothing, is_strange, set_participants, set_absent, set_socket, set_deadline, add_pool, add_message, add_mapping, setup_step}
 use Rattle.hp_script.specs.Shapes.{shape_of}
 use Rattle.hp_script.specs.Reading.{read_line}
 use Rattle.hp_script.specs.Workloads.{reading_at}
@@ -68,7 +68,7 @@ module _ (makers : Makers) where
   said_pools read more number (first ∷ others) (Setup setup) before shape adds =
       elim (shape_says first others (Setup setup) shape) [
         | inl call ↦ absurd call.1.says
-        | inr said ↦ answered HasPools (setup_step (with_later read number setup) number setup) more adds.1 (setup_pools (with_later read number setup) number said.1.verb others setup said.1.ranges before)
+        | inr said ↦ answered HasPools (setup_step read number setup) more adds.1 (setup_pools read number said.1.verb others setup said.1.ranges before)
       ]
   said_pools read more number fields (Does party deed) before shape adds = rw adds.1.added before
   said_pools read more number fields (Awaits party other k) before shape adds = rw adds.adds.added before

@@ -1,8 +1,6 @@
--- What the setup lines of an accepted text leave: the plan, the sockets, who is absent, and that a text without later lines has one
--- participant.
-use Rattle.std.proofs.Common.{◌≡◌, ℕ, ◌+◌, ◌++◌, set, ◌*◌, ◌/◌, ◌%◌, ◌<◌, ◌≤◌, ◌^◌, Bool, true, false, ◌&&◌, List, [], ◌∷◌, length, get_or, refl, sym, ◌∙◌, cond, inl, inr, arith}
-use Rattle.std.specs.Prelude.{Option, Some, None, Ok, IfOk, ⊤, is_some, nat_le, nat_lt, unwrap_or, slice_index, bit_or, ◌==◌}
-use Rattle.std.specs.Option.{option_or}
+-- What the setup lines of an accepted text leave: the plan, the sockets, and who is absent.
+use Rattle.std.proofs.Common.{◌≡◌, ℕ, ◌+◌, ◌++◌, ◌*◌, ◌/◌, ◌%◌, ◌<◌, ◌≤◌, ◌^◌, Bool, true, false, ◌&&◌, List, [], ◌∷◌, length, get_or, refl, sym, ◌∙◌, inl, inr, arith}
+use Rattle.std.specs.Prelude.{Option, Some, None, Ok, IfOk, ⊤, is_some, nat_le, nat_lt, unwrap_or, bit_or, ◌==◌}
 use Rattle.std.specs.List.{list_any}
 use Rattle.std.proofs.Math.Nat.{div-eq_of_lt, div-lt_iff_lt-mul}
 use Rattle.std.proofs.Math.Pow.{pow_mono, pow-lt}
@@ -24,7 +22,7 @@ use Rattle.hp_script.specs.Marks.{is_marked, with_mark}
 use Rattle.hp_script.specs.Counts.{segments_of, is_same_pool, message_event, mapping_event, event_of, is_event, is_planned}
 use Rattle.hp_script.specs.declared.event.Event.{Event}
 use Rattle.hp_script.specs.Makers.{Makers, makers_of}
-use Rattle.hp_script.specs.Setups.{nothing, is_strange, with_later, set_participants, set_absent, set_socket, set_deadline, add_pool, add_message, add_mapping, setup_step}
+use Rattle.hp_script.specs.Setups.{nothing, is_strange, set_participants, set_absent, set_socket, set_deadline, add_pool, add_message, add_mapping, setup_step}
 use Rattle.hp_script.specs.Shapes.{shape_of}
 use Rattle.hp_script.specs.Reading.{read_line}
 use Rattle.hp_script.specs.Workloads.{reading_at}
@@ -39,10 +37,6 @@ use Rattle.hp_script.proofs.SetupRanges.{IsSetupBy}
 use Rattle.hp_script.proofs.ActLemmas.{shape_says}
 use Rattle.hp_script.proofs.StepLemmas.{passed, answered, Adds, read_line_says, along}
 
--- participant 0 is alone and attached, and no other has a socket of its own
-abbrev pub IsAlone : Reader → Type 0
-IsAlone read = (unwrap_or read.participants 1 ≡ 1) × (read.absent ≡ 0) × ((party : ℕ) → 0 < party → slice_index read.sockets party ≡ 0)
-
 -- the declared participants so far
 abbrev declared : Reader → ℕ
 declared read = unwrap_or read.participants 1
@@ -53,7 +47,6 @@ pub record HasSetup (read : Reader) : Type 0 where
   pub many : length read.sockets ≡ 16
   pub sockets : AreSockets read.sockets
   pub absent : IsAbsent (unwrap_or read.participants 1) read.absent
-  pub alone : read.later ≡ None → IsAlone read
 
 -- more participants than so far
 plan_more : (few many : ℕ) (entries : List PlanEntry) → few ≤ many → ArePlanEntries few entries → ArePlanEntries many entries
@@ -126,46 +119,12 @@ plan_push participants entries entry is next once = record {
   entries = All-push (IsPlanEntry participants) entries entry is.entries next;
 }
 
-never_none : (o : Option ℕ) (n : ℕ) → option_or o (Some n) ≡ None → ⊥
-never_none None n none = absurd cc
-never_none (Some m) n none = absurd cc
-
 absent_count : (o : Option ℕ) → is_some o ≡ false → unwrap_or o 1 ≡ 1
 absent_count None none = refl
 absent_count (Some n) none = absurd cc
 
--- a setup line behind which none is noted is built, and none was noted before it
-none_noted : (later : Option ℕ) (number : ℕ) (built : Bool) → cond built later (option_or later (Some number)) ≡ None
-    → (built ≡ true) × (later ≡ None)
-none_noted later number true none = (refl, none)
-none_noted later number false none = absurd (never_none later number none)
-
-sockets_set : (sockets : List ℕ) (party socket : ℕ) → length sockets ≡ 16 → ((other : ℕ) → 0 < other → slice_index sockets other ≡ 0) → (other : ℕ) → 0 < other → slice_index (set sockets 0 socket) other ≡ 0
-sockets_set sockets party socket many others other above = grind (arith, common_steps, others other above, above)
-
--- a socket of another participant is one line that is to be built later
-alone_socket : (read : Reader) (number party socket : ℕ) → (read.later ≡ None → IsAlone read) → length read.sockets ≡ 16
-    → cond (party == 0) read.later (option_or read.later (Some number)) ≡ None
-    → (unwrap_or read.participants 1 ≡ 1) × (read.absent ≡ 0)
-    × ((other : ℕ) → 0 < other → slice_index (set read.sockets party socket) other ≡ 0)
-alone_socket read number party socket alone many none =
-    let noted = none_noted read.later number (party == 0) none in
-    let first : party ≡ 0 = grind (arith, nat_tests, noted.0) in
-    let before = alone noted.1 in
-    (before.0, before.1, rw first (sockets_set read.sockets party socket many before.2))
-
--- a number of participants other than 1 is one too
-alone_count : (read : Reader) (number count : ℕ) → (read.later ≡ None → IsAlone read)
-    → cond (count == 1) read.later (option_or read.later (Some number)) ≡ None
-    → (count ≡ 1) × (read.absent ≡ 0) × ((party : ℕ) → 0 < party → slice_index read.sockets party ≡ 0)
-alone_count read number count alone none =
-    let noted = none_noted read.later number (count == 1) none in
-    let one : count ≡ 1 = grind (arith, nat_tests, noted.0) in
-    let before = alone noted.1 in
-    (one, before.1, before.2)
-
 setup_has : (read : Reader) (number : ℕ) (verb : SetupVerb) (arguments : List Part) (setup : SetupLine) → IsSetupBy verb arguments setup → HasSetup read
-    → IfOk (setup_step (with_later read number setup) number setup) HasSetup
+    → IfOk (setup_step read number setup) HasSetup
 unfolding set_participants set_absent set_socket set_deadline add_pool add_message add_mapping
 setup_has read number verb arguments (Participants count) ranges before =
     passed (is_some read.participants) bad.Duplicate _ _ (λ once.
@@ -176,7 +135,6 @@ setup_has read number verb arguments (Participants count) ranges before =
       many = before.many;
       sockets = before.sockets;
       absent = absent_more (unwrap_or read.participants 1) count read.absent le ranges.2 before.absent;
-      alone = alone_count read number count before.alone;
     })
 setup_has read number verb arguments (Absent party) ranges before =
     passed (is_marked read.absent party) bad.Duplicate _ _ (λ once.
@@ -187,7 +145,6 @@ setup_has read number verb arguments (Absent party) ranges before =
       many = before.many;
       sockets = before.sockets;
       absent = absent_marked (unwrap_or read.participants 1) read.absent party ranges.1 below before.absent;
-      alone = λ none. absurd (never_none read.later number none);
     }))
 setup_has read number verb arguments (Socket party socket) ranges before =
     passed (is_marked read.placed party) bad.Duplicate _ _ (λ once.
@@ -197,16 +154,15 @@ setup_has read number verb arguments (Socket party socket) ranges before =
       many = grind (arith, common_steps, before.many);
       sockets = record { below = All-set (λ some. some < MAX_SOCKETS) read.sockets party socket ranges.1.low before.sockets.below };
       absent = before.absent;
-      alone = alone_socket read number party socket before.alone before.many;
     }))
 setup_has read number verb arguments (Deadline ms) ranges before =
     passed (is_some read.deadline) bad.Duplicate _ _ (λ once.
-    record { plan = before.plan; many = before.many; sockets = before.sockets; absent = before.absent; alone = before.alone })
+    record { plan = before.plan; many = before.many; sockets = before.sockets; absent = before.absent })
 setup_has read number verb arguments (Pool pool) ranges before =
     passed (list_any (is_same_pool pool) read.pools) bad.Duplicate _ _ (λ once.
     passed (nat_le 128 (length read.pools)) bad.Limit _ _ (λ lists.
     passed (nat_lt 16384 (segments_of read.pools + pool.slots)) bad.Limit _ _ (λ segments.
-    record { plan = before.plan; many = before.many; sockets = before.sockets; absent = before.absent; alone = before.alone })))
+    record { plan = before.plan; many = before.many; sockets = before.sockets; absent = before.absent })))
 setup_has read number verb arguments (Message kind party k twice) ranges before =
     passed (is_planned read.plan (message_event kind party k)) bad.Duplicate _ _ (λ once.
     passed (is_strange read party) bad.Unknown _ _ (λ known.
@@ -216,7 +172,6 @@ setup_has read number verb arguments (Message kind party k twice) ranges before 
       many = before.many;
       sockets = before.sockets;
       absent = before.absent;
-      alone = before.alone;
     }))
 setup_has read number verb arguments (Mapping party call elsewhere) ranges before =
     passed (is_planned read.plan (mapping_event party call)) bad.Duplicate _ _ (λ once.
@@ -227,18 +182,16 @@ setup_has read number verb arguments (Mapping party call elsewhere) ranges befor
       many = before.many;
       sockets = before.sockets;
       absent = before.absent;
-      alone = before.alone;
     }))
 
 module _ (makers : Makers) where
-  with_lines : (read more : Reader) → HasSetup read → more.participants ≡ read.participants → more.plan ≡ read.plan → more.sockets ≡ read.sockets → more.absent ≡ read.absent → more.later ≡ read.later
+  with_lines : (read more : Reader) → HasSetup read → more.participants ≡ read.participants → more.plan ≡ read.plan → more.sockets ≡ read.sockets → more.absent ≡ read.absent
       → HasSetup more
-  with_lines read more before participants plan sockets absent later = record {
+  with_lines read more before participants plan sockets absent = record {
     plan = rw (participants, plan) before.plan;
     many = rw sockets before.many;
     sockets = rw sockets before.sockets;
     absent = rw (participants, absent) before.absent;
-    alone = rw (later, participants, absent, sockets) before.alone;
   }
 
   said_setup : (read more : Reader) (number : ℕ) (fields : List Part) (said : Shape) → HasSetup read → shape_of fields ≡ Ok said → Adds makers read number said more → HasSetup more
@@ -246,10 +199,10 @@ module _ (makers : Makers) where
   said_setup read more number (first ∷ others) (Setup setup) before shape adds =
       elim (shape_says first others (Setup setup) shape) [
         | inl call ↦ absurd call.1.says
-        | inr said ↦ answered HasSetup (setup_step (with_later read number setup) number setup) more adds.1 (setup_has read number said.1.verb others setup said.1.ranges before)
+        | inr said ↦ answered HasSetup (setup_step read number setup) more adds.1 (setup_has read number said.1.verb others setup said.1.ranges before)
       ]
-  said_setup read more number fields (Does party deed) before shape adds = rw adds.1.added (with_lines read _ before refl refl refl refl refl)
-  said_setup read more number fields (Awaits party other k) before shape adds = rw adds.adds.added (with_lines read _ before refl refl refl refl refl)
+  said_setup read more number fields (Does party deed) before shape adds = rw adds.1.added (with_lines read _ before refl refl refl refl)
+  said_setup read more number fields (Awaits party other k) before shape adds = rw adds.adds.added (with_lines read _ before refl refl refl refl)
 
   line_setup : (read more : Reader) (number : ℕ) (line : Part) → HasSetup read → ⊤ → read_line makers read number line ≡ Ok more → HasSetup more
   line_setup read more number line before _ same =
@@ -270,5 +223,4 @@ reading_setup bytes read same =
       many = refl;
       sockets = record { below = λ k d within. grind (arith, common_steps, within) };
       absent = record { some = omega arith; few = omega arith; primary = refl; declared = omega arith };
-      alone = λ later. (refl, refl, λ party above. grind (arith, common_steps));
     }

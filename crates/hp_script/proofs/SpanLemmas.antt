@@ -13,7 +13,7 @@ use Rattle.hp_script.specs.Judge.{refuse}
 use Rattle.hp_script.specs.Marks.{is_marked}
 use Rattle.hp_script.specs.Counts.{segments_of, is_same_pool, message_event, mapping_event, is_planned, lines_by}
 use Rattle.hp_script.specs.Makers.{Makers, makers_of}
-use Rattle.hp_script.specs.Setups.{nothing, is_strange, with_later, set_participants, set_absent, set_socket, set_deadline, add_pool, add_message, add_mapping, setup_step, set_up}
+use Rattle.hp_script.specs.Setups.{nothing, is_strange, set_participants, set_absent, set_socket, set_deadline, add_pool, add_message, add_mapping, setup_step, set_up}
 use Rattle.hp_script.specs.Acts.{is_duplicate, is_unknown, add_line, add_act, add_await}
 use Rattle.hp_script.specs.Shapes.{shape_of}
 use Rattle.hp_script.specs.Reading.{said_step, judged, read_line}
@@ -106,7 +106,7 @@ module _ (bytes : Bor (List ℕ)) where
       elim (outcome (refuse (nat_lt 0 (length read.lines)) bad.Order)) [
         | inr refused ↦ rw refused.1 tt
         | inl order ↦ rw order.1 (
-            kept_slices read (setup_step (with_later read number setup) number setup) b (raise bytes 0 a b (all_tokens read.lines) slices before) (setup_keeps (with_later read number setup) number setup))
+            kept_slices read (setup_step read number setup) b (raise bytes 0 a b (all_tokens read.lines) slices before) (setup_keeps read number setup))
       ]
   said_step_slices makers read number a b (Does party deed) before slices =
       elim (outcome (refuse (is_duplicate makers number deed) bad.Duplicate)) [

@@ -9,7 +9,7 @@ use Rattle.hp_script.specs.Words.{IsWord, tokens_in}
 use Rattle.hp_script.specs.Judge.{◌>>=◌, refuse}
 use Rattle.hp_script.specs.Counts.{lines_by}
 use Rattle.hp_script.specs.Makers.{Makers}
-use Rattle.hp_script.specs.Setups.{is_strange, with_later, setup_step, set_up}
+use Rattle.hp_script.specs.Setups.{is_strange, setup_step, set_up}
 use Rattle.hp_script.specs.Acts.{is_duplicate, is_unknown, add_line, add_act, add_await}
 use Rattle.hp_script.specs.Shapes.{shape_of}
 use Rattle.hp_script.specs.Reading.{said_step, judged, read_line}
@@ -65,7 +65,7 @@ pub record AddsAwait (read : Reader) (number party other k : ℕ) (more : Reader
 
 -- what a line that says something adds
 abbrev pub Adds : Makers → Reader → ℕ → Shape → Reader → Type 0
-Adds makers read number (Setup setup) more = (read.lines ≡ []) × (setup_step (with_later read number setup) number setup ≡ Ok more)
+Adds makers read number (Setup setup) more = (read.lines ≡ []) × (setup_step read number setup ≡ Ok more)
 Adds makers read number (Does party deed) more = (is_duplicate makers number deed ≡ false) × AddsLine read number party deed more × (is_unknown makers deed ≡ false)
 Adds makers read number (Awaits party other k) more = AddsAwait read number party other k more
 
@@ -91,7 +91,7 @@ said_step_adds : (makers : Makers) (read : Reader) (number : ℕ) (said : Shape)
 unfolding said_step set_up add_act add_await
 said_step_adds makers read number (Setup setup) =
     passed (nat_lt 0 (length read.lines)) bad.Order _ _ (λ none.
-    with_fact (read.lines ≡ []) (setup_step (with_later read number setup) number setup) (λ more. setup_step (with_later read number setup) number setup ≡ Ok more) (no_lines read.lines none) (itself (setup_step (with_later read number setup) number setup)))
+    with_fact (read.lines ≡ []) (setup_step read number setup) (λ more. setup_step read number setup ≡ Ok more) (no_lines read.lines none) (itself (setup_step read number setup)))
 said_step_adds makers read number (Does party deed) =
     passed (is_duplicate makers number deed) bad.Duplicate _ _ (λ once.
     passed (is_strange read party) bad.Unknown _ _ (λ declared.

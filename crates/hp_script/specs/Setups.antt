@@ -1,6 +1,5 @@
 -- What setup lines add to what was read, and their refusals along the text.
-use Rattle.std.specs.Prelude.{ℕ, ◌+◌, Bool, true, false, ◌==◌, nat_lt, nat_le, [], ◌∷◌, ◌++◌, length, slice_set, replicate, Some, None, is_some, unwrap_or, Result, Ok, if◌then◌else◌}
-use Rattle.std.specs.Option.{option_or}
+use Rattle.std.specs.Prelude.{ℕ, ◌+◌, Bool, nat_lt, nat_le, [], ◌∷◌, ◌++◌, length, slice_set, replicate, Some, None, is_some, unwrap_or, Result, Ok}
 use Rattle.std.specs.List.{list_any}
 use Rattle.hp_base.specs.declared.pool_line.PoolLine.{PoolLine}
 use Rattle.hp_base.specs.declared.plan_entry.MsgKind.{MsgKind}
@@ -17,7 +16,7 @@ use Rattle.hp_script.specs.declared.reader.Reader.{Reader}
 -- before the first line nothing is said
 abbrev pub nothing : Reader
 nothing =
-    record { participants = None; absent = 0; placed = 0; sockets = replicate 16 0; deadline = None; later = None; pools = []; plan = []; lines = [] }
+    record { participants = None; absent = 0; placed = 0; sockets = replicate 16 0; deadline = None; pools = []; plan = []; lines = [] }
 
 -- a participant is not declared: by default there is participant 0 alone
 abbrev pub is_strange : Reader → ℕ → Bool
@@ -80,23 +79,8 @@ setup_step read number (Pool pool) = add_pool read pool
 setup_step read number (Message kind party k twice) = add_message read number kind party k twice
 setup_step read number (Mapping party call elsewhere) = add_mapping read number party call elsewhere
 
--- of the setup lines the program does that there is one participant, pools, the deadline and the socket of participant 0; what the
--- plan says is asked of the plan
-abbrev pub is_built_setup : Setup → Bool
-is_built_setup (Participants count) = count == 1
-is_built_setup (Absent party) = false
-is_built_setup (Socket party socket) = party == 0
-is_built_setup (Deadline ms) = true
-is_built_setup (Pool pool) = true
-is_built_setup (Message kind party k twice) = true
-is_built_setup (Mapping party call elsewhere) = true
-
--- the first setup line that the program does not do is noted
-abbrev pub with_later : Reader → ℕ → Setup → Reader
-with_later read number setup = record read { later = (if is_built_setup setup then read.later else option_or read.later (Some number)) }
-
 -- a setup line stands before the first participant line
 unfoldable pub set_up : Reader → ℕ → Setup → Result Reader BadKind
 set_up read number setup = do
   order ← refuse (nat_lt 0 (length read.lines)) bad.Order
-  setup_step (with_later read number setup) number setup
+  setup_step read number setup

@@ -63,7 +63,6 @@ pub record IsWorkloadOf (read : Reader) (workload : Workload) : Type 0 where
   pub absent : workload.absent ≡ read.absent
   pub sockets : workload.sockets ≡ read.sockets
   pub deadline : workload.deadline ≡ unwrap_or read.deadline 5000
-  pub later : workload.later ≡ read.later
   pub pools : workload.pools.items ≡ read.pools
   pub plan : workload.plan.items ≡ read.plan
   pub lines : workload.lines.items ≡ read.lines

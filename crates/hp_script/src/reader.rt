@@ -1,7 +1,6 @@
 //! What has been read of a text, line by line.
 
 ghost use Rattle.std.specs.Prelude.{◌≡◌, ◌<◌, ◌≤◌, false, unwrap_or};
-ghost use Rattle.hp_script.specs.Setups.{is_built_setup};
 
 mod acts;
 mod setups;
@@ -33,8 +32,6 @@ pub struct Reader<'a> {
     pub placed: u16,
     pub sockets: [u32; 16],
     pub deadline: Option<Deadline>,
-    /// The first setup line, but those of the plan, that the program does not do yet.
-    pub later: Option<u32>,
     pub pools: PoolLines,
     pub plan: PlanLines,
     pub lines: LineList<'a>,
@@ -42,7 +39,7 @@ pub struct Reader<'a> {
 
 impl<'a> Reader<'a> {
     ghost use Rattle.hp_script.specs.Known.{known};
-    ghost use Rattle.hp_script.specs.Setups.{nothing, is_strange, with_later, set_up};
+    ghost use Rattle.hp_script.specs.Setups.{nothing, is_strange, set_up};
     ghost use Rattle.hp_script.specs.Reading.{Steps, read_line, judged, said_step};
     ghost use Rattle.hp_script.specs.Limits.{IsWithinLimits};
     ghost use Rattle.hp_script.specs.Workloads.{IsWorkloadOf};
@@ -57,7 +54,6 @@ impl<'a> Reader<'a> {
             placed: 0,
             sockets: [0; 16],
             deadline: None,
-            later: None,
             pools: PoolLines::new(alloc),
             plan: PlanLines::new(alloc),
             lines: LineList::new(alloc),
@@ -135,7 +131,6 @@ impl<'a> Reader<'a> {
         ensures { Steps result self.new (set_up self.old number setup) }
     {
         refuse(self.lines.len() > 0, BadKind::Order)?;
-        self.note_later(number, &setup);
         match setup {
             Setup::Participants { count } => self.set_participants(count),
             Setup::Absent { party } => self.set_absent(party),
@@ -156,15 +151,6 @@ impl<'a> Reader<'a> {
         }
     }
 
-    // Notes the number of a setup line that the program does not do yet, unless an earlier one is noted.
-    fn note_later(&mut self, number: u32, setup: &Setup)
-        ensures { self.new ≡ with_later self.old number setup.now }
-    {
-        if !is_built_setup(setup) {
-            self.later = self.later.or(Some(number));
-        }
-    }
-
     /// The workload that was read.
     pub fn finish(self) -> Workload<'a>
         ensures read { IsWorkloadOf self.entry result }
@@ -176,7 +162,6 @@ impl<'a> Reader<'a> {
             placed: _,
             sockets,
             deadline,
-            later,
             pools,
             plan,
             lines,
@@ -186,24 +171,10 @@ impl<'a> Reader<'a> {
             absent,
             sockets,
             deadline: ms_of(deadline),
-            later,
             pools: pools.into_pools(),
             plan: plan.into_entries(),
             lines: lines.into_lines(),
         }
-    }
-}
-
-// Whether the program does what a setup line says. What the plan says is asked of the plan.
-fn is_built_setup(setup: &Setup) -> bool
-    ensures { result ≡ is_built_setup setup.now }
-{
-    match setup {
-        Setup::Participants { count } => count.number() == 1,
-        Setup::Absent { .. } => false,
-        Setup::Socket { party, .. } => *party == 0,
-        Setup::Deadline { .. } | Setup::Pool { .. } => true,
-        Setup::Message { .. } | Setup::Mapping { .. } => true,
     }
 }
 

@@ -12,8 +12,6 @@ pub struct Workload<'a> {
     pub sockets: [u32; 16],
     /// The deadline in milliseconds, 1 to 3,600,000.
     pub deadline: u64,
-    /// The number of the first setup line, but those of the plan, that the program does not do yet.
-    pub later: Option<u32>,
     /// The hugepage pools, in the order of the text.
     pub pools: Vec<PoolLine>,
     /// The planned disturbances, in the order of the text.
