@@ -40,21 +40,22 @@ pub socket_few : (pools : List PoolLine) (place : SocketHeap) → IsSocketHeapOf
 socket_few pools place is =
     omega (arith, slice_get_within (sockets_of pools) place.index place.socket is, length-filter_le (names_socket pools) (range_with_len 0 32))
 
--- what a line left is noted, which is none of its calls and asks
+-- where the elements of its lines lie is noted, which is none of its calls and asks
 pub does_noted : (count : ℕ) (did : List MailStep → Type 0) (doing : Doing) (party after : Party) (parts : ℕ → HeapPart) (log : List LogRecord)
-    (asks : List AskLog) (standing : Standing) → after ≡ with_standing standing party → did []
+    (asks : List AskLog) (elements : List OwnElement) → after ≡ with_standing (record party.context.standing { elements = elements }) party → did []
     → Does count did doing doing (moment_of party parts log asks) (moment_of after parts log asks)
 unfolding Leads AreAsked
-does_noted count did doing party after parts log asks standing noted none =
+does_noted count did doing party after parts log asks elements noted none =
     subst (λ (after : Party). Does count did doing doing (moment_of party parts log asks) (moment_of after parts log asks)) (sym noted) (record {
       trace = [];
       steps = [];
       leads = refl;
       made = none;
-      acts = Acts.notes_left party standing;
+      acts = Acts.notes_left party elements;
       entries = λ heap. sym (append-nil (parts heap).entries);
       serves = λ heap. refl;
-      counted = ap (λ (calls : ℕ). record party.context { standing = standing; calls = calls }) (omega arith);
+      counted = ap (λ (calls : ℕ). record party.context { standing = record party.context.standing { elements = elements }; calls = calls })
+          (omega arith);
       same = record { me = refl; socket = refl; plan = refl; deadline = refl; context = refl };
       asked = refl;
       more = [];
@@ -193,17 +194,15 @@ module _ (line : Line) (label : Part) (size : ℕ) (options : Options) (its_act 
         abbrev after_it : Moment
         after_it = moment_of after mid.parts mid.log mid.asks
 
-        abbrev standing : Standing
-        standing = record mid.party.context.standing {
-          elements = mid.party.context.standing.elements ++ record { line = line.line; heap = heap } ∷ [];
-        }
+        abbrev elements : List OwnElement
+        elements = mid.party.context.standing.elements ++ record { line = line.line; heap = heap } ∷ []
 
         abbrev doing : Doing
         doing = doing_of line line.act (facts_for old.party.socket old.party.context (Some request))
 
         behind : Does count (λ steps. steps ≡ []) (Doing.Ended answer) (Doing.Ended answer) mid after_it
         behind =
-            does_noted count (λ steps. steps ≡ []) (Doing.Ended answer) mid.party after mid.parts mid.log mid.asks standing noted refl
+            does_noted count (λ steps. steps ≡ []) (Doing.Ended answer) mid.party after mid.parts mid.log mid.asks elements noted refl
 
         whole : Does count did doing (Doing.Ended answer) old after_it
         whole =

@@ -9,7 +9,7 @@ use Rattle.hp_hall.specs.declared.posted.Posted.{Posted}
 use Rattle.hp_segs.specs.LaterSteps.{after_arm}
 use Rattle.hp_segs.specs.SegsView.{SegsView}
 use Rattle.hp_segs.specs.declared.ask.Ask.{Ask}
-use Rattle.hp_proc.specs.AskSteps.{DoesAsk, DoesNotify, IsAwaitedBy, IsSentAs}
+use Rattle.hp_proc.specs.AskSteps.{DoesAsk, DoesNotify, IsAwaitedBy, IsSentAs, WaitsAndLooks}
 use Rattle.hp_proc.specs.Asking.{alloc_body, free_body, next_number}
 use Rattle.hp_proc.specs.Frames.{Says}
 use Rattle.hp_proc.specs.Outcomes.{ask_of}
@@ -25,6 +25,26 @@ posts_alloc party frame posted = Posts 0 frame (action_of party.plan message.All
 abbrev pub posts_free : Party → Frame → Posted → MailStep
 posts_free party frame posted = Posts 0 frame (action_of party.plan message.Free party.me (one_more party.sent.frees)) posted
 
+-- its ask was sent, by the number that is its last one behind that
+pub sent_as : (party after : Party) (asked : PagesAsked) (ask : Ask) (taken : SegsView) (frame : Frame) (posted : Posted)
+    → ask ≡ ask_of party.me ask.number asked → ask.number ≡ next_number party.asked taken.asks party.me → after.asked ≡ ask.number
+    → Says frame (alloc_body ask) → IsSentAs party (ask_of party.me after.asked asked)
+    (takes_segments taken ∷ gives_segments (after_arm ask taken) ∷ posts_alloc party frame posted ∷ [])
+sent_as party after asked ask taken frame posted ask_is number after_is says =
+    subst (λ named. IsSentAs party named (takes_segments taken ∷ gives_segments (after_arm ask taken) ∷ posts_alloc party frame posted ∷ []))
+    (ask_is ∙ ap (λ number. ask_of party.me number asked) (sym after_is))
+    (record { taken = taken; frame = frame; posted = posted; number = number; says = says; are = refl })
+
+-- it waited for the answer to that ask, and looked
+pub waits_as : {Hall : Type 0} (did : Hall → Hall → List MailStep → Type 0) (HasEnded : Hall → Party → Type 0) (count : ℕ)
+    (party after : Party) (asked : PagesAsked) (ask : Ask) (sent new : Hall) → ask ≡ ask_of party.me ask.number asked
+    → after.asked ≡ ask.number → WaitsAndLooks did HasEnded count (after_alloc ask.number party) ask sent new
+    → WaitsAndLooks did HasEnded count (after_alloc after.asked party) (ask_of party.me after.asked asked) sent new
+waits_as did HasEnded count party after asked ask sent new ask_is after_is waits =
+    subst (λ ask. WaitsAndLooks did HasEnded count (after_alloc after.asked party) ask sent new)
+    (ask_is ∙ ap (λ number. ask_of party.me number asked) (sym after_is))
+    (subst (λ number. WaitsAndLooks did HasEnded count (after_alloc number party) ask sent new) (sym after_is) waits)
+
 pub does_ask : (count : ℕ) (party mid after : Party) (asked : PagesAsked) (ask : Ask) (since : ℕ) (taken : SegsView) (frame : Frame)
     (posted : Posted) (rest : List MailStep) (run : Option Run) → ask ≡ ask_of party.me ask.number asked
     → ask.number ≡ next_number party.asked taken.asks party.me → since ≤ 2 ^ 63 → after.asked ≡ ask.number
@@ -38,9 +58,7 @@ does_ask count party mid after asked ask since taken frame posted rest run ask_i
       early = early;
       sending = takes_segments taken ∷ gives_segments (after_arm ask taken) ∷ posts_alloc party frame posted ∷ [];
       rest = rest;
-      sent = subst (λ named. IsSentAs party named
-          (takes_segments taken ∷ gives_segments (after_arm ask taken) ∷ posts_alloc party frame posted ∷ [])) named
-          (record { taken = taken; frame = frame; posted = posted; number = number; says = says; are = refl });
+      sent = sent_as party after asked ask taken frame posted ask_is number after_is says;
       awaited = subst (λ ask. IsAwaitedBy count (after_alloc after.asked party) after ask since rest run) named
           (subst (λ number. IsAwaitedBy count (after_alloc number party) after ask since rest run) (sym after_is)
           (subst (λ mid. IsAwaitedBy count mid after ask since rest run) mid_is awaited));

@@ -13,7 +13,6 @@ pub mod Weighs
 pub mod Noting
 pub mod Standing
 pub mod Steps
-pub mod Looked
 pub mod Armed
 pub mod AskOutcomes
 pub mod AskSettled
@@ -30,15 +29,6 @@ pub mod Waits
 pub mod Worked
 pub mod WorkedEnds
 pub mod WorkedServing
-pub mod SoloSeats
-pub mod SoloTies
-pub mod SoloWeights
-pub mod SoloTurns
-pub mod SoloQuiet
-pub mod SoloLooks
-pub mod StageLemmas
-pub mod RetiredPage
-pub mod SoloWaits
 pub mod Mapped
 pub mod SocketHeapLemmas
 pub mod ChosenHeaps
@@ -47,9 +37,6 @@ pub mod Joining
 pub mod HandCalls
 pub mod HandGiven
 pub mod PagesStay
-pub mod SoloOpened
-pub mod SoloEnds
-pub mod SoloDrained
 pub mod HandMoved
 pub mod HandCut
 pub mod LineFacts
@@ -58,3 +45,8 @@ pub mod HandAsked
 pub mod HandTried
 pub mod AllocFacts
 pub mod HallMoments
+pub mod Unarmed
+pub mod Pushed
+pub mod Rising
+pub mod Attached
+pub mod AttachedLines

@@ -45,11 +45,11 @@ heaps_push k (other ∷ sockets) socket j is =
     (λ (rest : List NamedHeap). record { index = k; name = socket_name other; serves = Some other } ∷ rest)
     (heaps_push (k + 1) sockets socket j (omega (arith, is)))
 
-length-heaps_from : (k : ℕ) (sockets : List ℕ) → length (heaps_from k sockets) ≡ length sockets
+pub length-heaps_from : (k : ℕ) (sockets : List ℕ) → length (heaps_from k sockets) ≡ length sockets
 length-heaps_from k [] = refl
 length-heaps_from k (socket ∷ sockets) = ap suc (length-heaps_from (k + 1) sockets)
 
-length-named : (heaps : List SocketHeap) → length (map named_heap heaps) ≡ length heaps
+pub length-named : (heaps : List SocketHeap) → length (map named_heap heaps) ≡ length heaps
 length-named [] = refl
 length-named (heap ∷ heaps) = ap suc (length-named heaps)
 

@@ -6,9 +6,8 @@ use Rattle.hp_core.specs.Core.{Core}
 use Rattle.hp_hall.specs.Mail.{MailStep}
 use Rattle.hp_hall.specs.Weights.{counted, moved_of, pause_weight}
 use Rattle.hp_proc.specs.Coordinating.{IsServed}
-use Rattle.hp_proc.specs.Falling.{held_sum, least_weight, own_weight, served_of}
+use Rattle.hp_proc.specs.Falling.{held_sum, if_moved, least_weight, own_weight, served_of}
 use Rattle.hp_proc.specs.Party.{Party, due_in}
-use Rattle.hp_proc.specs.Solo.{if_moved}
 use Rattle.hp_proc.specs.Waiting.{AreServings, AreTurns, IsSoonerOf, IsTurned, PausesFor, is_over}
 use Rattle.hp_proc.proofs.Scaled.{own_weight_lower}
 

@@ -1,5 +1,6 @@
 -- What a participant does of its line, step by step: the rule "Lines" of docs/PARTICIPANTS.md.
-use Rattle.std.specs.Prelude.{◌≡◌, ℕ, ◌+◌, Bool, List, [], ◌∷◌, ◌++◌, Option, Some}
+use Rattle.std.specs.Prelude.{◌≡◌, ℕ, ◌+◌, ◌<◌, Bool, false, List, [], ◌∷◌, ◌++◌, length, Option, Some}
+use Rattle.hp_base.specs.declared.caught.Caught.{Caught}
 use Rattle.hp_base.specs.declared.row.Run.{Run}
 use Rattle.hp_hall.specs.Mail.{MailStep, Gives, Takes}
 use Rattle.hp_hall.specs.declared.kept.Kept.TheVariants.{Heap}
@@ -9,18 +10,20 @@ use Rattle.hp_heap.specs.declared.entry.HeapAnswer.TheVariants as gives
 use Rattle.hp_heap.specs.declared.entry.HeapCall.{HeapCall}
 use Rattle.hp_heap.specs.declared.entry.HeapCall.TheVariants as call
 use Rattle.hp_log.specs.declared.log_record.LogRecord.{LogRecord}
+use Rattle.hp_segs.specs.LaterSteps.{after_leave}
 use Rattle.hp_segs.specs.SegsView.{SegsView}
 use Rattle.hp_segs.specs.Steps.{after_retire}
 use Rattle.hp_segs.specs.declared.outcome.AskLog.{AskLog}
 use Rattle.hp_proc.specs.AskSteps.{DoesAsk, DoesNotify}
 use Rattle.hp_proc.specs.Asking.{IsAsked}
+use Rattle.hp_proc.specs.Attaching.{Attaches, after_attaching, after_detaching, standing_tried}
 use Rattle.hp_proc.specs.Doing.{Done}
 use Rattle.hp_proc.specs.Doing.Done.{Asked, Called, CaughtUp, GaveUp, Looked}
-use Rattle.hp_proc.specs.Courses.{Standing}
 use Rattle.hp_proc.specs.Histories.{run_cut}
 use Rattle.hp_proc.specs.Party.{Party, after_call, with_standing}
 use Rattle.hp_proc.specs.Serving.{gives_segments, takes_segments}
 use Rattle.hp_proc.specs.Waiting.{IsTurned}
+use Rattle.hp_proc.specs.declared.own_element.OwnElement.{OwnElement}
 use Rattle.hp_proc.specs.declared.pages_asked.PagesAsked.{PagesAsked}
 
 -- what a participant did, with the steps that it made in the hall
@@ -45,8 +48,18 @@ pub data Acts (count : ℕ) : Party → Party → List Done → List MailStep �
   -- it told the coordinator so
   notifies_run : (party after : Party) (heap : ℕ) (run : Run) (steps : List MailStep) → DoesNotify count party after heap run steps
       → Acts count party after (GaveUp heap run ∷ []) steps
-  -- it noted what its line left
-  notes_left : (party : Party) (standing : Standing) → Acts count party (with_standing standing party) [] []
+  -- it attached, or tried to: it looked at the segment value and caught up with its whole log, and noted what that left
+  attaches : (party after : Party) (taken : SegsView) (caught : Caught) → Attaches party after taken.log caught
+      → Acts count party (with_standing (standing_tried (length taken.log) caught after.context.standing) after)
+      (Looked (length taken.log) ∷ CaughtUp (length taken.log) caught ∷ [])
+      (takes_segments taken ∷ gives_segments (after_attaching party.me caught taken) ∷ [])
+  -- it detached, which no primary does, and noted that
+  detaches : (party : Party) (taken : SegsView) → 0 < party.me
+      → Acts count party (with_standing (record party.context.standing { attached = false }) (after_detaching party)) []
+      (takes_segments taken ∷ gives_segments (after_leave party.me taken) ∷ [])
+  -- it noted where the elements of its lines lie
+  notes_left : (party : Party) (elements : List OwnElement)
+      → Acts count party (with_standing (record party.context.standing { elements = elements }) party) [] []
   -- one thing after another
   and_then : (party mid after : Party) (first rest : List Done) (before behind : List MailStep) → Acts count party mid first before
       → Acts count mid after rest behind → Acts count party after (first ++ rest) (before ++ behind)

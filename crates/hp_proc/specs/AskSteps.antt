@@ -17,6 +17,7 @@ use Rattle.hp_proc.specs.Party.{Party, after_alloc, after_free, one_more}
 use Rattle.hp_proc.specs.Serving.{gives_segments, takes_segments}
 use Rattle.hp_proc.specs.Waiting.{IsWaited}
 use Rattle.hp_proc.specs.declared.pages_asked.PagesAsked.{PagesAsked}
+use Rattle.hp_proc.specs.declared.settling.Found.{Found}
 use Rattle.hp_proc.specs.declared.settling.Found.TheVariants.{Settled, Open}
 
 -- how long an asker waits that read its clock then: three deadlines, up to the end of the clock's type
@@ -51,6 +52,21 @@ pub data IsAwaitedBy (count : ℕ) (party after : Party) (ask : Ask) (since : �
   settles : (mid : Party) (waited looked late : List MailStep) → IsWaited count true party mid waited true → IsLookAt ask looked Open
       → IsSettledLate count mid after ask since late → steps ≡ waited ++ (looked ++ late)
       → IsAwaitedBy count party after ask since steps run
+
+-- between two states of its hall it waited for its answer, to the end of that wait, and looked behind it; then it did what it still did
+pub record WaitsAndLooks {Hall : Type 0} (did : Hall → Hall → List MailStep → Type 0) (HasEnded : Hall → Party → Type 0) (count : ℕ)
+    (party : Party) (ask : Ask) (old new : Hall) : Type 0 where
+  pub between : Hall
+  pub mid : Party
+  pub waited : List MailStep
+  pub looked : List MailStep
+  pub late : List MailStep
+  pub found : Found
+  pub waits : IsWaited count true party mid waited true
+  pub ended : HasEnded between mid
+  pub look : IsLookAt ask looked found
+  pub before : did old between waited
+  pub behind : did between new (looked ++ late)
 
 -- a participant asks for pages, and is answered with the run, or none; the reading from before it sent counts as 2 ^ 63 at most
 pub record DoesAsk (count : ℕ) (party after : Party) (asked : PagesAsked) (steps : List MailStep) (run : Option Run) : Type 0 where

@@ -122,6 +122,11 @@ abbrev pub IsDue : Option Core → CoreEvent → Type 0
 IsDue None event = ⊥
 IsDue (Some core) event = IsDueAt core event
 
+-- 1 where something moved
+abbrev pub if_moved : Bool → ℕ
+if_moved true = 1
+if_moved false = 0
+
 -- 1 where a serving did something
 abbrev pub served_of : {E : Type 0} → Result Bool E → ℕ
 served_of (Ok true) = 1

@@ -2,7 +2,9 @@ pub mod Acting
 pub mod Allocating
 pub mod AskSteps
 pub mod Asking
+pub mod Attaching
 pub mod Awaits
+pub mod Clocks
 pub mod Contexts
 pub mod Coordinating
 pub mod Courses
@@ -23,10 +25,6 @@ pub mod Posting
 pub mod Progress
 pub mod Seen
 pub mod Serving
-pub mod Solo
-pub mod SoloCourse
 pub mod Tied
 pub mod Waiting
-pub mod SoloAsks
 pub mod Ending
-pub mod Draining

@@ -1,6 +1,6 @@
 -- What contracts see of a participant.
-use Rattle.std.specs.Prelude.{◌≡◌, ℕ, ◌+◌, ◌-◌, ◌^◌, ◌<◌, ◌==◌, min, Bool, false, List, replicate, Option, Some, None, is_some, if◌then◌else◌}
-use Rattle.hp_base.specs.declared.limits.TheConstants.{MAX_PARTICIPANTS}
+use Rattle.std.specs.Prelude.{◌≡◌, ℕ, ◌+◌, ◌-◌, ◌^◌, ◌<◌, ◌≤◌, ◌==◌, min, Bool, false, List, replicate, Option, Some, None, is_some, if◌then◌else◌}
+use Rattle.hp_base.specs.declared.limits.TheConstants.{MAX_DEADLINE, MAX_PARTICIPANTS}
 use Rattle.hp_base.specs.declared.plan_entry.PlanEntry.{PlanEntry}
 use Rattle.hp_core.specs.Core.{Core, due_of}
 use Rattle.hp_core.specs.declared.phase.Phase.TheVariants.{Idle}
@@ -57,9 +57,10 @@ abbrev pub first_core : ℕ → ℕ → Option Core
 first_core me deadline =
     if me == 0 then Some (record { deadline = deadline; phase = Idle; held = replicate 16 None }) else None
 
--- a participant has one of the numbers 0 to 15, and participant 0 alone a coordinator
-pub record IsParticipant (me : ℕ) (core : Option Core) : Type 0 where
+-- a participant has one of the numbers 0 to 15 and a deadline that a workload may have, and participant 0 alone a coordinator
+pub record IsParticipant (me deadline : ℕ) (core : Option Core) : Type 0 where
   pub declared : me < MAX_PARTICIPANTS
+  pub few : deadline ≤ MAX_DEADLINE
   pub coordinator : is_some core ≡ (me == 0)
 
 -- a participant that has sent and been asked nothing

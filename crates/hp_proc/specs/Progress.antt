@@ -110,6 +110,16 @@ IsLineOfOne (act.Resize label size) = ⊤
 IsLineOfOne (act.Dump heap) = ⊤
 IsLineOfOne _ = ⊥
 
+-- a line of the participant with that number, as far as these are built; participants 1 to 15 attach and detach
+abbrev pub IsLineBuilt : ℕ → Act → Type 0
+IsLineBuilt who (act.Alloc label size options) = ⊤
+IsLineBuilt who (act.Free label) = ⊤
+IsLineBuilt who (act.Resize label size) = ⊤
+IsLineBuilt who (act.Dump heap) = ⊤
+IsLineBuilt who act.Attach = 0 < who
+IsLineBuilt who act.Detach = 0 < who
+IsLineBuilt who _ = ⊥
+
 -- each heap takes the pages of its socket
 abbrev pub AreOfSockets : Moment → Type 0
 AreOfSockets moment = (heap : ℕ) → (moment.parts heap).serves ≡ slice_get (sockets_of moment.party.context.pools) heap

@@ -41,6 +41,10 @@ pub data IsTurned (count : ℕ) (party after : Party) (steps : List MailStep) (a
 abbrev pub is_over : Bool → Party → Bool
 is_over heeds party = heeds && party.answered
 
+-- its wait has ended: it is over, or its deadline counts no more, since a reading of the clock has reached it
+abbrev pub HasWaited : Bool → Party → (ℕ → ℕ) → ℕ → Type 0
+HasWaited heeds party pending until = (is_over heeds party ≡ true) ⊎ (pending until ≡ 0)
+
 -- what so many turns make of it, each of which began where its wait was not over, and came to its end
 unfoldable pub AreTurns : ℕ → Bool → ℕ → Party → Party → List MailStep → Type 0
 AreTurns count heeds zero party after steps = (after ≡ party) × (steps ≡ [])

@@ -61,6 +61,7 @@ fn arm_taken<H: Hall>(hall: &mut H, me: u8, segs: Segs, ask: &Ask) -> Result<(),
     ensures own_parts { (who : ℕ) → H.own hall.new who ≡ H.own hall.old who }
     ensures count { H.count hall.new ≡ H.count hall.old }
     ensures still { H.serves hall.new me }
+    ensures clock { H.clock hall.new ≡ H.clock hall.old }
     ensures goes_on { H.goes_on hall.old hall.new }
 {
     let mut armed = segs;
@@ -102,6 +103,7 @@ pub(crate) fn arm<H: Hall>(
     ensures own { (who : ℕ) → H.own hall.new who ≡ H.own hall.old who }
     ensures count { H.count hall.new ≡ H.count hall.old }
     ensures still { H.serves hall.new me }
+    ensures clock { H.clock hall.new ≡ H.clock hall.old }
     ensures goes_on { H.goes_on hall.old hall.new }
 {
     let segs = take_segments(hall, me);

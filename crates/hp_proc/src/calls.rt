@@ -17,8 +17,8 @@ use hp_hall::{Hall, Kept, Posted, Slot};
 use hp_segs::Segs;
 
 /// Takes the segment value: its log and its outcomes are what the participant has seen from then on, and it has what is known of
-/// the heaps that the participant holds.
-pub(crate) fn take_segments<H: Hall>(hall: &mut H, me: u8) -> Segs
+/// the heaps that the participant holds. Own.
+pub fn take_segments<H: Hall>(hall: &mut H, me: u8) -> Segs
     requires serves { H.serves hall.old me }
     requires home { H.may_take hall.old MAX_HEAPS }
     ensures sound { IsSound result }
@@ -112,8 +112,8 @@ pub(crate) fn give_segments<H: Hall>(hall: &mut H, me: u8, segs: Segs)
     give_back(hall, me, segs);
 }
 
-/// Gives the segment value back as it was taken.
-pub(crate) fn put_back<H: Hall>(hall: &mut H, me: u8, segs: Segs)
+/// Gives the segment value back as it was taken. Own.
+pub fn put_back<H: Hall>(hall: &mut H, me: u8, segs: Segs)
     requires serves { H.serves hall.old me }
     requires taken { H.taken hall.old MAX_HEAPS ≡ Some (Kept.Segments segs) }
     requires standing { AreStanding me (H.part hall.old me) segs }

@@ -23,8 +23,8 @@ pub(crate) fn is_worn<M: Mapper>(maps: &LocalMaps<M>) -> bool
     maps.calls() > MOST_CALLS
 }
 
-// Whether all rows are mapped.
-fn is_done(caught: &Caught) -> bool
+/// Whether all rows are mapped.
+pub(crate) fn is_done(caught: &Caught) -> bool
     ensures { result ≡ is_done caught.now }
 {
     match caught {

@@ -16,8 +16,8 @@ fn handler() -> Name
     Name::new(&HANDLER).unwrap()
 }
 
-/// The frame that says so to the handler.
-pub(crate) fn framed(body: Body) -> Frame
+/// The frame that says so to the handler. Own.
+pub fn framed(body: Body) -> Frame
     requires { HasFieldValues body }
     ensures { Says result body }
 {

@@ -1,9 +1,10 @@
-//! What participants do: how they serve, in any hall and in one in which they take turns in one thread. What their lines do and
-//! what a run of a workload leaves are definitions so far.
+//! What participants do in any hall: their lines, which allocate, free, resize, dump, attach and detach, how they wait, and how they
+//! serve. What a run of a workload leaves is defined here too; that it does is proved in the crates above.
 #![tactic(auto)]
 
 mod arming;
 mod asking;
+mod attaching;
 mod calls;
 mod catching;
 mod choosing;
@@ -26,16 +27,13 @@ mod posting;
 mod retiring;
 mod searched_heap;
 mod sent;
-mod server;
 mod settling;
 mod socket_heap;
-mod solo_end;
-mod solo_hall;
-#[cfg(test)]
-mod tests;
 mod workload_facts;
 
+pub use calls::{put_back, take_segments};
 pub use end::End;
+pub use framing::framed;
 pub use laws::{answer_law, asking_law, leading_law, numbering_law, outcomes_law};
 pub use line_context::LineContext;
 pub use own_element::OwnElement;
@@ -43,6 +41,4 @@ pub use pages_asked::PagesAsked;
 pub use participant::Participant;
 pub use sent::Sent;
 pub use socket_heap::SocketHeap;
-pub use solo_end::SoloEnd;
-pub use solo_hall::SoloHall;
 pub use workload_facts::WorkloadFacts;

@@ -11,6 +11,7 @@ use std::marker::Model;
 
 mod allocating;
 mod asking;
+mod attaching;
 mod carrying;
 mod ending;
 mod freeing;
@@ -62,7 +63,7 @@ impl<'p, M: Mapper> Model for Participant<'p, M> {
       context = a.context;
     } };
 
-    ghost invariant = { λ a. IsParticipant a.me a.coordinator };
+    ghost invariant = { λ a. IsParticipant a.me a.deadline a.coordinator };
 }
 
 // The coordinator of a participant: participant 0 has one.
@@ -123,14 +124,6 @@ impl<'p, M: Mapper> Participant<'p, M> {
         ensures { result ≡ self.now.me }
     {
         self.me
-    }
-
-    // What it has mapped.
-    #[cfg(test)]
-    pub(crate) fn maps(&self) -> &LocalMaps<Planned<'p, M>>
-        ensures { result.now ≡ self.now.maps }
-    {
-        &self.maps
     }
 
     /// When the deadline of its coordinator's round passes. It is `None` where no round is under way, and for a participant

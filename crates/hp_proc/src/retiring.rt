@@ -29,6 +29,7 @@ pub(crate) fn retire_run<H: Hall>(hall: &mut H, me: u8, heap: u32, run: &Run)
     ensures own { (who : ℕ) → H.own hall.new who ≡ H.own hall.old who }
     ensures count { H.count hall.new ≡ H.count hall.old }
     ensures still { H.serves hall.new me }
+    ensures clock { H.clock hall.new ≡ H.clock hall.old }
     ensures goes_on { H.goes_on hall.old hall.new }
 {
     let mut segs = take_segments(hall, me);

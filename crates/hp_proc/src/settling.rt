@@ -48,6 +48,7 @@ fn claim_taken<H: Hall>(hall: &mut H, ask: &Ask, segs: Segs) -> Run
     ensures own { (who : ℕ) → H.own hall.new who ≡ H.own hall.old who }
     ensures count { H.count hall.new ≡ H.count hall.old }
     ensures still { H.serves hall.new ask.now.from }
+    ensures clock { H.clock hall.new ≡ H.clock hall.old }
     ensures goes_on { H.goes_on hall.old hall.new }
 {
     let mut segs = segs;
@@ -72,6 +73,7 @@ pub(crate) fn look<H: Hall>(hall: &mut H, ask: &Ask) -> Found
     ensures own { (who : ℕ) → H.own hall.new who ≡ H.own hall.old who }
     ensures count { H.count hall.new ≡ H.count hall.old }
     ensures still { H.serves hall.new ask.now.from }
+    ensures clock { H.clock hall.new ≡ H.clock hall.old }
     ensures goes_on { H.goes_on hall.old hall.new }
 {
     let segs = take_segments(hall, ask.from);
@@ -109,6 +111,7 @@ pub(crate) fn settle<H: Hall>(hall: &mut H, ask: &Ask, since: u64, now: u64) -> 
     ensures own { (who : ℕ) → H.own hall.new who ≡ H.own hall.old who }
     ensures count { H.count hall.new ≡ H.count hall.old }
     ensures still { H.serves hall.new ask.now.from }
+    ensures clock { H.clock hall.new ≡ H.clock hall.old }
     ensures goes_on { H.goes_on hall.old hall.new }
 {
     let mut segs = take_segments(hall, ask.from);

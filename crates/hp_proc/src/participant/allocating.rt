@@ -1,13 +1,14 @@
 //! An allocation: its heaps are tried one after another, and each may grow.
 ghost use Rattle.std.specs.List.{All};
 ghost use Rattle.std.specs.Option.{option_map};
-ghost use Rattle.std.specs.Prelude.{◌≡◌, ℕ, ◌+◌, ◌^◌, ◌<◌, ◌≤◌, ◌∷◌, List, Some, None, IfOk, OnErr, OnOk, map, Contains, true};
+ghost use Rattle.std.specs.Prelude.{◌≡◌, ℕ, ◌+◌, ◌*◌, ◌^◌, ◌<◌, ◌≤◌, ◌∷◌, List, Some, None, IfOk, OnErr, OnOk, map, length, Contains, true};
 ghost use Rattle.hp_base.specs.declared.limits.TheConstants.{MAX_HEAPS};
 ghost use Rattle.hp_base.specs.declared.tag.Tag.{Tag};
 ghost use Rattle.hp_script.specs.Part.{Part};
 ghost use Rattle.hp_script.specs.declared.answer.Answer.{Answer};
 ghost use Rattle.hp_script.specs.declared.line.Act.TheVariants as act;
 ghost use Rattle.hp_proc.specs.Allocating.{serving, trying};
+ghost use Rattle.hp_proc.specs.Clocks.{RisesWithin, longest_allocation, longest_growth};
 ghost use Rattle.hp_proc.specs.Contexts.{IsNextLine, IsSocketHeapOf, named_heap};
 ghost use Rattle.hp_proc.specs.Heaps.{NamedHeap, heaps_for, socket_heaps};
 ghost use Rattle.hp_proc.specs.Party.{IsSameParty, after_answer, with_calls, with_context};
@@ -73,6 +74,7 @@ impl<'p, M: Mapper> Participant<'p, M> {
 
         ensures taken { (number : ℕ) → H.taken hall.new number ≡ H.taken hall.old number }
         ensures home { (number : ℕ) → H.may_take hall.old number → H.may_take hall.new number }
+        ensures clock { RisesWithin H.pending H.is_busy (longest_growth self.old.deadline) (H.clock hall.old) (H.clock hall.new) }
         ensures goes_on { H.goes_on hall.old hall.new }
     {
         let first = with_flags(request, without_hint(request.flags));
@@ -112,6 +114,7 @@ impl<'p, M: Mapper> Participant<'p, M> {
 
         ensures free { (number : ℕ) → H.taken hall.new number ≡ None }
         ensures home { (number : ℕ) → number ≤ MAX_HEAPS → H.may_take hall.new number }
+        ensures clock { RisesWithin H.pending H.is_busy (longest_growth self.old.deadline) (H.clock hall.old) (H.clock hall.new) }
         ensures goes_on { H.goes_on hall.old hall.new }
     {
         let mut heap = self.hold(hall, place.index, CALLS)?;
@@ -145,6 +148,7 @@ impl<'p, M: Mapper> Participant<'p, M> {
 
         ensures free { (number : ℕ) → H.taken hall.new number ≡ None }
         ensures home { (number : ℕ) → number ≤ MAX_HEAPS → H.may_take hall.new number }
+        ensures clock { RisesWithin H.pending H.is_busy (length places.now * longest_growth self.old.deadline) (H.clock hall.old) (H.clock hall.new) }
         ensures goes_on { H.goes_on hall.old hall.new }
     {
         if places.is_empty() {
@@ -216,6 +220,7 @@ impl<'p, M: Mapper> Participant<'p, M> {
 
         ensures free { (number : ℕ) → H.taken hall.new number ≡ None }
         ensures home { (number : ℕ) → number ≤ MAX_HEAPS → H.may_take hall.new number }
+        ensures clock { RisesWithin H.pending H.is_busy (longest_allocation self.old.deadline) (H.clock hall.old) (H.clock hall.new) }
         ensures goes_on { H.goes_on hall.old hall.new }
     {
         self.reserve_element()?;
@@ -257,6 +262,7 @@ impl<'p, M: Mapper> Participant<'p, M> {
 
         ensures free { (number : ℕ) → H.taken hall.new number ≡ None }
         ensures home { (number : ℕ) → number ≤ MAX_HEAPS → H.may_take hall.new number }
+        ensures clock { RisesWithin H.pending H.is_busy (longest_allocation self.old.deadline) (H.clock hall.old) (H.clock hall.new) }
         ensures goes_on { H.goes_on hall.old hall.new }
     {
         match Request::new(size, options.align, options.bound, options.flags) {

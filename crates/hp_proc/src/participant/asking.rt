@@ -1,5 +1,5 @@
 //! How a participant asks for pages.
-ghost use Rattle.std.specs.Prelude.{◌≡◌, ◌≢◌, ℕ, ◌^◌, ◌<◌, ◌≤◌, List, [], ◌∷◌, false, None, IfOk, IsSome, OnErr, OnOk};
+ghost use Rattle.std.specs.Prelude.{◌≡◌, ◌≢◌, ℕ, ◌^◌, ◌<◌, ◌≤◌, ◌⊎◌, List, [], ◌∷◌, false, true, None, IfOk, IsSome, OnErr, OnOk};
 ghost use Rattle.hp_base.specs.Plans.{action_of};
 ghost use Rattle.hp_base.specs.declared.limits.TheConstants.{MAX_HEAPS, MAX_PARTICIPANTS};
 ghost use Rattle.hp_base.specs.declared.plan_entry.MsgKind.{MsgKind};
@@ -7,10 +7,13 @@ ghost use Rattle.hp_frame.specs.declared.frame.Frame.{Frame};
 ghost use Rattle.hp_hall.specs.Mail.{MailStep, Posts};
 ghost use Rattle.hp_hall.specs.declared.posted.Posted.{Posted};
 ghost use Rattle.hp_proc.specs.Asking.{GrowsHeld, IsAsked, IsAwaiting, IsHeldAsBefore, HasSettledAsks, Settles, alloc_body};
-ghost use Rattle.hp_proc.specs.AskSteps.{DoesAsk, IsAwaitedBy, IsSettledLate, waits_until};
+ghost use Rattle.hp_proc.specs.AskSteps.{DoesAsk, IsAwaitedBy, IsSentAs, IsSettledLate, WaitsAndLooks, waits_until};
+ghost use Rattle.hp_proc.specs.Clocks.{RisesWithin, longest_wait};
 ghost use Rattle.hp_proc.specs.Frames.{Says};
+ghost use Rattle.hp_proc.specs.Outcomes.{ask_of};
 ghost use Rattle.hp_proc.specs.Party.{IsSameParty, after_alloc, one_more};
 ghost use Rattle.hp_proc.specs.Tied.{IsTied};
+ghost use Rattle.hp_proc.specs.Waiting.{HasWaited, IsReading};
 
 use super::Participant;
 use crate::arming::arm;
@@ -43,6 +46,8 @@ impl<'p, M: Mapper> Participant<'p, M> {
         requires own { ask.now.from ≡ self.old.me }
         requires tied { IsTied (H.seen hall.old self.old.me) (H.own hall.old self.old.me) self.old.joined self.old.maps }
         ensures early { result ≤ 2 ^ 63 }
+        ensures read { H.pending (H.clock hall.new) result ≡ 0 }
+        ensures before { IsReading (λ deadline. deadline ≤ 2 ^ 63 → H.pending (H.clock hall.new) deadline ≡ H.scale) result }
         ensures sent { self.new ≡ after_alloc ask.now.number self.old }
         ensures did { (frame : Frame) × (posted : Posted) × Says frame (alloc_body ask.now) × H.did hall.old hall.new self.old.me
             (Posts 0 frame (action_of self.old.plan MsgKind.Alloc self.old.me (one_more self.old.sent.allocs)) posted ∷ []) }
@@ -53,6 +58,7 @@ impl<'p, M: Mapper> Participant<'p, M> {
         ensures part { (who heap : ℕ) → H.part hall.new who heap ≡ H.part hall.old who heap }
         ensures count { H.count hall.new ≡ H.count hall.old }
         ensures still { H.serves hall.new self.old.me }
+        ensures clock { H.clock hall.new ≡ H.clock hall.old }
         ensures goes_on { H.goes_on hall.old hall.new }
     {
         let since = hall.now(self.me).min(LATEST);
@@ -91,6 +97,7 @@ impl<'p, M: Mapper> Participant<'p, M> {
 
         ensures taken { (number : ℕ) → H.taken hall.new number ≡ H.taken hall.old number }
         ensures home { (number : ℕ) → H.may_take hall.old number → H.may_take hall.new number }
+        ensures clock { (H.clock hall.new ≡ H.clock hall.old) ⊎ (H.clock hall.new ≤ waits_until since self.old.deadline) }
         ensures goes_on { H.goes_on hall.old hall.new }
     {
         let until = self.waits_until(since);
@@ -120,12 +127,16 @@ impl<'p, M: Mapper> Participant<'p, M> {
         ensures err { OnErr result ((heap : ℕ) → H.part hall.new self.old.me heap ≡ H.part hall.old self.old.me heap) }
         ensures did { IfOk result (λ run. (steps : List MailStep) × H.did hall.old hall.new self.old.me steps
             × IsAwaitedBy (H.count hall.old) self.old self.new ask.now since steps run) }
+        ensures awaited { IfOk result (λ run. WaitsAndLooks (λ from to. H.did from to self.old.me)
+            (λ then party. HasWaited true party (H.pending (H.clock then)) (waits_until since self.old.deadline))
+            (H.count hall.old) self.old ask.now hall.old hall.new) }
         ensures tied { IsTied (H.seen hall.new self.old.me) (H.own hall.new self.old.me) self.new.joined self.new.maps }
         ensures asked { self.new.asked ≡ self.old.asked }
         ensures same { IsSameParty self.old self.new }
 
         ensures taken { (number : ℕ) → H.taken hall.new number ≡ H.taken hall.old number }
         ensures home { (number : ℕ) → H.may_take hall.old number → H.may_take hall.new number }
+        ensures clock { (H.clock hall.new ≡ H.clock hall.old) ⊎ (H.clock hall.new ≤ waits_until since self.old.deadline) }
         ensures goes_on { H.goes_on hall.old hall.new }
     {
         let until = self.waits_until(since);
@@ -153,9 +164,15 @@ impl<'p, M: Mapper> Participant<'p, M> {
         requires holds { IsSome (H.part hall.old self.old.me asked.now.heap).holding }
         requires settled { HasSettledAsks self.old.me (H.part hall.old self.old.me) (H.heard hall.old self.old.me) }
 
-        // What it did, what it asked for and was answered, and what came to the heap.
+        // What it did, and that it looked behind a wait that had ended; what it asked for and was answered, and what came to the heap.
         ensures did { IfOk result (λ run. (steps : List MailStep) × H.did hall.old hall.new self.old.me steps
             × DoesAsk (H.count hall.old) self.old self.new asked.now steps run) }
+        ensures awaited { IfOk result (λ run. (since : ℕ) × (sent : H) × (sending : List MailStep)
+            × IsReading (λ deadline. deadline ≤ 2 ^ 63 → H.pending (H.clock hall.old) deadline ≡ H.scale) since
+            × IsSentAs self.old (ask_of self.old.me self.new.asked asked.now) sending × H.did hall.old sent self.old.me sending
+            × WaitsAndLooks (λ from to. H.did from to self.old.me)
+            (λ then party. HasWaited true party (H.pending (H.clock then)) (waits_until since self.old.deadline))
+            (H.count hall.old) (after_alloc self.new.asked self.old) (ask_of self.old.me self.new.asked asked.now) sent hall.new) }
         ensures asked { IfOk result (λ run. IsAsked (H.seen hall.new self.old.me) (H.heard hall.new self.old.me) self.old.me
             self.old.asked self.new.asked asked.now run) }
         ensures grows { IfOk result (λ run. GrowsHeld asked.now.heap run (H.part hall.old self.old.me asked.now.heap)
@@ -170,6 +187,7 @@ impl<'p, M: Mapper> Participant<'p, M> {
         ensures same { IsSameParty self.old self.new }
         ensures taken { (number : ℕ) → H.taken hall.new number ≡ H.taken hall.old number }
         ensures home { (number : ℕ) → H.may_take hall.old number → H.may_take hall.new number }
+        ensures clock { RisesWithin H.pending H.is_busy (longest_wait self.old.deadline) (H.clock hall.old) (H.clock hall.new) }
         ensures goes_on { H.goes_on hall.old hall.new }
     {
         let ask = arm(hall, self.me, self.asked, asked)?;

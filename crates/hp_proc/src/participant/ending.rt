@@ -9,8 +9,8 @@ use hp_maps::Table;
 use std::alloc::{AllocError, Global};
 
 impl<'p, M: Mapper> Participant<'p, M> {
-    // Its table as it stands.
-    pub(crate) fn table(&self, alloc: Global) -> Result<Table, AllocError>
+    /// Its table as it stands. It is refused only where there is no memory for the rows. Own.
+    pub fn table(&self, alloc: Global) -> Result<Table, AllocError>
         ensures { IfOk result (λ table. LeavesTable self.now table) }
     {
         Ok(Table {

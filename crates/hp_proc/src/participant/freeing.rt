@@ -53,6 +53,7 @@ impl<'p, M: Mapper> Participant<'p, M> {
 
         ensures taken { (number : ℕ) → H.taken hall.new number ≡ H.taken hall.old number }
         ensures home { (number : ℕ) → H.may_take hall.old number → H.may_take hall.new number }
+        ensures clock { H.clock hall.new ≡ H.clock hall.old }
         ensures goes_on { H.goes_on hall.old hall.new }
     {
         match self.free_in(heap, addr) {
@@ -97,6 +98,7 @@ impl<'p, M: Mapper> Participant<'p, M> {
 
         ensures taken { (number : ℕ) → H.taken hall.new number ≡ H.taken hall.old number }
         ensures home { (number : ℕ) → H.may_take hall.old number → H.may_take hall.new number }
+        ensures clock { H.clock hall.new ≡ H.clock hall.old }
         ensures goes_on { H.goes_on hall.old hall.new }
     {
         let done = Left::Answered {
@@ -166,6 +168,7 @@ impl<'p, M: Mapper> Participant<'p, M> {
 
         ensures taken { (number : ℕ) → H.taken hall.new number ≡ H.taken hall.old number }
         ensures home { (number : ℕ) → H.may_take hall.old number → H.may_take hall.new number }
+        ensures clock { H.clock hall.new ≡ H.clock hall.old }
         ensures goes_on { H.goes_on hall.old hall.new }
     {
         match action {

@@ -1,5 +1,5 @@
 //! How a participant gives pages up.
-ghost use Rattle.std.specs.Prelude.{◌≡◌, ◌≢◌, ℕ, ◌+◌, ◌<◌, List, [], ◌∷◌, false, None, Some, OnOk};
+ghost use Rattle.std.specs.Prelude.{◌≡◌, ◌≢◌, ℕ, ◌+◌, ◌<◌, List, [], ◌∷◌, false, true, None, Some, OnOk};
 ghost use Rattle.hp_base.specs.Plans.{action_of};
 ghost use Rattle.hp_base.specs.declared.limits.TheConstants.{MAX_HEAPS};
 ghost use Rattle.hp_base.specs.declared.plan_entry.MsgKind.{MsgKind};
@@ -11,11 +11,13 @@ ghost use Rattle.hp_heap.specs.PlainHeap.{PlainHeap};
 ghost use Rattle.hp_segs.specs.SegsView.{SegsView};
 ghost use Rattle.hp_segs.specs.Steps.{after_retire};
 ghost use Rattle.hp_proc.specs.Asking.{GivesUp, IsCutFrom, free_body};
-ghost use Rattle.hp_proc.specs.AskSteps.{DoesNotify};
+ghost use Rattle.hp_proc.specs.AskSteps.{DoesNotify, waits_until};
+ghost use Rattle.hp_proc.specs.Clocks.{RisesWithin, longest_wait};
 ghost use Rattle.hp_proc.specs.Frames.{Says};
 ghost use Rattle.hp_proc.specs.Party.{IsSameParty, after_free, one_more};
 ghost use Rattle.hp_proc.specs.Serving.{gives_segments, takes_segments};
 ghost use Rattle.hp_proc.specs.Tied.{IsTied};
+ghost use Rattle.hp_proc.specs.Waiting.{HasWaited, IsReading};
 
 use super::Participant;
 use crate::own_posts::{free_body, post_own};
@@ -44,6 +46,7 @@ impl<'p, M: Mapper> Participant<'p, M> {
         ensures own { (who : ℕ) → H.own hall.new who ≡ H.own hall.old who }
         ensures count { H.count hall.new ≡ H.count hall.old }
         ensures still { H.serves hall.new self.now.me }
+        ensures clock { H.clock hall.new ≡ H.clock hall.old }
         ensures goes_on { H.goes_on hall.old hall.new }
     {
         retire_run(hall, self.me, heap, run);
@@ -65,6 +68,7 @@ impl<'p, M: Mapper> Participant<'p, M> {
         ensures part { (who index : ℕ) → H.part hall.new who index ≡ H.part hall.old who index }
         ensures count { H.count hall.new ≡ H.count hall.old }
         ensures still { H.serves hall.new self.old.me }
+        ensures clock { H.clock hall.new ≡ H.clock hall.old }
         ensures goes_on { H.goes_on hall.old hall.new }
     {
         let sent = one_more(self.sent.frees);
@@ -91,6 +95,10 @@ impl<'p, M: Mapper> Participant<'p, M> {
         requires tied { IsTied (H.seen hall.old self.old.me) (H.own hall.old self.old.me) self.old.joined self.old.maps }
         ensures did { OnOk result ((steps : List MailStep) × H.did hall.old hall.new self.old.me steps
             × DoesNotify (H.count hall.old) self.old self.new heap run.now steps) }
+
+        // It was answered, or its clock has come to three deadlines behind a reading of it.
+        ensures awaited { OnOk result ((since : ℕ) × IsReading (λ deadline. H.pending (H.clock hall.old) deadline ≡ H.scale) since
+            × HasWaited true self.new (H.pending (H.clock hall.new)) (waits_until since self.old.deadline)) }
         ensures asked { OnOk result (self.new.asked ≡ self.old.asked + 1) }
         ensures part { (index : ℕ) → H.part hall.new self.old.me index ≡ H.part hall.old self.old.me index }
         ensures tied { IsTied (H.seen hall.new self.old.me) (H.own hall.new self.old.me) self.new.joined self.new.maps }
@@ -98,6 +106,7 @@ impl<'p, M: Mapper> Participant<'p, M> {
 
         ensures taken { (slot : ℕ) → H.taken hall.new slot ≡ H.taken hall.old slot }
         ensures home { (slot : ℕ) → H.may_take hall.old slot → H.may_take hall.new slot }
+        ensures clock { RisesWithin H.pending H.is_busy (longest_wait self.old.deadline) (H.clock hall.old) (H.clock hall.new) }
         ensures goes_on { H.goes_on hall.old hall.new }
     {
         let Some(number) = self.asked.checked_add(1) else {

@@ -3,6 +3,7 @@ ghost use Rattle.std.specs.Prelude.{◌≡◌, ℕ, ◌+◌, ◌^◌, ◌<◌, �
 ghost use Rattle.hp_base.specs.declared.limits.TheConstants.{MAX_HEAPS};
 ghost use Rattle.hp_base.specs.declared.tag.Tag.{Tag};
 ghost use Rattle.hp_proc.specs.Allocating.{asking, behind_asking, with_run};
+ghost use Rattle.hp_proc.specs.Clocks.{RisesWithin, longest_growth, longest_wait};
 ghost use Rattle.hp_proc.specs.Doing.{Doing};
 ghost use Rattle.hp_proc.specs.Heaps.{page_sizes_for};
 ghost use Rattle.hp_proc.specs.Party.{IsSameParty, with_calls};
@@ -49,6 +50,7 @@ impl<'p, M: Mapper> Participant<'p, M> {
 
         ensures taken { (number : ℕ) → H.taken hall.new number ≡ H.taken hall.old number }
         ensures home { (number : ℕ) → H.may_take hall.old number → H.may_take hall.new number }
+        ensures clock { RisesWithin H.pending H.is_busy (longest_wait self.old.deadline) (H.clock hall.old) (H.clock hall.new) }
         ensures goes_on { H.goes_on hall.old hall.new }
         ensures passed { IfOk result (λ granted. granted ≡ false → (heap.new ≡ heap.old) × (self.new.context ≡ self.old.context)) }
         ensures spare { heap.old.spare ≤ heap.new.spare + 1 }
@@ -94,6 +96,7 @@ impl<'p, M: Mapper> Participant<'p, M> {
 
         ensures taken { (number : ℕ) → H.taken hall.new number ≡ H.taken hall.old number }
         ensures home { (number : ℕ) → H.may_take hall.old number → H.may_take hall.new number }
+        ensures clock { RisesWithin H.pending H.is_busy (longest_growth self.old.deadline) (H.clock hall.old) (H.clock hall.new) }
         ensures goes_on { H.goes_on hall.old hall.new }
         ensures spare { heap.old.spare ≤ heap.new.spare + 1 }
         ensures more { self.new.context.calls ≤ self.old.context.calls + 1 }

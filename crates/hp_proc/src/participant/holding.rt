@@ -3,6 +3,7 @@ ghost use Rattle.std.specs.Prelude.{◌≡◌, ◌≢◌, ℕ, ◌+◌, ◌^◌,
 ghost use Rattle.hp_base.specs.declared.limits.TheConstants.{MAX_HEAPS};
 ghost use Rattle.hp_hall.specs.Mail.{Gives};
 ghost use Rattle.hp_hall.specs.declared.kept.Kept.{Kept};
+ghost use Rattle.hp_proc.specs.Clocks.{RisesWithin};
 ghost use Rattle.hp_proc.specs.Doing.{Doing};
 ghost use Rattle.hp_proc.specs.Party.{IsSameParty};
 ghost use Rattle.hp_proc.specs.Progress.{AreSettled, Does, IsInHand, MayDo, in_hand, moment_of};
@@ -36,6 +37,7 @@ impl<'p, M: Mapper> Participant<'p, M> {
         ensures err { OnErr result (H.taken hall.new index ≡ None) }
         ensures home { (number : ℕ) → number ≤ MAX_HEAPS → number ≢ index → H.may_take hall.new number }
         ensures still { OnErr result ((number : ℕ) → number ≤ MAX_HEAPS → H.may_take hall.new number) }
+        ensures clock { RisesWithin H.pending H.is_busy 0 (H.clock hall.old) (H.clock hall.new) }
         ensures goes_on { H.goes_on hall.old hall.new }
     {
         'taking: loop {
@@ -64,6 +66,7 @@ impl<'p, M: Mapper> Participant<'p, M> {
         ensures others { (number : ℕ) → number ≢ heap.plain.index → H.taken hall.new number ≡ H.taken hall.old number }
         ensures home { H.may_take hall.new heap.plain.index }
         ensures home_of_others { (number : ℕ) → number ≢ heap.plain.index → H.may_take hall.old number → H.may_take hall.new number }
+        ensures clock { H.clock hall.new ≡ H.clock hall.old }
         ensures goes_on { H.goes_on hall.old hall.new }
     {
         let index = heap.index();
@@ -98,6 +101,7 @@ impl<'p, M: Mapper> Participant<'p, M> {
         ensures err { OnErr result (H.taken hall.new index ≡ None) }
         ensures home { (number : ℕ) → number ≤ MAX_HEAPS → number ≢ index → H.may_take hall.new number }
         ensures still { OnErr result ((number : ℕ) → number ≤ MAX_HEAPS → H.may_take hall.new number) }
+        ensures clock { RisesWithin H.pending H.is_busy 0 (H.clock hall.old) (H.clock hall.new) }
         ensures goes_on { H.goes_on hall.old hall.new }
     {
         if self.context.calls.checked_add(calls as u64).is_none() {

@@ -4,10 +4,11 @@ ghost use Rattle.hp_base.specs.Requests.{rounded_size};
 ghost use Rattle.hp_base.specs.declared.limits.TheConstants.{MAX_HEAPS};
 ghost use Rattle.hp_base.specs.declared.request.BadRequest.TheVariants as bad;
 ghost use Rattle.hp_script.specs.declared.line.Act.TheVariants as act;
+ghost use Rattle.hp_proc.specs.Clocks.{RisesWithin, longest_wait};
 ghost use Rattle.hp_proc.specs.Contexts.{IsNextLine};
 ghost use Rattle.hp_proc.specs.Freeing.{resize_refusal};
 ghost use Rattle.hp_proc.specs.Party.{IsSameParty, with_context};
-ghost use Rattle.hp_proc.specs.Progress.{DoesLine, IsLineOfOne, MayDo, moment_of};
+ghost use Rattle.hp_proc.specs.Progress.{DoesLine, IsLineBuilt, MayDo, moment_of};
 ghost use Rattle.hp_proc.specs.Tied.{IsTied};
 
 use super::Participant;
@@ -68,6 +69,7 @@ impl<'p, M: Mapper> Participant<'p, M> {
 
         ensures free { (number : ℕ) → H.taken hall.new number ≡ None }
         ensures home { (number : ℕ) → number ≤ MAX_HEAPS → H.may_take hall.new number }
+        ensures clock { RisesWithin H.pending H.is_busy (longest_wait self.old.deadline) (H.clock hall.old) (H.clock hall.new) }
         ensures goes_on { H.goes_on hall.old hall.new }
     {
         self.act_on(hall, line, label, None)
@@ -99,6 +101,7 @@ impl<'p, M: Mapper> Participant<'p, M> {
 
         ensures free { (number : ℕ) → H.taken hall.new number ≡ None }
         ensures home { (number : ℕ) → number ≤ MAX_HEAPS → H.may_take hall.new number }
+        ensures clock { RisesWithin H.pending H.is_busy (longest_wait self.old.deadline) (H.clock hall.old) (H.clock hall.new) }
         ensures goes_on { H.goes_on hall.old hall.new }
     {
         match rounded(size) {
@@ -132,6 +135,7 @@ impl<'p, M: Mapper> Participant<'p, M> {
 
         ensures free { (number : ℕ) → H.taken hall.new number ≡ None }
         ensures home { (number : ℕ) → number ≤ MAX_HEAPS → H.may_take hall.new number }
+        ensures clock { RisesWithin H.pending H.is_busy 0 (H.clock hall.old) (H.clock hall.new) }
         ensures goes_on { H.goes_on hall.old hall.new }
     {
         let Some(index) = self.context.index_named(name) else {
@@ -143,9 +147,9 @@ impl<'p, M: Mapper> Participant<'p, M> {
         Ok(Answer::Statistics { stats })
     }
 
-    /// Does one of its lines, and gives the answer: an allocation, a free, a resize or a dump. It holds no slot before and after. Where
-    /// memory runs out, the numbers of its calls, or a mapper's calls, it does no further line. After rte_malloc_socket, rte_free,
-    /// malloc_elem_resize and rte_malloc_dump_stats.
+    /// Does one of its lines, and gives the answer: an allocation, a free, a resize, a dump, an attach or a detach. It holds no slot before
+    /// and after. Where memory runs out, the numbers of its calls, or a mapper's calls, it does no further line. After rte_malloc_socket,
+    /// rte_free, malloc_elem_resize, rte_malloc_dump_stats, and the memory maps of a secondary process in Multi-process Support.
     pub fn do_line<H: Waiting>(
         &mut self,
         hall: &mut H,
@@ -153,7 +157,7 @@ impl<'p, M: Mapper> Participant<'p, M> {
     ) -> Result<Answer, AllocError>
         requires own { line.now.participant ≡ self.old.me }
         requires next { IsNextLine self.old.context line.now }
-        requires built { IsLineOfOne line.now.act }
+        requires built { IsLineBuilt self.old.me line.now.act }
         requires serves { H.serves hall.old self.old.me }
         requires me { self.old.me < H.count hall.old }
         requires free { (number : ℕ) → H.taken hall.old number ≡ None }
@@ -171,8 +175,14 @@ impl<'p, M: Mapper> Participant<'p, M> {
 
         ensures free { (number : ℕ) → H.taken hall.new number ≡ None }
         ensures home { (number : ℕ) → number ≤ MAX_HEAPS → H.may_take hall.new number }
+        ensures clock { RisesWithin H.pending H.is_busy (2 ^ 40) (H.clock hall.old) (H.clock hall.new) }
         ensures goes_on { H.goes_on hall.old hall.new }
     {
+        match &line.act {
+            Act::Attach => return self.do_attach(hall, line),
+            Act::Detach => return Ok(self.do_detach(hall, line)),
+            _ => {}
+        }
         if !self.context.attached {
             return Ok(Answer::Detached);
         }

@@ -4,6 +4,7 @@ ghost use Rattle.hp_base.specs.declared.limits.TheConstants.{MAX_HEAPS};
 ghost use Rattle.hp_base.specs.declared.tag.Tag.{Tag};
 ghost use Rattle.hp_script.specs.Acts.{label_used};
 ghost use Rattle.hp_proc.specs.Allocating.{unless_answered};
+ghost use Rattle.hp_proc.specs.Clocks.{RisesWithin, longest_wait};
 ghost use Rattle.hp_proc.specs.Contexts.{AreFactsOf, IsPlaceOf};
 ghost use Rattle.hp_proc.specs.Doing.{Doing};
 ghost use Rattle.hp_proc.specs.Freeing.{IsSizedWell, act_for, acting, behind_looking, left_of, looking};
@@ -60,6 +61,7 @@ impl<'p, M: Mapper> Participant<'p, M> {
 
         ensures taken { (number : ℕ) → H.taken hall.new number ≡ H.taken hall.old number }
         ensures home { (number : ℕ) → H.may_take hall.old number → H.may_take hall.new number }
+        ensures clock { H.clock hall.new ≡ H.clock hall.old }
         ensures goes_on { H.goes_on hall.old hall.new }
     {
         let addr = self.find_in(heap, tag)?;
@@ -88,6 +90,7 @@ impl<'p, M: Mapper> Participant<'p, M> {
 
         ensures free { (number : ℕ) → H.taken hall.new number ≡ None }
         ensures home { (number : ℕ) → H.may_take hall.old number → H.may_take hall.new number }
+        ensures clock { RisesWithin H.pending H.is_busy (longest_wait self.old.deadline) (H.clock hall.old) (H.clock hall.new) }
         ensures goes_on { H.goes_on hall.old hall.new }
     {
         match left {
@@ -125,6 +128,7 @@ impl<'p, M: Mapper> Participant<'p, M> {
 
         ensures free { (number : ℕ) → H.taken hall.new number ≡ None }
         ensures home { (number : ℕ) → number ≤ MAX_HEAPS → H.may_take hall.new number }
+        ensures clock { RisesWithin H.pending H.is_busy 0 (H.clock hall.old) (H.clock hall.new) }
         ensures goes_on { H.goes_on hall.old hall.new }
     {
         let mut heap = self.hold(hall, place.index, CALLS)?;
@@ -158,6 +162,8 @@ impl<'p, M: Mapper> Participant<'p, M> {
 
         ensures free { (number : ℕ) → H.taken hall.new number ≡ None }
         ensures home { (number : ℕ) → number ≤ MAX_HEAPS → H.may_take hall.new number }
+        ensures clock { RisesWithin H.pending H.is_busy (longest_wait self.old.deadline) (H.clock hall.old) (H.clock hall.new) }
+        ensures passed { IfOk result (λ given. given ≡ None → RisesWithin H.pending H.is_busy 0 (H.clock hall.old) (H.clock hall.new)) }
         ensures goes_on { H.goes_on hall.old hall.new }
     {
         let Some(left) = self.look_there(hall, place, tag, action)? else {
@@ -192,6 +198,7 @@ impl<'p, M: Mapper> Participant<'p, M> {
 
         ensures free { (number : ℕ) → H.taken hall.new number ≡ None }
         ensures home { (number : ℕ) → number ≤ MAX_HEAPS → H.may_take hall.new number }
+        ensures clock { RisesWithin H.pending H.is_busy (longest_wait self.old.deadline) (H.clock hall.old) (H.clock hall.new) }
         ensures goes_on { H.goes_on hall.old hall.new }
     {
         for place in places {
@@ -227,6 +234,7 @@ impl<'p, M: Mapper> Participant<'p, M> {
 
         ensures free { (number : ℕ) → H.taken hall.new number ≡ None }
         ensures home { (number : ℕ) → number ≤ MAX_HEAPS → H.may_take hall.new number }
+        ensures clock { RisesWithin H.pending H.is_busy (longest_wait self.old.deadline) (H.clock hall.old) (H.clock hall.new) }
         ensures goes_on { H.goes_on hall.old hall.new }
     {
         let Some(maker) = self.context.maker_of(label.as_bytes()) else {

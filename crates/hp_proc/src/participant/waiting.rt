@@ -8,7 +8,7 @@ ghost use Rattle.hp_hall.specs.Weights.{pause_weight};
 ghost use Rattle.hp_proc.specs.Falling.{own_weight, served_of};
 ghost use Rattle.hp_proc.specs.Party.{IsSameParty, due_in};
 ghost use Rattle.hp_proc.specs.Tied.{IsTied};
-ghost use Rattle.hp_proc.specs.Waiting.{IsReading, IsServedOut, IsSoonerOf, IsTurned, IsWaited, LeavesAsked, PausesFor, is_over};
+ghost use Rattle.hp_proc.specs.Waiting.{HasWaited, IsReading, IsServedOut, IsSoonerOf, IsTurned, IsWaited, LeavesAsked, PausesFor, is_over};
 
 use super::Participant;
 use hp_base::Mapper;
@@ -216,6 +216,7 @@ impl<'p, M: Mapper> Participant<'p, M> {
 
         // It ends at the answer or at the deadline, with a reading of the clock as it is then.
         ensures over { IfOk result (λ reading. (is_over heeds self.new ≡ true) ⊎ (until ≤ reading)) }
+        ensures reached { IfOk result (λ reading. HasWaited heeds self.new (H.pending (H.clock hall.new)) until) }
         ensures waited { heeds ≡ false → IfOk result (λ reading. until ≤ reading) }
         ensures reading { IfOk result (λ reading. IsReading (λ deadline. H.pending (H.clock hall.new) deadline ≡ H.scale) reading) }
         ensures clock { (H.clock hall.new ≡ H.clock hall.old) ⊎ (H.clock hall.new ≤ until) }

@@ -100,3 +100,7 @@ returns-in-Some-Stale-clause-did g c = (
   g.met.H.Hall.did_then _ _ _ c.args.ask.now.from _ _ c.take_segments-segs.ensures.did c.put_back-in-Some-Stale.ensures.did,
   record { taken = c.take_segments-segs.result; are = refl },
 )
+
+pub returns-in-Some-Stale-clause-goes_on : goal.returns-in-Some-Stale-clause-goes_on
+returns-in-Some-Stale-clause-goes_on g c =
+    g.met.H.Hall.goes_on_then _ _ _ c.take_segments-segs.ensures.goes_on c.put_back-in-Some-Stale.ensures.goes_on

@@ -1,5 +1,5 @@
 -- The heap is searched, gets pages where that found nothing, and is searched again.
-use Rattle.std.proofs.Common.{◌≡◌, ◌∙◌, ◌<◌, ◌∷◌, ℕ, Bool, List, Option, refl, ap, sym, subst}
+use Rattle.std.proofs.Common.{◌≡◌, ◌∙◌, ◌<◌, ◌∷◌, ℕ, Bool, List, Option, refl, ap, sym, subst, arith}
 use Rattle.hp_base.specs.declared.pool_line.PoolLine.{PoolLine}
 use Rattle.hp_base.specs.declared.request.Request.{Request}
 use Rattle.hp_heap.specs.History.{IsCall}
@@ -343,3 +343,25 @@ returns-in-None-clause-settled g c =
     subst (λ (party : Party). AreSettled (at g.H.Hall.count g.H.Hall.did g.H.Hall.part g.H.Hall.seen g.H.Hall.heard c.grow.new.hall c.args.self.now.me party)) (sym c.allocate_in-2.ensures.counted)
     (subst (λ (who : ℕ). AreSettled (at g.H.Hall.count g.H.Hall.did g.H.Hall.part g.H.Hall.seen g.H.Hall.heard c.grow.new.hall who c.grow.new.self))
     (ap (λ (party : Party). party.me) c.allocate_in.ensures.counted) c.in_ok-grow.ensures.settled)
+
+-- BY HOW MUCH IT CARRIES THE CLOCK
+
+pub returns-in_err-grow-clause-clock : goal.returns-in_err-grow-clause-clock
+returns-in_err-grow-clause-clock g c = λ one.
+    let same = ap (λ (party : Party). party.deadline) c.allocate_in.ensures.counted in
+    omega (arith, c.grow.ensures.clock one, same)
+
+pub returns-then-not-branch-clause-clock : goal.returns-then-not-branch-clause-clock
+returns-then-not-branch-clause-clock g c = λ one.
+    let same = ap (λ (party : Party). party.deadline) c.allocate_in.ensures.counted in
+    omega (arith, c.grow.ensures.clock one, same)
+
+pub returns-in-Some-allocate_in-clause-clock : goal.returns-in-Some-allocate_in-clause-clock
+returns-in-Some-allocate_in-clause-clock g c = λ one.
+    let same = ap (λ (party : Party). party.deadline) c.allocate_in.ensures.counted in
+    omega (arith, c.grow.ensures.clock one, same)
+
+pub returns-in-None-clause-clock : goal.returns-in-None-clause-clock
+returns-in-None-clause-clock g c = λ one.
+    let same = ap (λ (party : Party). party.deadline) c.allocate_in.ensures.counted in
+    omega (arith, c.grow.ensures.clock one, same)

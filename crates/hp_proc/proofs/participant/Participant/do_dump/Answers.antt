@@ -1,5 +1,5 @@
 -- What a dump does is what its facts say: the heap of that name is asked for its statistics.
-use Rattle.std.proofs.Common.{◌≡◌, ◌∙◌, ℕ, ◌+◌, ◌<◌, Bool, true, List, [], Option, None, Some, refl, ap, sym, subst, ⊎_elim}
+use Rattle.std.proofs.Common.{◌≡◌, ◌∙◌, ℕ, ◌+◌, ◌<◌, Bool, true, List, [], Option, None, Some, refl, ap, sym, subst, arith, ⊎_elim}
 use Rattle.std.proofs.lemmas.Bool.Decides.{eqb_tells}
 use Rattle.std.proofs.lemmas.List.Elements.{All-head}
 use Rattle.std.specs.List.{All}
@@ -229,3 +229,6 @@ returns-clause-home g c = λ number few.
 
 pub returns-clause-goes_on : goal.returns-clause-goes_on
 returns-clause-goes_on g c = g.met.H.Hall.goes_on_then _ _ _ c.hold.ensures.goes_on c.put.ensures.goes_on
+
+pub returns-clause-clock : goal.returns-clause-clock
+returns-clause-clock g c = λ one. omega (arith, c.hold.ensures.clock one, c.put.ensures.clock)

@@ -2,6 +2,7 @@
 use Rattle.std.proofs.Common.{◌∙◌, ap, sym}
 use Rattle.hp_proc.specs.Party.{Party}
 use Rattle.hp_proc.specs.Progress.{moment_of}
+use Rattle.hp_proc.proofs.AttachedLines.{one_built}
 use Rattle.hp_proc.proofs.LineFacts.{detached_done}
 use Rattle.hp_proc.proofs.participant.Participant.do_line.Goals as goal
 
@@ -11,6 +12,7 @@ returns-then-not-self-clause-does g c =
     let me = party.me in
     let hall = c.args.hall.now in
     detached_done (g.H.Hall.count hall) (g.H.Hall.did hall hall me) (g.met.H.Hall.did_same hall me) c.args.line.now
-    (moment_of party (g.H.Hall.part hall me) (g.H.Hall.seen hall me) (g.H.Hall.heard hall me)) c.requires.built
+    (moment_of party (g.H.Hall.part hall me) (g.H.Hall.seen hall me) (g.H.Hall.heard hall me))
+    (one_built me c.args.line.now.act c.requires.built c.in_default.not-Attach c.in_default.not-Detach)
     (ap (λ (party : Party). party.context.standing.attached) (sym c.self.view_is)
     ∙ ap (λ inside. inside.context.standing.attached) (sym c.self-inside.view_is) ∙ c.if-not-self.true)

@@ -1,12 +1,14 @@
 -- One page size more is asked for, and a run was granted or none was so far.
-use Rattle.std.proofs.Common.{rules, ◌∙◌, ◌+◌, ◌∷◌, ℕ, Bool, List, drop, get_or, true, false, refl, sym, subst, arith}
+use Rattle.std.proofs.Common.{rules, ◌∙◌, ◌+◌, ◌∷◌, ℕ, Bool, List, drop, get_or, length, true, false, refl, ap, sym, subst, arith}
 use Rattle.std.proofs.lemmas.List.{drop_all, drop_more}
 use Rattle.hp_proc.specs.Allocating.{asking, behind_asking, searching_again}
+use Rattle.hp_proc.specs.Clocks.{longest_wait}
 use Rattle.hp_proc.specs.Progress.{AreSettled, Does, IsInHand, in_hand}
 use Rattle.hp_proc.specs.Tied.{IsTied}
 use Rattle.hp_proc.proofs.Carrying.{same_party}
 use Rattle.hp_proc.proofs.HallMoments.{at, does_more}
 use Rattle.hp_proc.proofs.Joining.{does_same}
+use Rattle.hp_proc.proofs.Rising.{few_page_sizes, rises_more, rises_within}
 use Rattle.hp_proc.proofs.participant.Participant.grow.Goals as goal
 
 pub loop-page-init : goal.loop-page-init
@@ -22,6 +24,8 @@ loop-page-init g c = record {
   taken = λ number. refl;
   home = λ number may. may;
   goes_on = g.met.H.Hall.goes_on_same _;
+  along = omega arith;
+  clock = λ one. omega arith;
 }
 
 pub ask_in-requires-clause-serves : goal.ask_in-requires-clause-serves
@@ -159,6 +163,10 @@ loop-page-preserved g c =
       taken = λ number. one.taken number ∙ was.taken number;
       home = λ number may. one.home number (was.home number may);
       goes_on = g.met.H.Hall.goes_on_then _ _ _ was.goes_on one.goes_on;
+      along = omega (arith, c.loop-page-test.true);
+      clock = rises_more g.H.Hall.pending g.H.Hall.is_busy c.loop-page.page-index (longest_wait c.args.self.now.deadline)
+          (longest_wait c.loop-page.self.deadline) (g.H.Hall.clock c.args.hall.now) (g.H.Hall.clock c.loop-page.hall) (g.H.Hall.clock hall)
+          (ap longest_wait was.same.deadline) was.clock one.clock;
     }
 
 pub returns-clause-does : goal.returns-clause-does
@@ -180,3 +188,48 @@ pub returns-clause-settled : goal.returns-clause-settled
 returns-clause-settled g c =
     subst (λ (who : ℕ). AreSettled (at g.H.Hall.count g.H.Hall.did g.H.Hall.part g.H.Hall.seen g.H.Hall.heard c.loop-page.hall who c.loop-page.self))
     c.loop-page.invariant.same.me c.loop-page.invariant.settled
+
+-- BY HOW MUCH IT CARRIES THE CLOCK
+
+pub returns-in_err-ask_in-clause-clock : goal.returns-in_err-ask_in-clause-clock
+returns-in_err-ask_in-clause-clock g c =
+    let was = c.loop-page.invariant in
+    let party = c.args.self.now in
+    let old = g.H.Hall.clock c.args.hall.now in
+    let new = g.H.Hall.clock c.ask_in.new.hall in
+    rises_within g.H.Hall.pending g.H.Hall.is_busy (c.loop-page.page-index + 1) 8 (longest_wait party.deadline) old new
+    (omega (
+      arith,
+      c.loop-page-test.true,
+      ap length was.pages,
+      few_page_sizes party.context.pools c.args.place.now.socket c.args.request.now.flags,
+    ))
+    (rises_more g.H.Hall.pending g.H.Hall.is_busy c.loop-page.page-index (longest_wait party.deadline)
+    (longest_wait c.loop-page.self.deadline) old (g.H.Hall.clock c.loop-page.hall) new (ap longest_wait was.same.deadline) was.clock
+    c.ask_in.ensures.clock)
+
+pub returns-then-branch-clause-clock : goal.returns-then-branch-clause-clock
+returns-then-branch-clause-clock g c =
+    let was = c.loop-page.invariant in
+    let party = c.args.self.now in
+    let old = g.H.Hall.clock c.args.hall.now in
+    let new = g.H.Hall.clock c.ask_in.new.hall in
+    rises_within g.H.Hall.pending g.H.Hall.is_busy (c.loop-page.page-index + 1) 8 (longest_wait party.deadline) old new
+    (omega (
+      arith,
+      c.loop-page-test.true,
+      ap length was.pages,
+      few_page_sizes party.context.pools c.args.place.now.socket c.args.request.now.flags,
+    ))
+    (rises_more g.H.Hall.pending g.H.Hall.is_busy c.loop-page.page-index (longest_wait party.deadline)
+    (longest_wait c.loop-page.self.deadline) old (g.H.Hall.clock c.loop-page.hall) new (ap longest_wait was.same.deadline) was.clock
+    c.ask_in.ensures.clock)
+
+pub returns-clause-clock : goal.returns-clause-clock
+returns-clause-clock g c =
+    let was = c.loop-page.invariant in
+    let party = c.args.self.now in
+    rises_within g.H.Hall.pending g.H.Hall.is_busy c.loop-page.page-index 8 (longest_wait party.deadline)
+    (g.H.Hall.clock c.args.hall.now) (g.H.Hall.clock c.loop-page.hall)
+    (omega (arith, was.along, ap length was.pages, few_page_sizes party.context.pools c.args.place.now.socket c.args.request.now.flags))
+    was.clock

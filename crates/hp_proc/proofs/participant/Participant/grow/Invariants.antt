@@ -1,6 +1,7 @@
-use Rattle.std.proofs.Common.{◌≡◌, ℕ, drop}
+use Rattle.std.proofs.Common.{◌≡◌, ◌*◌, ◌≤◌, ℕ, drop, length}
 use Rattle.hp_base.specs.declared.tag.Tag.{Tag}
 use Rattle.hp_proc.specs.Allocating.{asking}
+use Rattle.hp_proc.specs.Clocks.{RisesWithin, longest_wait}
 use Rattle.hp_proc.specs.Doing.{Doing}
 use Rattle.hp_proc.specs.Heaps.{page_sizes_for}
 use Rattle.hp_proc.specs.Party.{IsSameParty}
@@ -28,4 +29,7 @@ invariant-loop-page g l = record {
   taken : (number : ℕ) → g.H.Hall.taken l.hall number ≡ g.H.Hall.taken l.fn.hall number;
   home : (number : ℕ) → g.H.Hall.may_take l.fn.hall number → g.H.Hall.may_take l.hall number;
   goes_on : g.H.Hall.goes_on l.fn.hall l.hall;
+  along : l.page-index ≤ length l.page-items;
+  clock : RisesWithin g.H.Hall.pending g.H.Hall.is_busy (l.page-index * longest_wait l.fn.self.deadline) (g.H.Hall.clock l.fn.hall)
+      (g.H.Hall.clock l.hall);
 }

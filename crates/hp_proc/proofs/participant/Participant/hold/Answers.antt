@@ -1,5 +1,5 @@
 -- The heap that was taken has room, or goes back.
-use Rattle.std.proofs.Common.{◌∙◌, ℕ, ap, sym, subst, ⊎_elim}
+use Rattle.std.proofs.Common.{◌∙◌, ℕ, ap, sym, subst, arith, ⊎_elim}
 use Rattle.std.proofs.lemmas.Bool.Decides.{eqb_tells}
 use Rattle.hp_heap.specs.PlainHeap.{PlainHeap}
 use Rattle.hp_proc.specs.Progress.{IsInHand, moment_of}
@@ -58,3 +58,6 @@ returns-in-Err-clause-still g c = λ number few.
 
 pub returns-in-Err-clause-goes_on : goal.returns-in-Err-clause-goes_on
 returns-in-Err-clause-goes_on g c = g.met.H.Hall.goes_on_then _ _ _ c.take_heap.ensures.goes_on c.put.ensures.goes_on
+
+pub returns-in-Err-clause-clock : goal.returns-in-Err-clause-clock
+returns-in-Err-clause-clock g c = λ one. omega (arith, c.take_heap.ensures.clock one, c.put.ensures.clock)

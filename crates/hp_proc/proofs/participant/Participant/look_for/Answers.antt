@@ -1,5 +1,5 @@
 -- Heap after heap is looked into, until one has the element.
-use Rattle.std.proofs.Common.{◌∙◌, ℕ, ◌+◌, ◌<◌, List, ◌∷◌, ◌++◌, length, get_or, drop, Option, None, ap, sym, subst}
+use Rattle.std.proofs.Common.{◌∙◌, ℕ, ◌+◌, ◌<◌, List, ◌∷◌, ◌++◌, length, get_or, drop, Option, None, ap, sym, subst, arith}
 use Rattle.std.proofs.lemmas.List.{drop_more}
 use Rattle.std.proofs.lemmas.List.Elements.{Contains-get_or}
 use Rattle.hp_base.specs.declared.tag.Tag.{Tag}
@@ -62,6 +62,7 @@ loop-place-init g c =
       free = c.requires.free;
       home = c.requires.home;
       goes_on = g.met.H.Hall.goes_on_same hall;
+      clock = λ one. omega arith;
     }
 
 pub loop-place-preserved : goal.loop-place-preserved
@@ -106,6 +107,7 @@ loop-place-preserved g c =
       free = one.free;
       home = one.home;
       goes_on = g.met.H.Hall.goes_on_then _ _ _ was.goes_on one.goes_on;
+      clock = λ thread. omega (arith, was.clock thread, one.passed c.in_default.is thread);
     }
 
 pub look_in-requires-clause-place : goal.look_in-requires-clause-place
@@ -150,3 +152,18 @@ returns-in-Some-clause-does g c =
     (looked_on count (g.H.Hall.did old mid me) (g.H.Hall.did mid new me) (g.H.Hall.did old new me) tag found places index first between last
     (λ one two. g.met.H.Hall.did_then old mid new me one two) was.does nowhere c.loop-place-test.true c.in_ok-answer.field-0 looks) in
     does
+
+-- BY HOW MUCH IT CARRIES THE CLOCK
+
+pub returns-in_err-answer-clause-clock : goal.returns-in_err-answer-clause-clock
+returns-in_err-answer-clause-clock g c = λ one.
+    let was = c.loop-place.invariant in
+    omega (arith, was.clock one, c.look_in.ensures.clock one, was.same.deadline)
+
+pub returns-in-Some-clause-clock : goal.returns-in-Some-clause-clock
+returns-in-Some-clause-clock g c = λ one.
+    let was = c.loop-place.invariant in
+    omega (arith, was.clock one, c.look_in.ensures.clock one, was.same.deadline)
+
+pub returns-clause-clock : goal.returns-clause-clock
+returns-clause-clock g c = λ one. omega (arith, c.loop-place.invariant.clock one)

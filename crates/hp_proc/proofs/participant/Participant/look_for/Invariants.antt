@@ -1,5 +1,6 @@
 use Rattle.std.proofs.Common.{◌≡◌, ◌≤◌, ℕ, None, drop}
 use Rattle.hp_base.specs.declared.limits.TheConstants.{MAX_HEAPS}
+use Rattle.hp_proc.specs.Clocks.{RisesWithin}
 use Rattle.hp_proc.specs.Freeing.{acting, looking}
 use Rattle.hp_proc.specs.Party.{IsSameParty, with_calls}
 use Rattle.hp_proc.specs.Progress.{Does, MayDo, moment_of}
@@ -18,4 +19,5 @@ invariant-loop-place g l = record {
   free : (number : ℕ) → g.H.Hall.taken l.hall number ≡ None;
   home : (number : ℕ) → number ≤ MAX_HEAPS → g.H.Hall.may_take l.hall number;
   goes_on : g.H.Hall.goes_on l.fn.hall l.hall;
+  clock : RisesWithin g.H.Hall.pending g.H.Hall.is_busy 0 (g.H.Hall.clock l.fn.hall) (g.H.Hall.clock l.hall);
 }

@@ -1,5 +1,5 @@
 -- The element is not in the heap, or it was acted on and the coordinator is told where it has to be.
-use Rattle.std.proofs.Common.{ℕ, ◌∷◌, Option, subst}
+use Rattle.std.proofs.Common.{ℕ, ◌∷◌, Option, subst, arith}
 use Rattle.hp_proc.specs.Doing.{Doing}
 use Rattle.hp_proc.specs.Freeing.{acting, behind_looking, left_of, looking}
 use Rattle.hp_proc.specs.Progress.{Does, moment_of}
@@ -56,3 +56,17 @@ returns-clause-does g c = λ places.
 
 pub returns-clause-goes_on : goal.returns-clause-goes_on
 returns-clause-goes_on g c = g.met.H.Hall.goes_on_then _ _ _ c.look_there.ensures.goes_on c.tell.ensures.goes_on
+
+pub returns-in_err-left-clause-clock : goal.returns-in_err-left-clause-clock
+returns-in_err-left-clause-clock g c = λ one. omega (arith, c.look_there.ensures.clock one)
+
+pub returns-in_default-clause-clock : goal.returns-in_default-clause-clock
+returns-in_default-clause-clock g c = λ one. omega (arith, c.look_there.ensures.clock one)
+
+pub returns-in_err-answer-clause-clock : goal.returns-in_err-answer-clause-clock
+returns-in_err-answer-clause-clock g c = λ one.
+    omega (arith, c.look_there.ensures.clock one, c.tell.ensures.clock one, c.look_there.ensures.same.deadline)
+
+pub returns-clause-clock : goal.returns-clause-clock
+returns-clause-clock g c = λ one.
+    omega (arith, c.look_there.ensures.clock one, c.tell.ensures.clock one, c.look_there.ensures.same.deadline)

@@ -1,5 +1,5 @@
 -- A heap is held, looked into and given back.
-use Rattle.std.proofs.Common.{◌≡◌, ◌∙◌, ℕ, List, ◌∷◌, ◌++◌, Option, ap, sym, subst, ⊎_elim}
+use Rattle.std.proofs.Common.{◌≡◌, ◌∙◌, ℕ, List, ◌∷◌, ◌++◌, Option, ap, sym, subst, arith, ⊎_elim}
 use Rattle.std.proofs.lemmas.Bool.Decides.{eqb_tells}
 use Rattle.std.specs.Prelude.{slice_get, ◌<◌}
 use Rattle.hp_heap.specs.History.{HeapView}
@@ -186,3 +186,6 @@ pub returns-clause-goes_on : goal.returns-clause-goes_on
 returns-clause-goes_on g c =
     g.met.H.Hall.goes_on_then _ _ _ c.hold.ensures.goes_on
     (g.met.H.Hall.goes_on_then _ _ _ c.look_held-left.ensures.goes_on c.put.ensures.goes_on)
+
+pub returns-clause-clock : goal.returns-clause-clock
+returns-clause-clock g c = λ one. omega (arith, c.hold.ensures.clock one, c.look_held-left.ensures.clock, c.put.ensures.clock)

@@ -1,9 +1,11 @@
--- The table is tied along the reading of the clock, and the steps follow one another.
-use Rattle.std.proofs.Common.{◌≡◌, ◌∙◌, ◌+◌, true, [], ap, sym, subst}
+-- The table is tied along the reading of the clock, the steps follow one another, and the wait has ended.
+use Rattle.std.proofs.Common.{◌≡◌, ◌∙◌, ◌+◌, ◌≤◌, ◌⊎◌, ℕ, true, [], ap, sym, subst, arith}
+use Rattle.hp_proc.specs.AskSteps.{waits_until}
 use Rattle.hp_proc.specs.Party.{Party}
 use Rattle.hp_proc.specs.Tied.{IsTied}
-use Rattle.hp_proc.specs.Waiting.{IsWaited}
+use Rattle.hp_proc.specs.Waiting.{HasWaited, IsReading, IsWaited}
 use Rattle.hp_proc.proofs.AskDone.{does_notify}
+use Rattle.hp_proc.proofs.Rising.{wait_rises}
 use Rattle.hp_proc.proofs.Tying.{tied_since}
 use Rattle.hp_proc.proofs.participant.Participant.notify.Goals as goal
 
@@ -36,3 +38,36 @@ returns-clause-did g c =
           sent.1 waited.0 number c.send_notice.ensures.sent sent.2
           (subst (λ count. IsWaited count true c.send_notice.new.self c.wait.new.self waited.0 true) count waited.2),
     )
+
+pub returns-clause-awaited : goal.returns-clause-awaited
+returns-clause-awaited g c =
+    let since = c.now-since.result in
+    let still = c.now-since.ensures.clock ∙ c.send_notice.ensures.clock in (
+      since,
+      subst (λ (at : ℕ). IsReading (λ deadline. g.H.Hall.pending at deadline ≡ g.H.Hall.scale) since) still c.now-since.ensures.before,
+      subst (λ (until : ℕ). HasWaited true c.wait.new.self (g.H.Hall.pending (g.H.Hall.clock c.wait.new.hall)) until)
+          (c.waits_until-until.ensures ∙ ap (λ (party : Party). waits_until since party.deadline) c.send_notice.ensures.sent)
+          c.in_ok-_reading.ensures.reached,
+    )
+
+pub returns-clause-clock : goal.returns-clause-clock
+returns-clause-clock g c =
+    let party = c.args.self.now in
+    let mid = g.H.Hall.clock c.now-since.new.self in
+    let new = g.H.Hall.clock c.wait.new.hall in
+    let since = c.now-since.result in
+    wait_rises g.H.Hall.pending g.H.Hall.is_busy since party.deadline (g.H.Hall.clock c.args.hall.now) mid new
+    (c.now-since.ensures.clock ∙ c.send_notice.ensures.clock) (c.now-since.ensures.reached since (omega arith))
+    (subst (λ (until : ℕ). (new ≡ mid) ⊎ (new ≤ until))
+    (c.waits_until-until.ensures ∙ ap (λ (party : Party). waits_until since party.deadline) c.send_notice.ensures.sent) c.wait.ensures.clock)
+
+pub returns-in_err-_reading-clause-clock : goal.returns-in_err-_reading-clause-clock
+returns-in_err-_reading-clause-clock g c =
+    let party = c.args.self.now in
+    let mid = g.H.Hall.clock c.now-since.new.self in
+    let new = g.H.Hall.clock c.wait.new.hall in
+    let since = c.now-since.result in
+    wait_rises g.H.Hall.pending g.H.Hall.is_busy since party.deadline (g.H.Hall.clock c.args.hall.now) mid new
+    (c.now-since.ensures.clock ∙ c.send_notice.ensures.clock) (c.now-since.ensures.reached since (omega arith))
+    (subst (λ (until : ℕ). (new ≡ mid) ⊎ (new ≤ until))
+    (c.waits_until-until.ensures ∙ ap (λ (party : Party). waits_until since party.deadline) c.send_notice.ensures.sent) c.wait.ensures.clock)

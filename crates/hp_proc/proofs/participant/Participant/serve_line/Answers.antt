@@ -1,6 +1,7 @@
 -- An allocation line is served from the first of its heaps that has or gets memory for it, and its element is noted.
-use Rattle.std.proofs.Common.{◌∙◌, ℕ, List, map, refl, ap, sym, subst}
+use Rattle.std.proofs.Common.{◌∙◌, ◌*◌, ℕ, List, length, map, refl, ap, sym, subst}
 use Rattle.std.specs.Option.{option_map}
+use Rattle.hp_base.specs.declared.limits.TheConstants.{MAX_HEAPS}
 use Rattle.hp_hall.specs.Holding.{HeapPart}
 use Rattle.hp_hall.specs.Own.{Own}
 use Rattle.hp_log.specs.declared.log_record.LogRecord.{LogRecord}
@@ -8,13 +9,16 @@ use Rattle.hp_script.specs.declared.answer.Answer.{Answer}
 use Rattle.hp_script.specs.declared.answer.Answer.TheVariants as gives
 use Rattle.hp_segs.specs.declared.outcome.AskLog.{AskLog}
 use Rattle.hp_proc.specs.Allocating.{serving}
+use Rattle.hp_proc.specs.Clocks.{RisesWithin, longest_growth}
 use Rattle.hp_proc.specs.Contexts.{Context, named_heap}
 use Rattle.hp_proc.specs.Heaps.{NamedHeap, heaps_for, socket_heaps}
 use Rattle.hp_proc.specs.Lines.{tag_of}
 use Rattle.hp_proc.specs.Party.{IsSameParty, Party, after_answer, with_calls, with_context}
 use Rattle.hp_proc.specs.Progress.{Brings, MayDo, moment_of}
 use Rattle.hp_proc.specs.Tied.{IsTied}
+use Rattle.hp_proc.specs.declared.socket_heap.SocketHeap.{SocketHeap}
 use Rattle.hp_proc.proofs.AllocFacts.{line_answered}
+use Rattle.hp_proc.proofs.Rising.{few_places, rises_within}
 use Rattle.hp_proc.proofs.participant.Participant.serve_line.Goals as goal
 
 -- what its line left changes nothing of what it may do
@@ -105,3 +109,53 @@ returns-clause-tied g c =
     subst (λ (after : Party). IsTied (g.H.Hall.seen new who) (g.H.Hall.own new who) after.joined after.maps)
     (sym c.in_ok-note_answer.ensures.noted)
     (tied_answered c.args.line.now.line c.in_ok-answer.heap c.in_ok-answer.answer mid (g.H.Hall.seen new who) (g.H.Hall.own new who) tied)
+
+-- BY HOW MUCH IT CARRIES THE CLOCK
+
+pub returns-in_err-answer-clause-clock : goal.returns-in_err-answer-clause-clock
+returns-in_err-answer-clause-clock g c =
+    let party = c.args.self.now in
+    let start = c.reserve_element.new.self in
+    let places = c.in_ok-places.places.items in
+    let options = c.args.options.now in
+    let old = g.H.Hall.clock c.args.hall.now in
+    let new = g.H.Hall.clock c.serve_request.new.hall in
+    rises_within g.H.Hall.pending g.H.Hall.is_busy (length places) MAX_HEAPS (longest_growth party.deadline) old new
+    (few_places start.context.pools start.socket (option_map (λ name. name.text) options.heap) options.socket places
+    c.in_ok-places.ensures.heaps)
+    (subst (λ (party : Party). RisesWithin g.H.Hall.pending g.H.Hall.is_busy (length places * longest_growth party.deadline) old new)
+    c.reserve_element.ensures
+    (subst (λ (places : List SocketHeap). RisesWithin g.H.Hall.pending g.H.Hall.is_busy
+    (length places * longest_growth start.deadline) old new) c.deref.ensures.value c.serve_request.ensures.clock))
+
+pub returns-in_err-note_answer-clause-clock : goal.returns-in_err-note_answer-clause-clock
+returns-in_err-note_answer-clause-clock g c =
+    let party = c.args.self.now in
+    let start = c.reserve_element.new.self in
+    let places = c.in_ok-places.places.items in
+    let options = c.args.options.now in
+    let old = g.H.Hall.clock c.args.hall.now in
+    let new = g.H.Hall.clock c.serve_request.new.hall in
+    rises_within g.H.Hall.pending g.H.Hall.is_busy (length places) MAX_HEAPS (longest_growth party.deadline) old new
+    (few_places start.context.pools start.socket (option_map (λ name. name.text) options.heap) options.socket places
+    c.in_ok-places.ensures.heaps)
+    (subst (λ (party : Party). RisesWithin g.H.Hall.pending g.H.Hall.is_busy (length places * longest_growth party.deadline) old new)
+    c.reserve_element.ensures
+    (subst (λ (places : List SocketHeap). RisesWithin g.H.Hall.pending g.H.Hall.is_busy
+    (length places * longest_growth start.deadline) old new) c.deref.ensures.value c.serve_request.ensures.clock))
+
+pub returns-clause-clock : goal.returns-clause-clock
+returns-clause-clock g c =
+    let party = c.args.self.now in
+    let start = c.reserve_element.new.self in
+    let places = c.in_ok-places.places.items in
+    let options = c.args.options.now in
+    let old = g.H.Hall.clock c.args.hall.now in
+    let new = g.H.Hall.clock c.serve_request.new.hall in
+    rises_within g.H.Hall.pending g.H.Hall.is_busy (length places) MAX_HEAPS (longest_growth party.deadline) old new
+    (few_places start.context.pools start.socket (option_map (λ name. name.text) options.heap) options.socket places
+    c.in_ok-places.ensures.heaps)
+    (subst (λ (party : Party). RisesWithin g.H.Hall.pending g.H.Hall.is_busy (length places * longest_growth party.deadline) old new)
+    c.reserve_element.ensures
+    (subst (λ (places : List SocketHeap). RisesWithin g.H.Hall.pending g.H.Hall.is_busy
+    (length places * longest_growth start.deadline) old new) c.deref.ensures.value c.serve_request.ensures.clock))

@@ -3,6 +3,7 @@ use Rattle.std.proofs.Common.{◌≡◌, ◌∙◌, ◌+◌, ◌<◌, ◌∷◌,
 use Rattle.std.proofs.lemmas.List.{drop_all, drop_more}
 use Rattle.std.proofs.lemmas.List.Elements.{Contains-get_or}
 use Rattle.hp_proc.specs.Allocating.{serving, trying}
+use Rattle.hp_proc.specs.Clocks.{longest_growth}
 use Rattle.hp_proc.specs.Contexts.{Context, IsSocketHeapOf, named_heap}
 use Rattle.hp_proc.specs.Party.{IsSameParty, Party, with_calls}
 use Rattle.hp_proc.specs.Progress.{Brings, Does, MayDo, Moment, Tries}
@@ -12,6 +13,7 @@ use Rattle.hp_proc.proofs.AllocFacts.{socket_few}
 use Rattle.hp_proc.proofs.HallMoments.{at, told_alike}
 use Rattle.hp_proc.proofs.HandTried.{brings_then}
 use Rattle.hp_proc.proofs.Joining.{does_same, does_then}
+use Rattle.hp_proc.proofs.Rising.{rises_more, rises_within}
 use Rattle.hp_base.specs.declared.pool_line.PoolLine.{PoolLine}
 use Rattle.hp_base.specs.declared.request.Request.{Request}
 use Rattle.hp_base.specs.declared.tag.Tag.{Tag}
@@ -32,6 +34,8 @@ loop-place-init g c = record {
   free = c.requires.free;
   home = c.requires.home;
   goes_on = g.met.H.Hall.goes_on_same _;
+  along = omega arith;
+  clock = λ one. omega arith;
 }
 
 pub try_heap-requires-clause-serves : goal.try_heap-requires-clause-serves
@@ -145,6 +149,10 @@ loop-place-preserved g c =
       free = one.free;
       home = one.home;
       goes_on = g.met.H.Hall.goes_on_then _ _ _ was.goes_on one.goes_on;
+      along = omega (arith, c.loop-place-test.true);
+      clock = rises_more g.H.Hall.pending g.H.Hall.is_busy i (longest_growth c.args.self.now.deadline)
+          (longest_growth c.loop-place.self.deadline) (g.H.Hall.clock first) (g.H.Hall.clock second) (g.H.Hall.clock third)
+          (ap longest_growth was.same.deadline) was.clock one.clock;
     }
 
 pub returns-in-Some-clause-does : goal.returns-in-Some-clause-does
@@ -239,3 +247,35 @@ returns-then-is_empty-clause-does g c =
 pub returns-clause-ready : goal.returns-clause-ready
 returns-clause-ready g c =
     subst (λ (who : ℕ). MayDo (at g.H.Hall.count g.H.Hall.did g.H.Hall.part g.H.Hall.seen g.H.Hall.heard c.loop-place.hall who c.loop-place.self)) c.loop-place.invariant.same.me c.loop-place.invariant.ready
+
+-- BY HOW MUCH IT CARRIES THE CLOCK
+
+pub returns-in_err-answer-clause-clock : goal.returns-in_err-answer-clause-clock
+returns-in_err-answer-clause-clock g c =
+    let was = c.loop-place.invariant in
+    let party = c.args.self.now in
+    let old = g.H.Hall.clock c.args.hall.now in
+    let new = g.H.Hall.clock c.try_heap.new.hall in
+    let index = c.loop-place.place-index in
+    rises_within g.H.Hall.pending g.H.Hall.is_busy (index + 1) (length c.args.places.now) (longest_growth party.deadline) old new
+    (omega (arith, c.loop-place-test.true))
+    (rises_more g.H.Hall.pending g.H.Hall.is_busy index (longest_growth party.deadline) (longest_growth c.loop-place.self.deadline) old
+    (g.H.Hall.clock c.loop-place.hall) new (ap longest_growth was.same.deadline) was.clock c.try_heap.ensures.clock)
+
+pub returns-in-Some-clause-clock : goal.returns-in-Some-clause-clock
+returns-in-Some-clause-clock g c =
+    let was = c.loop-place.invariant in
+    let party = c.args.self.now in
+    let old = g.H.Hall.clock c.args.hall.now in
+    let new = g.H.Hall.clock c.try_heap.new.hall in
+    let index = c.loop-place.place-index in
+    rises_within g.H.Hall.pending g.H.Hall.is_busy (index + 1) (length c.args.places.now) (longest_growth party.deadline) old new
+    (omega (arith, c.loop-place-test.true))
+    (rises_more g.H.Hall.pending g.H.Hall.is_busy index (longest_growth party.deadline) (longest_growth c.loop-place.self.deadline) old
+    (g.H.Hall.clock c.loop-place.hall) new (ap longest_growth was.same.deadline) was.clock c.try_heap.ensures.clock)
+
+pub returns-clause-clock : goal.returns-clause-clock
+returns-clause-clock g c =
+    let was = c.loop-place.invariant in
+    rises_within g.H.Hall.pending g.H.Hall.is_busy c.loop-place.place-index (length c.args.places.now)
+    (longest_growth c.args.self.now.deadline) (g.H.Hall.clock c.args.hall.now) (g.H.Hall.clock c.loop-place.hall) was.along was.clock

@@ -1,6 +1,7 @@
-use Rattle.std.proofs.Common.{◌≡◌, ◌<◌, ◌≤◌, ℕ, drop, map, None}
+use Rattle.std.proofs.Common.{◌≡◌, ◌*◌, ◌<◌, ◌≤◌, ℕ, drop, length, map, None}
 use Rattle.hp_base.specs.declared.limits.TheConstants.{MAX_HEAPS}
 use Rattle.hp_proc.specs.Allocating.{trying}
+use Rattle.hp_proc.specs.Clocks.{RisesWithin, longest_growth}
 use Rattle.hp_proc.specs.Contexts.{named_heap}
 use Rattle.hp_proc.specs.Party.{IsSameParty, with_calls}
 use Rattle.hp_proc.specs.Progress.{Does, MayDo}
@@ -23,4 +24,7 @@ invariant-loop-place g l = record {
   free : (number : ℕ) → g.H.Hall.taken l.hall number ≡ None;
   home : (number : ℕ) → number ≤ MAX_HEAPS → g.H.Hall.may_take l.hall number;
   goes_on : g.H.Hall.goes_on l.fn.hall l.hall;
+  along : l.place-index ≤ length l.fn.places;
+  clock : RisesWithin g.H.Hall.pending g.H.Hall.is_busy (l.place-index * longest_growth l.fn.self.deadline) (g.H.Hall.clock l.fn.hall)
+      (g.H.Hall.clock l.hall);
 }

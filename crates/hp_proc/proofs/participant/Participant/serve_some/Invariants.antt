@@ -1,9 +1,8 @@
 use Rattle.std.proofs.Common.{◌≡◌, ◌+◌, ◌*◌, ◌≤◌, ℕ, List}
 use Rattle.std.specs.Prelude.{nat_lt}
 use Rattle.hp_hall.specs.Mail.{MailStep}
-use Rattle.hp_proc.specs.Falling.{own_weight}
+use Rattle.hp_proc.specs.Falling.{if_moved, own_weight}
 use Rattle.hp_proc.specs.Party.{IsSameParty}
-use Rattle.hp_proc.specs.Solo.{if_moved}
 use Rattle.hp_proc.specs.Tied.{IsTied}
 use Rattle.hp_proc.specs.Waiting.{AreServings}
 use Rattle.hp_proc.proofs.participant.Participant.serve_some.Given as goal

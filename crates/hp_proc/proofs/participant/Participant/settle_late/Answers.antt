@@ -1,9 +1,10 @@
 -- It awaits its answer as it did before the wait, its table is tied along the settling, and the steps follow one another.
-use Rattle.std.proofs.Common.{◌≤◌, [], ◌∷◌, refl, sym, subst}
+use Rattle.std.proofs.Common.{◌≡◌, ◌≤◌, ◌⊎◌, ℕ, [], ◌∷◌, refl, sym, subst}
 use Rattle.hp_proc.specs.Asking.{IsAwaiting, after_settling}
 use Rattle.hp_proc.specs.Serving.{gives_segments, takes_segments}
 use Rattle.hp_proc.proofs.AskedAlong.{awaits_along}
 use Rattle.hp_proc.proofs.Tying.{tied_since}
+use Rattle.hp_proc.proofs.Waits.{clock_still}
 use Rattle.hp_proc.proofs.participant.Participant.settle_late.Goals as goal
 
 pub settle-run-requires-clause-awaits : goal.settle-run-requires-clause-awaits
@@ -39,3 +40,10 @@ returns-clause-did g c =
         are = refl;
       },
     )
+
+pub returns-clause-clock : goal.returns-clause-clock
+returns-clause-clock g c =
+    let old = g.H.Hall.clock c.args.hall.now in
+    let new = g.H.Hall.clock c.settle-run.new.hall in
+    subst (λ (until : ℕ). (new ≡ old) ⊎ (new ≤ until)) c.waits_until-until.ensures
+    (clock_still c.waits_until-until.result old (g.H.Hall.clock c.wait.new.hall) new c.settle-run.ensures.clock c.wait.ensures.clock)

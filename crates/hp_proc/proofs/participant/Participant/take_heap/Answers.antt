@@ -31,6 +31,7 @@ taking-init g c = record {
   home = c.requires.home;
   part = λ heap. refl;
   goes_on = g.met.H.Hall.goes_on_same _;
+  clock = λ one. omega arith;
 }
 
 pub try_take-requires-clause-serves : goal.try_take-requires-clause-serves
@@ -144,6 +145,9 @@ returns-in-Ok-clause-home g c = λ number few apart. c.in-Ok.ensures.home_of_oth
 pub returns-in-Ok-clause-goes_on : goal.returns-in-Ok-clause-goes_on
 returns-in-Ok-clause-goes_on g c = g.met.H.Hall.goes_on_then _ _ _ c.taking.invariant.goes_on c.in-Ok.ensures.goes_on
 
+pub returns-in-Ok-clause-clock : goal.returns-in-Ok-clause-clock
+returns-in-Ok-clause-clock g c = λ one. omega (arith, c.taking.invariant.clock one, c.in-Ok.ensures.clock)
+
 -- ANOTHER ONE HOLDS IT
 
 pub turn-requires-clause-serves : goal.turn-requires-clause-serves
@@ -214,6 +218,7 @@ taking-preserved g c =
           (ap (λ (party : Party). party.me) c.self.view_is ∙ me) (tried.same_part heap)
           ∙ was.part heap;
       goes_on = g.met.H.Hall.goes_on_then _ _ _ was.goes_on (g.met.H.Hall.goes_on_then _ _ _ tried.goes_on is.goes_on);
+      clock = λ one. absurd (one.free c.try_take.new.self tried.busy);
     }
 
 -- SOMEBODY STOPPED
@@ -252,3 +257,7 @@ pub returns-in_err-turn-in-Err-clause-goes_on : goal.returns-in_err-turn-in-Err-
 returns-in_err-turn-in-Err-clause-goes_on g c =
     g.met.H.Hall.goes_on_then _ _ _ c.taking.invariant.goes_on
     (g.met.H.Hall.goes_on_then _ _ _ c.in-Err.ensures.goes_on c.turn.ensures.goes_on)
+
+-- in one thread nobody does
+pub returns-in_err-turn-in-Err-clause-clock : goal.returns-in_err-turn-in-Err-clause-clock
+returns-in_err-turn-in-Err-clause-clock g c = λ one. absurd (one.free c.try_take.new.self c.in-Err.ensures.busy)

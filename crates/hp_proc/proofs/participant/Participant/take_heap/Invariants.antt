@@ -2,6 +2,7 @@ use Rattle.std.proofs.Common.{◌≡◌, ◌+◌, ◌-◌, ◌^◌, ◌≤◌, �
 use Rattle.hp_base.specs.declared.limits.TheConstants.{MAX_HEAPS}
 use Rattle.hp_hall.specs.Mail.{MailStep}
 use Rattle.hp_proc.specs.Acting.{Acts}
+use Rattle.hp_proc.specs.Clocks.{RisesWithin}
 use Rattle.hp_proc.specs.Falling.{own_weight}
 use Rattle.hp_proc.specs.Party.{IsSameParty}
 use Rattle.hp_proc.specs.Tied.{IsTied}
@@ -18,6 +19,7 @@ invariant-taking g l = record {
   home : (number : ℕ) → number ≤ MAX_HEAPS → g.H.Hall.may_take l.hall number;
   part : (heap : ℕ) → g.H.Hall.part l.hall l.fn.self.me heap ≡ g.H.Hall.part l.fn.hall l.fn.self.me heap;
   goes_on : g.H.Hall.goes_on l.fn.hall l.hall;
+  clock : RisesWithin g.H.Hall.pending g.H.Hall.is_busy 0 (g.H.Hall.clock l.fn.hall) (g.H.Hall.clock l.hall);
 }
 
 abbrev pub decreases-taking : goal.decreases-taking

@@ -215,3 +215,10 @@ pub returns-clause-goes_on : goal.returns-clause-goes_on
 returns-clause-goes_on g c =
     g.met.H.Hall.goes_on_then _ _ _ (g.met.H.Hall.goes_on_then _ _ _ c.hold.ensures.goes_on c.allocate_held-given.ensures.goes_on)
     c.put.ensures.goes_on
+
+pub returns-in_err-heap-clause-clock : goal.returns-in_err-heap-clause-clock
+returns-in_err-heap-clause-clock g c = λ one. omega (arith, c.hold.ensures.clock one)
+
+pub returns-clause-clock : goal.returns-clause-clock
+returns-clause-clock g c = λ one.
+    omega (arith, c.hold.ensures.clock one, c.allocate_held-given.ensures.clock one, c.put.ensures.clock, c.hold.ensures.same.deadline)

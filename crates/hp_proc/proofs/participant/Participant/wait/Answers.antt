@@ -1,5 +1,5 @@
 -- One turn more, or the last reading.
-use Rattle.std.proofs.Common.{◌≡◌, ◌∙◌, ℕ, suc, ◌++◌, List, [], None, Some, refl, ap, sym, subst, inl, arith}
+use Rattle.std.proofs.Common.{◌≡◌, ◌∙◌, ℕ, suc, ◌++◌, List, [], None, Some, refl, ap, sym, subst, inl, inr, ⊎_elim, arith}
 use Rattle.std.specs.Prelude.{is_ok}
 use Rattle.std.proofs.lemmas.List.{append-nil}
 use Rattle.std.proofs.lemmas.Result.{err_from_is_err_and}
@@ -61,6 +61,10 @@ returns-then-over-clause-over g c = c.ends_wait-over.ensures.over c.if-over.true
 pub returns-then-over-clause-waited : goal.returns-then-over-clause-waited
 returns-then-over-clause-waited g c = λ unheeding.
     past_deadline c.args.heeds c.waiting.self c.args.until c.now-reading.result unheeding (c.ends_wait-over.ensures.over c.if-over.true)
+
+pub returns-then-over-clause-reached : goal.returns-then-over-clause-reached
+returns-then-over-clause-reached g c =
+    ⊎_elim (λ over. inl over) (λ late. inr (c.now-reading.ensures.reached c.args.until late)) (c.ends_wait-over.ensures.over c.if-over.true)
 
 pub returns-then-over-clause-reading : goal.returns-then-over-clause-reading
 returns-then-over-clause-reading g c = c.now-reading.ensures.before
@@ -212,6 +216,11 @@ returns-in_err-turn-clause-over g c =
 
 pub returns-in_err-turn-clause-waited : goal.returns-in_err-turn-clause-waited
 returns-in_err-turn-clause-waited g c = λ unheeding.
+    let stopped = err_from_is_err_and c.from_residual.result c.from_residual.ensures.1 in
+    if_no_ok c.from_residual.result _ _ stopped.1
+
+pub returns-in_err-turn-clause-reached : goal.returns-in_err-turn-clause-reached
+returns-in_err-turn-clause-reached g c =
     let stopped = err_from_is_err_and c.from_residual.result c.from_residual.ensures.1 in
     if_no_ok c.from_residual.result _ _ stopped.1
 

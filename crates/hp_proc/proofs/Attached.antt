@@ -1,0 +1,73 @@
+-- A participant that attaches or detaches: the table that it is left with, and the segment value that it gives back.
+use Rattle.std.proofs.Common.{◌≡◌, ◌∙◌, ℕ, ◌≤◌, Bool, true, false, List, [], Option, length, refl, ap, sym, arith}
+use Rattle.std.specs.Prelude.{slice_set}
+use Rattle.std.proofs.lemmas.List.{set-get_or}
+use Rattle.hp_base.specs.Mapping.{Held, is_done, owned}
+use Rattle.hp_base.specs.declared.caught.Caught.{Caught}
+use Rattle.hp_base.specs.declared.caught.Caught.TheVariants.{Done, Refused, Elsewhere}
+use Rattle.hp_base.specs.declared.limits.TheConstants.{MAX_SEGMENTS}
+use Rattle.hp_base.specs.declared.map_answer.MapAnswer.{MapAnswer}
+use Rattle.hp_base.specs.declared.row.Row.{Row}
+use Rattle.hp_hall.specs.Own.{Own}
+use Rattle.hp_log.specs.declared.log_record.LogRecord.{LogRecord}
+use Rattle.hp_maps.specs.MapsView.{IsMapped, MapsView}
+use Rattle.hp_segs.specs.LaterSteps.{after_join, after_leave}
+use Rattle.hp_segs.specs.SegsView.{SegsView, is_member}
+use Rattle.hp_proc.specs.Attaching.{emptied, table_left}
+use Rattle.hp_proc.specs.Tied.{IsTied}
+
+-- a table of which all is unmapped is emptied
+pub emptied_is : (old new : MapsView) → new.rows ≡ [] → new.number ≡ 0 → new.answers ≡ old.answers → new.capacity ≡ old.capacity
+    → new.faults ≡ old.faults → new.may_fail ≡ old.may_fail → IsMapped new → new ≡ emptied old
+emptied_is old new rows number answers capacity faults may_fail mapped =
+    ap (λ (held : List Held). record new { held = held }) mapped
+    ∙ ap (λ (rows : List Row). record new { rows = rows; held = owned rows }) rows
+    ∙ ap (λ (number : ℕ). record new { rows = []; number = number; held = [] }) number
+    ∙ ap (λ (answers : List MapAnswer). record new { rows = []; number = 0; answers = answers; held = [] }) answers
+    ∙ ap (λ (capacity : ℕ). record new { rows = []; number = 0; capacity = capacity; answers = old.answers; held = [] }) capacity
+    ∙ ap (λ (faults : ℕ). record new {
+      rows = [];
+      number = 0;
+      capacity = old.capacity;
+      answers = old.answers;
+      faults = faults;
+      held = [];
+    }) faults
+    ∙ ap (λ (may_fail : Option (List ℕ)). record old { rows = []; number = 0; may_fail = may_fail; held = [] }) may_fail
+
+-- an emptied table is that of a participant that is out, whatever it has acknowledged
+pub emptied_tied : (log : List LogRecord) (own : Own) (maps : MapsView) → own.number ≤ length log → MAX_SEGMENTS ≤ maps.capacity
+    → IsTied log own false (emptied maps)
+emptied_tied log own maps within room = record {
+  within = within;
+  table = record {
+    number = refl;
+    lags = record { reached = 0; from = omega arith; up_to = omega arith; left = refl };
+    seen = omega arith;
+    chunks = refl;
+    room = room;
+  };
+}
+
+-- where a mapping failed, the table that is left is emptied
+pub left_emptied : (caught : Caught) (maps : MapsView) → is_done caught ≡ false → emptied maps ≡ table_left caught maps
+left_emptied Done maps failed = cc
+left_emptied (Refused row call) maps failed = refl
+left_emptied (Elsewhere row call got) maps failed = refl
+
+-- and else it is the whole one
+pub left_whole : (caught : Caught) (maps : MapsView) → is_done caught ≡ true → maps ≡ table_left caught maps
+left_whole Done maps done = refl
+left_whole (Refused row call) maps done = cc
+left_whole (Elsewhere row call got) maps done = cc
+
+-- who is in the roster comes in once more, and who is out leaves it once more
+pub joined_same : (who : ℕ) (segs : SegsView) → is_member segs.roster who ≡ true → segs ≡ after_join who segs
+joined_same who segs is =
+    ap (λ (roster : List Bool). record segs { roster = roster })
+    (sym (ap (λ (member : Bool). slice_set segs.roster who member) (sym is) ∙ set-get_or segs.roster who false))
+
+pub left_same : (who : ℕ) (segs : SegsView) → is_member segs.roster who ≡ false → segs ≡ after_leave who segs
+left_same who segs is =
+    ap (λ (roster : List Bool). record segs { roster = roster })
+    (sym (ap (λ (member : Bool). slice_set segs.roster who member) (sym is) ∙ set-get_or segs.roster who false))

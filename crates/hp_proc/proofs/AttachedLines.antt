@@ -1,0 +1,312 @@
+-- What was done of a line that attaches or detaches, and what it leaves.
+use Rattle.std.proofs.Common.{◌≡◌, ◌≢◌, ◌∙◌, ℕ, ◌<◌, Bool, true, false, List, [], ◌∷◌, ◌++◌, append-nil, length, None, refl, ap, sym, subst, arith}
+use Rattle.hp_base.specs.declared.caught.Caught.{Caught}
+use Rattle.hp_base.specs.declared.caught.Caught.TheVariants.{Done, Refused, Elsewhere}
+use Rattle.hp_hall.specs.Holding.{HeapPart}
+use Rattle.hp_hall.specs.Mail.{MailStep}
+use Rattle.hp_log.specs.declared.log_record.LogRecord.{LogRecord}
+use Rattle.hp_script.specs.declared.answer.Answer.{Answer}
+use Rattle.hp_script.specs.declared.answer.Answer.TheVariants as answer
+use Rattle.hp_script.specs.declared.line.Act.{Act}
+use Rattle.hp_script.specs.declared.line.Act.TheVariants as act
+use Rattle.hp_script.specs.declared.line.Line.{Line}
+use Rattle.hp_segs.specs.LaterSteps.{after_leave}
+use Rattle.hp_segs.specs.SegsView.{SegsView}
+use Rattle.hp_segs.specs.declared.outcome.AskLog.{AskLog}
+use Rattle.hp_proc.specs.Acting.{Acts, AreAsked}
+use Rattle.hp_proc.specs.Attaching.{Attaches, after_attaching, after_detaching, standing_tried}
+use Rattle.hp_proc.specs.Contexts.{AreFactsOf, Context, after_calls}
+use Rattle.hp_proc.specs.Courses.{HasRequest, Standing, after_line, attached_after, element_brought, records_after}
+use Rattle.hp_proc.specs.Doing.{Doing, Done as Did, Goes, Leads}
+use Rattle.hp_proc.specs.Doing.Done.{CaughtUp, Looked}
+use Rattle.hp_proc.specs.Lines.{Facts, attached_with, attaching, doing_of, if_attached}
+use Rattle.hp_proc.specs.Party.{IsSameParty, Party, with_standing}
+use Rattle.hp_proc.specs.Progress.{Does, DoesLine, IsLineBuilt, IsLineOfOne, MayDo, Moment, moment_of}
+use Rattle.hp_proc.specs.Serving.{gives_segments, takes_segments}
+use Rattle.hp_proc.specs.declared.own_element.OwnElement.{OwnElement}
+use Rattle.hp_proc.proofs.AllocFacts.{does_noted}
+use Rattle.hp_proc.proofs.HandTried.{none_done}
+use Rattle.hp_proc.proofs.Joining.{context_still, does_same, does_still, does_then}
+use Rattle.hp_proc.proofs.LineFacts.{facts_for, facts_known}
+
+-- a line that is built is one of a participant that is alone, or one that attaches or detaches
+pub built_one : (who : ℕ) (deed : Act) → IsLineOfOne deed → IsLineBuilt who deed
+built_one who (act.Alloc label size options) is = tt
+built_one who (act.Free label) is = tt
+built_one who (act.Resize label size) is = tt
+built_one who (act.Dump heap) is = tt
+built_one who _ is = absurd is
+
+-- one that neither attaches nor detaches is one of a participant that is alone
+pub one_built : (who : ℕ) (deed : Act) → IsLineBuilt who deed → deed ≢ act.Attach → deed ≢ act.Detach → IsLineOfOne deed
+one_built who (act.Alloc label size options) is other stays = tt
+one_built who (act.Free label) is other stays = tt
+one_built who (act.Resize label size) is other stays = tt
+one_built who (act.Dump heap) is other stays = tt
+one_built who act.Attach is other stays = absurd (other refl)
+one_built who act.Detach is other stays = absurd (stays refl)
+one_built who _ is other stays = absurd is
+
+-- one that attaches needs no request, and one that detaches neither
+known_none : (socket : ℕ) (context : Context) (line : Line) (deed : Act) → line.act ≡ deed → HasRequest deed None
+    → AreFactsOf socket context line (facts_for socket context line.act None)
+known_none socket context line deed is has =
+    facts_known socket context line None (subst (λ (done : Act). HasRequest done None) (sym is) has)
+
+-- what a line leaves that tried to attach
+tried_leaves : (line : Line) (records : ℕ) (caught : Caught) (given : Answer) (trace : List Did) (standing : Standing)
+    → attached_with records caught ≡ Doing.Ended given
+    → standing_tried records caught standing ≡ record {
+      attached = attached_after act.Attach given standing.attached;
+      records = records_after act.Attach given standing.records;
+      elements = standing.elements ++ element_brought line act.Attach given trace;
+    }
+tried_leaves line records Done given trace standing is =
+    let same : answer.Records records ≡ given = cc in
+    ap (λ (elements : List OwnElement). record standing { attached = true; records = records; elements = elements })
+    (sym (append-nil standing.elements))
+    ∙ ap (λ (given : Answer). record {
+      attached = attached_after act.Attach given standing.attached;
+      records = records_after act.Attach given standing.records;
+      elements = standing.elements ++ element_brought line act.Attach given trace;
+    }) same
+tried_leaves line records (Refused row call) given trace standing is =
+    let same : answer.Refused call ≡ given = cc in
+    ap (λ (elements : List OwnElement). record standing { elements = elements }) (sym (append-nil standing.elements))
+    ∙ ap (λ (given : Answer). record {
+      attached = attached_after act.Attach given standing.attached;
+      records = records_after act.Attach given standing.records;
+      elements = standing.elements ++ element_brought line act.Attach given trace;
+    }) same
+tried_leaves line records (Elsewhere row call got) given trace standing is =
+    let same : answer.Refused call ≡ given = cc in
+    ap (λ (elements : List OwnElement). record standing { elements = elements }) (sym (append-nil standing.elements))
+    ∙ ap (λ (given : Answer). record {
+      attached = attached_after act.Attach given standing.attached;
+      records = records_after act.Attach given standing.records;
+      elements = standing.elements ++ element_brought line act.Attach given trace;
+    }) same
+
+-- what was left of a line with that act is what its act says
+left_by : (line : Line) (deed : Act) (given : Answer) (trace : List Did) (standing left : Standing) → line.act ≡ deed
+    → left ≡ record {
+      attached = attached_after deed given standing.attached;
+      records = records_after deed given standing.records;
+      elements = standing.elements ++ element_brought line deed given trace;
+    } → left ≡ after_line line given trace standing
+left_by line deed given trace standing left is leaves =
+    leaves ∙ ap (λ (deed : Act). record {
+      attached = attached_after deed given standing.attached;
+      records = records_after deed given standing.records;
+      elements = standing.elements ++ element_brought line deed given trace;
+    }) (sym is)
+
+-- a participant that may do its line may do the next one whatever it noted
+pub ready_noted : (party after : Party) (parts : ℕ → HeapPart) (log : List LogRecord) (asks : List AskLog) (standing : Standing)
+    → after ≡ with_standing standing party → MayDo (moment_of party parts log asks) → MayDo (moment_of after parts log asks)
+ready_noted party after parts log asks standing noted ready =
+    subst (λ (after : Party). MayDo (moment_of after parts log asks)) (sym noted)
+    (record { sockets = ready.sockets; unheld = ready.unheld; settled = ready.settled; counted = ready.counted })
+
+-- who attached, or tried to, or detached, is the same participant, with what it knew
+pub attached_same : (party mid : Party) (log : List LogRecord) (caught : Caught) → Attaches party mid log caught → IsSameParty party mid
+attached_same party mid log caught at = record {
+  me = ap (λ (party : Party). party.me) at.after_is;
+  socket = ap (λ (party : Party). party.socket) at.after_is;
+  plan = ap (λ (party : Party). party.plan) at.after_is;
+  deadline = ap (λ (party : Party). party.deadline) at.after_is;
+  context = ap (λ (party : Party). party.context) at.after_is;
+}
+
+pub detached_same : (party mid : Party) → mid ≡ after_detaching party → IsSameParty party mid
+detached_same party mid is = record {
+  me = ap (λ (party : Party). party.me) is;
+  socket = ap (λ (party : Party). party.socket) is;
+  plan = ap (λ (party : Party). party.plan) is;
+  deadline = ap (λ (party : Party). party.deadline) is;
+  context = ap (λ (party : Party). party.context) is;
+}
+
+-- where all was mapped, its table has taken in as many records as the log has; where not, nothing is said of records
+number_whole : (party mid : Party) (log : List LogRecord) → Attaches party mid log Done → mid.maps.number ≡ length log
+number_whole party mid log at = ap (λ (party : Party). party.maps.number) at.after_is ∙ at.caught_up.number
+
+answered_alike : (party mid : Party) (log : List LogRecord) (caught : Caught) → Attaches party mid log caught
+    → attached_with (length log) caught ≡ attached_with mid.maps.number caught
+answered_alike party mid log Done at = ap (λ (records : ℕ). attached_with records Done) (sym (number_whole party mid log at))
+answered_alike party mid log (Refused row call) at = refl
+answered_alike party mid log (Elsewhere row call got) at = refl
+
+tried_alike : (party mid : Party) (log : List LogRecord) (caught : Caught) (standing : Standing) → Attaches party mid log caught
+    → standing_tried mid.maps.number caught standing ≡ standing_tried (length log) caught standing
+tried_alike party mid log Done standing at = ap (λ (records : ℕ). standing_tried records Done standing) (number_whole party mid log at)
+tried_alike party mid log (Refused row call) standing at = refl
+tried_alike party mid log (Elsewhere row call got) standing at = refl
+
+module _ (count : ℕ) (did : List MailStep → Type 0) (line : Line) (party : Party) (parts : ℕ → HeapPart) (log : List LogRecord)
+    (asks : List AskLog) where
+  abbrev before : Moment
+  before = moment_of party parts log asks
+
+  abbrev facts : Facts
+  facts = facts_for party.socket party.context line.act None
+
+  -- who is attached already does nothing of a line that attaches
+  pub line_already : line.act ≡ act.Attach → party.context.standing.attached ≡ true → did []
+      → DoesLine count did line answer.Already before before
+  unfolding doing_of
+  line_already its_act attached none =
+      let tree : doing_of line line.act facts ≡ Doing.Ended answer.Already =
+      ap (λ (deed : Act). doing_of line deed facts) its_act ∙ ap attaching attached in
+      let does : Does count did (doing_of line line.act facts) (Doing.Ended answer.Already) before before =
+      subst (λ (doing : Doing). Does count did doing (Doing.Ended answer.Already) before before) (sym tree)
+      (does_same count did (Doing.Ended answer.Already) before none) in
+      record {
+        facts = facts;
+        known = known_none party.socket party.context line act.Attach its_act tt;
+        does = does;
+        left = left_by line act.Attach answer.Already does.trace party.context.standing party.context.standing its_act
+            (ap (λ (elements : List OwnElement). record party.context.standing { elements = elements })
+            (sym (append-nil party.context.standing.elements)));
+      }
+
+  -- who is out does nothing of a line that detaches
+  pub line_detached : line.act ≡ act.Detach → party.context.standing.attached ≡ false → did []
+      → DoesLine count did line answer.Detached before before
+  unfolding doing_of
+  line_detached its_act attached none =
+      let tree : doing_of line line.act facts ≡ Doing.Ended answer.Detached =
+      ap (λ (deed : Act). doing_of line deed facts) its_act
+      ∙ ap (λ (attached : Bool). if_attached attached (Doing.Ended answer.Done)) attached in
+      let does : Does count did (doing_of line line.act facts) (Doing.Ended answer.Detached) before before =
+      subst (λ (doing : Doing). Does count did doing (Doing.Ended answer.Detached) before before) (sym tree)
+      (does_same count did (Doing.Ended answer.Detached) before none) in
+      record {
+        facts = facts;
+        known = known_none party.socket party.context line act.Detach its_act tt;
+        does = does;
+        left = left_by line act.Detach answer.Detached does.trace party.context.standing party.context.standing its_act
+            (ap (λ (elements : List OwnElement). record party.context.standing { elements = elements })
+            (sym (append-nil party.context.standing.elements)));
+      }
+
+  module _ (mid after : Party) (later : ℕ → HeapPart) (now more : List LogRecord) (heard others : List AskLog)
+      (alike : (heap : ℕ) → later heap ≡ parts heap) (log_is : now ≡ log ++ more) (asks_is : heard ≡ asks ++ others) where
+    abbrev behind : Moment
+    behind = moment_of after later now heard
+
+    -- what it knew of its lines, but for what the line left
+    known_but : (knew : Context) (standing : Standing) → knew ≡ party.context
+        → record knew { standing = standing } ≡ record (after_calls 0 party.context) { standing = standing }
+    known_but knew standing same =
+        ap (λ (context : Context). record context { standing = standing }) same
+        ∙ ap (λ (calls : ℕ). record party.context { standing = standing; calls = calls }) (omega arith)
+
+    -- it looked at the log and caught up with it, or tried to, and noted what that left
+    does_attach : (taken : SegsView) (caught : Caught) → Attaches party mid taken.log caught
+        → after ≡ with_standing (standing_tried (length taken.log) caught mid.context.standing) mid
+        → did (takes_segments taken ∷ gives_segments (after_attaching party.me caught taken) ∷ [])
+        → Does count did (attaching false) (attached_with (length taken.log) caught) before behind
+    unfolding Leads Goes AreAsked
+    does_attach taken caught attaches noted made =
+        let same = attached_same party mid taken.log caught attaches in
+        let left : Standing = standing_tried (length taken.log) caught mid.context.standing in
+        subst
+        (λ (after : Party). Does count did (attaching false) (attached_with (length taken.log) caught) before (moment_of after later now heard))
+        (sym noted)
+        (record {
+          trace = Looked (length taken.log) ∷ CaughtUp (length taken.log) caught ∷ [];
+          steps = takes_segments taken ∷ gives_segments (after_attaching party.me caught taken) ∷ [];
+          leads = (length taken.log, refl, (caught, refl, refl));
+          made = made;
+          acts = Acts.attaches party mid taken caught attaches;
+          entries = λ heap. ap (λ (part : HeapPart). part.entries) (alike heap) ∙ sym (append-nil (parts heap).entries);
+          serves = λ heap. ap (λ (part : HeapPart). part.serves) (alike heap);
+          counted = known_but mid.context left same.context;
+          same = record { me = same.me; socket = same.socket; plan = same.plan; deadline = same.deadline; context = refl };
+          asked = ap (λ (party : Party). party.asked) attaches.after_is;
+          more = more;
+          log = log_is;
+          outcomes = others;
+          asks = asks_is;
+        })
+
+    -- it left the roster, and noted that
+    does_detach : (doing : Doing) (taken : SegsView) → 0 < party.me
+        → after ≡ with_standing (record party.context.standing { attached = false }) (after_detaching party)
+        → did (takes_segments taken ∷ gives_segments (after_leave party.me taken) ∷ []) → Does count did doing doing before behind
+    unfolding Leads AreAsked
+    does_detach doing taken secondary noted made =
+        subst (λ (after : Party). Does count did doing doing before (moment_of after later now heard)) (sym noted) (record {
+          trace = [];
+          steps = takes_segments taken ∷ gives_segments (after_leave party.me taken) ∷ [];
+          leads = refl;
+          made = made;
+          acts = Acts.detaches party taken secondary;
+          entries = λ heap. ap (λ (part : HeapPart). part.entries) (alike heap) ∙ sym (append-nil (parts heap).entries);
+          serves = λ heap. ap (λ (part : HeapPart). part.serves) (alike heap);
+          counted = known_but party.context (record party.context.standing { attached = false }) refl;
+          same = record { me = refl; socket = refl; plan = refl; deadline = refl; context = refl };
+          asked = refl;
+          more = more;
+          log = log_is;
+          outcomes = others;
+          asks = asks_is;
+        })
+
+    -- its line was done, once it noted what that left
+    pub line_tried : line.act ≡ act.Attach → party.context.standing.attached ≡ false → (taken : SegsView) (caught : Caught)
+        → Attaches party mid taken.log caught
+        → did (takes_segments taken ∷ gives_segments (after_attaching party.me caught taken) ∷ []) → (given : Answer)
+        → attached_with mid.maps.number caught ≡ Doing.Ended given
+        → after ≡ with_standing (standing_tried mid.maps.number caught mid.context.standing) mid
+        → DoesLine count did line given before behind
+    unfolding doing_of
+    line_tried its_act out taken caught attaches made given by_table noted_so =
+        let answered : attached_with (length taken.log) caught ≡ Doing.Ended given =
+        answered_alike party mid taken.log caught attaches ∙ by_table in
+        let noted : after ≡ with_standing (standing_tried (length taken.log) caught mid.context.standing) mid =
+        noted_so
+        ∙ ap (λ (standing : Standing). with_standing standing mid) (tried_alike party mid taken.log caught mid.context.standing attaches) in
+        let tree : doing_of line line.act facts ≡ attaching false =
+        ap (λ (deed : Act). doing_of line deed facts) its_act ∙ ap attaching out in
+        let whole : Does count did (doing_of line line.act facts) (Doing.Ended given) before behind =
+        subst (λ (rest : Doing). Does count did (doing_of line line.act facts) rest before behind) answered
+        (subst (λ (doing : Doing). Does count did doing (attached_with (length taken.log) caught) before behind) (sym tree)
+        (does_attach taken caught attaches noted made)) in
+        record {
+          facts = facts;
+          known = known_none party.socket party.context line act.Attach its_act tt;
+          does = whole;
+          left = ap (λ (party : Party). party.context.standing) noted
+              ∙ ap (λ (party : Party). standing_tried (length taken.log) caught party.context.standing) attaches.after_is
+              ∙ left_by line act.Attach given whole.trace party.context.standing
+              (standing_tried (length taken.log) caught party.context.standing) its_act
+              (tried_leaves line (length taken.log) caught given whole.trace party.context.standing answered);
+        }
+
+    -- it left the roster, and noted that
+    pub line_left : line.act ≡ act.Detach → party.context.standing.attached ≡ true → (taken : SegsView) → 0 < party.me
+        → did (takes_segments taken ∷ gives_segments (after_leave party.me taken) ∷ []) → mid ≡ after_detaching party
+        → after ≡ with_standing (record mid.context.standing { attached = false }) mid
+        → DoesLine count did line answer.Done before behind
+    unfolding doing_of
+    line_left its_act attached taken secondary made mid_is noted =
+        let tree : doing_of line line.act facts ≡ Doing.Ended answer.Done =
+        ap (λ (deed : Act). doing_of line deed facts) its_act
+        ∙ ap (λ (attached : Bool). if_attached attached (Doing.Ended answer.Done)) attached in
+        let left : after ≡ with_standing (record party.context.standing { attached = false }) (after_detaching party) =
+        noted ∙ ap (λ (mid : Party). with_standing (record mid.context.standing { attached = false }) mid) mid_is in
+        let whole : Does count did (doing_of line line.act facts) (Doing.Ended answer.Done) before behind =
+        subst (λ (doing : Doing). Does count did doing (Doing.Ended answer.Done) before behind) (sym tree)
+        (does_detach (Doing.Ended answer.Done) taken secondary left made) in
+        record {
+          facts = facts;
+          known = known_none party.socket party.context line act.Detach its_act tt;
+          does = whole;
+          left = ap (λ (party : Party). party.context.standing) left
+              ∙ left_by line act.Detach answer.Done whole.trace party.context.standing
+              (record party.context.standing { attached = false }) its_act
+              (ap (λ (elements : List OwnElement). record party.context.standing { attached = false; elements = elements })
+              (sym (append-nil party.context.standing.elements)));
+        }

@@ -1,0 +1,122 @@
+-- How far the clock of one thread goes on in a wait, and in several one after another.
+use Rattle.std.proofs.Common.{◌≡◌, ℕ, suc, ◌+◌, ◌*◌, ◌-◌, ◌^◌, ◌≤◌, ◌⊎◌, ◌<◌, Bool, true, false, cond, not, ◌&&◌, ◌||◌, List, [], ◌∷◌, ◌++◌, filter, find, length, map, Option, Some, None, is_some, ap, arith, inr, ⊎_elim}
+use Rattle.std.specs.List.{range_with_len}
+use Rattle.std.specs.Option.{option_to_list}
+use Rattle.std.proofs.lemmas.Bool.{cases_lt}
+use Rattle.std.proofs.lemmas.List.{length-append}
+use Rattle.std.proofs.Math.Nat.{add-mul, min-le_left, mul-le-mul_right}
+use Rattle.hp_base.specs.Pages.{page_sizes}
+use Rattle.hp_base.specs.declared.limits.TheConstants.{MAX_HEAPS}
+use Rattle.hp_base.specs.declared.pool_line.PoolLine.{PoolLine}
+use Rattle.hp_hall.proofs.Pending.{pending_later}
+use Rattle.hp_hall.specs.Weights.{pending_at}
+use Rattle.hp_heap.specs.Choice.{is_hint, names_page, names_pages}
+use Rattle.hp_script.specs.declared.options.SocketChoice.{SocketChoice}
+use Rattle.hp_script.specs.declared.options.SocketChoice.TheVariants.{Any, Number}
+use Rattle.hp_proc.specs.AskSteps.{waits_until}
+use Rattle.hp_proc.specs.Clocks.{IsOneClock, RisesWithin, longest_wait}
+use Rattle.hp_proc.specs.Contexts.{named_heap}
+use Rattle.hp_proc.specs.Heaps.{NamedHeap, has_name, has_pool, heaps_for, names_socket, page_sizes_for, socket_heaps, sockets_of, takes_pages_of}
+use Rattle.hp_proc.specs.declared.socket_heap.SocketHeap.{SocketHeap}
+use Rattle.hp_proc.proofs.Mapped.{length-filter_le}
+use Rattle.hp_proc.proofs.Waits.{clock_still}
+use Rattle.hp_proc.proofs.SocketHeapLemmas.{length-heaps_from, length-named}
+
+-- a hall in one thread, in which no slot is found held, has one clock
+pub one_clock : {T : Type 0} → IsOneClock {T = T} pending_at (λ hall. ⊥)
+one_clock = record {
+  reads = λ clock deadline past.
+      ⊎_elim (λ (later : clock < deadline). absurd (omega (arith, past, pending_later clock deadline later)))
+      (λ (reached : deadline ≤ clock). reached) (cases_lt clock deadline);
+  free = λ hall busy. busy;
+}
+
+-- a wait behind another one up to the same deadline
+pub waits_on : (until old mid new : ℕ) → (mid ≡ old) ⊎ (mid ≤ until) → (new ≡ mid) ⊎ (new ≤ until) → (new ≡ old) ⊎ (new ≤ until)
+waits_on until old mid new before behind =
+    ⊎_elim (λ (stands : new ≡ mid). clock_still until old mid new stands before) (λ (within : new ≤ until). inr within) behind
+
+module _ {T : Type 0} (pending : ℕ → ℕ → ℕ) (IsBusy : T → Type 0) where
+  -- a wait that began at a reading carries the clock by three deadlines at most
+  pub wait_rises : (since deadline old mid new : ℕ) → mid ≡ old → pending mid since ≡ 0
+      → (new ≡ mid) ⊎ (new ≤ waits_until since deadline) → RisesWithin pending IsBusy (longest_wait deadline) old new
+  wait_rises since deadline old mid new still read went = λ one.
+      let reached = one.reads mid since read in
+      ⊎_elim
+      (λ (stands : new ≡ mid). omega (arith, stands, still))
+      (λ (within : new ≤ waits_until since deadline).
+      omega (arith, within, reached, still, min-le_left (since + 3 * deadline) (2 ^ 64 - 1)))
+      went
+
+  -- one rise behind another
+  pub rises_then : (first second old mid new : ℕ) → RisesWithin pending IsBusy first old mid → RisesWithin pending IsBusy second mid new
+      → RisesWithin pending IsBusy (first + second) old new
+  rises_then first second old mid new before behind = λ one. omega (arith, before one, behind one)
+
+  -- one rise more of so many alike
+  pub rises_more : (count step most old mid new : ℕ) → most ≡ step → RisesWithin pending IsBusy (count * step) old mid
+      → RisesWithin pending IsBusy most mid new → RisesWithin pending IsBusy ((count + 1) * step) old new
+  rises_more count step most old mid new alike before behind = λ one.
+      omega (arith, before one, behind one, alike, add-mul count 1 step)
+
+  -- so many rises are within as many or more
+  pub rises_within : (count all step old new : ℕ) → count ≤ all → RisesWithin pending IsBusy (count * step) old new
+      → RisesWithin pending IsBusy (all * step) old new
+  rises_within count all step old new few rises = λ one. omega (arith, rises one, mul-le-mul_right step few)
+
+-- what passes one test, and of what doesn't what passes another
+parts_few : {X : Type 0} (p q : X → Bool) (xs : List X) → length (filter p xs) + length (filter (λ (x : X). q x && not (p x)) xs) ≤ length xs
+parts_few p q [] = omega arith
+parts_few {X} p q (x ∷ xs) = tested (p x) (q x) (parts_few p q xs)
+  where
+    others : List X
+    others = filter (λ (x : X). q x && not (p x)) xs
+
+    tested : (own other : Bool) → length (filter p xs) + length others ≤ length xs
+        → length (cond own (x ∷ filter p xs) (filter p xs)) + length (cond (other && not own) (x ∷ others) others) ≤ suc (length xs)
+    tested true true few = omega (arith, few)
+    tested true false few = omega (arith, few)
+    tested false true few = omega (arith, few)
+    tested false false few = omega (arith, few)
+
+-- it asks for eight page sizes at most
+pub few_page_sizes : (pools : List PoolLine) (socket flags : ℕ) → length (page_sizes_for pools socket flags) ≤ 8
+few_page_sizes pools socket flags = tested (is_hint flags || not (names_pages flags))
+  where
+    named : List ℕ
+    named = filter (names_page flags) page_sizes
+
+    others : List ℕ
+    others = filter (λ (page : ℕ). has_pool pools socket page && not (names_page flags page)) page_sizes
+
+    tested : (all : Bool) → length (named ++ cond all others []) ≤ 8
+    tested true = omega (arith, length-append named others, parts_few (names_page flags) (has_pool pools socket) page_sizes)
+    tested false = omega (arith, length-append named [], length-filter_le (names_page flags) page_sizes)
+
+-- there are at most as many heaps of sockets as heaps
+few_socket_heaps : (pools : List PoolLine) → length (socket_heaps pools) ≤ MAX_HEAPS
+few_socket_heaps pools =
+    omega (arith, length-heaps_from 0 (sockets_of pools), length-filter_le (names_socket pools) (range_with_len 0 32))
+
+few_found : {X : Type 0} (p : X → Bool) (xs : List X) → length (option_to_list (find p xs)) ≤ 1
+few_found {X} p xs = found (find p xs)
+  where
+    found : (one : Option X) → length (option_to_list one) ≤ 1
+    found None = omega arith
+    found (Some x) = omega arith
+
+few_chosen : (pools : List PoolLine) (own : ℕ) (name : Option (List ℕ)) (choice : SocketChoice)
+    → length (heaps_for own (socket_heaps pools) name choice) ≤ MAX_HEAPS
+few_chosen pools own (Some name) choice = omega (arith, few_found (has_name name) (socket_heaps pools))
+few_chosen pools own None (Number socket) = omega (arith, few_found (takes_pages_of socket) (socket_heaps pools))
+few_chosen pools own None Any =
+    let heaps = socket_heaps pools in
+    let mine = filter (takes_pages_of own) heaps in
+    let others = filter (λ (heap : NamedHeap). is_some heap.serves && not (takes_pages_of own heap)) heaps in
+    omega (arith, length-append mine others, parts_few (takes_pages_of own) (λ (heap : NamedHeap). is_some heap.serves) heaps, few_socket_heaps pools)
+
+-- an allocation tries each heap once at most
+pub few_places : (pools : List PoolLine) (own : ℕ) (name : Option (List ℕ)) (choice : SocketChoice) (places : List SocketHeap)
+    → map named_heap places ≡ heaps_for own (socket_heaps pools) name choice → length places ≤ MAX_HEAPS
+few_places pools own name choice places are =
+    omega (arith, few_chosen pools own name choice, length-named places, ap length are)

@@ -1,0 +1,42 @@
+-- The steps follow one another: the value is taken, the log is taken in, and the value is given back.
+use Rattle.std.proofs.Common.{[], ◌∷◌}
+use Rattle.hp_proc.specs.Attaching.{after_attaching}
+use Rattle.hp_proc.specs.Serving.{gives_segments, takes_segments}
+use Rattle.hp_proc.proofs.Standing.{standing_with}
+use Rattle.hp_proc.proofs.attaching.attach.Goals as goal
+
+pub give_attached-requires-clause-standing : goal.give_attached-requires-clause-standing
+give_attached-requires-clause-standing g c =
+    let me = c.args.me in
+    standing_with me (g.H.Hall.part c.take_segments-segs.new.hall me) (g.H.Hall.part c.take_whole_log-caught.new.hall me)
+    c.take_segments-segs.result (c.take_whole_log-caught.ensures.part me) c.take_segments-segs.ensures.standing
+
+pub returns-clause-did : goal.returns-clause-did
+returns-clause-did g c =
+    let me = c.args.me in
+    let segs = c.take_segments-segs.result in
+    let gives = gives_segments (after_attaching me c.take_whole_log-caught.result segs) in
+    let caught = c.take_whole_log-caught.ensures.caught in (
+      segs,
+      caught.0,
+      caught.1,
+      caught.2,
+      g.met.H.Hall.did_then c.args.hall.now c.take_segments-segs.new.hall c.give_attached.new.hall me (takes_segments segs ∷ []) (gives ∷ [])
+          c.take_segments-segs.ensures.did
+          (g.met.H.Hall.did_then c.take_segments-segs.new.hall c.take_whole_log-caught.new.hall c.give_attached.new.hall me [] (gives ∷ [])
+          (c.take_whole_log-caught.ensures.did me) c.give_attached.ensures.did),
+    )
+
+pub returns-clause-did_others : goal.returns-clause-did_others
+returns-clause-did_others g c =
+    λ who apart.
+    g.met.H.Hall.did_then c.args.hall.now c.take_segments-segs.new.hall c.give_attached.new.hall who [] []
+    (c.take_segments-segs.ensures.did_others who apart)
+    (g.met.H.Hall.did_then c.take_segments-segs.new.hall c.take_whole_log-caught.new.hall c.give_attached.new.hall who [] []
+    (c.take_whole_log-caught.ensures.did who) (c.give_attached.ensures.did_others who apart))
+
+pub returns-clause-goes_on : goal.returns-clause-goes_on
+returns-clause-goes_on g c =
+    g.met.H.Hall.goes_on_then c.args.hall.now c.take_segments-segs.new.hall c.give_attached.new.hall c.take_segments-segs.ensures.goes_on
+    (g.met.H.Hall.goes_on_then c.take_segments-segs.new.hall c.take_whole_log-caught.new.hall c.give_attached.new.hall
+    c.take_whole_log-caught.ensures.goes_on c.give_attached.ensures.goes_on)

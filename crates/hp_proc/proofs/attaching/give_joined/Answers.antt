@@ -1,0 +1,24 @@
+-- Who has taken the whole log in may give the segment value back with itself in the roster.
+use Rattle.std.proofs.Common.{◌∙◌, sym, subst}
+use Rattle.hp_hall.proofs.Gives.{gives_join}
+use Rattle.hp_hall.specs.Giving.{GivesSegments, Knows}
+use Rattle.hp_proc.proofs.Noting.{gives_in_place}
+use Rattle.hp_proc.proofs.attaching.give_joined.Goals as goal
+
+pub give_segments-requires-clause-gives : goal.give_segments-requires-clause-gives
+give_segments-requires-clause-gives g c =
+    let hall = c.args.hall.now in
+    let me = c.args.me in
+    let segs = c.args.segs in
+    let knows : Knows = record {
+      who = me;
+      taken = g.H.Hall.taken hall;
+      part = g.H.Hall.part hall me;
+      number = (g.H.Hall.own hall me).number;
+      noted = g.H.Hall.noted hall me;
+      seen = g.H.Hall.seen hall me;
+      heard = g.H.Hall.heard hall me;
+    } in
+    gives_in_place knows segs c.join_roster.new.self c.requires.taken
+    (subst (GivesSegments knows segs) (sym c.join_roster.ensures.step)
+    (gives_join knows segs (record { declared = c.requires.few; out = sym c.is_member.ensures ∙ c.if-is_member.false; all = c.requires.whole })))

@@ -1,9 +1,0 @@
-use Rattle.std.proofs.Common.{List, sym, subst}
-use Rattle.hp_proc.specs.Solo.{IsSolo, ServerView}
-use Rattle.hp_proc.proofs.SoloSeats.{solo_vacant}
-use Rattle.hp_proc.proofs.solo_hall.SoloHall.new.Goals as goal
-
-pub invariant_of-result : goal.invariant_of-result
-invariant_of-result g c =
-    subst (λ (servers : List ServerView). IsSolo (record { plain = c.args.plain; servers = servers })) (sym c.in_ok-servers.ensures)
-    (solo_vacant c.args.plain c.participants.result c.participants.ensures)

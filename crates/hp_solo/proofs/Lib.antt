@@ -1,0 +1,14 @@
+pub mod Looked
+pub mod SoloSeats
+pub mod SoloTies
+pub mod SoloWeights
+pub mod SoloTurns
+pub mod SoloQuiet
+pub mod SoloLooks
+pub mod SoloRises
+pub mod StageLemmas
+pub mod RetiredPage
+pub mod SoloWaits
+pub mod SoloOpened
+pub mod SoloEnds
+pub mod SoloDrained

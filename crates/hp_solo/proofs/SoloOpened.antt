@@ -1,0 +1,175 @@
+-- A hall of two in one thread as tests open it, and one that comes to ask for pages for heap 0 there, and to give them up.
+use Rattle.std.proofs.Common.{◌≡◌, ◌≢◌, ◌∙◌, ℕ, ◌<◌, List, [], ◌∷◌, length, replicate, Option, Some, None, refl, sym, ap, subst, ⊎_elim, arith, IfSome, IsSome}
+use Rattle.std.specs.Prelude.{MatchOption}
+use Rattle.std.specs.List.{slice_get}
+use Rattle.std.specs.Option.{option_and_then}
+use Rattle.std.proofs.lemmas.Bool.{cases_eq}
+use Rattle.std.proofs.lemmas.List.{length-replicate}
+use Rattle.hp_base.specs.declared.limits.TheConstants.{MAX_HEAPS}
+use Rattle.hp_base.specs.declared.row.Run.{Run}
+use Rattle.hp_heap.specs.Growing.{after_grow}
+use Rattle.hp_heap.specs.History.{HeapView}
+use Rattle.hp_heap.specs.Joining.{after_insertion}
+use Rattle.hp_heap.specs.Laws.{HasNoPagesAt, IsRunCut}
+use Rattle.hp_heap.specs.Step.{after}
+use Rattle.hp_heap.specs.declared.entry.HeapCall.TheVariants as call
+use Rattle.hp_heap.specs.PlainHeap.{PlainHeap}
+use Rattle.hp_heap.specs.Cut.{after_cut}
+use Rattle.hp_heap.proofs.GrowLaw.{no_chunks}
+use Rattle.hp_segs.specs.LaterSteps.{armed_ask}
+use Rattle.hp_segs.specs.SegsView.{SegsView}
+use Rattle.hp_segs.specs.declared.ask.Ask.{Ask}
+use Rattle.hp_segs.specs.declared.outcome.AskLog.{AskLog}
+use Rattle.hp_hall.specs.HallSteps.{opening_hall, slots_of}
+use Rattle.hp_hall.specs.HallView.{HallView, heard_in, own_at, part_in, serves_in}
+use Rattle.hp_hall.specs.Holding.{HasPages, HeapPart, Holding, IsAsPart, IsHeldWith, IsPartTaken, IsTakenAs, StandsFor}
+use Rattle.hp_hall.specs.Opening.{AreHome}
+use Rattle.hp_hall.specs.Own.{after_ack}
+use Rattle.hp_hall.specs.Values.{Fits, IsHeap, IsSoundKept}
+use Rattle.hp_hall.specs.declared.kept.Kept.{Kept}
+use Rattle.hp_hall.specs.declared.kept.Kept.TheVariants.{Heap, Segments}
+use Rattle.hp_hall.proofs.Opened.{opened_home, opened_segs}
+use Rattle.hp_proc.specs.Asking.{GrowsHeld, HasSettledAsks}
+use Rattle.hp_proc.specs.Party.{Party}
+use Rattle.hp_proc.specs.Tied.{nothing_yet}
+use Rattle.hp_proc.proofs.Unarmed.{all_alike, unarmed_new}
+use Rattle.hp_solo.specs.Solo.{MayWait, SoloView}
+use Rattle.hp_solo.specs.SoloAsks.{IsInHand, IsOpening, MayAsk, MayBeginToAsk, MayGiveUp}
+
+first_serves : (heaps : List HeapView) (segs : SegsView) → 0 < length heaps
+    → ((heap : HeapView) → slice_get heaps 0 ≡ Some heap → IsSome heap.plain.serves) → IsSome (serves_in (slice_get (slots_of heaps segs) 0))
+first_serves [] segs some serves = absurd (omega arith)
+first_serves (heap ∷ heaps) segs some serves = serves heap refl
+
+-- a hall opens over a segment value and heaps, the first of which is a socket's
+pub opens : (heaps : List HeapView) (segs : SegsView) (hall : HallView) → hall ≡ opening_hall 2 heaps segs → length heaps ≡ MAX_HEAPS
+    → ((heap : HeapView) → slice_get heaps 0 ≡ Some heap → IsSome heap.plain.serves) → IsOpening segs hall
+opens heaps segs hall opened count serves = record {
+  two = ap (λ (h : HallView). length h.owns) opened ∙ length-replicate 2 (after_ack 0);
+  home = subst AreHome (sym opened) (opened_home 2 heaps segs count);
+  nothing_yet = λ who. ap (λ (h : HallView). own_at h who) opened ∙ all_alike nothing_yet 2 who;
+  armed = λ who heap.
+      ap (λ (h : HallView). (part_in h who heap).armed) opened
+      ∙ ap (option_and_then (λ (s : SegsView). armed_ask s who)) (opened_segs heaps segs MAX_HEAPS count);
+  serves = λ who.
+      subst (λ (h : HallView). IsSome (part_in h who 0).serves) (sym opened) (first_serves heaps segs (omega (arith, count)) serves);
+}
+
+-- where nobody was armed each may begin to ask
+pub may_begin : (segs : SegsView) (hall : HallView) (who : ℕ) → segs.armed ≡ replicate 16 None → IsOpening segs hall → MayBeginToAsk hall who
+may_begin segs hall who armed is = record {
+  home = is.home 0 (omega arith);
+  serves = is.serves who;
+  unarmed = λ heap. is.armed who heap ∙ unarmed_new segs who armed;
+}
+
+none_armed : (o : Option Ask) (ask : Ask) → o ≡ None → o ≡ Some ask → ⊥
+none_armed o ask none some = cc
+
+held_is : (heap : HeapView) (holding : Option Holding) → IsHeldWith heap holding
+    → (held : Holding) × (holding ≡ Some held) × HasPages heap.plain.pages held.owned
+held_is heap None held = absurd held
+held_is heap (Some holding) held = (holding, refl, held)
+
+-- what a participant learns that takes a value out of the slot of heap 0, and what that makes of its parts
+pub record IsTakenFirst (old new : HallView) (who : ℕ) (kept : Kept) : Type 0 where
+  pub fits : Fits 0 kept
+  pub sound : IsSoundKept kept
+  pub stands : StandsFor who (part_in new who) kept
+  pub part : IsTakenAs kept (part_in old who) (part_in new who)
+
+pub heap_of_first : (kept : Kept) → Fits 0 kept → IsHeap kept
+heap_of_first (Heap heap) fits = tt
+heap_of_first (Segments segs) fits = absurd (omega (arith, fits))
+
+module _ (old new : HallView) (who : ℕ) (heap : HeapView) (is : IsTakenFirst old new who (Heap heap)) (begins : MayBeginToAsk old who) where
+  index : heap.plain.index ≡ 0
+  index = is.fits.0
+
+  taken : IsPartTaken (part_in old who 0) (part_in new who 0)
+  taken = subst (λ (n : ℕ). IsPartTaken (part_in old who n) (part_in new who n)) index is.part.0
+
+  stands : IsAsPart (part_in new who 0) heap
+  stands = subst (λ (n : ℕ). IsAsPart (part_in new who n) heap) index is.stands
+
+  -- it has the heap in its hand
+  pub in_hand : IsInHand (part_in new who) heap.plain
+  in_hand =
+      let held = held_is heap (part_in new who 0).holding stands.held in
+      let serves : IsSome heap.plain.serves =
+      subst (λ (o : Option ℕ). IsSome o) (sym (stands.serves ∙ taken.serves)) begins.serves in
+      record {
+        index = index;
+        serves = serves;
+        chunks = no_chunks heap.plain serves is.sound.tiled.kind;
+        holding = held.0;
+        held = held.1;
+        pages = held.2;
+      }
+
+  unarmed_still : (other : ℕ) → (part_in new who other).armed ≡ None
+  unarmed_still other =
+      ⊎_elim
+      (λ (same : other ≡ 0). ap (λ (n : ℕ). (part_in new who n).armed) same ∙ taken.armed ∙ begins.unarmed 0)
+      (λ (apart : other ≢ 0).
+      ap (λ (part : HeapPart). part.armed) (is.part.1 other (λ (same : other ≡ heap.plain.index). apart (same ∙ index))) ∙ begins.unarmed other)
+      (cases_eq other 0)
+
+  -- and no ask that is not settled
+  pub settled_first : (heard : List AskLog) → HasSettledAsks who (part_in new who) heard
+  settled_first heard other ask armed = absurd (none_armed (part_in new who other).armed ask (unarmed_still other) armed)
+
+-- one that holds heap 0 and may wait may ask
+pub may_ask : (hall : SoloView) (party : Party) (heap : PlainHeap) → MayWait hall party → IsInHand (part_in hall.plain party.me) heap
+    → HasSettledAsks party.me (part_in hall.plain party.me) (heard_in hall.plain) → MayAsk hall party
+may_ask hall party heap waits hand settled = record {
+  waits = waits;
+  holds = subst (λ (o : Option Holding). IsSome o) (sym hand.held) refl;
+  settled = settled;
+}
+
+-- a growth leaves the index of a heap
+index_grown : (heap : PlainHeap) (run : Run) → (after_grow run heap).index ≡ heap.index
+unfolding after_grow after_insertion
+index_grown heap run = refl
+
+same_holding : (o : Option Holding) (a b : Holding) → o ≡ Some a → o ≡ Some b → a ≡ b
+same_holding o a b first second = cc
+
+module _ (old new : ℕ → HeapPart) (heap : PlainHeap) (run : Run) (hand : IsInHand old heap) (grows : GrowsHeld 0 (Some run) (old 0) (new 0)) where
+  pages_before : HasPages heap.pages grows.before.owned
+  pages_before =
+      subst (λ (holding : Holding). HasPages heap.pages holding.owned)
+      (same_holding (old 0).holding hand.holding grows.before hand.held grows.held) hand.pages
+
+  -- what is cut from a heap in hand, to which a run came that was granted, may be given up
+  cut_may : (address : ℕ) (cut : Run) → IsRunCut address (after_grow run heap) cut → MayGiveUp new cut
+  cut_may address cut is = (
+    grows.behind,
+    after_cut address (after_grow run heap),
+    grows.holds,
+    record {
+      whole = after_grow run heap;
+      address = address;
+      its_index = index_grown heap run ∙ hand.index;
+      pages = grows.grows.1 heap hand.index pages_before;
+      cut = is;
+      left_is = refl;
+    },
+  )
+
+  -- and so what is, where something is cut
+  pub cuts_may : (address : ℕ) (cut : Option Run) → IfSome cut (IsRunCut address (after_grow run heap)) → IfSome cut (MayGiveUp new)
+  cuts_may address None is = tt
+  cuts_may address (Some cut) is = cut_may address cut is
+
+-- a call that brings a run to a heap is its growth
+grown_is : (who : ℕ) (run : Run) (heap : PlainHeap) → after who (call.Grow run) heap ≡ after_grow run heap
+unfolding after
+grown_is who run heap = refl
+
+-- what is cut from a heap behind that
+pub cut_grown : (who address : ℕ) (run : Run) (heap grown : PlainHeap) (cut : Option Run) → grown ≡ after who (call.Grow run) heap
+    → MatchOption cut (HasNoPagesAt address grown) (IsRunCut address grown) → IfSome cut (IsRunCut address (after_grow run heap))
+cut_grown who address run heap grown None is found = tt
+cut_grown who address run heap grown (Some cut) is found = subst (λ (h : PlainHeap). IsRunCut address h cut) (is ∙ grown_is who run heap) found

@@ -1,0 +1,279 @@
+-- Participants that serve in one thread: their ties over the course of the hall, and what serving one after another leaves.
+use Rattle.std.proofs.Common.{◌≡◌, ◌≢◌, ℕ, ◌<◌, Bool, true, false, List, [], ◌∷◌, ◌++◌, length, set, Option, Some, None, Result, Ok, Err, IfOk, IfErr, IsSome, refl, sym, ap, subst, ◌∙◌, ⊎_elim, arith}
+use Rattle.std.specs.List.{slice_get}
+use Rattle.std.specs.Option.{option_map}
+use Rattle.std.proofs.lemmas.Bool.{cases_eq}
+use Rattle.std.proofs.lemmas.Option.{same_Some, slice_get_within}
+use Rattle.hp_hall.proofs.Slotted.{slice_get-set_other, slice_get-set_same}
+use Rattle.hp_hall.specs.Course.{IsCourse, course_same, course_seen, course_then, done_same, done_then}
+use Rattle.hp_hall.specs.HallView.{HallView, HasDone, SlotView, IsHome, own_at, seen_in, taken_from}
+use Rattle.hp_hall.specs.Mail.{MailStep, Takes, steps_of}
+use Rattle.hp_hall.specs.Own.{Own}
+use Rattle.hp_hall.specs.declared.kept.Kept.{Kept}
+use Rattle.hp_maps.specs.MapsView.{MapsView}
+use Rattle.hp_proc.specs.Coordinating.{IsServed}
+use Rattle.hp_proc.specs.Party.{Party}
+use Rattle.hp_proc.specs.Tied.{IsTied}
+use Rattle.hp_proc.proofs.MemberLemmas.{at_each}
+use Rattle.hp_proc.proofs.Steps.{other_step}
+use Rattle.hp_proc.proofs.Tying.{tied_along}
+use Rattle.hp_solo.specs.Served.{HasServed, HasServedAs, HasServedAt}
+use Rattle.hp_solo.specs.Served.ServesOn.{serves}
+use Rattle.hp_solo.specs.Solo.{AreLater, AreTied, IsAway, IsLaterAt, IsLaterParty, IsPartyServed, IsServedAs, IsServing, IsSolo, IsTiedAt, IsTiedIn, ServerView, SoloView, party_at, party_in, server_at}
+use Rattle.hp_solo.specs.SoloCourse.{IsSoloCourse, same_then, server_stays}
+
+-- a table is tied along the course of a hall
+tied_later : (old new : HallView) (own : Own) (joined : Bool) (maps : MapsView) → IsCourse old new → IsTied (seen_in old) own joined maps
+    → IsTied (seen_in new) own joined maps
+tied_later old new own joined maps course tied =
+    let seen = course_seen old new course in tied_along (seen_in old) (seen_in new) seen.0 own joined maps seen.1 tied
+
+-- who is tied stays so where its own part stays
+pub tied_on : (old new : HallView) (who : ℕ) (party : Party) → IsCourse old new → own_at new who ≡ own_at old who → IsTiedAt old who party
+    → IsTiedAt new who party
+tied_on old new who party course same at = record {
+  number = at.number;
+  tied = subst (λ (own : Own). IsTied (seen_in new) own party.joined party.maps) (sym same)
+      (tied_later old new (own_at old who) party.joined party.maps course at.tied);
+}
+
+-- what is there was not taken
+pub free_home : (slot : Option SlotView) → IsHome slot → taken_from slot ≡ None
+free_home None home = absurd home
+free_home (Some slot) home = ap (option_map (λ holder. slot.kept)) home
+
+-- who is away is not there
+away_none : (server : Option ServerView) → IsAway server → party_in server ≡ None
+away_none None away = absurd away
+away_none (Some server) away = away
+
+away_some : (server : Option ServerView) → IsAway server → (there : ServerView) × (server ≡ Some there)
+away_some None away = absurd away
+away_some (Some server) away = (server, refl)
+
+pub away_below : (servers : List ServerView) (who : ℕ) → IsAway (server_at servers who) → who < length servers
+away_below servers who away =
+    let there = away_some (server_at servers who) away in slice_get_within servers who there.0 there.1
+
+none_not_some : (o : Option Party) (party : Party) → o ≡ None → o ≡ Some party → ⊥
+none_not_some o party none some = cc
+
+none_not_there : (o : Option Party) → o ≡ None → IsSome o → ⊥
+none_not_there None none there = cc
+none_not_there (Some party) none there = cc
+
+-- after a call of one that is away all others are tied still
+pub tied_after_call : (old new : HallView) (servers : List ServerView) (me : ℕ) → IsAway (server_at servers me) → IsCourse old new
+    → ((who : ℕ) → who ≢ me → own_at new who ≡ own_at old who) → AreTied old servers → AreTied new servers
+tied_after_call old new servers me away course own tied who party there =
+    let apart : who ≢ me = λ (same : who ≡ me).
+    none_not_some (party_at servers me) party (away_none (server_at servers me) away) (ap (party_at servers) (sym same) ∙ there) in
+    tied_on old new who party course (own who apart) (tied who party there)
+
+-- a hall that is opened for a call of one that is away: who calls is one of the values', the course of the whole is that of the values, and
+-- what holds of every hall holds after it
+module _ (value : SoloView) (old : HallView) (servers : List ServerView)
+    (value_is : ◌≡◌ {A = SoloView} (record { plain = old; servers = servers }) value) (me : ℕ) (away : IsAway (server_at value.servers me)) where
+  away_here : IsAway (server_at servers me)
+  away_here = subst (λ (hall : SoloView). IsAway (server_at hall.servers me)) (sym value_is) away
+
+  -- who is there did nothing
+  pub goes_on : (new : HallView) → IsCourse old new → ((who : ℕ) → who ≢ me → HasDone old new who [])
+      → IsSoloCourse value (record { plain = new; servers = servers })
+  goes_on new course nothing =
+      subst (λ (hall : SoloView). IsSoloCourse hall (record { plain = new; servers = servers })) value_is (record {
+        plain = course;
+        servers = λ who. server_stays old new who (server_at servers who) (λ there.
+            nothing who (λ same.
+            none_not_there (party_at servers who) (ap (party_at servers) same ∙ away_none (server_at servers me) away_here) there));
+      })
+
+  -- by a step of the one that calls
+  pub goes_on_by : (new : HallView) (step : MailStep) → IsCourse old new → ((who : ℕ) → HasDone old new who (steps_of who ((me, step) ∷ [])))
+      → IsSoloCourse value (record { plain = new; servers = servers })
+  goes_on_by new step course did =
+      goes_on new course (λ who apart. subst (λ (steps : List MailStep). HasDone old new who steps) (other_step who me step apart) (did who))
+
+  module _ (is : IsSolo (record { plain = old; servers = servers })) where
+    pub may_call : me < length old.owns
+    may_call = omega (arith, away_below servers me away_here, is.count)
+
+    pub holds_after : (new : HallView) → IsCourse old new → ((who : ℕ) → who ≢ me → own_at new who ≡ own_at old who)
+        → IsSolo (record { plain = new; servers = servers })
+    holds_after new course own = record {
+      count = is.count ∙ sym course.count;
+      tied = tied_after_call old new servers me away_here course own is.tied;
+    }
+
+-- whichever way a try came out, nobody else did anything
+pub tried_apart : {E : Type 0} (old new : HallView) (me number : ℕ) (result : Result Kept E)
+    → IfOk result (λ kept. (who : ℕ) → HasDone old new who (steps_of who ((me, Takes number kept) ∷ [])))
+    → IfErr result (λ busy. (who : ℕ) → HasDone old new who []) → (who : ℕ) → who ≢ me → HasDone old new who []
+tried_apart old new me number (Ok kept) took busy who apart =
+    subst (λ (steps : List MailStep). HasDone old new who steps) (other_step who me (Takes number kept) apart) (took who)
+tried_apart old new me number (Err error) took busy who apart = busy who
+
+-- serving: from a state to itself, on from state to state, and for fewer that are apart
+pub serving_same : (apart : ℕ → Type 0) (hall : HallView) → IsServing apart hall hall
+serving_same apart hall = record {
+  course = course_same hall;
+  taken = λ number. refl;
+  home = λ number home. home;
+  part = λ who heap. refl;
+  own = λ who is. refl;
+  did = λ who is. done_same hall who;
+  clock = refl;
+}
+
+pub serving_then : (apart : ℕ → Type 0) (a b c : HallView) → IsServing apart a b → IsServing apart b c → IsServing apart a c
+serving_then apart a b c here next = record {
+  course = course_then a b c here.course next.course;
+  taken = λ number. next.taken number ∙ here.taken number;
+  home = λ number home. next.home number (here.home number home);
+  part = λ who heap. next.part who heap ∙ here.part who heap;
+  own = λ who is. next.own who is ∙ here.own who is;
+  did = λ who is. done_then a b c who [] [] (here.did who is) (next.did who is);
+  clock = next.clock ∙ here.clock;
+}
+
+pub serving_narrow : (apart fewer : ℕ → Type 0) (old new : HallView) → ((who : ℕ) → fewer who → apart who) → IsServing apart old new
+    → IsServing fewer old new
+serving_narrow apart fewer old new narrow is = record {
+  course = is.course;
+  taken = is.taken;
+  home = is.home;
+  part = is.part;
+  own = λ who few. is.own who (narrow who few);
+  did = λ who few. is.did who (narrow who few);
+  clock = is.clock;
+}
+
+-- one participant that serves: nothing yet, and on from serving to serving
+pub party_served_same : (hall : HallView) (party : Party) → IsTied (seen_in hall) (own_at hall party.me) party.joined party.maps
+    → IsPartyServed hall hall party party
+party_served_same hall party tied = record {
+  serving = serving_same (λ who. who ≢ party.me) hall;
+  same = record { me = refl; socket = refl; plan = refl; deadline = refl; context = refl };
+  tied = tied;
+}
+
+pub served_nothing : (hall : HallView) (party : Option Party) → IsTiedIn hall party → IsServedAs hall hall party party
+served_nothing hall None tied = refl
+served_nothing hall (Some party) tied = party_served_same hall party tied.1
+
+pub party_served_then : (a b c : HallView) (first second third : Party) → IsPartyServed a b first second → IsPartyServed b c second third
+    → IsPartyServed a c first third
+party_served_then a b c first second third here next = record {
+  serving = serving_then (λ who. who ≢ first.me) a b c here.serving
+      (serving_narrow (λ who. who ≢ second.me) (λ who. who ≢ first.me) b c (λ who apart same. apart (same ∙ here.same.me)) next.serving);
+  same = same_then first second third here.same next.same;
+  tied = subst (λ (me : ℕ). IsTied (seen_in c) (own_at c me) third.joined third.maps) here.same.me next.tied;
+}
+
+-- one serving more
+pub served_more_by : (a b c : HallView) (party mid after : Party) (moved : Bool) (answer : Option Bool) → answer ≡ Some moved
+    → IsPartyServed a b party mid → HasServed (length a.owns) party.me a b party mid
+    → (steps : List MailStep) × HasDone b c mid.me steps × IsServed (length b.owns) mid after steps answer
+    → HasServed (length a.owns) party.me a c party after
+served_more_by a b c party mid after moved answer is so_far was one = record {
+  steps = was.steps ++ one.0;
+  did = done_then a b c party.me was.steps one.0 was.did (subst (λ (who : ℕ). HasDone b c who one.0) so_far.same.me one.1);
+  serves = serves party mid after was.steps one.0 moved was.serves
+      (subst (λ (o : Option Bool). IsServed (length a.owns) mid after one.0 o) is
+      (subst (λ (n : ℕ). IsServed n mid after one.0 answer) so_far.serving.course.count one.2));
+}
+
+-- one that served by its own number did so at its place
+served_at : (old new : HallView) (number : ℕ) (party after : Option Party) → ((there : Party) → party ≡ Some there → there.me ≡ number)
+    → HasServedAs old new party after → HasServedAt old new number party after
+served_at old new number None after numbered served = tt
+served_at old new number (Some party) None numbered served = absurd served
+served_at old new number (Some party) (Some after) numbered served =
+    subst (λ (who : ℕ). HasServed (length old.owns) who old new party after) (numbered party refl) served
+
+-- the participant of a number has served
+pub record IsServedOne (old new : HallView) (servers : List ServerView) (number : ℕ) (after : ServerView) : Type 0 where
+  pub serving : IsServing (λ who. who ≢ number) old new
+  pub tied : AreTied new (set servers number after)
+  pub later : AreLater (record { plain = old; servers = servers }) (record { plain = new; servers = set servers number after })
+
+served_apart : (old new : HallView) (number : ℕ) (party after : Option Party)
+    → ((there : Party) → party ≡ Some there → there.me ≡ number) → IsServedAs old new party after → IsServing (λ who. who ≢ number) old new
+served_apart old new number None None numbered served =
+    subst (λ (hall : HallView). IsServing (λ who. who ≢ number) old hall) (sym served) (serving_same (λ who. who ≢ number) old)
+served_apart old new number None (Some after) numbered served = absurd served
+served_apart old new number (Some party) None numbered served = absurd served
+served_apart old new number (Some party) (Some after) numbered served =
+    serving_narrow (λ who. who ≢ party.me) (λ who. who ≢ number) old new (λ who apart same. apart (same ∙ numbered party refl)) served.serving
+
+served_tied : (old new : HallView) (number : ℕ) (party after : Option Party) (now : Party)
+    → ((there : Party) → party ≡ Some there → there.me ≡ number) → IsServedAs old new party after → after ≡ Some now → IsTiedAt new number now
+served_tied old new number None None now numbered served is = cc
+served_tied old new number None (Some after) now numbered served is = absurd served
+served_tied old new number (Some party) None now numbered served is = absurd served
+served_tied old new number (Some party) (Some after) now numbered served is =
+    let me = numbered party refl in
+    subst (IsTiedAt new number) (same_Some after now is) (record {
+      number = served.same.me ∙ me;
+      tied = subst (λ (who : ℕ). IsTied (seen_in new) (own_at new who) after.joined after.maps) me served.tied;
+    })
+
+pub served_later : (old new : HallView) (party after : Option Party) → IsServedAs old new party after → IsLaterParty party after
+served_later old new None None served = tt
+served_later old new None (Some after) served = absurd served
+served_later old new (Some party) None served = absurd served
+served_later old new (Some party) (Some after) served = served.same
+
+module _ (old new : HallView) (servers : List ServerView) (number : ℕ) (server after : ServerView) (there : slice_get servers number ≡ Some server)
+    (tied : AreTied old servers) (served : IsServedAs old new server.party after.party) (stops : server.stopped ≡ true → after.stopped ≡ true)
+    (going : after.stopped ≡ false → HasServedAs old new server.party after.party) where
+  here : slice_get (set servers number after) number ≡ Some after
+  here = slice_get-set_same servers number after (slice_get_within servers number server there)
+
+  numbered : (party : Party) → server.party ≡ Some party → party.me ≡ number
+  numbered party is = (tied number party (ap party_in there ∙ is)).number
+
+  apart_from : IsServing (λ who. who ≢ number) old new
+  apart_from = served_apart old new number server.party after.party numbered served
+
+  tied_one : AreTied new (set servers number after)
+  tied_one who party is =
+      ⊎_elim
+      (λ (same : who ≡ number).
+      subst (λ (n : ℕ). IsTiedAt new n party) (sym same)
+      (served_tied old new number server.party after.party party numbered served (sym (ap party_in here) ∙ ap (party_at (set servers number after)) (sym same) ∙ is)))
+      (λ (apart : who ≢ number).
+      tied_on old new who party apart_from.course (apart_from.own who apart)
+      (tied who party (sym (ap party_in (slice_get-set_other servers number who after apart)) ∙ is)))
+      (cases_eq who number)
+
+  later_here : IsLaterAt old new number (server_at servers number) (server_at (set servers number after) number)
+  later_here =
+      subst (λ (o : Option ServerView). IsLaterAt old new number o (server_at (set servers number after) number)) (sym there)
+      (subst (λ (o : Option ServerView). IsLaterAt old new number (Some server) o) (sym here) (record {
+        party = served_later old new server.party after.party served;
+        stopped = stops;
+        served = λ goes. served_at old new number server.party after.party numbered (going goes);
+      }))
+
+  later_one : AreLater (record { plain = old; servers = servers }) (record { plain = new; servers = set servers number after })
+  later_one =
+      at_each (λ who. IsLaterAt old new who (server_at servers who) (server_at (set servers number after) who)) number later_here
+      (λ who apart.
+      subst (λ (o : Option ServerView). IsLaterAt old new who (server_at servers who) o) (sym (slice_get-set_other servers number who after apart))
+      (server_stays old new who (server_at servers who) (λ some. apart_from.did who apart)))
+
+  pub served_one : IsServedOne old new servers number after
+  served_one = record { serving = apart_from; tied = tied_one; later = later_one }
+
+-- who is there may serve
+tied_some : (hall : HallView) (servers : List ServerView) (number : ℕ) (party : Option Party) → party_at servers number ≡ party
+    → number < length hall.owns → AreTied hall servers → IsTiedIn hall party
+tied_some hall servers number None is below tied = tt
+tied_some hall servers number (Some party) is below tied =
+    let at = tied number party is in
+    (omega (arith, at.number, below), subst (λ (who : ℕ). IsTied (seen_in hall) (own_at hall who) party.joined party.maps) (sym at.number) at.tied)
+
+pub tied_in : (hall : HallView) (servers : List ServerView) (number : ℕ) (server : ServerView) → slice_get servers number ≡ Some server
+    → number < length hall.owns → AreTied hall servers → IsTiedIn hall server.party
+tied_in hall servers number server there below tied = tied_some hall servers number server.party (ap party_in there) below tied

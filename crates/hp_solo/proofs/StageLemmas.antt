@@ -1,0 +1,116 @@
+-- Two participants and their hall, as tests have them: all values are there and both are tied when the hall opens, after a call of it,
+-- and after a serving of one of the two.
+use Rattle.std.proofs.Common.{◌≡◌, ◌≢◌, ℕ, ◌<◌, List, length, sym, ap, subst, ◌∙◌, arith}
+use Rattle.std.proofs.lemmas.List.{length-replicate}
+use Rattle.hp_base.specs.declared.limits.TheConstants.{MAX_HEAPS}
+use Rattle.hp_heap.specs.History.{HeapView}
+use Rattle.hp_log.specs.declared.log_record.LogRecord.{LogRecord}
+use Rattle.hp_segs.specs.SegsView.{SegsView}
+use Rattle.hp_hall.proofs.Opened.{opened_home}
+use Rattle.hp_hall.specs.Course.{IsCourse}
+use Rattle.hp_hall.specs.HallSteps.{opening_hall}
+use Rattle.hp_hall.specs.HallView.{HallView, IsHome, own_at, seen_in, slot_at}
+use Rattle.hp_hall.specs.Opening.{AreHome}
+use Rattle.hp_hall.specs.Own.{Own, after_ack}
+use Rattle.hp_proc.specs.Party.{Party}
+use Rattle.hp_proc.specs.Tied.{IsTied, nothing_yet}
+use Rattle.hp_solo.specs.Solo.{IsPartyServed, IsTiedAt}
+use Rattle.hp_solo.proofs.SoloTies.{tied_on}
+
+-- what holds of the stage: all values are there, and each participant's table is tied to what the hall knows of it
+abbrev pub IsStaged : HallView → Party → Party → Type 0
+IsStaged hall primary secondary = (length hall.owns ≡ 2) × AreHome hall × IsTiedAt hall 0 primary × IsTiedAt hall 1 secondary
+
+-- who is tied to a hall of two is one of its participants, and tied by its own number
+pub is_declared : (hall : HallView) (who : ℕ) (party : Party) → length hall.owns ≡ 2 → who < 2 → IsTiedAt hall who party
+    → party.me < length hall.owns
+is_declared hall who party two below at =
+    let number = at.number in
+    omega (arith, two, below, number)
+
+pub tied_own : (hall : HallView) (who : ℕ) (party : Party) → IsTiedAt hall who party
+    → IsTied (seen_in hall) (own_at hall party.me) party.joined party.maps
+tied_own hall who party at = subst (λ (n : ℕ). IsTied (seen_in hall) (own_at hall n) party.joined party.maps) (sym at.number) at.tied
+
+opened_tied : (hall : HallView) (who : ℕ) (party : Party) → own_at hall who ≡ nothing_yet → party.me ≡ who
+    → ((log : List LogRecord) → IsTied log nothing_yet party.joined party.maps) → IsTiedAt hall who party
+opened_tied hall who party own number tied = record {
+  number = number;
+  tied = subst (λ (own : Own). IsTied (seen_in hall) own party.joined party.maps) (sym own) (tied (seen_in hall));
+}
+
+-- when the hall opens
+pub staged_new : (hall : HallView) (heaps : List HeapView) (segs : SegsView) (primary secondary : Party) → hall ≡ opening_hall 2 heaps segs
+    → length heaps ≡ MAX_HEAPS → primary.me ≡ 0 → secondary.me ≡ 1
+    → ((log : List LogRecord) → IsTied log nothing_yet primary.joined primary.maps)
+    → ((log : List LogRecord) → IsTied log nothing_yet secondary.joined secondary.maps) → IsStaged hall primary secondary
+staged_new hall heaps segs primary secondary opened count first second tied_first tied_second = (
+  ap (λ (h : HallView). length h.owns) opened ∙ length-replicate 2 (after_ack 0),
+  subst AreHome (sym opened) (opened_home 2 heaps segs count),
+  opened_tied hall 0 primary (ap (λ (h : HallView). own_at h 0) opened) first tied_first,
+  opened_tied hall 1 secondary (ap (λ (h : HallView). own_at h 1) opened) second tied_second,
+)
+
+-- later on, where the own parts are as they were
+pub staged_to : (old new : HallView) (primary secondary : Party) → IsCourse old new → AreHome new
+    → ((who : ℕ) → own_at new who ≡ own_at old who) → IsStaged old primary secondary → IsStaged new primary secondary
+staged_to old new primary secondary course home own is = (
+  course.count ∙ is.0,
+  home,
+  tied_on old new 0 primary course (own 0) is.2,
+  tied_on old new 1 secondary course (own 1) is.3,
+)
+
+-- after a call that takes nothing
+pub staged_on : (old new : HallView) (primary secondary : Party) → IsCourse old new
+    → ((number : ℕ) → IsHome (slot_at old number) → IsHome (slot_at new number)) → ((who : ℕ) → own_at new who ≡ own_at old who)
+    → IsStaged old primary secondary → IsStaged new primary secondary
+staged_on old new primary secondary course home own is =
+    staged_to old new primary secondary course (λ number below. home number (is.1 number below)) own is
+
+served_tied : (old new : HallView) (who : ℕ) (party after : Party) → IsTiedAt old who party → IsPartyServed old new party after
+    → IsTiedAt new who after
+served_tied old new who party after at served = record {
+  number = served.same.me ∙ at.number;
+  tied = subst (λ (n : ℕ). IsTied (seen_in new) (own_at new n) after.joined after.maps) at.number served.tied;
+}
+
+other_tied : (old new : HallView) (who other : ℕ) (party after beside : Party) → other ≢ who → IsTiedAt old who party
+    → IsPartyServed old new party after → IsTiedAt old other beside → IsTiedAt new other beside
+other_tied old new who other party after beside apart at served there =
+    tied_on old new other beside served.serving.course (served.serving.own other (λ same. apart (same ∙ at.number))) there
+
+-- after participant 0 has served, and after participant 1 has
+pub staged_primary : (old new : HallView) (primary after secondary : Party) → IsPartyServed old new primary after
+    → IsStaged old primary secondary → IsStaged new after secondary
+staged_primary old new primary after secondary served is = (
+  served.serving.course.count ∙ is.0,
+  (λ number below. served.serving.home number (is.1 number below)),
+  served_tied old new 0 primary after is.2 served,
+  other_tied old new 0 1 primary after secondary (λ same. cc) is.2 served is.3,
+)
+
+pub staged_secondary : (old new : HallView) (primary secondary after : Party) → IsPartyServed old new secondary after
+    → IsStaged old primary secondary → IsStaged new primary after
+staged_secondary old new primary secondary after served is = (
+  served.serving.course.count ∙ is.0,
+  (λ number below. served.serving.home number (is.1 number below)),
+  other_tied old new 1 0 secondary after primary (λ same. cc) is.3 served is.2,
+  served_tied old new 1 secondary after is.3 served,
+)
+
+-- after participant 1 has attached or detached
+pub staged_attached : (old new : HallView) (primary secondary after : Party) → IsCourse old new
+    → ((number : ℕ) → IsHome (slot_at old number) → IsHome (slot_at new number))
+    → ((who : ℕ) → who ≢ secondary.me → own_at new who ≡ own_at old who) → after.me ≡ secondary.me
+    → IsTied (seen_in new) (own_at new secondary.me) after.joined after.maps → IsStaged old primary secondary → IsStaged new primary after
+staged_attached old new primary secondary after course home own same tied is =
+    let number = is.3.number in (
+      course.count ∙ is.0,
+      (λ number below. home number (is.1 number below)),
+      tied_on old new 0 primary course (own 0 (λ zero. absurd (omega (arith, zero, number)))) is.2,
+      record {
+        number = same ∙ number;
+        tied = subst (λ (n : ℕ). IsTied (seen_in new) (own_at new n) after.joined after.maps) number tied;
+      },
+    )

@@ -1,0 +1,50 @@
+-- One that served stands where it stood, and all others stay.
+use Rattle.std.proofs.Common.{◌≡◌, length, Some, refl, sym, ap, subst, ◌∙◌, arith, length-set}
+use Rattle.std.specs.List.{slice_get}
+use Rattle.std.proofs.lemmas.Option.{slice_get_read}
+use Rattle.hp_hall.proofs.Slotted.{slice_get-set_other, slice_get-set_same}
+use Rattle.hp_proc.specs.Party.{Party}
+use Rattle.hp_solo.specs.Solo.{IsServerAtRest, LooksLastAt, party_in}
+use Rattle.hp_solo.proofs.SoloLooks.{last_one}
+use Rattle.hp_solo.proofs.SoloQuiet.{quiet_one}
+use Rattle.hp_solo.proofs.SoloTies.{served_later, served_one, tied_in}
+use Rattle.hp_solo.proofs.SoloWeights.{served_falls}
+use Rattle.hp_solo.proofs.solo_hall.serving.serve_at.Goals as goal
+
+pub serve-requires-clause-tied : goal.serve-requires-clause-tied
+serve-requires-clause-tied g c =
+    let servers = c.args.servers.now.items in
+    let server = c.index_mut-server.result.now in
+    let there : slice_get servers c.args.number ≡ Some server =
+    slice_get_read servers (length servers) c.args.number server refl c.requires.within c.index_mut-server.ensures.value in
+    tied_in c.args.hall.now servers c.args.number server there (omega (arith, c.requires.within, c.requires.count)) c.requires.tied
+
+pub returns : goal.returns
+returns g c =
+    let old = c.args.hall.now in
+    let new = c.serve.new.hall in
+    let servers = c.args.servers.now.items in
+    let server = c.index_mut-server.result.now in
+    let after = c.serve.new.self in
+    let there : slice_get servers c.args.number ≡ Some server =
+    slice_get_read servers (length servers) c.args.number server refl c.requires.within c.index_mut-server.ensures.value in
+    let one = served_one old new servers c.args.number server after there c.requires.tied c.serve.ensures.served c.serve.ensures.stopped
+    c.serve.ensures.serves in
+    let numbered : (party : Party) → server.party ≡ Some party → party.me ≡ c.args.number =
+    λ party is. (c.requires.tied c.args.number party (ap party_in there ∙ is)).number in
+    record {
+      serving = one.serving;
+      tied = one.tied;
+      later = one.later;
+      count = length-set servers c.args.number after;
+      weight = served_falls old new servers c.args.number server after c.serve.result there one.serving.clock c.serve.ensures.weight;
+      others = λ who apart. slice_get-set_other servers c.args.number who after apart;
+      rests = subst (IsServerAtRest new.clock) (sym (slice_get-set_same servers c.args.number after c.requires.within)) c.serve.ensures.rests;
+      looks = subst (LooksLastAt old new c.args.number) (sym (slice_get-set_same servers c.args.number after c.requires.within))
+          (λ going some.
+          last_one old new c.args.number server.party after.party numbered (served_later old new server.party after.party c.serve.ensures.served)
+          (c.serve.ensures.looks going) some);
+      quiet = λ nothing.
+          quiet_one old new servers c.args.number server after there numbered
+          (c.serve.ensures.idle nothing) (c.serve.ensures.found nothing);
+    }

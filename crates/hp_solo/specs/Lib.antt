@@ -1,0 +1,6 @@
+pub mod Draining
+pub mod Ending
+pub mod Served
+pub mod Solo
+pub mod SoloAsks
+pub mod SoloCourse

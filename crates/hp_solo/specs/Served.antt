@@ -1,0 +1,37 @@
+-- How participants serve while others do their lines: the rule "Turns in one thread" of docs/PARTICIPANTS.md.
+use Rattle.std.specs.Prelude.{◌≡◌, ℕ, Bool, List, [], ◌++◌, length, Option, Some, None, ⊤}
+use Rattle.std.specs.List.Sorted.{IsNonDecreasingBy}
+use Rattle.hp_hall.specs.HallView.{HallView, HasDone}
+use Rattle.hp_hall.specs.Mail.{MailStep}
+use Rattle.hp_proc.specs.Coordinating.{IsServed}
+use Rattle.hp_proc.specs.Party.{Party}
+
+-- servings one after another, with pauses between them that do nothing
+pub data ServesOn (count : ℕ) : Party → Party → List MailStep → Type 0 where
+  rests : (party : Party) → ServesOn count party party []
+  serves : (party mid after : Party) (first last : List MailStep) (moved : Bool) → ServesOn count party mid first
+      → IsServed count mid after last (Some moved) → ServesOn count party after (first ++ last)
+
+-- from one state to a later one a participant served, and did nothing else
+pub record HasServed (count who : ℕ) (old new : HallView) (party after : Party) : Type 0 where
+  pub steps : List MailStep
+  pub did : HasDone old new who steps
+  pub serves : ServesOn count party after steps
+
+-- so did the one of that number, where it is there; of one that is away nothing is said
+abbrev pub HasServedAt : HallView → HallView → ℕ → Option Party → Option Party → Type 0
+HasServedAt old new who None after = ⊤
+HasServedAt old new who (Some party) None = ⊥
+HasServedAt old new who (Some party) (Some after) = HasServed (length old.owns) who old new party after
+
+-- so did one that is there, by its own number
+abbrev pub HasServedAs : HallView → HallView → Option Party → Option Party → Type 0
+HasServedAs old new None after = ⊤
+HasServedAs old new (Some party) None = ⊥
+HasServedAs old new (Some party) (Some after) = HasServed (length old.owns) party.me old new party after
+
+-- from one state to a later one participants served in rising number: who did something did it behind nobody of a higher number
+pub record IsInRisingNumber (old new : HallView) : Type 0 where
+  pub steps : List (ℕ × MailStep)
+  pub mail : new.mail ≡ old.mail ++ steps
+  pub rising : IsNonDecreasingBy (λ step. step.0) steps

@@ -1,0 +1,131 @@
+-- The course of a hall of one thread: what later states keep of earlier ones, and that this joins: the rule "Turns in one thread" of
+-- docs/PARTICIPANTS.md.
+use Rattle.std.specs.Prelude.{◌≡◌, ℕ, Bool, true, false, List, [], ◌++◌, length, Option, Some, None, IsSome, refl}
+use Rattle.std.proofs.Common.{◌∙◌, sym, subst}
+use Rattle.std.proofs.lemmas.List.{append-nil, append_assoc}
+use Rattle.hp_hall.specs.Course.{IsCourse, course_same, course_then, done_same, done_then}
+use Rattle.hp_hall.specs.HallView.{HallView, HasDone}
+use Rattle.hp_hall.specs.Mail.{MailStep}
+use Rattle.hp_proc.specs.Party.{IsSameParty, Party}
+use Rattle.hp_solo.specs.Served.{HasServed, HasServedAt, ServesOn}
+use Rattle.hp_solo.specs.Served.ServesOn.{rests, serves}
+use Rattle.hp_solo.specs.Solo.{AreLater, IsAway, IsLaterAt, IsLaterParty, ServerView, SoloView, party_in, server_at}
+
+-- from one state to a later one: the plain values go on, and so does each that serves
+pub record IsSoloCourse (old new : SoloView) : Type 0 where
+  pub plain : IsCourse old.plain new.plain
+  pub servers : AreLater old new
+
+-- servings join
+pub servings_join : (count : ℕ) (first last : List MailStep) (party mid after : Party) → ServesOn count party mid first → ServesOn count mid after last
+    → ServesOn count party after (first ++ last)
+servings_join count first _ party mid _ before (rests _) =
+    subst (λ (steps : List MailStep). ServesOn count party mid steps) (sym (append-nil first)) before
+servings_join count first _ party mid _ before (serves _ between after front rear moved here one) =
+    subst (λ (steps : List MailStep). ServesOn count party after steps) (append_assoc first front rear)
+    (serves party between after (first ++ front) rear moved (servings_join count first front party mid between before here) one)
+
+pub served_then : (count who : ℕ) (a b c : HallView) (party mid after : Party) → HasServed count who a b party mid
+    → HasServed count who b c mid after → HasServed count who a c party after
+served_then count who a b c party mid after here next = record {
+  steps = here.steps ++ next.steps;
+  did = done_then a b c who here.steps next.steps here.did next.did;
+  serves = servings_join count here.steps next.steps party mid after here.serves next.serves;
+}
+
+-- one that is there and does nothing serves no more
+served_none : (old new : HallView) (who : ℕ) (party : Option Party) → (IsSome party → HasDone old new who []) → HasServedAt old new who party party
+served_none old new who None nothing = tt
+served_none old new who (Some party) nothing = record { steps = []; did = nothing refl; serves = rests party }
+
+served_on : (a b c : HallView) (who : ℕ) → length b.owns ≡ length a.owns → (party mid after : Option Party) → HasServedAt a b who party mid
+    → HasServedAt b c who mid after → HasServedAt a c who party after
+served_on a b c who count None mid after here next = tt
+served_on a b c who count (Some party) None after here next = absurd here
+served_on a b c who count (Some party) (Some mid) None here next = absurd next
+served_on a b c who count (Some party) (Some mid) (Some after) here next =
+    served_then (length a.owns) who a b c party mid after here (subst (λ (n : ℕ). HasServed n who b c mid after) count next)
+
+pub party_same : (party : Option Party) → IsLaterParty party party
+party_same None = tt
+party_same (Some party) = record { me = refl; socket = refl; plan = refl; deadline = refl; context = refl }
+
+-- a place stays where one that is there does nothing
+pub server_stays : (old new : HallView) (who : ℕ) (server : Option ServerView) → (IsSome (party_in server) → HasDone old new who [])
+    → IsLaterAt old new who server server
+server_stays old new who None nothing = tt
+server_stays old new who (Some server) nothing = record {
+  party = party_same server.party;
+  stopped = λ is. is;
+  served = λ going. served_none old new who server.party nothing;
+}
+
+pub same_then : (a b c : Party) → IsSameParty a b → IsSameParty b c → IsSameParty a c
+same_then a b c here next = record {
+  me = next.me ∙ here.me;
+  socket = next.socket ∙ here.socket;
+  plan = next.plan ∙ here.plan;
+  deadline = next.deadline ∙ here.deadline;
+  context = next.context ∙ here.context;
+}
+
+party_then : (a b c : Option Party) → IsLaterParty a b → IsLaterParty b c → IsLaterParty a c
+party_then None None None here next = tt
+party_then None None (Some c) here next = absurd next
+party_then None (Some b) c here next = absurd here
+party_then (Some a) None c here next = absurd here
+party_then (Some a) (Some b) None here next = absurd next
+party_then (Some a) (Some b) (Some c) here next = same_then a b c here next
+
+-- one that has not stopped later on had not before
+pub not_before : (old new : Bool) → (old ≡ true → new ≡ true) → new ≡ false → old ≡ false
+not_before false new later going = refl
+not_before true new later going = let is : new ≡ true = later refl in cc
+
+server_then : (a b c : HallView) (who : ℕ) → length b.owns ≡ length a.owns → (first second third : Option ServerView)
+    → IsLaterAt a b who first second → IsLaterAt b c who second third → IsLaterAt a c who first third
+server_then a b c who count None None None here next = tt
+server_then a b c who count None None (Some third) here next = absurd next
+server_then a b c who count None (Some second) third here next = absurd here
+server_then a b c who count (Some first) None third here next = absurd here
+server_then a b c who count (Some first) (Some second) None here next = absurd next
+server_then a b c who count (Some first) (Some second) (Some third) here next = record {
+  party = party_then first.party second.party third.party here.party next.party;
+  stopped = λ is. next.stopped (here.stopped is);
+  served = λ going.
+      served_on a b c who count first.party second.party third.party
+      (here.served (not_before second.stopped third.stopped next.stopped going)) (next.served going);
+}
+
+pub later_then : (a b c : SoloView) → IsCourse a.plain b.plain → AreLater a b → AreLater b c → AreLater a c
+later_then a b c course here next who =
+    server_then a.plain b.plain c.plain who course.count (server_at a.servers who) (server_at b.servers who) (server_at c.servers who)
+    (here who) (next who)
+
+pub solo_same : (a : SoloView) → IsSoloCourse a a
+solo_same a = record {
+  plain = course_same a.plain;
+  servers = λ who. server_stays a.plain a.plain who (server_at a.servers who) (λ there. done_same a.plain who);
+}
+
+pub solo_then : (a b c : SoloView) → IsSoloCourse a b → IsSoloCourse b c → IsSoloCourse a c
+solo_then a b c here next = record {
+  plain = course_then a.plain b.plain c.plain here.plain next.plain;
+  servers = later_then a b c here.plain here.servers next.servers;
+}
+
+none_stays : (a b : Option Party) → IsLaterParty a b → a ≡ None → b ≡ None
+none_stays None None later none = refl
+none_stays None (Some b) later none = absurd later
+none_stays (Some a) None later none = refl
+none_stays (Some a) (Some b) later none = cc
+
+away_stays : (old new : HallView) (who : ℕ) (a b : Option ServerView) → IsLaterAt old new who a b → IsAway a → IsAway b
+away_stays old new who None b later away = absurd away
+away_stays old new who (Some a) None later away = absurd later
+away_stays old new who (Some a) (Some b) later away = none_stays a.party b.party later.party away
+
+-- who is away stays away
+pub solo_serves : (a b : SoloView) (who : ℕ) → IsSoloCourse a b → IsAway (server_at a.servers who) → IsAway (server_at b.servers who)
+solo_serves a b who course away =
+    away_stays a.plain b.plain who (server_at a.servers who) (server_at b.servers who) (course.servers who) away

@@ -1,0 +1,110 @@
+//! A hall in which participants take turns in one thread.
+ghost use Rattle.std.specs.Prelude.{◌≡◌, ◌≢◌, ◌<◌, ℕ, None, Some, IfOk, IfSome, length, option_map, replicate};
+ghost use Rattle.hp_solo.specs.Solo.{IsAway, IsNextDue, IsSolo, IsTiedAt, has_stopped, nobody, party_at, server_at, with_party};
+ghost use Rattle.hp_solo.specs.SoloCourse.{IsSoloCourse};
+
+mod calls;
+mod deadlines;
+mod draining;
+mod ending;
+mod serving;
+#[cfg(test)]
+mod tests;
+mod waiting;
+
+use crate::server::{Server, places};
+use deadlines::next_due;
+use hp_base::Mapper;
+use hp_hall::{Hall, PlainHall};
+use hp_proc::Participant;
+use std::alloc::{AllocError, Global};
+use std::marker::Model;
+
+/// A hall of plain values and the participants, who take turns in one thread: while one of them does its line, the others are there
+/// and serve whenever it waits. Contracts see it as a `SoloView`. Own.
+#[derive(Drop)]
+pub struct SoloHall<'p, M: Mapper> {
+    plain: PlainHall,
+    servers: Vec<Server<'p, M>>,
+}
+
+impl<'p, M: Mapper> Model for SoloHall<'p, M> {
+    ghost use Rattle.hp_solo.specs.Solo.{SoloView, IsSolo};
+
+    ghost Value = { SoloView };
+
+    ghost view = { λ a. record { plain = a.plain; servers = a.servers.items } };
+
+    ghost invariant = { λ a. IsSolo (record { plain = a.plain; servers = a.servers.items }) };
+}
+
+impl<'p, M: Mapper> SoloHall<'p, M> {
+    /// A hall of these values, with a place for each of their participants, who are all away. Own.
+    pub fn new(alloc: Global, plain: PlainHall) -> Result<SoloHall<'p, M>, AllocError>
+        ensures { IfOk result (λ hall. hall ≡ record { plain = plain; servers = replicate (length plain.owns) nobody }) }
+    {
+        let servers = places(alloc, plain.participants())?;
+        Ok(SoloHall { plain, servers })
+    }
+
+    /// Takes a participant out, which does its line from then on; it is `None` where it is out already. Own.
+    pub fn away(&mut self, me: u8) -> Option<Participant<'p, M>>
+        requires declared { me < length self.old.plain.owns }
+        ensures party { result ≡ party_at self.old.servers me }
+        ensures tied { IfSome result (λ party. IsTiedAt self.new.plain me party) }
+        ensures away { IsAway (server_at self.new.servers me) }
+        ensures place { server_at self.new.servers me ≡ option_map (with_party None) (server_at self.old.servers me) }
+        ensures others { (who : ℕ) → who ≢ me → server_at self.new.servers who ≡ server_at self.old.servers who }
+        ensures plain { self.new.plain ≡ self.old.plain }
+    {
+        self.servers[me as usize].away()
+    }
+
+    /// A participant comes back from its line, and serves from then on. Own.
+    pub fn back(&mut self, participant: Participant<'p, M>)
+        requires declared { participant.me < length self.old.plain.owns }
+        requires tied { IsTiedAt self.old.plain participant.me participant }
+        ensures party { party_at self.new.servers participant.entry.me ≡ Some participant.entry }
+        ensures place { server_at self.new.servers participant.entry.me
+            ≡ option_map (with_party (Some participant.entry)) (server_at self.old.servers participant.entry.me) }
+        ensures others { (who : ℕ) → who ≢ participant.entry.me → server_at self.new.servers who ≡ server_at self.old.servers who }
+        ensures plain { self.new.plain ≡ self.old.plain }
+    {
+        let me = participant.number();
+        self.servers[me as usize].back(participant);
+    }
+
+    /// Ends the hall, and hands out its plain values. Own.
+    pub fn into_plain(self) -> PlainHall
+        ensures { result ≡ self.entry.plain }
+    {
+        self.plain
+    }
+
+    /// What holds of every such hall: each participant of its values has a place, and the table of each that is there is tied to what the
+    /// values have of it. It does nothing. Own.
+    pub fn sound(&self)
+        ensures { IsSolo self.now }
+    {
+        let _ = &self.servers;
+    }
+
+    /// Whether one of the participants that are there has met a refusal of memory. Own.
+    pub fn has_stopped(&self) -> bool
+        ensures { result ≡ has_stopped self.now.servers }
+    {
+        self.servers.iter().any(|server| server.is_stopped())
+    }
+
+    // The clock jumps to the least of a deadline and those of participants that are there, of such as are still to come.
+    fn jump_next(&mut self, until: u64)
+        requires later { self.old.plain.clock < until }
+        ensures next { IsNextDue self.old.plain.clock self.old.servers until self.new.plain.clock }
+        ensures clock { self.new.plain ≡ record self.old.plain { clock = self.new.plain.clock } }
+        ensures servers { self.new.servers ≡ self.old.servers }
+        ensures course { IsSoloCourse self.old self.new }
+    {
+        let reading = next_due(self.servers.as_slice(), self.plain.clock(), until);
+        self.plain.jump(reading);
+    }
+}

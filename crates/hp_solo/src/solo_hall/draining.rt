@@ -1,0 +1,81 @@
+//! Turns of all participants, which end once nothing is left for any of them.
+ghost use Rattle.std.specs.Prelude.{◌≡◌, ◌+◌, ◌≤◌, ℕ, false, true};
+ghost use Rattle.hp_base.specs.declared.limits.TheConstants.{MAX_HEAPS};
+ghost use Rattle.hp_hall.specs.HallView.{IsHome, part_in, slot_at, taken_from};
+ghost use Rattle.hp_proc.specs.Falling.{if_moved};
+ghost use Rattle.hp_solo.specs.Draining.{AreEmpty, IsDrained, IsLeastDue, IsNoneDue, TurnsLeave};
+ghost use Rattle.hp_solo.specs.Served.{IsInRisingNumber};
+ghost use Rattle.hp_solo.specs.Solo.{IsServerAtRest, has_stopped, server_at, solo_weight};
+ghost use Rattle.hp_solo.specs.SoloCourse.{IsSoloCourse};
+
+use super::SoloHall;
+use super::deadlines::least_due;
+use super::serving::serve_range;
+use hp_base::Mapper;
+
+impl<'p, M: Mapper> SoloHall<'p, M> {
+    // All who are there serve, in rising number, each until nothing is left for it. Returned is whether something moved.
+    fn serve_all(&mut self) -> bool
+        requires home { IsHome (slot_at self.old.plain MAX_HEAPS) }
+        ensures leaves { TurnsLeave self.old self.new }
+        ensures rising { IsInRisingNumber self.old.plain self.new.plain }
+        ensures weight { solo_weight self.new + if_moved result ≤ solo_weight self.old }
+        ensures rests { (who : ℕ) → IsServerAtRest self.new.plain.clock (server_at self.new.servers who) }
+        ensures quiet { result ≡ false → has_stopped self.new.servers ≡ false → AreEmpty self.new }
+    {
+        let count = self.servers.len();
+        serve_range(&mut self.plain, &mut self.servers, 0, count)
+    }
+
+    // The clock jumps to the least deadline that is still to come and will pass. Returned is whether there is one.
+    fn jump_due(&mut self) -> bool
+        ensures leaves { TurnsLeave self.old self.new }
+        ensures weight { solo_weight self.new + if_moved result ≤ solo_weight self.old }
+        ensures least { result ≡ true → IsLeastDue self.old.plain.clock self.old.servers self.new.plain.clock }
+        ensures none { result ≡ false → IsNoneDue self.old.plain.clock self.old.servers }
+        ensures still { result ≡ false → self.new ≡ self.old }
+    {
+        match least_due(self.servers.as_slice(), self.plain.clock()) {
+            None => false,
+            Some(due) => {
+                self.plain.jump(due);
+                true
+            }
+        }
+    }
+
+    // All serve, and where nothing moved the clock jumps. Returned is whether either was so.
+    fn turn_all(&mut self) -> bool
+        requires home { IsHome (slot_at self.old.plain MAX_HEAPS) }
+        ensures leaves { TurnsLeave self.old self.new }
+        ensures weight { solo_weight self.new + if_moved result ≤ solo_weight self.old }
+        ensures drained { result ≡ false → IsDrained self.new }
+    {
+        let moved = self.serve_all();
+        if moved {
+            return true;
+        }
+        self.jump_due()
+    }
+
+    /// Serves all who are there, in rising number and again and again, until nothing moves. Then the clock jumps to the least deadline of
+    /// a round that is still to come, and they serve on, until there is none. This is how a run goes on behind its last line. Own.
+    pub fn drain(&mut self)
+        requires home { IsHome (slot_at self.old.plain MAX_HEAPS) }
+        ensures drained { IsDrained self.new }
+        ensures weight { solo_weight self.new ≤ solo_weight self.old }
+
+        // What stays.
+        ensures taken { (number : ℕ) → taken_from (slot_at self.new.plain number) ≡ taken_from (slot_at self.old.plain number) }
+        ensures home { (number : ℕ) → IsHome (slot_at self.old.plain number) → IsHome (slot_at self.new.plain number) }
+        ensures part { (who heap : ℕ) → part_in self.new.plain who heap ≡ part_in self.old.plain who heap }
+        ensures goes_on { IsSoloCourse self.old self.new }
+    {
+        'draining: loop {
+            let more = self.turn_all();
+            if !more {
+                return;
+            }
+        }
+    }
+}

@@ -1,0 +1,90 @@
+//! Participants that serve, one after another.
+ghost use Rattle.std.specs.Prelude.{◌≡◌, ◌≢◌, ℕ, ◌+◌, ◌≤◌, ◌<◌, ◌||◌, false, length};
+ghost use Rattle.hp_base.specs.declared.limits.TheConstants.{MAX_HEAPS};
+ghost use Rattle.hp_hall.specs.HallView.{IsHome, slot_at};
+ghost use Rattle.hp_hall.specs.Weights.{boxes_weight, pending_at};
+ghost use Rattle.hp_proc.specs.Falling.{if_moved};
+ghost use Rattle.hp_solo.specs.Served.{IsInRisingNumber};
+ghost use Rattle.hp_solo.specs.Solo.{
+  AreLater,
+  AreTied,
+  IsBetween,
+  IsOutside,
+  IsQuiet,
+  IsServerAtRest,
+  IsServing,
+  LooksLastAt,
+  server_at,
+  servers_weight,
+};
+
+use crate::server::Server;
+use hp_base::Mapper;
+use hp_hall::PlainHall;
+
+// Serves those from one number to below another, in rising number, each until nothing is left for it, and tells whether something moved.
+pub fn serve_range<M: Mapper>(
+    hall: &mut PlainHall,
+    servers: &mut Vec<Server<'_, M>>,
+    from: usize,
+    to: usize,
+) -> bool
+    requires there { IsHome (slot_at hall.old MAX_HEAPS) }
+    requires count { length servers.old.items ≡ length hall.old.owns }
+    requires tied { AreTied hall.old servers.old.items }
+    requires within { to ≤ length servers.old.items }
+    ensures serving { IsServing (IsOutside from to) hall.old hall.new }
+    ensures rising { IsInRisingNumber hall.old hall.new }
+    ensures tied { AreTied hall.new servers.new.items }
+    ensures later { AreLater (record { plain = hall.old; servers = servers.old.items })
+        (record { plain = hall.new; servers = servers.new.items }) }
+    ensures count { length servers.new.items ≡ length servers.old.items }
+    ensures weight { boxes_weight hall.new.boxes + servers_weight (pending_at hall.new.clock) servers.new.items + if_moved result
+        ≤ boxes_weight hall.old.boxes + servers_weight (pending_at hall.old.clock) servers.old.items }
+    ensures rests { (who : ℕ) → from ≤ who → who < to → IsServerAtRest hall.new.clock (server_at servers.new.items who) }
+    ensures looks { (who : ℕ) → from ≤ who → who < to → LooksLastAt hall.old hall.new who (server_at servers.new.items who) }
+    ensures others { (who : ℕ) → IsOutside from to who → server_at servers.new.items who ≡ server_at servers.old.items who }
+    ensures quiet { result ≡ false → IsQuiet (IsBetween from to) (record { plain = hall.old; servers = servers.old.items })
+        (record { plain = hall.new; servers = servers.new.items }) }
+{
+    let mut moved = false;
+    for number in from..to {
+        let served = serve_at(hall, servers, number);
+        moved = either(moved, served);
+    }
+    moved
+}
+
+// Serves the one of a number.
+fn serve_at<M: Mapper>(
+    hall: &mut PlainHall,
+    servers: &mut Vec<Server<'_, M>>,
+    number: usize,
+) -> bool
+    requires there { IsHome (slot_at hall.old MAX_HEAPS) }
+    requires count { length servers.old.items ≡ length hall.old.owns }
+    requires tied { AreTied hall.old servers.old.items }
+    requires within { number < length servers.old.items }
+    ensures serving { IsServing (λ who. who ≢ number) hall.old hall.new }
+    ensures tied { AreTied hall.new servers.new.items }
+    ensures later { AreLater (record { plain = hall.old; servers = servers.old.items })
+        (record { plain = hall.new; servers = servers.new.items }) }
+    ensures count { length servers.new.items ≡ length servers.old.items }
+    ensures weight { boxes_weight hall.new.boxes + servers_weight (pending_at hall.new.clock) servers.new.items + if_moved result
+        ≤ boxes_weight hall.old.boxes + servers_weight (pending_at hall.old.clock) servers.old.items }
+    ensures others { (who : ℕ) → who ≢ number → server_at servers.new.items who ≡ server_at servers.old.items who }
+    ensures rests { IsServerAtRest hall.new.clock (server_at servers.new.items number) }
+    ensures looks { LooksLastAt hall.old hall.new number (server_at servers.new.items number) }
+    ensures quiet { result ≡ false → IsQuiet (λ who. who ≡ number) (record { plain = hall.old; servers = servers.old.items })
+        (record { plain = hall.new; servers = servers.new.items }) }
+{
+    let server = &mut servers[number];
+    server.serve(hall)
+}
+
+// One of two moved.
+fn either(first: bool, second: bool) -> bool
+    ensures { result ≡ (first || second) }
+{
+    first || second
+}

@@ -1,0 +1,148 @@
+//! Two participants in a hall of plain values, by hand: what each serving does, what it leaves in the log, and in which tables.
+ghost use Rattle.std.specs.Prelude.{◌≡◌, ◌<◌, ℕ, List, [], ◌∷◌, Some, IfOk, IsSome, slice_get};
+ghost use Rattle.hp_base.specs.declared.limits.TheConstants.{MAX_PARTICIPANTS};
+ghost use Rattle.hp_hall.specs.Holding.{IsArmed, owned_by};
+ghost use Rattle.hp_hall.specs.Opening.{AreInOrder};
+ghost use Rattle.hp_heap.specs.History.{HeapView};
+ghost use Rattle.hp_log.specs.declared.log_record.LogRecord.{LogRecord};
+ghost use Rattle.hp_segs.specs.Opening.{opening};
+ghost use Rattle.hp_proc.specs.Tied.{IsTied, nothing_yet};
+
+mod acts;
+mod asks;
+mod attaching;
+mod ends;
+mod frames;
+mod growths;
+mod pages;
+pub(crate) mod shown;
+mod stage;
+
+use acts::Act;
+use hp_base::{MAX_HEAPS, MAX_SEGMENTS, MemMapper, MsgKind, Plan, PlanEntry, PoolLine, Request};
+use hp_heap::Heap;
+use hp_maps::{LocalMaps, Planned};
+use hp_proc::{LineContext, Participant};
+use hp_segs::{Ask, Segs};
+use pages::retire_page;
+use stage::Stage;
+use std::alloc::{AllocError, Global};
+use std::test::Fail;
+
+pub(crate) const PAGE: u64 = 0x20_0000;
+
+// Where the first list begins.
+pub(crate) const BASE: u64 = 0x1_0000_0000;
+
+// How long participants wait for others, in milliseconds.
+const DEADLINE: u64 = 200;
+
+// A heap without memory: the first one is that of socket 0.
+fn empty_heap(alloc: Global, index: u32) -> Heap
+    ensures index { result.plain.index ≡ index }
+    ensures bare { result.plain.pages ≡ [] }
+    ensures serves { index ≡ 0 → IsSome result.plain.serves }
+{
+    if index == 0 {
+        Heap::socket(alloc, 0, 0)
+    } else {
+        Heap::vacant(alloc, index)
+    }
+}
+
+// All heaps, without memory.
+pub(crate) fn empty_heaps(alloc: Global) -> Result<Vec<Heap>, AllocError>
+    ensures order { IfOk result (λ heaps. AreInOrder heaps.items) }
+    ensures bare { IfOk result (λ heaps. (number : ℕ) (heap : HeapView) → slice_get heaps.items number ≡ Some heap → heap.plain.pages ≡ []) }
+    ensures serves { IfOk result (λ heaps. (heap : HeapView) → slice_get heaps.items 0 ≡ Some heap → IsSome heap.plain.serves) }
+{
+    let mut heaps = Vec::with_capacity(alloc, MAX_HEAPS)?;
+    for index in 0..MAX_HEAPS as u32 {
+        heaps.push_reserved(empty_heap(alloc, index));
+    }
+    Ok(heaps)
+}
+
+// The first ask of a participant: a page of 2M for heap 0.
+pub(crate) fn first_ask(from: u8) -> Result<Ask, Fail>
+    ensures { IfOk result (λ ask. ask.from ≡ from) }
+{
+    let request = Request::new(1000, 0, 0, 0).ok().ok_or("a good request")?;
+    Ok(Ask {
+        from,
+        number: 1,
+        heap: 0,
+        socket: 0,
+        page: PAGE,
+        request,
+    })
+}
+
+// A segment value of the pool line `pool 0 2M 4`, of two participants.
+pub(crate) fn opening_segs(alloc: Global) -> Result<Segs, AllocError>
+    ensures { IfOk result (λ segs. segs ≡ opening (record { socket = 0; page = PAGE; pages = 4; slots = 4 } ∷ []) 2 0) }
+{
+    let pool = PoolLine {
+        socket: 0,
+        page: PAGE,
+        pages: 4,
+        slots: 4,
+    };
+    Segs::new(alloc, [pool].as_slice(), 2, 0)
+}
+
+// One of the two is armed with its first ask. No heap owns a segment.
+pub(crate) fn armed_segs(alloc: Global, asker: u8) -> Result<Segs, Fail>
+    requires { asker < 2 }
+    ensures armed { IfOk result (λ segs. IsArmed segs) }
+    ensures unowned { IfOk result (λ segs. (heap : ℕ) → owned_by heap segs ≡ []) }
+{
+    let mut segs = opening_segs(alloc)?;
+    let ask = first_ask(asker)?;
+    segs.arm(&ask)?;
+    Ok(segs)
+}
+
+// Participant 1 is armed, and heap 0 was granted a page by the first ask of participant 0, and has given it up.
+fn retired_segs(alloc: Global) -> Result<Segs, Fail>
+    ensures armed { IfOk result (λ segs. IsArmed segs) }
+    ensures unowned { IfOk result (λ segs. (heap : ℕ) → owned_by heap segs ≡ []) }
+{
+    let mut segs = opening_segs(alloc)?;
+    retire_page(&mut segs)?;
+    let ask = first_ask(1)?;
+    segs.arm(&ask)?;
+    Ok(segs)
+}
+
+// A plan of what becomes of a first message of participant 1, or for it.
+pub(crate) fn add_message(plan: &mut Plan, kind: MsgKind, twice: bool) -> Result<(), Fail> {
+    if !plan.entries().is_empty() {
+        return Err("an empty plan".into());
+    }
+    plan.add(PlanEntry::Message {
+        kind,
+        party: 1,
+        k: 1,
+        twice,
+        line: 5,
+    })?;
+    Ok(())
+}
+
+// A participant that is attached and has taken in nothing, with a table over memory.
+pub(crate) fn member<'p>(
+    alloc: Global,
+    me: u8,
+    plan: &'p Plan,
+) -> Result<Participant<'p, MemMapper>, AllocError>
+    requires declared { me < MAX_PARTICIPANTS }
+    ensures number { IfOk result (λ party. party.me ≡ me) }
+    ensures tied { IfOk result (λ party. (log : List LogRecord) → IsTied log nothing_yet party.joined party.maps) }
+{
+    let rows = MAX_SEGMENTS as usize;
+    let mapper = Planned::new(MemMapper::new(alloc, rows)?, plan, me);
+    let maps = LocalMaps::new(alloc, mapper, rows)?;
+    let context = LineContext::new(alloc, None, true);
+    Ok(Participant::new(me, 0, true, maps, plan, DEADLINE, context))
+}

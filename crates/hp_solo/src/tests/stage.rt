@@ -1,0 +1,203 @@
+//! Two participants and their hall.
+ghost use Rattle.std.specs.Prelude.{◌≡◌, ◌<◌, ℕ, []};
+ghost use Rattle.hp_hall.specs.Holding.{IsArmed, owned_by};
+
+use super::shown::{End, SegsShown, shown_in};
+use super::{armed_segs, empty_heaps, member, retired_segs};
+use hp_base::{Action, MemMapper, Plan, Row};
+use hp_frame::Frame;
+use hp_hall::{Hall, PlainHall, Posted};
+use hp_proc::{Participant, put_back, take_segments};
+use hp_script::{Act, Answer, Line};
+use hp_segs::Segs;
+use std::alloc::{AllocError, Global};
+use std::marker::Model;
+use std::test::Fail;
+
+// A hall of plain values, and its two participants.
+#[derive(Drop)]
+pub(super) struct Stage<'p> {
+    hall: PlainHall,
+    primary: Participant<'p, MemMapper>,
+    secondary: Participant<'p, MemMapper>,
+    plan: &'p Plan,
+    alloc: Global,
+}
+
+impl<'p> Model for Stage<'p> {
+    ghost use Rattle.std.specs.Prelude.{◌≡◌, length};
+    ghost use Rattle.hp_hall.specs.HallView.{HallView};
+    ghost use Rattle.hp_hall.specs.Opening.{AreHome};
+    ghost use Rattle.hp_solo.specs.Solo.{IsTiedAt};
+
+    ghost Value = { HallView };
+
+    ghost view = { λ a. a.hall };
+
+    // All values are there, and each participant's table is tied to what the hall knows of it.
+    ghost invariant = { λ a. (length a.hall.owns ≡ 2) × AreHome a.hall × IsTiedAt a.hall 0 a.primary × IsTiedAt a.hall 1 a.secondary };
+}
+
+// What the segment value and the tables show.
+#[derive(Clone, Copy, Debug, PartialEq, Eq)]
+pub(super) struct Shown {
+    // How many records the log has, and how many each participant has acknowledged.
+    pub records: usize,
+    pub numbers: (u64, u64),
+    // The free pages of the pool.
+    pub left: u64,
+    // The first row of each table.
+    pub rows: (Option<Row>, Option<Row>),
+    // How many outcomes are logged, and the last one, with the number of its participant and of its ask.
+    pub outcomes: usize,
+    pub last: Option<(u8, u64, End)>,
+}
+
+impl<'p> Stage<'p> {
+    // Two participants that have taken in nothing, in a hall of that segment value.
+    fn over(alloc: Global, plan: &'p Plan, segs: Segs) -> Result<Stage<'p>, AllocError>
+        requires armed { IsArmed segs }
+        requires unowned { (heap : ℕ) → owned_by heap segs ≡ [] }
+    {
+        let primary = member(alloc, 0, plan)?;
+        let secondary = member(alloc, 1, plan)?;
+        let heaps = empty_heaps(alloc)?;
+        let hall = PlainHall::new(alloc, 2, heaps, segs)?;
+        Ok(Stage {
+            hall,
+            primary,
+            secondary,
+            plan,
+            alloc,
+        })
+    }
+
+    // Participant 1 is armed with its first ask.
+    pub(super) fn new(alloc: Global, plan: &'p Plan) -> Result<Stage<'p>, Fail> {
+        let segs = armed_segs(alloc, 1)?;
+        Ok(Stage::over(alloc, plan, segs)?)
+    }
+
+    // Heap 0 has given a page up besides.
+    pub(super) fn with_retired_page(alloc: Global, plan: &'p Plan) -> Result<Stage<'p>, Fail> {
+        let segs = retired_segs(alloc)?;
+        Ok(Stage::over(alloc, plan, segs)?)
+    }
+
+    // What becomes of the messages and mapping calls.
+    pub(super) fn plan(&self) -> &'p Plan {
+        self.plan
+    }
+
+    // Participant 0 serves once.
+    pub(super) fn serve_primary(&mut self) -> Result<bool, AllocError> {
+        self.primary.serve(&mut self.hall)
+    }
+
+    // Participant 1 serves once.
+    pub(super) fn serve_secondary(&mut self) -> Result<bool, AllocError> {
+        self.secondary.serve(&mut self.hall)
+    }
+
+    // Participant 1 does a line by which it attaches.
+    pub(super) fn attach(&mut self) -> Result<Answer, AllocError> {
+        let line = Line {
+            line: 1,
+            participant: 1,
+            act: Act::Attach,
+        };
+        self.secondary.do_attach(&mut self.hall, &line)
+    }
+
+    // And one by which it detaches.
+    pub(super) fn detach(&mut self) -> Answer {
+        let line = Line {
+            line: 1,
+            participant: 1,
+            act: Act::Detach,
+        };
+        self.secondary.do_detach(&mut self.hall, &line)
+    }
+
+    // The participants in the roster, as bits.
+    pub(super) fn roster(&mut self) -> u16 {
+        let segs = take_segments(&mut self.hall, 0);
+        let roster = segs.roster();
+        put_back(&mut self.hall, 0, segs);
+        roster
+    }
+
+    // One of the two posts to the other.
+    pub(super) fn post(&mut self, from: u8, frame: Frame, action: Action) -> Posted
+        requires { from < 2 }
+    {
+        self.hall.post(from, 1 - from, frame, action)
+    }
+
+    // The clock jumps, where that reading is not behind it.
+    pub(super) fn jump(&mut self, reading: u64) {
+        if self.hall.clock() <= reading {
+            self.hall.jump(reading);
+        }
+    }
+
+    // How often a mailbox was full.
+    pub(super) fn fulls(&self) -> u64 {
+        self.hall.fulls()
+    }
+
+    // When the deadline of a round passes.
+    pub(super) fn due(&self) -> (Option<u64>, Option<u64>) {
+        (self.primary.due(), self.secondary.due())
+    }
+
+    // The numbers of the participants.
+    pub(super) fn who(&self) -> (u8, u8) {
+        (self.primary.number(), self.secondary.number())
+    }
+
+    // The first row of each table.
+    fn rows(&self) -> Result<(Option<Row>, Option<Row>), AllocError> {
+        let first = self.primary.table(self.alloc)?;
+        let second = self.secondary.table(self.alloc)?;
+        Ok((first.rows.first().copied(), second.rows.first().copied()))
+    }
+
+    // How many records one has acknowledged, as the other reads it.
+    fn number_of(&mut self, who: u8) -> u64
+        requires { who < 2 }
+    {
+        self.hall.load_ack(1 - who, who)
+    }
+
+    // Both end.
+    pub(super) fn end(self, alloc: Global) -> Result<(hp_proc::End, hp_proc::End), AllocError> {
+        let Stage {
+            primary,
+            secondary,
+            ..
+        } = self;
+        Ok((primary.end(alloc)?, secondary.end(alloc)?))
+    }
+
+    // What the segment value shows.
+    fn look(&mut self) -> SegsShown {
+        let segs = take_segments(&mut self.hall, 0);
+        let shown = shown_in(&segs);
+        put_back(&mut self.hall, 0, segs);
+        shown
+    }
+
+    // What the segment value and the tables show.
+    pub(super) fn shown(&mut self) -> Result<Shown, AllocError> {
+        let segs = self.look();
+        Ok(Shown {
+            records: segs.records,
+            numbers: (self.number_of(0), self.number_of(1)),
+            left: segs.left,
+            rows: self.rows()?,
+            outcomes: segs.outcomes,
+            last: segs.last,
+        })
+    }
+}
