@@ -1,0 +1,104 @@
+-- Changes: what participants make of the segment value, one small change after another; what stays, what comes to be logged, and why it
+-- is logged. There are so many participants, they wait so long, and at these calls their mappers may fail.
+use Rattle.std.proofs.Common.{◌≡◌, ◌≢◌, ◌∙◌, ℕ, ◌+◌, ◌*◌, ◌<◌, ◌≤◌, Bool, true, false, List, [], ◌∷◌, ◌++◌, length, map, Option, Some, None, refl}
+use Rattle.std.specs.Prelude.{slice_set}
+use Rattle.hp_base.specs.Mapping.{may_fail_at}
+use Rattle.hp_base.specs.declared.map_answer.MapAnswer.{MapAnswer}
+use Rattle.hp_base.specs.declared.row.Run.{Run}
+use Rattle.hp_core.specs.Starting.{cause_of}
+use Rattle.hp_log.specs.declared.log_record.LogRecord.TheVariants.{Add, Drop}
+use Rattle.hp_segs.specs.LaterSteps.{noted_failure, noting}
+use Rattle.hp_segs.specs.SegsView.{SegsView, is_member}
+use Rattle.hp_segs.specs.Sound.{IsSound}
+use Rattle.hp_segs.specs.declared.ask.Ask.{Ask}
+use Rattle.hp_segs.specs.declared.growth.Growth.{Growth}
+use Rattle.hp_segs.specs.declared.outcome.AskLog.{AskLog}
+use Rattle.hp_segs.specs.declared.outcome.Cause.{Cause}
+use Rattle.hp_segs.specs.declared.outcome.Cause.TheVariants.{Late, MapFailed, Withdrawn}
+use Rattle.hp_segs.specs.declared.outcome.Outcome.{Outcome}
+use Rattle.hp_segs.specs.declared.outcome.Outcome.TheVariants.{Freed, Granted, Refused, Stale}
+use Rattle.hp_segs.specs.declared.plan_refusal.PlanRefusal.{PlanRefusal}
+
+-- why an outcome is logged: where it is a refusal, there was no plan, or the open growth failed, or a member of the roster was late, or
+-- the ask was taken back after three deadlines
+pub data IsOwed (deadline : ℕ) (segs : SegsView) : Outcome → Type 0 where
+  by_grant : (generation : ℕ) → IsOwed deadline segs (Granted generation)
+  by_number : (done : ℕ) → IsOwed deadline segs (Stale done)
+  by_notice : (generation : ℕ) → IsOwed deadline segs (Freed generation)
+  by_plan : (refusal : PlanRefusal) → IsOwed deadline segs (Refused (cause_of refusal))
+  by_failure : (cause : Cause) → noted_failure segs ≡ Some cause → IsOwed deadline segs (Refused cause)
+  by_lateness : (participant from to : ℕ) → is_member segs.roster participant ≡ true → from + deadline ≤ to
+      → IsOwed deadline segs (Refused (Late participant from to))
+  by_withdrawal : (since now : ℕ) → since + 3 * deadline ≤ now → IsOwed deadline segs (Refused (Withdrawn since now))
+
+-- an outcome of the ask of a growth, logged beside the number of records
+abbrev pub outcome_for : Growth → Outcome → Option Ask → SegsView → AskLog
+outcome_for growth outcome kept segs = record {
+  from = growth.ask.from;
+  number = growth.ask.number;
+  outcome = outcome;
+  at = length segs.log;
+  ask = kept;
+}
+
+-- a growth ends: its outcome keeps its ask, and all that comes to the log are drops
+pub record Ends (deadline : ℕ) (old new : SegsView) (growth : Growth) (entry : AskLog) : Type 0 where
+  pub sound : IsSound old
+  pub was_open : old.growth ≡ Some growth
+  pub gone : new.growth ≡ None
+  pub runs : List Run
+  pub log : new.log ≡ old.log ++ map (λ run. Drop run) runs
+  pub asks : new.asks ≡ old.asks ++ entry ∷ []
+  pub at : entry.at ≡ length old.log
+  pub kept : entry.ask ≡ Some growth.ask
+  pub owed : IsOwed deadline old entry.outcome
+
+-- who is in the roster stays, or a participant joins, or one other than the first leaves
+pub data MovesRoster (count : ℕ) (old new : List Bool) : Type 0 where
+  same : new ≡ old → MovesRoster count old new
+  joins : (who : ℕ) → who < count → new ≡ slice_set old who true → MovesRoster count old new
+  leaves : (who : ℕ) → who ≢ 0 → new ≡ slice_set old who false → MovesRoster count old new
+
+-- what one change does to the records, the outcomes and the open growth
+pub data Logs (count deadline : ℕ) (may_fail : ℕ → Option (List ℕ)) (old new : SegsView) : Type 0 where
+  nothing : new.log ≡ old.log → new.asks ≡ old.asks → new.growth ≡ old.growth → Logs count deadline may_fail old new
+  -- a failed mapping of a participant is noted, at a call at which its mapper may fail
+  failures : (participant call addr : ℕ) (got : MapAnswer) → participant < count → may_fail_at (may_fail participant) call ≡ true
+      → new.log ≡ old.log → new.asks ≡ old.asks → new.growth ≡ noting (MapFailed participant call addr got) old.growth
+      → Logs count deadline may_fail old new
+  drops : (runs : List Run) → new.log ≡ old.log ++ map (λ run. Drop run) runs → new.asks ≡ old.asks → new.growth ≡ old.growth
+      → Logs count deadline may_fail old new
+  outcomes : (entry : AskLog) → new.log ≡ old.log → new.asks ≡ old.asks ++ entry ∷ [] → new.growth ≡ old.growth
+      → IsOwed deadline old entry.outcome → Logs count deadline may_fail old new
+  opens : (ask : Ask) (run : Run) (growth : Growth) → old.growth ≡ None → new.log ≡ old.log ++ Add run ask.heap ∷ [] → new.asks ≡ old.asks
+      → new.growth ≡ Some growth → growth.generation ≡ length old.log + 1 → growth.noted ≡ None → Logs count deadline may_fail old new
+  ends : (growth : Growth) (entry : AskLog) → Ends deadline old new growth entry → Logs count deadline may_fail old new
+
+-- one change
+pub record Alters (count deadline : ℕ) (may_fail : ℕ → Option (List ℕ)) (old new : SegsView) : Type 0 where
+  pub pools : new.pools ≡ old.pools
+  pub roster : MovesRoster count old.roster new.roster
+  pub ranges : new.ranges ≡ old.ranges
+  pub logs : Logs count deadline may_fail old new
+
+-- changes, one after another
+pub data Changes (count deadline : ℕ) (may_fail : ℕ → Option (List ℕ)) : SegsView → SegsView → Type 0 where
+  stays : (segs : SegsView) → Changes count deadline may_fail segs segs
+  alters : (old new : SegsView) → Alters count deadline may_fail old new → Changes count deadline may_fail old new
+  goes_on : (first mid last : SegsView) → Changes count deadline may_fail first mid → Changes count deadline may_fail mid last
+      → Changes count deadline may_fail first last
+
+-- what no participant changes
+pub record Stays (old new : SegsView) : Type 0 where
+  pub pools : new.pools ≡ old.pools
+  pub ranges : new.ranges ≡ old.ranges
+
+-- the pools and the external memory stay through all changes
+pub changes_stay : (count deadline : ℕ) (may_fail : ℕ → Option (List ℕ)) (old new : SegsView) → Changes count deadline may_fail old new
+    → Stays old new
+changes_stay count deadline may_fail _ _ (stays segs) = record { pools = refl; ranges = refl }
+changes_stay count deadline may_fail _ _ (alters old new one) = record { pools = one.pools; ranges = one.ranges }
+changes_stay count deadline may_fail _ _ (goes_on old mid new here there) =
+    let before = changes_stay count deadline may_fail old mid here in
+    let behind = changes_stay count deadline may_fail mid new there in
+    record { pools = behind.pools ∙ before.pools; ranges = behind.ranges ∙ before.ranges }

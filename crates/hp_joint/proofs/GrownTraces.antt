@@ -1,0 +1,84 @@
+-- The runs by which a participant's calls grew a heap are those that were granted for it, in their order.
+use Rattle.std.proofs.Common.{◌≡◌, ◌==◌, ◌∙◌, ℕ, ◌+◌, Bool, true, false, cond, List, [], ◌∷◌, ◌++◌, Some, None, refl, ap, sym, if◌then◌else◌, append_assoc}
+use Rattle.hp_base.specs.declared.row.Run.{Run}
+use Rattle.hp_heap.specs.declared.entry.Entry.{Entry}
+use Rattle.hp_heap.specs.declared.entry.HeapCall.TheVariants as call
+use Rattle.hp_script.specs.declared.answer.Answer.{Answer}
+use Rattle.hp_script.specs.declared.workload.Workload.{Workload}
+use Rattle.hp_proc.specs.Courses.{OwnCall, Standing, calls_in, numbered_in}
+use Rattle.hp_proc.specs.Doing.{Done}
+use Rattle.hp_proc.specs.Doing.Done.{Asked, Called, CaughtUp, GaveUp, Looked}
+use Rattle.hp_proc.specs.Histories.{entries_for, entry_for, grown_runs, run_grown}
+use Rattle.hp_proc.specs.LinesDone.{Course, IsDone}
+use Rattle.hp_joint.proofs.PaidLines.{line_pays}
+use Rattle.hp_joint.proofs.PaidTraces.{IsPaid, calls, catches_up, ends, gives_up, is_granted, is_refused, looks}
+
+-- the run that was granted for a heap by what was done, where one was
+abbrev pub run_for : ℕ → Done → List Run
+run_for index (Asked asked (Some run)) = if asked.heap == index then run ∷ [] else []
+run_for index (Asked asked None) = []
+run_for index (Called heap call answer) = []
+run_for index (GaveUp heap run) = []
+run_for index (Looked records) = []
+run_for index (CaughtUp to caught) = []
+
+-- the runs that were granted for a heap in a trace, in their order
+abbrev pub runs_for : ℕ → List Done → List Run
+runs_for index [] = []
+runs_for index (done ∷ trace) = run_for index done ++ runs_for index trace
+
+-- runs of histories one after another
+pub grown_append : (first second : List Entry) → grown_runs (first ++ second) ≡ grown_runs first ++ grown_runs second
+grown_append [] second = refl
+grown_append (entry ∷ first) second =
+    ap (λ runs. run_grown entry.call ++ runs) (grown_append first second)
+    ∙ sym (append_assoc (run_grown entry.call) (grown_runs first) (grown_runs second))
+
+-- the runs by which the calls of a trace grew a heap
+abbrev pub grown_by : ℕ → ℕ → ℕ → List Done → List Run
+grown_by who index number trace = grown_runs (entries_for who index number (calls_in trace))
+
+-- a call that is no growth grows nothing
+no_growth : (who index number : ℕ) (own : OwnCall) (more : List OwnCall) → run_grown own.call ≡ [] → (mine : Bool)
+    → grown_runs (cond mine (entry_for who number own ∷ entries_for who index (number + 1) more) (entries_for who index (number + 1) more))
+    ≡ grown_runs (entries_for who index (number + 1) more)
+no_growth who index number own more none true = ap (λ runs. runs ++ grown_runs (entries_for who index (number + 1) more)) none
+no_growth who index number own more none false = refl
+
+one_growth : (run : Run) (grown search : Entry) (mine : Bool) → grown.call ≡ call.Grow run → run_grown search.call ≡ []
+    → grown_runs (cond mine (grown ∷ cond mine (search ∷ []) []) (cond mine (search ∷ []) [])) ≡ cond mine (run ∷ []) [] ++ []
+one_growth run grown search true grows searches = rw (grows, searches) refl
+one_growth run grown search false grows searches = refl
+
+-- where each granted run comes to its heap, the heap grows by what was granted for it
+pub paid_grows : (given : Answer) (who index number : ℕ) (trace : List Done) → IsPaid given trace
+    → grown_by who index number trace ≡ runs_for index trace
+paid_grows given who index number _ ends = refl
+paid_grows given who index number _ (calls heap step found trace none paid) =
+    no_growth who index number (record { heap = heap; call = step; answer = found }) (calls_in trace) none (heap == index)
+    ∙ paid_grows given who index (number + 1) trace paid
+paid_grows given who index number _ (is_refused asked trace paid) = paid_grows given who index number trace paid
+paid_grows given who index number _ (gives_up heap run trace paid) = paid_grows given who index number trace paid
+paid_grows given who index number _ (looks records trace paid) = paid_grows given who index number trace paid
+paid_grows given who index number _ (catches_up to caught trace paid) = paid_grows given who index number trace paid
+paid_grows given who index number _ (is_granted asked run tag grown found allows last) =
+    one_growth run
+    (entry_for who number (record { heap = asked.heap; call = call.Grow run; answer = grown }))
+    (entry_for who (number + 1) (record { heap = asked.heap; call = call.Alloc asked.request tag; answer = found }))
+    (asked.heap == index) refl refl
+
+-- so it is with each line
+pub line_grows : (workload : Workload) (standing : Standing) (course : Course) (who index number : ℕ) → IsDone workload standing course
+    → grown_by who index number course.trace ≡ runs_for index course.trace
+line_grows workload standing course who index number done =
+    paid_grows course.answer who index number course.trace
+    (line_pays course.line course.line.act done.facts course.trace course.answer done.does)
+
+-- what takes no number is no grant
+pub runs_numbered : (index : ℕ) (trace : List Done) → runs_for index (numbered_in trace) ≡ runs_for index trace
+runs_numbered index [] = refl
+runs_numbered index (Called heap call answer ∷ trace) = runs_numbered index trace
+runs_numbered index (Asked asked run ∷ trace) = ap (λ runs. run_for index (Asked asked run) ++ runs) (runs_numbered index trace)
+runs_numbered index (GaveUp heap run ∷ trace) = runs_numbered index trace
+runs_numbered index (Looked records ∷ trace) = runs_numbered index trace
+runs_numbered index (CaughtUp to caught ∷ trace) = runs_numbered index trace

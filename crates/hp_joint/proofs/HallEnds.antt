@@ -1,0 +1,91 @@
+-- How a hall of all participants ends: with the segment value to which their steps led.
+use Rattle.std.proofs.Common.{◌≡◌, ◌∙◌, ℕ, zero, suc, ◌<◌, ◌≤◌, ◌+◌, List, [], ◌∷◌, length, Option, Some, None, refl, ap, sym, arith}
+use Rattle.std.specs.List.{slice_get}
+use Rattle.std.proofs.lemmas.Option.{same_Some, slice_get_past, slice_get_within}
+use Rattle.hp_base.specs.declared.limits.TheConstants.{MAX_HEAPS}
+use Rattle.hp_hall.specs.Course.{IsCourse, IsLater}
+use Rattle.hp_hall.specs.CourseLaws.{AreSegsOf}
+use Rattle.hp_hall.specs.HallSteps.{slots_of}
+use Rattle.hp_hall.specs.HallView.{HallView, SlotView, heard_in, seen_in, segs_in, slot_at}
+use Rattle.hp_hall.proofs.Opened.{opened_length, opened_segs}
+use Rattle.hp_heap.specs.History.{HeapView}
+use Rattle.hp_script.specs.declared.workload.Workload.{Workload}
+use Rattle.hp_segs.specs.SegsView.{SegsView}
+use Rattle.hp_proc.specs.LinesDone.{Course}
+use Rattle.hp_proc.specs.Party.{Party}
+use Rattle.hp_joint.specs.SoFar.{SoFar, first_hall, first_segs}
+use Rattle.hp_joint.proofs.Opens.{slot_asks, slot_log}
+
+later_there : (old new : Option SlotView) (slot : SlotView) → IsLater old new → old ≡ Some slot → (now : SlotView) × (new ≡ Some now)
+later_there None new slot later is = cc
+later_there (Some old) None slot later is = absurd later
+later_there (Some old) (Some new) slot later is = (new, refl)
+
+later_none : (old new : Option SlotView) → IsLater old new → old ≡ None → new ≡ None
+later_none None None later none = refl
+later_none None (Some new) later none = absurd later
+later_none (Some old) new later none = cc
+
+-- a list ends where nothing is read
+ends_by : {X : Type 0} (xs : List X) (place : ℕ) → slice_get xs place ≡ None → length xs ≤ place
+ends_by [] place none = omega arith
+ends_by (x ∷ xs) zero none = cc
+ends_by (x ∷ xs) (suc place) none =
+    let rest = ends_by xs place none in
+    omega (arith, rest)
+
+-- what stands at a place of a list
+pub there_at : {X : Type 0} (xs : List X) (place : ℕ) → place < length xs → (x : X) × (slice_get xs place ≡ Some x)
+there_at [] place within = absurd (omega arith)
+there_at (x ∷ xs) zero within = (x, refl)
+there_at (x ∷ xs) (suc place) within = there_at xs place (omega arith)
+
+-- a course keeps the number of slots
+slots_stay : (old new : HallView) (count : ℕ) → IsCourse old new → length old.slots ≡ count + 1 → length new.slots ≡ count + 1
+slots_stay old new count course many =
+    let last = there_at old.slots count (omega arith) in
+    let still = later_there (slot_at old count) (slot_at new count) last.0 (course.slots count) last.1 in
+    let past : slot_at new (count + 1) ≡ None =
+    later_none (slot_at old (count + 1)) (slot_at new (count + 1)) (course.slots (count + 1))
+    (slice_get_past old.slots (count + 1) (omega arith)) in
+    omega (arith, slice_get_within new.slots count still.0 still.1, ends_by new.slots (count + 1) past)
+
+slots_long : (heaps : List HeapView) (segs : SegsView) → length (slots_of heaps segs) ≡ length heaps + 1
+slots_long [] segs = refl
+slots_long (heap ∷ heaps) segs =
+    let rest = slots_long heaps segs in
+    omega (arith, rest)
+
+module _ (workload : Workload) (courses : List Course) (parties : List Party) (hall : HallView)
+    (so : SoFar workload courses parties hall) where
+  -- each declared participant is there
+  pub party_of : (who : ℕ) → who < workload.participants → (party : Party) × (slice_get parties who ≡ Some party)
+  party_of who below = there_at parties who (omega (arith, below, so.count))
+
+  -- the segment value as it opened, and now
+  pub are_segs : AreSegsOf (first_hall workload so.heaps) hall (first_segs workload) so.now.segs
+  are_segs = record {
+    early = opened_segs so.heaps (first_segs workload) MAX_HEAPS so.first_heaps.in_order.count;
+    late = so.its_segs;
+  }
+
+  pub log_same : seen_in hall ≡ so.now.segs.log
+  log_same = slot_log (slot_at hall MAX_HEAPS) so.now.segs so.its_segs
+
+  pub asks_same : heard_in hall ≡ so.now.segs.asks
+  asks_same = slot_asks (slot_at hall MAX_HEAPS) so.now.segs so.its_segs
+
+  module _ (heaps : List HeapView) (segs : SegsView) (slots : hall.slots ≡ slots_of heaps segs) where
+    -- there is a heap for each of its slots
+    pub heaps_many : length heaps ≡ MAX_HEAPS
+    heaps_many =
+        let opened = opened_length so.heaps (first_segs workload) so.first_heaps.in_order.count in
+        let still = slots_stay (first_hall workload so.heaps) hall MAX_HEAPS so.course opened in
+        omega (arith, still, ap (λ (slots : List SlotView). length slots) slots, slots_long heaps segs)
+
+    -- the segment value is that to which the steps led
+    pub segs_same : so.now.segs ≡ segs
+    segs_same =
+        same_Some so.now.segs segs
+        (sym so.its_segs ∙ (ap (λ (slots : List SlotView). segs_in (slice_get slots MAX_HEAPS)) slots
+        ∙ opened_segs heaps segs MAX_HEAPS heaps_many))

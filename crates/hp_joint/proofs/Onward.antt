@@ -1,0 +1,121 @@
+-- How far a workload was run stands behind its next line.
+use Rattle.std.proofs.Common.{◌≡◌, ℕ, ◌<◌, List, length, Some, refl, subst}
+use Rattle.std.specs.Prelude.{slice_get}
+use Rattle.hp_base.specs.declared.limits.TheConstants.{MAX_HEAPS}
+use Rattle.hp_hall.specs.HallView.{HallView}
+use Rattle.hp_script.specs.declared.answer.Answer.{Answer}
+use Rattle.hp_script.specs.declared.line.Line.{Line}
+use Rattle.hp_script.specs.declared.workload.Workload.{Workload}
+use Rattle.hp_proc.specs.Doing.{Done}
+use Rattle.hp_proc.specs.Ends.{history_by, none_made}
+use Rattle.hp_proc.specs.Histories.{granted_runs, grown_runs}
+use Rattle.hp_proc.specs.LinesDone.{Course, courses_of, opening_standing, standing_after}
+use Rattle.hp_proc.specs.Party.{Party}
+use Rattle.hp_proc.specs.Seen.{AreSeen, seen_by_lines}
+use Rattle.hp_joint.specs.EndLaws.{GoesBy, GoesOnByLine, IsGiven, MayFailAsBefore}
+use Rattle.hp_joint.specs.Seats.{Seat}
+use Rattle.hp_joint.specs.SoFar.{SoFar}
+use Rattle.hp_joint.specs.Together.{Joint, Runs}
+use Rattle.hp_joint.proofs.Arriving.{enrolled_there, last_of, left_there, may_fail_before, runs_all}
+use Rattle.hp_joint.proofs.LastSeats.{CameTo}
+use Rattle.hp_joint.proofs.LineBehind.{all_came, line_built, line_done, line_in_order, line_is_done, line_known, there}
+use Rattle.hp_joint.proofs.LineClauses.{asks_of_each}
+use Rattle.hp_joint.proofs.LineComes.{course_of, later, line_comes, line_traces, line_tries_so, more, other_more, own_more, trace, who}
+use Rattle.hp_joint.proofs.LineRun.{line_run}
+use Rattle.hp_joint.proofs.LineSettled.{IsLineRun}
+use Rattle.hp_joint.proofs.LineTries.{TriesAtMostOnce}
+use Rattle.hp_joint.proofs.SeenAndGrown as shown
+use Rattle.hp_joint.proofs.SoFarFacts.{IsAt, seat_of}
+use Rattle.hp_joint.proofs.SoFarOn.{AreLinesThere, so_far_on}
+use Rattle.hp_joint.proofs.WaysOn.{IsLast}
+
+module _ (workload : Workload) (courses : List Course) (parties behind : List Party) (old new : HallView) (line : Line) (answer : Answer)
+    (given : IsGiven workload) (so : SoFar workload courses parties old) (goes : GoesBy workload line answer parties behind old new) where
+  abbrev by : ℕ
+  by = who workload courses parties behind old new line answer given so goes
+
+  abbrev did : List Done
+  did = trace workload courses parties behind old new line answer given so goes
+
+  abbrev one : Course
+  one = course_of workload courses parties behind old new line answer given so goes
+
+  abbrev lines : List Course
+  lines = later workload courses parties behind old new line answer given so goes
+
+  abbrev adds : ℕ → List Done
+  adds = more workload courses parties behind old new line answer given so goes
+
+  abbrev now : Joint
+  now = there workload courses parties behind old new line answer given so goes
+
+  abbrev comes : (other : ℕ) (seat : Seat) → slice_get so.now.seats other ≡ Some seat
+      → CameTo (IsLast workload.participants behind adds goes.course.steps) other seat
+  comes = line_comes workload courses parties behind old new line answer given so goes
+
+  abbrev tries : (other : ℕ) (seat : Seat) → slice_get so.now.seats other ≡ Some seat → TriesAtMostOnce seat.party.joined (adds other)
+  tries = line_tries_so workload courses parties behind old new line answer given so goes
+
+  to_there : Runs workload.participants so.first now
+  to_there = runs_all workload courses parties behind old new so given.few goes.course adds comes tries
+
+  -- the doer's seat before and behind
+  abbrev before : IsAt so.now.seats by
+  before = seat_of workload courses parties old so by goes.declared
+
+  abbrev last : IsAt now.seats by
+  last = last_of workload courses parties behind old new so given.few goes.course adds comes tries by goes.declared
+
+  -- the run of the line
+  its_run : IsLineRun workload.participants by so.now now before.it last.it did
+  its_run =
+      subst (λ (trace : List Done). IsLineRun workload.participants by so.now now before.it last.it trace)
+      (own_more workload courses parties behind old new line answer given so goes)
+      (line_run workload courses lines parties behind old new so adds
+      (all_came workload courses parties behind old new line answer given so goes)
+      (line_traces workload courses parties behind old new line answer given so goes)
+      (line_known workload courses parties behind old new line answer given so goes) by
+      (other_more workload courses parties behind old new line answer given so goes) before.it last.it before.there last.there to_there)
+
+  seen : AreSeen (length now.segs.log) (seen_by_lines now.segs.log now.segs.asks none_made lines)
+  seen =
+      shown.seen_goes_on workload.participants workload.absent workload.pools.items so.first so.now now so.is_first so.runs by before.it last.it
+      did its_run courses (asks_of_each workload courses parties old so) so.seen workload
+      (standing_after (opening_standing workload by) (courses_of by courses)) one refl refl (so.seats by before.it before.there).trace
+      goes.built (line_is_done workload courses parties behind old new line answer given so goes)
+
+  grown : (index : ℕ) → index < MAX_HEAPS
+      → grown_runs (history_by index none_made lines) ≡ granted_runs index now.segs.asks 1 now.segs.log
+  grown index below =
+      shown.grown_goes_on workload.participants workload.absent workload.pools.items so.first so.now now so.is_first so.runs by before.it
+      last.it did its_run courses index (so.grown index below) workload
+      (standing_after (opening_standing workload by) (courses_of by courses)) one refl
+      (line_is_done workload courses parties behind old new line answer given so goes)
+
+  lines_there : AreLinesThere workload lines new now
+  lines_there = record {
+    built = line_built workload courses parties behind old new line answer given so goes;
+    done = line_done workload courses parties behind old new line answer given so goes;
+    in_order = line_in_order workload courses parties behind old new line answer given so goes;
+    seen = seen;
+    grown = grown;
+  }
+
+  pub on_by_line : SoFar workload lines behind new
+  on_by_line =
+      so_far_on workload courses lines parties behind old new so goes.course goes.home goes.count adds
+      (all_came workload courses parties behind old new line answer given so goes) to_there
+      (enrolled_there workload courses parties behind old new so given.few goes.course adds comes tries)
+      (left_there workload courses parties behind old new so given.few goes.course adds comes tries)
+      (λ other seat at. line_traces workload courses parties behind old new line answer given so goes other)
+      (line_known workload courses parties behind old new line answer given so goes) lines_there
+
+  pub may_fail_still : MayFailAsBefore parties behind
+  may_fail_still = may_fail_before workload courses parties behind old new so given.few goes.course adds comes tries so.count
+
+-- behind a line all stands as before it
+pub so_far_line : GoesOnByLine
+so_far_line workload courses parties behind old new line answer given so goes = (
+  on_by_line workload courses parties behind old new line answer given so goes,
+  may_fail_still workload courses parties behind old new line answer given so goes,
+)

@@ -1,0 +1,128 @@
+-- Paths of a participant one behind the other, and what is left of it behind one that adds nothing to its trace.
+use Rattle.std.proofs.Common.{◌≡◌, ◌∙◌, ℕ, List, [], ◌∷◌, ◌++◌, refl, sym, subst}
+use Rattle.std.proofs.lemmas.List.{append-nil}
+use Rattle.hp_hall.specs.Mail.{MailStep}
+use Rattle.hp_proc.specs.Doing.{Done}
+use Rattle.hp_proc.specs.Party.{Party}
+use Rattle.hp_proc.specs.Serving.{gives_segments, takes_segments}
+use Rattle.hp_segs.specs.SegsView.{SegsView}
+use Rattle.hp_joint.specs.Seats.{Handles, Mails, Path, Quietly, Seat, seated}
+
+-- from a seat a participant comes to this by such steps, with that more in its trace
+pub record Comes (count who : ℕ) (after : Party) (more : List Done) (steps : List MailStep) (seat : Seat) : Type 0 where
+  pub new : Seat
+  pub party : new.party ≡ after
+  pub trace : new.trace ≡ seat.trace ++ more
+  pub path : Path count who seat new steps
+
+-- it comes to this and adds nothing to its trace: its number, its deadline and its last ask stay
+pub record Serves (count who : ℕ) (party after : Party) (steps : List MailStep) (seat : Seat) : Type 0 where
+  pub behind : Seat
+  pub me : after.me ≡ party.me
+  pub deadline : after.deadline ≡ party.deadline
+  pub asked : after.asked ≡ party.asked
+  pub trace : behind.trace ≡ seat.trace
+  pub path : Path count who (seated party seat) (seated after behind) steps
+
+-- it does so from wherever it sits
+abbrev pub ServesFrom : ℕ → ℕ → Party → Party → List MailStep → Type 0
+ServesFrom count who party after steps = (seat : Seat) → Serves count who party after steps seat
+
+module _ (count who : ℕ) where
+  -- one path behind the other
+  pub path_then : (old mid new : Seat) (first second : List MailStep) → Path count who old mid first → Path count who mid new second
+      → Path count who old new (first ++ second)
+  path_then _ _ last _ second (Path.ends seat) next = next
+  path_then _ _ last _ second (Path.quietly old mid new steps quiet rest) next =
+      Path.quietly old mid last (steps ++ second) quiet (path_then mid new last steps second rest next)
+  path_then _ _ last _ second (Path.holds old new step steps heap rest) next =
+      Path.holds old last step (steps ++ second) heap (path_then old new last steps second rest next)
+  path_then _ _ last _ second (Path.mails old mid new step steps mail rest) next =
+      Path.mails old mid last step (steps ++ second) mail (path_then mid new last steps second rest next)
+  path_then _ _ last _ second (Path.handles old mid new taken given steps handles rest) next =
+      Path.handles old mid last taken given (steps ++ second) handles (path_then mid new last steps second rest next)
+
+  -- one thing alone
+  pub path_quiet : (old new : Seat) → Quietly old new → Path count who old new []
+  path_quiet old new quiet = Path.quietly old new new [] quiet (Path.ends new)
+
+  pub path_mail : (old new : Seat) (step : MailStep) → Mails who old new step → Path count who old new (step ∷ [])
+  path_mail old new step mail = Path.mails old new new step [] mail (Path.ends new)
+
+  pub path_handle : (old new : Seat) (taken given : SegsView) → Handles count who old new taken given
+      → Path count who old new (takes_segments taken ∷ gives_segments given ∷ [])
+  path_handle old new taken given handles = Path.handles old new new taken given [] handles (Path.ends new)
+
+  -- behind a path it did something by itself
+  pub path_quietly : (old mid new : Seat) (steps : List MailStep) → Path count who old mid steps → Quietly mid new
+      → Path count who old new steps
+  path_quietly old mid new steps here quiet =
+      subst (λ (all : List MailStep). Path count who old new all) (append-nil steps)
+      (path_then old mid new steps [] here (path_quiet mid new quiet))
+
+  -- the same steps under another name
+  pub path_by : (old new : Seat) (steps did : List MailStep) → did ≡ steps → Path count who old new steps → Path count who old new did
+  path_by old new steps did is path = subst (λ (all : List MailStep). Path count who old new all) (sym is) path
+
+  pub serves_same : (party : Party) → ServesFrom count who party party []
+  serves_same party seat =
+      record { behind = seat; me = refl; deadline = refl; asked = refl; trace = refl; path = Path.ends (seated party seat) }
+
+  pub serves_then : (party mid after : Party) (first last : List MailStep) (seat : Seat) (here : Serves count who party mid first seat)
+      → Serves count who mid after last here.behind → Serves count who party after (first ++ last) seat
+  serves_then party mid after first last seat here next = record {
+    behind = next.behind;
+    me = next.me ∙ here.me;
+    deadline = next.deadline ∙ here.deadline;
+    asked = next.asked ∙ here.asked;
+    trace = next.trace ∙ here.trace;
+    path = path_then (seated party seat) (seated mid here.behind) (seated after next.behind) first last here.path next.path;
+  }
+
+  -- where it came to is the same under other names
+  pub serves_to : (party mid after : Party) (first steps : List MailStep) (seat : Seat) → after ≡ mid → steps ≡ first
+      → Serves count who party mid first seat → Serves count who party after steps seat
+  serves_to party mid after first steps seat after_is did serves =
+      subst (λ (party_behind : Party). Serves count who party party_behind steps seat) (sym after_is)
+      (subst (λ (all : List MailStep). Serves count who party mid all seat) (sym did) serves)
+
+  pub serves_here : (party after : Party) (steps : List MailStep) → after ≡ party → steps ≡ [] → ServesFrom count who party after steps
+  serves_here party after steps after_is did seat = serves_to party party after [] steps seat after_is did (serves_same party seat)
+
+  -- what it did by itself
+  pub serves_quietly : (party after : Party) (seat : Seat) → after.me ≡ party.me → after.deadline ≡ party.deadline
+      → after.asked ≡ party.asked → Quietly (seated party seat) (seated after seat) → Serves count who party after [] seat
+  serves_quietly party after seat me deadline asked quiet = record {
+    behind = seat;
+    me = me;
+    deadline = deadline;
+    asked = asked;
+    trace = refl;
+    path = path_quiet (seated party seat) (seated after seat) quiet;
+  }
+
+  -- with other steps before it
+  pub serves_behind : (party after : Party) (steps more : List MailStep) (seat behind : Seat) → behind.trace ≡ seat.trace
+      → Path count who (seated party seat) (seated party behind) steps → Serves count who party after more behind
+      → Serves count who party after (steps ++ more) seat
+  serves_behind party after steps more seat behind trace path next =
+      serves_then party party after steps more seat
+      (record { behind = behind; me = refl; deadline = refl; asked = refl; trace = trace; path = path }) next
+
+  -- whoever sits there so
+  pub comes_at : (party after : Party) (more : List Done) (steps : List MailStep) (seat : Seat) → seat.party ≡ party
+      → Comes count who after more steps (seated party seat) → Comes count who after more steps seat
+  comes_at party after more steps seat is comes =
+      subst (λ (at : Party). Comes count who after more steps (seated at seat)) (sym is) comes
+
+  -- what adds nothing to the trace
+  pub comes_by : (party after : Party) (steps : List MailStep) (seat : Seat) → seat.party ≡ party
+      → Serves count who party after steps seat → Comes count who after [] steps seat
+  comes_by party after steps seat is serves =
+      comes_at party after [] steps seat is
+      (record {
+        new = seated after serves.behind;
+        party = refl;
+        trace = serves.trace ∙ sym (append-nil seat.trace);
+        path = serves.path;
+      })

@@ -1,0 +1,243 @@
+-- What a participant does when it serves is a path.
+use Rattle.std.proofs.Common.{◌≡◌, ◌∙◌, ℕ, Bool, true, false, true≢false, List, [], ◌∷◌, ◌++◌, Some, None, Contains, refl, sym, ap}
+use Rattle.std.proofs.lemmas.List.Elements.{Contains-push}
+use Rattle.std.proofs.lemmas.Option.{none-some}
+use Rattle.hp_core.specs.Core.{Core}
+use Rattle.hp_core.specs.declared.event.CoreEvent.{CoreEvent}
+use Rattle.hp_core.specs.declared.event.CoreEvent.TheVariants.{Poll, SelfMapped}
+use Rattle.hp_core.specs.Following.{after_catching, reply_of}
+use Rattle.hp_core.specs.declared.out.Out.{Out}
+use Rattle.hp_frame.specs.declared.frame.Frame.{Frame}
+use Rattle.hp_frame.specs.declared.message.Body.{Body}
+use Rattle.hp_hall.specs.Mail.{Fetches, MailStep}
+use Rattle.hp_maps.specs.MapsView.{MapsView}
+use Rattle.hp_segs.specs.SegsView.{SegsView, is_member}
+use Rattle.hp_proc.specs.Coordinating.{IsAnswered, IsCarried, IsCoreServed, IsHanded, IsHandled, IsMapped, IsObeyed, IsRested, IsServed, IsSettled, stepping, with_core}
+use Rattle.hp_proc.specs.Party.{Party, after_reply}
+use Rattle.hp_proc.specs.Serving.{IsFollowed, IsHeeded, IsMemberServed, IsTold, Obeys, after_catching_up, gives_segments, hearing, takes_segments}
+use Rattle.hp_joint.specs.Seats.{Handles, Knows, Mails, Quietly, Seat, seated}
+use Rattle.hp_joint.proofs.Paths.{Serves, ServesFrom, path_handle, path_mail, path_quietly, path_then, serves_behind, serves_here, serves_quietly, serves_then, serves_to}
+use Rattle.hp_joint.proofs.PathsPosting.{posted_path}
+
+-- where it was taken and this done
+taken_and : (taken : SegsView) (steps more rest : List MailStep) → steps ≡ takes_segments taken ∷ more → more ≡ rest
+    → steps ≡ takes_segments taken ∷ rest
+taken_and taken steps more rest did next = did ∙ ap (λ (more : List MailStep). takes_segments taken ∷ more) next
+
+given_and : (one other : SegsView) (step next : MailStep) → one ≡ other → step ≡ next
+    → gives_segments one ∷ step ∷ [] ≡ gives_segments other ∷ next ∷ []
+given_and one other step next same is = cc
+
+-- WHAT ITS COORDINATOR DOES
+
+-- its coordinator made a step, so far as the steps show
+record IsStepped (event : CoreEvent) (core next : Core) (taken : SegsView) (steps : List MailStep) : Type 0 where
+  core_is : next ≡ (stepping event core taken).core
+  did : steps ≡ takes_segments taken ∷ gives_segments (stepping event core taken).segs ∷ []
+
+handed_stepped : (event : CoreEvent) (core next : Core) (taken : SegsView) (steps more : List MailStep) (answer : Out)
+    → steps ≡ takes_segments taken ∷ more → IsHanded event core next taken more (Some answer) → IsStepped event core next taken steps
+handed_stepped event core next taken steps more answer begins (IsHanded.handed did next_is is) =
+    record { core_is = next_is; did = taken_and taken steps more _ begins did }
+handed_stepped event core next taken steps more answer begins (IsHanded.no_room did next_is is) = absurd (none-some answer (sym is))
+
+module _ (count who : ℕ) (primary : who ≡ 0) where
+  -- it catches up for its coordinator
+  mapped_path : (party after : Party) (steps : List MailStep) (answer : Out) → IsMapped party after steps (Some answer)
+      → ServesFrom count who party after steps
+  mapped_path party after steps answer
+      (IsMapped.maps core next taken caught table now more core_is did caught_up is_handed after_is) seat =
+      let stepped = handed_stepped (SelfMapped caught now) core next taken steps more answer did is_handed in
+      let new : Party = with_core (stepping (SelfMapped caught now) core taken).core (after_catching_up caught table party) in
+      serves_to count who party new after _ steps seat
+      (after_is ∙ ap (λ (core : Core). with_core core (after_catching_up caught table party)) stepped.core_is) stepped.did
+      (record {
+        behind = seat;
+        me = refl;
+        deadline = refl;
+        asked = refl;
+        trace = refl;
+        path = path_handle count who (seated party seat) (seated new seat) taken _
+            (Handles.maps (seated party seat) taken caught table now core primary core_is caught_up);
+      })
+  mapped_path party after steps answer (IsMapped.worn taken is_worn did after_is none) seat = absurd (none-some answer (sym none))
+
+  settled_path : (party after : Party) (answer : Out) (steps : List MailStep) → IsSettled count party after answer steps true
+      → ServesFrom count who party after steps
+  settled_path party after answer steps (IsSettled.posts posted is) = posted_path count who party after answer steps posted
+  settled_path party after answer steps (IsSettled.stops must mapped is) = absurd (true≢false is)
+
+  carried_path : (mids : List Party) (party after : Party) (answer : Out) (steps : List MailStep)
+      → IsCarried count mids party after answer steps true → ServesFrom count who party after steps
+  carried_path [] party after answer steps is seat = settled_path party after answer steps is seat
+  carried_path (mid ∷ mids) party after answer steps is seat =
+      let here = mapped_path party mid is.1 is.0 is.5 seat in
+      serves_to count who party after after (is.1 ++ is.2) steps seat refl is.3
+      (serves_then count who party mid after is.1 is.2 seat here (carried_path mids mid after is.0 is.2 is.6 here.behind))
+
+  -- an event that it knows is handed to its coordinator
+  handled_path : (event : CoreEvent) (party after : Party) (steps : List MailStep) → IsHandled count event party after steps true
+      → (seat : Seat) → Knows count (seated party seat) event → Serves count who party after steps seat
+  handled_path event party after steps (IsHandled.carries core next answer mids first more core_is hands carried did) seat knows =
+      let stepped = handed_stepped event core next hands.taken first hands.more answer hands.begins hands.is_handed in
+      let new : Party = with_core (stepping event core hands.taken).core party in
+      let here =
+      serves_to count who party new (with_core next party) _ first seat
+      (ap (λ (core : Core). with_core core party) stepped.core_is) stepped.did
+      (record {
+        behind = seat;
+        me = refl;
+        deadline = refl;
+        asked = refl;
+        trace = refl;
+        path = path_handle count who (seated party seat) (seated new seat) hands.taken _
+            (Handles.steps (seated party seat) hands.taken event core primary core_is knows);
+      }) in
+      serves_to count who party after after (first ++ more) steps seat refl did
+      (serves_then count who party (with_core next party) after first more seat here
+      (carried_path mids (with_core next party) after answer more carried here.behind))
+  handled_path event party after steps (IsHandled.stops core next core_is hands after_is is) seat knows = absurd (true≢false is)
+
+-- WHAT IT FETCHES
+
+-- it has fetched a frame
+abbrev fetched_by : Frame → Seat → Seat
+fetched_by frame seat = record seat { fetched = seat.fetched ++ frame ∷ [] }
+
+module _ (count who : ℕ) where
+  -- it heard its answer, or not
+  hears_path : (party after : Party) (body : Body) (steps : List MailStep) → after ≡ hearing body party → steps ≡ []
+      → ServesFrom count who party after steps
+  hears_path party after body steps after_is did seat =
+      serves_to count who party (hearing body party) after [] steps seat after_is did
+      (serves_quietly count who party (hearing body party) seat refl refl refl
+      (Quietly.hears (seated party seat) (hearing body party).answered))
+
+  -- what it does behind a frame, or behind none
+  frame_behind : (party after : Party) (frame : Frame) (more steps : List MailStep) (seat : Seat) → steps ≡ Fetches (Some frame) ∷ more
+      → Serves count who party after more (fetched_by frame seat) → Serves count who party after steps seat
+  frame_behind party after frame more steps seat did next =
+      serves_to count who party after after _ steps seat refl did
+      (serves_behind count who party after (Fetches (Some frame) ∷ []) more seat (fetched_by frame seat) refl
+      (path_mail count who (seated party seat) (seated party (fetched_by frame seat)) (Fetches (Some frame))
+      (Mails.fetches (seated party seat) frame)) next)
+
+  none_behind : (party after : Party) (more steps : List MailStep) (seat : Seat) → steps ≡ Fetches None ∷ more
+      → Serves count who party after more seat → Serves count who party after steps seat
+  none_behind party after more steps seat did next =
+      serves_to count who party after after _ steps seat refl did
+      (serves_behind count who party after (Fetches None ∷ []) more seat seat refl
+      (path_mail count who (seated party seat) (seated party seat) (Fetches None) (Mails.finds_nothing (seated party seat))) next)
+
+module _ (count who : ℕ) (primary : who ≡ 0) where
+  answered_path : (party after : Party) (body : Body) (steps : List MailStep) → IsAnswered count party after body steps true
+      → ServesFrom count who party after steps
+  answered_path party after body steps (IsAnswered.polls due now acks reply due_is handled) seat =
+      handled_path count who primary (Poll now acks) party after steps handled seat (Knows.polls now acks)
+  answered_path party after body steps (IsAnswered.rests reply none did after_is goes_is) seat =
+      serves_here count who party after steps after_is did seat
+  answered_path party after body steps (IsAnswered.hears reply did after_is goes_is) seat =
+      hears_path count who party after body steps after_is did seat
+
+  obeyed_path : (party after : Party) (frame : Frame) (steps : List MailStep) → IsObeyed count party after frame steps true
+      → (seat : Seat) → Contains seat.fetched frame → Serves count who party after steps seat
+  obeyed_path party after frame steps (IsObeyed.drops says did after_is goes_is) seat there =
+      serves_here count who party after steps after_is did seat
+  obeyed_path party after frame steps (IsObeyed.asks body event says ask handled) seat there =
+      handled_path count who primary event party after steps handled seat (Knows.takes frame body event there says ask)
+  obeyed_path party after frame steps (IsObeyed.others body says none answered) seat there =
+      answered_path party after body steps answered seat
+
+  rested_path : (party after : Party) (steps : List MailStep) (moved : Bool) → IsRested count party after steps (Some moved)
+      → ServesFrom count who party after steps
+  rested_path party after steps moved (IsRested.rests holds did after_is is) seat = serves_here count who party after steps after_is did seat
+  rested_path party after steps moved (IsRested.polls now acks true due handled is) seat =
+      handled_path count who primary (Poll now acks) party after steps handled seat (Knows.polls now acks)
+  rested_path party after steps moved (IsRested.polls now acks false due handled is) seat = absurd (none-some moved (sym is))
+
+  -- one serving of participant 0 that did not stop
+  core_path : (party after : Party) (steps : List MailStep) (moved : Bool) → IsCoreServed count party after steps (Some moved)
+      → ServesFrom count who party after steps
+  core_path party after steps moved (IsCoreServed.rests more did rested) seat =
+      none_behind count who party after more steps seat did (rested_path party after more moved rested seat)
+  core_path party after steps moved (IsCoreServed.heeds frame more true did obeyed is) seat =
+      frame_behind count who party after frame more steps seat did
+      (obeyed_path party after frame more obeyed (fetched_by frame seat) (Contains-push seat.fetched frame))
+  core_path party after steps moved (IsCoreServed.heeds frame more false did obeyed is) seat = absurd (none-some moved (sym is))
+
+-- WHAT A SYNC MAKES OF IT
+
+module _ (count who : ℕ) where
+  -- a member obeys: it catches up with the log, gives the value back and posts its reply
+  obeys_path : (party after : Party) (taken : SegsView) (more : List MailStep) → party.me ≡ who → is_member taken.roster party.me ≡ true
+      → Obeys party after taken more → ServesFrom count who party after (takes_segments taken ∷ more)
+  obeys_path party after taken more me member obeys seat =
+      let table : MapsView = after.maps in
+      let mid : Party = after_catching_up obeys.caught table party in
+      let new : Party = after_reply mid in
+      let its : is_member taken.roster who ≡ true = ap (is_member taken.roster) (sym me) ∙ member in
+      let handles = Handles.follows (seated party seat) taken obeys.caught table its obeys.caught_up in
+      let first = path_handle count who (seated party seat) (seated mid seat) taken (after_catching who obeys.caught taken) handles in
+      let speaks =
+      path_mail count who (seated mid seat) (seated mid seat) _
+      (Mails.speaks (seated mid seat) 0 obeys.replied.frame (reply_of party.me obeys.caught taken) _ obeys.replied.posted tt
+      obeys.replied.says) in
+      let both = path_then count who (seated party seat) (seated mid seat) (seated mid seat) _ _ first speaks in
+      let did =
+      taken_and taken (takes_segments taken ∷ more) more _ refl
+      (obeys.done ∙ given_and (after_catching party.me obeys.caught taken) (after_catching who obeys.caught taken) obeys.reply _
+      (ap (λ (n : ℕ). after_catching n obeys.caught taken) me) obeys.replied.posts) in
+      serves_to count who party new after _ (takes_segments taken ∷ more) seat obeys.after_is did
+      (record {
+        behind = seat;
+        me = refl;
+        deadline = refl;
+        asked = refl;
+        trace = refl;
+        path = path_quietly count who (seated party seat) (seated mid seat) (seated new seat) _ both
+            (Quietly.counts (seated mid seat) new.sent);
+      })
+
+  followed_path : (party after : Party) (taken : SegsView) (more : List MailStep) → party.me ≡ who → IsFollowed party after taken more true
+      → ServesFrom count who party after (takes_segments taken ∷ more)
+  followed_path party after taken more me (IsFollowed.obeys member obeys is) seat = obeys_path party after taken more me member obeys seat
+  followed_path party after taken more me (IsFollowed.is_out out did after_is is) seat =
+      serves_to count who party party after _ (takes_segments taken ∷ more) seat after_is
+      (taken_and taken (takes_segments taken ∷ more) more _ refl did)
+      (record {
+        behind = seat;
+        me = refl;
+        deadline = refl;
+        asked = refl;
+        trace = refl;
+        path = path_handle count who (seated party seat) (seated party seat) taken taken (Handles.looks (seated party seat) taken);
+      })
+  followed_path party after taken more me (IsFollowed.is_worn member worn did after_is is) seat = absurd (true≢false is)
+
+  told_path : (party after : Party) (body : Body) (steps : List MailStep) → party.me ≡ who → IsTold party after body steps true
+      → ServesFrom count who party after steps
+  told_path party after body steps me (IsTold.hears reply did after_is is) seat = hears_path count who party after body steps after_is did seat
+  told_path party after body steps me (IsTold.follows taken more sync did followed) seat =
+      serves_to count who party after after (takes_segments taken ∷ more) steps seat refl did
+      (followed_path party after taken more me followed seat)
+
+  heeded_path : (party after : Party) (frame : Frame) (steps : List MailStep) → party.me ≡ who → IsHeeded party after frame steps true
+      → ServesFrom count who party after steps
+  heeded_path party after frame steps me (IsHeeded.drops says did after_is is) seat = serves_here count who party after steps after_is did seat
+  heeded_path party after frame steps me (IsHeeded.tells body says told) seat = told_path party after body steps me told seat
+
+  -- one serving of a participant without a coordinator that did not stop
+  member_path : (party after : Party) (steps : List MailStep) (moved : Bool) → party.me ≡ who
+      → IsMemberServed party after steps (Some moved) → ServesFrom count who party after steps
+  member_path party after steps moved me (IsMemberServed.rests did after_is is) seat =
+      none_behind count who party after [] steps seat did (serves_here count who party after [] after_is refl seat)
+  member_path party after steps moved me (IsMemberServed.heeds frame more true did heeded is) seat =
+      frame_behind count who party after frame more steps seat did (heeded_path party after frame more me heeded (fetched_by frame seat))
+  member_path party after steps moved me (IsMemberServed.heeds frame more false did heeded is) seat = absurd (none-some moved (sym is))
+
+  -- one serving of a participant that did not stop
+  pub serving_path : (party after : Party) (steps : List MailStep) (moved : Bool) → party.me ≡ who
+      → IsServed count party after steps (Some moved) → ServesFrom count who party after steps
+  serving_path party after steps moved me (IsServed.coordinates primary served) seat =
+      core_path count who (sym me ∙ primary) party after steps moved served seat
+  serving_path party after steps moved me (IsServed.follows other served) seat = member_path party after steps moved me served seat

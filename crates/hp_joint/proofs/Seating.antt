@@ -1,0 +1,32 @@
+-- What is left of all seats where one of them has come to something else.
+use Rattle.std.proofs.Common.{◌≡◌, ◌≢◌, ◌∙◌, ℕ, List, Some, sym, ap, ⊎_elim}
+use Rattle.std.specs.Prelude.{slice_get, slice_set}
+use Rattle.std.proofs.lemmas.Bool.{cases_eq}
+use Rattle.std.proofs.lemmas.Option.{slice_get_within}
+use Rattle.hp_hall.proofs.Slotted.{slice_get-set_other, slice_get-set_same}
+use Rattle.hp_joint.specs.Seats.{Seat}
+
+some_same : {X : Type 0} (x y : X) → Some x ≡ Some y → x ≡ y
+some_same x y same = cc
+
+-- a seat is the one that has come to something else, or one of the others
+pub data IsSeatBehind (seats : List Seat) (who : ℕ) (new : Seat) (other : ℕ) (seat : Seat) : Type 0 where
+  its : other ≡ who → seat ≡ new → IsSeatBehind seats who new other seat
+  apart : other ≢ who → slice_get seats other ≡ Some seat → IsSeatBehind seats who new other seat
+
+module _ (seats : List Seat) (who : ℕ) (old new : Seat) (there : slice_get seats who ≡ Some old) where
+  -- the seat that came to something else
+  pub its_seat : slice_get (slice_set seats who new) who ≡ Some new
+  its_seat = slice_get-set_same seats who new (slice_get_within seats who old there)
+
+  -- each other seat is as it was
+  pub other_seat : (other : ℕ) → other ≢ who → slice_get (slice_set seats who new) other ≡ slice_get seats other
+  other_seat other beside = slice_get-set_other seats who other new beside
+
+  pub seat_behind : (other : ℕ) (seat : Seat) → slice_get (slice_set seats who new) other ≡ Some seat → IsSeatBehind seats who new other seat
+  seat_behind other seat is =
+      ⊎_elim
+      (λ (same : other ≡ who).
+      IsSeatBehind.its same (some_same seat new (sym is ∙ ap (slice_get (slice_set seats who new)) same ∙ its_seat)))
+      (λ (beside : other ≢ who). IsSeatBehind.apart beside (sym (other_seat other beside) ∙ is))
+      (cases_eq other who)

@@ -1,0 +1,119 @@
+-- How far a workload was run, in a later hall: what its participants came to and what lines left, put together.
+use Rattle.std.proofs.Common.{◌≡◌, ◌∙◌, ℕ, ◌<◌, ◌≤◌, true, List, ◌++◌, length, Some, refl, ap, sym, subst, arith}
+use Rattle.std.specs.Prelude.{slice_get, slice_index}
+use Rattle.std.specs.List.{All}
+use Rattle.std.proofs.lemmas.Option.{slice_get_within}
+use Rattle.hp_base.specs.declared.limits.TheConstants.{MAX_HEAPS}
+use Rattle.hp_hall.specs.Course.{IsCourse, course_then}
+use Rattle.hp_hall.specs.HallView.{HallView, heard_in, history_in, own_at, part_in, seen_in, slot_at}
+use Rattle.hp_hall.specs.Opening.{AreHome}
+use Rattle.hp_script.specs.declared.workload.Workload.{Workload}
+use Rattle.hp_proc.specs.Acting.{AreAsked}
+use Rattle.hp_proc.specs.Contexts.{Context}
+use Rattle.hp_proc.specs.Courses.{Standing, calls_in}
+use Rattle.hp_proc.specs.Doing.{Done}
+use Rattle.hp_proc.specs.Ends.{history_by, none_made}
+use Rattle.hp_proc.specs.Histories.{entries_for, granted_runs, grown_runs}
+use Rattle.hp_proc.specs.LinesDone.{AreDone, Course, courses_of, opening_standing, standing_after}
+use Rattle.hp_proc.specs.Party.{Party}
+use Rattle.hp_proc.specs.Progress.{MayDo, moment_of}
+use Rattle.hp_proc.specs.Seen.{AreSeen, seen_by_lines}
+use Rattle.hp_proc.specs.Tied.{IsTied}
+use Rattle.hp_joint.specs.Seats.{Seat}
+use Rattle.hp_joint.specs.SoFar.{IsOfDeclared, IsSoFarFor, SoFar, context_of, first_hall, trace_for}
+use Rattle.hp_joint.specs.Together.{Joint, Runs}
+use Rattle.hp_joint.proofs.Attached.{AreAsLeft}
+use Rattle.hp_joint.proofs.Roster.{AreEnrolled}
+use Rattle.hp_joint.proofs.SoFarFacts.{at_place, seats_many}
+use Rattle.hp_joint.proofs.WaysOn.{AllCame}
+
+-- a participant there, by what it had and did itself
+pub record IsKnownFor (workload : Workload) (courses : List Course) (hall : HallView) (who : ℕ) (party : Party) : Type 0 where
+  pub me : party.me ≡ who
+  pub socket : party.socket ≡ slice_index workload.sockets who
+  pub deadline : party.deadline ≡ workload.deadline
+  pub context : party.context ≡ context_of workload who courses
+  pub entries : (heap : ℕ) → (part_in hall who heap).entries ≡ entries_for who heap 1 (calls_in (trace_for who courses))
+  pub asked : AreAsked (seen_in hall) (heard_in hall) who 0 party.asked (trace_for who courses)
+  pub ready : MayDo (moment_of party (part_in hall who) (seen_in hall) (heard_in hall))
+  pub tied : IsTied (seen_in hall) (own_at hall who) party.joined party.maps
+
+-- what lines left
+pub record AreLinesThere (workload : Workload) (courses : List Course) (hall : HallView) (at : Joint) : Type 0 where
+  pub built : All (IsOfDeclared workload.participants) courses
+  pub done : (who : ℕ) → who < workload.participants → AreDone workload (opening_standing workload who) (courses_of who courses)
+  pub in_order : (index : ℕ) → history_in (slot_at hall index) ≡ history_by index none_made courses
+  pub seen : AreSeen (length at.segs.log) (seen_by_lines at.segs.log at.segs.asks none_made courses)
+  pub grown : (index : ℕ) → index < MAX_HEAPS
+      → grown_runs (history_by index none_made courses) ≡ granted_runs index at.segs.asks 1 at.segs.log
+
+module _ (workload : Workload) (courses later : List Course) (parties behind : List Party) (old new : HallView)
+    (so : SoFar workload courses parties old) (course : IsCourse old new) (home : AreHome new) (size : length behind ≡ length parties)
+    (more : ℕ → List Done) (came : AllCame workload.participants so.now behind more new) where
+  abbrev there : Joint
+  there = record { seats = came.lasts; segs = came.gone.segs; boxes = new.boxes }
+
+  -- a participant there is attached as its lines leave it
+  so_far_for : (who : ℕ) (after : Party) → IsKnownFor workload later new who after
+      → (after.joined ≡ after.context.standing.attached) → (after.joined ≡ true → after.context.standing.records ≤ after.maps.number)
+      → IsSoFarFor workload later new who after
+  so_far_for who after its joined since =
+      let standing : after.context.standing ≡ standing_after (opening_standing workload who) (courses_of who later) =
+      ap (λ (context : Context). context.standing) its.context in
+      record {
+        me = its.me;
+        socket = its.socket;
+        deadline = its.deadline;
+        joined = joined ∙ ap (λ (standing : Standing). standing.attached) standing;
+        since = λ now. omega (arith, since now, ap (λ (standing : Standing). standing.records) standing);
+        context = its.context;
+        entries = its.entries;
+        asked = its.asked;
+        ready = its.ready;
+        tied = its.tied;
+      }
+
+  pub so_far_on : Runs workload.participants so.first there → AreEnrolled there → AreAsLeft there
+      → ((who : ℕ) (seat : Seat) → slice_get so.now.seats who ≡ Some seat → trace_for who later ≡ trace_for who courses ++ more who)
+      → ((who : ℕ) (after : Party) → slice_get behind who ≡ Some after → IsKnownFor workload later new who after)
+      → AreLinesThere workload later new there → SoFar workload later behind new
+  so_far_on runs enrolled left traces known lines = record {
+    heaps = so.heaps;
+    first_heaps = so.first_heaps;
+    course = course_then (first_hall workload so.heaps) old new so.course course;
+    home = home;
+    first = so.first;
+    now = there;
+    is_first = so.is_first;
+    runs = runs;
+    its_segs = came.gone.its;
+    its_boxes = refl;
+    count = size ∙ so.count;
+    seats = λ who last at.
+        let were = came.were who last at in
+        record {
+          party = were.2;
+          trace = were.3
+              ∙ ap (λ (trace : List Done). trace ++ more who) (so.seats who were.0 were.1).trace
+              ∙ sym (traces who were.0 were.1);
+        };
+    roster = enrolled;
+    each = λ who after at.
+        let last = at_place came.lasts who (omega (arith, slice_get_within behind who after at, size, so.count, came.size, many)) in
+        let own : last.it.party ≡ after = some_same last.it.party after (sym (came.were who last.it last.there).2 ∙ at) in
+        so_far_for who after (known who after at)
+        (subst (λ (party : Party). party.joined ≡ party.context.standing.attached) own (left who last.it last.there).joined)
+        (λ joined. subst (λ (party : Party). party.context.standing.records ≤ party.maps.number) own
+        ((left who last.it last.there).since (ap (λ (party : Party). party.joined) own ∙ joined)).taken);
+    built = lines.built;
+    done = lines.done;
+    in_order = lines.in_order;
+    seen = lines.seen;
+    grown = lines.grown;
+  }
+    where
+      many : length so.now.seats ≡ workload.participants
+      many = seats_many workload courses parties old so
+
+      some_same : (x y : Party) → Some x ≡ Some y → x ≡ y
+      some_same x y same = cc

@@ -1,0 +1,45 @@
+-- The histories that a hall keeps at any time: each is that of a sound heap, or there is none.
+use Rattle.std.proofs.Common.{◌≡◌, ℕ, List, [], Option, Some, None, refl}
+use Rattle.std.specs.List.{slice_get}
+use Rattle.hp_hall.specs.Course.{IsCourse}
+use Rattle.hp_hall.specs.CourseLaws.{IsSoundAndArmed}
+use Rattle.hp_hall.specs.HallView.{HallView, SlotView, history_in, slot_at}
+use Rattle.hp_hall.specs.Keeping.{values_in}
+use Rattle.hp_hall.specs.Values.{history_of}
+use Rattle.hp_hall.specs.declared.kept.Kept.{Kept}
+use Rattle.hp_hall.specs.declared.kept.Kept.TheVariants.{Heap, Segments}
+use Rattle.hp_hall.proofs.Slotted.{value_at}
+use Rattle.hp_hall.proofs.Walks.{values_stay_sound}
+use Rattle.hp_heap.specs.History.{HeapView, IsSound}
+use Rattle.hp_heap.specs.declared.entry.Entry.{Entry}
+use Rattle.hp_script.specs.declared.workload.Workload.{Workload}
+use Rattle.hp_segs.specs.Sound as segments
+use Rattle.hp_joint.specs.SoFar.{AreFirstHeaps, first_hall, first_segs}
+use Rattle.hp_joint.proofs.FirstSegs.{armed_first}
+use Rattle.hp_joint.proofs.HallHeaps.{values_sound}
+
+-- a history of a sound heap, or none
+pub data IsSoundHistory (history : List Entry) : Type 0 where
+  of_heap : (heap : HeapView) → IsSound heap → history ≡ heap.history → IsSoundHistory history
+  of_none : history ≡ [] → IsSoundHistory history
+
+-- what is kept has one
+of_kept : (kept : Kept) → IsSoundAndArmed kept → IsSoundHistory (history_of kept)
+of_kept (Heap heap) sound = IsSoundHistory.of_heap heap sound refl
+of_kept (Segments segs) sound = IsSoundHistory.of_none refl
+
+module _ (workload : Workload) (heaps : List HeapView) (first : AreFirstHeaps workload heaps)
+    (sound : segments.IsSound (first_segs workload)) (hall : HallView) (course : IsCourse (first_hall workload heaps) hall) where
+  -- what its slots keep is sound
+  pub kept_sound : (number : ℕ) (kept : Kept) → slice_get (values_in hall) number ≡ Some kept → IsSoundAndArmed kept
+  kept_sound =
+      (values_stay_sound (first_hall workload heaps) hall course (λ number kept there.
+      values_sound heaps (first_segs workload) number kept first.sound sound
+      (armed_first workload.pools.items workload.participants workload.absent) there)).1
+
+  history_by_slot : (index : ℕ) (slot : Option SlotView) → slot_at hall index ≡ slot → IsSoundHistory (history_in slot)
+  history_by_slot index None at = IsSoundHistory.of_none refl
+  history_by_slot index (Some slot) at = of_kept slot.kept (kept_sound index slot.kept (value_at hall index slot at))
+
+  pub history_sound : (index : ℕ) → IsSoundHistory (history_in (slot_at hall index))
+  history_sound index = history_by_slot index (slot_at hall index) refl

@@ -1,0 +1,259 @@
+-- A step of the coordinator, where nobody denies anything, is changes by its own deadline, and that deadline stays. It walks over a step by
+-- itself, since a change carries why its outcome is logged: the plan's refusal, the noted failure, or who was late and for how long.
+use Rattle.std.proofs.Common.{◌≡◌, ℕ, ◌+◌, ◌-◌, ◌<◌, ◌≤◌, ◌==◌, Bool, true, false, ◌&&◌, ◌||◌, List, length, replicate, Option, Some, None, Result, Ok, Err, refl, arith, if◌then◌else◌}
+use Rattle.std.specs.Prelude.{⊤, is_none, is_some, nat_le, slice_index_or}
+use Rattle.std.proofs.lemmas.Bool.{and_parts, cond_both}
+use Rattle.std.proofs.lemmas.Bool.Decides.{nat_tests}
+use Rattle.hp_base.specs.declared.caught.Caught.{Caught}
+use Rattle.hp_base.specs.declared.row.Run.{Run}
+use Rattle.hp_core.specs.Asks.{asker, is_armed, is_closed, is_unarmed, number_of}
+use Rattle.hp_core.specs.Core.{Core, Done, Stepped, going_on, idle, is_foreign, is_idle, is_open_for, unchanged}
+use Rattle.hp_core.specs.Following.{after_catching, failure_of}
+use Rattle.hp_core.specs.Mapped.{alone_by, alone_unless_failed, drop_alone, granted_alone, mapped, other_members, synced}
+use Rattle.hp_core.specs.Rounds.{agreed, cancelled, ended, polled_by, rolled_back, unless_failed, waiting}
+use Rattle.hp_core.specs.Starting.{grown, planned, started, started_by}
+use Rattle.hp_core.specs.Stepping.{came, caught_in, holding, lowest_held, polled_in, released, served, served_ask, stepped, taken}
+use Rattle.hp_core.specs.declared.asked.Asked.{Asked}
+use Rattle.hp_core.specs.declared.asked.Asked.TheVariants as want
+use Rattle.hp_core.specs.declared.event.CoreEvent.{CoreEvent}
+use Rattle.hp_core.specs.declared.event.CoreEvent.TheVariants.{Grow, Shrink, SelfMapped, Poll}
+use Rattle.hp_core.specs.declared.out.Out.TheVariants.{Nothing}
+use Rattle.hp_core.specs.declared.phase.Phase.{Phase}
+use Rattle.hp_core.specs.declared.phase.Phase.TheVariants.{Idle, Mapping, Waiting}
+use Rattle.hp_core.specs.declared.phase.Round.{Round}
+use Rattle.hp_core.specs.declared.phase.RoundKind.{RoundKind}
+use Rattle.hp_core.specs.declared.phase.RoundKind.TheVariants as kind
+use Rattle.hp_core.proofs.GivingLemmas.{catches_note}
+use Rattle.hp_core.proofs.RoundLemmas.{found_member}
+use Rattle.hp_segs.specs.LaterSteps.{after_stale, noted_failure}
+use Rattle.hp_segs.specs.Moved.{is_log_call}
+use Rattle.hp_segs.specs.Plan.{plan_of}
+use Rattle.hp_segs.specs.SegsView.{SegsView, outcome_of}
+use Rattle.hp_segs.specs.Sound.{IsSound}
+use Rattle.hp_segs.specs.Steps.{after_drop, after_freed, after_open, lowest_member_below}
+use Rattle.hp_segs.specs.declared.ask.Ask.{Ask}
+use Rattle.hp_segs.specs.declared.fault.NotAll.{NotAll}
+use Rattle.hp_segs.specs.declared.growth.Growth.{Growth}
+use Rattle.hp_segs.specs.declared.outcome.Cause.{Cause}
+use Rattle.hp_segs.specs.declared.outcome.Cause.TheVariants.{Late}
+use Rattle.hp_segs.specs.declared.outcome.Outcome.{Outcome}
+use Rattle.hp_segs.specs.declared.plan_refusal.PlanRefusal.{PlanRefusal}
+use Rattle.hp_segs.proofs.Moves.{moves_keep}
+use Rattle.hp_maps.specs.Catching.{HasReason}
+use Rattle.hp_proc.specs.Coordinating.{nobody_denies, stepping, with_room}
+use Rattle.hp_joint.proofs.Changes.{Changes, by_failure, by_lateness, goes_on, stays}
+use Rattle.hp_joint.proofs.CallChanges.{agrees, cancels, catches, drops, finds_stale, frees, opens, refuses, reserves}
+use Rattle.hp_joint.proofs.Leaving.{room_sound}
+
+-- while nothing is under way, a growth that is open is another's
+none_open : (phase : Phase) (growth : Option Growth) → is_foreign phase growth ≡ false → is_idle phase ≡ true → growth ≡ None
+none_open Idle None own is = refl
+none_open Idle (Some growth) own is = cc
+none_open (Mapping round) growth own is = cc
+none_open (Waiting round since) growth own is = cc
+
+passed_by : (since deadline now : ℕ) → nat_le since now ≡ true → nat_le deadline (now - since) ≡ true → since + deadline ≤ now
+passed_by since deadline now here there = grind (arith, nat_tests)
+
+module _ (count deadline : ℕ) (may_fail : ℕ → Option (List ℕ)) (segs : SegsView) where
+  abbrev Leaves : Done → Type 0
+  Leaves done = Changes count deadline may_fail segs done.segs
+
+  abbrev LeavesAfter : Stepped → Type 0
+  LeavesAfter after = Changes count deadline may_fail segs after.segs
+
+  -- what comes behind the drops
+  behind_drops : (last : SegsView) → Changes count deadline may_fail (after_drop segs) last → Changes count deadline may_fail segs last
+  behind_drops last more = goes_on segs (after_drop segs) last (drops count deadline may_fail segs) more
+
+  planned_changes : segs.growth ≡ None → (ask : Ask) (plan : Result Run PlanRefusal)
+      → Leaves (planned nobody_denies ask (after_drop segs) plan)
+  planned_changes alone ask (Ok run) =
+      behind_drops (after_open ask run (after_drop segs)) (opens count deadline may_fail (after_drop segs) ask run alone)
+  planned_changes alone ask (Err refusal) = behind_drops _ (refuses count deadline may_fail (after_drop segs) ask refusal)
+
+  started_by_changes : segs.growth ≡ None → (one : Asked) → Leaves (started_by nobody_denies segs one)
+  started_by_changes alone (want.Grow ask) =
+      cond_both (is_armed ask segs) (grown nobody_denies ask (after_drop segs)) (idle segs Nothing) Leaves
+      (λ armed. planned_changes alone ask (plan_of ask (after_drop segs)))
+      (λ other. stays segs)
+  started_by_changes alone (want.Shrink from number) =
+      behind_drops (after_freed from number (after_drop segs)) (frees count deadline may_fail (after_drop segs) from number)
+
+  started_changes : segs.growth ≡ None → (one : Asked) → Leaves (started nobody_denies one segs)
+  started_changes alone one =
+      cond_both (is_closed one segs) (idle (after_stale (asker one) (number_of one) segs) Nothing)
+      (started_by nobody_denies segs one) Leaves
+      (λ done. finds_stale count deadline may_fail segs (asker one) (number_of one))
+      (λ fresh. started_by_changes alone one)
+
+  -- an ask that comes
+  came_changes : (one : Asked) (core : Core) → LeavesAfter (came nobody_denies one core segs)
+  came_changes one core =
+      cond_both (is_foreign core.phase segs.growth) (unchanged core segs) (taken nobody_denies one core segs) LeavesAfter
+      (λ other. stays segs)
+      (λ own.
+      cond_both (is_idle core.phase) (going_on core (started nobody_denies one segs))
+      (if is_unarmed one segs then unchanged core segs else unchanged (holding one core) segs) LeavesAfter
+      (λ idle_now. started_changes (none_open core.phase segs.growth own idle_now) one)
+      (λ busy.
+      cond_both (is_unarmed one segs) (unchanged core segs) (unchanged (holding one core) segs) LeavesAfter (λ other. stays segs)
+      (λ held. stays segs)))
+
+  served_ask_changes : (core : Core) (found : Option Asked) → LeavesAfter (served_ask nobody_denies core segs found)
+  served_ask_changes core None = stays segs
+  served_ask_changes core (Some one) = came_changes one core
+
+  served_changes : (core : Core) (found : Option ℕ) → LeavesAfter (served nobody_denies core segs found)
+  served_changes core None = stays segs
+  served_changes core (Some place) = served_ask_changes (released core place) (slice_index_or core.held place None)
+
+-- a poll in a round
+module _ (count deadline since now : ℕ) (may_fail : ℕ → Option (List ℕ)) (round : Round) (acks : List ℕ) (segs : SegsView)
+    (sound : IsSound segs) where
+  agreed_changes : (below : Option NotAll) → lowest_member_below segs.roster acks round.generation ≡ below
+      → Leaves count deadline may_fail segs (agreed round (record { deadline = deadline; since = since; present = now }) acks segs below)
+  agreed_changes None is = agrees count deadline may_fail segs sound acks
+  agreed_changes (Some member) is =
+      cond_both (nat_le since now && nat_le deadline (now - since)) (cancelled round (Late member.participant since now) segs)
+      (waiting round since Nothing segs) (Leaves count deadline may_fail segs)
+      (λ passed.
+      let both = and_parts (nat_le since now) (nat_le deadline (now - since)) passed in
+      cancels count deadline may_fail segs sound (Late member.participant since now)
+      (by_lateness member.participant since now (found_member segs.roster acks round.generation member is)
+      (passed_by since deadline now both.0 both.1)))
+      (λ early. stays segs)
+
+  unless_changes : (failure : Option Cause) → noted_failure segs ≡ failure
+      → Leaves count deadline may_fail segs (unless_failed round (record { deadline = deadline; since = since; present = now }) acks segs failure)
+  unless_changes (Some cause) is = cancels count deadline may_fail segs sound cause (by_failure cause is)
+  unless_changes None is = agreed_changes (lowest_member_below segs.roster acks round.generation) refl
+
+  over_changes : (over : Bool) → Leaves count deadline may_fail segs (if over then ended round segs else waiting round since Nothing segs)
+  over_changes true = stays segs
+  over_changes false = stays segs
+
+  polled_changes : (which : RoundKind)
+      → Leaves count deadline may_fail segs (polled_by round (record { deadline = deadline; since = since; present = now }) acks segs which)
+  polled_changes kind.Growth =
+      cond_both (is_open_for round segs.growth)
+      (unless_failed round (record { deadline = deadline; since = since; present = now }) acks segs (noted_failure segs))
+      (rolled_back round segs) (Leaves count deadline may_fail segs)
+      (λ opened. unless_changes (noted_failure segs) refl)
+      (λ gone. stays segs)
+  polled_changes kind.Rollback =
+      over_changes (is_none (lowest_member_below segs.roster acks round.generation) || (nat_le since now && nat_le deadline (now - since)))
+  polled_changes kind.Drop =
+      over_changes (is_none (lowest_member_below segs.roster acks round.generation) || (nat_le since now && nat_le deadline (now - since)))
+
+-- participant 0 has caught up, or failed to
+module _ (count deadline : ℕ) (may_fail : ℕ → Option (List ℕ)) (round : Round) (caught : Caught) (now : ℕ) (segs : SegsView)
+    (sound : IsSound segs) where
+  granted_changes : (failed : Bool) → Leaves count deadline may_fail segs (granted_alone round now segs failed)
+  granted_changes true = stays segs
+  granted_changes false = agrees count deadline may_fail segs sound (replicate 16 round.generation)
+
+  alone_unless_changes : (failure : Option Cause) → noted_failure segs ≡ failure
+      → Leaves count deadline may_fail segs (alone_unless_failed round caught now segs failure)
+  alone_unless_changes (Some cause) is = cancels count deadline may_fail segs sound cause (by_failure cause is)
+  alone_unless_changes None is = granted_changes (is_some (failure_of caught))
+
+  drop_alone_changes : (outcome : Option Outcome) → Leaves count deadline may_fail segs (drop_alone round now segs outcome)
+  drop_alone_changes None = stays segs
+  drop_alone_changes (Some outcome) = stays segs
+
+  alone_changes : (which : RoundKind) → Leaves count deadline may_fail segs (alone_by round caught now segs which)
+  alone_changes kind.Growth =
+      cond_both (is_open_for round segs.growth) (alone_unless_failed round caught now segs (noted_failure segs)) (rolled_back round segs)
+      (Leaves count deadline may_fail segs)
+      (λ opened. alone_unless_changes (noted_failure segs) refl)
+      (λ gone. stays segs)
+  alone_changes kind.Rollback = drop_alone_changes (outcome_of segs.asks round.from round.number)
+  alone_changes kind.Drop = drop_alone_changes (outcome_of segs.asks round.from round.number)
+
+  told_changes : Leaves count deadline may_fail segs
+      (if other_members segs == 0 then alone_by round caught now segs round.kind else synced round now (other_members segs) segs)
+  told_changes =
+      cond_both (other_members segs == 0) (alone_by round caught now segs round.kind) (synced round now (other_members segs) segs)
+      (Leaves count deadline may_fail segs) (λ none. alone_changes round.kind) (λ others. stays segs)
+
+caught_changes : (count : ℕ) (may_fail : ℕ → Option (List ℕ)) (core : Core) (segs : SegsView) (caught : Caught) (now : ℕ)
+    (phase : Phase) → IsSound segs → 0 < count → HasReason (may_fail 0) caught → LeavesAfter count core.deadline may_fail segs (caught_in core segs caught now phase)
+caught_changes count may_fail core segs caught now Idle sound some reason = stays segs
+caught_changes count may_fail core segs caught now (Mapping round) sound some reason =
+    let mid = after_catching 0 caught segs in
+    let behind = moves_keep is_log_call 0 segs mid sound (catches_note 0 caught segs sound.places.primary).moved in
+    goes_on segs mid (mapped round caught now segs).segs (catches count core.deadline may_fail segs 0 some caught reason)
+    (told_changes count core.deadline may_fail round caught now mid behind)
+caught_changes count may_fail core segs caught now (Waiting round since) sound some reason = stays segs
+
+poll_changes : (count : ℕ) (may_fail : ℕ → Option (List ℕ)) (core : Core) (segs : SegsView) (now : ℕ) (acks : List ℕ) (phase : Phase) → IsSound segs
+    → LeavesAfter count core.deadline may_fail segs (polled_in nobody_denies core segs now acks phase)
+poll_changes count may_fail core segs now acks Idle sound = served_changes count core.deadline may_fail segs core (lowest_held core.held)
+poll_changes count may_fail core segs now acks (Mapping round) sound = stays segs
+poll_changes count may_fail core segs now acks (Waiting round since) sound =
+    polled_changes count core.deadline since now may_fail round acks segs sound round.kind
+
+-- what an event tells of a failed mapping of participant 0 has a reason
+abbrev pub TellsReason : ℕ → (ℕ → Option (List ℕ)) → CoreEvent → Type 0
+TellsReason count may_fail (SelfMapped caught now) = (0 < count) × HasReason (may_fail 0) caught
+TellsReason count may_fail _ = ⊤
+
+-- a step is changes
+pub step_changes : (count : ℕ) (may_fail : ℕ → Option (List ℕ)) (event : CoreEvent) (core : Core) (segs : SegsView) → IsSound segs
+    → TellsReason count may_fail event → Changes count core.deadline may_fail segs (stepped nobody_denies event core segs).segs
+step_changes count may_fail (Grow ask) core segs sound reason = came_changes count core.deadline may_fail segs (want.Grow ask) core
+step_changes count may_fail (Shrink from number) core segs sound reason =
+    came_changes count core.deadline may_fail segs (want.Shrink from number) core
+step_changes count may_fail (SelfMapped caught now) core segs sound reason =
+    caught_changes count may_fail core segs caught now core.phase sound reason.0 reason.1
+step_changes count may_fail (Poll now acks) core segs sound reason = poll_changes count may_fail core segs now acks core.phase sound
+
+-- and so it is with the places for it
+pub stepping_changes : (count : ℕ) (may_fail : ℕ → Option (List ℕ)) (event : CoreEvent) (core : Core) (segs : SegsView) → IsSound segs
+    → TellsReason count may_fail event → Changes count core.deadline may_fail segs (stepping event core segs).segs
+stepping_changes count may_fail event core segs sound reason =
+    goes_on segs (with_room segs) (stepping event core segs).segs (reserves count core.deadline may_fail segs (length segs.retiring + 3))
+    (step_changes count may_fail event core (with_room segs) (room_sound segs sound) reason)
+
+-- the coordinator's deadline stays
+module _ (segs : SegsView) (deadline : ℕ) where
+  abbrev Waits : Stepped → Type 0
+  Waits after = after.core.deadline ≡ deadline
+
+  came_waits : (one : Asked) (core : Core) → core.deadline ≡ deadline → Waits (came nobody_denies one core segs)
+  came_waits one core is =
+      cond_both (is_foreign core.phase segs.growth) (unchanged core segs) (taken nobody_denies one core segs) Waits
+      (λ other. is)
+      (λ own.
+      cond_both (is_idle core.phase) (going_on core (started nobody_denies one segs))
+      (if is_unarmed one segs then unchanged core segs else unchanged (holding one core) segs) Waits
+      (λ idle_now. is)
+      (λ busy.
+      cond_both (is_unarmed one segs) (unchanged core segs) (unchanged (holding one core) segs) Waits (λ other. is) (λ held. is)))
+
+  served_ask_waits : (core : Core) (found : Option Asked) → core.deadline ≡ deadline → Waits (served_ask nobody_denies core segs found)
+  served_ask_waits core None is = is
+  served_ask_waits core (Some one) is = came_waits one core is
+
+  served_waits : (core : Core) (found : Option ℕ) → core.deadline ≡ deadline → Waits (served nobody_denies core segs found)
+  served_waits core None is = is
+  served_waits core (Some place) is = served_ask_waits (released core place) (slice_index_or core.held place None) is
+
+  caught_waits : (core : Core) (caught : Caught) (now : ℕ) (phase : Phase) → core.deadline ≡ deadline
+      → Waits (caught_in core segs caught now phase)
+  caught_waits core caught now Idle is = is
+  caught_waits core caught now (Mapping round) is = is
+  caught_waits core caught now (Waiting round since) is = is
+
+  poll_waits : (core : Core) (now : ℕ) (acks : List ℕ) (phase : Phase) → core.deadline ≡ deadline
+      → Waits (polled_in nobody_denies core segs now acks phase)
+  poll_waits core now acks Idle is = served_waits core (lowest_held core.held) is
+  poll_waits core now acks (Mapping round) is = is
+  poll_waits core now acks (Waiting round since) is = is
+
+pub step_waits : (event : CoreEvent) (core : Core) (segs : SegsView) → (stepping event core segs).core.deadline ≡ core.deadline
+step_waits (Grow ask) core segs = came_waits (with_room segs) core.deadline (want.Grow ask) core refl
+step_waits (Shrink from number) core segs = came_waits (with_room segs) core.deadline (want.Shrink from number) core refl
+step_waits (SelfMapped caught now) core segs = caught_waits (with_room segs) core.deadline core caught now core.phase refl
+step_waits (Poll now acks) core segs = poll_waits (with_room segs) core.deadline core now acks core.phase refl

@@ -1,0 +1,183 @@
+-- What is true of every run of a workload in one thread: how it opens, goes on from line to line, and ends. The rule "Together" of
+-- docs/PARTICIPANTS.md.
+use Rattle.std.specs.Prelude.{◌≡◌, ◌<◌, ◌≤◌, ℕ, List, [], ◌∷◌, ◌++◌, length, map, true, Some, slice_get, slice_index}
+use Rattle.std.specs.Int.{bit_at}
+use Rattle.std.specs.List.{Contains}
+use Rattle.hp_base.specs.Mapping.{may_fail_at}
+use Rattle.hp_base.specs.declared.map_answer.MapAnswer.{MapAnswer}
+use Rattle.hp_base.specs.PoolLines.{ArePoolLines}
+use Rattle.hp_base.specs.declared.limits.TheConstants.{MAX_DEADLINE, MAX_HEAPS, MAX_PARTICIPANTS, MAX_SEGMENTS}
+use Rattle.hp_base.specs.declared.plan_entry.PlanEntry.{PlanEntry}
+use Rattle.hp_heap.specs.History.{HeapView}
+use Rattle.hp_hall.specs.Course.{IsCourse}
+use Rattle.hp_hall.specs.HallSteps.{slots_of}
+use Rattle.hp_hall.specs.HallView.{HallView, HasDone, IsHall, heard_in, own_at, part_in, seen_in, segs_in, slot_at}
+use Rattle.hp_hall.specs.Opening.{AreHome}
+use Rattle.hp_maps.specs.MapsView.{MapsView}
+use Rattle.hp_maps.specs.declared.table.Table.{Table}
+use Rattle.hp_script.specs.declared.answer.Answer.{Answer}
+use Rattle.hp_script.specs.declared.answer.Answer.TheVariants as answer
+use Rattle.hp_script.specs.declared.line.Act.TheVariants as act
+use Rattle.hp_script.specs.declared.line.Line.{Line}
+use Rattle.hp_script.specs.declared.workload.Workload.{Workload}
+use Rattle.hp_segs.specs.Opening.{is_present}
+use Rattle.hp_segs.specs.SegsView.{SegsView}
+use Rattle.hp_segs.specs.declared.outcome.AskLog.{AskLog}
+use Rattle.hp_segs.specs.declared.outcome.Cause.TheVariants.{MapFailed}
+use Rattle.hp_segs.specs.declared.outcome.Outcome.TheVariants.{Refused}
+use Rattle.hp_proc.specs.Contexts.{Said, opening_context}
+use Rattle.hp_proc.specs.Ending.{LeavesTable}
+use Rattle.hp_proc.specs.Ends.{IsSoloEnd}
+use Rattle.hp_proc.specs.LinesDone.{Course}
+use Rattle.hp_proc.specs.Party.{IsSameParty, Party, opening_party, with_context}
+use Rattle.hp_proc.specs.Progress.{DoesLine, IsLineBuilt, MayDo, moment_of}
+use Rattle.hp_proc.specs.Tied.{IsTied}
+use Rattle.hp_solo.specs.Served.{HasServed}
+use Rattle.hp_joint.specs.SoFar.{AreFirstHeaps, SoFar, first_hall}
+
+-- the pools and the lines of a workload
+abbrev pub said_in : Workload → Said
+said_in workload = record { pools = workload.pools.items; lines = workload.lines.items }
+
+-- a participant before its first line, with this table and plan
+abbrev pub first_party : Workload → ℕ → MapsView → List PlanEntry → Party
+first_party workload who maps plan =
+    opening_party who (slice_index workload.sockets who) (is_present workload.participants workload.absent who) maps plan workload.deadline
+    (opening_context (said_in workload) (is_present workload.participants workload.absent who))
+
+-- it has a table that has taken in nothing and has room for all slots
+pub record IsFirstParty (workload : Workload) (who : ℕ) (party : Party) : Type 0 where
+  pub maps : MapsView
+  pub plan : List PlanEntry
+  pub is : party ≡ first_party workload who maps plan
+  pub rows : maps.rows ≡ []
+  pub number : maps.number ≡ 0
+  pub answers : maps.answers ≡ []
+  pub room : MAX_SEGMENTS ≤ maps.capacity
+
+-- what the lines of a workload say of its participants and its pools
+pub record IsGiven (workload : Workload) : Type 0 where
+  pub few : workload.participants ≤ MAX_PARTICIPANTS
+  pub primary : 0 < workload.participants
+  pub present : bit_at workload.absent 0 ≡ 0
+  pub pools : ArePoolLines workload.pools.items
+  pub deadline : workload.deadline ≤ MAX_DEADLINE
+
+-- they have done no line yet
+abbrev pub OpensSoFar : Type 0
+OpensSoFar = (workload : Workload) (heaps : List HeapView) (parties : List Party) → IsGiven workload → AreFirstHeaps workload heaps
+    → length parties ≡ workload.participants
+    → ((who : ℕ) (party : Party) → slice_get parties who ≡ Some party → IsFirstParty workload who party)
+    → SoFar workload [] parties (first_hall workload heaps)
+
+-- a participant served while another one did its line, or behind the last line
+pub record ServesBeside (count who : ℕ) (old new : HallView) (party after : Party) : Type 0 where
+  pub served : HasServed count who old new party after
+  pub same : IsSameParty party after
+  pub tied : IsTied (seen_in new) (own_at new who) after.joined after.maps
+
+-- so did all but those that are apart
+abbrev pub OthersServe : (ℕ → Type 0) → ℕ → HallView → HallView → List Party → List Party → Type 0
+OthersServe apart count old new parties behind = (who : ℕ) (party after : Party) → (apart who → ⊥) → slice_get parties who ≡ Some party
+    → slice_get behind who ≡ Some after → ServesBeside count who old new party after
+
+-- a participant does its line
+pub record DoesItsLine (workload : Workload) (old new : HallView) (line : Line) (answer : Answer) (party after : Party) : Type 0 where
+  pub does : DoesLine workload.participants (HasDone old new line.participant) line answer
+      (moment_of party (part_in old line.participant) (seen_in old) (heard_in old))
+      (moment_of after (part_in new line.participant) (seen_in new) (heard_in new))
+  pub ready : MayDo (moment_of after (part_in new line.participant) (seen_in new) (heard_in new))
+  pub tied : IsTied (seen_in new) (own_at new line.participant) after.joined after.maps
+  pub same : IsSameParty (with_context after.context party) after
+
+-- one line more, of one of them, while all others served
+pub record GoesBy (workload : Workload) (line : Line) (answer : Answer) (parties behind : List Party) (old new : HallView) : Type 0 where
+  pub declared : line.participant < workload.participants
+  pub built : IsLineBuilt line.participant line.act
+  pub count : length behind ≡ length parties
+  pub party : Party
+  pub after : Party
+  pub before_is : slice_get parties line.participant ≡ Some party
+  pub behind_is : slice_get behind line.participant ≡ Some after
+  pub does : DoesItsLine workload old new line answer party after
+  pub others : OthersServe (λ who. who ≡ line.participant) workload.participants old new parties behind
+  pub home : AreHome new
+  pub course : IsCourse old new
+
+-- each mapper may fail at the calls at which it might before
+abbrev pub MayFailAsBefore : List Party → List Party → Type 0
+MayFailAsBefore parties behind = (who : ℕ) (party after : Party) → slice_get parties who ≡ Some party → slice_get behind who ≡ Some after
+    → after.maps.may_fail ≡ party.maps.may_fail
+
+-- they have done one line more
+abbrev pub GoesOnByLine : Type 0
+GoesOnByLine = (workload : Workload) (courses : List Course) (parties behind : List Party) (old new : HallView) (line : Line)
+    (answer : Answer) → IsGiven workload → SoFar workload courses parties old → (goes : GoesBy workload line answer parties behind old new)
+    → SoFar workload (courses ++ record { line = line; answer = answer; trace = goes.does.does.does.trace } ∷ []) behind new
+    × MayFailAsBefore parties behind
+
+-- where all serve on, they have done the same lines
+abbrev pub RestsSoFar : Type 0
+RestsSoFar = (workload : Workload) (courses : List Course) (parties behind : List Party) (old new : HallView) → IsGiven workload
+    → SoFar workload courses parties old → length behind ≡ length parties → OthersServe (λ who. ⊥) workload.participants old new parties behind
+    → AreHome new → IsCourse old new → SoFar workload courses behind new × MayFailAsBefore parties behind
+
+-- these are the lines of a workload with their answers, and what the hall and the participants leave
+pub record IsAtEnd (workload : Workload) (courses : List Course) (answers : List Answer) (parties : List Party) (hall : HallView)
+    (heaps : List HeapView) (segs : SegsView) (tables : List Table) : Type 0 where
+  pub lines : map (λ course. course.line) courses ≡ workload.lines.items
+  pub answered : map (λ course. course.answer) courses ≡ answers
+  pub hall_is : IsHall hall
+  pub slots : hall.slots ≡ slots_of heaps segs
+  pub count : length tables ≡ length parties
+  pub tables_are : (who : ℕ) (party : Party) (table : Table) → slice_get parties who ≡ Some party → slice_get tables who ≡ Some table
+      → LeavesTable party table
+
+-- behind the last line that is an end of the workload
+abbrev pub EndsSo : Type 0
+EndsSo = (workload : Workload) (courses : List Course) (answers : List Answer) (parties : List Party) (hall : HallView)
+    (heaps : List HeapView) (segs : SegsView) (tables : List Table) → IsGiven workload → SoFar workload courses parties hall
+    → IsAtEnd workload courses answers parties hall heaps segs tables → IsSoloEnd workload answers heaps segs tables
+
+-- an outcome says that a mapping of that participant failed, at that call of its mapper
+pub record IsFailedMapping (participant call : ℕ) (entry : AskLog) : Type 0 where
+  pub addr : ℕ
+  pub got : MapAnswer
+  pub its : entry.outcome ≡ Refused (MapFailed participant call addr got)
+
+-- a call at which the mapper of one of these participants may fail
+pub record MayHaveFailed (parties : List Party) (participant call : ℕ) : Type 0 where
+  pub party : Party
+  pub its : slice_get parties participant ≡ Some party
+  pub may : may_fail_at party.maps.may_fail call ≡ true
+
+-- wherever it was run to, a mapping that failed was a declared participant's, at a call at which its mapper may fail
+abbrev pub FailsByReason : Type 0
+FailsByReason = (workload : Workload) (courses : List Course) (parties : List Party) (hall : HallView) (segs : SegsView) (entry : AskLog)
+    (participant call : ℕ) → IsGiven workload → SoFar workload courses parties hall → segs_in (slot_at hall MAX_HEAPS) ≡ Some segs
+    → Contains segs.asks entry → IsFailedMapping participant call entry → MayHaveFailed parties participant call
+
+-- and failed mappings that share participant and call stand at one place of the outcomes
+abbrev pub FailsOnce : Type 0
+FailsOnce = (workload : Workload) (courses : List Course) (parties : List Party) (hall : HallView) (segs : SegsView) (place other : ℕ)
+    (entry second : AskLog) (participant call : ℕ) → IsGiven workload → SoFar workload courses parties hall
+    → segs_in (slot_at hall MAX_HEAPS) ≡ Some segs → slice_get segs.asks place ≡ Some entry → slice_get segs.asks other ≡ Some second
+    → IsFailedMapping participant call entry → IsFailedMapping participant call second → place ≡ other
+
+-- a line that attaches was refused at that call of its participant's mapper
+pub record IsRefusedAttach (participant call : ℕ) (course : Course) : Type 0 where
+  pub who : course.line.participant ≡ participant
+  pub act : course.line.act ≡ act.Attach
+  pub answer : course.answer ≡ answer.Refused call
+
+-- an attach was refused at a call at which its participant's mapper may fail, and two of one call are one line
+abbrev pub RefusesByReason : Type 0
+RefusesByReason = (workload : Workload) (courses : List Course) (parties : List Party) (hall : HallView) (course : Course)
+    (participant call : ℕ) → IsGiven workload → SoFar workload courses parties hall → Contains courses course
+    → IsRefusedAttach participant call course → MayHaveFailed parties participant call
+
+abbrev pub RefusesOnce : Type 0
+RefusesOnce = (workload : Workload) (courses : List Course) (parties : List Party) (hall : HallView) (place other : ℕ)
+    (course second : Course) (participant call : ℕ) → IsGiven workload → SoFar workload courses parties hall
+    → slice_get courses place ≡ Some course → slice_get courses other ≡ Some second → IsRefusedAttach participant call course
+    → IsRefusedAttach participant call second → place ≡ other

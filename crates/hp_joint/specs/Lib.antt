@@ -1,0 +1,4 @@
+pub mod Seats
+pub mod Together
+pub mod SoFar
+pub mod EndLaws

@@ -1,0 +1,107 @@
+-- How far a workload was run, by all its participants in one thread: what holds between two of its lines. The rule "Together" of
+-- docs/PARTICIPANTS.md.
+use Rattle.std.specs.Prelude.{◌≡◌, ℕ, ◌<◌, ◌≤◌, true, List, length, Some, slice_get, slice_index}
+use Rattle.std.specs.List.{All}
+use Rattle.hp_base.specs.declared.limits.TheConstants.{MAX_HEAPS}
+use Rattle.hp_hall.specs.Course.{IsCourse}
+use Rattle.hp_hall.specs.HallSteps.{opening_hall}
+use Rattle.hp_hall.specs.HallView.{HallView, heard_in, history_in, own_at, part_in, seen_in, segs_in, slot_at}
+use Rattle.hp_hall.specs.Opening.{AreHome, AreInOrder, AreUnused}
+use Rattle.hp_heap.specs.History.{HeapView, IsSound}
+use Rattle.hp_script.specs.declared.workload.Workload.{Workload}
+use Rattle.hp_segs.specs.Opening.{opening}
+use Rattle.hp_segs.specs.SegsView.{SegsView, is_member}
+use Rattle.hp_proc.specs.Acting.{AreAsked}
+use Rattle.hp_proc.specs.Contexts.{Context}
+use Rattle.hp_proc.specs.Courses.{calls_in}
+use Rattle.hp_proc.specs.Doing.{Done}
+use Rattle.hp_proc.specs.Ends.{IsHeapAt, history_by, none_made}
+use Rattle.hp_proc.specs.Histories.{entries_for, granted_runs, grown_runs}
+use Rattle.hp_proc.specs.LinesDone.{AreDone, Course, courses_of, opening_standing, standing_after, trace_of}
+use Rattle.hp_proc.specs.Party.{Party}
+use Rattle.hp_proc.specs.Progress.{IsLineBuilt, MayDo, moment_of}
+use Rattle.hp_proc.specs.Seen.{AreSeen, seen_by_lines}
+use Rattle.hp_proc.specs.Tied.{IsTied}
+use Rattle.hp_joint.specs.Seats.{Seat}
+use Rattle.hp_joint.specs.Together.{IsFirst, Joint, Runs}
+
+-- the heaps of a workload before its first line: each at its index, of its socket or vacant, and without a call
+pub record AreFirstHeaps (workload : Workload) (heaps : List HeapView) : Type 0 where
+  pub in_order : AreInOrder heaps
+  pub unused : AreUnused heaps
+  pub each : (place : ℕ) (heap : HeapView) → slice_get heaps place ≡ Some heap → IsHeapAt workload place heap.plain
+  pub sound : All IsSound heaps
+
+-- the segment value of a workload before its first line
+abbrev pub first_segs : Workload → SegsView
+first_segs workload = opening workload.pools.items workload.participants workload.absent
+
+-- the hall of a workload before its first line
+abbrev pub first_hall : Workload → List HeapView → HallView
+first_hall workload heaps = opening_hall workload.participants heaps (first_segs workload)
+
+-- what was done for a participant's lines
+abbrev pub trace_for : ℕ → List Course → List Done
+trace_for who courses = trace_of (courses_of who courses)
+
+-- what a participant knows of a workload once these lines were done
+abbrev pub context_of : Workload → ℕ → List Course → Context
+context_of workload who courses = record {
+  pools = workload.pools.items;
+  lines = workload.lines.items;
+  standing = standing_after (opening_standing workload who) (courses_of who courses);
+  calls = length (calls_in (trace_for who courses));
+}
+
+-- one of the lines that are built, of a declared participant
+pub record IsOfDeclared (count : ℕ) (course : Course) : Type 0 where
+  pub declared : course.line.participant < count
+  pub act : IsLineBuilt course.line.participant course.line.act
+
+-- a participant between two lines: it is attached where its lines leave it so, knows what they left, made their calls and asks, and has
+-- taken in what was there when it attached; it may do its next line
+pub record IsSoFarFor (workload : Workload) (courses : List Course) (hall : HallView) (who : ℕ) (party : Party) : Type 0 where
+  pub me : party.me ≡ who
+  pub socket : party.socket ≡ slice_index workload.sockets who
+  pub deadline : party.deadline ≡ workload.deadline
+  pub joined : party.joined ≡ (standing_after (opening_standing workload who) (courses_of who courses)).attached
+  pub since : party.joined ≡ true
+      → (standing_after (opening_standing workload who) (courses_of who courses)).records ≤ party.maps.number
+  pub context : party.context ≡ context_of workload who courses
+  pub entries : (heap : ℕ) → (part_in hall who heap).entries ≡ entries_for who heap 1 (calls_in (trace_for who courses))
+  pub asked : AreAsked (seen_in hall) (heard_in hall) who 0 party.asked (trace_for who courses)
+  pub ready : MayDo (moment_of party (part_in hall who) (seen_in hall) (heard_in hall))
+  pub tied : IsTied (seen_in hall) (own_at hall who) party.joined party.maps
+
+-- a seat is that of a participant, with what was done for its lines
+pub record IsSeatOf (parties : List Party) (courses : List Course) (who : ℕ) (seat : Seat) : Type 0 where
+  pub party : slice_get parties who ≡ Some seat.party
+  pub trace : seat.trace ≡ trace_for who courses
+
+-- the participants of a workload have done these lines in a hall of one thread, and hold no slot
+pub record SoFar (workload : Workload) (courses : List Course) (parties : List Party) (hall : HallView) : Type 0 where
+  -- the hall as it opened, and how it went on
+  pub heaps : List HeapView
+  pub first_heaps : AreFirstHeaps workload heaps
+  pub course : IsCourse (first_hall workload heaps) hall
+  pub home : AreHome hall
+  -- all participants, step by step
+  pub first : Joint
+  pub now : Joint
+  pub is_first : IsFirst workload.participants workload.absent workload.pools.items first
+  pub runs : Runs workload.participants first now
+  pub its_segs : segs_in (slot_at hall MAX_HEAPS) ≡ Some now.segs
+  pub its_boxes : now.boxes ≡ hall.boxes
+  pub count : length parties ≡ workload.participants
+  pub seats : (who : ℕ) (seat : Seat) → slice_get now.seats who ≡ Some seat → IsSeatOf parties courses who seat
+  pub roster : (who : ℕ) (seat : Seat) → slice_get now.seats who ≡ Some seat → is_member now.segs.roster who ≡ seat.party.joined
+  -- each participant, and its lines
+  pub each : (who : ℕ) (party : Party) → slice_get parties who ≡ Some party → IsSoFarFor workload courses hall who party
+  pub built : All (IsOfDeclared workload.participants) courses
+  pub done : (who : ℕ) → who < workload.participants → AreDone workload (opening_standing workload who) (courses_of who courses)
+  -- the lines one after another: each history has the entries of earlier lines first, what lines show of the log never falls, and each heap
+  -- grew by the runs that were granted for it
+  pub in_order : (index : ℕ) → history_in (slot_at hall index) ≡ history_by index none_made courses
+  pub seen : AreSeen (length now.segs.log) (seen_by_lines now.segs.log now.segs.asks none_made courses)
+  pub grown : (index : ℕ) → index < MAX_HEAPS
+      → grown_runs (history_by index none_made courses) ≡ granted_runs index now.segs.asks 1 now.segs.log

@@ -1,0 +1,66 @@
+-- A run of all participants of a hall, step by step: what each makes of itself, of the segment value and of the mailboxes. The rule
+-- "Together" of docs/PARTICIPANTS.md.
+use Rattle.std.specs.Prelude.{◌≡◌, ℕ, List, [], length, replicate, Some, None, slice_get, slice_set}
+use Rattle.hp_base.specs.declared.pool_line.PoolLine.{PoolLine}
+use Rattle.hp_frame.specs.declared.frame.Frame.{Frame}
+use Rattle.hp_hall.specs.Holding.{IsArmed}
+use Rattle.hp_hall.specs.Mail.{IsMailStep, MailStep, after_step}
+use Rattle.hp_segs.specs.Opening.{opening}
+use Rattle.hp_segs.specs.SegsView.{SegsView, is_member}
+use Rattle.hp_segs.specs.Sound.{IsSound}
+use Rattle.hp_proc.specs.Party.{first_core}
+use Rattle.hp_joint.specs.Seats.{Handles, Mails, Quietly, Seat}
+
+-- all participants by number, the segment value at a moment at which nobody holds it, and the mailboxes
+pub record Joint : Type 0 where
+  pub seats : List Seat
+  pub segs : SegsView
+  pub boxes : List (List Frame)
+
+-- the seat of a participant has come to this
+abbrev pub with_seat : ℕ → Seat → Joint → Joint
+with_seat who seat at = record { seats = slice_set at.seats who seat; segs = at.segs; boxes = at.boxes }
+
+-- and the segment value to this
+abbrev pub with_segs : SegsView → Joint → Joint
+with_segs segs at = record { seats = at.seats; segs = segs; boxes = at.boxes }
+
+-- the mailboxes are those behind a step that a participant made
+abbrev pub behind_step : ℕ → MailStep → Joint → Joint
+behind_step who step at = record { seats = at.seats; segs = at.segs; boxes = after_step who step at.boxes }
+
+-- one step of one participant; the segment value that it gives back is sound
+pub data Steps (count : ℕ) : Joint → Joint → Type 0 where
+  quietly : (at : Joint) (who : ℕ) (old new : Seat) → slice_get at.seats who ≡ Some old → Quietly old new → Steps count at (with_seat who new at)
+  mails : (at : Joint) (who : ℕ) (old new : Seat) (step : MailStep) → slice_get at.seats who ≡ Some old → IsMailStep who step at.boxes
+      → Mails who old new step → Steps count at (behind_step who step (with_seat who new at))
+  handles : (at : Joint) (who : ℕ) (old new : Seat) (given : SegsView) → slice_get at.seats who ≡ Some old
+      → Handles count who old new at.segs given → IsSound given → IsArmed given → Steps count at (with_segs given (with_seat who new at))
+
+-- steps one after another
+pub data Runs (count : ℕ) : Joint → Joint → Type 0 where
+  stands : (at : Joint) → Runs count at at
+  goes_on : (first mid last : Joint) → Runs count first mid → Steps count mid last → Runs count first last
+
+-- a participant before its first step: it has a table where it is in the roster, and nothing was done
+pub record IsFirstSeat (who : ℕ) (segs : SegsView) (seat : Seat) : Type 0 where
+  pub me : seat.party.me ≡ who
+  pub joined : seat.party.joined ≡ is_member segs.roster who
+  pub core : seat.party.core ≡ first_core who seat.party.deadline
+  pub asked : seat.party.asked ≡ 0
+  pub answers : seat.party.maps.answers ≡ []
+  pub rows : seat.party.maps.rows ≡ []
+  pub number : seat.party.maps.number ≡ 0
+  pub trace : seat.trace ≡ []
+  pub fetched : seat.fetched ≡ []
+  pub asking : seat.asking ≡ None
+
+-- so many participants before their first step, of which some are absent: the mailboxes are empty, and the segment value is that of the
+-- pools
+pub record IsFirst (count absent : ℕ) (pools : List PoolLine) (at : Joint) : Type 0 where
+  pub seats : length at.seats ≡ count
+  pub each : (who : ℕ) (seat : Seat) → slice_get at.seats who ≡ Some seat → IsFirstSeat who at.segs seat
+  pub segs : at.segs ≡ opening pools count absent
+  pub sound : IsSound at.segs
+  pub armed : IsArmed at.segs
+  pub boxes : at.boxes ≡ replicate count []

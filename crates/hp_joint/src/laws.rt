@@ -1,0 +1,31 @@
+//! Laws of a run of all participants of a hall. They are proved of all runs, and their functions have no code.
+ghost use Rattle.hp_joint.specs.EndLaws.{EndsSo, FailsByReason, FailsOnce, GoesOnByLine, OpensSoFar, RefusesByReason, RefusesOnce, RestsSoFar};
+
+/// A run of the participants of a hall in one thread goes from line to line: before the first line, by each line that one of them does
+/// while the others serve, and where all serve on, each has done what its lines say so far, step by step, and each mapper may fail at the
+/// same calls. Own.
+pub fn line_law()
+    ensures opens { OpensSoFar }
+    ensures goes_on { GoesOnByLine }
+    ensures rests { RestsSoFar }
+{}
+
+/// Behind its last line that is an end of the workload: each line did what its facts say and was answered so; the histories are the calls
+/// of the lines; each outcome is of an ask or a notice of its participant, in turn, and has its cause; pages came and went by the log; and
+/// each participant is in the roster, and has its table, as its lines leave it. Own.
+pub fn end_law()
+    ensures { EndsSo }
+{}
+
+/// A growth that was refused as a mapping failed was so at a call at which that participant's mapper may fail, and at most one growth was
+/// refused by one call. Own.
+pub fn failure_law()
+    ensures fails { FailsByReason }
+    ensures once { FailsOnce }
+{}
+
+/// An attach was refused at a call at which its participant's mapper may fail, and at most one was refused by one call. Own.
+pub fn refusal_law()
+    ensures fails { RefusesByReason }
+    ensures once { RefusesOnce }
+{}

@@ -1,0 +1,6 @@
+//! What a run of a workload leaves, in which participants take turns in one thread: definitions, lemmas and laws, and no code.
+#![tactic(auto)]
+
+mod laws;
+
+pub use laws::{end_law, failure_law, line_law, refusal_law};
