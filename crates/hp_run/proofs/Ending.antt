@@ -1,11 +1,13 @@
 -- A run behind its last line has come to an end of its workload.
-use Rattle.std.proofs.Common.{◌≡◌, ◌∙◌, ℕ, List, [], ◌∷◌, true, Option, Some, sym, subst, arith}
-use Rattle.hp_base.specs.Mapping.{may_fail_at}
+use Rattle.std.proofs.Common.{◌≡◌, ◌∙◌, ℕ, zero, suc, ◌+◌, ◌≤◌, List, [], ◌∷◌, length, Option, Some, None, refl, sym, ap, subst, arith}
+use Rattle.std.specs.List.{slice_get}
+use Rattle.std.specs.Option.{IsSome}
+use Rattle.std.proofs.lemmas.Option.{slice_get_past, slice_get_within}
 use Rattle.hp_base.specs.declared.limits.TheConstants.{MAX_HEAPS}
-use Rattle.hp_hall.specs.Course.{IsCourse}
+use Rattle.hp_hall.specs.Course.{IsCourse, IsLater}
 use Rattle.hp_hall.specs.HallSteps.{slots_of}
-use Rattle.hp_hall.specs.HallView.{HallView, IsHall, IsHome, own_at, part_in, seen_in, segs_in, slot_at}
-use Rattle.hp_hall.specs.Opening.{AreHome}
+use Rattle.hp_hall.specs.HallView.{HallView, IsHall, SlotView, segs_in, slot_at}
+use Rattle.hp_hall.proofs.Opened.{opened_length, opened_segs}
 use Rattle.hp_heap.specs.History.{HeapView}
 use Rattle.hp_maps.specs.declared.table.Table.{Table}
 use Rattle.hp_script.specs.declared.answer.Answer.{Answer}
@@ -13,70 +15,82 @@ use Rattle.hp_script.specs.declared.workload.Workload.{Workload}
 use Rattle.hp_segs.specs.SegsView.{SegsView}
 use Rattle.hp_proc.specs.Ending.{LeavesTable}
 use Rattle.hp_proc.specs.Ends.{IsSoloEnd}
-use Rattle.hp_proc.specs.Party.{IsSameParty, Party}
-use Rattle.hp_proc.specs.Solo.{SoloView}
-use Rattle.hp_proc.specs.Tied.{IsTied}
-use Rattle.hp_end.specs.SoFar.{SoFar}
-use Rattle.hp_end.proofs.Failures.{so_far_fails, so_far_fails_once}
-use Rattle.hp_end.proofs.HallEnds.{segs_there}
-use Rattle.hp_end.proofs.Opens as opening_run
-use Rattle.hp_end.proofs.Resting.{so_far_rests}
-use Rattle.hp_end.proofs.SoloEnding.{so_far_ends}
-use Rattle.hp_end.specs.EndLaws.{first_party}
-use Rattle.hp_run.specs.Failures.{FailAsMay, FailOnce}
-use Rattle.hp_run.specs.Opening.{IsFirstHall, IsFirstParty}
-use Rattle.hp_run.specs.Running.{HasDoneLines, IsRunnable}
-use Rattle.hp_run.proofs.Resting.{ServesTo}
+use Rattle.hp_proc.specs.Party.{Party}
+use Rattle.hp_solo.specs.Ending.{AreThere, LeaveTables, LeavesThere}
+use Rattle.hp_solo.specs.Solo.{SoloView}
+use Rattle.hp_joint.specs.EndLaws.{EndsSo, IsGiven}
+use Rattle.hp_joint.specs.SoFar.{first_hall, first_segs}
+use Rattle.hp_run.specs.Running.{HaveDoneLines}
+use Rattle.hp_run.proofs.Places.{as_many, party_there, there_below}
 
--- before the first line
-pub opens_so : (workload : Workload) (may_fail : Option (List ℕ)) (party : Party) (hall : SoloView) → IsRunnable workload
-    → IsFirstHall workload hall → IsFirstParty workload may_fail party → SoFar workload [] party hall.plain
-opens_so workload may_fail party hall runnable first is =
-    subst (λ (party : Party). SoFar workload [] party hall.plain) (sym is.is)
-    (subst (λ (hall : HallView). SoFar workload [] (first_party workload is.maps workload.plan.items) hall) (sym first.plain)
-    (opening_run.so_far_opens workload first.heaps is.maps workload.plan.items runnable.built.attached runnable.pools first.first
-    is.table.rows is.table.number (omega (arith, is.table.room))))
+later_there : (old new : Option SlotView) (slot : SlotView) → IsLater old new → old ≡ Some slot → (now : SlotView) × (new ≡ Some now)
+later_there None new slot later is = cc
+later_there (Some old) None slot later is = absurd later
+later_there (Some old) (Some new) slot later is = (new, refl)
 
-module _ (workload : Workload) (answers : List Answer) (first party after : Party) (old new : HallView) (runnable : IsRunnable workload)
-    (done : HasDoneLines workload workload.lines.items answers first party old) (served : ServesTo old new party after)
-    (part : (heap : ℕ) → part_in new 0 heap ≡ part_in old 0 heap) (tied : IsTied (seen_in new) (own_at new 0) after.joined after.maps)
-    (same : IsSameParty party after) (home : (number : ℕ) → IsHome (slot_at old number) → IsHome (slot_at new number))
-    (course : IsCourse old new) where
-  -- every value is there
-  pub rested_home : AreHome new
-  rested_home number below = home number (done.so_far.home number below)
+later_none : (old new : Option SlotView) → IsLater old new → old ≡ None → new ≡ None
+later_none None None later none = refl
+later_none None (Some new) later none = absurd later
+later_none (Some old) new later none = cc
 
-  -- behind the servings that follow the last line
-  rested : SoFar workload done.courses after new × (after.maps.may_fail ≡ party.maps.may_fail)
-  rested =
-      so_far_rests workload done.courses party after old new served.0 done.so_far served.1 served.2
-      (record { parts = part; tied = tied; same = same; home = rested_home }) course
+-- a list ends where nothing is read
+ends_by : {X : Type 0} (xs : List X) (place : ℕ) → slice_get xs place ≡ None → length xs ≤ place
+ends_by [] place none = omega arith
+ends_by (x ∷ xs) zero none = cc
+ends_by (x ∷ xs) (suc place) none =
+    let rest = ends_by xs place none in
+    omega (arith, rest)
 
-  module _ (heaps : List HeapView) (segs : SegsView) (slots : new.slots ≡ slots_of heaps segs) where
-    pub ends_so : (table : Table) → IsHall new → LeavesTable after table → IsSoloEnd workload answers heaps segs (table ∷ [])
-    ends_so table sound leaves =
-        so_far_ends workload done.courses answers after new heaps segs table rested.0
-        (record {
-          alone = runnable.built.alone;
-          attached = runnable.built.attached;
-          lines = done.lines_are;
-          answered = done.answered;
-          hall_is = sound;
-          slots = slots;
-          table_is = leaves;
-        })
+-- a course keeps the number of slots
+slots_stay : (old new : HallView) (count : ℕ) → IsCourse old new → length old.slots ≡ count + 1 → length new.slots ≡ count + 1
+slots_stay old new count course many =
+    let last = there_below old.slots count (omega arith) in
+    let still = later_there (slot_at old count) (slot_at new count) last.0 (course.slots count) last.1 in
+    let past : slot_at new (count + 1) ≡ None =
+    later_none (slot_at old (count + 1)) (slot_at new (count + 1)) (course.slots (count + 1))
+    (slice_get_past old.slots (count + 1) (omega arith)) in
+    omega (arith, slice_get_within new.slots count still.0 still.1, ends_by new.slots (count + 1) past)
 
-    value_there : segs_in (slot_at new MAX_HEAPS) ≡ Some segs
-    value_there = segs_there workload done.courses after new rested.0 heaps segs slots
+slots_long : (heaps : List HeapView) (segs : SegsView) → length (slots_of heaps segs) ≡ length heaps + 1
+slots_long [] segs = refl
+slots_long (heap ∷ heaps) segs =
+    let rest = slots_long heaps segs in
+    omega (arith, rest)
 
-    -- a mapping failed only at a call at which the mapper may fail
-    pub fails_so : FailAsMay first.maps.may_fail segs.asks
-    fails_so = λ entry participant call logged failed.
-        subst (λ (may_fail : Option (List ℕ)). (participant ≡ 0) × (may_fail_at may_fail call ≡ true)) (rested.1 ∙ done.may_fail)
-        (so_far_fails workload done.courses after new segs entry participant call rested.0 value_there logged failed)
+leaves_one : (party : Option Party) (one : Party) (table : Table) → LeavesThere party table → party ≡ Some one → LeavesTable one table
+leaves_one party one table leaves is = subst (λ (party : Option Party). LeavesThere party table) is leaves
 
-    -- and at no call twice
-    pub fails_once : FailOnce segs.asks
-    fails_once = λ place other entry second participant call here there is too.
-        so_far_fails_once workload done.courses after new segs place other entry second participant call rested.0 value_there here there is
-        too
+module _ (workload : Workload) (answers : List Answer) (hall : SoloView) (done : HaveDoneLines workload workload.lines.items answers hall)
+  where
+    -- each is in its place
+    pub all_in : AreThere hall.servers
+    all_in who below =
+        let there = there_below done.parties who (omega (arith, below, as_many hall.servers done.parties done.are)) in
+        subst IsSome (sym (party_there hall.servers done.parties done.are who ∙ there.1)) refl
+
+    module _ (heaps : List HeapView) (segs : SegsView) (slots : hall.plain.slots ≡ slots_of heaps segs) where
+      heaps_many : length heaps ≡ MAX_HEAPS
+      heaps_many =
+          let so = done.so_far in
+          let opened = opened_length so.heaps (first_segs workload) so.first_heaps.in_order.count in
+          let still = slots_stay (first_hall workload so.heaps) hall.plain MAX_HEAPS so.course opened in
+          omega (arith, still, ap (λ (slots : List SlotView). length slots) slots, slots_long heaps segs)
+
+      pub segs_there : segs_in (slot_at hall.plain MAX_HEAPS) ≡ Some segs
+      segs_there =
+          ap (λ (slots : List SlotView). segs_in (slice_get slots MAX_HEAPS)) slots ∙ opened_segs heaps segs MAX_HEAPS heaps_many
+
+      pub ends_so : (tables : List Table) → EndsSo → IsGiven workload → IsHall hall.plain → LeaveTables hall.servers tables
+          → IsSoloEnd workload answers heaps segs tables
+      ends_so tables law given sound leave =
+          law workload done.courses answers done.parties hall.plain heaps segs tables given done.so_far
+          (record {
+            lines = done.lines_are;
+            answered = done.answered;
+            hall_is = sound;
+            slots = slots;
+            count = leave.count ∙ as_many hall.servers done.parties done.are;
+            tables_are = λ who party table there its.
+                leaves_one _ party table (leave.each who table its)
+                (party_there hall.servers done.parties done.are who ∙ there);
+          })

@@ -1,58 +1,133 @@
 -- A mapping that failed is named by the plan, or its mapper is not steady.
-use Rattle.std.proofs.Common.{◌≡◌, ◌∙◌, ℕ, zero, suc, ◌<◌, inl, inr, List, [], ◌∷◌, get_or, length, map, true, Option, Some, None, refl, sym, ap, subst, arith}
+use Rattle.std.proofs.Common.{◌≡◌, ◌∙◌, ℕ, ◌<◌, inl, inr, List, [], ◌∷◌, length, map, true, Option, Some, None, refl, sym, ap, arith}
 use Rattle.std.specs.List.{slice_get}
 use Rattle.std.specs.Option.{option_map}
-use Rattle.std.proofs.lemmas.Option.{slice_get-map, slice_get_read, slice_get_within}
+use Rattle.std.proofs.lemmas.List.{length-map}
+use Rattle.std.proofs.lemmas.Option.{get_or_from_slice_get, same_Some, slice_get-map, slice_get_within}
 use Rattle.hp_base.specs.Mapping.{may_fail_at}
+use Rattle.hp_base.specs.declared.limits.TheConstants.{MAX_HEAPS}
 use Rattle.hp_base.specs.declared.plan_entry.PlanEntry.{PlanEntry}
+use Rattle.hp_hall.specs.HallView.{segs_in, slot_at}
 use Rattle.hp_maps.specs.PlannedView.{may_fail_by}
 use Rattle.hp_maps.proofs.PlannedLemmas.{fails_by_plan}
+use Rattle.hp_script.specs.declared.answer.Answer.{Answer}
+use Rattle.hp_script.specs.declared.answer.Answer.TheVariants.{Refused}
+use Rattle.hp_script.specs.declared.line.Line.{Line}
 use Rattle.hp_script.specs.declared.workload.Workload.{Workload}
-use Rattle.hp_segs.specs.declared.outcome.AskLog.{AskLog}
+use Rattle.hp_segs.specs.SegsView.{SegsView}
+use Rattle.hp_proc.specs.LinesDone.{Course}
 use Rattle.hp_proc.specs.Party.{Party}
-use Rattle.hp_run.specs.Failures.{AreFailuresNamed, FailAsMay, IsFailureNamed, IsUnsteady}
-use Rattle.hp_run.specs.Opening.{IsFirstParty}
+use Rattle.hp_solo.specs.Solo.{ServerView, SoloView}
+use Rattle.hp_joint.specs.EndLaws.{FailsByReason, FailsOnce, IsGiven, IsRefusedAttach, MayHaveFailed, RefusesByReason, RefusesOnce}
+use Rattle.hp_run.specs.Ending.{AreAsMay, AreNamed}
+use Rattle.hp_run.specs.Failures.{IsFailureNamed, IsRefusedAt, MayFailIn}
+use Rattle.hp_run.specs.Opening.{HaveCome}
+use Rattle.hp_run.specs.Running.{FailAsBefore, HaveDoneLines}
+use Rattle.hp_run.proofs.Places.{party_there, there_below}
 
 -- where a mapper with a plan may fail, the plan names the call, or the mapper below it is not steady
-named_there : (plan : List PlanEntry) (may_fail : Option (List ℕ)) (call : ℕ) → may_fail_at (may_fail_by plan 0 may_fail) call ≡ true
-    → IsFailureNamed plan (may_fail ∷ []) 0 call
-named_there plan None call may = inr (record { may_fail = None; its = refl; unsteady = λ steady. cc })
-named_there plan (Some []) call may = inl (sym (fails_by_plan plan 0 (Some []) refl call) ∙ may)
-named_there plan (Some (other ∷ others)) call may =
-    inr (record { may_fail = Some (other ∷ others); its = refl; unsteady = λ steady. cc })
+named_there : (plan : List PlanEntry) (mappers : List (Option (List ℕ))) (who : ℕ) (may_fail : Option (List ℕ)) (call : ℕ)
+    → slice_get mappers who ≡ Some may_fail → may_fail_at (may_fail_by plan who may_fail) call ≡ true
+    → IsFailureNamed plan mappers who call
+named_there plan mappers who None call there may = inr (record { may_fail = None; its = there; unsteady = λ steady. cc })
+named_there plan mappers who (Some []) call there may = inl (sym (fails_by_plan plan who (Some []) refl call) ∙ may)
+named_there plan mappers who (Some (other ∷ others)) call there may =
+    inr (record { may_fail = Some (other ∷ others); its = there; unsteady = λ steady. cc })
 
--- so each mapping of participant 0 that failed is named, where its table began over such a mapper
-pub failures_named : (workload : Workload) (may_fail : Option (List ℕ)) (party : Party) (asks : List AskLog)
-    → IsFirstParty workload may_fail party → FailAsMay party.maps.may_fail asks
-    → AreFailuresNamed workload.plan.items (may_fail ∷ []) asks
-failures_named workload may_fail party asks first fail = λ entry participant call logged failed.
-    let plan = workload.plan.items in
-    let why = fail entry participant call logged failed in
-    let began : party.maps.may_fail ≡ may_fail_by plan 0 may_fail = ap (λ (party : Party). party.maps.may_fail) first.is ∙ first.fails in
-    let may : may_fail_at (may_fail_by plan 0 may_fail) call ≡ true =
-    ap (λ (may_fail : Option (List ℕ)). may_fail_at may_fail call) (sym began) ∙ why.1 in
-    subst (λ (who : ℕ). IsFailureNamed plan (may_fail ∷ []) who call) (sym why.0) (named_there plan may_fail call may)
+-- where the mapper of a first one may fail at a call, that is named
+named_of : (workload : Workload) (mappers : List (Option (List ℕ))) (servers : List ServerView) (who call : ℕ)
+    → HaveCome workload mappers servers → MayFailIn servers who call → IsFailureNamed workload.plan.items mappers who call
+named_of workload mappers servers who call come may =
+    let over = come.each who may.party (sym (party_there servers come.parties come.are who) ∙ may.its) in
+    let began : may.party.maps.may_fail ≡ may_fail_by workload.plan.items who over.may_fail =
+    ap (λ (party : Party). party.maps.may_fail) over.planned.is ∙ over.planned.fails in
+    named_there workload.plan.items mappers who over.may_fail call over.its
+    (ap (λ (may_fail : Option (List ℕ)). may_fail_at may_fail call) (sym began) ∙ may.may)
 
-unsteady_among : (first : Option (List ℕ)) (mappers : List (Option (List ℕ))) (participant : ℕ) → slice_get mappers 0 ≡ Some first
-    → IsUnsteady (first ∷ []) participant → IsUnsteady mappers participant
-unsteady_among first mappers zero there is = record { may_fail = is.may_fail; its = there ∙ is.its; unsteady = is.unsteady }
-unsteady_among first mappers (suc participant) there is =
-    let within : suc participant < 1 = slice_get_within (first ∷ []) (suc participant) is.may_fail is.its in
-    absurd (omega (arith, within))
+-- what is said by the participants that have come is said by the plan and the mappers
+pub named_all : (workload : Workload) (mappers : List (Option (List ℕ))) (servers : List ServerView) (answers : List Answer)
+    (segs : SegsView) → HaveCome workload mappers servers → AreAsMay workload servers answers segs → AreNamed workload mappers answers segs
+named_all workload mappers servers answers segs come are = record {
+  failures = λ entry who call logged failed. named_of workload mappers servers who call come (are.failures entry who call logged failed);
+  once = are.once;
+  refusals = λ place who call refused. named_of workload mappers servers who call come (are.refusals place who call refused);
+  refused_once = are.refused_once;
+}
 
-named_among : (plan : List PlanEntry) (first : Option (List ℕ)) (mappers : List (Option (List ℕ))) (participant call : ℕ)
-    → slice_get mappers 0 ≡ Some first → IsFailureNamed plan (first ∷ []) participant call → IsFailureNamed plan mappers participant call
-named_among plan first mappers participant call there (inl named) = inl named
-named_among plan first mappers participant call there (inr unsteady) = inr (unsteady_among first mappers participant there unsteady)
+-- an element of a mapped list is of one of the list
+mapped_from : {X Y : Type 0} (f : X → Y) (xs : List X) (place : ℕ) (y : Y) → slice_get (map f xs) place ≡ Some y
+    → (x : X) × (slice_get xs place ≡ Some x) × (f x ≡ y)
+mapped_from f xs place y is =
+    let within : place < length xs = omega (arith, slice_get_within (map f xs) place y is, length-map xs f) in
+    let there = there_below xs place within in
+    let one : Some (f there.0) ≡ Some y = ap (option_map f) (sym there.1) ∙ sym (slice_get-map f xs place) ∙ is in
+    (there.0, there.1, same_Some (f there.0) y one)
 
--- what is said over one mapper is said over all mappers, of which that is the first
-pub failures_among : (plan : List PlanEntry) (first : Option (List ℕ)) (mappers : List (Option (List ℕ))) (asks : List AskLog)
-    → slice_get mappers 0 ≡ Some first → AreFailuresNamed plan (first ∷ []) asks → AreFailuresNamed plan mappers asks
-failures_among plan first mappers asks there named = λ entry participant call logged failed.
-    named_among plan first mappers participant call there (named entry participant call logged failed)
+-- a line that attaches and was refused is that of a course
+record IsRefusedCourse (courses : List Course) (place who call : ℕ) : Type 0 where
+  pub course : Course
+  pub its : slice_get courses place ≡ Some course
+  pub is : IsRefusedAttach who call course
 
--- what is told by the first of all
-pub first_told : {T : Type 0} (tell : T → Option (List ℕ)) (all : List T) (one : T) (n : ℕ) → n ≡ length all → 0 < n
-    → one ≡ get_or all 0 one → slice_get (map tell all) 0 ≡ Some (tell one)
-first_told tell all one n count some is =
-    slice_get-map tell all 0 ∙ ap (option_map tell) (slice_get_read all n 0 one count some is)
+refused_course : (courses : List Course) (lines : List Line) (answers : List Answer) (place who call : ℕ)
+    → map (λ (course : Course). course.line) courses ≡ lines → map (λ (course : Course). course.answer) courses ≡ answers
+    → IsRefusedAt lines answers place who call → IsRefusedCourse courses place who call
+refused_course courses lines answers place who call lines_are answered refused =
+    let at =
+    mapped_from (λ (course : Course). course.line) courses place refused.line
+    (ap (λ (lines : List Line). slice_get lines place) lines_are ∙ refused.its) in
+    let given =
+    mapped_from (λ (course : Course). course.answer) courses place (Refused call)
+    (ap (λ (answers : List Answer). slice_get answers place) answered ∙ refused.refused) in
+    let same : given.0 ≡ at.0 = same_Some given.0 at.0 (sym given.1 ∙ at.1) in
+    record {
+      course = at.0;
+      its = at.1;
+      is = record {
+        who = ap (λ (line : Line). line.participant) at.2 ∙ refused.who;
+        act = ap (λ (line : Line). line.act) at.2 ∙ refused.attaches;
+        answer = ap (λ (course : Course). course.answer) (sym same) ∙ given.2;
+      };
+    }
+
+module _ (workload : Workload) (answers : List Answer) (first last : SoloView) (segs : SegsView) (given : IsGiven workload)
+    (before : HaveDoneLines workload [] [] first) (done : HaveDoneLines workload workload.lines.items answers last)
+    (alike : FailAsBefore first.servers last.servers) where
+  -- a mapper that may fail might from the first
+  may_first : (who call : ℕ) → MayHaveFailed done.parties who call → MayFailIn first.servers who call
+  may_first who call may =
+      let within : who < length done.parties = slice_get_within done.parties who may.party may.its in
+      let there = there_below before.parties who (omega (arith, within, before.so_far.count, done.so_far.count)) in
+      let began = party_there first.servers before.parties before.are who ∙ there.1 in
+      let ended = party_there last.servers done.parties done.are who ∙ may.its in
+      record {
+        party = there.0;
+        its = began;
+        may = ap (λ (may_fail : Option (List ℕ)). may_fail_at may_fail call) (sym (alike who there.0 may.party began ended)) ∙ may.may;
+      }
+
+  refused_in : (place who call : ℕ) → IsRefusedAt workload.lines.items answers place who call
+      → IsRefusedCourse done.courses place who call
+  refused_in place who call refused =
+      refused_course done.courses workload.lines.items answers place who call done.lines_are done.answered refused
+
+  -- mappings failed as the mappers may, and at no call twice
+  pub fail_so : FailsByReason → FailsOnce → RefusesByReason → RefusesOnce → segs_in (slot_at last.plain MAX_HEAPS) ≡ Some segs
+      → AreAsMay workload first.servers answers segs
+  fail_so fails once refuses refused_once there = record {
+    failures = λ entry who call logged failed.
+        may_first who call
+        (fails workload done.courses done.parties last.plain segs entry who call given done.so_far there logged failed);
+    once = λ place other entry second who call here too is also.
+        once workload done.courses done.parties last.plain segs place other entry second who call given done.so_far there here too is also;
+    refusals = λ place who call refused.
+        let it = refused_in place who call refused in
+        may_first who call
+        (refuses workload done.courses done.parties last.plain it.course who call given done.so_far
+        (place, slice_get_within done.courses place it.course it.its, get_or_from_slice_get done.courses place it.course it.course it.its) it.is);
+    refused_once = λ place other who call one two.
+        let it = refused_in place who call one in
+        let also = refused_in other who call two in
+        refused_once workload done.courses done.parties last.plain place other it.course also.course who call given done.so_far it.its
+        also.its it.is also.is;
+  }

@@ -1,7 +1,7 @@
 -- The heaps, the plan and the hall with which a run begins.
-use Rattle.std.proofs.Common.{◌≡◌, ◌∙◌, ℕ, zero, suc, ◌+◌, ◌<◌, Bool, false, cond, List, [], ◌∷◌, ◌++◌, filter, get_or, get_or-take, length, length-take-le, take, Some, Result, Ok, Err, IfOk, replicate, refl, sym, ap, subst, arith, add-one}
+use Rattle.std.proofs.Common.{◌≡◌, ◌∙◌, ℕ, zero, suc, ◌+◌, ◌<◌, Bool, false, cond, List, [], ◌∷◌, ◌++◌, filter, get_or, get_or-take, length, length-take-le, take, Some, Result, Ok, Err, IfOk, replicate, sym, ap, subst, arith, add-one}
 use Rattle.std.specs.List.{All, AllPairs, range_with_len, slice_get}
-use Rattle.std.proofs.lemmas.List.{get_or_default}
+use Rattle.std.proofs.lemmas.List.{get_or_default, length-replicate}
 use Rattle.std.proofs.lemmas.List.Elements.{All-cons, All-get_or, All-nil, filter-append}
 use Rattle.std.proofs.lemmas.List.Folds.{list_any_none}
 use Rattle.std.proofs.lemmas.Option.{get_or_from_slice_get, same_Some, slice_get_within}
@@ -18,12 +18,12 @@ use Rattle.hp_hall.specs.HallSteps.{opening_hall}
 use Rattle.hp_hall.specs.HallView.{HallView}
 use Rattle.hp_hall.specs.Holding.{owned_by}
 use Rattle.hp_hall.specs.Opening.{HavePages}
-use Rattle.hp_segs.specs.Opening.{opening}
+use Rattle.hp_hall.specs.Own.{after_ack}
 use Rattle.hp_segs.specs.SegsView.{SegsView}
 use Rattle.hp_proc.specs.Heaps.{names_socket, sockets_of}
-use Rattle.hp_proc.specs.Solo.{IsAway, SoloView, nobody, server_at}
-use Rattle.hp_end.specs.SoFar.{AreFirstHeaps}
-use Rattle.hp_run.specs.Opening.{IsFirstHall, IsFirstHeap}
+use Rattle.hp_solo.specs.Solo.{SoloView, nobody}
+use Rattle.hp_joint.specs.SoFar.{AreFirstHeaps, first_segs}
+use Rattle.hp_run.specs.Opening.{IsEmptyHall, IsFirstHeap}
 
 range_more : (a n j : ℕ) → a + n ≡ j → range_with_len a (suc n) ≡ range_with_len a n ++ j ∷ []
 range_more a zero j is = ap (λ k. k ∷ []) (omega (arith, is))
@@ -117,31 +117,38 @@ not_named entries plan index other distinct so_far within =
     (distinct i index d early within)))
 
 -- no segment is a heap's own where a segment value opens
-pub none_owned : (pools : List PoolLine) (segs : SegsView) (heap : ℕ) → segs ≡ opening pools 1 0 → owned_by heap segs ≡ []
-none_owned pools segs heap is = ap (owned_by heap) is
+pub none_owned : (workload : Workload) (segs : SegsView) (heap : ℕ) → segs ≡ first_segs workload → owned_by heap segs ≡ []
+none_owned workload segs heap is = ap (owned_by heap) is
 
 -- the heaps of a workload have the pages that the segment value has for them where both open
 pub first_pages : (workload : Workload) (heaps : List HeapView) (segs : SegsView) → AreFirstHeaps workload heaps
-    → segs ≡ opening workload.pools.items 1 0 → HavePages heaps segs
+    → segs ≡ first_segs workload → HavePages heaps segs
 first_pages workload heaps segs first is = λ number heap there.
     bare_pages heap.plain.pages (owned_by number segs) (first_bare workload heaps first number heap there)
-    (none_owned workload.pools.items segs number is)
+    (none_owned workload segs number is)
 
--- the hall over them, in which participant 0 is away
-pub first_hall_is : (workload : Workload) (heaps : List HeapView) (segs : SegsView) (plain : HallView) (hall : SoloView)
-    → AreFirstHeaps workload heaps → segs ≡ opening workload.pools.items 1 0 → plain ≡ opening_hall 1 heaps segs
-    → hall ≡ record { plain = plain; servers = replicate (length plain.owns) nobody } → IsFirstHall workload hall
-first_hall_is workload heaps segs plain hall first segs_are opens is =
-    let one : length plain.owns ≡ 1 = ap (λ (hall : HallView). length hall.owns) opens in
-    record {
-      heaps = heaps;
-      first = first;
-      plain = ap (λ (hall : SoloView). hall.plain) is ∙ opens ∙ ap (opening_hall 1 heaps) segs_are;
-      away = subst (λ (hall : SoloView). IsAway (server_at hall.servers 0)) (sym is)
-          (subst (λ (n : ℕ). IsAway (server_at (replicate n nobody) 0)) (sym one) refl);
-    }
+-- the hall over them, to which nobody has come yet
+pub empty_hall_is : (workload : Workload) (heaps : List HeapView) (segs : SegsView) (plain : HallView) (hall : SoloView)
+    → AreFirstHeaps workload heaps → segs ≡ first_segs workload → plain ≡ opening_hall workload.participants heaps segs
+    → hall ≡ record { plain = plain; servers = replicate (length plain.owns) nobody } → IsEmptyHall workload hall
+empty_hall_is workload heaps segs plain hall first segs_are opens is =
+    let count : length plain.owns ≡ workload.participants =
+    ap (λ (hall : HallView). length hall.owns) opens ∙ length-replicate workload.participants (after_ack 0) in (
+      record {
+        heaps = heaps;
+        first = first;
+        plain = ap (λ (hall : SoloView). hall.plain) is ∙ opens ∙ ap (opening_hall workload.participants heaps) segs_are;
+      },
+      ap (λ (hall : SoloView). hall.servers) is ∙ ap (λ (count : ℕ). replicate count nobody) count,
+    )
 
 -- what holds of a value that came holds of it by a further fact
 pub if_ok : {T E : Type 0} (P Q : T → Type 0) (result : Result T E) → ((value : T) → P value → Q value) → IfOk result P → IfOk result Q
 if_ok P Q (Ok value) more holds = more value holds
 if_ok P Q (Err refusal) more holds = tt
+
+-- and by two
+pub if_both : {T E : Type 0} (P Q R : T → Type 0) (result : Result T E) → ((value : T) → P value → Q value → R value) → IfOk result P
+    → IfOk result Q → IfOk result R
+if_both P Q R (Ok value) more one other = more value one other
+if_both P Q R (Err refusal) more one other = tt

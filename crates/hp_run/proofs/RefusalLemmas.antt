@@ -1,13 +1,16 @@
 -- Why a text is not run, or that it is, by what reading it and looking for lines that are not built give.
 use Rattle.std.proofs.Common.{◌≡◌, ℕ, List, Option, Some, None, Result, Ok, Err, refl, ◌∙◌, sym, subst}
+use Rattle.std.specs.List.{All}
 use Rattle.std.specs.Result.{MatchResult, IsErrAnd}
 use Rattle.hp_script.proofs.BuiltLemmas.{built_when_none_later}
 use Rattle.hp_script.proofs.MovedLemmas.{ReadAnywhere, read_anywhere}
 use Rattle.hp_script.specs.Later.{later_line}
-use Rattle.hp_script.specs.Limits.{AreParticipantLines, IsWithinLimits}
+use Rattle.hp_script.specs.Facts.{IsLineOf}
+use Rattle.hp_script.specs.Limits.{AreDeclared, AreParticipantLines, IsWithinLimits}
 use Rattle.hp_script.specs.Workloads.{IsReadAs, reading_of}
 use Rattle.hp_script.specs.declared.bad_kind.BadKind.{BadKind}
 use Rattle.hp_script.specs.declared.workload.Workload.{Workload}
+use Rattle.hp_base.specs.Participants.{IsAbsent}
 use Rattle.hp_base.specs.Plans.{ArePlanEntries}
 use Rattle.hp_base.specs.PoolLines.{ArePoolLines}
 use Rattle.hp_run.specs.Outcome.{IsAcceptedAs, IsFaultOf}
@@ -20,7 +23,7 @@ use Rattle.hp_run.specs.declared.refusal.RunFault.TheVariants.{OutOfMemory}
 
 -- the first line of a workload that is not built
 abbrev pub later_in : Workload → Option ℕ
-later_in workload = later_line workload.later workload.plan.items workload.lines.items
+later_in workload = later_line workload.lines.items
 
 -- what the text says where it stands, said of the text alone
 anywhere : (bytes : List ℕ) (workload : Workload) (read : IsReadAs bytes workload) → ReadAnywhere bytes read.read
@@ -28,15 +31,16 @@ anywhere bytes workload read = read_anywhere (record { ref_ptr = read.at; now = 
 
 -- the first line for later is that of what was read
 later_read : (bytes : List ℕ) (workload : Workload) (read : IsReadAs bytes workload) (nowhere : ReadAnywhere bytes read.read)
-    → later_line nowhere.nowhere.later nowhere.nowhere.plan nowhere.nowhere.lines ≡ later_in workload
-later_read bytes workload read nowhere = nowhere.later ∙ rw (read.workload_is.later, read.workload_is.plan, read.workload_is.lines) refl
+    → later_line nowhere.nowhere.lines ≡ later_in workload
+later_read bytes workload read nowhere = nowhere.later ∙ rw read.workload_is.lines refl
 
 -- a text that is read, and has no line that is not built
 pub accepted_as : (bytes : List ℕ) (workload : Workload) → IsReadAs bytes workload → IsWithinLimits workload → ArePoolLines workload.pools.items
-    → ArePlanEntries workload.participants workload.plan.items → AreParticipantLines workload.lines.items → later_in workload ≡ None
-    → IsAcceptedAs bytes workload
+    → ArePlanEntries workload.participants workload.plan.items → IsAbsent workload.participants workload.absent
+    → AreParticipantLines workload.lines.items → AreDeclared workload.participants workload.lines.items
+    → All IsLineOf workload.lines.items → later_in workload ≡ None → IsAcceptedAs bytes workload
 unfolding refusal_of
-accepted_as bytes workload read limits pools plan lines none =
+accepted_as bytes workload read limits pools plan absent lines declared acts none =
     let nowhere = anywhere bytes workload read in
     record {
       done = rw (nowhere.whole, later_read bytes workload read nowhere, none) refl;
@@ -46,7 +50,10 @@ accepted_as bytes workload read limits pools plan lines none =
         limits = limits;
         pools = pools;
         plan = plan;
+        absent = absent;
         lines = lines;
+        declared = declared;
+        acts = acts;
       };
     }
 
@@ -75,7 +82,6 @@ read_as_same bytes workload ended is same = record {
     absent = same.absent ∙ is.workload_is.absent;
     sockets = same.sockets ∙ is.workload_is.sockets;
     deadline = same.deadline ∙ is.workload_is.deadline;
-    later = same.later ∙ is.workload_is.later;
     pools = same.pools ∙ is.workload_is.pools;
     plan = same.plan ∙ is.workload_is.plan;
     lines = same.lines ∙ is.workload_is.lines;

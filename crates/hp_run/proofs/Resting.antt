@@ -1,73 +1,75 @@
--- Participant 0 behind its last line: servings, and pauses between them.
-use Rattle.std.proofs.Common.{◌≡◌, ℕ, ◌+◌, ◌*◌, ◌≤◌, Bool, true, false, List, [], ◌++◌, append-nil, append_assoc, Option, Some, None, Result, Ok, Err, refl, sym, ap, subst, arith}
-use Rattle.hp_core.specs.Core.{Core}
-use Rattle.hp_hall.specs.Course.{done_same, done_then}
-use Rattle.hp_hall.specs.HallView.{HallView, HasDone}
-use Rattle.hp_hall.specs.Mail.{MailStep}
-use Rattle.hp_hall.specs.Weights.{counted}
-use Rattle.hp_proc.specs.Coordinating.{IsServed}
-use Rattle.hp_proc.specs.Falling.{held_sum, least_weight, own_weight, served_of}
-use Rattle.hp_proc.specs.Party.{Party, due_in}
-use Rattle.hp_end.specs.SoFar.{ServesOn}
-use Rattle.hp_end.specs.SoFar.ServesOn.{rests, serves}
+-- Behind the last line all serve on: they have done the same lines.
+use Rattle.std.proofs.Common.{◌≡◌, ◌∙◌, ℕ, ◌<◌, false, List, length, Some, sym, ap, subst, arith}
+use Rattle.std.specs.Option.{option_map}
+use Rattle.std.proofs.lemmas.Option.{slice_get_within}
+use Rattle.hp_hall.specs.HallView.{IsHome, slot_at}
+use Rattle.hp_hall.specs.Opening.{AreHome}
+use Rattle.hp_script.specs.declared.answer.Answer.{Answer}
+use Rattle.hp_script.specs.declared.line.Line.{Line}
+use Rattle.hp_script.specs.declared.workload.Workload.{Workload}
+use Rattle.hp_proc.specs.Party.{Party}
+use Rattle.hp_solo.specs.Solo.{IsSolo, IsTiedAt, ServerView, SoloView, has_stopped, party_in, server_at}
+use Rattle.hp_solo.specs.SoloCourse.{IsSoloCourse}
+use Rattle.hp_solo.proofs.SoloDrained.{none_stopped}
+use Rattle.hp_joint.specs.EndLaws.{IsGiven, OthersServe, RestsSoFar}
+use Rattle.hp_run.specs.Running.{AreParties, FailAsBefore, HaveDoneLines, place_of}
+use Rattle.hp_run.proofs.NextLine.{all_count}
+use Rattle.hp_run.proofs.OneMore.{fail_alike, served_filled, served_so}
+use Rattle.hp_run.proofs.Places.{IsFilled, as_many, filled_places, party_there, place_at, there_below}
 
--- who goes on has done something
-pub served_more : {E : Type 0} (result : Result Bool E) (more : Bool) → result ≡ Ok more → more ≡ true → served_of result ≡ 1
-served_more (Ok true) more is goes = refl
-served_more (Ok false) more is goes = cc
-served_more (Err refusal) more is goes = cc
+module _ (workload : Workload) (lines : List Line) (answers : List Answer) (old new : SoloView) (law : RestsSoFar) (given : IsGiven workload)
+    (was : HaveDoneLines workload lines answers old) (course : IsSoloCourse old new)
+    (home : (number : ℕ) → IsHome (slot_at old.plain number) → IsHome (slot_at new.plain number)) (sound : IsSolo new)
+    (going : has_stopped new.servers ≡ false) where
+  filled : (who : ℕ) (server : ServerView) → server_at new.servers who ≡ Some server → IsFilled server
+  filled who server there =
+      served_filled old new was.parties who (place_at old.servers was.parties was.are who) course server there
+      (none_stopped new.servers who server going there)
 
--- what counts of the own round, beside its deadline
-pub own_split : (core : Option Core) → (rest : ℕ) × ((pending : ℕ → ℕ) → own_weight 1 pending core ≡ rest + counted pending (due_in core))
-own_split None = (0, λ pending. refl)
-own_split (Some core) = (1 * least_weight core.phase + 1 * held_sum core.held, λ pending. omega arith)
+  behind : (behind : List Party) × AreParties new.servers behind
+  behind = filled_places new.servers filled
 
--- a jump to the deadline of the own round uses up 1
-pub jump_falls : (core : Option Core) (late early : ℕ → ℕ) (due old new : ℕ) → due_in core ≡ Some due → new + late due + 1 ≤ old + early due
-    → new + own_weight 1 late core + 1 ≤ old + own_weight 1 early core
-jump_falls core late early due old new is falls =
-    let split = own_split core in
-    omega (arith, split.1 late, split.1 early, ap (counted late) is, ap (counted early) is, falls)
+  count : length old.plain.owns ≡ workload.participants
+  count = all_count workload was.courses was.parties old.plain was.so_far
 
--- what servings are, from one moment to a later one
-abbrev pub ServesTo : HallView → HallView → Party → Party → Type 0
-ServesTo old new party after = (steps : List MailStep) × HasDone old new 0 steps × ServesOn 1 party after steps
+  all_serve : OthersServe (λ who. ⊥) (length old.plain.owns) old.plain new.plain was.parties behind.0
+  all_serve = λ who party after apart there at.
+      let place : server_at new.servers who ≡ Some (place_of after) =
+      place_at new.servers behind.0 behind.1 who ∙ ap (option_map place_of) at in
+      let so = served_so old new was.parties who (place_at old.servers was.parties was.are who) course party after there place in
+      let tied : IsTiedAt new.plain who after = sound.tied who after (ap party_in place) in
+      record { served = so.0; same = so.1; tied = tied.tied }
 
-pub serves_same : (hall : HallView) (party : Party) → ServesTo hall hall party party
-serves_same hall party = ([], done_same hall 0, rests party)
+  as_before : length behind.0 ≡ length was.parties
+  as_before =
+      sym (as_many new.servers behind.0 behind.1) ∙ sound.count ∙ course.plain.count ∙ count ∙ sym was.so_far.count
 
--- one serving more
-pub serves_more : (count me : ℕ) (moved : Bool) (old mid new : HallView) (party between after : Party) (steps : List MailStep)
-    → ServesTo old mid party between → count ≡ 1 → me ≡ 0 → HasDone mid new me steps → IsServed count between after steps (Some moved)
-    → ServesTo old new party after
-serves_more count me moved old mid new party between after steps before one zero did served = (
-  before.0 ++ steps,
-  done_then old mid new 0 before.0 steps before.1 (subst (λ (who : ℕ). HasDone mid new who steps) zero did),
-  serves party between after before.0 steps moved before.2 (subst (λ (n : ℕ). IsServed n between after steps (Some moved)) one served),
-)
+  all_home : AreHome new.plain
+  all_home number below = home number (was.so_far.home number below)
 
--- servings join
-serves_on_then : (first last : List MailStep) (party mid after : Party) → ServesOn 1 party mid first → ServesOn 1 mid after last
-    → ServesOn 1 party after (first ++ last)
-serves_on_then first _ party mid _ before (rests _) =
-    subst (λ (steps : List MailStep). ServesOn 1 party mid steps) (sym (append-nil first)) before
-serves_on_then first _ party mid _ before (serves _ between after front rear moved here one) =
-    subst (λ (steps : List MailStep). ServesOn 1 party after steps) (append_assoc first front rear)
-    (serves party between after (first ++ front) rear moved (serves_on_then first front party mid between before here) one)
+  pub rests_so : HaveDoneLines workload lines answers new × FailAsBefore old.servers new.servers
+  rests_so =
+      let rested =
+      law workload was.courses was.parties behind.0 old.plain new.plain given was.so_far as_before
+      (subst (λ (count : ℕ). OthersServe (λ who. ⊥) count old.plain new.plain was.parties behind.0) count all_serve) all_home course.plain in (
+        record {
+          parties = behind.0;
+          are = behind.1;
+          courses = was.courses;
+          so_far = rested.0;
+          lines_are = was.lines_are;
+          answered = was.answered;
+        },
+        fail_alike old.servers new.servers was.parties behind.0 was.are behind.1 rested.1,
+      )
 
-pub serves_then : (old mid new : HallView) (party between after : Party) → ServesTo old mid party between → ServesTo mid new between after
-    → ServesTo old new party after
-serves_then old mid new party between after before here = (
-  before.0 ++ here.0,
-  done_then old mid new 0 before.0 here.0 before.1 here.1,
-  serves_on_then before.0 here.0 party between after before.2 here.2,
-)
-
--- a pause behind them adds nothing
-pub serves_pause : (old mid new : HallView) (party after : Party) → ServesTo old mid party after → HasDone mid new 0 []
-    → ServesTo old new party after
-serves_pause old mid new party after before paused = (
-  before.0,
-  subst (λ (steps : List MailStep). HasDone old new 0 steps) (append-nil before.0) (done_then old mid new 0 before.0 [] before.1 paused),
-  before.2,
-)
+-- mappers may fail as before over two stretches of a run
+pub fail_then : (workload : Workload) (early late : List Line) (given more : List Answer) (a b c : SoloView)
+    → HaveDoneLines workload early given a → HaveDoneLines workload late more b → FailAsBefore a.servers b.servers
+    → FailAsBefore b.servers c.servers → FailAsBefore a.servers c.servers
+fail_then workload early late given more a b c was next here there = λ who party after began ended.
+    let within : who < length was.parties =
+    slice_get_within was.parties who party (sym (party_there a.servers was.parties was.are who) ∙ began) in
+    let mid = there_below next.parties who (omega (arith, within, was.so_far.count, next.so_far.count)) in
+    let between = party_there b.servers next.parties next.are who ∙ mid.1 in
+    there who mid.0 after between ended ∙ here who party mid.0 began between

@@ -5,4 +5,5 @@ pub mod Opening
 pub mod Running
 pub mod Refusals
 pub mod Failures
+pub mod Ending
 pub mod Outcome

@@ -1,17 +1,16 @@
--- What a run begins with: its heaps, its hall, and participant 0. The rule "Alone" of docs/PARTICIPANTS.md.
-use Rattle.std.specs.Prelude.{◌≡◌, ℕ, List, [], Option}
+-- What a run begins with: its heaps, its hall, and its participants. The rule "Turns in one thread" of docs/PARTICIPANTS.md.
+use Rattle.std.specs.Prelude.{◌≡◌, ℕ, List, [], Option, Some, length, replicate, slice_get}
 use Rattle.hp_base.specs.declared.limits.TheConstants.{MAX_SEGMENTS}
-use Rattle.hp_hall.specs.HallSteps.{opening_hall}
 use Rattle.hp_heap.specs.History.{HeapView, IsSound}
 use Rattle.hp_heap.specs.PlainHeap.{opening_heap}
 use Rattle.hp_maps.specs.MapsView.{MapsView}
 use Rattle.hp_maps.specs.PlannedView.{may_fail_by}
 use Rattle.hp_script.specs.declared.workload.Workload.{Workload}
-use Rattle.hp_segs.specs.Opening.{opening}
 use Rattle.hp_proc.specs.Party.{Party}
-use Rattle.hp_proc.specs.Solo.{IsAway, SoloView, server_at}
-use Rattle.hp_end.specs.EndLaws.{first_party}
-use Rattle.hp_end.specs.SoFar.{AreFirstHeaps}
+use Rattle.hp_solo.specs.Solo.{ServerView, SoloView, nobody}
+use Rattle.hp_joint.specs.EndLaws.{first_party}
+use Rattle.hp_joint.specs.SoFar.{AreFirstHeaps, first_hall}
+use Rattle.hp_run.specs.Running.{AreParties}
 
 -- the heap of an index before its first call, of a socket or vacant
 pub record IsFirstHeap (index : ℕ) (serves : Option ℕ) (heap : HeapView) : Type 0 where
@@ -19,12 +18,15 @@ pub record IsFirstHeap (index : ℕ) (serves : Option ℕ) (heap : HeapView) : T
   pub history : heap.history ≡ []
   pub sound : IsSound heap
 
--- the hall of a workload before the first line: its heaps and its segments are there, and participant 0 is away for its lines
+-- the hall of a workload before the first line: its heaps and its segments are there
 pub record IsFirstHall (workload : Workload) (hall : SoloView) : Type 0 where
   pub heaps : List HeapView
   pub first : AreFirstHeaps workload heaps
-  pub plain : hall.plain ≡ opening_hall 1 heaps (opening workload.pools.items 1 0)
-  pub away : IsAway (server_at hall.servers 0)
+  pub plain : hall.plain ≡ first_hall workload heaps
+
+-- nobody has come to the hall: there is a place for each participant
+abbrev pub IsEmptyHall : Workload → SoloView → Type 0
+IsEmptyHall workload hall = IsFirstHall workload hall × (hall.servers ≡ replicate workload.participants nobody)
 
 -- a table with room for a row of each segment, and nothing in it
 pub record IsFirstTable (maps : MapsView) : Type 0 where
@@ -33,10 +35,23 @@ pub record IsFirstTable (maps : MapsView) : Type 0 where
   pub answers : maps.answers ≡ []
   pub room : maps.capacity ≡ MAX_SEGMENTS
 
--- participant 0 before its first line, over such a table, by the plan of its workload: its table is over a mapper that fails by that plan,
+-- a participant before its first line, over such a table, by the plan of its workload: its table is over a mapper that fails by that plan,
 -- and else may fail at those calls
-pub record IsFirstParty (workload : Workload) (may_fail : Option (List ℕ)) (party : Party) : Type 0 where
+pub record IsPlannedParty (workload : Workload) (who : ℕ) (may_fail : Option (List ℕ)) (party : Party) : Type 0 where
   pub maps : MapsView
   pub table : IsFirstTable maps
-  pub fails : maps.may_fail ≡ may_fail_by workload.plan.items 0 may_fail
-  pub is : party ≡ first_party workload maps workload.plan.items
+  pub fails : maps.may_fail ≡ may_fail_by workload.plan.items who may_fail
+  pub is : party ≡ first_party workload who maps workload.plan.items
+
+-- and it is over the mapper that has its place among these
+pub record IsPartyOver (workload : Workload) (mappers : List (Option (List ℕ))) (who : ℕ) (party : Party) : Type 0 where
+  pub may_fail : Option (List ℕ)
+  pub its : slice_get mappers who ≡ Some may_fail
+  pub planned : IsPlannedParty workload who may_fail party
+
+-- all participants have come to their places before the first line, each over its mapper
+pub record HaveCome (workload : Workload) (mappers : List (Option (List ℕ))) (servers : List ServerView) : Type 0 where
+  pub parties : List Party
+  pub are : AreParties servers parties
+  pub count : length parties ≡ workload.participants
+  pub each : (who : ℕ) (party : Party) → slice_get parties who ≡ Some party → IsPartyOver workload mappers who party

@@ -17,7 +17,7 @@ refusal_text (Later line) = codes "refused line " ++ decimal line ++ codes " Lat
 -- the first refusal of the language, and for a text that it accepts the first line that is not yet done
 abbrev pub first_refusal : Result Reader Refusal → Option run.Refusal
 first_refusal (Err refusal) = Some (Bad refusal.line refusal.kind)
-first_refusal (Ok read) = option_map (λ line. Later line) (later_line read.later read.plan read.lines)
+first_refusal (Ok read) = option_map (λ line. Later line) (later_line read.lines)
 
 -- why a text is not run, where it is not
 unfoldable pub refusal_of : List ℕ → Option run.Refusal

@@ -1,34 +1,52 @@
--- What a run needs of its workload, and how far it came.
-use Rattle.std.specs.Prelude.{◌≡◌, List, map}
+-- What a run needs of its workload, and how far it came. The rule "Turns in one thread" of docs/PARTICIPANTS.md.
+use Rattle.std.specs.Prelude.{◌≡◌, ℕ, false, List, map, Some}
+use Rattle.std.specs.List.{All}
+use Rattle.hp_base.specs.Participants.{IsAbsent}
 use Rattle.hp_base.specs.Plans.{ArePlanEntries}
 use Rattle.hp_base.specs.PoolLines.{ArePoolLines}
-use Rattle.hp_hall.specs.HallView.{HallView}
 use Rattle.hp_script.specs.Built.{IsBuilt}
-use Rattle.hp_script.specs.Limits.{AreParticipantLines, IsWithinLimits}
+use Rattle.hp_script.specs.Facts.{IsLineOf}
+use Rattle.hp_script.specs.Limits.{AreDeclared, AreParticipantLines, IsWithinLimits}
 use Rattle.hp_script.specs.declared.answer.Answer.{Answer}
 use Rattle.hp_script.specs.declared.line.Line.{Line}
 use Rattle.hp_script.specs.declared.workload.Workload.{Workload}
 use Rattle.hp_proc.specs.LinesDone.{Course}
 use Rattle.hp_proc.specs.Party.{Party}
-use Rattle.hp_end.specs.SoFar.{SoFar}
+use Rattle.hp_solo.specs.Solo.{ServerView, SoloView, party_at}
+use Rattle.hp_joint.specs.SoFar.{SoFar}
 
--- a workload can be run: it is of what is built so far and within its limits, and so are its pools, its plan and its lines
+-- a workload can be run: it is of what is built so far and within its limits, and so are its pools, its plan, its participants and its lines
 pub record IsRunnable (workload : Workload) : Type 0 where
   pub built : IsBuilt workload
   pub limits : IsWithinLimits workload
   pub pools : ArePoolLines workload.pools.items
   pub plan : ArePlanEntries workload.participants workload.plan.items
+  pub absent : IsAbsent workload.participants workload.absent
   pub lines : AreParticipantLines workload.lines.items
+  pub declared : AreDeclared workload.participants workload.lines.items
+  pub acts : All IsLineOf workload.lines.items
 
--- participant 0 has done these lines of a workload since it was the first one, they were answered so, and its mapper may fail at the same
--- calls
-pub record HasDoneLines (workload : Workload) (lines : List Line) (answers : List Answer) (first party : Party) (hall : HallView)
-    : Type 0 where
+-- the place of a participant that is there to serve, and has met no want of memory
+abbrev pub place_of : Party → ServerView
+place_of party = record { party = Some party; stopped = false }
+
+-- each of these participants is in its place, and none has met want of memory
+abbrev pub AreParties : List ServerView → List Party → Type 0
+AreParties servers parties = servers ≡ map place_of parties
+
+-- the participants have done these lines of a workload in turns, they were answered so, and each is back in its place
+pub record HaveDoneLines (workload : Workload) (lines : List Line) (answers : List Answer) (hall : SoloView) : Type 0 where
+  pub parties : List Party
+  pub are : AreParties hall.servers parties
   pub courses : List Course
-  pub so_far : SoFar workload courses party hall
+  pub so_far : SoFar workload courses parties hall.plain
   pub lines_are : map (λ course. course.line) courses ≡ lines
   pub answered : map (λ course. course.answer) courses ≡ answers
-  pub may_fail : party.maps.may_fail ≡ first.maps.may_fail
+
+-- the mapper of each participant that is there may fail at the calls at which it might before
+abbrev pub FailAsBefore : List ServerView → List ServerView → Type 0
+FailAsBefore old new = (who : ℕ) (party after : Party) → party_at old who ≡ Some party → party_at new who ≡ Some after
+    → after.maps.may_fail ≡ party.maps.may_fail
 
 -- two workloads say the same
 pub record IsSameWorkload (one other : Workload) : Type 0 where
@@ -36,7 +54,6 @@ pub record IsSameWorkload (one other : Workload) : Type 0 where
   pub absent : one.absent ≡ other.absent
   pub sockets : one.sockets ≡ other.sockets
   pub deadline : one.deadline ≡ other.deadline
-  pub later : one.later ≡ other.later
   pub pools : one.pools.items ≡ other.pools.items
   pub plan : one.plan.items ≡ other.plan.items
   pub lines : one.lines.items ≡ other.lines.items

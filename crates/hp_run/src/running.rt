@@ -1,24 +1,26 @@
-//! The run of a workload with one participant.
-ghost use Rattle.std.specs.Prelude.{◌≡◌, [], ◌∷◌, IfOk};
-ghost use Rattle.hp_proc.specs.Ends.{IsSoloEnd};
-ghost use Rattle.hp_proc.specs.Solo.{IsAway, server_at};
-ghost use Rattle.hp_end.specs.EndLaws.{said_in};
-ghost use Rattle.hp_end.specs.SoFar.{SoFar};
-ghost use Rattle.hp_run.specs.Failures.{AreFailuresNamed, FailAsMay, FailOnce};
+//! The run of a workload, in which participants take turns in one thread.
+ghost use Rattle.std.specs.Prelude.{◌≡◌, ◌<◌, ◌≤◌, [], ℕ, IfOk, OnOk, length, map};
+ghost use Rattle.std.specs.List.{All};
+ghost use Rattle.hp_segs.specs.Opening.{is_present};
+ghost use Rattle.hp_joint.specs.EndLaws.{said_in};
+ghost use Rattle.hp_run.specs.Ending.{AreAsMay, IsRunEnd};
 ghost use Rattle.hp_run.specs.Mappers.{IsUnused};
-ghost use Rattle.hp_run.specs.Opening.{IsFirstHall, IsFirstParty};
-ghost use Rattle.hp_run.specs.Running.{IsRunnable, IsSameWorkload};
+ghost use Rattle.hp_run.specs.Opening.{HaveCome, IsEmptyHall, IsFirstHall, IsPlannedParty};
+ghost use Rattle.hp_run.specs.Running.{HaveDoneLines, IsRunnable, IsSameWorkload};
+ghost use Rattle.hp_proc.specs.Ends.{IsSoloEnd};
 
 use crate::doing::{do_lines, do_rest};
 use crate::opening::{first_heaps, plan_of};
 use hp_base::{MAX_SEGMENTS, Mapper, Plan};
 use hp_hall::{HallParts, PlainHall};
 use hp_heap::Heap;
+use hp_joint::{end_law, failure_law, line_law, refusal_law};
 use hp_maps::{LocalMaps, Planned, Table};
-use hp_proc::{End, LineContext, Participant, SoloHall, WorkloadFacts};
+use hp_proc::{LineContext, Participant, WorkloadFacts};
 use hp_report::Ended;
 use hp_script::{Answer, Workload};
 use hp_segs::Segs;
+use hp_solo::{SoloEnd, SoloHall};
 use std::alloc::{AllocError, Global};
 
 // What the lines of a workload leave.
@@ -27,33 +29,30 @@ struct Left {
     answers: Vec<Answer>,
     heaps: Vec<Heap>,
     segs: Segs,
-    table: Table,
+    tables: Vec<Table>,
 }
 
-/// Runs a workload of participant 0 alone, whose table is over that mapper. Own.
+/// Runs a workload, whose participants take turns in one thread. The table of each is over the mapper that has its place among these.
+/// Own.
 pub fn run<'a, M: Mapper>(
     alloc: Global,
     workload: Workload<'a>,
-    mapper: M,
+    mappers: Vec<M>,
 ) -> Result<Ended<'a>, AllocError>
     requires runnable { IsRunnable workload }
-    requires unused { IsUnused (M.held mapper) (M.answers mapper) (M.capacity mapper) }
-    ensures end { IfOk result (λ ended.
-        IsSoloEnd ended.workload ended.answers.items ended.heaps.items ended.segs ended.tables.items) }
-    ensures failures { IfOk result (λ ended.
-        AreFailuresNamed ended.workload.plan.items (M.may_fail mapper ∷ []) ended.segs.asks) }
-    ensures once { IfOk result (λ ended. FailOnce ended.segs.asks) }
+    requires count { workload.participants ≤ length mappers.items }
+    requires unused { All (λ mapper. IsUnused (M.held mapper) (M.answers mapper) (M.capacity mapper)) mappers.items }
+    ensures end { IfOk result (λ ended. IsRunEnd ended.workload (map M.may_fail mappers.items) ended.answers.items ended.heaps.items
+        ended.segs ended.tables.items) }
     ensures workload { IfOk result (λ ended. IsSameWorkload ended.workload workload.entry) }
 {
-    let left = run_planned(alloc, &workload, mapper)?;
-    let mut tables = Vec::with_capacity(alloc, 1)?;
-    tables.push(left.table)?;
+    let left = run_planned(alloc, &workload, mappers)?;
     Ok(Ended {
         workload,
         answers: left.answers,
         heaps: left.heaps,
         segs: left.segs,
-        tables,
+        tables: left.tables,
     })
 }
 
@@ -61,18 +60,16 @@ pub fn run<'a, M: Mapper>(
 fn run_planned<'x, M: Mapper>(
     alloc: Global,
     workload: &'x Workload<'x>,
-    mapper: M,
+    mappers: Vec<M>,
 ) -> Result<Left, AllocError>
     requires runnable { IsRunnable workload.now }
-    requires unused { IsUnused (M.held mapper) (M.answers mapper) (M.capacity mapper) }
-    ensures end { IfOk result (λ left.
-        IsSoloEnd workload.now left.answers.items left.heaps.items left.segs (left.table ∷ [])) }
-    ensures failures { IfOk result (λ left.
-        AreFailuresNamed workload.now.plan.items (M.may_fail mapper ∷ []) left.segs.asks) }
-    ensures once { IfOk result (λ left. FailOnce left.segs.asks) }
+    requires count { workload.now.participants ≤ length mappers.items }
+    requires unused { All (λ mapper. IsUnused (M.held mapper) (M.answers mapper) (M.capacity mapper)) mappers.items }
+    ensures { IfOk result (λ left. IsRunEnd workload.now (map M.may_fail mappers.items) left.answers.items left.heaps.items
+        left.segs left.tables.items) }
 {
     let plan = plan_of(alloc, workload.participants, &workload.plan)?;
-    run_said(alloc, workload, &plan, mapper)
+    run_said(alloc, workload, &plan, mappers)
 }
 
 // By what its lines go by.
@@ -80,79 +77,92 @@ fn run_said<'x, M: Mapper>(
     alloc: Global,
     workload: &'x Workload<'x>,
     plan: &'x Plan,
-    mapper: M,
+    mappers: Vec<M>,
 ) -> Result<Left, AllocError>
     requires runnable { IsRunnable workload.now }
     requires plan { plan.now ≡ workload.now.plan.items }
-    requires unused { IsUnused (M.held mapper) (M.answers mapper) (M.capacity mapper) }
-    ensures end { IfOk result (λ left.
-        IsSoloEnd workload.now left.answers.items left.heaps.items left.segs (left.table ∷ [])) }
-    ensures failures { IfOk result (λ left.
-        AreFailuresNamed workload.now.plan.items (M.may_fail mapper ∷ []) left.segs.asks) }
-    ensures once { IfOk result (λ left. FailOnce left.segs.asks) }
+    requires count { workload.now.participants ≤ length mappers.items }
+    requires unused { All (λ mapper. IsUnused (M.held mapper) (M.answers mapper) (M.capacity mapper)) mappers.items }
+    ensures { IfOk result (λ left. IsRunEnd workload.now (map M.may_fail mappers.items) left.answers.items left.heaps.items
+        left.segs left.tables.items) }
 {
     let facts = WorkloadFacts::of(alloc, &workload.pools, &workload.lines)?;
-    run_lines(alloc, workload, plan, &facts, mapper)
+    run_lines(alloc, workload, plan, &facts, mappers)
 }
 
-// Participant 0 in its hall, by the plan, and by what lines go by.
+// Its participants in their hall, by the plan, and by what lines go by.
 fn run_lines<'p, M: Mapper>(
     alloc: Global,
     workload: &Workload<'_>,
     plan: &'p Plan,
     facts: &'p WorkloadFacts<'p>,
-    mapper: M,
+    mappers: Vec<M>,
 ) -> Result<Left, AllocError>
     requires runnable { IsRunnable workload.now }
     requires plan { plan.now ≡ workload.now.plan.items }
     requires facts { facts.now ≡ said_in workload.now }
-    requires unused { IsUnused (M.held mapper) (M.answers mapper) (M.capacity mapper) }
-    ensures end { IfOk result (λ left.
-        IsSoloEnd workload.now left.answers.items left.heaps.items left.segs (left.table ∷ [])) }
-    ensures failures { IfOk result (λ left.
-        AreFailuresNamed workload.now.plan.items (M.may_fail mapper ∷ []) left.segs.asks) }
-    ensures once { IfOk result (λ left. FailOnce left.segs.asks) }
+    requires count { workload.now.participants ≤ length mappers.items }
+    requires unused { All (λ mapper. IsUnused (M.held mapper) (M.answers mapper) (M.capacity mapper)) mappers.items }
+    ensures { IfOk result (λ left. IsRunEnd workload.now (map M.may_fail mappers.items) left.answers.items left.heaps.items
+        left.segs left.tables.items) }
 {
-    let hall = first_hall(alloc, workload)?;
-    let participant = first_party(alloc, workload, plan, facts, mapper)?;
-    run_in(alloc, workload, hall, participant)
+    let mut hall = empty_hall(alloc, workload)?;
+    come_all(alloc, workload, plan, facts, mappers, &mut hall)?;
+    line_law();
+    run_in(alloc, workload, hall)
 }
 
-// The hall before the first line. Nobody is there: participant 0 is away for its lines, and there is no other.
-fn first_hall<'p, M: Mapper>(
+// The hall before the first line, to which nobody has come yet.
+fn empty_hall<'p, M: Mapper>(
     alloc: Global,
     workload: &Workload<'_>,
 ) -> Result<SoloHall<'p, M>, AllocError>
     requires runnable { IsRunnable workload.now }
-    ensures { IfOk result (λ hall. IsFirstHall workload.now hall) }
+    ensures { IfOk result (λ hall. IsEmptyHall workload.now hall) }
 {
     let heaps = first_heaps(alloc, workload)?;
-    let segs = Segs::new(alloc, &workload.pools, 1, 0)?;
-    let plain = PlainHall::new(alloc, 1, heaps, segs)?;
+    let segs = Segs::new(
+        alloc,
+        &workload.pools,
+        workload.participants,
+        workload.absent,
+    )?;
+    let plain = PlainHall::new(alloc, workload.participants, heaps, segs)?;
     SoloHall::new(alloc, plain)
 }
 
-// Participant 0 before its first line.
+// Whether a participant is attached at the start.
+fn is_present(workload: &Workload<'_>, who: u8) -> bool
+    requires { who < 16 }
+    ensures { result ≡ is_present workload.now.participants workload.now.absent who }
+{
+    who < workload.participants && (workload.absent >> who) % 2 == 0
+}
+
+// A participant before its first line.
 fn first_party<'p, M: Mapper>(
     alloc: Global,
     workload: &Workload<'_>,
+    who: u8,
     plan: &'p Plan,
     facts: &'p WorkloadFacts<'p>,
     mapper: M,
 ) -> Result<Participant<'p, M>, AllocError>
     requires runnable { IsRunnable workload.now }
+    requires declared { who < workload.now.participants }
     requires plan { plan.now ≡ workload.now.plan.items }
     requires facts { facts.now ≡ said_in workload.now }
     requires unused { IsUnused (M.held mapper) (M.answers mapper) (M.capacity mapper) }
-    ensures { IfOk result (λ participant. IsFirstParty workload.now (M.may_fail mapper) participant) }
+    ensures { IfOk result (λ participant. IsPlannedParty workload.now who (M.may_fail mapper) participant) }
 {
-    let planned = Planned::new(mapper, plan, 0);
+    let joined = is_present(workload, who);
+    let planned = Planned::new(mapper, plan, who);
     let maps = LocalMaps::new(alloc, planned, MAX_SEGMENTS as usize)?;
-    let context = LineContext::new(alloc, Some(facts), true);
+    let context = LineContext::new(alloc, Some(facts), joined);
     Ok(Participant::new(
-        0,
-        workload.sockets[0],
-        true,
+        who,
+        workload.sockets[who as usize],
+        joined,
         maps,
         plan,
         workload.deadline,
@@ -160,34 +170,59 @@ fn first_party<'p, M: Mapper>(
     ))
 }
 
+// All participants come to their places, each over its mapper.
+fn come_all<'p, M: Mapper>(
+    alloc: Global,
+    workload: &Workload<'_>,
+    plan: &'p Plan,
+    facts: &'p WorkloadFacts<'p>,
+    mappers: Vec<M>,
+    hall: &mut SoloHall<'p, M>,
+) -> Result<(), AllocError>
+    requires runnable { IsRunnable workload.now }
+    requires plan { plan.now ≡ workload.now.plan.items }
+    requires facts { facts.now ≡ said_in workload.now }
+    requires count { workload.now.participants ≤ length mappers.items }
+    requires unused { All (λ mapper. IsUnused (M.held mapper) (M.answers mapper) (M.capacity mapper)) mappers.items }
+    requires empty { IsEmptyHall workload.now hall.old }
+    ensures come { OnOk result (HaveCome workload.now (map M.may_fail mappers.items) hall.new.servers) }
+    ensures plain { OnOk result (hall.new.plain ≡ hall.old.plain) }
+{
+    let mut mappers = mappers;
+    for who in 0..workload.participants {
+        let mapper = mappers.remove(0);
+        let participant = first_party(alloc, workload, who, plan, facts, mapper)?;
+        hall.back(participant);
+    }
+    Ok(())
+}
+
 // The lines, and what comes behind the last one.
 fn run_in<'p, M: Mapper>(
     alloc: Global,
     workload: &Workload<'_>,
     hall: SoloHall<'p, M>,
-    participant: Participant<'p, M>,
 ) -> Result<Left, AllocError>
     requires runnable { IsRunnable workload.now }
-    requires first { SoFar workload.now [] participant hall.plain }
-    requires away { IsAway (server_at hall.servers 0) }
+    requires first { HaveDoneLines workload.now [] [] hall }
     ensures end { IfOk result (λ left.
-        IsSoloEnd workload.now left.answers.items left.heaps.items left.segs (left.table ∷ [])) }
-    ensures failures { IfOk result (λ left. FailAsMay participant.entry.maps.may_fail left.segs.asks) }
-    ensures once { IfOk result (λ left. FailOnce left.segs.asks) }
+        IsSoloEnd workload.now left.answers.items left.heaps.items left.segs left.tables.items) }
+    ensures named { IfOk result (λ left. AreAsMay workload.now hall.entry.servers left.answers.items left.segs) }
 {
     let mut hall = hall;
-    let mut participant = participant;
-    let answers = do_lines(alloc, workload, &mut hall, &mut participant)?;
-    do_rest(&mut hall, &mut participant)?;
-    let End { table } = participant.end(alloc)?;
-    let plain = hall.into_plain();
+    let answers = do_lines(alloc, workload, &mut hall)?;
+    do_rest(&mut hall)?;
+    let SoloEnd { tables, plain } = hall.end(alloc)?;
     // What holds of every hall is handed out with its values.
     plain.sound();
     let HallParts { heaps, segs } = plain.into_parts();
+    end_law();
+    failure_law();
+    refusal_law();
     Ok(Left {
         answers,
         heaps,
         segs,
-        table,
+        tables,
     })
 }

@@ -4,6 +4,7 @@ use hp_base::{MemSink, MemSource, Status};
 use std::alloc::{AllocError, Global};
 use std::test::Fail;
 
+mod members;
 mod rows;
 
 const EXAMPLE: &str = "pool 0 2M 4\n0 alloc a 1000\n";
@@ -67,14 +68,14 @@ fn refuses_words_that_it_does_not_take(rt: HostRuntime) -> Result<(), Fail> {
     Ok(())
 }
 
-// Lines that are not built yet stand behind built ones and before others, and a line that the language refuses wins over them.
+// A line that is not built yet stands behind built ones and before others, and one that the language refuses wins over them.
 #[test]
 fn refuses_the_first_bad_line_or_the_first_that_is_not_built(rt: HostRuntime) -> Result<(), Fail> {
     for (input, refused) in [
         ("pool 0 2M 4\n0 alloc a", "refused line 2 Fields\n"),
         (
-            "participants 2\npool 0 2M 4\n0 alloc a 64\n",
-            "refused line 1 Later\n",
+            "participants 2\npool 0 2M 4\n0 alloc a 64\n1 await 0 1\n",
+            "refused line 4 Later\n",
         ),
         (
             "pool 0 2M 4\n\n# free\nsocket 0 0\ndeadline 200\n0 alloc a 64 align=64\n0 free a\n0 zone z 64\n0 alloc c 64\n0 unzone z\n",
@@ -82,7 +83,7 @@ fn refuses_the_first_bad_line_or_the_first_that_is_not_built(rt: HostRuntime) ->
         ),
         (
             "pool 0 2M 4\nrefuse 0 1\nlose alloc 0 1\n0 alloc a 64\n0 stats socket_0\n",
-            "refused line 3 Later\n",
+            "refused line 5 Later\n",
         ),
         (
             "pool 0 2M 4\n0 alloc a 64\n0 alloc b 64\n0 zone z 64",

@@ -131,8 +131,7 @@ fn ended_for<'a, M: Mapper>(
         (IsFaultOf (refusal_of bytes.entry.now)) }
 {
     let workload = accepted(alloc, bytes)?;
-    let mut mappers = mappers;
-    Ok(run(alloc, workload, mappers.swap_remove(0))?)
+    Ok(run(alloc, workload, mappers)?)
 }
 
 // The workload that the bytes are, where each of its lines is done by now.

@@ -3,7 +3,7 @@ use super::*;
 use std::process::Abort;
 
 // A workload, and the lines that its report has.
-type Row = (&'static str, &'static [&'static str]);
+pub(super) type Row = (&'static str, &'static [&'static str]);
 
 // One page is grown, goes back, and is grown again.
 const PAGES: [Row; 3] = [
@@ -174,7 +174,7 @@ fn has_line(text: &[u8], line: &str) -> bool {
 }
 
 // The reports have the lines.
-fn report(rt: &impl Abort, alloc: Global, rows: &[Row]) -> Result<(), Fail> {
+pub(super) fn report(rt: &impl Abort, alloc: Global, rows: &[Row]) -> Result<(), Fail> {
     for (input, lines) in rows {
         let (status, _source, sink) = ran(alloc, &["solo"], *input, &NO_CALL, &NO_CALL)?;
         assert_eq!(rt; status, Status::Ok, "{input}");

@@ -1,12 +1,10 @@
 use Rattle.std.proofs.Common.{take}
-use Rattle.hp_proc.specs.Solo.{IsAway, server_at}
-use Rattle.hp_run.specs.Running.{HasDoneLines}
+use Rattle.hp_run.specs.Running.{FailAsBefore, HaveDoneLines}
 use Rattle.hp_run.proofs.doing.do_lines.Given as goal
 
 -- the lines so far were done
-abbrev pub invariant-loop-line : goal.invariant-loop-line
-invariant-loop-line g l = record {
-  done : HasDoneLines l.fn.workload (take l.line-index l.fn.workload.lines.items) l.answers.items l.initial.participant l.participant
-      l.hall.plain;
-  away : IsAway (server_at l.hall.servers 0);
+abbrev pub invariant-loop-place : goal.invariant-loop-place
+invariant-loop-place g l = record {
+  done : HaveDoneLines l.fn.workload (take l.place l.fn.workload.lines.items) l.answers.items l.hall;
+  may_fail : FailAsBefore l.fn.hall.servers l.hall.servers;
 }

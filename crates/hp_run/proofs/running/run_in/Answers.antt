@@ -1,49 +1,56 @@
 -- The end, from what the lines and the servings behind them leave.
-use Rattle.std.proofs.Common.{◌≡◌, ◌∙◌, ap, sym, subst}
-use Rattle.hp_base.specs.declared.limits.TheConstants.{MAX_HEAPS}
+use Rattle.std.proofs.Common.{◌≡◌, ◌∙◌, [], ap, sym, subst}
 use Rattle.hp_hall.specs.HallSteps.{slots_of}
 use Rattle.hp_hall.specs.HallView.{HallView, IsHall}
 use Rattle.hp_hall.specs.Opening.{AreHome}
-use Rattle.hp_run.proofs.Ending.{ends_so, fails_once, fails_so, rested_home}
-use Rattle.hp_run.proofs.NextLine.{nothing_out}
+use Rattle.hp_run.specs.Running.{HaveDoneLines}
+use Rattle.hp_run.proofs.Coming.{given_by}
+use Rattle.hp_run.proofs.Ending.{all_in, ends_so, segs_there}
+use Rattle.hp_run.proofs.FailureLemmas.{fail_so}
+use Rattle.hp_run.proofs.Resting.{fail_then}
 use Rattle.hp_run.proofs.running.run_in.Goals as goal
 
-pub do_rest-requires-clause-free : goal.do_rest-requires-clause-free
-do_rest-requires-clause-free g c =
-    let done = c.in_ok-answers.ensures.done in
-    nothing_out c.args.workload.now done.courses c.do_lines.new.participant c.do_lines.new.hall.plain done.so_far MAX_HEAPS
+pub end-requires : goal.end-requires
+end-requires g c =
+    let workload = c.args.workload.now in
+    let answers = c.in_ok-answers.answers.items in
+    record {
+      there = all_in workload answers c.do_rest.new.hall
+          (c.in_ok-do_rest.ensures.done workload workload.lines.items answers c.requires.runnable c.in_ok-answers.ensures.done);
+    }
 
 pub into_parts-heaps-requires : goal.into_parts-heaps-requires
 into_parts-heaps-requires g c =
-    let rest = c.in_ok-do_rest.ensures in
-    record {
-      home = subst AreHome (sym c.into_plain-plain.ensures)
-          (rested_home c.args.workload.now c.in_ok-answers.answers.items c.args.participant c.do_lines.new.participant
-          c.do_rest.new.participant c.do_lines.new.hall.plain c.do_rest.new.hall.plain c.requires.runnable c.in_ok-answers.ensures.done
-          rest.served rest.part rest.tied rest.same rest.home rest.goes_on.plain);
-    }
+    let workload = c.args.workload.now in
+    let done =
+    c.in_ok-do_rest.ensures.done workload workload.lines.items c.in_ok-answers.answers.items c.requires.runnable
+    c.in_ok-answers.ensures.done in
+    record { home = subst AreHome (sym c.in_ok-tables.ensures.plain) done.so_far.home }
 
 pub returns : goal.returns
 returns g c =
     let workload = c.args.workload.now in
+    let lines = workload.lines.items in
     let answers = c.in_ok-answers.answers.items in
-    let done = c.in_ok-answers.ensures.done in
-    let rest = c.in_ok-do_rest.ensures in
-    let first = c.args.participant in
-    let party = c.do_lines.new.participant in
-    let after = c.do_rest.new.participant in
-    let old = c.do_lines.new.hall.plain in
-    let new = c.do_rest.new.hall.plain in
+    let first = c.args.hall in
+    let mid = c.do_lines.new.hall in
+    let last = c.do_rest.new.hall in
     let left = c.into_parts-heaps.result in
     let heaps = left.heaps.items in
-    let plain = c.into_plain-plain.ensures in
-    let slots : new.slots ≡ slots_of heaps left.segs = ap (λ (hall : HallView). hall.slots) (sym plain) ∙ c.into_parts-heaps.ensures in
-    let sound : IsHall new = subst IsHall plain c.sound.ensures in
+    let plain = c.in_ok-tables.ensures.plain in
+    let given = given_by workload c.requires.runnable in
+    let done : HaveDoneLines workload lines answers last =
+    c.in_ok-do_rest.ensures.done workload lines answers c.requires.runnable c.in_ok-answers.ensures.done in
+    let slots : last.plain.slots ≡ slots_of heaps left.segs =
+    ap (λ (hall : HallView). hall.slots) (sym plain) ∙ c.into_parts-heaps.ensures in
+    let sound : IsHall last.plain = subst IsHall plain c.sound.ensures in
+    let alike =
+    fail_then workload [] lines [] answers first mid last c.requires.first c.in_ok-answers.ensures.done c.in_ok-answers.ensures.may_fail
+    c.in_ok-do_rest.ensures.may_fail in
     record {
-      end = ends_so workload answers first party after old new c.requires.runnable done rest.served rest.part rest.tied rest.same rest.home
-          rest.goes_on.plain heaps left.segs slots c.in_ok-table.field-0.table sound c.in_ok-table.ensures;
-      failures = fails_so workload answers first party after old new c.requires.runnable done rest.served rest.part rest.tied rest.same
-          rest.home rest.goes_on.plain heaps left.segs slots;
-      once = fails_once workload answers first party after old new c.requires.runnable done rest.served rest.part rest.tied rest.same
-          rest.home rest.goes_on.plain heaps left.segs slots;
+      end = ends_so workload answers last done heaps left.segs slots c.in_ok-tables.field-0.tables.items c.end_law.ensures given sound
+          c.in_ok-tables.ensures.tables;
+      named = fail_so workload answers first last left.segs given c.requires.first done alike c.failure_law.ensures.fails
+          c.failure_law.ensures.once c.refusal_law.ensures.fails c.refusal_law.ensures.once
+          (segs_there workload answers last done heaps left.segs slots);
     }

@@ -1,20 +1,27 @@
-use Rattle.std.proofs.Common.{◌∷◌, []}
-use Rattle.hp_run.specs.Failures.{AreFailuresNamed, FailAsMay}
-use Rattle.hp_run.proofs.Ending.{opens_so}
-use Rattle.hp_run.proofs.FailureLemmas.{failures_named}
-use Rattle.hp_run.proofs.OpeningLemmas.{if_ok}
+use Rattle.std.proofs.Common.{map}
+use Rattle.hp_proc.specs.Ends.{IsSoloEnd}
+use Rattle.hp_run.specs.Ending.{AreAsMay, IsRunEnd}
+use Rattle.hp_run.proofs.Coming.{first_stays, opens_so}
+use Rattle.hp_run.proofs.FailureLemmas.{named_all}
+use Rattle.hp_run.proofs.OpeningLemmas.{if_both}
 use Rattle.hp_run.proofs.running.run_lines.Goals as goal
 
 pub run_in-requires-clause-first : goal.run_in-requires-clause-first
 run_in-requires-clause-first g c =
-    opens_so c.args.workload.now (g.M.Mapper.may_fail c.args.mapper) c.in_ok-participant.participant c.in_ok-hall.hall c.requires.runnable
-    c.in_ok-hall.ensures c.in_ok-participant.ensures
-
-pub returns-clause-failures : goal.returns-clause-failures
-returns-clause-failures g c =
     let workload = c.args.workload.now in
-    let may_fail = g.M.Mapper.may_fail c.args.mapper in
-    let party = c.in_ok-participant.participant in
-    if_ok (λ left. FailAsMay party.maps.may_fail left.segs.asks)
-    (λ left. AreFailuresNamed workload.plan.items (may_fail ∷ []) left.segs.asks) c.run_in.result
-    (λ left. failures_named workload may_fail party left.segs.asks c.in_ok-participant.ensures) c.run_in.ensures.failures
+    opens_so workload (map g.M.Mapper.may_fail c.args.mappers.items) c.come_all.new.hall c.line_law.ensures.opens c.requires.runnable
+    (first_stays workload c.in_ok-hall.hall c.come_all.new.hall c.in_ok-hall.ensures.0 c.in_ok-come_all.ensures.plain)
+    c.in_ok-come_all.ensures.come
+
+pub returns : goal.returns
+returns g c =
+    let workload = c.args.workload.now in
+    let mappers = map g.M.Mapper.may_fail c.args.mappers.items in
+    let servers = c.come_all.new.hall.servers in
+    if_both (λ left. IsSoloEnd workload left.answers.items left.heaps.items left.segs left.tables.items)
+    (λ left. AreAsMay workload servers left.answers.items left.segs)
+    (λ left. IsRunEnd workload mappers left.answers.items left.heaps.items left.segs left.tables.items) c.run_in.result
+    (λ left end named. record {
+      end = end;
+      named = named_all workload mappers servers left.answers.items left.segs c.in_ok-come_all.ensures.come named;
+    }) c.run_in.ensures.end c.run_in.ensures.named

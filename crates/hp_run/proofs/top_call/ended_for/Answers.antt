@@ -1,5 +1,3 @@
-use Rattle.std.proofs.Common.{arith}
-use Rattle.hp_run.proofs.FailureLemmas.{failures_among, first_told}
 use Rattle.hp_run.proofs.RefusalLemmas.{fault_of_memory, read_as_same}
 use Rattle.hp_run.proofs.top_call.ended_for.Goals as goal
 
@@ -10,10 +8,6 @@ pub returns : goal.returns
 returns g c = record {
   done = c.in_ok-workload.ensures.done;
   workload = read_as_same _ _ _ c.in_ok-workload.ensures.read c.in_ok-run.ensures.workload;
-  end = c.in_ok-run.ensures.end;
-  failures = failures_among c.in_ok-run.field-0.workload.plan.items _ _ _
-      (first_told g.M.Mapper.may_fail c.args.mappers.items c.swap_remove.result 16 (omega (arith, c.requires.count)) (omega arith)
-      c.swap_remove.ensures.value)
-      c.in_ok-run.ensures.failures;
-  once = c.in_ok-run.ensures.once;
+  end = c.in_ok-run.ensures.end.end;
+  named = c.in_ok-run.ensures.end.named;
 }

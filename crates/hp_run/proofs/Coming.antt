@@ -1,0 +1,227 @@
+-- Participants come to their places before the first line.
+use Rattle.std.proofs.Common.{◌≡◌, ◌≢◌, ◌∙◌, ℕ, zero, suc, ◌+◌, ◌<◌, ◌≤◌, ⊎_elim, List, [], ◌∷◌, ◌++◌, Bool, true, false, drop, get_or, length, length-append, map, Option, Some, None, replicate, refl, sym, ap, subst, arith, add-one}
+use Rattle.std.specs.List.{slice_get}
+use Rattle.std.specs.Option.{option_map}
+use Rattle.std.proofs.lemmas.Bool.{cases_eq, cases_lt}
+use Rattle.std.proofs.lemmas.List.{length-replicate}
+use Rattle.std.proofs.lemmas.Nat.Bits.{bit_at_lowest}
+use Rattle.std.proofs.lemmas.Option.{slice_get-map, slice_get_past, slice_get_within}
+use Rattle.hp_hall.specs.HallView.{HallView, own_at}
+use Rattle.hp_hall.specs.Own.{Own, after_ack}
+use Rattle.hp_log.specs.declared.log_record.LogRecord.{LogRecord}
+use Rattle.hp_maps.specs.MapsView.{MapsView, chunk_rows, table_in}
+use Rattle.hp_script.specs.declared.workload.Workload.{Workload}
+use Rattle.hp_proc.specs.Party.{Party}
+use Rattle.hp_proc.specs.Tied.{HasTable, IsTied, nothing_yet, part_of}
+use Rattle.hp_proc.proofs.Unarmed.{all_alike}
+use Rattle.hp_solo.specs.Solo.{IsTiedAt, ServerView, SoloView, nobody, server_at, with_party}
+use Rattle.hp_solo.proofs.SoloWaits.{tied_first}
+use Rattle.hp_joint.specs.EndLaws.{IsFirstParty, IsGiven, OpensSoFar}
+use Rattle.hp_joint.specs.SoFar.{SoFar}
+use Rattle.hp_run.specs.Opening.{HaveCome, IsFirstHall, IsPartyOver, IsPlannedParty}
+use Rattle.hp_run.specs.Running.{HaveDoneLines, IsRunnable, place_of}
+
+-- what the lines of a workload say that can be run
+pub given_by : (workload : Workload) → IsRunnable workload → IsGiven workload
+given_by workload runnable = record {
+  few = runnable.absent.few;
+  primary = runnable.absent.some;
+  present = bit_at_lowest workload.absent ∙ runnable.absent.primary;
+  pools = runnable.pools;
+  deadline = runnable.limits.short;
+}
+
+-- lists of which each place has the same are the same
+pub alike_same : {X : Type 0} (xs ys : List X) → ((place : ℕ) → slice_get xs place ≡ slice_get ys place) → xs ≡ ys
+alike_same [] [] each = refl
+alike_same [] (y ∷ ys) each = let none : None ≡ Some y = each 0 in cc
+alike_same (x ∷ xs) [] each = let none : Some x ≡ None = each 0 in cc
+alike_same (x ∷ xs) (y ∷ ys) each =
+    let first : Some x ≡ Some y = each 0 in
+    let same : x ≡ y = cc in
+    ap (λ (one : _). one ∷ xs) same ∙ ap (λ (rest : _). y ∷ rest) (alike_same xs ys (λ place. each (suc place)))
+
+-- a list with one element more: what stood at a place stands there, and the new one behind all
+pub front_stays : {X : Type 0} (xs : List X) (x : X) (place : ℕ) → place < length xs → slice_get (xs ++ x ∷ []) place ≡ slice_get xs place
+front_stays [] x place within = absurd (omega arith)
+front_stays (y ∷ xs) x zero within = refl
+front_stays (y ∷ xs) x (suc place) within = front_stays xs x place (omega arith)
+
+pub last_stands : {X : Type 0} (xs : List X) (x : X) (place : ℕ) → length xs ≡ place → slice_get (xs ++ x ∷ []) place ≡ Some x
+last_stands [] x zero is = refl
+last_stands [] x (suc place) is = absurd (omega (arith, is))
+last_stands (y ∷ xs) x zero is = absurd (omega (arith, is))
+last_stands (y ∷ xs) x (suc place) is = last_stands xs x place (omega (arith, is))
+
+pub nobody_at : (count who : ℕ) → who < count → server_at (replicate count nobody) who ≡ Some nobody
+nobody_at zero who within = absurd (omega arith)
+nobody_at (suc count) zero within = refl
+nobody_at (suc count) (suc who) within = nobody_at count who (omega arith)
+
+-- those below a number have come, and nobody else
+pub record HaveComeBelow (workload : Workload) (mappers : List (Option (List ℕ))) (who : ℕ) (servers : List ServerView) : Type 0 where
+  pub parties : List Party
+  pub count : length parties ≡ who
+  pub each : (other : ℕ) (party : Party) → slice_get parties other ≡ Some party → IsPartyOver workload mappers other party
+  pub come : (other : ℕ) → other < who → server_at servers other ≡ option_map place_of (slice_get parties other)
+  pub free : (other : ℕ) → who ≤ other → server_at servers other ≡ server_at (replicate workload.participants nobody) other
+
+module _ (workload : Workload) (mappers : List (Option (List ℕ))) where
+  pub none_come : (servers : List ServerView) → servers ≡ replicate workload.participants nobody
+      → HaveComeBelow workload mappers 0 servers
+  none_come servers is = record {
+    parties = [];
+    count = refl;
+    each = λ other party there. cc;
+    come = λ other below. absurd (omega (arith, below));
+    free = λ other above. ap (λ (servers : List ServerView). server_at servers other) is;
+  }
+
+  -- one more comes
+  pub one_comes : (who : ℕ) (party : Party) (old new : List ServerView) → who < workload.participants
+      → HaveComeBelow workload mappers who old → IsPartyOver workload mappers who party
+      → server_at new who ≡ option_map (with_party (Some party)) (server_at old who)
+      → ((other : ℕ) → other ≢ who → server_at new other ≡ server_at old other) → HaveComeBelow workload mappers (who + 1) new
+  one_comes who party old new declared was over here others =
+      let behind : List Party = was.parties ++ party ∷ [] in
+      let last : slice_get behind who ≡ Some party = last_stands was.parties party who was.count in
+      let stands : server_at old who ≡ Some nobody = was.free who (omega arith) ∙ nobody_at workload.participants who declared in
+      record {
+        parties = behind;
+        count = length-append was.parties (party ∷ []) ∙ ap (λ (n : ℕ). n + 1) was.count;
+        each = λ other one there.
+            let within : other < length behind = slice_get_within behind other one there in
+            let all : length behind ≡ who + 1 = length-append was.parties (party ∷ []) ∙ ap (λ (n : ℕ). n + 1) was.count in
+            ⊎_elim
+            (λ (same : other ≡ who).
+            let it : Some one ≡ Some party = sym there ∙ ap (slice_get behind) same ∙ last in
+            let one_is : party ≡ one = cc in
+            subst (λ (n : ℕ). IsPartyOver workload mappers n one) (sym same) (subst (λ (p : Party). IsPartyOver workload mappers who p) one_is over))
+            (λ (differ : other ≢ who).
+            ⊎_elim
+            (λ (below : other < who).
+            was.each other one
+            (sym (front_stays was.parties party other (subst (λ (n : ℕ). other < n) (sym was.count) below)) ∙ there))
+            (λ (above : who ≤ other). absurd (differ (omega (arith, within, all, above))))
+            (cases_lt other who))
+            (cases_eq other who);
+        come = λ other below.
+            ⊎_elim
+            (λ (same : other ≡ who).
+            subst (λ (n : ℕ). server_at new n ≡ option_map place_of (slice_get behind n)) (sym same)
+            (here ∙ ap (option_map (with_party (Some party))) stands ∙ ap (option_map place_of) (sym last)))
+            (λ (differ : other ≢ who).
+            ⊎_elim
+            (λ (earlier : other < who).
+            others other differ ∙ was.come other earlier
+            ∙ ap (option_map place_of)
+            (sym (front_stays was.parties party other (subst (λ (n : ℕ). other < n) (sym was.count) earlier))))
+            (λ (above : who ≤ other). absurd (differ (omega (arith, below, above))))
+            (cases_lt other who))
+            (cases_eq other who);
+        free = λ other above. others other (λ same. absurd (omega (arith, above, same))) ∙ was.free other (omega (arith, above));
+      }
+
+  -- all have come
+  pub all_come : (servers : List ServerView) → HaveComeBelow workload mappers workload.participants servers
+      → HaveCome workload mappers servers
+  all_come servers was = record {
+    parties = was.parties;
+    are = alike_same servers (map place_of was.parties) (λ who.
+        ⊎_elim
+        (λ (below : who < workload.participants). was.come who below ∙ sym (slice_get-map place_of was.parties who))
+        (λ (above : workload.participants ≤ who).
+        was.free who above
+        ∙ slice_get_past (replicate workload.participants nobody) who (omega (arith, above, length-replicate workload.participants nobody))
+        ∙ ap (option_map place_of) (sym (slice_get_past was.parties who (omega (arith, above, was.count))))
+        ∙ sym (slice_get-map place_of was.parties who))
+        (cases_lt who workload.participants));
+    count = was.count;
+    each = was.each;
+  }
+
+-- one that has taken in nothing is tied to a hall that knows so
+first_table : (joined : Bool) → part_of joined nothing_yet ≡ nothing_yet
+first_table true = refl
+first_table false = refl
+
+module _ (workload : Workload) (who : ℕ) (may_fail : Option (List ℕ)) (party : Party) (planned : IsPlannedParty workload who may_fail party)
+  where
+    pub number_planned : party.me ≡ who
+    number_planned = ap (λ (party : Party). party.me) planned.is
+
+    tied_new : (log : List LogRecord) → IsTied log nothing_yet party.joined party.maps
+    tied_new log =
+        let part = first_table party.joined in
+        let maps_are : party.maps ≡ planned.maps = ap (λ (party : Party). party.maps) planned.is in
+        let empty : party.maps.rows ≡ [] = ap (λ (maps : MapsView). maps.rows) maps_are ∙ planned.table.rows in
+        record {
+          within = omega arith;
+          table = subst (λ (own : Own). HasTable log own party.maps) (sym part)
+              (record {
+                number = ap (λ (maps : MapsView). maps.number) maps_are ∙ planned.table.number;
+                lags = record { reached = 0; from = omega arith; up_to = omega arith; left = ap table_in empty };
+                seen = omega arith;
+                chunks = ap chunk_rows empty;
+                room = omega (arith, ap (λ (maps : MapsView). maps.capacity) maps_are, planned.table.room);
+              });
+        }
+
+    pub tied_planned : (hall : SoloView) → IsFirstHall workload hall → IsTiedAt hall.plain party.me party
+    tied_planned hall first =
+        tied_first hall.plain who party
+        (ap (λ (plain : HallView). own_at plain who) first.plain ∙ all_alike nothing_yet workload.participants who) number_planned tied_new
+
+    pub count_first : (hall : SoloView) → IsFirstHall workload hall → length hall.plain.owns ≡ workload.participants
+    count_first hall first =
+        ap (λ (plain : HallView). length plain.owns) first.plain ∙ length-replicate workload.participants (after_ack 0)
+
+-- a first hall stays one while its values stay
+pub first_stays : (workload : Workload) (old new : SoloView) → IsFirstHall workload old → new.plain ≡ old.plain → IsFirstHall workload new
+first_stays workload old new first same = record { heaps = first.heaps; first = first.first; plain = same ∙ first.plain }
+
+-- the first of what is left of a list stands at that place of the list, and the others are left
+pub first_left : {X : Type 0} (xs rest : List X) (place : ℕ) (x : X) → place < length xs → rest ≡ drop place xs → x ≡ get_or rest 0 x
+    → slice_get xs place ≡ Some x
+first_left [] rest place x within left is = absurd (omega arith)
+first_left (y ∷ xs) rest zero x within left is =
+    let same : x ≡ y = is ∙ ap (λ (rest : _). get_or rest 0 x) left in
+    ap Some (sym same)
+first_left (y ∷ xs) rest (suc place) x within left is = first_left xs rest place x (omega arith) left is
+
+one_dropped : {X : Type 0} (xs : List X) (place : ℕ) → drop 1 (drop place xs) ≡ drop (suc place) xs
+one_dropped [] zero = refl
+one_dropped [] (suc place) = refl
+one_dropped (x ∷ xs) zero = refl
+one_dropped (x ∷ xs) (suc place) = one_dropped xs place
+
+pub one_less : {X : Type 0} (xs : List X) (place : ℕ) → drop 1 (drop place xs) ≡ drop (place + 1) xs
+one_less xs place = one_dropped xs place ∙ ap (λ (n : ℕ). drop n xs) (sym (add-one place))
+
+-- one that is made by the plan is a first one
+first_made : (workload : Workload) (who : ℕ) (may_fail : Option (List ℕ)) (party : Party) → IsPlannedParty workload who may_fail party
+    → IsFirstParty workload who party
+first_made workload who may_fail party planned = record {
+  maps = planned.maps;
+  plan = workload.plan.items;
+  is = planned.is;
+  rows = planned.table.rows;
+  number = planned.table.number;
+  answers = planned.table.answers;
+  room = omega (arith, planned.table.room);
+}
+
+-- they have done no line yet
+pub opens_so : (workload : Workload) (mappers : List (Option (List ℕ))) (hall : SoloView) → OpensSoFar → IsRunnable workload
+    → IsFirstHall workload hall → HaveCome workload mappers hall.servers → HaveDoneLines workload [] [] hall
+opens_so workload mappers hall law runnable first come = record {
+  parties = come.parties;
+  are = come.are;
+  courses = [];
+  so_far = subst (λ (plain : HallView). SoFar workload [] come.parties plain) (sym first.plain)
+      (law workload first.heaps come.parties (given_by workload runnable) first.first come.count (λ who party there.
+      let over = come.each who party there in
+      first_made workload who over.may_fail party over.planned));
+  lines_are = refl;
+  answered = refl;
+}

@@ -1,0 +1,135 @@
+-- One of the participants goes away for its line, and comes back.
+use Rattle.std.proofs.Common.{◌≡◌, ◌∙◌, ℕ, ◌+◌, List, [], ◌∷◌, ◌++◌, length, take, Some, ap, sym, subst, arith}
+use Rattle.std.specs.List.{slice_get}
+use Rattle.std.proofs.lemmas.List.{take_more}
+use Rattle.hp_hall.specs.HallView.{HallView, heard_in, part_in, seen_in}
+use Rattle.hp_script.specs.declared.answer.Answer.{Answer}
+use Rattle.hp_script.specs.declared.line.Line.{Line}
+use Rattle.hp_proc.specs.Progress.{IsLineBuilt, MayDo, moment_of}
+use Rattle.hp_joint.specs.SoFar.{SoFar}
+use Rattle.hp_run.specs.Running.{HaveDoneLines}
+use Rattle.hp_run.proofs.Coming.{given_by}
+use Rattle.hp_run.proofs.NextLine.{all_count, line_can, line_declared, next_line, nothing_out}
+use Rattle.hp_run.proofs.OneMore.{HasDoneIts, IsBackFrom, done_more}
+use Rattle.hp_run.proofs.Places.{party_there, there_below}
+use Rattle.hp_run.proofs.doing.do_next.Goals as goal
+
+pub unreachable-requires : goal.unreachable-requires
+unreachable-requires g c =
+    let workload = c.args.workload.now in
+    let line = c.index-line.result.now in
+    let was = c.requires.so_far in
+    let declared = line_declared workload c.args.place line c.requires.runnable c.requires.within c.index-line.ensures in
+    let there = there_below was.parties line.participant (omega (arith, declared, was.so_far.count)) in
+    c.in_default.not-Some there.0
+    (c.away.ensures.party ∙ party_there c.args.hall.now.servers was.parties was.are line.participant ∙ there.1)
+
+pub do_line-answer-requires-clause-next : goal.do_line-answer-requires-clause-next
+do_line-answer-requires-clause-next g c =
+    let workload = c.args.workload.now in
+    let line = c.index-line.result.now in
+    let was = c.requires.so_far in
+    next_line workload was.courses was.parties c.args.hall.now.plain was.so_far line.participant c.in-Some.participant c.args.place line
+    c.requires.runnable was.lines_are
+    (sym (party_there c.args.hall.now.servers was.parties was.are line.participant) ∙ sym c.away.ensures.party ∙ c.in-Some.is)
+    c.requires.within c.index-line.ensures
+
+pub do_line-answer-requires-clause-built : goal.do_line-answer-requires-clause-built
+do_line-answer-requires-clause-built g c =
+    let line = c.index-line.result.now in
+    subst (λ (me : ℕ). IsLineBuilt me line.act) (sym c.in-Some.ensures.tied.number)
+    (line_can c.args.workload.now c.args.place line c.requires.runnable c.requires.within c.index-line.ensures)
+
+pub do_line-answer-requires-clause-free : goal.do_line-answer-requires-clause-free
+do_line-answer-requires-clause-free g c =
+    let workload = c.args.workload.now in
+    let was = c.requires.so_far in
+    nothing_out workload was.courses was.parties c.away.new.self.plain
+    (subst (λ (plain : HallView). SoFar workload was.courses was.parties plain) (sym c.away.ensures.plain) was.so_far)
+
+pub do_line-answer-requires-clause-ready : goal.do_line-answer-requires-clause-ready
+do_line-answer-requires-clause-ready g c =
+    let workload = c.args.workload.now in
+    let line = c.index-line.result.now in
+    let was = c.requires.so_far in
+    let party = c.in-Some.participant in
+    let plain = c.away.new.self.plain in
+    let so_far : SoFar workload was.courses was.parties plain =
+    subst (λ (plain : HallView). SoFar workload was.courses was.parties plain) (sym c.away.ensures.plain) was.so_far in
+    let there : slice_get was.parties line.participant ≡ Some party =
+    sym (party_there c.args.hall.now.servers was.parties was.are line.participant) ∙ sym c.away.ensures.party ∙ c.in-Some.is in
+    subst (λ (me : ℕ). MayDo (moment_of party (part_in plain me) (seen_in plain) (heard_in plain))) (sym c.in-Some.ensures.tied.number)
+    (so_far.each line.participant party there).ready
+
+pub back-requires-clause-declared : goal.back-requires-clause-declared
+back-requires-clause-declared g c =
+    let workload = c.args.workload.now in
+    let line = c.index-line.result.now in
+    let was = c.requires.so_far in
+    let did = c.do_line-answer.ensures in
+    let declared = line_declared workload c.args.place line c.requires.runnable c.requires.within c.index-line.ensures in
+    omega (
+      arith,
+      did.same.me,
+      c.in-Some.ensures.tied.number,
+      declared,
+      did.goes_on.plain.count,
+      ap (λ (plain : HallView). length plain.owns) c.away.ensures.plain,
+      all_count workload was.courses was.parties c.args.hall.now.plain was.so_far,
+    )
+
+pub returns : goal.returns
+returns g c =
+    let workload = c.args.workload.now in
+    let lines = workload.lines.items in
+    let place = c.args.place in
+    let line = c.index-line.result.now in
+    let answer = c.in_ok-answer.field-0 in
+    let was = c.requires.so_far in
+    let party = c.in-Some.participant in
+    let after = c.do_line-answer.new.self in
+    let first = c.args.hall.now in
+    let away = c.away.new.self in
+    let back = c.do_line-answer.new.hall in
+    let last = c.back.new.self in
+    let did = c.in_ok-answer.ensures in
+    let always = c.do_line-answer.ensures in
+    let number : party.me ≡ line.participant = c.in-Some.ensures.tied.number in
+    let there : slice_get was.parties line.participant ≡ Some party =
+    sym (party_there first.servers was.parties was.are line.participant) ∙ sym c.away.ensures.party ∙ c.in-Some.is in
+    let its : HasDoneIts line answer party after away.plain back.plain =
+    record {
+      built = line_can workload place line c.requires.runnable c.requires.within c.index-line.ensures;
+      me = number;
+      does = did.does;
+      ready = did.ready;
+      tied = always.tied;
+      same = always.same;
+      home = always.home;
+    } in
+    let comes : IsBackFrom line.participant after was.parties first away back last =
+    record {
+      are = was.are;
+      gone_others = c.away.ensures.others;
+      gone_plain = c.away.ensures.plain;
+      course = always.goes_on;
+      me = always.same.me ∙ number;
+      here = c.back.ensures.party;
+      came = c.back.ensures.place;
+      came_others = c.back.ensures.others;
+      came_plain = c.back.ensures.plain;
+      going = c.in_ok-all_going.ensures;
+      sound = c.sound.ensures;
+    } in
+    let more =
+    done_more workload (take place lines) c.args.answers.now.items line answer party after first away back last
+    c.line_law.ensures.goes_on (given_by workload c.requires.runnable) was
+    (line_declared workload place line c.requires.runnable c.requires.within c.index-line.ensures) there its comes in
+    let one_more : take (place + 1) lines ≡ take place lines ++ line ∷ [] =
+    take_more lines place line c.requires.within ∙ ap (λ (it : Line). take place lines ++ it ∷ []) (sym c.index-line.ensures) in
+    record {
+      done = subst (λ (front : List Line). HaveDoneLines workload front c.push.new.self.items last) (sym one_more)
+          (subst (λ (answers : List Answer). HaveDoneLines workload (take place lines ++ line ∷ []) answers last)
+          (sym c.in_ok-push.ensures.items) more.0);
+      may_fail = more.1;
+    }
