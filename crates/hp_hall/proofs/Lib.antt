@@ -15,6 +15,7 @@ pub mod Stepped
 pub mod Taking
 pub mod Walks
 mod WorkedKeeping
+mod WorkedMeters
 pub mod CountedRows
 pub mod StandingGrants
 pub mod StandingMoves

@@ -12,10 +12,11 @@ use Rattle.hp_hall.specs.declared.posted.Posted.{Posted}
 use Rattle.hp_hall.specs.declared.posted.Posted.TheVariants.{Sent, Twice, Lost, Full}
 use Rattle.hp_hall.specs.Course.{IsCourse, slot_same}
 use Rattle.hp_hall.specs.HallSteps.{fulls_after, with_mail}
-use Rattle.hp_hall.specs.HallView.{HallView, slot_at}
+use Rattle.hp_hall.specs.HallView.{HallView, HasDone, slot_at}
 use Rattle.hp_hall.specs.InTurn.{ShowsHome, homes_after, homes_in}
 use Rattle.hp_hall.specs.Keeping.{ShowsValues, values_after, values_in}
 use Rattle.hp_hall.specs.Mail.{MailStep, IsMailStep, box_after, box_of, copies, posted_as, steps_of}
+use Rattle.hp_hall.specs.Meters.{IsMetered, meters_in}
 use Rattle.hp_hall.specs.Weights.{box_weight, boxes_weight, fetched_weight, frame_weight}
 
 copies_weigh : (weight : Frame → ℕ) (frame : Frame) (posted : Posted) → sum_by weight (replicate (copies posted) frame) ≤ 2 * weight frame
@@ -55,11 +56,16 @@ steps_of-push who me step mail =
     let what : (ℕ × MailStep) → MailStep = λ (s : ℕ × MailStep). s.1 in
     ap (map what) (filter-append by mail ((me, step) ∷ [])) ∙ map-append what (filter by mail) (filter by ((me, step) ∷ []))
 
+-- of two states with such a step between them, each participant did what it made
+pub noted_last : (old new : HallView) (me : ℕ) (step : MailStep) → new.mail ≡ old.mail ++ (me, step) ∷ [] → (who : ℕ)
+    → HasDone old new who (steps_of who ((me, step) ∷ []))
+noted_last old new me step is who = ap (steps_of who) is ∙ steps_of-push who me step old.mail
+
 pub course_mail : (hall : HallView) (who : ℕ) (step : MailStep) (fulls : ℕ) → who < length hall.owns → IsMailStep who step hall.boxes
     → ShowsValues who step (values_in hall) → values_after step (values_in hall) ≡ values_in hall → ShowsHome step (homes_in hall)
-    → homes_after step (homes_in hall) ≡ homes_in hall → hall.fulls ≤ fulls
+    → homes_after step (homes_in hall) ≡ homes_in hall → IsMetered who step (meters_in hall) (meters_in hall) → hall.fulls ≤ fulls
     → IsCourse hall (with_mail who step fulls hall)
-course_mail hall who step fulls declared is shows still shows_home still_home more = record {
+course_mail hall who step fulls declared is shows still shows_home still_home metered more = record {
   count = refl;
   slots = λ number. slot_same (slot_at hall number);
   numbers = λ other. omega arith;
@@ -70,6 +76,7 @@ course_mail hall who step fulls declared is shows still shows_home still_home mo
   boxes = (is, refl);
   kept = (record { declared = declared; shows = shows }, sym still);
   turns = (shows_home, sym still_home);
+  meters = (meters_in hall, metered, refl);
   agreed = λ agreed. agreed;
 }
 

@@ -11,7 +11,7 @@ use Rattle.hp_hall.specs.declared.kept.Kept.{Kept}
 use Rattle.hp_hall.specs.declared.kept.Kept.TheVariants.{Heap, Segments}
 use Rattle.hp_hall.specs.declared.slot.TheConstants.{SLOTS}
 use Rattle.hp_hall.specs.HallSteps.{heap_slot, home_slot, opening_hall, slots_of}
-use Rattle.hp_hall.specs.HallView.{HallView, IsHall, IsHome, SlotView, history_in, is_held_by, is_held_heap, part_in, segs_in}
+use Rattle.hp_hall.specs.HallView.{HallView, IsHall, IsHome, SlotView, history_in, is_held_by, is_held_heap, log_in, part_in, segs_in}
 use Rattle.hp_hall.specs.Holding.{HasPages, owned_by, standing_of}
 use Rattle.hp_hall.specs.Moved.{AreSlotsOf, IsFirstHeap, IsLastSegs}
 use Rattle.hp_hall.specs.Opening.{AreHome, AreInOrder, AreUnused, HavePages}
@@ -73,6 +73,14 @@ opened_segs [] segs zero count = refl
 opened_segs [] segs (suc number) count = cc
 opened_segs (heap ∷ heaps) segs zero count = cc
 opened_segs (heap ∷ heaps) segs (suc number) count = opened_segs heaps segs number (omega (arith, count))
+
+-- and its log, which everybody sees
+pub opened_log : (heaps : List HeapView) (segs : SegsView) (number : ℕ) → length heaps ≡ number
+    → log_in (slice_get (slots_of heaps segs) number) ≡ segs.log
+opened_log [] segs zero count = refl
+opened_log [] segs (suc number) count = cc
+opened_log (heap ∷ heaps) segs zero count = cc
+opened_log (heap ∷ heaps) segs (suc number) count = opened_log heaps segs number (omega (arith, count))
 
 -- each heap of a hall that opens has its pages
 pub opened_pages : (heaps : List HeapView) (segs : SegsView) → HavePages heaps segs → (number : ℕ) (heap : HeapView)

@@ -16,6 +16,7 @@ use Rattle.hp_hall.specs.HallView.{HallView, IsHome, SlotView, is_held_heap, own
 use Rattle.hp_hall.specs.InTurn.{ShowsHome, homes_after, homes_in}
 use Rattle.hp_hall.specs.Keeping.{AreAgreed, IsGivenBy, ShowsValues, values_after, values_in}
 use Rattle.hp_hall.specs.Mail.{MailStep, Gives, Takes, IsMailStep, after_step}
+use Rattle.hp_hall.specs.Meters.{IsMetered, meters_in}
 use Rattle.hp_hall.specs.Values.{IsSoundKept}
 use Rattle.hp_hall.proofs.Stepped.{MakesStep, makes_step}
 
@@ -81,9 +82,10 @@ module _ (hall : HallView) (number : ℕ) (before slot : SlotView) (there : slot
   -- a step by which the slot came to this is one on the hall's course
   course_slot : (who : ℕ) (step : MailStep) → who < length hall.owns → IsMailStep who step hall.boxes → ShowsValues who step (values_in hall)
       → values_in (with_slot number slot hall) ≡ values_after step (values_in hall) → ShowsHome step (homes_in hall)
-      → homes_in (with_slot number slot hall) ≡ homes_after step (homes_in hall) → (AreAgreed hall → AreAgreed (with_slot number slot hall))
+      → homes_in (with_slot number slot hall) ≡ homes_after step (homes_in hall) → IsMetered who step (meters_in hall) (meters_in hall)
+      → (AreAgreed hall → AreAgreed (with_slot number slot hall))
       → IsCourse hall (with_mail who step hall.fulls (with_slot number slot hall))
-  course_slot who step declared mailed shows values shows_home homes agreed = record {
+  course_slot who step declared mailed shows values shows_home homes metered agreed = record {
     count = refl;
     slots = later_slots;
     numbers = λ other. omega arith;
@@ -94,6 +96,7 @@ module _ (hall : HallView) (number : ℕ) (before slot : SlotView) (there : slot
     boxes = (mailed, refl);
     kept = (record { declared = declared; shows = shows }, values);
     turns = (shows_home, homes);
+    meters = (meters_in hall, metered, refl);
     agreed = agreed;
   }
 
@@ -157,7 +160,7 @@ module _ (old new : HallView) (who number : ℕ) (declared : who < length old.ow
       moves_slot old new who number out (Takes number kept) below is refl
       (course_slot old number (home_slot kept) out there (kept_same kept) who (Takes number kept) declared tt value
       (map-set (λ (s : SlotView). s.kept) old.slots number out ∙ set_same (values_in old) number kept value)
-      (home_at old number (home_slot kept) there) (map-set (λ (s : SlotView). is_none s.holder) old.slots number out)
+      (home_at old number (home_slot kept) there) (map-set (λ (s : SlotView). is_none s.holder) old.slots number out) refl
       (agreed_alike old slotted
       (read_alike segs_in number out old slotted (slice_get-set_same old.slots number out below)
       (λ other apart. slice_get-set_other old.slots number other out apart) (ap segs_in (sym there)) MAX_HEAPS)
@@ -172,4 +175,4 @@ module _ (old new : HallView) (who number : ℕ) (declared : who < length old.ow
       (course_slot old number before (home_slot kept) there later who (Gives number kept) declared tt
       (record { before = before.kept; there = value_at old number before there; by = by; sound = sound })
       (map-set (λ (s : SlotView). s.kept) old.slots number (home_slot kept)) (home_at old number before there ∙ ap Some out)
-      (map-set (λ (s : SlotView). is_none s.holder) old.slots number (home_slot kept)) agreed)
+      (map-set (λ (s : SlotView). is_none s.holder) old.slots number (home_slot kept)) refl agreed)

@@ -19,7 +19,7 @@ use Rattle.hp_hall.specs.Course.{IsCourse, IsLater}
 use Rattle.hp_hall.specs.CourseLaws.{AreSegsOf, IdleAddNoEntries, IdleStayInPlace, IsSoundAndArmed, MovesSound, RangesStay, SoloStepsAreItsOwn, UndeclaredDoNothing, ValuesStaySound}
 use Rattle.hp_hall.specs.HallView.{HallView, SlotView, history_in, segs_in, segs_of, slot_at}
 use Rattle.hp_hall.specs.Keeping.{IsGivenBy, IsKeptBy, ShowsValues, values_after, values_in}
-use Rattle.hp_hall.specs.Mail.{MailStep, Posts, Fetches, Takes, Gives, steps_of}
+use Rattle.hp_hall.specs.Mail.{MailStep, Posts, Fetches, Takes, Gives, Notes, steps_of}
 use Rattle.hp_hall.specs.Values.{IsSoundKept, history_of}
 use Rattle.hp_hall.proofs.Given.{entries_of-append, entries_of-other}
 use Rattle.hp_hall.proofs.Slotted.{value_at, slice_get-set_other, slice_get-set_same}
@@ -45,6 +45,7 @@ module _ {X : Type 0} (of : ℕ → Type 0) (read : Kept → X)
       (kept, now, given who shows.before kept maker shows.by ∙ ap read was))
       (λ (apart : number ≢ slot). (before, slice_get-set_other values slot number kept apart ∙ there, refl))
       (cases_eq number slot)
+  stepped who (Notes note) values number before maker shows there = (before, there, refl)
 
   pub read_kept : (count : ℕ) (steps : List (ℕ × MailStep)) (old new : List Kept) → IsKeptBy count steps old new
       → AllByRecursion (λ step. of step.0) steps → (number : ℕ) (before kept : Kept) → slice_get old number ≡ Some before
@@ -158,6 +159,7 @@ sound_step who (Gives slot kept) values shows sound =
           (λ (apart : number ≢ slot). sound number value (sym (slice_get-set_other values slot number kept apart) ∙ there))
           (cases_eq number slot),
     )
+sound_step who (Notes note) values shows sound = (tt, sound)
 
 sound_steps : (count : ℕ) (steps : List (ℕ × MailStep)) (old new : List Kept) → IsKeptBy count steps old new → AreSound old
     → AllByRecursion (λ step. MovesSound step.1) steps × AreSound new

@@ -17,6 +17,7 @@ use Rattle.hp_hall.specs.HallView.{HallView, SlotView, slot_at, asks_in, heard_i
 use Rattle.hp_hall.specs.InTurn.{AreTakenInTurn, homes_after, homes_in}
 use Rattle.hp_hall.specs.Keeping.{AreAgreed, IsKeptBy, values_after, values_in}
 use Rattle.hp_hall.specs.Mail.{MailStep, IsMail, after_step, steps_of}
+use Rattle.hp_hall.specs.Meters.{AreMetered, Meters, meters_in}
 use Rattle.hp_hall.specs.Values.{asks_of, log_of}
 
 -- a heap later on: it opened alike, and its history begins with the earlier one
@@ -49,8 +50,8 @@ IsLater (Some old) None = ⊥
 IsLater (Some old) (Some new) = IsLaterKept old.kept new.kept
 
 -- from one state of a hall to a later one: the same participants; each slot's value is one of later on; numbers, the count of full
--- mailboxes and the clock do not fall; the mailboxes and the values in the slots are those that the steps made on the way leave, and by
--- these each slot was taken and given back in turn; and granted records that all members have taken in stay so
+-- mailboxes and the clock do not fall; the mailboxes, the values in the slots, the clock and the numbers are those that the steps made on
+-- the way leave, and by these each slot was taken and given back in turn; and granted records that all members have taken in stay so
 pub record IsCourse (old new : HallView) : Type 0 where
   pub count : length new.owns ≡ length old.owns
   pub slots : (number : ℕ) → IsLater (slot_at old number) (slot_at new number)
@@ -62,6 +63,7 @@ pub record IsCourse (old new : HallView) : Type 0 where
   pub boxes : IsMail steps old.boxes new.boxes
   pub kept : IsKeptBy (length old.owns) steps (values_in old) (values_in new)
   pub turns : AreTakenInTurn steps (homes_in old) (homes_in new)
+  pub meters : AreMetered steps (meters_in old) (meters_in new)
   pub agreed : AreAgreed old → AreAgreed new
 
 leads_then : (first second : List SegsCall) (a b c : SegsView) → Leads first a b → Leads second b c → Leads (first ++ second) a c
@@ -83,6 +85,11 @@ turns_then : (first second : List (ℕ × MailStep)) (a b c : List Bool) → Are
     → AreTakenInTurn (first ++ second) a c
 turns_then [] second a b c here next = subst (λ (homes : List Bool). AreTakenInTurn second homes c) here next
 turns_then (step ∷ steps) second a b c here next = (here.0, turns_then steps second (homes_after step.1 a) b c here.1 next)
+
+meters_then : (first second : List (ℕ × MailStep)) (a b c : Meters) → AreMetered first a b → AreMetered second b c
+    → AreMetered (first ++ second) a c
+meters_then [] second a b c here next = subst (λ (meters : Meters). AreMetered second meters c) here next
+meters_then (step ∷ steps) second a b c here next = (here.0, here.1, meters_then steps second here.0 b c here.2 next)
 
 -- two lists that each go on from the one before
 goes_on_by : {X : Type 0} (a b c first second : List X) → b ≡ a ++ first → c ≡ b ++ second → c ≡ a ++ (first ++ second)
@@ -167,6 +174,7 @@ course_same a = record {
   boxes = refl;
   kept = refl;
   turns = refl;
+  meters = refl;
   agreed = λ agreed. agreed;
 }
 
@@ -183,6 +191,7 @@ course_then a b c here next = record {
   kept = values_then (length a.owns) here.steps next.steps (values_in a) (values_in b) (values_in c) here.kept
       (subst (λ (n : ℕ). IsKeptBy n next.steps (values_in b) (values_in c)) here.count next.kept);
   turns = turns_then here.steps next.steps (homes_in a) (homes_in b) (homes_in c) here.turns next.turns;
+  meters = meters_then here.steps next.steps (meters_in a) (meters_in b) (meters_in c) here.meters next.meters;
   agreed = λ agreed. next.agreed (here.agreed agreed);
 }
 

@@ -14,7 +14,7 @@ use Rattle.hp_hall.specs.Course.{IsCourse}
 use Rattle.hp_hall.specs.HallView.{HallView, history_in, segs_in, slot_at}
 use Rattle.hp_hall.specs.Holding.{IsArmed}
 use Rattle.hp_hall.specs.Keeping.{values_in}
-use Rattle.hp_hall.specs.Mail.{MailStep, Posts, Fetches, Takes, Gives, steps_of}
+use Rattle.hp_hall.specs.Mail.{MailStep, Posts, Fetches, Takes, Gives, Notes, steps_of}
 
 -- who is not declared made no step
 abbrev pub UndeclaredDoNothing : Type 0
@@ -63,6 +63,7 @@ MovesSound (Posts to frame action posted) = ⊤
 MovesSound (Fetches frame) = ⊤
 MovesSound (Takes number kept) = IsSoundAndArmed kept
 MovesSound (Gives number kept) = IsSoundAndArmed kept
+MovesSound (Notes note) = ⊤
 
 -- where the opening values are sound and armed, so is each value that is taken or given, and so are those of the end
 abbrev pub ValuesStaySound : Type 0

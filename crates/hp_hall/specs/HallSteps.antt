@@ -1,15 +1,17 @@
 -- What the calls of a hall of plain values leave: the rules "Halls" and "Messages" of docs/PARTICIPANTS.md.
-use Rattle.std.specs.Prelude.{ℕ, ◌+◌, ◌-◌, ◌^◌, min, List, [], ◌∷◌, ◌++◌, Some, None, map, replicate, slice_set}
+use Rattle.std.specs.Prelude.{ℕ, ◌+◌, ◌-◌, ◌^◌, min, Bool, List, [], ◌∷◌, ◌++◌, Option, Some, None, map, replicate, slice_set}
 use Rattle.hp_base.specs.declared.plan.Action.{Action}
 use Rattle.hp_frame.specs.declared.frame.Frame.{Frame}
 use Rattle.hp_heap.specs.History.{HeapView}
 use Rattle.hp_segs.specs.SegsView.{SegsView}
 use Rattle.hp_hall.specs.declared.kept.Kept.{Kept}
 use Rattle.hp_hall.specs.declared.kept.Kept.TheVariants.{Heap, Segments}
+use Rattle.hp_hall.specs.declared.note.Note.{Note}
+use Rattle.hp_hall.specs.declared.note.Note.TheVariants.{Acked, Paused}
 use Rattle.hp_hall.specs.declared.posted.Posted.{Posted}
 use Rattle.hp_hall.specs.declared.posted.Posted.TheVariants.{Sent, Twice, Lost, Full}
 use Rattle.hp_hall.specs.HallView.{HallView, SlotView}
-use Rattle.hp_hall.specs.Mail.{MailStep, Posts, Takes, Gives, after_step}
+use Rattle.hp_hall.specs.Mail.{MailStep, Posts, Takes, Gives, Notes, after_step}
 use Rattle.hp_hall.specs.Own.{Own, after_ack}
 
 -- a value at home in its slot, and one that a participant has taken
@@ -71,3 +73,15 @@ after_give who number kept hall = with_mail who (Gives number kept) hall.fulls (
 -- after a frame was posted
 abbrev pub after_post : ℕ → ℕ → Frame → Action → Posted → HallView → HallView
 after_post who to frame action posted hall = with_mail who (Posts to frame action posted) (fulls_after posted hall.fulls) hall
+
+-- after a note was made
+abbrev pub with_note : ℕ → Note → HallView → HallView
+with_note who note hall = with_mail who (Notes note) hall.fulls hall
+
+-- after a participant has acknowledged so many records
+abbrev pub after_acking : ℕ → ℕ → HallView → HallView
+after_acking who number hall = with_note who (Acked number) (with_own who (after_ack number) hall)
+
+-- after a turn ended with the clock at a reading
+abbrev pub after_pause : ℕ → Bool → Option ℕ → ℕ → HallView → HallView
+after_pause who moved until reading hall = record (with_note who (Paused moved until) hall) { clock = reading }

@@ -34,7 +34,7 @@ pub record HallView : Type 0 where
   pub clock : ℕ
   -- how often a mailbox was full
   pub fulls : ℕ
-  -- all that was taken, given back, posted and fetched, each step with the participant that made it
+  -- all that was done: taken, given back, posted, fetched and noted, each step with the participant that made it
   pub mail : List (ℕ × MailStep)
 
 abbrev pub slot_at : HallView → ℕ → Option SlotView

@@ -12,7 +12,7 @@ use Rattle.hp_hall.specs.declared.kept.Kept.{Kept}
 use Rattle.hp_hall.specs.declared.kept.Kept.TheVariants.{Heap, Segments}
 use Rattle.hp_hall.specs.HallView.{HallView, own_at, segs_in, slot_at}
 use Rattle.hp_hall.specs.Holding.{IsArmed}
-use Rattle.hp_hall.specs.Mail.{MailStep, Posts, Fetches, Takes, Gives}
+use Rattle.hp_hall.specs.Mail.{MailStep, Posts, Fetches, Takes, Gives, Notes}
 use Rattle.hp_hall.specs.Values.{IsSoundKept}
 
 -- a heap behind a give: it opened as before, and has entries of the giver alone behind those that it had
@@ -51,6 +51,7 @@ ShowsValues who (Posts to frame action posted) values = ⊤
 ShowsValues who (Fetches frame) values = ⊤
 ShowsValues who (Takes number kept) values = slice_get values number ≡ Some kept
 ShowsValues who (Gives number kept) values = GivesInto who number kept values
+ShowsValues who (Notes note) values = ⊤
 
 -- the values behind a step: a give alone changes one
 abbrev pub values_after : MailStep → List Kept → List Kept
@@ -58,6 +59,7 @@ values_after (Posts to frame action posted) values = values
 values_after (Fetches frame) values = values
 values_after (Takes number kept) values = values
 values_after (Gives number kept) values = slice_set values number kept
+values_after (Notes note) values = values
 
 -- a step over these values is one of a declared participant
 pub record IsStepOver (count : ℕ) (step : ℕ × MailStep) (values : List Kept) : Type 0 where

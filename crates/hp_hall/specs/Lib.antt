@@ -9,6 +9,7 @@ pub mod Weights
 pub mod HallView
 pub mod Keeping
 pub mod InTurn
+pub mod Meters
 pub mod Course
 pub mod CourseLaws
 pub mod HallSteps

@@ -5,6 +5,7 @@ use Rattle.hp_base.specs.declared.plan.Action.TheVariants.{Lose, Repeat, Deliver
 use Rattle.hp_frame.specs.declared.frame.Frame.{Frame}
 use Rattle.hp_hall.specs.declared.kept.Kept.{Kept}
 use Rattle.hp_hall.specs.declared.mailbox.TheConstants.{MAILBOX_FRAMES}
+use Rattle.hp_hall.specs.declared.note.Note.{Note}
 use Rattle.hp_hall.specs.declared.posted.Posted.{Posted}
 use Rattle.hp_hall.specs.declared.posted.Posted.TheVariants.{Sent, Twice, Lost, Full}
 
@@ -31,18 +32,20 @@ abbrev pub box_of : List (List Frame) → ℕ → List Frame
 box_of boxes who = slice_index_or boxes who []
 
 -- one thing that a participant did: a frame posted to a participant, with the plan for it and what became of it; its own mailbox asked
--- for its first frame; or a value taken out of the slot with that number, or given back to it
+-- for its first frame; a value taken out of the slot with that number, or given back to it; or a note of anything else
 pub data MailStep : Type 0 where
   Posts : ℕ → Frame → Action → Posted → MailStep
   Fetches : Option Frame → MailStep
   Takes : ℕ → Kept → MailStep
   Gives : ℕ → Kept → MailStep
+  Notes : Note → MailStep
 
 abbrev pub after_step : ℕ → MailStep → List (List Frame) → List (List Frame)
 after_step who (Posts to frame action posted) boxes = slice_set boxes to (box_after frame posted (box_of boxes to))
 after_step who (Fetches frame) boxes = slice_set boxes who (drop 1 (box_of boxes who))
 after_step who (Takes slot kept) boxes = boxes
 after_step who (Gives slot kept) boxes = boxes
+after_step who (Notes note) boxes = boxes
 
 -- what is said of it is so, as far as mailboxes show it
 abbrev pub IsMailStep : ℕ → MailStep → List (List Frame) → Type 0
@@ -50,6 +53,7 @@ IsMailStep who (Posts to frame action posted) boxes = posted ≡ posted_as actio
 IsMailStep who (Fetches frame) boxes = frame ≡ slice_get (box_of boxes who) 0
 IsMailStep who (Takes slot kept) boxes = ⊤
 IsMailStep who (Gives slot kept) boxes = ⊤
+IsMailStep who (Notes note) boxes = ⊤
 
 -- the mailboxes went from one state to another by these steps, each with the participant that made it
 abbrev pub IsMail : List (ℕ × MailStep) → List (List Frame) → List (List Frame) → Type 0

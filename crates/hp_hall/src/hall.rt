@@ -3,9 +3,10 @@ ghost use Rattle.hp_base.specs.Streams.{HasRisen};
 ghost use Rattle.hp_log.specs.declared.log_record.LogRecord.{LogRecord};
 ghost use Rattle.hp_segs.specs.declared.outcome.AskLog.{AskLog};
 ghost use Rattle.hp_hall.specs.declared.kept.Kept.{Kept};
+ghost use Rattle.hp_hall.specs.declared.note.Note.{Note};
 ghost use Rattle.hp_hall.specs.Giving.{IsGiveOf};
 ghost use Rattle.hp_hall.specs.Holding.{HeapPart, IsGivenAs, IsTakenAs, StandsFor};
-ghost use Rattle.hp_hall.specs.Mail.{Fetches, Gives, MailStep, Posts, Takes, steps_of};
+ghost use Rattle.hp_hall.specs.Mail.{Fetches, Gives, MailStep, Notes, Posts, Takes, steps_of};
 ghost use Rattle.hp_hall.specs.Own.{Own, after_ack, after_partial};
 ghost use Rattle.hp_hall.specs.Slots.{IsSlot, slot_number};
 ghost use Rattle.hp_hall.specs.Values.{Fits, HasAsks, HasEntries, HasLog, IsSoundKept};
@@ -52,7 +53,7 @@ pub trait Hall {
     /// A slot was found held. Plain values are held by nobody else.
     ghost is_busy: { Self → Type 0 };
 
-    /// What a participant did between two states: what it took and gave back, posted and fetched.
+    /// What a participant did between two states: what it took and gave back, posted, fetched, and what else it noted.
     ghost did: { Self → Self → ℕ → List MailStep → Type 0 };
 
     /// How often a mailbox was full. It never falls.
@@ -175,7 +176,7 @@ pub trait Hall {
         ensures taken { (number : ℕ) → taken self.new number ≡ taken self.old number }
         ensures home { (number : ℕ) → may_take self.old number → may_take self.new number }
         ensures part { (who heap : ℕ) → part self.new who heap ≡ part self.old who heap }
-        ensures did { (who : ℕ) → did self.old self.new who [] }
+        ensures did { (who : ℕ) → did self.old self.new who (steps_of who ((me, Notes (Note.Acked number)) ∷ [])) }
         ensures weight { weight self.new ≤ weight self.old }
         ensures clock { clock self.new ≡ clock self.old }
         ensures goes_on { goes_on self.old self.new };
@@ -197,13 +198,13 @@ pub trait Hall {
     fn load_ack(&mut self, me: u8, participant: u8) -> u64
         requires serves { serves self.old me }
         requires declared { participant < count self.old }
-        ensures noted { result ≤ noted self.new me participant }
+        ensures noted { result ≡ noted self.new me participant }
         ensures mine { participant ≡ me → result ≡ (own self.old me).number }
         ensures taken { (number : ℕ) → taken self.new number ≡ taken self.old number }
         ensures home { (number : ℕ) → may_take self.old number → may_take self.new number }
         ensures part { (who heap : ℕ) → part self.new who heap ≡ part self.old who heap }
         ensures own { (who : ℕ) → own self.new who ≡ own self.old who }
-        ensures did { (who : ℕ) → did self.old self.new who [] }
+        ensures did { (who : ℕ) → did self.old self.new who (steps_of who ((me, Notes (Note.Loaded participant result)) ∷ [])) }
         ensures weight { weight self.new ≤ weight self.old }
         ensures clock { clock self.new ≡ clock self.old }
         ensures goes_on { goes_on self.old self.new };
@@ -246,7 +247,7 @@ pub trait Hall {
         ensures home { (number : ℕ) → may_take self.old number → may_take self.new number }
         ensures part { (who heap : ℕ) → part self.new who heap ≡ part self.old who heap }
         ensures own { (who : ℕ) → own self.new who ≡ own self.old who }
-        ensures did { (who : ℕ) → did self.old self.new who [] }
+        ensures did { (who : ℕ) → did self.old self.new who (steps_of who ((me, Notes (Note.Read result)) ∷ [])) }
         ensures weight { weight self.new ≤ weight self.old }
         ensures clock { clock self.new ≡ clock self.old }
         ensures goes_on { goes_on self.old self.new };

@@ -1,14 +1,15 @@
 ghost use Rattle.std.specs.Prelude.{◌≡◌, [], ◌∷◌, ◌++◌};
-ghost use Rattle.hp_hall.specs.Mail.{Fetches, Gives, Posts, Takes};
+ghost use Rattle.hp_hall.specs.Mail.{Fetches, Gives, Notes, Posts, Takes};
 
 use crate::kept::Kept;
+use crate::note::Note;
 use crate::posted::Posted;
 use hp_base::Action;
 use hp_frame::Frame;
 use std::marker::Model;
 use std::snapshot::Snapshot;
 
-// All that was taken, given back, posted and fetched, in order. Contracts see the list; of its bytes it keeps a few of the last step alone, behind
+// All that was done in a hall, in order. Contracts see the list; of its bytes it keeps a few of the last step alone, behind
 // which the earlier ones stand as a snapshot, which has none.
 #[cycle(mail_log)]
 #[derive(Drop)]
@@ -27,6 +28,8 @@ enum MailPast {
     // Who took which value out of the slot with that number, and who gave one back.
     Take(Snapshot<MailLog>, u8, usize, Snapshot<Kept>),
     Give(Snapshot<MailLog>, u8, usize, Snapshot<Kept>),
+    // Who did what else.
+    Other(Snapshot<MailLog>, u8, Note),
 }
 
 impl Model for MailLog {
@@ -102,6 +105,15 @@ impl MailLog {
     {
         MailLog {
             past: MailPast::Give(Snapshot::of(self), who, number, Snapshot::of(kept)),
+        }
+    }
+
+    // These steps, and a note.
+    pub fn with_note(&self, who: u8, note: Note) -> MailLog
+        ensures { result ≡ self.now ++ (who, Notes note) ∷ [] }
+    {
+        MailLog {
+            past: MailPast::Other(Snapshot::of(self), who, note),
         }
     }
 }

@@ -1,7 +1,6 @@
 //! A hall of plain values, in one thread.
 ghost use Rattle.std.specs.Prelude.{◌≡◌, ◌≤◌, ℕ, [], IfOk, None};
 ghost use Rattle.hp_base.specs.declared.limits.TheConstants.{MAX_PARTICIPANTS};
-ghost use Rattle.hp_hall.specs.Course.{IsCourse};
 ghost use Rattle.hp_hall.specs.Holding.{IsArmed};
 ghost use Rattle.hp_hall.specs.HallView.{IsHall, part_in};
 ghost use Rattle.hp_hall.specs.HallSteps.{opening_hall, slots_of};
@@ -10,6 +9,7 @@ ghost use Rattle.hp_hall.specs.Opening.{AreHome, AreInOrder, AreUnused, HavePage
 mod calls;
 mod messages;
 mod moving;
+mod notes;
 mod owns;
 mod slots;
 
@@ -119,15 +119,6 @@ impl PlainHall {
         ensures { result ≡ self.now.fulls }
     {
         self.fulls
-    }
-
-    /// The clock jumps to a later reading. Own.
-    pub fn jump(&mut self, reading: u64)
-        requires later { self.old.clock ≤ reading }
-        ensures clock { self.new ≡ record self.old { clock = reading } }
-        ensures course { IsCourse self.old self.new }
-    {
-        self.clock = reading;
     }
 
     /// What holds of every hall: each value is one of its slot, each participant has a mailbox and its own part, the segment value is

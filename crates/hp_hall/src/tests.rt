@@ -1,11 +1,12 @@
 //! Two participants in a hall of plain values, by hand.
 ghost use Rattle.std.specs.Prelude.{◌≡◌, ◌<◌, ℕ, [], IfOk, Some, length, slice_get};
 ghost use Rattle.hp_heap.specs.History.{HeapView};
-ghost use Rattle.hp_hall.specs.HallView.{own_at, part_in};
+ghost use Rattle.hp_hall.specs.HallView.{own_at, part_in, seen_in};
 ghost use Rattle.hp_hall.specs.Holding.{IsArmed, owned_by};
 ghost use Rattle.hp_hall.specs.Opening.{AreHome, AreInOrder, AreUnused};
 
 mod messages;
+mod notes;
 mod slots;
 mod values;
 
@@ -35,6 +36,7 @@ fn vacant_heaps(alloc: Global) -> Result<Vec<Heap>, AllocError>
 fn grown_segs(alloc: Global) -> Result<Segs, Fail>
     ensures armed { IfOk result (λ segs. IsArmed segs) }
     ensures unowned { IfOk result (λ segs. (heap : ℕ) → owned_by heap segs ≡ []) }
+    ensures one { IfOk result (λ segs. length segs.log ≡ 1) }
 {
     let pool = PoolLine {
         socket: 0,
@@ -61,20 +63,14 @@ fn grown_segs(alloc: Global) -> Result<Segs, Fail>
     Ok(segs)
 }
 
-// A reading of a participant's clock, through the trait.
-fn read(hall: &mut PlainHall, me: u8) -> u64
-    requires { me < length hall.old.owns }
-    ensures { length hall.new.owns ≡ length hall.old.owns }
-{
-    hall.now(me)
-}
-
 // A hall of two participants.
 fn hall_of_two(alloc: Global) -> Result<PlainHall, Fail>
     ensures two { IfOk result (λ hall. length hall.owns ≡ 2) }
     ensures home { IfOk result (λ hall. AreHome hall) }
     ensures unused { IfOk result (λ hall. (who number : ℕ) → (part_in hall who number).entries ≡ []) }
     ensures nothing_yet { IfOk result (λ hall. (own_at hall 1).number ≡ 0) }
+    ensures one { IfOk result (λ hall. length (seen_in hall) ≡ 1) }
+    ensures clock { IfOk result (λ hall. hall.clock ≡ 0) }
 {
     let segs = grown_segs(alloc)?;
     let heaps = vacant_heaps(alloc)?;

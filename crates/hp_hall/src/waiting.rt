@@ -1,5 +1,8 @@
-ghost use Rattle.std.specs.Prelude.{◌≡◌, ◌≢◌, ℕ, ◌+◌, ◌*◌, ◌≤◌, ◌⊎◌, [], None, IsSomeAnd};
+ghost use Rattle.std.specs.Prelude.{◌≡◌, ◌≢◌, ℕ, ◌+◌, ◌*◌, ◌≤◌, ◌⊎◌, [], ◌∷◌, None, IsSomeAnd};
+ghost use Rattle.std.specs.Result.{result_ok};
 ghost use Rattle.hp_base.specs.declared.limits.TheConstants.{MAX_HEAPS};
+ghost use Rattle.hp_hall.specs.Mail.{Notes};
+ghost use Rattle.hp_hall.specs.declared.note.Note.{Note};
 ghost use Rattle.hp_hall.specs.Weights.{IsPending, counted, moved_of, pause_weight};
 
 use crate::hall::Hall;
@@ -17,7 +20,7 @@ pub trait Waiting: Hall {
         ensures home { (number : ℕ) → Self.may_take self.old number → Self.may_take self.new number }
         ensures part { (heap : ℕ) → Self.part self.new me heap ≡ Self.part self.old me heap }
         ensures own { Self.own self.new me ≡ Self.own self.old me }
-        ensures did { Self.did self.old self.new me [] }
+        ensures did { Self.did self.old self.new me (Notes (Note.Yielded above (result_ok result)) ∷ []) }
         ensures weight { Self.weight self.new + Self.scale * moved_of result ≤ Self.weight self.old }
         ensures clock { Self.clock self.new ≡ Self.clock self.old }
         ensures goes_on { Self.goes_on self.old self.new };
@@ -35,7 +38,7 @@ pub trait Waiting: Hall {
         ensures home { (number : ℕ) → Self.may_take self.old number → Self.may_take self.new number }
         ensures part { (heap : ℕ) → Self.part self.new me heap ≡ Self.part self.old me heap }
         ensures own { Self.own self.new me ≡ Self.own self.old me }
-        ensures did { Self.did self.old self.new me [] }
+        ensures did { Self.did self.old self.new me (Notes (Note.Paused moved until) ∷ []) }
         ensures goes_on { Self.goes_on self.old self.new };
 
     /// Whether a participant has met a refusal of memory while it served.

@@ -77,8 +77,8 @@ impl Hall for PlainHall {
         self.partial_at(me);
     }
 
-    fn load_ack(&mut self, _me: u8, participant: u8) -> u64 {
-        self.number_of(participant)
+    fn load_ack(&mut self, me: u8, participant: u8) -> u64 {
+        self.load_at(me, participant)
     }
 
     fn post(&mut self, me: u8, to: u8, frame: Frame, action: Action) -> Posted {
@@ -91,8 +91,8 @@ impl Hall for PlainHall {
         self.fetch_at(me)
     }
 
-    fn now(&mut self, _me: u8) -> u64 {
-        self.clock()
+    fn now(&mut self, me: u8) -> u64 {
+        self.read_at(me)
     }
 
     ghost goes_on_same = { course_same };

@@ -1,9 +1,10 @@
 ghost use Rattle.std.specs.Prelude.{◌≡◌, ◌<◌, IfOk, length, replicate};
-ghost use Rattle.hp_hall.specs.HallSteps.{with_own};
+ghost use Rattle.hp_hall.specs.HallSteps.{after_acking, with_own};
 ghost use Rattle.hp_hall.specs.HallView.{own_at, seen_in};
 ghost use Rattle.hp_hall.specs.Own.{after_ack, after_partial};
 
 use super::PlainHall;
+use crate::note::Note;
 use crate::own_part::OwnPart;
 use hp_base::MAX_HEAPS;
 use std::alloc::{AllocError, Global};
@@ -20,12 +21,13 @@ pub fn first_parts(alloc: Global, participants: u8) -> Result<Vec<OwnPart>, Allo
 }
 
 impl PlainHall {
-    // A participant has acknowledged so many records.
+    // A participant has acknowledged so many records, and it is noted.
     pub(crate) fn ack_at(&mut self, me: u8, number: u64)
         requires { me < length self.old.owns }
-        ensures { self.new ≡ with_own me (after_ack number) self.old }
+        ensures { self.new ≡ after_acking me number self.old }
     {
         self.owns[me as usize] = OwnPart::acked(number);
+        self.mail = self.mail.with_note(me, Note::Acked { number });
     }
 
     // A participant has unmapped what the records drop.

@@ -1,5 +1,5 @@
 -- The pool is within its limits; the growth that is opened is of the armed ask, and its rows are nobody's.
-use Rattle.std.proofs.Common.{◌≡◌, ℕ, ◌<◌, List, [], ◌∷◌, ◌++◌, ◌+◌, length, Option, Some, None, filter, map, replicate, get_or, set, refl, sym, ap, subst, ◌∙◌, arith}
+use Rattle.std.proofs.Common.{◌≡◌, ℕ, ◌<◌, List, [], ◌∷◌, ◌++◌, ◌+◌, length, Option, Some, None, filter, map, replicate, get_or, set, refl, ap, subst, ◌∙◌, arith}
 use Rattle.std.specs.Prelude.{Contains}
 use Rattle.std.proofs.lemmas.List.{get_or-set_same}
 use Rattle.hp_base.specs.declared.row.Row.{Row}
@@ -12,6 +12,8 @@ use Rattle.hp_segs.specs.declared.outcome.AskLog.{AskLog}
 use Rattle.hp_segs.specs.declared.row_state.RowState.TheVariants.{Opened}
 use Rattle.hp_segs.specs.declared.row_state.Segment.{Segment}
 use Rattle.hp_log.specs.Rows.{rows_of}
+use Rattle.hp_log.specs.declared.log_record.LogRecord.{LogRecord}
+use Rattle.hp_log.specs.declared.log_record.LogRecord.TheVariants.{Add}
 use Rattle.hp_segs.proofs.OnePool.{one_pool}
 use Rattle.hp_hall.specs.Holding.{IsArmed, owned_by}
 use Rattle.hp_hall.proofs.Gives.{has_nothing}
@@ -48,3 +50,12 @@ returns-clause-unowned c = λ heap.
     unowned_opened heap _ _ c.reserve_records.new.self c.open_run.new.self c.open_run.ensures.step
     (ap (λ (s : SegsView). s.segments) c.in_ok-reserve_records.ensures.ok ∙ ap (λ (s : SegsView). s.segments) c.in_ok-arm.ensures.ok
     ∙ ap (λ (s : SegsView). s.segments) c.in_ok-segs.ensures)
+
+one_opened : (ask : Ask) (run : Run) (old new : SegsView) → new ≡ after_open ask run old → old.log ≡ [] → length new.log ≡ 1
+one_opened ask run old new is none = ap (λ (s : SegsView). length s.log) is ∙ ap (λ (l : List LogRecord). length (l ++ Add run ask.heap ∷ [])) none
+
+pub returns-clause-one : goal.returns-clause-one
+returns-clause-one c =
+    one_opened _ _ c.reserve_records.new.self c.open_run.new.self c.open_run.ensures.step
+    (ap (λ (s : SegsView). s.log) c.in_ok-reserve_records.ensures.ok ∙ ap (λ (s : SegsView). s.log) c.in_ok-arm.ensures.ok
+    ∙ ap (λ (s : SegsView). s.log) c.in_ok-segs.ensures)

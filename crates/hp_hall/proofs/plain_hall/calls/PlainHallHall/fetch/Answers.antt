@@ -12,7 +12,7 @@ returns c =
     let new = c.fetch_at.new.self in
     let first = c.fetch_at.ensures.first in
     let hall = c.fetch_at.ensures.hall in
-    let mails = makes_mail old new c.args.me (Fetches c.fetch_at.result) old.fulls hall c.requires.serves first tt refl tt refl (omega arith) in
+    let mails = makes_mail old new c.args.me (Fetches c.fetch_at.result) old.fulls hall c.requires.serves first tt refl tt refl refl (omega arith) in
     let below : c.args.me < length old.boxes = omega (arith, c.sound.ensures.boxes, c.requires.serves) in
     record {
       did = mails.makes.did;

@@ -1,5 +1,30 @@
-use Rattle.hp_hall.specs.Course.{course_same}
+use Rattle.std.proofs.Common.{ℕ, refl, sym, ap, ◌∙◌, arith}
+use Rattle.hp_hall.specs.declared.note.Note.TheVariants.{Loaded}
+use Rattle.hp_hall.specs.HallView.{HallView, own_at}
+use Rattle.hp_hall.specs.Weights.{boxes_weight}
+use Rattle.hp_hall.proofs.Owned.{number_shown}
+use Rattle.hp_hall.proofs.Stepped.{makes_note}
 use Rattle.hp_hall.proofs.plain_hall.calls.PlainHallHall.load_ack.Goals as goal
 
-pub returns-clause-goes_on : goal.returns-clause-goes_on
-returns-clause-goes_on c = course_same c.args.self.now
+pub returns : goal.returns
+returns c =
+    let old = c.args.self.now in
+    let new = c.load_at.new.self in
+    let participant = c.args.participant in
+    let number = c.load_at.ensures.number in
+    let hall = c.load_at.ensures.hall in
+    let shows = number_shown old participant c.load_at.result c.requires.declared number in
+    let makes = makes_note old new c.args.me (Loaded participant c.load_at.result) hall c.requires.serves
+    (record { shows = shows; clock = refl; numbers = refl }) in
+    record {
+      noted = number ∙ sym (ap (λ (h : HallView). (own_at h participant).number) hall);
+      mine = λ is. number ∙ ap (λ (n : ℕ). (own_at old n).number) is;
+      taken = makes.taken;
+      home = makes.home;
+      part = makes.part;
+      own = makes.makes.own;
+      did = makes.makes.did;
+      weight = omega (arith, ap (λ (h : HallView). boxes_weight h.boxes) hall);
+      clock = makes.makes.clock;
+      goes_on = makes.makes.course;
+    }

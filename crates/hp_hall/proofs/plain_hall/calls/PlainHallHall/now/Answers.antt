@@ -1,15 +1,31 @@
-use Rattle.hp_hall.specs.Course.{course_same}
+use Rattle.std.proofs.Common.{ℕ, ◌<◌, ◌≤◌, refl, ap, subst, ◌∙◌, arith}
+use Rattle.hp_hall.specs.declared.note.Note.TheVariants.{Read}
+use Rattle.hp_hall.specs.HallView.{HallView}
+use Rattle.hp_hall.specs.Weights.{boxes_weight, pending_at}
 use Rattle.hp_hall.proofs.Pending.{pending_later, pending_past}
-use Rattle.std.proofs.Common.{ℕ, ◌<◌, ◌≤◌, subst}
+use Rattle.hp_hall.proofs.Stepped.{makes_note}
 use Rattle.hp_hall.proofs.plain_hall.calls.PlainHallHall.now.Goals as goal
 
-pub returns-clause-before : goal.returns-clause-before
-returns-clause-before c = λ deadline later.
-    pending_later c.args.self.now.clock deadline (subst (λ (n : ℕ). n < deadline) c.clock.ensures later)
-
-pub returns-clause-reached : goal.returns-clause-reached
-returns-clause-reached c = λ deadline past.
-    pending_past c.args.self.now.clock deadline (subst (λ (n : ℕ). deadline ≤ n) c.clock.ensures past)
-
-pub returns-clause-goes_on : goal.returns-clause-goes_on
-returns-clause-goes_on c = course_same c.args.self.now
+pub returns : goal.returns
+returns c =
+    let old = c.args.self.now in
+    let new = c.read_at.new.self in
+    let reading = c.read_at.ensures.now in
+    let hall = c.read_at.ensures.hall in
+    let makes = makes_note old new c.args.me (Read c.read_at.result) hall c.requires.serves
+    (record { shows = reading; clock = refl; numbers = refl }) in
+    let clock = makes.makes.clock in
+    record {
+      before = λ deadline later.
+          ap (λ (n : ℕ). pending_at n deadline) clock ∙ pending_later old.clock deadline (subst (λ (n : ℕ). n < deadline) reading later);
+      reached = λ deadline past.
+          ap (λ (n : ℕ). pending_at n deadline) clock ∙ pending_past old.clock deadline (subst (λ (n : ℕ). deadline ≤ n) reading past);
+      taken = makes.taken;
+      home = makes.home;
+      part = makes.part;
+      own = makes.makes.own;
+      did = makes.makes.did;
+      weight = omega (arith, ap (λ (h : HallView). boxes_weight h.boxes) hall);
+      clock = clock;
+      goes_on = makes.makes.course;
+    }

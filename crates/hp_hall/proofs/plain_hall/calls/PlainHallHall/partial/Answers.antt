@@ -1,4 +1,4 @@
-use Rattle.std.proofs.Common.{length, ap, subst, sym, ◌∙◌, arith}
+use Rattle.std.proofs.Common.{length, refl, ap, subst, sym, ◌∙◌}
 use Rattle.hp_hall.specs.Course.{IsCourse}
 use Rattle.hp_hall.specs.HallView.{HallView, own_at, seen_in}
 use Rattle.hp_hall.specs.Own.{Own, after_partial}
@@ -21,4 +21,4 @@ pub returns-clause-goes_on : goal.returns-clause-goes_on
 returns-clause-goes_on c =
     let old = c.args.self.now in
     let own : Own = after_partial (length (seen_in old)) (own_at old c.args.me) in
-    subst (IsCourse old) (sym c.partial_at.ensures) (course_own old c.args.me own c.requires.serves (omega arith))
+    subst (IsCourse old) (sym c.partial_at.ensures) (course_own old c.args.me own c.requires.serves refl)

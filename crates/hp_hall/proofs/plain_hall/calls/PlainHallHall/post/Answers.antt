@@ -21,7 +21,7 @@ returns c =
     let hall = c.post_at.ensures.hall in
     let fulls = ap (λ (h : HallView). h.fulls) hall in
     let rises = subst (λ (n : ℕ). old.fulls ≤ n) fulls c.post_at.ensures.rises in
-    let mails = makes_mail old new c.args.me (Posts c.args.to frame action posted) (fulls_after posted old.fulls) hall c.requires.serves c.post_at.ensures.posted tt refl tt refl rises in
+    let mails = makes_mail old new c.args.me (Posts c.args.to frame action posted) (fulls_after posted old.fulls) hall c.requires.serves c.post_at.ensures.posted tt refl tt refl refl rises in
     let below : c.args.to < length old.boxes = omega (arith, c.sound.ensures.boxes, c.requires.declared) in
     record {
       did = mails.makes.did;

@@ -1,0 +1,14 @@
+/// What a participant did in a hall that changes no slot and no mailbox, as it is noted. Readings and deadlines are in milliseconds. Own.
+#[derive(Clone, Copy, Debug, PartialEq, Eq)]
+pub enum Note {
+    /// It read its clock.
+    Read { now: u64 },
+    /// It looked up how many records a participant has acknowledged.
+    Loaded { participant: u8, number: u64 },
+    /// It acknowledged so many records.
+    Acked { number: u64 },
+    /// It let those above it serve, or those below, and something moved, or nothing; `None` where one of them stopped.
+    Yielded { above: bool, moved: Option<bool> },
+    /// It ended a turn in which something moved, or nothing, to wait until a deadline, or for none.
+    Paused { moved: bool, until: Option<u64> },
+}
