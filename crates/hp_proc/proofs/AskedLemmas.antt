@@ -6,11 +6,11 @@ use Rattle.hp_frame.specs.declared.frame.Frame.{Frame}
 use Rattle.hp_frame.specs.declared.message.Body.{Body}
 use Rattle.hp_hall.specs.Mail.{MailStep}
 use Rattle.hp_segs.specs.SegsView.{SegsView}
-use Rattle.hp_proc.specs.Coordinating.{IsAnswered, IsCarried, IsCoreServed, IsHandled, IsMapped, IsObeyed, IsRested, IsServed, IsSettled}
+use Rattle.hp_proc.specs.Coordinating.{IsAnswered, IsCarried, IsCoreServed, IsHandled, IsMapped, IsObeyed, IsPolled, IsRested, IsServed, IsSettled}
 use Rattle.hp_proc.specs.Party.{Party}
 use Rattle.hp_proc.specs.Posting.{IsPosted}
 use Rattle.hp_proc.specs.Serving.{IsFollowed, IsHeeded, IsMemberServed, IsTold, hearing, is_answer_to}
-use Rattle.hp_proc.specs.Waiting.{AreServings, AreTurns, IsServedOut, IsTurned, IsWaited, LeavesAsked}
+use Rattle.hp_proc.specs.Waiting.{AreServings, AreTurns, HaveServed, IsServedOut, IsTurned, IsWaited, LeavesAsked}
 
 pub asked_same : (party : Party) → LeavesAsked party party
 asked_same party = record { asked = refl; answered = λ is. is }
@@ -44,7 +44,7 @@ asked_posted count party after answer steps (IsPosted.answers to number what goo
 asked_posted count party after answer steps (IsPosted.nobody to number what good is asker did after_is) = asked_here party after after_is
 
 asked_mapped : (party after : Party) (steps : List MailStep) (answer : Option Out) → IsMapped party after steps answer → LeavesAsked party after
-asked_mapped party after steps answer (IsMapped.maps core next taken caught table now more core_is did caught_up is after_is) =
+asked_mapped party after steps answer (IsMapped.maps core next taken caught table own now more core_is did caught_up is after_is) =
     asked_to party _ after after_is (record { asked = refl; answered = λ is. is })
 asked_mapped party after steps answer (IsMapped.worn taken is_worn did after_is none) = asked_here party after after_is
 
@@ -66,10 +66,14 @@ asked_handled count event party after steps goes (IsHandled.carries core next an
 asked_handled count event party after steps goes (IsHandled.stops core next core_is hands after_is none) =
     asked_to party _ after after_is (record { asked = refl; answered = λ is. is })
 
+asked_polled : (count now : ℕ) (party after : Party) (steps : List MailStep) (goes : Bool) → IsPolled count now party after steps goes
+    → LeavesAsked party after
+asked_polled count now party after steps goes polled = asked_handled count _ party after polled.more goes polled.handled
+
 asked_answered : (count : ℕ) (party after : Party) (body : Body) (steps : List MailStep) (goes : Bool)
     → IsAnswered count party after body steps goes → LeavesAsked party after
-asked_answered count party after body steps goes (IsAnswered.polls due now acks reply due_is handled) =
-    asked_handled count _ party after steps goes handled
+asked_answered count party after body steps goes (IsAnswered.polls due now more reply due_is did polled) =
+    asked_polled count now party after more goes polled
 asked_answered count party after body steps goes (IsAnswered.rests reply none did after_is goes_is) = asked_here party after after_is
 asked_answered count party after body steps goes (IsAnswered.hears reply did after_is goes_is) =
     asked_to party (hearing body party) after after_is (asked_hearing body party)
@@ -82,8 +86,8 @@ asked_obeyed count party after frame steps goes (IsObeyed.others body says none 
 
 asked_rested : (count : ℕ) (party after : Party) (steps : List MailStep) (answer : Option Bool) → IsRested count party after steps answer
     → LeavesAsked party after
-asked_rested count party after steps answer (IsRested.rests holds did after_is is) = asked_here party after after_is
-asked_rested count party after steps answer (IsRested.polls now acks goes due handled is) = asked_handled count _ party after steps goes handled
+asked_rested count party after steps answer (IsRested.rests now holds early did after_is is) = asked_here party after after_is
+asked_rested count party after steps answer (IsRested.polls now more goes due did polled is) = asked_polled count now party after more goes polled
 
 asked_core : (count : ℕ) (party after : Party) (steps : List MailStep) (answer : Option Bool) → IsCoreServed count party after steps answer
     → LeavesAsked party after
@@ -138,25 +142,36 @@ asked_served_out count party after steps answer (IsServedOut.stops times mid fir
     asked_then party mid after (asked_servings count times party mid first are) (asked_served count mid after last None served)
 asked_served_out count party after steps answer (IsServedOut.enough are is) = asked_servings count _ party after steps are
 
--- a turn
-pub asked_turned : (count : ℕ) (party after : Party) (steps : List MailStep) (answer : Option Bool) → IsTurned count party after steps answer
+-- all served in a turn
+pub asked_have_served : (count : ℕ) (party after : Party) (steps : List MailStep) (answer : Option Bool) → HaveServed count party after steps answer
     → LeavesAsked party after
-asked_turned count party after steps answer (IsTurned.below_stops did after_is is) = asked_here party after after_is
-asked_turned count party after steps answer (IsTurned.stops served is) = asked_served_out count party after steps None served
-asked_turned count party after steps answer (IsTurned.above_stops own served is) = asked_served_out count party after steps (Some own) served
-asked_turned count party after steps answer (IsTurned.ends own others served is) = asked_served_out count party after steps (Some own) served
+asked_have_served count party after steps answer (HaveServed.below_stops did after_is is) = asked_here party after after_is
+asked_have_served count party after steps answer (HaveServed.stops below own served did is) = asked_served_out count party after own None served
+asked_have_served count party after steps answer (HaveServed.above_stops below mine own served did is) =
+    asked_served_out count party after own (Some mine) served
+asked_have_served count party after steps answer (HaveServed.ends below mine above own served did is) =
+    asked_served_out count party after own (Some mine) served
+
+-- a turn
+pub asked_turned : (count until : ℕ) (party after : Party) (steps : List MailStep) (answer : Option Bool)
+    → IsTurned count until party after steps answer → LeavesAsked party after
+asked_turned count until party after steps answer (IsTurned.stops served is) = asked_have_served count party after steps None served
+asked_turned count until party after steps answer (IsTurned.ends moved served paused have pauses did is) =
+    asked_have_served count party after served (Some moved) have
 
 -- so many turns
-pub asked_turns : (count : ℕ) (heeds : Bool) (turns : ℕ) (party after : Party) (steps : List MailStep)
-    → AreTurns count heeds turns party after steps → LeavesAsked party after
+pub asked_turns : (count until : ℕ) (heeds : Bool) (turns : ℕ) (party after : Party) (steps : List MailStep)
+    → AreTurns count until heeds turns party after steps → LeavesAsked party after
 unfolding AreTurns
-asked_turns count heeds zero party after steps are = asked_here party after are.0
-asked_turns count heeds (suc n) party after steps are =
-    asked_then party are.0 after (asked_turns count heeds n party are.0 are.1 are.4) (asked_turned count are.0 after are.2 (Some are.3) are.6)
+asked_turns count until heeds zero party after steps are = asked_here party after are.0
+asked_turns count until heeds (suc n) party after steps are =
+    asked_then party are.0 after (asked_turns count until heeds n party are.0 are.1 are.5)
+    (asked_turned count until are.0 after are.2 (Some are.4) are.7)
 
 -- a wait
-pub asked_waited : (count : ℕ) (heeds : Bool) (party after : Party) (steps : List MailStep) (ends : Bool)
-    → IsWaited count heeds party after steps ends → LeavesAsked party after
-asked_waited count heeds party after steps ends (IsWaited.ends turns are is) = asked_turns count heeds turns party after steps are
-asked_waited count heeds party after steps ends (IsWaited.stops turns mid first last are over one did is) =
-    asked_then party mid after (asked_turns count heeds turns party mid first are) (asked_turned count mid after last None one)
+pub asked_waited : (count until : ℕ) (heeds : Bool) (party after : Party) (steps : List MailStep) (ended : Option ℕ)
+    → IsWaited count until heeds party after steps ended → LeavesAsked party after
+asked_waited count until heeds party after steps ended (IsWaited.ends turns now first are over did is) =
+    asked_turns count until heeds turns party after first are
+asked_waited count until heeds party after steps ended (IsWaited.stops turns now mid first last are on one did is) =
+    asked_then party mid after (asked_turns count until heeds turns party mid first are) (asked_turned count until mid after last None one)

@@ -1,5 +1,5 @@
 -- A participant that attaches or detaches: the table that it is left with, and the segment value that it gives back.
-use Rattle.std.proofs.Common.{◌≡◌, ◌∙◌, ℕ, ◌≤◌, Bool, true, false, List, [], Option, length, refl, ap, sym, arith}
+use Rattle.std.proofs.Common.{◌≡◌, ◌∙◌, ℕ, ◌≤◌, Bool, true, false, List, [], ◌∷◌, Option, length, refl, ap, sym, arith}
 use Rattle.std.specs.Prelude.{slice_set}
 use Rattle.std.proofs.lemmas.List.{set-get_or}
 use Rattle.hp_base.specs.Mapping.{Held, is_done, owned}
@@ -8,12 +8,15 @@ use Rattle.hp_base.specs.declared.caught.Caught.TheVariants.{Done, Refused, Else
 use Rattle.hp_base.specs.declared.limits.TheConstants.{MAX_SEGMENTS}
 use Rattle.hp_base.specs.declared.map_answer.MapAnswer.{MapAnswer}
 use Rattle.hp_base.specs.declared.row.Row.{Row}
+use Rattle.hp_hall.specs.Mail.{Notes}
 use Rattle.hp_hall.specs.Own.{Own}
+use Rattle.hp_hall.specs.declared.note.Note.TheVariants.{Acked}
 use Rattle.hp_log.specs.declared.log_record.LogRecord.{LogRecord}
 use Rattle.hp_maps.specs.MapsView.{IsMapped, MapsView}
 use Rattle.hp_segs.specs.LaterSteps.{after_join, after_leave}
 use Rattle.hp_segs.specs.SegsView.{SegsView, is_member}
 use Rattle.hp_proc.specs.Attaching.{emptied, table_left}
+use Rattle.hp_proc.specs.Serving.{acks_behind}
 use Rattle.hp_proc.specs.Tied.{IsTied}
 
 -- a table of which all is unmapped is emptied
@@ -60,6 +63,13 @@ pub left_whole : (caught : Caught) (maps : MapsView) → is_done caught ≡ true
 left_whole Done maps done = refl
 left_whole (Refused row call) maps done = cc
 left_whole (Elsewhere row call got) maps done = cc
+
+-- where all was mapped, all records are acknowledged
+pub acks_whole : (caught : Caught) (records number : ℕ) → is_done caught ≡ true → records ≡ number
+    → Notes (Acked records) ∷ [] ≡ acks_behind caught number
+acks_whole Done records number done same = ap (λ (number : ℕ). Notes (Acked number) ∷ []) same
+acks_whole (Refused row call) records number done same = cc
+acks_whole (Elsewhere row call got) records number done same = cc
 
 -- who is in the roster comes in once more, and who is out leaves it once more
 pub joined_same : (who : ℕ) (segs : SegsView) → is_member segs.roster who ≡ true → segs ≡ after_join who segs

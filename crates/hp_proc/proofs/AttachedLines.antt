@@ -1,5 +1,6 @@
 -- What was done of a line that attaches or detaches, and what it leaves.
 use Rattle.std.proofs.Common.{◌≡◌, ◌≢◌, ◌∙◌, ℕ, ◌<◌, Bool, true, false, List, [], ◌∷◌, ◌++◌, append-nil, length, None, refl, ap, sym, subst, arith}
+use Rattle.hp_base.specs.Mapping.{is_done}
 use Rattle.hp_base.specs.declared.caught.Caught.{Caught}
 use Rattle.hp_base.specs.declared.caught.Caught.TheVariants.{Done, Refused, Elsewhere}
 use Rattle.hp_hall.specs.Holding.{HeapPart}
@@ -22,11 +23,9 @@ use Rattle.hp_proc.specs.Doing.Done.{CaughtUp, Looked}
 use Rattle.hp_proc.specs.Lines.{Facts, attached_with, attaching, doing_of, if_attached}
 use Rattle.hp_proc.specs.Party.{IsSameParty, Party, with_standing}
 use Rattle.hp_proc.specs.Progress.{Does, DoesLine, IsLineBuilt, IsLineOfOne, MayDo, Moment, moment_of}
-use Rattle.hp_proc.specs.Serving.{gives_segments, takes_segments}
+use Rattle.hp_proc.specs.Serving.{acks_behind, gives_segments, takes_segments}
 use Rattle.hp_proc.specs.declared.own_element.OwnElement.{OwnElement}
-use Rattle.hp_proc.proofs.AllocFacts.{does_noted}
-use Rattle.hp_proc.proofs.HandTried.{none_done}
-use Rattle.hp_proc.proofs.Joining.{context_still, does_same, does_still, does_then}
+use Rattle.hp_proc.proofs.Joining.{does_same}
 use Rattle.hp_proc.proofs.LineFacts.{facts_for, facts_known}
 
 -- a line that is built is one of a participant that is alone, or one that attaches or detaches
@@ -137,6 +136,16 @@ answered_alike party mid log Done at = ap (λ (records : ℕ). attached_with rec
 answered_alike party mid log (Refused row call) at = refl
 answered_alike party mid log (Elsewhere row call got) at = refl
 
+-- where it answers that it was refused, not all was mapped
+pub refused_failed : (records : ℕ) (caught : Caught) (given : Answer) (call : ℕ) → attached_with records caught ≡ Doing.Ended given
+    → given ≡ answer.Refused call → is_done caught ≡ false
+refused_failed records Done given call is refused = absurd (differs is refused)
+  where
+    differs : attached_with records Done ≡ Doing.Ended given → given ≡ answer.Refused call → ⊥
+    differs is refused = cc
+refused_failed records (Refused row at) given call is refused = refl
+refused_failed records (Elsewhere row at got) given call is refused = refl
+
 tried_alike : (party mid : Party) (log : List LogRecord) (caught : Caught) (standing : Standing) → Attaches party mid log caught
     → standing_tried mid.maps.number caught standing ≡ standing_tried (length log) caught standing
 tried_alike party mid log Done standing at = ap (λ (records : ℕ). standing_tried records Done standing) (number_whole party mid log at)
@@ -205,7 +214,8 @@ module _ (count : ℕ) (did : List MailStep → Type 0) (line : Line) (party : P
     -- it looked at the log and caught up with it, or tried to, and noted what that left
     does_attach : (taken : SegsView) (caught : Caught) → Attaches party mid taken.log caught
         → after ≡ with_standing (standing_tried (length taken.log) caught mid.context.standing) mid
-        → did (takes_segments taken ∷ gives_segments (after_attaching party.me caught taken) ∷ [])
+        → did
+        (takes_segments taken ∷ (acks_behind caught (length taken.log) ++ (gives_segments (after_attaching party.me caught taken) ∷ [])))
         → Does count did (attaching false) (attached_with (length taken.log) caught) before behind
     unfolding Leads Goes AreAsked
     does_attach taken caught attaches noted made =
@@ -216,7 +226,7 @@ module _ (count : ℕ) (did : List MailStep → Type 0) (line : Line) (party : P
         (sym noted)
         (record {
           trace = Looked (length taken.log) ∷ CaughtUp (length taken.log) caught ∷ [];
-          steps = takes_segments taken ∷ gives_segments (after_attaching party.me caught taken) ∷ [];
+          steps = takes_segments taken ∷ (acks_behind caught (length taken.log) ++ (gives_segments (after_attaching party.me caught taken) ∷ []));
           leads = (length taken.log, refl, (caught, refl, refl));
           made = made;
           acts = Acts.attaches party mid taken caught attaches;
@@ -257,8 +267,9 @@ module _ (count : ℕ) (did : List MailStep → Type 0) (line : Line) (party : P
     -- its line was done, once it noted what that left
     pub line_tried : line.act ≡ act.Attach → party.context.standing.attached ≡ false → (taken : SegsView) (caught : Caught)
         → Attaches party mid taken.log caught
-        → did (takes_segments taken ∷ gives_segments (after_attaching party.me caught taken) ∷ []) → (given : Answer)
-        → attached_with mid.maps.number caught ≡ Doing.Ended given
+        → did
+        (takes_segments taken ∷ (acks_behind caught (length taken.log) ++ (gives_segments (after_attaching party.me caught taken) ∷ [])))
+        → (given : Answer) → attached_with mid.maps.number caught ≡ Doing.Ended given
         → after ≡ with_standing (standing_tried mid.maps.number caught mid.context.standing) mid
         → DoesLine count did line given before behind
     unfolding doing_of

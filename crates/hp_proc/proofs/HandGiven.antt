@@ -243,11 +243,11 @@ ready_still before party old new log later asks now more same parts grown ready 
 }
 
 -- it waited one turn more
-pub waits_more : (count counted : ℕ) (party mid after : Party) (moved : Bool) (first last : List MailStep) → counted ≡ count
-    → Acts count party mid [] first → IsTurned counted mid after last (Some moved) → Acts count party after [] (first ++ last)
-waits_more count counted party mid after moved first last same waited turned =
+pub waits_more : (count counted until : ℕ) (party mid after : Party) (moved : Bool) (first last : List MailStep) → counted ≡ count
+    → Acts count party mid [] first → IsTurned counted until mid after last (Some moved) → Acts count party after [] (first ++ last)
+waits_more count counted until party mid after moved first last same waited turned =
     Acts.and_then party mid after [] [] first last waited
-    (Acts.waits_turn mid after moved last (subst (λ (count : ℕ). IsTurned count mid after last (Some moved)) same turned))
+    (Acts.waits_turn until mid after moved last (subst (λ (count : ℕ). IsTurned count until mid after last (Some moved)) same turned))
 
 -- a slot that was found held is as it was, beside all others
 pub still_free : (old new : ℕ → Option Kept) (index : ℕ) → ((number : ℕ) → old number ≡ None)

@@ -13,8 +13,9 @@ use Rattle.hp_core.specs.Following.{failure_of}
 use Rattle.hp_core.specs.declared.event.CoreEvent.{CoreEvent}
 use Rattle.hp_core.specs.declared.event.CoreEvent.TheVariants.{Grow, Shrink, SelfMapped, Poll}
 use Rattle.hp_core.specs.declared.out.Out.{Out}
-use Rattle.hp_hall.specs.Mail.{MailStep}
+use Rattle.hp_hall.specs.Mail.{MailStep, Notes}
 use Rattle.hp_hall.specs.Own.{Own}
+use Rattle.hp_hall.specs.declared.note.Note.TheVariants.{Loaded, Read}
 use Rattle.hp_log.specs.declared.log_record.LogRecord.{LogRecord}
 use Rattle.hp_maps.specs.Catching.{IsElsewhere}
 use Rattle.hp_maps.specs.MapsView.{MapsView}
@@ -24,7 +25,7 @@ use Rattle.hp_proc.specs.Coordinating.{IsHanded, IsMapped, IsOutside, IsTrueOf, 
 use Rattle.hp_proc.specs.Falling.{CoreFalls, maps_weight}
 use Rattle.hp_proc.specs.Party.{IsSameParty, Party, with_table}
 use Rattle.hp_proc.specs.Posting.{IsSpoken}
-use Rattle.hp_proc.specs.Serving.{CatchesUp, IsWorn, gives_segments, takes_segments}
+use Rattle.hp_proc.specs.Serving.{CatchesUp, IsWorn, acks_behind, gives_segments, takes_segments}
 use Rattle.hp_proc.specs.Tied.{IsTied}
 use Rattle.hp_proc.proofs.Scaled.{handed_falls}
 use Rattle.hp_proc.proofs.Spoken.{step_spoken}
@@ -90,12 +91,13 @@ mapped_number log own joined old new (Elsewhere row call got) caught_up tied non
     absurd (some_is (is_failure row got) _ (elsewhere_fails row got caught_up.answered.1) none)
 
 -- participant 0 has caught up, and its coordinator was told
-pub mapped_by : (party : Party) (core next : Core) (before table : MapsView) (joined joined_then : Bool) (taken : SegsView) (caught : Caught) (now : ℕ)
-    (more : List MailStep) (answer : Option Out) → joined_then ≡ (joined || is_done caught) → CatchesUp taken.log before table caught
+pub mapped_by : (party : Party) (core next : Core) (before table : MapsView) (joined joined_then : Bool) (taken : SegsView) (caught : Caught)
+    (own now : ℕ) (more : List MailStep) (answer : Option Out) → joined_then ≡ (joined || is_done caught) → CatchesUp taken.log before table caught
     → IsHanded (SelfMapped caught now) core next taken more answer
-    → IsMapped (with_table core before joined party) (with_table next table joined_then party) (takes_segments taken ∷ more) answer
-mapped_by party core next before table joined joined_then taken caught now more answer has caught_up is =
-    maps core next taken caught table now more refl refl caught_up is (ap (λ b. with_table next table b party) has)
+    → IsMapped (with_table core before joined party) (with_table next table joined_then party)
+    (takes_segments taken ∷ (acks_behind caught (length taken.log) ++ (Notes (Loaded 0 own) ∷ Notes (Read now) ∷ more))) answer
+mapped_by party core next before table joined joined_then taken caught own now more answer has caught_up is =
+    maps core next taken caught table own now more refl refl caught_up is (ap (λ b. with_table next table b party) has)
 
 -- its mapper has made too many calls
 pub worn_by : (party : Party) (core : Core) (table : MapsView) (joined : Bool) (taken : SegsView) → IsWorn table
@@ -108,7 +110,7 @@ some_none x same = cc
 -- what it makes of the coordinator falls
 pub mapped_falls : (party after : Party) (steps : List MailStep) (answer : Out) → IsMapped party after steps (Some answer)
     → CoreFalls 0 (maps_weight answer) party.core after.core answer
-mapped_falls party after steps answer (maps core next taken caught table now more core_is did caught_up is after_is) = record {
+mapped_falls party after steps answer (maps core next taken caught table own now more core_is did caught_up is after_is) = record {
   before = core;
   behind = next;
   old_is = core_is;
@@ -118,13 +120,13 @@ mapped_falls party after steps answer (maps core next taken caught table now mor
 mapped_falls party after steps answer (worn taken is_worn did after_is none) = absurd (some_none answer none)
 
 pub mapped_spoken : (party after : Party) (steps : List MailStep) (answer : Out) → IsMapped party after steps (Some answer) → IsSpoken answer
-mapped_spoken party after steps answer (maps core next taken caught table now more core_is did caught_up is after_is) =
+mapped_spoken party after steps answer (maps core next taken caught table own now more core_is did caught_up is after_is) =
     handed_spoken (SelfMapped caught now) core next taken more answer is
 mapped_spoken party after steps answer (worn taken is_worn did after_is none) = absurd (some_none answer none)
 
 -- what serving leaves as it was stays where participant 0 has caught up
 pub mapped_same : (party after : Party) (steps : List MailStep) (answer : Option Out) → IsMapped party after steps answer → IsSameParty party after
-mapped_same party after steps answer (maps core next taken caught table now more core_is did caught_up is after_is) =
+mapped_same party after steps answer (maps core next taken caught table own now more core_is did caught_up is after_is) =
     subst (IsSameParty party) (sym after_is) (record { me = refl; socket = refl; plan = refl; deadline = refl; context = refl })
 mapped_same party after steps answer (worn taken is_worn did after_is none) =
     subst (IsSameParty party) (sym after_is) (record { me = refl; socket = refl; plan = refl; deadline = refl; context = refl })

@@ -1,5 +1,5 @@
 -- A member's serving, put together of what its parts say.
-use Rattle.std.proofs.Common.{◌≡◌, ◌≢◌, ℕ, ◌+◌, ◌*◌, ◌≤◌, ◌||◌, ◌==◌, Bool, true, false, [], ◌∷◌, inl, inr, refl, sym, ap, ◌∙◌, subst, arith, eq-eqb, if◌then◌else◌}
+use Rattle.std.proofs.Common.{◌≡◌, ◌≢◌, ℕ, ◌+◌, ◌*◌, ◌≤◌, ◌||◌, ◌==◌, ◌++◌, Bool, true, false, [], ◌∷◌, length, inl, inr, refl, sym, ap, ◌∙◌, subst, arith, eq-eqb, if◌then◌else◌}
 use Rattle.std.proofs.lemmas.Bool.{cases_Bool, eqb-true}
 use Rattle.std.proofs.Math.Nat.{mul-add, mul-le-mul_left}
 use Rattle.hp_base.specs.Mapping.{is_done}
@@ -18,7 +18,7 @@ use Rattle.hp_segs.specs.SegsView.{SegsView, is_member}
 use Rattle.hp_proc.proofs.Weighs.{answer_weighs, some_weight, sync_weighs}
 use Rattle.hp_proc.specs.Frames.{Says}
 use Rattle.hp_proc.specs.Party.{Party, after_reply, one_more}
-use Rattle.hp_proc.specs.Serving.{CatchesUp, IsFollowed, Obeys, after_catching_up, gives_segments, is_reply, is_sync}
+use Rattle.hp_proc.specs.Serving.{CatchesUp, IsFollowed, Obeys, acks_behind, after_catching_up, gives_segments, is_reply, is_sync}
 use Rattle.hp_proc.specs.Serving.{obeys}
 
 -- what holds at one number and at each other one holds at all
@@ -32,13 +32,13 @@ at_each P k here others n =
           cc)
     ]
 
--- a member that has caught up, noted a failure, given the value back and posted its reply has obeyed
+-- a member that has caught up, acknowledged that or noted a failure, given the value back and posted its reply has obeyed
 pub obeyed : (party after : Party) (taken : SegsView) (ended : Caught) (frame : Frame) (posted : Posted)
     → Says frame (reply_of party.me ended taken) → CatchesUp taken.log party.maps after.maps ended
     → after ≡ after_reply (after_catching_up ended after.maps party)
     → Obeys party after taken
-    (gives_segments (after_catching party.me ended taken)
-    ∷ Posts 0 frame (action_of party.plan message.Reply party.me (one_more party.sent.replies)) posted ∷ [])
+    (acks_behind ended (length taken.log) ++ (gives_segments (after_catching party.me ended taken)
+    ∷ Posts 0 frame (action_of party.plan message.Reply party.me (one_more party.sent.replies)) posted ∷ []))
 obeyed party after taken ended frame posted says caught_up after_is = record {
   caught = ended;
   caught_up = caught_up;
@@ -53,15 +53,15 @@ pub has_followed : (party inside : Party) (taken : SegsView) (ended : Caught) (m
     (posted : Posted) → inside ≡ party → is_member taken.roster inside.me ≡ true → Says frame (reply_of inside.me ended taken)
     → CatchesUp taken.log inside.maps maps ended → joined ≡ (inside.joined || is_done ended) → replies ≡ one_more inside.sent.replies
     → IsFollowed party (record inside { joined = joined; maps = maps; sent = record inside.sent { replies = replies } }) taken
-    (gives_segments (after_catching inside.me ended taken)
-    ∷ Posts 0 frame (action_of inside.plan message.Reply inside.me (one_more inside.sent.replies)) posted ∷ [])
+    (acks_behind ended (length taken.log) ++ (gives_segments (after_catching inside.me ended taken)
+    ∷ Posts 0 frame (action_of inside.plan message.Reply inside.me (one_more inside.sent.replies)) posted ∷ []))
     true
 has_followed party inside taken ended maps joined replies frame posted same member says caught_up joined_is replies_is =
     let left : Bool → ℕ → Party = λ j r. record inside { joined = j; maps = maps; sent = record inside.sent { replies = r } } in
     let after_is = ap (λ j. left j replies) joined_is ∙ ap (λ r. left (inside.joined || is_done ended) r) replies_is in
     let steps =
-    gives_segments (after_catching inside.me ended taken)
-    ∷ Posts 0 frame (action_of inside.plan message.Reply inside.me (one_more inside.sent.replies)) posted ∷ [] in
+    acks_behind ended (length taken.log) ++ (gives_segments (after_catching inside.me ended taken)
+    ∷ Posts 0 frame (action_of inside.plan message.Reply inside.me (one_more inside.sent.replies)) posted ∷ []) in
     subst (λ party. IsFollowed party (left joined replies) taken steps true) same
     (obeys member (obeyed inside (left joined replies) taken ended frame posted says caught_up after_is) refl)
 

@@ -168,7 +168,7 @@ handed_still event core after taken steps (no_room did after_is answer_is) = aft
 
 -- so it is where participant 0 could not catch up
 pub mapped_still : (party after : Party) (steps : List MailStep) → IsMapped party after steps None → after.core ≡ party.core
-mapped_still party after steps (maps core next taken caught table now more core_is did caught_up is after_is) =
+mapped_still party after steps (maps core next taken caught table own now more core_is did caught_up is after_is) =
     ap (λ (party : Party). party.core) after_is ∙ ap (λ (core : Core). Some core) (handed_still (SelfMapped caught now) core next taken more is)
     ∙ sym core_is
 mapped_still party after steps (worn taken is_worn did after_is none) = ap (λ (party : Party). party.core) after_is

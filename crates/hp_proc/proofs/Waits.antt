@@ -1,15 +1,23 @@
 -- What a turn of a wait makes fall, and how servings and turns join: the rule "Turns of a wait" of docs/PARTICIPANTS.md.
-use Rattle.std.proofs.Common.{◌≡◌, ◌∙◌, ℕ, suc, ◌+◌, ◌*◌, ◌<◌, ◌≤◌, ◌⊎◌, ◌||◌, ◌&&◌, inl, inr, ⊎_elim, Bool, true, false, List, [], ◌++◌, Option, Some, None, refl, ap, sym, subst, arith}
+use Rattle.std.proofs.Common.{◌≡◌, ◌∙◌, ℕ, suc, ◌+◌, ◌*◌, ◌<◌, ◌≤◌, ◌⊎◌, ◌||◌, ◌&&◌, inl, inr, ⊎_elim, Bool, true, false, List, [], ◌∷◌, ◌++◌, Option, Some, None, refl, ap, sym, subst, arith}
 use Rattle.std.specs.Prelude.{Result, Ok, Err, IfOk, OnErr, OnOk, nat_lt}
 use Rattle.std.proofs.lemmas.Bool.Decides.{nat_tests}
 use Rattle.hp_core.specs.Core.{Core}
-use Rattle.hp_hall.specs.Mail.{MailStep}
+use Rattle.hp_hall.specs.Mail.{MailStep, Notes, steps_of}
 use Rattle.hp_hall.specs.Weights.{counted, moved_of, pause_weight}
+use Rattle.hp_hall.specs.declared.note.Note.TheVariants.{Read, Yielded}
 use Rattle.hp_proc.specs.Coordinating.{IsServed}
 use Rattle.hp_proc.specs.Falling.{held_sum, if_moved, least_weight, own_weight, served_of}
 use Rattle.hp_proc.specs.Party.{Party, due_in}
-use Rattle.hp_proc.specs.Waiting.{AreServings, AreTurns, IsSoonerOf, IsTurned, PausesFor, is_over}
+use Rattle.hp_proc.specs.Waiting.{AreServings, AreTurns, HaveServed, IsServedOut, IsSoonerOf, IsTurned, IsWaited, PausesFor, WaitsOn, is_over}
 use Rattle.hp_proc.proofs.Scaled.{own_weight_lower}
+use Rattle.hp_proc.proofs.Steps.{own_step}
+
+-- one step that was noted is its maker's
+pub did_step : (did : ℕ → List MailStep → Type 0) (me who : ℕ) (step : MailStep) → me ≡ who
+    → ((other : ℕ) → did other (steps_of other ((me, step) ∷ []))) → did who (step ∷ [])
+did_step did me who step same done =
+    subst (λ (who : ℕ). did who (step ∷ [])) same (subst (λ (steps : List MailStep). did me steps) (own_step me step) (done me))
 
 -- SERVINGS AND TURNS JOIN
 
@@ -30,16 +38,46 @@ module _ (count n : ℕ) (party mid after : Party) (first last : List MailStep) 
       let next : suc n ≡ n + 1 = omega arith in
       subst (λ m. AreServings count m party after (first ++ last)) next (servings_suc are one)
 
-pub no_turns : (count : ℕ) (heeds : Bool) (party : Party) → AreTurns count heeds 0 party party []
+pub no_turns : (count until : ℕ) (heeds : Bool) (party : Party) → AreTurns count until heeds 0 party party []
 unfolding AreTurns
-no_turns count heeds party = (refl, refl)
+no_turns count until heeds party = (refl, refl)
 
 -- one turn more
-pub turns_more : (count : ℕ) (heeds : Bool) (n : ℕ) (party mid after : Party) (first last : List MailStep) (moved : Bool)
-    → AreTurns count heeds n party mid first → is_over heeds mid ≡ false → IsTurned count mid after last (Some moved)
-    → AreTurns count heeds (suc n) party after (first ++ last)
+pub turns_more : (count until : ℕ) (heeds : Bool) (n : ℕ) (party mid after : Party) (first last : List MailStep) (now : ℕ) (moved : Bool)
+    → AreTurns count until heeds n party mid first → WaitsOn heeds mid until now → IsTurned count until mid after last (Some moved)
+    → AreTurns count until heeds (suc n) party after (first ++ (Notes (Read now) ∷ last))
 unfolding AreTurns
-turns_more count heeds n party mid after first last moved are waits one = (mid, first, last, moved, are, waits, one, refl)
+turns_more count until heeds n party mid after first last now moved are waits one = (mid, first, last, now, moved, are, waits, one, refl)
+
+-- ALL SERVE
+
+module _ (count counted : ℕ) (same : counted ≡ count) (party after : Party) (own : List MailStep) (below above answer : Option Bool) where
+  -- what one did itself, as many of them as there were before
+  served_out : (mine : Option Bool) → IsServedOut counted party after own mine → IsServedOut count party after own mine
+  served_out mine served = subst (λ (count : ℕ). IsServedOut count party after own mine) same served
+
+  -- it stopped itself
+  pub own_stops : (moved : Bool) → below ≡ Some moved → IsServedOut counted party after own None → answer ≡ None
+      → HaveServed count party after (Notes (Yielded false below) ∷ own) answer
+  own_stops moved below_is served is =
+      HaveServed.stops moved own (served_out None served) (ap (λ moved. Notes (Yielded false moved) ∷ own) below_is) is
+
+  -- one of those above did
+  pub above_stop : (moved mine : Bool) → below ≡ Some moved → IsServedOut counted party after own (Some mine) → above ≡ None → answer ≡ None
+      → HaveServed count party after (Notes (Yielded false below) ∷ (own ++ Notes (Yielded true above) ∷ [])) answer
+  above_stop moved mine below_is served above_is is =
+      HaveServed.above_stops moved mine own (served_out (Some mine) served)
+      (ap (λ moved. Notes (Yielded false moved) ∷ (own ++ Notes (Yielded true above) ∷ [])) below_is
+      ∙ ap (λ other. Notes (Yielded false (Some moved)) ∷ (own ++ Notes (Yielded true other) ∷ [])) above_is) is
+
+  -- nobody did
+  pub all_served : (moved mine other : Bool) → below ≡ Some moved → IsServedOut counted party after own (Some mine) → above ≡ Some other
+      → answer ≡ Some (mine || (moved || other))
+      → HaveServed count party after (Notes (Yielded false below) ∷ (own ++ Notes (Yielded true above) ∷ [])) answer
+  all_served moved mine other below_is served above_is is =
+      HaveServed.ends moved mine other own (served_out (Some mine) served)
+      (ap (λ moved. Notes (Yielded false moved) ∷ (own ++ Notes (Yielded true above) ∷ [])) below_is
+      ∙ ap (λ other. Notes (Yielded false (Some moved)) ∷ (own ++ Notes (Yielded true other) ∷ [])) above_is) is
 
 -- THE PAUSE
 
@@ -200,3 +238,12 @@ past_deadline heeds party until reading unheeding over =
     (λ (answered : is_over heeds party ≡ true). absurd (unheeded heeds party.answered unheeding answered))
     (λ (past : until ≤ reading). past)
     over
+
+-- and then a reading has reached it
+pub waited_past : (count until : ℕ) (party after : Party) (steps : List MailStep) (now : ℕ)
+    → IsWaited count until false party after steps (Some now) → until ≤ now
+waited_past count until party after steps now (IsWaited.ends turns read first are ended did is) =
+    let past = past_deadline false after until read refl ended in
+    let same : read ≡ now = cc in
+    subst (λ (at : ℕ). until ≤ at) same past
+waited_past count until party after steps now (IsWaited.stops turns read mid first last are waits one did is) = cc

@@ -8,7 +8,9 @@ use Rattle.hp_core.specs.declared.phase.Round.{Round}
 use Rattle.hp_core.specs.declared.phase.RoundKind.{RoundKind}
 use Rattle.hp_core.specs.declared.phase.RoundKind.TheVariants as kind
 use Rattle.hp_frame.specs.declared.message.Body.TheVariants.{Alloc, Free}
-use Rattle.hp_proc.specs.Coordinating.{IsNoAsk, undeclared_asker, undeclared_giver}
+use Rattle.hp_hall.specs.Mail.{Notes}
+use Rattle.hp_hall.specs.declared.note.Note.TheVariants.{Loaded}
+use Rattle.hp_proc.specs.Coordinating.{IsNoAsk, loads_of, undeclared_asker, undeclared_giver}
 use Rattle.hp_proc.specs.Falling.{own_weight}
 use Rattle.hp_proc.specs.Posting.{is_asker, is_told, syncs_after}
 
@@ -33,6 +35,11 @@ counts_syncs = refl
 -- a RESULT goes to no participant that the hall doesn't have
 answers_nobody : is_asker 3 3 ≡ false
 answers_nobody = refl
+
+-- of two participants the two numbers are looked up for a poll, the first one first
+looks_up_both : loads_of 2 (5 ∷ 7 ∷ 0 ∷ 0 ∷ []) 16 ≡ Notes (Loaded 0 5) ∷ Notes (Loaded 1 7) ∷ []
+unfolding loads_of
+looks_up_both = refl
 
 -- an ask of a participant that the hall doesn't have is none
 foreign_alloc : IsNoAsk 2 (Alloc 2 1 0 0 2097152 64 64 0 0)

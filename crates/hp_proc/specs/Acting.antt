@@ -21,7 +21,7 @@ use Rattle.hp_proc.specs.Doing.{Done}
 use Rattle.hp_proc.specs.Doing.Done.{Asked, Called, CaughtUp, GaveUp, Looked}
 use Rattle.hp_proc.specs.Histories.{run_cut}
 use Rattle.hp_proc.specs.Party.{Party, after_call, with_standing}
-use Rattle.hp_proc.specs.Serving.{gives_segments, takes_segments}
+use Rattle.hp_proc.specs.Serving.{acks_behind, gives_segments, takes_segments}
 use Rattle.hp_proc.specs.Waiting.{IsTurned}
 use Rattle.hp_proc.specs.declared.own_element.OwnElement.{OwnElement}
 use Rattle.hp_proc.specs.declared.pages_asked.PagesAsked.{PagesAsked}
@@ -30,7 +30,7 @@ use Rattle.hp_proc.specs.declared.pages_asked.PagesAsked.{PagesAsked}
 pub data Acts (count : ℕ) : Party → Party → List Done → List MailStep → Type 0 where
   nothing : (party : Party) → Acts count party party [] []
   -- it waited a turn for a heap that another one held
-  waits_turn : (party after : Party) (moved : Bool) (steps : List MailStep) → IsTurned count party after steps (Some moved)
+  waits_turn : (until : ℕ) (party after : Party) (moved : Bool) (steps : List MailStep) → IsTurned count until party after steps (Some moved)
       → Acts count party after [] steps
   -- it took a heap, or gave one back
   takes_heap : (party : Party) (heap : HeapView) → Acts count party party [] (Takes heap.plain.index (Heap heap) ∷ [])
@@ -52,7 +52,7 @@ pub data Acts (count : ℕ) : Party → Party → List Done → List MailStep �
   attaches : (party after : Party) (taken : SegsView) (caught : Caught) → Attaches party after taken.log caught
       → Acts count party (with_standing (standing_tried (length taken.log) caught after.context.standing) after)
       (Looked (length taken.log) ∷ CaughtUp (length taken.log) caught ∷ [])
-      (takes_segments taken ∷ gives_segments (after_attaching party.me caught taken) ∷ [])
+      (takes_segments taken ∷ (acks_behind caught (length taken.log) ++ (gives_segments (after_attaching party.me caught taken) ∷ [])))
   -- it detached, which no primary does, and noted that
   detaches : (party : Party) (taken : SegsView) → 0 < party.me
       → Acts count party (with_standing (record party.context.standing { attached = false }) (after_detaching party)) []

@@ -1,5 +1,5 @@
 -- What participant 0 does when it serves: the rule "Coordinating" of docs/PARTICIPANTS.md.
-use Rattle.std.specs.Prelude.{◌≡◌, ◌≢◌, ℕ, ◌+◌, ◌≤◌, ◌<◌, ⊤, Bool, true, false, ◌==◌, List, [], ◌∷◌, ◌++◌, length, Option, Some, None, slice_index}
+use Rattle.std.specs.Prelude.{◌≡◌, ◌≢◌, ℕ, zero, suc, ◌+◌, ◌-◌, ◌^◌, ◌≤◌, ◌<◌, ⊤, Bool, true, false, ◌==◌, nat_lt, List, [], ◌∷◌, ◌++◌, length, Option, Some, None, slice_index, if◌then◌else◌}
 use Rattle.hp_base.specs.Requests.{raised_align, refusal_of, rounded_size}
 use Rattle.hp_base.specs.declared.caught.Caught.{Caught}
 use Rattle.hp_base.specs.declared.request.BadRequest.{BadRequest}
@@ -14,7 +14,8 @@ use Rattle.hp_core.specs.declared.out.Out.TheVariants.{MapSelf}
 use Rattle.hp_frame.specs.declared.frame.Frame.{Frame}
 use Rattle.hp_frame.specs.declared.message.Body.{Body}
 use Rattle.hp_frame.specs.declared.message.Body.TheVariants.{Alloc, Free, Sync, Answer}
-use Rattle.hp_hall.specs.Mail.{MailStep, Fetches}
+use Rattle.hp_hall.specs.Mail.{MailStep, Fetches, Notes}
+use Rattle.hp_hall.specs.declared.note.Note.TheVariants.{Loaded, Read}
 use Rattle.hp_maps.specs.MapsView.{MapsView}
 use Rattle.hp_segs.specs.SegsView.{SegsView}
 use Rattle.hp_segs.specs.Steps.{after_reserve}
@@ -23,7 +24,7 @@ use Rattle.hp_proc.specs.Falling.{IsDue}
 use Rattle.hp_proc.specs.Frames.{Says, SaysNothing}
 use Rattle.hp_proc.specs.Party.{Party, due_in}
 use Rattle.hp_proc.specs.Posting.{IsPosted}
-use Rattle.hp_proc.specs.Serving.{CatchesUp, IsWorn, after_catching_up, answer_behind, gives_segments, hearing, takes_segments, IsMemberServed}
+use Rattle.hp_proc.specs.Serving.{CatchesUp, IsWorn, acks_behind, after_catching_up, answer_behind, gives_segments, hearing, takes_segments, IsMemberServed}
 
 -- no validator denies anything
 abbrev pub nobody_denies : ℕ → ℕ → Option (List ℕ × ℕ)
@@ -72,10 +73,13 @@ pub record Hands (event : CoreEvent) (core after : Core) (steps : List MailStep)
 abbrev pub with_core : Core → Party → Party
 with_core core party = record party { core = Some core }
 
--- participant 0 catches up for a round: with the log as it stands, whatever generation is named, and says so to its coordinator
+-- participant 0 catches up for a round: with the log as it stands, whatever generation is named; it acknowledges that, looks up its own
+-- number, reads its clock, and says to its coordinator what became of it
 pub data IsMapped (party after : Party) (steps : List MailStep) (answer : Option Out) : Type 0 where
-  maps : (core next : Core) (taken : SegsView) (caught : Caught) (table : MapsView) (now : ℕ) (more : List MailStep) → party.core ≡ Some core
-      → steps ≡ takes_segments taken ∷ more → CatchesUp taken.log party.maps table caught
+  maps : (core next : Core) (taken : SegsView) (caught : Caught) (table : MapsView) (own now : ℕ) (more : List MailStep)
+      → party.core ≡ Some core
+      → steps ≡ takes_segments taken ∷ (acks_behind caught (length taken.log) ++ (Notes (Loaded 0 own) ∷ Notes (Read now) ∷ more))
+      → CatchesUp taken.log party.maps table caught
       → IsHanded (SelfMapped caught now) core next taken more answer
       → after ≡ with_core next (after_catching_up caught table party) → IsMapped party after steps answer
   -- its mapper has made too many calls
@@ -106,6 +110,25 @@ pub data IsHandled (count : ℕ) (event : CoreEvent) (party after : Party) (step
       → steps ≡ first ++ more → IsHandled count event party after steps goes
   stops : (core next : Core) → party.core ≡ Some core → Hands event core next steps None → after ≡ with_core next party → goes ≡ false
       → IsHandled count event party after steps goes
+
+-- participant 0 looks up the numbers of the first participants, so many, one after another, as far as the hall has them
+unfoldable pub loads_of : ℕ → List ℕ → ℕ → List MailStep
+loads_of count acks zero = []
+loads_of count acks (suc n) = loads_of count acks n ++ (if nat_lt n count then Notes (Loaded n (slice_index acks n)) ∷ [] else [])
+
+-- these are the numbers of all participants, as it looked them up, and 0 for those that the hall doesn't have
+pub record AreLookedUp (count : ℕ) (acks : List ℕ) (steps : List MailStep) : Type 0 where
+  pub looked_up : steps ≡ loads_of count acks 16
+  pub nobody : (member : ℕ) → count ≤ member → member < 16 → slice_index acks member ≡ 0
+
+-- it polls its coordinator at a reading of its clock, with these numbers
+pub record IsPolled (count now : ℕ) (party after : Party) (steps : List MailStep) (goes : Bool) : Type 0 where
+  pub acks : List ℕ
+  pub looks : List MailStep
+  pub more : List MailStep
+  pub looked_up : AreLookedUp count acks looks
+  pub handled : IsHandled count (Poll now acks) party after more goes
+  pub are : steps ≡ looks ++ more
 
 -- an accepted request has the numbers of the message: the size in whole lines, and an alignment of a line at least
 pub record IsRequestOf (size align bound flags : ℕ) (request : Request) : Type 0 where
@@ -141,8 +164,8 @@ is_sync_reply _ = false
 -- what a message that is no ask makes of participant 0: a reply to a SYNC is a poll where a round is under way, an answer to its own last
 -- ask is noted, and anything else is dropped
 pub data IsAnswered (count : ℕ) (party after : Party) (body : Body) (steps : List MailStep) (goes : Bool) : Type 0 where
-  polls : (due now : ℕ) (acks : List ℕ) → is_sync_reply body ≡ true → due_in party.core ≡ Some due
-      → IsHandled count (Poll now acks) party after steps goes → IsAnswered count party after body steps goes
+  polls : (due now : ℕ) (more : List MailStep) → is_sync_reply body ≡ true → due_in party.core ≡ Some due
+      → steps ≡ Notes (Read now) ∷ more → IsPolled count now party after more goes → IsAnswered count party after body steps goes
   rests : is_sync_reply body ≡ true → due_in party.core ≡ None → steps ≡ [] → after ≡ party → goes ≡ true
       → IsAnswered count party after body steps goes
   hears : is_sync_reply body ≡ false → steps ≡ [] → after ≡ hearing body party → goes ≡ true → IsAnswered count party after body steps goes
@@ -162,13 +185,18 @@ abbrev pub core_holds : Option Core → Bool
 core_holds None = false
 core_holds (Some core) = holds_ask core
 
--- what is done at an empty mailbox
+-- a deadline is still to come at a reading, or is one that never passes
+abbrev pub IsToComeAt : ℕ → Option ℕ → Type 0
+IsToComeAt now due = (deadline : ℕ) → due ≡ Some deadline → deadline < 2 ^ 64 - 1 → now < deadline
+
+-- what is done at an empty mailbox, by a reading of the clock
 pub data IsRested (count : ℕ) (party after : Party) (steps : List MailStep) (answer : Option Bool) : Type 0 where
-  -- no held ask can be started
-  rests : core_holds party.core ≡ false → steps ≡ [] → after ≡ party → answer ≡ Some false → IsRested count party after steps answer
+  -- no held ask can be started, and the deadline of no round has passed
+  rests : (now : ℕ) → core_holds party.core ≡ false → IsToComeAt now (due_in party.core) → steps ≡ Notes (Read now) ∷ [] → after ≡ party
+      → answer ≡ Some false → IsRested count party after steps answer
   -- a poll is due
-  polls : (now : ℕ) (acks : List ℕ) (goes : Bool) → IsDue party.core (Poll now acks) → IsHandled count (Poll now acks) party after steps goes
-      → answer ≡ answer_behind goes → IsRested count party after steps answer
+  polls : (now : ℕ) (more : List MailStep) (goes : Bool) → IsDue party.core (Poll now []) → steps ≡ Notes (Read now) ∷ more
+      → IsPolled count now party after more goes → answer ≡ answer_behind goes → IsRested count party after steps answer
 
 -- what serving makes of participant 0, by what it did, and its answer: whether it did something, or that it stopped
 pub data IsCoreServed (count : ℕ) (party after : Party) (steps : List MailStep) (answer : Option Bool) : Type 0 where

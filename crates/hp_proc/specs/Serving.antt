@@ -1,16 +1,18 @@
 -- What a participant does when it serves: the rule "Serving" of docs/PARTICIPANTS.md.
-use Rattle.std.specs.Prelude.{◌≡◌, ◌<◌, ◌^◌, Bool, true, false, ◌||◌, ◌&&◌, ◌==◌, List, [], ◌∷◌, length, Option, Some, None}
+use Rattle.std.specs.Prelude.{◌≡◌, ℕ, ◌<◌, ◌^◌, Bool, true, false, ◌||◌, ◌&&◌, ◌==◌, List, [], ◌∷◌, ◌++◌, length, Option, Some, None}
 use Rattle.hp_base.specs.Mapping.{is_done}
 use Rattle.hp_base.specs.Plans.{action_of}
 use Rattle.hp_base.specs.declared.caught.Caught.{Caught}
+use Rattle.hp_base.specs.declared.caught.Caught.TheVariants as caught
 use Rattle.hp_base.specs.declared.limits.TheConstants.{MAX_HEAPS}
 use Rattle.hp_base.specs.declared.plan_entry.MsgKind.TheVariants as message
 use Rattle.hp_core.specs.Following.{after_catching, reply_of}
 use Rattle.hp_frame.specs.declared.frame.Frame.{Frame}
 use Rattle.hp_frame.specs.declared.message.Body.{Body}
 use Rattle.hp_frame.specs.declared.message.Body.TheVariants.{Sync, Answer}
-use Rattle.hp_hall.specs.Mail.{MailStep, Fetches, Gives, Posts, Takes}
+use Rattle.hp_hall.specs.Mail.{MailStep, Fetches, Gives, Notes, Posts, Takes}
 use Rattle.hp_hall.specs.declared.kept.Kept.TheVariants.{Segments}
+use Rattle.hp_hall.specs.declared.note.Note.TheVariants.{Acked}
 use Rattle.hp_hall.specs.declared.posted.Posted.{Posted}
 use Rattle.hp_log.specs.declared.log_record.LogRecord.{LogRecord}
 use Rattle.hp_maps.specs.Catching.{HasAnswered, HasReason, new_rows, newer, number_after}
@@ -33,6 +35,12 @@ pub record CatchesUp (log : List LogRecord) (old new : MapsView) (caught : Caugh
   pub reason : HasReason old.may_fail caught
   pub stays : new.may_fail ≡ old.may_fail
 
+-- what is acknowledged behind a catching up with so many records: all of them, or nothing where a mapping failed
+abbrev pub acks_behind : Caught → ℕ → List MailStep
+acks_behind caught.Done records = Notes (Acked records) ∷ []
+acks_behind (caught.Refused row call) records = []
+acks_behind (caught.Elsewhere row call got) records = []
+
 -- a reply is posted to participant 0, as the plan has it for the next reply
 pub record Replies (party : Party) (body : Body) (step : MailStep) : Type 0 where
   pub frame : Frame
@@ -44,14 +52,15 @@ pub record Replies (party : Party) (body : Body) (step : MailStep) : Type 0 wher
 abbrev pub after_catching_up : Caught → MapsView → Party → Party
 after_catching_up caught maps party = record party { maps = maps; joined = party.joined || is_done caught }
 
--- a member that holds the segment value obeys a SYNC: it catches up with the log as it stands, whatever generation is named, notes a
--- mapping that failed, gives the value back and posts its reply
+-- a member that holds the segment value obeys a SYNC: it catches up with the log as it stands, whatever generation is named, acknowledges
+-- that or notes a mapping that failed, gives the value back and posts its reply
 pub record Obeys (party after : Party) (taken : SegsView) (steps : List MailStep) : Type 0 where
   pub caught : Caught
   pub caught_up : CatchesUp taken.log party.maps after.maps caught
   pub reply : MailStep
   pub replied : Replies party (reply_of party.me caught taken) reply
-  pub done : steps ≡ gives_segments (after_catching party.me caught taken) ∷ reply ∷ []
+  pub done : steps
+      ≡ acks_behind caught (length taken.log) ++ (gives_segments (after_catching party.me caught taken) ∷ reply ∷ [])
   pub after_is : after ≡ after_reply (after_catching_up caught after.maps party)
 
 -- a mapper has made so many calls that its participant stops

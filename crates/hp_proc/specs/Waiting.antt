@@ -1,8 +1,9 @@
 -- What a participant does while it waits: the rule "Turns of a wait" of docs/PARTICIPANTS.md.
-use Rattle.std.specs.Prelude.{◌≡◌, ℕ, zero, suc, ◌<◌, ◌≤◌, ◌⊎◌, Bool, true, false, ◌||◌, ◌&&◌, List, [], ◌++◌, Option, Some, None, nat_lt}
-use Rattle.hp_hall.specs.Mail.{MailStep}
+use Rattle.std.specs.Prelude.{◌≡◌, ℕ, zero, suc, ◌<◌, ◌≤◌, ◌⊎◌, Bool, true, false, ◌||◌, ◌&&◌, List, [], ◌∷◌, ◌++◌, Option, Some, None, nat_lt}
+use Rattle.hp_hall.specs.Mail.{MailStep, Notes}
+use Rattle.hp_hall.specs.declared.note.Note.TheVariants.{Paused, Read, Yielded}
 use Rattle.hp_proc.specs.Coordinating.{IsServed}
-use Rattle.hp_proc.specs.Party.{Party}
+use Rattle.hp_proc.specs.Party.{Party, due_in}
 
 -- how often a participant serves itself in a turn at most
 abbrev pub most_servings : ℕ
@@ -26,43 +27,73 @@ pub data IsServedOut (count : ℕ) (party after : Party) (steps : List MailStep)
   -- it served as often as it may
   enough : AreServings count most_servings party after steps → answer ≡ Some true → IsServedOut count party after steps answer
 
--- what a turn of its wait makes of it, by what it did, and the turn's answer: whether something moved, or that a refusal of memory ended it
-pub data IsTurned (count : ℕ) (party after : Party) (steps : List MailStep) (answer : Option Bool) : Type 0 where
+-- all serve in a turn: those below it first, then the participant itself, then those above; and the answer: whether something moved, or that
+-- somebody stopped
+pub data HaveServed (count : ℕ) (party after : Party) (steps : List MailStep) (answer : Option Bool) : Type 0 where
   -- one of those below met a refusal, before it served itself
-  below_stops : steps ≡ [] → after ≡ party → answer ≡ None → IsTurned count party after steps answer
+  below_stops : steps ≡ Notes (Yielded false None) ∷ [] → after ≡ party → answer ≡ None → HaveServed count party after steps answer
   -- it stopped itself
-  stops : IsServedOut count party after steps None → answer ≡ None → IsTurned count party after steps answer
+  stops : (below : Bool) (own : List MailStep) → IsServedOut count party after own None → steps ≡ Notes (Yielded false (Some below)) ∷ own
+      → answer ≡ None → HaveServed count party after steps answer
   -- one of those above met a refusal, after it had served
-  above_stops : (own : Bool) → IsServedOut count party after steps (Some own) → answer ≡ None → IsTurned count party after steps answer
+  above_stops : (below mine : Bool) (own : List MailStep) → IsServedOut count party after own (Some mine)
+      → steps ≡ Notes (Yielded false (Some below)) ∷ (own ++ Notes (Yielded true None) ∷ []) → answer ≡ None
+      → HaveServed count party after steps answer
   -- all have served, and it or others moved something
-  ends : (own others : Bool) → IsServedOut count party after steps (Some own) → answer ≡ Some (own || others) → IsTurned count party after steps answer
-
--- its wait is over at the answer to its last ask, where it heeds that
-abbrev pub is_over : Bool → Party → Bool
-is_over heeds party = heeds && party.answered
-
--- its wait has ended: it is over, or its deadline counts no more, since a reading of the clock has reached it
-abbrev pub HasWaited : Bool → Party → (ℕ → ℕ) → ℕ → Type 0
-HasWaited heeds party pending until = (is_over heeds party ≡ true) ⊎ (pending until ≡ 0)
-
--- what so many turns make of it, each of which began where its wait was not over, and came to its end
-unfoldable pub AreTurns : ℕ → Bool → ℕ → Party → Party → List MailStep → Type 0
-AreTurns count heeds zero party after steps = (after ≡ party) × (steps ≡ [])
-AreTurns count heeds (suc n) party after steps =
-    (mid : Party) × (before : List MailStep) × (last : List MailStep) × (moved : Bool) × AreTurns count heeds n party mid before
-    × (is_over heeds mid ≡ false) × IsTurned count mid after last (Some moved) × (steps ≡ before ++ last)
-
--- what a wait makes of it, by what it did; the last part tells whether the wait ended, or a refusal of memory ended it
-pub data IsWaited (count : ℕ) (heeds : Bool) (party after : Party) (steps : List MailStep) (ends : Bool) : Type 0 where
-  ends : (turns : ℕ) → AreTurns count heeds turns party after steps → ends ≡ true → IsWaited count heeds party after steps ends
-  stops : (turns : ℕ) (mid : Party) (first last : List MailStep) → AreTurns count heeds turns party mid first → is_over heeds mid ≡ false
-      → IsTurned count mid after last None → steps ≡ first ++ last → ends ≡ false → IsWaited count heeds party after steps ends
+  ends : (below mine above : Bool) (own : List MailStep) → IsServedOut count party after own (Some mine)
+      → steps ≡ Notes (Yielded false (Some below)) ∷ (own ++ Notes (Yielded true (Some above)) ∷ [])
+      → answer ≡ Some (mine || (below || above)) → HaveServed count party after steps answer
 
 -- the sooner of the deadline that is waited for and that of its own round, where a reading of the clock has not reached that
 pub record IsSoonerOf (reading until : ℕ) (due : Option ℕ) (sooner : ℕ) : Type 0 where
   pub within : sooner ≤ until
   pub whose : (sooner ≡ until) ⊎ ((due ≡ Some sooner) × (reading < sooner))
   pub least : (other : ℕ) → due ≡ Some other → reading < other → sooner ≤ other
+
+-- a turn in which something moved, or nothing, ends with a pause until the sooner deadline, by a reading of the clock
+pub record PausesAt (until : ℕ) (due : Option ℕ) (moved : Bool) (steps : List MailStep) : Type 0 where
+  pub now : ℕ
+  pub next : ℕ
+  pub sooner : IsSoonerOf now until due next
+  pub are : steps ≡ Notes (Read now) ∷ Notes (Paused moved (Some next)) ∷ []
+
+-- what a turn of its wait until a deadline makes of it, by what it did, and the turn's answer: whether something moved, or that a refusal of
+-- memory ended it
+pub data IsTurned (count until : ℕ) (party after : Party) (steps : List MailStep) (answer : Option Bool) : Type 0 where
+  stops : HaveServed count party after steps None → answer ≡ None → IsTurned count until party after steps answer
+  ends : (moved : Bool) (served paused : List MailStep) → HaveServed count party after served (Some moved)
+      → PausesAt until (due_in after.core) moved paused → steps ≡ served ++ paused → answer ≡ Some moved
+      → IsTurned count until party after steps answer
+
+-- its wait is over at the answer to its last ask, where it heeds that
+abbrev pub is_over : Bool → Party → Bool
+is_over heeds party = heeds && party.answered
+
+-- its wait until a deadline has ended at a reading of its clock: it is over, or that has reached the deadline
+abbrev pub HasWaited : Bool → Party → ℕ → ℕ → Type 0
+HasWaited heeds party until now = (is_over heeds party ≡ true) ⊎ (until ≤ now)
+
+-- it has not
+pub record WaitsOn (heeds : Bool) (party : Party) (until now : ℕ) : Type 0 where
+  pub still : is_over heeds party ≡ false
+  pub early : now < until
+
+-- what so many turns make of it, each of which began at a reading at which its wait had not ended, and came to its end
+unfoldable pub AreTurns : ℕ → ℕ → Bool → ℕ → Party → Party → List MailStep → Type 0
+AreTurns count until heeds zero party after steps = (after ≡ party) × (steps ≡ [])
+AreTurns count until heeds (suc n) party after steps =
+    (mid : Party) × (before : List MailStep) × (last : List MailStep) × (now : ℕ) × (moved : Bool)
+    × AreTurns count until heeds n party mid before × WaitsOn heeds mid until now × IsTurned count until mid after last (Some moved)
+    × (steps ≡ before ++ (Notes (Read now) ∷ last))
+
+-- what a wait until a deadline makes of it, by what it did; the last part is the reading at which it ended, or none where a refusal of memory
+-- ended it
+pub data IsWaited (count until : ℕ) (heeds : Bool) (party after : Party) (steps : List MailStep) (ended : Option ℕ) : Type 0 where
+  ends : (turns now : ℕ) (first : List MailStep) → AreTurns count until heeds turns party after first → HasWaited heeds after until now
+      → steps ≡ first ++ (Notes (Read now) ∷ []) → ended ≡ Some now → IsWaited count until heeds party after steps ended
+  stops : (turns now : ℕ) (mid : Party) (first last : List MailStep) → AreTurns count until heeds turns party mid first
+      → WaitsOn heeds mid until now → IsTurned count until mid after last None → steps ≡ first ++ (Notes (Read now) ∷ last)
+      → ended ≡ None → IsWaited count until heeds party after steps ended
 
 -- a reading of the clock: every deadline behind it is still to come
 abbrev pub IsReading : (ℕ → Type 0) → ℕ → Type 0

@@ -9,7 +9,7 @@ ghost use Rattle.hp_maps.specs.MapsView.{MapsView, calls_of, chunk_rows};
 ghost use Rattle.hp_segs.specs.LaterSteps.{after_join, after_leave};
 ghost use Rattle.hp_segs.specs.SegsView.{SegsView};
 ghost use Rattle.hp_proc.specs.Attaching.{after_attaching, emptied, table_left};
-ghost use Rattle.hp_proc.specs.Serving.{CatchesUp, gives_segments, takes_segments};
+ghost use Rattle.hp_proc.specs.Serving.{CatchesUp, acks_behind, gives_segments, takes_segments};
 ghost use Rattle.hp_proc.specs.Tied.{IsTied};
 
 use crate::calls::{give_segments, put_back, take_segments};
@@ -51,7 +51,8 @@ fn take_whole_log<H: Hall, M: Mapper>(
     ensures taken { (number : ℕ) → H.taken hall.new number ≡ H.taken hall.old number }
     ensures home { (number : ℕ) → H.may_take hall.old number → H.may_take hall.new number }
     ensures part { (who heap : ℕ) → H.part hall.new who heap ≡ H.part hall.old who heap }
-    ensures did { (who : ℕ) → H.did hall.old hall.new who [] }
+    ensures did { H.did hall.old hall.new me (acks_behind result (length segs.now.log)) }
+    ensures did_others { (who : ℕ) → who ≢ me → H.did hall.old hall.new who [] }
     ensures weight { H.weight hall.new ≤ H.weight hall.old }
     ensures clock { H.clock hall.new ≡ H.clock hall.old }
     ensures still { H.serves hall.new me }
@@ -175,7 +176,8 @@ pub(crate) fn attach<H: Hall, M: Mapper>(
     requires tied { IsTied (H.seen hall.old me) (H.own hall.old me) joined maps.old }
     requires calls { calls_of maps.old ≤ 2 ^ 63 }
     ensures did { (segs : SegsView) × (mid : MapsView) × CatchesUp segs.log maps.old mid result × (maps.new ≡ table_left result mid)
-        × H.did hall.old hall.new me (takes_segments segs ∷ gives_segments (after_attaching me result segs) ∷ []) }
+        × H.did hall.old hall.new me
+        (takes_segments segs ∷ (acks_behind result (length segs.log) ++ (gives_segments (after_attaching me result segs) ∷ []))) }
     ensures tied { IsTied (H.seen hall.new me) (H.own hall.new me) (is_done result) maps.new }
     ensures failed { is_done result ≡ false → H.own hall.new me ≡ H.own hall.old me }
     ensures weight { H.weight hall.new ≤ H.weight hall.old }

@@ -8,7 +8,7 @@ ghost use Rattle.hp_hall.specs.Mail.{Fetches, Posts};
 ghost use Rattle.hp_hall.specs.Weights.{fetched_weight, frame_weight};
 ghost use Rattle.hp_log.specs.declared.log_record.LogRecord.{LogRecord};
 ghost use Rattle.hp_segs.specs.Sound.{IsSound};
-ghost use Rattle.hp_proc.specs.Serving.{gives_segments, takes_segments};
+ghost use Rattle.hp_proc.specs.Serving.{acks_behind, gives_segments, takes_segments};
 ghost use Rattle.hp_proc.specs.Tied.{own_after};
 
 use hp_base::{Action, Caught};
@@ -191,7 +191,8 @@ pub(crate) fn tell_number<H: Hall>(hall: &mut H, me: u8, caught: &Caught, record
     ensures taken { (number : ℕ) → H.taken hall.new number ≡ H.taken hall.old number }
     ensures home { (number : ℕ) → H.may_take hall.old number → H.may_take hall.new number }
     ensures part { (who heap : ℕ) → H.part hall.new who heap ≡ H.part hall.old who heap }
-    ensures did { (who : ℕ) → H.did hall.old hall.new who [] }
+    ensures did { H.did hall.old hall.new me (acks_behind caught.now records) }
+    ensures did_others { (who : ℕ) → who ≢ me → H.did hall.old hall.new who [] }
     ensures weight { H.weight hall.new ≤ H.weight hall.old }
     ensures noted { (who other : ℕ) → H.noted hall.old who other ≤ H.noted hall.new who other }
     ensures clock { H.clock hall.new ≡ H.clock hall.old }

@@ -1,9 +1,9 @@
 //! A participant's table catches up with the log of the segment value that the participant has taken.
-ghost use Rattle.std.specs.Prelude.{◌≡◌, ◌≢◌, ℕ, ◌^◌, ◌≤◌, ◌++◌, ◌||◌, List, [], true, false};
+ghost use Rattle.std.specs.Prelude.{◌≡◌, ◌≢◌, ℕ, ◌^◌, ◌≤◌, ◌++◌, ◌||◌, List, [], true, false, length};
 ghost use Rattle.hp_base.specs.Mapping.{is_done};
 ghost use Rattle.hp_log.specs.declared.log_record.LogRecord.{LogRecord};
 ghost use Rattle.hp_maps.specs.MapsView.{calls_of};
-ghost use Rattle.hp_proc.specs.Serving.{CatchesUp, IsWorn};
+ghost use Rattle.hp_proc.specs.Serving.{CatchesUp, IsWorn, acks_behind};
 ghost use Rattle.hp_proc.specs.Tied.{IsTied, own_after};
 
 use crate::calls::tell_number;
@@ -62,7 +62,8 @@ pub(crate) fn take_in<H: Hall, M: Mapper>(
     ensures taken { (number : ℕ) → H.taken hall.new number ≡ H.taken hall.old number }
     ensures home { (number : ℕ) → H.may_take hall.old number → H.may_take hall.new number }
     ensures part { (who heap : ℕ) → H.part hall.new who heap ≡ H.part hall.old who heap }
-    ensures did { (who : ℕ) → H.did hall.old hall.new who [] }
+    ensures did { H.did hall.old hall.new me (acks_behind result (length segs.now.log)) }
+    ensures did_others { (who : ℕ) → who ≢ me → H.did hall.old hall.new who [] }
     ensures weight { H.weight hall.new ≤ H.weight hall.old }
     ensures clock { H.clock hall.new ≡ H.clock hall.old }
     ensures count { H.count hall.new ≡ H.count hall.old }

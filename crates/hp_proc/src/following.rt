@@ -1,5 +1,5 @@
 //! What a member does that obeys a SYNC, once it has taken the segment value.
-ghost use Rattle.std.specs.Prelude.{◌≡◌, ◌≢◌, ℕ, ◌+◌, ◌*◌, ◌^◌, ◌<◌, ◌≤◌, ◌++◌, ◌||◌, List, [], ◌∷◌, Some, None, true};
+ghost use Rattle.std.specs.Prelude.{◌≡◌, ◌≢◌, ℕ, ◌+◌, ◌*◌, ◌^◌, ◌<◌, ◌≤◌, ◌++◌, ◌||◌, List, [], ◌∷◌, Some, None, true, length};
 ghost use Rattle.hp_base.specs.Mapping.{is_done};
 ghost use Rattle.hp_base.specs.Plans.{action_of};
 ghost use Rattle.hp_base.specs.declared.limits.TheConstants.{MAX_HEAPS, MAX_PARTICIPANTS};
@@ -16,7 +16,7 @@ ghost use Rattle.hp_maps.specs.MapsView.{calls_of};
 ghost use Rattle.hp_segs.specs.SegsView.{is_member};
 ghost use Rattle.hp_proc.specs.Frames.{Says};
 ghost use Rattle.hp_proc.specs.Party.{one_more};
-ghost use Rattle.hp_proc.specs.Serving.{CatchesUp, gives_segments, is_reply};
+ghost use Rattle.hp_proc.specs.Serving.{CatchesUp, acks_behind, gives_segments, is_reply};
 ghost use Rattle.hp_proc.specs.Tied.{IsTied};
 
 use crate::calls::{give_segments, post};
@@ -85,8 +85,8 @@ fn give_noted<H: Hall>(hall: &mut H, me: u8, caught: &Caught, segs: Segs) -> Bod
     reply
 }
 
-/// A member that has taken the segment value obeys a SYNC: it catches up with the log as it stands, notes a mapping that failed,
-/// gives the value back and posts its reply, its next one behind so many. `joined` says whether it had a table before.
+/// A member that has taken the segment value obeys a SYNC: it catches up with the log as it stands, acknowledges that or notes a mapping that
+/// failed, gives the value back and posts its reply, its next one behind so many. `joined` says whether it had a table before.
 pub(crate) fn obey<H: Hall, M: Mapper>(
     hall: &mut H,
     me: u8,
@@ -110,8 +110,8 @@ pub(crate) fn obey<H: Hall, M: Mapper>(
     ensures free { H.taken hall.new MAX_HEAPS ≡ None }
     ensures home { H.may_take hall.new MAX_HEAPS }
     ensures did { (frame : Frame) × (posted : Posted) × Says frame (reply_of me result segs) × H.did hall.old hall.new me
-        (gives_segments (after_catching me result segs)
-        ∷ Posts 0 frame (action_of plan.now MsgKind.Reply me (one_more replies)) posted ∷ []) }
+        (acks_behind result (length segs.log) ++ (gives_segments (after_catching me result segs)
+        ∷ Posts 0 frame (action_of plan.now MsgKind.Reply me (one_more replies)) posted ∷ [])) }
     ensures weight { H.weight hall.new ≤ H.weight hall.old + H.scale * 2 }
 
     ensures others { (number : ℕ) → number ≢ MAX_HEAPS → H.taken hall.new number ≡ H.taken hall.old number }

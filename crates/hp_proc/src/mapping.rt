@@ -1,19 +1,20 @@
 //! Participant 0 catches up with the log for its coordinator.
-ghost use Rattle.std.specs.Prelude.{◌≡◌, ◌≢◌, ℕ, ◌^◌, ◌<◌, ◌≤◌, ◌++◌, ◌||◌, List, [], Some, None};
+ghost use Rattle.std.specs.Prelude.{◌≡◌, ◌≢◌, ℕ, ◌^◌, ◌<◌, ◌≤◌, ◌++◌, ◌||◌, List, [], ◌∷◌, Some, None, length};
 ghost use Rattle.std.specs.Result.{result_ok};
 ghost use Rattle.hp_base.specs.Mapping.{is_done};
 ghost use Rattle.hp_base.specs.declared.caught.Caught.{Caught};
 ghost use Rattle.hp_base.specs.declared.limits.TheConstants.{MAX_HEAPS};
 ghost use Rattle.hp_core.specs.declared.event.CoreEvent.TheVariants.{SelfMapped};
 ghost use Rattle.hp_hall.specs.Holding.{AreStanding};
-ghost use Rattle.hp_hall.specs.Mail.{MailStep};
+ghost use Rattle.hp_hall.specs.Mail.{MailStep, Notes};
 ghost use Rattle.hp_hall.specs.declared.kept.Kept.{Kept};
+ghost use Rattle.hp_hall.specs.declared.note.Note.{Note};
 ghost use Rattle.hp_log.specs.declared.log_record.LogRecord.{LogRecord};
 ghost use Rattle.hp_maps.specs.MapsView.{calls_of};
 ghost use Rattle.hp_segs.specs.Sound.{IsSound};
 ghost use Rattle.hp_proc.specs.Coordinating.{IsHanded, IsMapped};
 ghost use Rattle.hp_proc.specs.Party.{Party, with_table};
-ghost use Rattle.hp_proc.specs.Serving.{CatchesUp};
+ghost use Rattle.hp_proc.specs.Serving.{CatchesUp, acks_behind};
 ghost use Rattle.hp_proc.specs.Tied.{IsTied};
 
 use crate::calls::{put_back, take_segments};
@@ -42,9 +43,10 @@ fn catch_and_hand<H: Hall, M: Mapper>(
     requires log { segs.log ≡ H.seen hall.old 0 }
     requires tied { IsTied segs.log (H.own hall.old 0) joined.old maps.old }
     requires calls { calls_of maps.old ≤ 2 ^ 63 }
-    ensures handed { (steps : List MailStep) × H.did hall.old hall.new 0 steps × (caught : Caught) × (now : ℕ)
+    ensures handed { (caught : Caught) × (own now : ℕ) × (more : List MailStep) × H.did hall.old hall.new 0
+        (acks_behind caught (length segs.log) ++ (Notes (Note.Loaded 0 own) ∷ Notes (Note.Read now) ∷ more))
         × CatchesUp segs.log maps.old maps.new caught × (joined.new ≡ (joined.old || is_done caught))
-        × IsHanded (SelfMapped caught now) core.old core.new segs steps (result_ok result) }
+        × IsHanded (SelfMapped caught now) core.old core.new segs more (result_ok result) }
     ensures tied { IsTied (H.seen hall.new 0) (H.own hall.new 0) joined.new maps.new }
     ensures own { (who : ℕ) → who ≢ 0 → H.own hall.new who ≡ H.own hall.old who }
     ensures free { H.taken hall.new MAX_HEAPS ≡ None }

@@ -1,9 +1,11 @@
 //! What participant 0 tells its coordinator in a poll, and when a poll is due.
-ghost use Rattle.std.specs.Prelude.{◌≡◌, ◌≢◌, ℕ, ◌^◌, ◌-◌, ◌<◌, ◌≤◌, ◌++◌, List, [], Some, true, false, slice_index};
+ghost use Rattle.std.specs.Prelude.{◌≡◌, ◌≢◌, ℕ, ◌^◌, ◌-◌, ◌<◌, ◌≤◌, ◌++◌, List, [], ◌∷◌, Some, true, false, nat_lt, slice_index, if◌then◌else◌};
 ghost use Rattle.hp_core.specs.Core.{Core, due_of};
 ghost use Rattle.hp_core.specs.declared.event.CoreEvent.TheVariants.{Poll};
+ghost use Rattle.hp_hall.specs.Mail.{MailStep, Notes};
+ghost use Rattle.hp_hall.specs.declared.note.Note.{Note};
 ghost use Rattle.hp_log.specs.declared.log_record.LogRecord.{LogRecord};
-ghost use Rattle.hp_proc.specs.Coordinating.{core_holds};
+ghost use Rattle.hp_proc.specs.Coordinating.{AreLookedUp, core_holds};
 ghost use Rattle.hp_proc.specs.Falling.{IsDue};
 ghost use Rattle.hp_proc.specs.Party.{due_in};
 
@@ -15,6 +17,7 @@ fn load_number<H: Hall>(hall: &mut H, count: u8, member: u8) -> u64
     requires serves { H.serves hall.old 0 }
     requires count { count ≡ H.count hall.old }
     ensures noted { result ≤ H.noted hall.new 0 member }
+    ensures nobody { count ≤ member → result ≡ 0 }
 
     ensures seen { (more : List LogRecord) × (H.seen hall.new 0 ≡ H.seen hall.old 0 ++ more) }
     ensures more_noted { (other : ℕ) → H.noted hall.old 0 other ≤ H.noted hall.new 0 other }
@@ -22,7 +25,8 @@ fn load_number<H: Hall>(hall: &mut H, count: u8, member: u8) -> u64
     ensures home { (number : ℕ) → H.may_take hall.old number → H.may_take hall.new number }
     ensures part { (who heap : ℕ) → H.part hall.new who heap ≡ H.part hall.old who heap }
     ensures own { (who : ℕ) → H.own hall.new who ≡ H.own hall.old who }
-    ensures did { (who : ℕ) → H.did hall.old hall.new who [] }
+    ensures did { H.did hall.old hall.new 0 (if nat_lt member count then Notes (Note.Loaded member result) ∷ [] else []) }
+    ensures did_others { (who : ℕ) → who ≢ 0 → H.did hall.old hall.new who [] }
     ensures weight { H.weight hall.new ≤ H.weight hall.old }
     ensures clock { H.clock hall.new ≡ H.clock hall.old }
     ensures count { H.count hall.new ≡ H.count hall.old }
@@ -46,7 +50,8 @@ pub(crate) fn load_acks<H: Hall>(hall: &mut H) -> [u64; 16]
     ensures home { (number : ℕ) → H.may_take hall.old number → H.may_take hall.new number }
     ensures part { (who heap : ℕ) → H.part hall.new who heap ≡ H.part hall.old who heap }
     ensures own { (who : ℕ) → H.own hall.new who ≡ H.own hall.old who }
-    ensures did { (who : ℕ) → H.did hall.old hall.new who [] }
+    ensures did { (steps : List MailStep) × H.did hall.old hall.new 0 steps × AreLookedUp (H.count hall.old) result steps }
+    ensures did_others { (who : ℕ) → who ≢ 0 → H.did hall.old hall.new who [] }
     ensures weight { H.weight hall.new ≤ H.weight hall.old }
     ensures clock { H.clock hall.new ≡ H.clock hall.old }
     ensures count { H.count hall.new ≡ H.count hall.old }

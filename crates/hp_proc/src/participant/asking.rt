@@ -1,19 +1,19 @@
 //! How a participant asks for pages.
-ghost use Rattle.std.specs.Prelude.{◌≡◌, ◌≢◌, ℕ, ◌^◌, ◌<◌, ◌≤◌, ◌⊎◌, List, [], ◌∷◌, false, true, None, IfOk, IsSome, OnErr, OnOk};
+ghost use Rattle.std.specs.Prelude.{◌≡◌, ◌≢◌, ℕ, ◌^◌, ◌<◌, ◌≤◌, ◌⊎◌, min, List, [], ◌∷◌, false, true, None, IfOk, IsSome, OnErr, OnOk};
 ghost use Rattle.hp_base.specs.Plans.{action_of};
 ghost use Rattle.hp_base.specs.declared.limits.TheConstants.{MAX_HEAPS, MAX_PARTICIPANTS};
 ghost use Rattle.hp_base.specs.declared.plan_entry.MsgKind.{MsgKind};
 ghost use Rattle.hp_frame.specs.declared.frame.Frame.{Frame};
-ghost use Rattle.hp_hall.specs.Mail.{MailStep, Posts};
+ghost use Rattle.hp_hall.specs.Mail.{MailStep, Notes, Posts};
+ghost use Rattle.hp_hall.specs.declared.note.Note.{Note};
 ghost use Rattle.hp_hall.specs.declared.posted.Posted.{Posted};
 ghost use Rattle.hp_proc.specs.Asking.{GrowsHeld, IsAsked, IsAwaiting, IsHeldAsBefore, HasSettledAsks, Settles, alloc_body};
-ghost use Rattle.hp_proc.specs.AskSteps.{DoesAsk, IsAwaitedBy, IsSentAs, IsSettledLate, WaitsAndLooks, waits_until};
+ghost use Rattle.hp_proc.specs.AskSteps.{DoesAsk, IsAwaitedBy, IsSettledLate, latest, waits_until};
 ghost use Rattle.hp_proc.specs.Clocks.{RisesWithin, longest_wait};
 ghost use Rattle.hp_proc.specs.Frames.{Says};
-ghost use Rattle.hp_proc.specs.Outcomes.{ask_of};
 ghost use Rattle.hp_proc.specs.Party.{IsSameParty, after_alloc, one_more};
 ghost use Rattle.hp_proc.specs.Tied.{IsTied};
-ghost use Rattle.hp_proc.specs.Waiting.{HasWaited, IsReading};
+ghost use Rattle.hp_proc.specs.Waiting.{IsReading};
 
 use super::Participant;
 use crate::arming::arm;
@@ -49,8 +49,9 @@ impl<'p, M: Mapper> Participant<'p, M> {
         ensures read { H.pending (H.clock hall.new) result ≡ 0 }
         ensures before { IsReading (λ deadline. deadline ≤ 2 ^ 63 → H.pending (H.clock hall.new) deadline ≡ H.scale) result }
         ensures sent { self.new ≡ after_alloc ask.now.number self.old }
-        ensures did { (frame : Frame) × (posted : Posted) × Says frame (alloc_body ask.now) × H.did hall.old hall.new self.old.me
-            (Posts 0 frame (action_of self.old.plan MsgKind.Alloc self.old.me (one_more self.old.sent.allocs)) posted ∷ []) }
+        ensures did { (now : ℕ) × (frame : Frame) × (posted : Posted) × (result ≡ min now latest) × Says frame (alloc_body ask.now)
+            × H.did hall.old hall.new self.old.me (Notes (Note.Read now)
+            ∷ Posts 0 frame (action_of self.old.plan MsgKind.Alloc self.old.me (one_more self.old.sent.allocs)) posted ∷ []) }
         ensures tied { IsTied (H.seen hall.new self.old.me) (H.own hall.new self.old.me) self.new.joined self.new.maps }
 
         ensures taken { (number : ℕ) → H.taken hall.new number ≡ H.taken hall.old number }
@@ -127,9 +128,6 @@ impl<'p, M: Mapper> Participant<'p, M> {
         ensures err { OnErr result ((heap : ℕ) → H.part hall.new self.old.me heap ≡ H.part hall.old self.old.me heap) }
         ensures did { IfOk result (λ run. (steps : List MailStep) × H.did hall.old hall.new self.old.me steps
             × IsAwaitedBy (H.count hall.old) self.old self.new ask.now since steps run) }
-        ensures awaited { IfOk result (λ run. WaitsAndLooks (λ from to. H.did from to self.old.me)
-            (λ then party. HasWaited true party (H.pending (H.clock then)) (waits_until since self.old.deadline))
-            (H.count hall.old) self.old ask.now hall.old hall.new) }
         ensures tied { IsTied (H.seen hall.new self.old.me) (H.own hall.new self.old.me) self.new.joined self.new.maps }
         ensures asked { self.new.asked ≡ self.old.asked }
         ensures same { IsSameParty self.old self.new }
@@ -164,15 +162,9 @@ impl<'p, M: Mapper> Participant<'p, M> {
         requires holds { IsSome (H.part hall.old self.old.me asked.now.heap).holding }
         requires settled { HasSettledAsks self.old.me (H.part hall.old self.old.me) (H.heard hall.old self.old.me) }
 
-        // What it did, and that it looked behind a wait that had ended; what it asked for and was answered, and what came to the heap.
+        // What it did, what it asked for and was answered, and what came to the heap.
         ensures did { IfOk result (λ run. (steps : List MailStep) × H.did hall.old hall.new self.old.me steps
             × DoesAsk (H.count hall.old) self.old self.new asked.now steps run) }
-        ensures awaited { IfOk result (λ run. (since : ℕ) × (sent : H) × (sending : List MailStep)
-            × IsReading (λ deadline. deadline ≤ 2 ^ 63 → H.pending (H.clock hall.old) deadline ≡ H.scale) since
-            × IsSentAs self.old (ask_of self.old.me self.new.asked asked.now) sending × H.did hall.old sent self.old.me sending
-            × WaitsAndLooks (λ from to. H.did from to self.old.me)
-            (λ then party. HasWaited true party (H.pending (H.clock then)) (waits_until since self.old.deadline))
-            (H.count hall.old) (after_alloc self.new.asked self.old) (ask_of self.old.me self.new.asked asked.now) sent hall.new) }
         ensures asked { IfOk result (λ run. IsAsked (H.seen hall.new self.old.me) (H.heard hall.new self.old.me) self.old.me
             self.old.asked self.new.asked asked.now run) }
         ensures grows { IfOk result (λ run. GrowsHeld asked.now.heap run (H.part hall.old self.old.me asked.now.heap)

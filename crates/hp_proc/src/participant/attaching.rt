@@ -1,8 +1,9 @@
 //! The lines by which a participant attaches and detaches.
-ghost use Rattle.std.specs.Prelude.{◌≡◌, ◌≢◌, ℕ, ◌^◌, ◌<◌, ◌≤◌, ◌∷◌, [], Some, None, IfOk, OnErr, false, true};
+ghost use Rattle.std.specs.Prelude.{◌≡◌, ◌≢◌, ℕ, ◌^◌, ◌<◌, ◌≤◌, ◌∷◌, ◌++◌, [], Some, None, IfOk, OnErr, false, true, length};
 ghost use Rattle.hp_base.specs.Mapping.{is_done};
 ghost use Rattle.hp_base.specs.declared.limits.TheConstants.{MAX_HEAPS};
 ghost use Rattle.hp_maps.specs.MapsView.{calls_of};
+ghost use Rattle.hp_script.specs.declared.answer.Answer.TheVariants as answer;
 ghost use Rattle.hp_script.specs.declared.line.Act.TheVariants as act;
 ghost use Rattle.hp_segs.specs.LaterSteps.{after_leave};
 ghost use Rattle.hp_segs.specs.SegsView.{SegsView};
@@ -11,7 +12,7 @@ ghost use Rattle.hp_proc.specs.Doing.{Doing};
 ghost use Rattle.hp_proc.specs.Lines.{attached_with};
 ghost use Rattle.hp_proc.specs.Party.{IsSameParty, with_context, with_standing};
 ghost use Rattle.hp_proc.specs.Progress.{DoesLine, MayDo, moment_of};
-ghost use Rattle.hp_proc.specs.Serving.{IsWorn, gives_segments, takes_segments};
+ghost use Rattle.hp_proc.specs.Serving.{IsWorn, acks_behind, gives_segments, takes_segments};
 ghost use Rattle.hp_proc.specs.Tied.{IsTied};
 
 use super::Participant;
@@ -32,8 +33,8 @@ impl<'p, M: Mapper> Participant<'p, M> {
         requires tied { IsTied (H.seen hall.old self.old.me) (H.own hall.old self.old.me) self.old.joined self.old.maps }
         requires calls { calls_of self.old.maps ≤ 2 ^ 63 }
         ensures did { (segs : SegsView) × Attaches self.old self.new segs.log result
-            × H.did hall.old hall.new self.old.me
-            (takes_segments segs ∷ gives_segments (after_attaching self.old.me result segs) ∷ []) }
+            × H.did hall.old hall.new self.old.me (takes_segments segs
+            ∷ (acks_behind result (length segs.log) ++ (gives_segments (after_attaching self.old.me result segs) ∷ []))) }
         ensures tied { IsTied (H.seen hall.new self.old.me) (H.own hall.new self.old.me) self.new.joined self.new.maps }
         ensures failed { is_done result ≡ false → H.own hall.new self.old.me ≡ H.own hall.old self.old.me }
 
@@ -119,6 +120,10 @@ impl<'p, M: Mapper> Participant<'p, M> {
             → MayDo (moment_of self.new (H.part hall.new self.old.me) (H.seen hall.new self.old.me) (H.heard hall.new self.old.me)) }
         ensures tied { IsTied (H.seen hall.new self.old.me) (H.own hall.new self.old.me) self.new.joined self.new.maps }
         ensures same { IsSameParty (with_context self.new.context self.old) self.new }
+
+        // Where a mapping failed, it has acknowledged as many records as before.
+        ensures failed { IfOk result (λ given. (call : ℕ) → given ≡ answer.Refused call
+            → H.own hall.new self.old.me ≡ H.own hall.old self.old.me) }
 
         // Its mapper has made too many calls, and all is as it was.
         ensures worn { OnErr result (IsWorn self.old.maps) }

@@ -11,13 +11,12 @@ ghost use Rattle.hp_heap.specs.PlainHeap.{PlainHeap};
 ghost use Rattle.hp_segs.specs.SegsView.{SegsView};
 ghost use Rattle.hp_segs.specs.Steps.{after_retire};
 ghost use Rattle.hp_proc.specs.Asking.{GivesUp, IsCutFrom, free_body};
-ghost use Rattle.hp_proc.specs.AskSteps.{DoesNotify, waits_until};
+ghost use Rattle.hp_proc.specs.AskSteps.{DoesNotify};
 ghost use Rattle.hp_proc.specs.Clocks.{RisesWithin, longest_wait};
 ghost use Rattle.hp_proc.specs.Frames.{Says};
 ghost use Rattle.hp_proc.specs.Party.{IsSameParty, after_free, one_more};
 ghost use Rattle.hp_proc.specs.Serving.{gives_segments, takes_segments};
 ghost use Rattle.hp_proc.specs.Tied.{IsTied};
-ghost use Rattle.hp_proc.specs.Waiting.{HasWaited, IsReading};
 
 use super::Participant;
 use crate::own_posts::{free_body, post_own};
@@ -96,9 +95,6 @@ impl<'p, M: Mapper> Participant<'p, M> {
         ensures did { OnOk result ((steps : List MailStep) × H.did hall.old hall.new self.old.me steps
             × DoesNotify (H.count hall.old) self.old self.new heap run.now steps) }
 
-        // It was answered, or its clock has come to three deadlines behind a reading of it.
-        ensures awaited { OnOk result ((since : ℕ) × IsReading (λ deadline. H.pending (H.clock hall.old) deadline ≡ H.scale) since
-            × HasWaited true self.new (H.pending (H.clock hall.new)) (waits_until since self.old.deadline)) }
         ensures asked { OnOk result (self.new.asked ≡ self.old.asked + 1) }
         ensures part { (index : ℕ) → H.part hall.new self.old.me index ≡ H.part hall.old self.old.me index }
         ensures tied { IsTied (H.seen hall.new self.old.me) (H.own hall.new self.old.me) self.new.joined self.new.maps }

@@ -1,12 +1,14 @@
 //! The polls of participant 0: when it makes one, and what it does at an empty mailbox.
-ghost use Rattle.std.specs.Prelude.{◌≡◌, ◌≢◌, ℕ, ◌+◌, ◌-◌, ◌*◌, ◌^◌, ◌<◌, ◌≤◌, List, [], true, false, None, Ok, Some, OnOk, is_ok};
+ghost use Rattle.std.specs.Prelude.{◌≡◌, ◌≢◌, ℕ, ◌+◌, ◌-◌, ◌*◌, ◌^◌, ◌<◌, ◌≤◌, Bool, List, [], ◌∷◌, true, false, None, Ok, Some, OnOk, is_ok};
 ghost use Rattle.std.specs.Result.{result_ok};
 ghost use Rattle.hp_base.specs.declared.limits.TheConstants.{MAX_HEAPS};
 ghost use Rattle.hp_core.specs.declared.event.CoreEvent.TheVariants.{Poll};
-ghost use Rattle.hp_hall.specs.Mail.{MailStep};
-ghost use Rattle.hp_proc.specs.Coordinating.{IsHandled, IsRested, core_holds};
+ghost use Rattle.hp_hall.specs.Mail.{MailStep, Notes};
+ghost use Rattle.hp_hall.specs.declared.note.Note.{Note};
+ghost use Rattle.hp_proc.specs.Coordinating.{IsPolled, IsRested, core_holds};
 ghost use Rattle.hp_proc.specs.Falling.{IsDue, own_weight, served_of};
 ghost use Rattle.hp_proc.specs.Party.{IsSameParty, due_in};
+ghost use Rattle.hp_proc.specs.Serving.{answer_behind};
 ghost use Rattle.hp_proc.specs.Tied.{IsTied};
 
 use super::Participant;
@@ -25,8 +27,8 @@ impl<'p, M: Mapper> Participant<'p, M> {
         requires free { H.taken hall.old MAX_HEAPS ≡ None }
         requires home { H.may_take hall.old MAX_HEAPS }
         requires tied { IsTied (H.seen hall.old 0) (H.own hall.old 0) self.old.joined self.old.maps }
-        ensures polled { (acks : List ℕ) × (steps : List MailStep) × H.did hall.old hall.new 0 steps
-            × IsHandled (H.count hall.old) (Poll now acks) self.old self.new steps (is_ok result) }
+        ensures polled { (steps : List MailStep) × H.did hall.old hall.new 0 steps
+            × IsPolled (H.count hall.old) now self.old self.new steps (is_ok result) }
         ensures weight { H.weight hall.new + own_weight H.scale (H.pending (H.clock hall.new)) self.new.core
             ≤ H.weight hall.old + own_weight H.scale (H.pending (H.clock hall.old)) self.old.core }
         ensures due { ((acks : List ℕ) → IsDue self.old.core (Poll now acks)) → OnOk result (
@@ -57,8 +59,8 @@ impl<'p, M: Mapper> Participant<'p, M> {
         requires free { H.taken hall.old MAX_HEAPS ≡ None }
         requires home { H.may_take hall.old MAX_HEAPS }
         requires tied { IsTied (H.seen hall.old 0) (H.own hall.old 0) self.old.joined self.old.maps }
-        ensures polled { (now : ℕ) × (acks : List ℕ) × (steps : List MailStep) × H.did hall.old hall.new 0 steps
-            × IsHandled (H.count hall.old) (Poll now acks) self.old self.new steps (is_ok result) }
+        ensures polled { (now : ℕ) × (steps : List MailStep) × H.did hall.old hall.new 0 (Notes (Note.Read now) ∷ steps)
+            × IsPolled (H.count hall.old) now self.old self.new steps (is_ok result) }
         ensures weight { H.weight hall.new + own_weight H.scale (H.pending (H.clock hall.new)) self.new.core
             ≤ H.weight hall.old + own_weight H.scale (H.pending (H.clock hall.old)) self.old.core }
         ensures tied { IsTied (H.seen hall.new 0) (H.own hall.new 0) self.new.joined self.new.maps }
@@ -97,8 +99,8 @@ impl<'p, M: Mapper> Participant<'p, M> {
         requires home { H.may_take hall.old MAX_HEAPS }
         requires tied { IsTied (H.seen hall.old 0) (H.own hall.old 0) self.old.joined self.old.maps }
         requires due { (acks : List ℕ) → IsDue self.old.core (Poll now acks) }
-        ensures rested { (steps : List MailStep) × H.did hall.old hall.new 0 steps
-            × IsRested (H.count hall.old) self.old self.new steps (result_ok result) }
+        ensures polled { (goes : Bool) × (steps : List MailStep) × H.did hall.old hall.new 0 steps
+            × IsPolled (H.count hall.old) now self.old self.new steps goes × (result_ok result ≡ answer_behind goes) }
         ensures weight { H.weight hall.new + own_weight H.scale (H.pending (H.clock hall.new)) self.new.core + H.scale * served_of result
             ≤ H.weight hall.old + own_weight H.scale (H.pending (H.clock hall.old)) self.old.core }
         ensures moves { result ≡ Ok false → ⊥ }

@@ -1,14 +1,27 @@
 //! How a participant waits: its turns, and the wait for an answer.
 ghost use Rattle.std.specs.Prelude.{◌≡◌, ℕ, ◌+◌, ◌-◌, ◌*◌, ◌^◌, ◌<◌, ◌≤◌, ◌||◌, ◌⊎◌};
-ghost use Rattle.std.specs.Prelude.{List, [], false, true, None, Ok, Some, IfOk, OnErr, OnOk, is_ok};
+ghost use Rattle.std.specs.Prelude.{List, [], ◌∷◌, false, true, None, Ok, Some, IfOk, OnErr, OnOk};
 ghost use Rattle.std.specs.Result.{result_ok};
 ghost use Rattle.hp_base.specs.declared.limits.TheConstants.{MAX_HEAPS};
-ghost use Rattle.hp_hall.specs.Mail.{MailStep};
+ghost use Rattle.hp_hall.specs.Mail.{MailStep, Notes};
 ghost use Rattle.hp_hall.specs.Weights.{pause_weight};
+ghost use Rattle.hp_hall.specs.declared.note.Note.{Note};
 ghost use Rattle.hp_proc.specs.Falling.{own_weight, served_of};
 ghost use Rattle.hp_proc.specs.Party.{IsSameParty, due_in};
 ghost use Rattle.hp_proc.specs.Tied.{IsTied};
-ghost use Rattle.hp_proc.specs.Waiting.{HasWaited, IsReading, IsServedOut, IsSoonerOf, IsTurned, IsWaited, LeavesAsked, PausesFor, is_over};
+ghost use Rattle.hp_proc.specs.Waiting.{
+  HasWaited,
+  HaveServed,
+  IsReading,
+  IsServedOut,
+  IsSoonerOf,
+  IsTurned,
+  IsWaited,
+  LeavesAsked,
+  PausesAt,
+  PausesFor,
+  WaitsOn,
+};
 
 use super::Participant;
 use hp_base::Mapper;
@@ -74,14 +87,14 @@ impl<'p, M: Mapper> Participant<'p, M> {
         requires serves { H.serves hall.old self.now.me }
         requires before { H.pending (H.clock hall.old) until ≡ H.scale }
         ensures sooner { (reading : ℕ) × IsReading (λ deadline. H.pending (H.clock hall.old) deadline ≡ H.scale) reading
-            × IsSoonerOf reading until (due_in self.now.core) result }
+            × IsSoonerOf reading until (due_in self.now.core) result
+            × H.did hall.old hall.new self.now.me (Notes (Note.Read reading) ∷ []) }
         ensures before { H.pending (H.clock hall.new) result ≡ H.scale }
 
         ensures taken { (number : ℕ) → H.taken hall.new number ≡ H.taken hall.old number }
         ensures home { (number : ℕ) → H.may_take hall.old number → H.may_take hall.new number }
         ensures part { (who heap : ℕ) → H.part hall.new who heap ≡ H.part hall.old who heap }
         ensures own { (who : ℕ) → H.own hall.new who ≡ H.own hall.old who }
-        ensures did { (who : ℕ) → H.did hall.old hall.new who [] }
         ensures weight { H.weight hall.new ≤ H.weight hall.old }
         ensures clock { H.clock hall.new ≡ H.clock hall.old }
         ensures goes_on { H.goes_on hall.old hall.new }
@@ -97,8 +110,8 @@ impl<'p, M: Mapper> Participant<'p, M> {
         requires free { H.taken hall.old MAX_HEAPS ≡ None }
         requires home { H.may_take hall.old MAX_HEAPS }
         requires tied { IsTied (H.seen hall.old self.old.me) (H.own hall.old self.old.me) self.old.joined self.old.maps }
-        ensures turned { (steps : List MailStep) × H.did hall.old hall.new self.old.me steps
-            × IsTurned (H.count hall.old) self.old self.new steps (result_ok result) }
+        ensures served { (steps : List MailStep) × H.did hall.old hall.new self.old.me steps
+            × HaveServed (H.count hall.old) self.old self.new steps (result_ok result) }
         ensures tied { IsTied (H.seen hall.new self.old.me) (H.own hall.new self.old.me) self.new.joined self.new.maps }
         ensures weight { H.weight hall.new + own_weight H.scale (H.pending (H.clock hall.new)) self.new.core + H.scale * served_of result
             ≤ H.weight hall.old + own_weight H.scale (H.pending (H.clock hall.old)) self.old.core }
@@ -133,7 +146,8 @@ impl<'p, M: Mapper> Participant<'p, M> {
         ensures home { (number : ℕ) → H.may_take hall.old number → H.may_take hall.new number }
         ensures part { (heap : ℕ) → H.part hall.new self.now.me heap ≡ H.part hall.old self.now.me heap }
         ensures own { H.own hall.new self.now.me ≡ H.own hall.old self.now.me }
-        ensures did { H.did hall.old hall.new self.now.me [] }
+        ensures did { (steps : List MailStep) × H.did hall.old hall.new self.now.me steps
+            × PausesAt until (due_in self.now.core) moved steps }
         ensures goes_on { H.goes_on hall.old hall.new }
     {
         let next = self.next_deadline(hall, until);
@@ -153,7 +167,7 @@ impl<'p, M: Mapper> Participant<'p, M> {
 
         // What the participant did, and what that makes of it.
         ensures turned { (steps : List MailStep) × H.did hall.old hall.new self.old.me steps
-            × IsTurned (H.count hall.old) self.old self.new steps (result_ok result) }
+            × IsTurned (H.count hall.old) until self.old self.new steps (result_ok result) }
         ensures tied { IsTied (H.seen hall.new self.old.me) (H.own hall.new self.old.me) self.new.joined self.new.maps }
 
         // Each turn makes this number smaller, and one that somebody stopped does not raise it.
@@ -184,12 +198,11 @@ impl<'p, M: Mapper> Participant<'p, M> {
         Ok(moved)
     }
 
-    // Whether its wait is over at a reading of the clock: that has reached the deadline, or, where it heeds that, its last ask is
+    // Whether its wait has ended at a reading of the clock: that has reached the deadline, or, where it heeds that, its last ask is
     // answered.
     fn ends_wait(&self, reading: u64, until: u64, heeds: bool) -> bool
-        ensures over { result ≡ true → (is_over heeds self.now ≡ true) ⊎ (until ≤ reading) }
-        ensures unanswered { result ≡ false → is_over heeds self.now ≡ false }
-        ensures early { result ≡ false → reading < until }
+        ensures ended { result ≡ true → HasWaited heeds self.now until reading }
+        ensures waits_on { result ≡ false → WaitsOn heeds self.now until reading }
     {
         if until <= reading {
             return true;
@@ -211,12 +224,10 @@ impl<'p, M: Mapper> Participant<'p, M> {
         requires home { H.may_take hall.old MAX_HEAPS }
         requires tied { IsTied (H.seen hall.old self.old.me) (H.own hall.old self.old.me) self.old.joined self.old.maps }
         ensures turned { (steps : List MailStep) × H.did hall.old hall.new self.old.me steps
-            × IsWaited (H.count hall.old) heeds self.old self.new steps (is_ok result) }
+            × IsWaited (H.count hall.old) until heeds self.old self.new steps (result_ok result) }
         ensures tied { IsTied (H.seen hall.new self.old.me) (H.own hall.new self.old.me) self.new.joined self.new.maps }
 
-        // It ends at the answer or at the deadline, with a reading of the clock as it is then.
-        ensures over { IfOk result (λ reading. (is_over heeds self.new ≡ true) ⊎ (until ≤ reading)) }
-        ensures reached { IfOk result (λ reading. HasWaited heeds self.new (H.pending (H.clock hall.new)) until) }
+        // Its last reading is one of the clock as it is then.
         ensures waited { heeds ≡ false → IfOk result (λ reading. until ≤ reading) }
         ensures reading { IfOk result (λ reading. IsReading (λ deadline. H.pending (H.clock hall.new) deadline ≡ H.scale) reading) }
         ensures clock { (H.clock hall.new ≡ H.clock hall.old) ⊎ (H.clock hall.new ≤ until) }

@@ -21,10 +21,10 @@ returns-clause-did g c =
       caught.0,
       caught.1,
       caught.2,
-      g.met.H.Hall.did_then c.args.hall.now c.take_segments-segs.new.hall c.give_attached.new.hall me (takes_segments segs ∷ []) (gives ∷ [])
+      g.met.H.Hall.did_then c.args.hall.now c.take_segments-segs.new.hall c.give_attached.new.hall me (takes_segments segs ∷ []) _
           c.take_segments-segs.ensures.did
-          (g.met.H.Hall.did_then c.take_segments-segs.new.hall c.take_whole_log-caught.new.hall c.give_attached.new.hall me [] (gives ∷ [])
-          (c.take_whole_log-caught.ensures.did me) c.give_attached.ensures.did),
+          (g.met.H.Hall.did_then c.take_segments-segs.new.hall c.take_whole_log-caught.new.hall c.give_attached.new.hall me _ (gives ∷ [])
+          c.take_whole_log-caught.ensures.did c.give_attached.ensures.did),
     )
 
 pub returns-clause-did_others : goal.returns-clause-did_others
@@ -33,7 +33,7 @@ returns-clause-did_others g c =
     g.met.H.Hall.did_then c.args.hall.now c.take_segments-segs.new.hall c.give_attached.new.hall who [] []
     (c.take_segments-segs.ensures.did_others who apart)
     (g.met.H.Hall.did_then c.take_segments-segs.new.hall c.take_whole_log-caught.new.hall c.give_attached.new.hall who [] []
-    (c.take_whole_log-caught.ensures.did who) (c.give_attached.ensures.did_others who apart))
+    (c.take_whole_log-caught.ensures.did_others who apart) (c.give_attached.ensures.did_others who apart))
 
 pub returns-clause-goes_on : goal.returns-clause-goes_on
 returns-clause-goes_on g c =

@@ -40,8 +40,8 @@ returns-clause-did g c =
       posted.0,
       posted.1,
       subst (Says posted.0) c.give_noted-reply.ensures.reply posted.2,
-      g.met.H.Hall.did_then c.args.hall.now c.take_in-caught.new.hall c.post_reply.new.hall me [] (gives ∷ posts ∷ [])
-          (c.take_in-caught.ensures.did me)
+      g.met.H.Hall.did_then c.args.hall.now c.take_in-caught.new.hall c.post_reply.new.hall me _ (gives ∷ posts ∷ [])
+          c.take_in-caught.ensures.did
           (g.met.H.Hall.did_then c.take_in-caught.new.hall c.give_noted-reply.new.hall c.post_reply.new.hall me (gives ∷ []) (posts ∷ [])
           c.give_noted-reply.ensures.did posted.3),
     )
@@ -49,7 +49,8 @@ returns-clause-did g c =
 pub returns-clause-did_others : goal.returns-clause-did_others
 returns-clause-did_others g c =
     λ who apart.
-    g.met.H.Hall.did_then c.args.hall.now c.take_in-caught.new.hall c.post_reply.new.hall who [] [] (c.take_in-caught.ensures.did who)
+    g.met.H.Hall.did_then c.args.hall.now c.take_in-caught.new.hall c.post_reply.new.hall who [] []
+    (c.take_in-caught.ensures.did_others who apart)
     (g.met.H.Hall.did_then c.take_in-caught.new.hall c.give_noted-reply.new.hall c.post_reply.new.hall who [] []
     (c.give_noted-reply.ensures.did_others who apart) (c.post_reply.ensures.did_others who apart))
 

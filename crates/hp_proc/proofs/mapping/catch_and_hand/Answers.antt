@@ -1,8 +1,11 @@
 -- The table is tied to the log as it was taken, and so to the log that is given back.
-use Rattle.std.proofs.Common.{◌∙◌, [], refl, sym, subst, arith}
+use Rattle.std.proofs.Common.{◌∙◌, [], ◌∷◌, refl, sym, subst, arith}
+use Rattle.hp_hall.specs.Mail.{Notes}
+use Rattle.hp_hall.specs.declared.note.Note.TheVariants.{Loaded, Read}
 use Rattle.hp_proc.specs.Tied.{IsTied}
 use Rattle.hp_proc.proofs.Handed.{mapped_number, tied_still}
 use Rattle.hp_proc.proofs.Standing.{standing_with}
+use Rattle.hp_proc.proofs.Steps.{other_step, own_step}
 use Rattle.hp_proc.proofs.mapping.catch_and_hand.Goals as goal
 
 pub hand-requires-clause-known : goal.hand-requires-clause-known
@@ -24,13 +27,22 @@ hand-requires-clause-standing g c =
 
 pub returns-clause-handed : goal.returns-clause-handed
 returns-clause-handed g c =
-    let handed = c.hand.ensures.handed in (
-      handed.0,
-      g.met.H.Hall.did_then _ _ _ 0 [] _ (c.take_in-caught.ensures.did 0)
-          (g.met.H.Hall.did_then _ _ _ 0 [] _ (c.load_ack-number.ensures.did 0)
-          (g.met.H.Hall.did_then _ _ _ 0 [] _ (c.now-now.ensures.did 0) handed.1)),
+    let own = c.load_ack-number.result in
+    let now = c.now-now.result in
+    let handed = c.hand.ensures.handed in
+    let loaded =
+    subst (g.H.Hall.did c.take_in-caught.new.hall c.load_ack-number.new.self 0) (own_step 0 (Notes (Loaded 0 own)))
+    (c.load_ack-number.ensures.did 0)
+    in
+    let read = subst (g.H.Hall.did c.load_ack-number.new.self c.now-now.new.self 0) (own_step 0 (Notes (Read now))) (c.now-now.ensures.did 0)
+    in (
       c.take_in-caught.result,
-      c.now-now.result,
+      own,
+      now,
+      handed.0,
+      g.met.H.Hall.did_then _ _ _ 0 _ _ c.take_in-caught.ensures.did
+          (g.met.H.Hall.did_then _ _ _ 0 (Notes (Loaded 0 own) ∷ []) _ loaded
+          (g.met.H.Hall.did_then _ _ _ 0 (Notes (Read now) ∷ []) _ read handed.1)),
       c.take_in-caught.ensures.caught,
       c.has_table-has.ensures,
       handed.2,
@@ -47,9 +59,16 @@ returns-clause-tied g c =
 
 pub returns-clause-did_others : goal.returns-clause-did_others
 returns-clause-did_others g c = λ who apart.
-    g.met.H.Hall.did_then _ _ _ who [] [] (c.take_in-caught.ensures.did who)
-    (g.met.H.Hall.did_then _ _ _ who [] [] (c.load_ack-number.ensures.did who)
-    (g.met.H.Hall.did_then _ _ _ who [] [] (c.now-now.ensures.did who) (c.hand.ensures.did_others who apart)))
+    let loaded =
+    subst (g.H.Hall.did c.take_in-caught.new.hall c.load_ack-number.new.self who)
+    (other_step who 0 (Notes (Loaded 0 c.load_ack-number.result)) apart) (c.load_ack-number.ensures.did who)
+    in
+    let read =
+    subst (g.H.Hall.did c.load_ack-number.new.self c.now-now.new.self who) (other_step who 0 (Notes (Read c.now-now.result)) apart)
+    (c.now-now.ensures.did who)
+    in
+    g.met.H.Hall.did_then _ _ _ who [] [] (c.take_in-caught.ensures.did_others who apart)
+    (g.met.H.Hall.did_then _ _ _ who [] [] loaded (g.met.H.Hall.did_then _ _ _ who [] [] read (c.hand.ensures.did_others who apart)))
 
 pub returns-clause-goes_on : goal.returns-clause-goes_on
 returns-clause-goes_on g c =

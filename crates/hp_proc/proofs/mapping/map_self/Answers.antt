@@ -1,7 +1,9 @@
 -- Participant 0 has caught up, or its mapper has made too many calls.
-use Rattle.std.proofs.Common.{◌≡◌, ◌∙◌, [], ◌∷◌, sym}
+use Rattle.std.proofs.Common.{◌≡◌, ◌∙◌, [], ◌∷◌, ◌++◌, length, sym}
 use Rattle.hp_base.specs.declared.limits.TheConstants.{MAX_HEAPS}
-use Rattle.hp_proc.specs.Serving.{gives_segments, takes_segments}
+use Rattle.hp_hall.specs.Mail.{Notes}
+use Rattle.hp_hall.specs.declared.note.Note.TheVariants.{Loaded, Read}
+use Rattle.hp_proc.specs.Serving.{acks_behind, gives_segments, takes_segments}
 use Rattle.hp_proc.proofs.Handed.{mapped_by, tied_still, worn_by}
 use Rattle.hp_proc.proofs.MemberLemmas.{at_each}
 use Rattle.hp_proc.proofs.mapping.map_self.Goals as goal
@@ -42,11 +44,13 @@ catch_and_hand-requires-clause-tied g c =
 pub returns-clause-mapped : goal.returns-clause-mapped
 returns-clause-mapped g c =
     let segs = c.take_segments-segs.result in
-    let handed = c.catch_and_hand.ensures.handed in (
-      takes_segments segs ∷ handed.0,
-      g.met.H.Hall.did_then _ _ _ 0 _ _ c.take_segments-segs.ensures.did handed.1,
+    let handed = c.catch_and_hand.ensures.handed in
+    let behind =
+    acks_behind handed.0 (length segs.log) ++ (Notes (Loaded 0 handed.1) ∷ Notes (Read handed.2) ∷ handed.3) in (
+      takes_segments segs ∷ behind,
+      g.met.H.Hall.did_then _ _ _ 0 (takes_segments segs ∷ []) behind c.take_segments-segs.ensures.did handed.4,
       λ party. mapped_by party c.args.core.now c.catch_and_hand.new.core c.args.maps.now c.catch_and_hand.new.maps c.args.joined.now
-          c.catch_and_hand.new.joined segs handed.2 handed.3 handed.0 _ handed.5 handed.4 handed.6,
+          c.catch_and_hand.new.joined segs handed.0 handed.1 handed.2 handed.3 _ handed.6 handed.5 handed.7,
     )
 
 pub returns-clause-taken : goal.returns-clause-taken

@@ -1,5 +1,5 @@
 -- It is armed, sends, and awaits its answer, each of which leaves what it holds of the heaps but what the answer brings.
-use Rattle.std.proofs.Common.{◌≡◌, ◌∙◌, ◌<◌, ◌≤◌, ◌⊎◌, ℕ, ◌^◌, true, List, [], ◌∷◌, Some, ap, sym, subst}
+use Rattle.std.proofs.Common.{◌≡◌, ◌∙◌, ◌<◌, ◌≤◌, ◌⊎◌, ℕ, List, [], ◌∷◌, Some, ap, sym, subst}
 use Rattle.std.specs.Prelude.{IfOk, OnErr}
 use Rattle.hp_base.specs.declared.limits.TheConstants.{MAX_PARTICIPANTS}
 use Rattle.hp_hall.specs.Holding.{HeapPart}
@@ -8,11 +8,10 @@ use Rattle.hp_segs.specs.LaterSteps.{after_arm}
 use Rattle.hp_segs.specs.declared.ask.Ask.{Ask}
 use Rattle.hp_proc.specs.Asking.{IsAsked, IsAwaiting, IsHeldAsBefore, HasSettledAsks, Settles, next_number}
 use Rattle.hp_proc.specs.Outcomes.{ask_of}
-use Rattle.hp_proc.specs.AskSteps.{DoesAsk, IsAwaitedBy, IsSentAs, WaitsAndLooks, waits_until}
-use Rattle.hp_proc.specs.Party.{Party, after_alloc}
+use Rattle.hp_proc.specs.AskSteps.{DoesAsk, IsAwaitedBy, waits_until}
+use Rattle.hp_proc.specs.Party.{Party}
 use Rattle.hp_proc.specs.Serving.{gives_segments, takes_segments}
-use Rattle.hp_proc.specs.Waiting.{HasWaited, IsReading}
-use Rattle.hp_proc.proofs.AskDone.{does_ask, sent_as, waits_as}
+use Rattle.hp_proc.proofs.AskDone.{does_ask}
 use Rattle.hp_proc.proofs.AskedAlong.{awaits_along, held_same, held_then, if_ok, in_both, is_asked, on_err, on_ok, settled_by}
 use Rattle.hp_proc.proofs.Rising.{wait_rises}
 use Rattle.hp_proc.proofs.Tying.{tied_since}
@@ -157,64 +156,15 @@ returns-clause-did g c =
           (g.met.H.Hall.did_then _ _ _ me _ _
           (subst (λ who. g.H.Hall.did old c.arm.new.hall who (takes_segments armed.0 ∷ gives_segments (after_arm ask armed.0) ∷ [])) mine
           armed.2)
-          sent.3)
+          sent.5)
           (subst (λ who. g.H.Hall.did c.send-since.new.hall new who awaited.0) who awaited.1),
-      does_ask (g.H.Hall.count old) party c.send-since.new.self after asked ask c.send-since.result armed.0 sent.0 sent.1 awaited.0 run
-          ask_is
+      does_ask (g.H.Hall.count old) party c.send-since.new.self after asked ask c.send-since.result sent.0 armed.0 sent.1 sent.2 awaited.0
+          run ask_is
           (subst (λ (party : Party). ask.number ≡ next_number party.asked armed.0.asks party.me) c.self.view_is armed.1)
-          c.send-since.ensures.early
-          (c.await_answer.ensures.asked ∙ ap (λ (party : Party). party.asked) c.send-since.ensures.sent) c.send-since.ensures.sent sent.2
+          sent.3
+          (c.await_answer.ensures.asked ∙ ap (λ (party : Party). party.asked) c.send-since.ensures.sent) c.send-since.ensures.sent sent.4
           (subst (λ count. IsAwaitedBy count c.send-since.new.self after ask c.send-since.result awaited.0 run) count awaited.2),
     )) c.await_answer.ensures.did
-
-pub returns-clause-awaited : goal.returns-clause-awaited
-returns-clause-awaited g c =
-    let party = c.args.self.now in
-    let me = party.me in
-    let ask = c.in_ok-ask.ask in
-    let asked = c.args.asked.now in
-    let old = c.args.hall.now in
-    let between = c.send-since.new.hall in
-    let new = c.await_answer.new.hall in
-    let after = c.await_answer.new.self in
-    let since = c.send-since.result in
-    let posted = c.send-since.ensures.did in
-    let armed = c.in_ok-ask.ensures.did in
-    let mine = ap (λ (party : Party). party.me) c.self.view_is in
-    let count =
-    g.met.H.Hall.goes_on_count _ _ (g.met.H.Hall.goes_on_then _ _ _ c.arm.ensures.goes_on c.send-since.ensures.goes_on) in
-    let still = c.send-since.ensures.clock ∙ c.arm.ensures.clock in
-    let ask_is = subst (λ (party : Party). ask ≡ ask_of party.me ask.number asked) c.self.view_is c.in_ok-ask.ensures.asked in
-    let number = c.await_answer.ensures.asked ∙ ap (λ (party : Party). party.asked) c.send-since.ensures.sent in
-    if_ok _ (λ run. (since : ℕ) × (sent : g.row.H.Denot) × (sending : List MailStep)
-    × IsReading (λ deadline. deadline ≤ 2 ^ 63 → g.H.Hall.pending (g.H.Hall.clock old) deadline ≡ g.H.Hall.scale) since
-    × IsSentAs party (ask_of me after.asked asked) sending × g.H.Hall.did old sent me sending
-    × WaitsAndLooks (λ from to. g.H.Hall.did from to me)
-    (λ then party_2. HasWaited true party_2 (g.H.Hall.pending (g.H.Hall.clock then)) (waits_until since party.deadline))
-    (g.H.Hall.count old) (after_alloc after.asked party) (ask_of me after.asked asked) sent new)
-    c.await_answer.result
-    (λ run waits. (
-      since,
-      between,
-      _,
-      subst (λ (at : ℕ). IsReading (λ deadline. deadline ≤ 2 ^ 63 → g.H.Hall.pending at deadline ≡ g.H.Hall.scale) since) still
-          c.send-since.ensures.before,
-      sent_as party after asked ask armed.0 posted.0 posted.1 ask_is
-          (subst (λ (party : Party). ask.number ≡ next_number party.asked armed.0.asks party.me) c.self.view_is armed.1) number posted.2,
-      g.met.H.Hall.did_then _ _ _ me _ _
-          (subst (λ who. g.H.Hall.did old c.arm.new.hall who (takes_segments armed.0 ∷ gives_segments (after_arm ask armed.0) ∷ [])) mine
-          armed.2)
-          posted.3,
-      waits_as (λ from to. g.H.Hall.did from to me)
-          (λ then party_2. HasWaited true party_2 (g.H.Hall.pending (g.H.Hall.clock then)) (waits_until since party.deadline))
-          (g.H.Hall.count old) party after asked ask between new ask_is number
-          (subst (λ (mid : Party). WaitsAndLooks (λ from to. g.H.Hall.did from to mid.me)
-          (λ then party_2. HasWaited true party_2 (g.H.Hall.pending (g.H.Hall.clock then)) (waits_until since mid.deadline))
-          (g.H.Hall.count old) mid ask between new) c.send-since.ensures.sent
-          (subst (λ count. WaitsAndLooks (λ from to. g.H.Hall.did from to c.send-since.new.self.me)
-          (λ then party_2. HasWaited true party_2 (g.H.Hall.pending (g.H.Hall.clock then))
-          (waits_until since c.send-since.new.self.deadline)) count c.send-since.new.self ask between new) count waits)),
-    )) c.await_answer.ensures.awaited
 
 pub await_answer-requires-clause-few : goal.await_answer-requires-clause-few
 await_answer-requires-clause-few g c =

@@ -1,10 +1,10 @@
 -- It awaits its answer as it did before the wait and before a look that found nothing, and its table is tied along the look.
-use Rattle.std.proofs.Common.{◌≡◌, ◌∙◌, ◌≤◌, ◌⊎◌, ℕ, true, List, [], refl, append-nil, sym, subst}
+use Rattle.std.proofs.Common.{◌≡◌, ◌∙◌, ◌≤◌, ◌⊎◌, ℕ, true, List, Some, refl, sym, subst}
 use Rattle.hp_hall.specs.Mail.{MailStep}
-use Rattle.hp_proc.specs.AskSteps.{IsAwaitedBy, IsSettledLate, WaitsAndLooks, waits_until}
+use Rattle.hp_proc.specs.AskSteps.{IsAwaitedBy, IsSettledLate, waits_until}
 use Rattle.hp_proc.specs.Asking.{IsAwaiting}
 use Rattle.hp_proc.specs.Tied.{IsTied}
-use Rattle.hp_proc.specs.Waiting.{HasWaited}
+use Rattle.hp_proc.specs.Waiting.{IsWaited}
 use Rattle.hp_proc.proofs.AskedAlong.{awaits_along, if_ok}
 use Rattle.hp_proc.proofs.Rising.{waits_on}
 use Rattle.hp_proc.proofs.Tying.{tied_since}
@@ -48,7 +48,9 @@ returns-in-Settled-clause-did g c =
       _,
       g.met.H.Hall.did_then _ _ _ c.args.self.now.me _ _ waited.1
           (subst (λ who. g.H.Hall.did c.wait.new.hall c.look.new.hall who looked.0) c.requires.own looked.1),
-      IsAwaitedBy.finds waited.0 looked.0 waited.2 looked.2 refl,
+      IsAwaitedBy.finds c.in_ok-_reading._reading waited.0 looked.0
+          (subst (λ until. IsWaited (g.H.Hall.count c.args.hall.now) until true c.args.self.now c.wait.new.self waited.0
+          (Some c.in_ok-_reading._reading)) c.waits_until-until.ensures waited.2) looked.2 refl,
     )
 
 pub returns-in-Open-clause-did : goal.returns-in-Open-clause-did
@@ -68,59 +70,11 @@ returns-in-Open-clause-did g c =
           (g.met.H.Hall.did_then _ _ _ me _ _ (subst (λ who. g.H.Hall.did c.wait.new.hall c.look.new.hall who looked.0) c.requires.own
           looked.1)
           (subst (λ who. g.H.Hall.did c.look.new.hall new who late.0) c.wait.ensures.same.me late.1)),
-      IsAwaitedBy.settles c.wait.new.self waited.0 looked.0 late.0 waited.2 looked.2
+      IsAwaitedBy.settles c.wait.new.self c.in_ok-_reading._reading waited.0 looked.0 late.0
+          (subst (λ until. IsWaited (g.H.Hall.count old) until true c.args.self.now c.wait.new.self waited.0
+          (Some c.in_ok-_reading._reading)) c.waits_until-until.ensures waited.2) looked.2
           (subst (λ count. IsSettledLate count c.wait.new.self c.settle_late.new.self ask c.args.since late.0) count late.2) refl,
     )) c.settle_late.ensures.did
-
--- WHEN IT LOOKED
-
-pub returns-in-Settled-clause-awaited : goal.returns-in-Settled-clause-awaited
-returns-in-Settled-clause-awaited g c =
-    let waited = c.in_ok-_reading.ensures.turned in
-    let looked = c.in-Settled.ensures.did in
-    record {
-      between = c.wait.new.hall;
-      mid = c.wait.new.self;
-      waited = waited.0;
-      looked = looked.0;
-      late = [];
-      found = _;
-      waits = waited.2;
-      ended = subst (λ (until : ℕ). HasWaited true c.wait.new.self (g.H.Hall.pending (g.H.Hall.clock c.wait.new.hall)) until)
-          c.waits_until-until.ensures c.in_ok-_reading.ensures.reached;
-      look = looked.2;
-      before = waited.1;
-      behind = subst (λ steps. g.H.Hall.did c.wait.new.hall c.look.new.hall c.args.self.now.me steps) (sym (append-nil looked.0))
-          (subst (λ who. g.H.Hall.did c.wait.new.hall c.look.new.hall who looked.0) c.requires.own looked.1);
-    }
-
-pub returns-in-Open-clause-awaited : goal.returns-in-Open-clause-awaited
-returns-in-Open-clause-awaited g c =
-    let me = c.args.self.now.me in
-    let ask = c.args.ask.now in
-    let new = c.settle_late.new.hall in
-    let waited = c.in_ok-_reading.ensures.turned in
-    let looked = c.in-Open.ensures.did in
-    let count = c.look.ensures.count ∙ g.met.H.Hall.goes_on_count _ _ c.wait.ensures.goes_on in
-    if_ok _ (λ run. WaitsAndLooks (λ from to. g.H.Hall.did from to me)
-    (λ then party. HasWaited true party (g.H.Hall.pending (g.H.Hall.clock then)) (waits_until c.args.since c.args.self.now.deadline))
-    (g.H.Hall.count c.args.hall.now) c.args.self.now ask c.args.hall.now new) c.settle_late.result
-    (λ run late. record {
-      between = c.wait.new.hall;
-      mid = c.wait.new.self;
-      waited = waited.0;
-      looked = looked.0;
-      late = late.0;
-      found = _;
-      waits = waited.2;
-      ended = subst (λ (until : ℕ). HasWaited true c.wait.new.self (g.H.Hall.pending (g.H.Hall.clock c.wait.new.hall)) until)
-          c.waits_until-until.ensures c.in_ok-_reading.ensures.reached;
-      look = looked.2;
-      before = waited.1;
-      behind = g.met.H.Hall.did_then _ _ _ me _ _
-          (subst (λ who. g.H.Hall.did c.wait.new.hall c.look.new.hall who looked.0) c.requires.own looked.1)
-          (subst (λ who. g.H.Hall.did c.look.new.hall new who late.0) c.wait.ensures.same.me late.1);
-    }) c.settle_late.ensures.did
 
 -- BY HOW MUCH IT CARRIES THE CLOCK
 

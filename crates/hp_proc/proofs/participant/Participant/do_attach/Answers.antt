@@ -2,7 +2,7 @@
 use Rattle.std.proofs.Common.{◌∙◌, ap, sym}
 use Rattle.hp_proc.specs.Attaching.{standing_tried}
 use Rattle.hp_proc.specs.Party.{Party}
-use Rattle.hp_proc.proofs.AttachedLines.{attached_same, line_already, line_tried, ready_noted}
+use Rattle.hp_proc.proofs.AttachedLines.{attached_same, line_already, line_tried, ready_noted, refused_failed}
 use Rattle.hp_proc.proofs.HandGiven.{ready_still}
 use Rattle.hp_proc.proofs.participant.Participant.do_attach.Goals as goal
 
@@ -45,3 +45,8 @@ returns-clause-ready g c = λ ready.
     (standing_tried mid.maps.number c.attach-caught.result mid.context.standing) c.note_attached.ensures.noted
     (ready_still party mid (g.H.Hall.part old me) (g.H.Hall.part new me) (g.H.Hall.seen old me) (g.H.Hall.seen new me) (g.H.Hall.heard old me)
     (g.H.Hall.heard new me) others.0 (attached_same party mid is.did.0.log c.attach-caught.result is.did.1) (is.part me) others.1 ready)
+
+pub returns-clause-failed : goal.returns-clause-failed
+returns-clause-failed g c = λ call refused.
+    c.attach-caught.ensures.failed
+    (refused_failed c.attach-caught.new.self.maps.number c.attach-caught.result c.note_attached.result call c.note_attached.ensures.given refused)

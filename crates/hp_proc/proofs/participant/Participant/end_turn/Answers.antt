@@ -1,6 +1,8 @@
 -- It pauses for the sooner deadline.
-use Rattle.std.proofs.Common.{◌≡◌, ◌∙◌, ℕ, ◌≤◌, ◌⊎◌, [], ap, sym, subst, inl, inr, ⊎_elim, arith}
+use Rattle.std.proofs.Common.{◌≡◌, ◌∙◌, ℕ, ◌≤◌, ◌⊎◌, [], ◌∷◌, Some, refl, ap, sym, subst, inl, inr, ⊎_elim, arith}
+use Rattle.hp_hall.specs.Mail.{Notes}
 use Rattle.hp_hall.specs.Weights.{pause_weight}
+use Rattle.hp_hall.specs.declared.note.Note.TheVariants.{Paused}
 use Rattle.hp_proc.specs.Party.{Party}
 use Rattle.hp_proc.proofs.Scaled.{own_weight_still}
 use Rattle.hp_proc.proofs.Waits.{pause_falls}
@@ -47,9 +49,14 @@ returns-clause-paused g c =
 
 pub returns-clause-did : goal.returns-clause-did
 returns-clause-did g c =
-    g.met.H.Hall.did_then _ _ _ c.args.self.now.me [] [] (c.next_deadline-next.ensures.did c.args.self.now.me)
-    (subst (λ (who : ℕ). g.H.Hall.did c.next_deadline-next.new.hall c.pause.new.self who []) (ap (λ (party : Party). party.me) c.self.view_is)
-    c.pause.ensures.did)
+    let next = c.next_deadline-next in (
+      _,
+      g.met.H.Hall.did_then _ _ _ c.args.self.now.me _ _ next.ensures.sooner.3
+          (subst
+          (λ (who : ℕ). g.H.Hall.did next.new.hall c.pause.new.self who (Notes (Paused c.args.moved (Some next.result)) ∷ []))
+          (ap (λ (party : Party). party.me) c.self.view_is) c.pause.ensures.did),
+      record { now = next.ensures.sooner.0; next = next.result; sooner = next.ensures.sooner.2; are = refl },
+    )
 
 pub returns-clause-goes_on : goal.returns-clause-goes_on
 returns-clause-goes_on g c = g.met.H.Hall.goes_on_then _ _ _ c.next_deadline-next.ensures.goes_on c.pause.ensures.goes_on

@@ -1,11 +1,11 @@
 -- The value is taken and given back: as it was, or by one that obeys.
-use Rattle.std.proofs.Common.{◌≡◌, ◌∙◌, ◌++◌, true, false, [], ◌∷◌, refl, sym, ap, subst}
+use Rattle.std.proofs.Common.{◌≡◌, ◌∙◌, ◌++◌, true, false, [], ◌∷◌, length, refl, sym, ap, subst}
 use Rattle.hp_base.specs.Plans.{action_of}
 use Rattle.hp_base.specs.declared.plan_entry.MsgKind.TheVariants.{Reply}
 use Rattle.hp_core.specs.Following.{after_catching}
 use Rattle.hp_hall.specs.Mail.{Posts}
 use Rattle.hp_proc.specs.Party.{Party, one_more}
-use Rattle.hp_proc.specs.Serving.{IsWorn, gives_segments, takes_segments}
+use Rattle.hp_proc.specs.Serving.{IsWorn, acks_behind, gives_segments, takes_segments}
 use Rattle.hp_proc.specs.Serving.{is_out, is_worn}
 use Rattle.hp_proc.specs.Tied.{IsTied}
 use Rattle.hp_proc.proofs.MemberLemmas.{has_followed}
@@ -94,12 +94,13 @@ returns-clause-followed g c =
     let did = c.obey-caught.ensures.did in
     let gives = gives_segments (after_catching c.self.inside.me c.obey-caught.result segs) in
     let posts =
-    Posts 0 did.0 (action_of c.self.inside.plan.now Reply c.self.inside.me (one_more c.self.inside.sent.replies)) did.1 in (
+    Posts 0 did.0 (action_of c.self.inside.plan.now Reply c.self.inside.me (one_more c.self.inside.sent.replies)) did.1 in
+    let more = acks_behind c.obey-caught.result (length segs.log) ++ (gives ∷ posts ∷ []) in (
       segs,
-      gives ∷ posts ∷ [],
-      subst (λ who. g.H.Hall.did c.args.hall.now c.obey-caught.new.hall who (takes_segments segs ∷ gives ∷ posts ∷ [])) me
+      more,
+      subst (λ who. g.H.Hall.did c.args.hall.now c.obey-caught.new.hall who (takes_segments segs ∷ more)) me
           (g.met.H.Hall.did_then c.args.hall.now c.take_segments-segs.new.hall c.obey-caught.new.hall c.self.inside.me
-          (takes_segments segs ∷ []) (gives ∷ posts ∷ []) c.take_segments-segs.ensures.did did.3),
+          (takes_segments segs ∷ []) more c.take_segments-segs.ensures.did did.3),
       has_followed c.args.self.now _ segs c.obey-caught.result c.obey-caught.new.maps c.has_table-self-inside.result
           c.one_more-self-inside.result did.0 did.1 c.self.view_is (sym c.is_member.ensures ∙ c.if-not-is_member.false) did.2
           c.obey-caught.ensures.caught c.has_table-self-inside.ensures c.one_more-self-inside.ensures,

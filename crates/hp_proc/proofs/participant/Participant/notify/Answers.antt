@@ -1,12 +1,15 @@
--- The table is tied along the reading of the clock, the steps follow one another, and the wait has ended.
-use Rattle.std.proofs.Common.{◌≡◌, ◌∙◌, ◌+◌, ◌≤◌, ◌⊎◌, ℕ, true, [], ap, sym, subst, arith}
+-- The table is tied along the reading of the clock, and the steps follow one another.
+use Rattle.std.proofs.Common.{◌≡◌, ◌∙◌, ◌+◌, ◌≤◌, ◌⊎◌, ℕ, true, Some, ap, sym, subst, arith}
+use Rattle.hp_hall.specs.Mail.{Notes}
+use Rattle.hp_hall.specs.declared.note.Note.TheVariants.{Read}
 use Rattle.hp_proc.specs.AskSteps.{waits_until}
 use Rattle.hp_proc.specs.Party.{Party}
 use Rattle.hp_proc.specs.Tied.{IsTied}
-use Rattle.hp_proc.specs.Waiting.{HasWaited, IsReading, IsWaited}
+use Rattle.hp_proc.specs.Waiting.{IsWaited}
 use Rattle.hp_proc.proofs.AskDone.{does_notify}
 use Rattle.hp_proc.proofs.Rising.{wait_rises}
 use Rattle.hp_proc.proofs.Tying.{tied_since}
+use Rattle.hp_proc.proofs.Waits.{did_step}
 use Rattle.hp_proc.proofs.participant.Participant.notify.Goals as goal
 
 pub wait-requires-clause-tied : goal.wait-requires-clause-tied
@@ -24,6 +27,7 @@ returns-clause-did g c =
     let party = c.args.self.now in
     let me = party.me in
     let sent = c.send_notice.ensures.did in
+    let since = c.now-since.result in
     let waited = c.in_ok-_reading.ensures.turned in
     let who = ap (λ (party : Party). party.me) c.send_notice.ensures.sent in
     let count =
@@ -31,23 +35,17 @@ returns-clause-did g c =
     let number : c.in-Some.number ≡ party.asked + 1 = c.in-Some.ensures.1 ∙ ap (λ (party : Party). party.asked + 1) c.self.view_is in (
       _,
       g.met.H.Hall.did_then _ _ _ me _ _ sent.3
-          (g.met.H.Hall.did_then _ _ _ me [] _ (c.now-since.ensures.did me)
+          (g.met.H.Hall.did_then _ _ _ me _ _
+          (did_step (λ who steps. g.H.Hall.did c.send_notice.new.hall c.now-since.new.self who steps) c.self-2.inside.me me
+          (Notes (Read since)) (ap (λ (party : Party). party.me) c.self-2.view_is ∙ who) c.now-since.ensures.did)
           (subst (λ who. g.H.Hall.did c.now-since.new.self c.wait.new.hall who waited.0) who waited.1)),
       does_notify (g.H.Hall.count c.args.hall.now) party c.send_notice.new.self c.wait.new.self c.args.heap c.in-Some.number
           c.args.run.now sent.0
-          sent.1 waited.0 number c.send_notice.ensures.sent sent.2
-          (subst (λ count. IsWaited count true c.send_notice.new.self c.wait.new.self waited.0 true) count waited.2),
-    )
-
-pub returns-clause-awaited : goal.returns-clause-awaited
-returns-clause-awaited g c =
-    let since = c.now-since.result in
-    let still = c.now-since.ensures.clock ∙ c.send_notice.ensures.clock in (
-      since,
-      subst (λ (at : ℕ). IsReading (λ deadline. g.H.Hall.pending at deadline ≡ g.H.Hall.scale) since) still c.now-since.ensures.before,
-      subst (λ (until : ℕ). HasWaited true c.wait.new.self (g.H.Hall.pending (g.H.Hall.clock c.wait.new.hall)) until)
-          (c.waits_until-until.ensures ∙ ap (λ (party : Party). waits_until since party.deadline) c.send_notice.ensures.sent)
-          c.in_ok-_reading.ensures.reached,
+          sent.1 since c.in_ok-_reading._reading waited.0 number c.send_notice.ensures.sent sent.2
+          (subst (λ until. IsWaited (g.H.Hall.count c.args.hall.now) until true c.send_notice.new.self c.wait.new.self waited.0
+          (Some c.in_ok-_reading._reading)) c.waits_until-until.ensures
+          (subst (λ count. IsWaited count c.waits_until-until.result true c.send_notice.new.self c.wait.new.self waited.0
+          (Some c.in_ok-_reading._reading)) count waited.2)),
     )
 
 pub returns-clause-clock : goal.returns-clause-clock

@@ -1,5 +1,5 @@
 -- The numbers are loaded, and handed over.
-use Rattle.std.proofs.Common.{[], subst, arith}
+use Rattle.std.proofs.Common.{◌++◌, [], refl, subst, arith}
 use Rattle.std.specs.Prelude.{is_ok}
 use Rattle.hp_core.specs.declared.event.CoreEvent.TheVariants.{Poll}
 use Rattle.hp_proc.specs.Coordinating.{IsHandled}
@@ -17,12 +17,20 @@ handle-requires-clause-tied g c =
 
 pub returns-clause-polled : goal.returns-clause-polled
 returns-clause-polled g c =
+    let looked = c.load_acks-acks.ensures.did in
     let handled = c.handle.ensures.handled in (
-      c.load_acks-acks.result,
-      handled.0,
-      g.met.H.Hall.did_then _ _ _ 0 [] _ (c.load_acks-acks.ensures.did 0) handled.1,
-      subst (λ n. IsHandled n (Poll c.args.now c.load_acks-acks.result) c.args.self.now c.handle.new.self handled.0 (is_ok c.handle.result))
-          c.load_acks-acks.ensures.count handled.2,
+      looked.0 ++ handled.0,
+      g.met.H.Hall.did_then _ _ _ 0 _ _ looked.1 handled.1,
+      record {
+        acks = c.load_acks-acks.result;
+        looks = looked.0;
+        more = handled.0;
+        looked_up = looked.2;
+        handled = subst
+            (λ n. IsHandled n (Poll c.args.now c.load_acks-acks.result) c.args.self.now c.handle.new.self handled.0 (is_ok c.handle.result))
+            c.load_acks-acks.ensures.count handled.2;
+        are = refl;
+      },
     )
 
 pub returns-clause-weight : goal.returns-clause-weight
@@ -44,7 +52,7 @@ returns-clause-due g c = λ due.
 
 pub returns-clause-did_others : goal.returns-clause-did_others
 returns-clause-did_others g c = λ who apart.
-    g.met.H.Hall.did_then _ _ _ who [] [] (c.load_acks-acks.ensures.did who) (c.handle.ensures.did_others who apart)
+    g.met.H.Hall.did_then _ _ _ who [] [] (c.load_acks-acks.ensures.did_others who apart) (c.handle.ensures.did_others who apart)
 
 pub returns-clause-goes_on : goal.returns-clause-goes_on
 returns-clause-goes_on g c = g.met.H.Hall.goes_on_then _ _ _ c.load_acks-acks.ensures.goes_on c.handle.ensures.goes_on

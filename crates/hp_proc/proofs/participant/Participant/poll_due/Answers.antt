@@ -4,14 +4,13 @@ use Rattle.std.specs.Prelude.{ℕ, true, false}
 use Rattle.std.specs.Result.{result_ok}
 use Rattle.std.proofs.lemmas.Result.{err_from_is_err_and}
 use Rattle.hp_proc.specs.Falling.{served_of}
-use Rattle.hp_proc.specs.Coordinating.{IsRested}
 use Rattle.hp_proc.proofs.Carrying.{done_differs, stop_differs}
 use Rattle.hp_proc.proofs.participant.Participant.poll_due.Goals as goal
 
-pub returns-clause-rested : goal.returns-clause-rested
-returns-clause-rested g c =
+pub returns-clause-polled : goal.returns-clause-polled
+returns-clause-polled g c =
     let polled = c.in_ok-poll.ensures.polled in
-    (polled.1, polled.2, IsRested.polls c.args.now polled.0 true (c.requires.due polled.0) polled.3 refl)
+    (true, polled.0, polled.1, polled.2, refl)
 
 pub returns-clause-weight : goal.returns-clause-weight
 returns-clause-weight g c = c.in_ok-poll.ensures.due c.requires.due
@@ -19,11 +18,11 @@ returns-clause-weight g c = c.in_ok-poll.ensures.due c.requires.due
 pub returns-clause-moves : goal.returns-clause-moves
 returns-clause-moves g c = done_differs _ refl
 
-pub returns-in_err-poll-clause-rested : goal.returns-in_err-poll-clause-rested
-returns-in_err-poll-clause-rested g c =
+pub returns-in_err-poll-clause-polled : goal.returns-in_err-poll-clause-polled
+returns-in_err-poll-clause-polled g c =
     let stopped = err_from_is_err_and c.from_residual.result c.from_residual.ensures.1 in
     let polled = c.in_err-poll.ensures.polled in
-    (polled.1, polled.2, IsRested.polls c.args.now polled.0 false (c.requires.due polled.0) polled.3 (ap result_ok stopped.1))
+    (false, polled.0, polled.1, polled.2, ap result_ok stopped.1)
 
 pub returns-in_err-poll-clause-weight : goal.returns-in_err-poll-clause-weight
 returns-in_err-poll-clause-weight g c =

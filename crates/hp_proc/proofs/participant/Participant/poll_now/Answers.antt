@@ -1,10 +1,12 @@
 -- The clock is read, and a poll is made.
-use Rattle.std.proofs.Common.{[], subst, arith}
+use Rattle.std.proofs.Common.{[], ◌∷◌, subst, arith}
 use Rattle.std.specs.Prelude.{is_ok}
-use Rattle.hp_core.specs.declared.event.CoreEvent.TheVariants.{Poll}
-use Rattle.hp_proc.specs.Coordinating.{IsHandled}
+use Rattle.hp_hall.specs.Mail.{Notes}
+use Rattle.hp_hall.specs.declared.note.Note.TheVariants.{Read}
+use Rattle.hp_proc.specs.Coordinating.{IsPolled}
 use Rattle.hp_proc.proofs.Handed.{tied_still}
 use Rattle.hp_proc.proofs.Scaled.{own_weight_still}
+use Rattle.hp_proc.proofs.Steps.{other_step, own_step}
 use Rattle.hp_proc.proofs.participant.Participant.poll_now.Goals as goal
 
 pub poll-requires-clause-tied : goal.poll-requires-clause-tied
@@ -15,13 +17,14 @@ poll-requires-clause-tied g c =
 
 pub returns-clause-polled : goal.returns-clause-polled
 returns-clause-polled g c =
+    let now = c.now-now.result in
     let polled = c.poll.ensures.polled in
-    let count = g.met.H.Hall.goes_on_count _ _ c.now-now.ensures.goes_on in (
-      c.now-now.result,
+    let count = g.met.H.Hall.goes_on_count _ _ c.now-now.ensures.goes_on in
+    let read = subst (g.H.Hall.did c.args.hall.now c.now-now.new.self 0) (own_step 0 (Notes (Read now))) (c.now-now.ensures.did 0) in (
+      now,
       polled.0,
-      polled.1,
-      g.met.H.Hall.did_then _ _ _ 0 [] _ (c.now-now.ensures.did 0) polled.2,
-      subst (λ n. IsHandled n (Poll c.now-now.result polled.0) c.args.self.now c.poll.new.self polled.1 (is_ok c.poll.result)) count polled.3,
+      g.met.H.Hall.did_then _ _ _ 0 (Notes (Read now) ∷ []) _ read polled.1,
+      subst (λ n. IsPolled n now c.args.self.now c.poll.new.self polled.0 (is_ok c.poll.result)) count polled.2,
     )
 
 pub returns-clause-weight : goal.returns-clause-weight
@@ -36,7 +39,10 @@ returns-clause-weight g c =
 
 pub returns-clause-did_others : goal.returns-clause-did_others
 returns-clause-did_others g c = λ who apart.
-    g.met.H.Hall.did_then _ _ _ who [] [] (c.now-now.ensures.did who) (c.poll.ensures.did_others who apart)
+    let others =
+    subst (g.H.Hall.did c.args.hall.now c.now-now.new.self who) (other_step who 0 (Notes (Read c.now-now.result)) apart)
+    (c.now-now.ensures.did who) in
+    g.met.H.Hall.did_then _ _ _ who [] [] others (c.poll.ensures.did_others who apart)
 
 pub returns-clause-goes_on : goal.returns-clause-goes_on
 returns-clause-goes_on g c = g.met.H.Hall.goes_on_then _ _ _ c.now-now.ensures.goes_on c.poll.ensures.goes_on

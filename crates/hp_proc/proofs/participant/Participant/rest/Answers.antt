@@ -1,9 +1,11 @@
 -- A poll that is due is made, and else nothing is done.
-use Rattle.std.proofs.Common.{[], refl, subst, arith}
-use Rattle.std.specs.Result.{result_ok}
-use Rattle.hp_proc.specs.Coordinating.{IsRested}
+use Rattle.std.proofs.Common.{[], ◌∷◌, refl, subst, arith}
+use Rattle.hp_hall.specs.Mail.{Notes}
+use Rattle.hp_hall.specs.declared.note.Note.TheVariants.{Read}
+use Rattle.hp_proc.specs.Coordinating.{IsPolled, IsRested}
 use Rattle.hp_proc.proofs.Handed.{tied_still}
 use Rattle.hp_proc.proofs.Scaled.{own_weight_still}
+use Rattle.hp_proc.proofs.Steps.{other_step, own_step}
 use Rattle.hp_proc.proofs.participant.Participant.rest.Goals as goal
 
 pub poll_due-requires-clause-tied : goal.poll_due-requires-clause-tied
@@ -14,11 +16,14 @@ poll_due-requires-clause-tied g c =
 
 pub returns-then-is_due-clause-rested : goal.returns-then-is_due-clause-rested
 returns-then-is_due-clause-rested g c =
-    let rested = c.poll_due.ensures.rested in
-    let count = g.met.H.Hall.goes_on_count _ _ c.now-now.ensures.goes_on in (
-      rested.0,
-      g.met.H.Hall.did_then _ _ _ 0 [] _ (c.now-now.ensures.did 0) rested.1,
-      subst (λ n. IsRested n c.args.self.now c.poll_due.new.self rested.0 (result_ok c.poll_due.result)) count rested.2,
+    let now = c.now-now.result in
+    let polled = c.poll_due.ensures.polled in
+    let count = g.met.H.Hall.goes_on_count _ _ c.now-now.ensures.goes_on in
+    let read = subst (g.H.Hall.did c.args.hall.now c.now-now.new.self 0) (own_step 0 (Notes (Read now))) (c.now-now.ensures.did 0) in (
+      Notes (Read now) ∷ polled.1,
+      g.met.H.Hall.did_then _ _ _ 0 (Notes (Read now) ∷ []) _ read polled.2,
+      IsRested.polls now polled.1 polled.0 (c.is_due.ensures.due c.if-is_due.true []) refl
+          (subst (λ n. IsPolled n now c.args.self.now c.poll_due.new.self polled.1 polled.0) count polled.3) polled.4,
     )
 
 pub returns-then-is_due-clause-weight : goal.returns-then-is_due-clause-weight
@@ -36,7 +41,11 @@ returns-then-is_due-clause-rests g c = λ is. absurd (c.poll_due.ensures.moves i
 
 pub returns-clause-rested : goal.returns-clause-rested
 returns-clause-rested g c =
-    ([], c.now-now.ensures.did 0, IsRested.rests (c.is_due.ensures.rests c.if-is_due.false) refl refl refl)
+    let now = c.now-now.result in (
+      Notes (Read now) ∷ [],
+      subst (g.H.Hall.did c.args.hall.now c.now-now.new.self 0) (own_step 0 (Notes (Read now))) (c.now-now.ensures.did 0),
+      IsRested.rests now (c.is_due.ensures.rests c.if-is_due.false) (c.is_due.ensures.early c.if-is_due.false) refl refl refl,
+    )
 
 pub returns-clause-weight : goal.returns-clause-weight
 returns-clause-weight g c =
@@ -59,7 +68,15 @@ returns-clause-tied g c =
 
 pub returns-then-is_due-clause-did_others : goal.returns-then-is_due-clause-did_others
 returns-then-is_due-clause-did_others g c = λ who apart.
-    g.met.H.Hall.did_then _ _ _ who [] [] (c.now-now.ensures.did who) (c.poll_due.ensures.did_others who apart)
+    let others =
+    subst (g.H.Hall.did c.args.hall.now c.now-now.new.self who) (other_step who 0 (Notes (Read c.now-now.result)) apart)
+    (c.now-now.ensures.did who) in
+    g.met.H.Hall.did_then _ _ _ who [] [] others (c.poll_due.ensures.did_others who apart)
+
+pub returns-clause-did_others : goal.returns-clause-did_others
+returns-clause-did_others g c = λ who apart.
+    subst (g.H.Hall.did c.args.hall.now c.now-now.new.self who) (other_step who 0 (Notes (Read c.now-now.result)) apart)
+    (c.now-now.ensures.did who)
 
 pub returns-then-is_due-clause-goes_on : goal.returns-then-is_due-clause-goes_on
 returns-then-is_due-clause-goes_on g c = g.met.H.Hall.goes_on_then _ _ _ c.now-now.ensures.goes_on c.poll_due.ensures.goes_on

@@ -1,17 +1,17 @@
 -- Those below serve, then the participant, then those above.
-use Rattle.std.proofs.Common.{◌≡◌, ◌∙◌, ℕ, ◌*◌, ◌||◌, List, [], None, Some, refl, ap, sym, subst, arith}
+use Rattle.std.proofs.Common.{◌≡◌, ◌∙◌, ℕ, ◌*◌, true, false, [], ◌∷◌, None, Some, refl, ap, sym, subst, arith}
 use Rattle.std.specs.Result.{result_ok}
-use Rattle.std.proofs.lemmas.List.{append-nil}
 use Rattle.std.proofs.lemmas.Result.{err_from_is_err_and}
 use Rattle.hp_base.specs.declared.limits.TheConstants.{MAX_HEAPS}
-use Rattle.hp_hall.specs.Mail.{MailStep}
+use Rattle.hp_hall.specs.Mail.{Notes}
+use Rattle.hp_hall.specs.declared.note.Note.TheVariants.{Yielded}
 use Rattle.hp_proc.specs.Falling.{served_of}
 use Rattle.hp_proc.specs.Party.{Party}
-use Rattle.hp_proc.specs.Waiting.{IsServedOut, IsTurned}
+use Rattle.hp_proc.specs.Waiting.{HaveServed}
 use Rattle.hp_proc.proofs.Carrying.{same_party, stop_differs}
 use Rattle.hp_proc.proofs.Handed.{tied_still}
 use Rattle.hp_proc.proofs.Scaled.{own_weight_still}
-use Rattle.hp_proc.proofs.Waits.{all_pay, or_none}
+use Rattle.hp_proc.proofs.Waits.{above_stop, all_pay, all_served, or_none, own_stops}
 use Rattle.hp_proc.proofs.participant.Participant.serve_all.Goals as goal
 
 pub serve_some-requires-clause-serves : goal.serve_some-requires-clause-serves
@@ -52,13 +52,13 @@ others-requires-2-clause-home g c = c.serve_some.ensures.home MAX_HEAPS (c.other
 
 -- ONE BELOW STOPPED
 
-pub returns-in_err-below-clause-turned : goal.returns-in_err-below-clause-turned
-returns-in_err-below-clause-turned g c =
+pub returns-in_err-below-clause-served : goal.returns-in_err-below-clause-served
+returns-in_err-below-clause-served g c =
     let stopped = err_from_is_err_and c.from_residual.result c.from_residual.ensures.1 in (
-      [],
-      (subst (λ (who : ℕ). g.H.Hall.did c.args.hall.now c.others.new.self who []) (ap (λ (party : Party). party.me) c.self.view_is)
-          c.others.ensures.did),
-      IsTurned.below_stops refl refl (ap result_ok stopped.1),
+      _,
+      (subst (λ (who : ℕ). g.H.Hall.did c.args.hall.now c.others.new.self who (Notes (Yielded false (result_ok c.others.result)) ∷ []))
+          (ap (λ (party : Party). party.me) c.self.view_is) c.others.ensures.did),
+      HaveServed.below_stops (ap (λ moved. Notes (Yielded false moved) ∷ []) (ap result_ok c.in_err-below.was)) refl (ap result_ok stopped.1),
     )
 
 pub returns-in_err-below-clause-tied : goal.returns-in_err-below-clause-tied
@@ -90,16 +90,17 @@ returns-in_err-below-clause-same g c = same_party c.args.self.now
 
 -- IT STOPPED
 
-pub returns-in_err-own-clause-turned : goal.returns-in_err-own-clause-turned
-returns-in_err-own-clause-turned g c =
+pub returns-in_err-own-clause-served : goal.returns-in_err-own-clause-served
+returns-in_err-own-clause-served g c =
     let stopped = err_from_is_err_and c.from_residual-in_err-own.result c.from_residual-in_err-own.ensures.1 in
     let one = c.in_err-own.ensures.served in (
-      one.0,
-      g.met.H.Hall.did_then _ _ _ c.args.self.now.me [] _ (subst (λ (who : ℕ). g.H.Hall.did c.args.hall.now c.others.new.self who []) (ap (λ (party : Party). party.me) c.self.view_is)
-          c.others.ensures.did) one.1,
-      IsTurned.stops
-          (subst (λ (n : ℕ). IsServedOut n c.args.self.now c.serve_some.new.self one.0 None)
-          (g.met.H.Hall.goes_on_count _ _ c.others.ensures.goes_on) one.2) (ap result_ok stopped.1),
+      _,
+      g.met.H.Hall.did_then _ _ _ c.args.self.now.me _ _
+          (subst (λ (who : ℕ). g.H.Hall.did c.args.hall.now c.others.new.self who (Notes (Yielded false (result_ok c.others.result)) ∷ []))
+          (ap (λ (party : Party). party.me) c.self.view_is) c.others.ensures.did) one.1,
+      own_stops (g.H.Hall.count c.args.hall.now) (g.H.Hall.count c.others.new.self)
+          (g.met.H.Hall.goes_on_count _ _ c.others.ensures.goes_on) c.args.self.now c.serve_some.new.self one.0 (result_ok c.others.result)
+          None _ c.in_ok-below.below (ap result_ok c.in_ok-below.was) one.2 (ap result_ok stopped.1),
     )
 
 pub returns-in_err-own-clause-weight : goal.returns-in_err-own-clause-weight
@@ -124,19 +125,24 @@ returns-in_err-own-clause-goes_on g c = g.met.H.Hall.goes_on_then _ _ _ c.others
 
 -- ONE ABOVE STOPPED
 
-pub returns-in_err-above-clause-turned : goal.returns-in_err-above-clause-turned
-returns-in_err-above-clause-turned g c =
+pub returns-in_err-above-clause-served : goal.returns-in_err-above-clause-served
+returns-in_err-above-clause-served g c =
     let stopped = err_from_is_err_and c.from_residual-in_err-above.result c.from_residual-in_err-above.ensures.1 in
     let me = c.args.self.now.me in
+    let same = ap (λ (party : Party). party.me) c.self.view_is in
     let one = c.in_ok-own.ensures.served in (
-      one.0,
-      subst (λ (steps : List MailStep). g.H.Hall.did c.args.hall.now c.others-2.new.self me steps) (append-nil one.0)
-          (g.met.H.Hall.did_then _ _ _ me _ [] (g.met.H.Hall.did_then _ _ _ me [] _ (subst (λ (who : ℕ). g.H.Hall.did c.args.hall.now c.others.new.self who []) (ap (λ (party : Party). party.me) c.self.view_is)
-          c.others.ensures.did) one.1) (subst (λ (who : ℕ). g.H.Hall.did c.serve_some.new.hall c.others-2.new.self who []) (ap (λ (party : Party). party.me) c.self.view_is)
-          c.others-2.ensures.did)),
-      IsTurned.above_stops c.in_ok-own.own
-          (subst (λ (n : ℕ). IsServedOut n c.args.self.now c.serve_some.new.self one.0 (Some c.in_ok-own.own))
-          (g.met.H.Hall.goes_on_count _ _ c.others.ensures.goes_on) one.2) (ap result_ok stopped.1),
+      _,
+      g.met.H.Hall.did_then _ _ _ me _ _
+          (g.met.H.Hall.did_then _ _ _ me _ _
+          (subst (λ (who : ℕ). g.H.Hall.did c.args.hall.now c.others.new.self who (Notes (Yielded false (result_ok c.others.result)) ∷ []))
+          same c.others.ensures.did) one.1)
+          (subst
+          (λ (who : ℕ). g.H.Hall.did c.serve_some.new.hall c.others-2.new.self who (Notes (Yielded true (result_ok c.others-2.result)) ∷ []))
+          same c.others-2.ensures.did),
+      above_stop (g.H.Hall.count c.args.hall.now) (g.H.Hall.count c.others.new.self)
+          (g.met.H.Hall.goes_on_count _ _ c.others.ensures.goes_on) c.args.self.now c.serve_some.new.self one.0 (result_ok c.others.result)
+          (result_ok c.others-2.result) _ c.in_ok-below.below c.in_ok-own.own (ap result_ok c.in_ok-below.was) one.2
+          (ap result_ok c.in_err-above.was) (ap result_ok stopped.1),
     )
 
 pub returns-in_err-above-clause-tied : goal.returns-in_err-above-clause-tied
@@ -177,18 +183,23 @@ returns-in_err-above-clause-goes_on g c =
 
 -- ALL HAVE SERVED
 
-pub returns-clause-turned : goal.returns-clause-turned
-returns-clause-turned g c =
+pub returns-clause-served : goal.returns-clause-served
+returns-clause-served g c =
     let me = c.args.self.now.me in
+    let same = ap (λ (party : Party). party.me) c.self.view_is in
     let one = c.in_ok-own.ensures.served in (
-      one.0,
-      subst (λ (steps : List MailStep). g.H.Hall.did c.args.hall.now c.others-2.new.self me steps) (append-nil one.0)
-          (g.met.H.Hall.did_then _ _ _ me _ [] (g.met.H.Hall.did_then _ _ _ me [] _ (subst (λ (who : ℕ). g.H.Hall.did c.args.hall.now c.others.new.self who []) (ap (λ (party : Party). party.me) c.self.view_is)
-          c.others.ensures.did) one.1) (subst (λ (who : ℕ). g.H.Hall.did c.serve_some.new.hall c.others-2.new.self who []) (ap (λ (party : Party). party.me) c.self.view_is)
-          c.others-2.ensures.did)),
-      IsTurned.ends c.in_ok-own.own (c.in_ok-below.below || c.in_ok-above.above)
-          (subst (λ (n : ℕ). IsServedOut n c.args.self.now c.serve_some.new.self one.0 (Some c.in_ok-own.own))
-          (g.met.H.Hall.goes_on_count _ _ c.others.ensures.goes_on) one.2) (ap Some c.has_moved.ensures),
+      _,
+      g.met.H.Hall.did_then _ _ _ me _ _
+          (g.met.H.Hall.did_then _ _ _ me _ _
+          (subst (λ (who : ℕ). g.H.Hall.did c.args.hall.now c.others.new.self who (Notes (Yielded false (result_ok c.others.result)) ∷ []))
+          same c.others.ensures.did) one.1)
+          (subst
+          (λ (who : ℕ). g.H.Hall.did c.serve_some.new.hall c.others-2.new.self who (Notes (Yielded true (result_ok c.others-2.result)) ∷ []))
+          same c.others-2.ensures.did),
+      all_served (g.H.Hall.count c.args.hall.now) (g.H.Hall.count c.others.new.self)
+          (g.met.H.Hall.goes_on_count _ _ c.others.ensures.goes_on) c.args.self.now c.serve_some.new.self one.0 (result_ok c.others.result)
+          (result_ok c.others-2.result) _ c.in_ok-below.below c.in_ok-own.own c.in_ok-above.above (ap result_ok c.in_ok-below.was) one.2
+          (ap result_ok c.in_ok-above.was) (ap Some c.has_moved.ensures),
     )
 
 pub returns-clause-tied : goal.returns-clause-tied

@@ -1,7 +1,8 @@
 -- It awaits its answer as it did before the wait, its table is tied along the settling, and the steps follow one another.
-use Rattle.std.proofs.Common.{◌≡◌, ◌≤◌, ◌⊎◌, ℕ, [], ◌∷◌, refl, sym, subst}
+use Rattle.std.proofs.Common.{◌≡◌, ◌≤◌, ◌⊎◌, ℕ, false, [], ◌∷◌, Some, refl, sym, subst}
 use Rattle.hp_proc.specs.Asking.{IsAwaiting, after_settling}
 use Rattle.hp_proc.specs.Serving.{gives_segments, takes_segments}
+use Rattle.hp_proc.specs.Waiting.{IsWaited}
 use Rattle.hp_proc.proofs.AskedAlong.{awaits_along}
 use Rattle.hp_proc.proofs.Tying.{tied_since}
 use Rattle.hp_proc.proofs.Waits.{clock_still}
@@ -35,8 +36,8 @@ returns-clause-did g c =
         waited = waited.0;
         taken = settled.0;
         now = c.in_ok-now.now;
-        waits = waited.2;
-        late = subst (λ until. until ≤ c.in_ok-now.now) c.waits_until-until.ensures (c.in_ok-now.ensures.waited refl);
+        waits = subst (λ until. IsWaited (g.H.Hall.count c.args.hall.now) until false c.args.self.now c.wait.new.self waited.0
+            (Some c.in_ok-now.now)) c.waits_until-until.ensures waited.2;
         are = refl;
       },
     )

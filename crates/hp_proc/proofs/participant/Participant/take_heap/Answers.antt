@@ -202,8 +202,8 @@ taking-preserved g c =
         g.met.H.Hall.did_then _ _ _ number _ _ was.waited.1
             (g.met.H.Hall.did_then _ _ _ number [] _ (tried.did_nothing number)
             (subst (λ (who : ℕ). g.H.Hall.did c.try_take.new.self c.turn.new.hall who one.0) me one.1)),
-        waits_more (g.H.Hall.count c.args.hall.now) (g.H.Hall.count c.try_take.new.self) c.args.self.now c.taking.self c.turn.new.self
-            c.in_ok-turn-in-Err.field-0 was.waited.0 one.0
+        waits_more (g.H.Hall.count c.args.hall.now) (g.H.Hall.count c.try_take.new.self) (2 ^ 64 - 1) c.args.self.now c.taking.self
+            c.turn.new.self c.in_ok-turn-in-Err.field-0 was.waited.0 one.0
             (g.met.H.Hall.goes_on_count _ _ tried.goes_on ∙ g.met.H.Hall.goes_on_count _ _ was.goes_on) was.waited.2 one.2,
       );
       same = same_then c.args.self.now c.taking.self c.turn.new.self was.same is.same;

@@ -1,14 +1,16 @@
 -- Where a round is under way a poll is made.
-use Rattle.std.proofs.Common.{[], refl, sym}
+use Rattle.std.proofs.Common.{[], ◌∷◌, refl, sym}
+use Rattle.hp_hall.specs.Mail.{Notes}
+use Rattle.hp_hall.specs.declared.note.Note.TheVariants.{Read}
 use Rattle.hp_proc.specs.Coordinating.{IsAnswered}
 use Rattle.hp_proc.proofs.participant.Participant.take_reply.Goals as goal
 
 pub returns-in-Some-clause-answered : goal.returns-in-Some-clause-answered
 returns-in-Some-clause-answered g c =
     let polled = c.poll_now.ensures.polled in (
+      Notes (Read polled.0) ∷ polled.1,
       polled.2,
-      polled.3,
-      IsAnswered.polls _ polled.0 polled.1 c.requires.reply (sym c.in-Some.ensures) polled.4,
+      IsAnswered.polls _ polled.0 polled.1 c.requires.reply (sym c.in-Some.ensures) refl polled.3,
     )
 
 pub returns-in-None-clause-answered : goal.returns-in-None-clause-answered

@@ -1,12 +1,10 @@
 -- All serve, and the turn ends with a pause.
-use Rattle.std.proofs.Common.{◌≡◌, ◌∙◌, ℕ, List, [], ap, sym, subst, arith}
+use Rattle.std.proofs.Common.{◌≡◌, ◌∙◌, ℕ, ◌++◌, refl, ap, sym, subst, arith}
 use Rattle.std.specs.Result.{result_ok}
-use Rattle.std.proofs.lemmas.List.{append-nil}
 use Rattle.std.proofs.lemmas.Result.{err_from_is_err_and}
-use Rattle.hp_hall.specs.Mail.{MailStep}
 use Rattle.hp_proc.specs.Waiting.{IsTurned}
 use Rattle.hp_proc.specs.Party.{due_in}
-use Rattle.hp_proc.proofs.AskedLemmas.{asked_turned}
+use Rattle.hp_proc.proofs.AskedLemmas.{asked_have_served}
 use Rattle.hp_proc.proofs.Carrying.{stop_differs}
 use Rattle.hp_proc.proofs.Handed.{tied_still}
 use Rattle.hp_proc.proofs.Waits.{no_ok, on_err, pause_since, turn_pays}
@@ -26,11 +24,7 @@ end_turn-requires-clause-before g c =
 pub returns-in_err-moved-clause-turned : goal.returns-in_err-moved-clause-turned
 returns-in_err-moved-clause-turned g c =
     let stopped = err_from_is_err_and c.from_residual.result c.from_residual.ensures.1 in
-    let turned = c.in_err-moved.ensures.turned in (
-      turned.0,
-      turned.1,
-      subst (IsTurned (g.H.Hall.count c.args.hall.now) c.args.self.now c.serve_all.new.self turned.0) (sym (ap result_ok stopped.1)) turned.2,
-    )
+    let served = c.in_err-moved.ensures.served in (served.0, served.1, IsTurned.stops served.2 (ap result_ok stopped.1))
 
 pub returns-in_err-moved-clause-falls : goal.returns-in_err-moved-clause-falls
 returns-in_err-moved-clause-falls g c =
@@ -56,20 +50,20 @@ returns-in_err-moved-clause-rests g c = λ is.
 
 pub returns-in_err-moved-clause-asks : goal.returns-in_err-moved-clause-asks
 returns-in_err-moved-clause-asks g c =
-    let turned = c.serve_all.ensures.turned in
-    asked_turned (g.H.Hall.count c.args.hall.now) c.args.self.now c.serve_all.new.self turned.0 (result_ok c.serve_all.result) turned.2
+    let served = c.serve_all.ensures.served in
+    asked_have_served (g.H.Hall.count c.args.hall.now) c.args.self.now c.serve_all.new.self served.0 (result_ok c.serve_all.result) served.2
 
 -- THE TURN CAME TO ITS END
 
 pub returns-clause-turned : goal.returns-clause-turned
 returns-clause-turned g c =
     let me = c.args.self.now.me in
-    let turned = c.in_ok-moved.ensures.turned in (
-      turned.0,
-      subst (λ (steps : List MailStep). g.H.Hall.did c.args.hall.now c.end_turn.new.hall me steps) (append-nil turned.0)
-          (g.met.H.Hall.did_then _ _ _ me _ [] turned.1
-          (subst (λ (who : ℕ). g.H.Hall.did c.serve_all.new.hall c.end_turn.new.hall who []) c.serve_all.ensures.same.me c.end_turn.ensures.did)),
-      turned.2,
+    let served = c.in_ok-moved.ensures.served in
+    let paused = c.end_turn.ensures.did in (
+      served.0 ++ paused.0,
+      g.met.H.Hall.did_then _ _ _ me _ _ served.1
+          (subst (λ (who : ℕ). g.H.Hall.did c.serve_all.new.hall c.end_turn.new.hall who paused.0) c.serve_all.ensures.same.me paused.1),
+      IsTurned.ends c.in_ok-moved.moved served.0 paused.0 served.2 paused.2 refl refl,
     )
 
 pub returns-clause-tied : goal.returns-clause-tied
@@ -111,8 +105,8 @@ returns-clause-part g c = λ heap.
 
 pub returns-clause-asks : goal.returns-clause-asks
 returns-clause-asks g c =
-    let turned = c.serve_all.ensures.turned in
-    asked_turned (g.H.Hall.count c.args.hall.now) c.args.self.now c.serve_all.new.self turned.0 (result_ok c.serve_all.result) turned.2
+    let served = c.serve_all.ensures.served in
+    asked_have_served (g.H.Hall.count c.args.hall.now) c.args.self.now c.serve_all.new.self served.0 (result_ok c.serve_all.result) served.2
 
 pub returns-clause-goes_on : goal.returns-clause-goes_on
 returns-clause-goes_on g c = g.met.H.Hall.goes_on_then _ _ _ c.serve_all.ensures.goes_on c.end_turn.ensures.goes_on

@@ -1,10 +1,10 @@
 -- One turn more, or the last reading.
-use Rattle.std.proofs.Common.{◌≡◌, ◌∙◌, ℕ, suc, ◌++◌, List, [], None, Some, refl, ap, sym, subst, inl, inr, ⊎_elim, arith}
-use Rattle.std.specs.Prelude.{is_ok}
-use Rattle.std.proofs.lemmas.List.{append-nil}
+use Rattle.std.proofs.Common.{◌≡◌, ◌∙◌, ℕ, suc, ◌++◌, [], ◌∷◌, None, Some, refl, ap, sym, subst, inl, arith}
+use Rattle.std.specs.Result.{result_ok}
 use Rattle.std.proofs.lemmas.Result.{err_from_is_err_and}
 use Rattle.hp_base.specs.declared.limits.TheConstants.{MAX_HEAPS}
-use Rattle.hp_hall.specs.Mail.{MailStep}
+use Rattle.hp_hall.specs.Mail.{Notes}
+use Rattle.hp_hall.specs.declared.note.Note.TheVariants.{Read}
 use Rattle.hp_proc.specs.Party.{Party, due_in}
 use Rattle.hp_proc.specs.Tied.{IsTied}
 use Rattle.hp_proc.specs.Waiting.{IsTurned, IsWaited}
@@ -12,12 +12,12 @@ use Rattle.hp_proc.proofs.AskedLemmas.{asked_then, asked_turns}
 use Rattle.hp_proc.proofs.Carrying.{same_party, same_then}
 use Rattle.hp_proc.proofs.Handed.{tied_still}
 use Rattle.hp_proc.proofs.Scaled.{own_weight_still}
-use Rattle.hp_proc.proofs.Waits.{clock_still, if_no_ok, no_turns, past_deadline, turned_clock, turns_more}
+use Rattle.hp_proc.proofs.Waits.{clock_still, did_step, if_no_ok, no_turns, past_deadline, turned_clock, turns_more}
 use Rattle.hp_proc.proofs.participant.Participant.wait.Goals as goal
 
 pub waiting-init : goal.waiting-init
 waiting-init g c = record {
-  turned = (0, [], g.met.H.Hall.did_same _ _, no_turns (g.H.Hall.count c.args.hall.now) c.args.heeds c.args.self.now);
+  turned = (0, [], g.met.H.Hall.did_same _ _, no_turns (g.H.Hall.count c.args.hall.now) c.args.until c.args.heeds c.args.self.now);
   weight = omega arith;
   clock = inl refl;
   same = same_party c.args.self.now;
@@ -39,12 +39,13 @@ now-reading-requires g c = record {
 
 pub returns-then-over-clause-turned : goal.returns-then-over-clause-turned
 returns-then-over-clause-turned g c =
-    let was = c.waiting.invariant.turned in
-    let me = c.args.self.now.me in (
-      was.1,
-      subst (λ (steps : List MailStep). g.H.Hall.did c.args.hall.now c.now-reading.new.self me steps) (append-nil was.1)
-          (g.met.H.Hall.did_then _ _ _ me _ [] was.2 (c.now-reading.ensures.did me)),
-      IsWaited.ends was.0 was.3 refl,
+    let was = c.waiting.invariant.turned in (
+      was.1 ++ (Notes (Read c.now-reading.result) ∷ []),
+      g.met.H.Hall.did_then _ _ _ c.args.self.now.me _ _ was.2
+          (did_step (λ who steps. g.H.Hall.did c.waiting.hall c.now-reading.new.self who steps) c.self.inside.me c.args.self.now.me
+          (Notes (Read c.now-reading.result))
+          (ap (λ (party : Party). party.me) c.self.view_is ∙ c.waiting.invariant.same.me) c.now-reading.ensures.did),
+      IsWaited.ends was.0 c.now-reading.result was.1 was.3 (c.ends_wait-over.ensures.ended c.if-over.true) refl refl,
     )
 
 pub returns-then-over-clause-tied : goal.returns-then-over-clause-tied
@@ -55,16 +56,9 @@ returns-then-over-clause-tied g c =
     tied_still (g.H.Hall.seen c.waiting.hall me) (g.H.Hall.seen c.now-reading.new.self me) seen.0 (g.H.Hall.own c.waiting.hall me)
     (g.H.Hall.own c.now-reading.new.self me) after.joined after.maps seen.1 (c.now-reading.ensures.own me) c.waiting.invariant.tied
 
-pub returns-then-over-clause-over : goal.returns-then-over-clause-over
-returns-then-over-clause-over g c = c.ends_wait-over.ensures.over c.if-over.true
-
 pub returns-then-over-clause-waited : goal.returns-then-over-clause-waited
 returns-then-over-clause-waited g c = λ unheeding.
-    past_deadline c.args.heeds c.waiting.self c.args.until c.now-reading.result unheeding (c.ends_wait-over.ensures.over c.if-over.true)
-
-pub returns-then-over-clause-reached : goal.returns-then-over-clause-reached
-returns-then-over-clause-reached g c =
-    ⊎_elim (λ over. inl over) (λ late. inr (c.now-reading.ensures.reached c.args.until late)) (c.ends_wait-over.ensures.over c.if-over.true)
+    past_deadline c.args.heeds c.waiting.self c.args.until c.now-reading.result unheeding (c.ends_wait-over.ensures.ended c.if-over.true)
 
 pub returns-then-over-clause-reading : goal.returns-then-over-clause-reading
 returns-then-over-clause-reading g c = c.now-reading.ensures.before
@@ -88,7 +82,7 @@ returns-then-over-clause-weight g c =
 pub returns-then-over-clause-asks : goal.returns-then-over-clause-asks
 returns-then-over-clause-asks g c =
     let was = c.waiting.invariant.turned in
-    asked_turns (g.H.Hall.count c.args.hall.now) c.args.heeds was.0 c.args.self.now c.waiting.self was.1 was.3
+    asked_turns (g.H.Hall.count c.args.hall.now) c.args.until c.args.heeds was.0 c.args.self.now c.waiting.self was.1 was.3
 
 pub returns-then-over-clause-goes_on : goal.returns-then-over-clause-goes_on
 returns-then-over-clause-goes_on g c = g.met.H.Hall.goes_on_then _ _ _ c.waiting.invariant.goes_on c.now-reading.ensures.goes_on
@@ -127,7 +121,7 @@ turn-requires-clause-tied g c =
     (g.H.Hall.own c.now-reading.new.self me) after.joined after.maps seen.1 (c.now-reading.ensures.own me) c.waiting.invariant.tied)
 
 pub turn-requires-clause-before : goal.turn-requires-clause-before
-turn-requires-clause-before g c = c.now-reading.ensures.before c.args.until (c.ends_wait-over.ensures.early c.if-over.false)
+turn-requires-clause-before g c = c.now-reading.ensures.before c.args.until (c.ends_wait-over.ensures.waits_on c.if-over.false).early
 
 pub waiting-smaller : goal.waiting-smaller
 waiting-smaller g c =
@@ -159,13 +153,15 @@ waiting-preserved g c =
     record {
       turned = (
         suc was.turned.0,
-        was.turned.1 ++ one.0,
+        was.turned.1 ++ (Notes (Read c.now-reading.result) ∷ one.0),
         g.met.H.Hall.did_then _ _ _ number _ _ was.turned.2
-            (g.met.H.Hall.did_then _ _ _ number [] _ (read.did number)
+            (g.met.H.Hall.did_then _ _ _ number _ _
+            (did_step (λ who steps. g.H.Hall.did c.waiting.hall c.now-reading.new.self who steps) c.self.inside.me number
+            (Notes (Read c.now-reading.result)) (ap (λ (party : Party). party.me) c.self.view_is ∙ me) read.did)
             (subst (λ (who : ℕ). g.H.Hall.did c.now-reading.new.self c.turn.new.hall who one.0) me one.1)),
-        turns_more (g.H.Hall.count c.args.hall.now) c.args.heeds was.turned.0 c.args.self.now c.waiting.self c.turn.new.self was.turned.1 one.0 c.in_ok-turn.field-0
-            was.turned.3 (c.ends_wait-over.ensures.unanswered c.if-over.false)
-            (subst (λ (n : ℕ). IsTurned n c.waiting.self c.turn.new.self one.0 (Some c.in_ok-turn.field-0))
+        turns_more (g.H.Hall.count c.args.hall.now) c.args.until c.args.heeds was.turned.0 c.args.self.now c.waiting.self c.turn.new.self
+            was.turned.1 one.0 c.now-reading.result c.in_ok-turn.field-0 was.turned.3 (c.ends_wait-over.ensures.waits_on c.if-over.false)
+            (subst (λ (n : ℕ). IsTurned n c.args.until c.waiting.self c.turn.new.self one.0 (Some c.in_ok-turn.field-0))
             (g.met.H.Hall.goes_on_count _ _ read.goes_on ∙ g.met.H.Hall.goes_on_count _ _ was.goes_on) one.2),
       );
       weight = omega (arith, before, lighter, falls, until, own);
@@ -195,13 +191,16 @@ returns-in_err-turn-clause-turned g c =
     let one = c.in_err-turn.ensures.turned in
     let number = c.args.self.now.me in
     let stopped = err_from_is_err_and c.from_residual.result c.from_residual.ensures.1 in (
-      was.turned.1 ++ one.0,
+      was.turned.1 ++ (Notes (Read c.now-reading.result) ∷ one.0),
       g.met.H.Hall.did_then _ _ _ number _ _ was.turned.2
-          (g.met.H.Hall.did_then _ _ _ number [] _ (read.did number)
+          (g.met.H.Hall.did_then _ _ _ number _ _
+          (did_step (λ who steps. g.H.Hall.did c.waiting.hall c.now-reading.new.self who steps) c.self.inside.me number
+          (Notes (Read c.now-reading.result)) (ap (λ (party : Party). party.me) c.self.view_is ∙ was.same.me) read.did)
           (subst (λ (who : ℕ). g.H.Hall.did c.now-reading.new.self c.turn.new.hall who one.0) was.same.me one.1)),
-      IsWaited.stops was.turned.0 c.waiting.self was.turned.1 one.0 was.turned.3 (c.ends_wait-over.ensures.unanswered c.if-over.false)
-          (subst (λ (n : ℕ). IsTurned n c.waiting.self c.turn.new.self one.0 None)
-          (g.met.H.Hall.goes_on_count _ _ read.goes_on ∙ g.met.H.Hall.goes_on_count _ _ was.goes_on) one.2) refl (ap is_ok stopped.1),
+      IsWaited.stops was.turned.0 c.now-reading.result c.waiting.self was.turned.1 one.0 was.turned.3
+          (c.ends_wait-over.ensures.waits_on c.if-over.false)
+          (subst (λ (n : ℕ). IsTurned n c.args.until c.waiting.self c.turn.new.self one.0 None)
+          (g.met.H.Hall.goes_on_count _ _ read.goes_on ∙ g.met.H.Hall.goes_on_count _ _ was.goes_on) one.2) refl (ap result_ok stopped.1),
     )
 
 pub returns-in_err-turn-clause-tied : goal.returns-in_err-turn-clause-tied
@@ -209,18 +208,8 @@ returns-in_err-turn-clause-tied g c =
     subst (λ (who : ℕ). IsTied (g.H.Hall.seen c.turn.new.hall who) (g.H.Hall.own c.turn.new.hall who) c.turn.new.self.joined
     c.turn.new.self.maps) c.waiting.invariant.same.me c.turn.ensures.tied
 
-pub returns-in_err-turn-clause-over : goal.returns-in_err-turn-clause-over
-returns-in_err-turn-clause-over g c =
-    let stopped = err_from_is_err_and c.from_residual.result c.from_residual.ensures.1 in
-    if_no_ok c.from_residual.result _ _ stopped.1
-
 pub returns-in_err-turn-clause-waited : goal.returns-in_err-turn-clause-waited
 returns-in_err-turn-clause-waited g c = λ unheeding.
-    let stopped = err_from_is_err_and c.from_residual.result c.from_residual.ensures.1 in
-    if_no_ok c.from_residual.result _ _ stopped.1
-
-pub returns-in_err-turn-clause-reached : goal.returns-in_err-turn-clause-reached
-returns-in_err-turn-clause-reached g c =
     let stopped = err_from_is_err_and c.from_residual.result c.from_residual.ensures.1 in
     if_no_ok c.from_residual.result _ _ stopped.1
 
@@ -261,7 +250,7 @@ pub returns-in_err-turn-clause-asks : goal.returns-in_err-turn-clause-asks
 returns-in_err-turn-clause-asks g c =
     let was = c.waiting.invariant.turned in
     asked_then c.args.self.now c.waiting.self c.turn.new.self
-    (asked_turns (g.H.Hall.count c.args.hall.now) c.args.heeds was.0 c.args.self.now c.waiting.self was.1 was.3) c.turn.ensures.asks
+    (asked_turns (g.H.Hall.count c.args.hall.now) c.args.until c.args.heeds was.0 c.args.self.now c.waiting.self was.1 was.3) c.turn.ensures.asks
 
 pub returns-in_err-turn-clause-goes_on : goal.returns-in_err-turn-clause-goes_on
 returns-in_err-turn-clause-goes_on g c =

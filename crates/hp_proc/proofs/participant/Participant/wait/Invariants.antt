@@ -9,7 +9,7 @@ use Rattle.hp_proc.proofs.participant.Participant.wait.Given as goal
 abbrev pub invariant-waiting : goal.invariant-waiting
 invariant-waiting g l = record {
   turned : (turns : ℕ) × (steps : List MailStep) × g.H.Hall.did l.fn.hall l.hall l.fn.self.me steps
-      × AreTurns (g.H.Hall.count l.fn.hall) l.heeds turns l.fn.self l.self steps;
+      × AreTurns (g.H.Hall.count l.fn.hall) l.until l.heeds turns l.fn.self l.self steps;
   weight : g.H.Hall.weight l.hall + own_weight g.H.Hall.scale (g.H.Hall.pending (g.H.Hall.clock l.hall)) l.self.core
       + g.H.Hall.pending (g.H.Hall.clock l.hall) l.until
       ≤ g.H.Hall.weight l.fn.hall + own_weight g.H.Hall.scale (g.H.Hall.pending (g.H.Hall.clock l.fn.hall)) l.fn.self.core
