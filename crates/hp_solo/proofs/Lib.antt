@@ -1,3 +1,4 @@
+pub mod SoloSteps
 pub mod Looked
 pub mod SoloSeats
 pub mod SoloTies

@@ -4,13 +4,15 @@ use Rattle.std.specs.Option.{IsSome}
 use Rattle.std.proofs.lemmas.Bool.{cases_lt}
 use Rattle.std.proofs.lemmas.Option.{same_Some, slice_get_within}
 use Rattle.hp_hall.proofs.Pending.{later_from_pending}
+use Rattle.hp_hall.specs.HallSteps.{after_pause}
 use Rattle.hp_hall.specs.HallView.{HallView, IsHome, part_in, slot_at, taken_from}
-use Rattle.hp_hall.specs.Weights.{boxes_weight, pending_at}
+use Rattle.hp_hall.specs.Weights.{pending_at}
 use Rattle.hp_proc.specs.Party.{Party}
 use Rattle.hp_solo.specs.Draining.{AreEmpty, HasNoRound, IsDrained, IsNoneDue, NeverPasses, TurnsLeave}
 use Rattle.hp_solo.specs.Solo.{AreLater, IsAtRest, IsBetween, IsLaterAt, IsLaterParty, IsPendingDue, IsQuiet, IsServerAtRest, IsServing, ServerView, SoloView, due_at, has_stopped, party_at, party_in, server_at, servers_weight, solo_weight}
 use Rattle.hp_solo.specs.SoloCourse.{IsSoloCourse, not_before, solo_same, solo_then}
 use Rattle.hp_solo.proofs.SoloEnds.{neither_first, neither_second}
+use Rattle.hp_solo.proofs.SoloTurns.{weighs_paused}
 use Rattle.hp_solo.proofs.SoloWeights.{servers_due}
 
 pub turns_same : (a : SoloView) → TurnsLeave a a
@@ -34,24 +36,21 @@ turns_served apart old new serving later = record {
   part = serving.part;
 }
 
--- the clock jumped
-pub turns_jumped : (old new : SoloView) (reading : ℕ) → IsSoloCourse old new → new.plain ≡ record old.plain { clock = reading } → TurnsLeave old new
-turns_jumped old new reading course same = record {
+-- participant 0 paused
+pub turns_paused : (old new : SoloView) (reading : ℕ) → IsSoloCourse old new → new.plain ≡ after_pause 0 false None reading old.plain
+    → TurnsLeave old new
+turns_paused old new reading course same = record {
   course = course;
   taken = λ number. ap (λ (hall : HallView). taken_from (slot_at hall number)) same;
   home = λ number home. subst (λ (hall : HallView). IsHome (slot_at hall number)) (sym same) home;
   part = λ who heap. ap (λ (hall : HallView). part_in hall who heap) same;
 }
 
--- a jump to a deadline of somebody uses up one
+-- a pause until a deadline of somebody uses up one
 pub due_falls : (old new : SoloView) (reading : ℕ) → IsPendingDue old.plain.clock old.servers reading
-    → new.plain ≡ record old.plain { clock = reading } → new.servers ≡ old.servers → solo_weight new + 1 ≤ solo_weight old
+    → new.plain ≡ after_pause 0 false None reading old.plain → new.servers ≡ old.servers → solo_weight new + 1 ≤ solo_weight old
 due_falls old new reading due same servers =
-    let boxes : boxes_weight new.plain.boxes ≡ boxes_weight old.plain.boxes = ap (λ (hall : HallView). boxes_weight hall.boxes) same in
-    let at : new.plain.clock ≡ reading = ap (λ (hall : HallView). hall.clock) same in
-    let weighs : servers_weight (pending_at new.plain.clock) new.servers ≡ servers_weight (pending_at reading) old.servers =
-    ap (servers_weight (pending_at new.plain.clock)) servers ∙ ap (λ (clock : ℕ). servers_weight (pending_at clock) old.servers) at in
-    omega (arith, boxes, weighs, servers_due old.plain.clock reading old.servers due)
+    omega (arith, weighs_paused old new 0 false None reading same servers, servers_due old.plain.clock reading old.servers due)
 
 -- one at rest whose deadline is not still to come has none that passes
 at_rest : (clock : ℕ) (party : Option Party) → IsAtRest clock party

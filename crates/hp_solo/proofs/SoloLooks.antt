@@ -1,33 +1,34 @@
 -- Participants that serve one after another: each looks last into its mailbox.
-use Rattle.std.proofs.Common.{◌≡◌, ◌≢◌, ℕ, ◌+◌, ◌<◌, ◌≤◌, List, [], ◌∷◌, ◌++◌, length, Option, Some, None, refl, sym, subst, ⊎_elim, arith}
+use Rattle.std.proofs.Common.{◌≡◌, ◌≢◌, ℕ, ◌+◌, ◌<◌, ◌≤◌, List, [], ◌++◌, length, Option, Some, None, refl, sym, ap, subst, ◌∙◌, ⊎_elim, arith}
 use Rattle.std.specs.Prelude.{IsSome}
 use Rattle.std.proofs.lemmas.List.{append-nil, append_assoc}
 use Rattle.std.proofs.lemmas.Option.{slice_get_within}
 use Rattle.hp_hall.specs.Course.{done_then}
 use Rattle.hp_hall.specs.HallView.{HallView, HasDone}
-use Rattle.hp_hall.specs.Mail.{Fetches, MailStep}
+use Rattle.hp_hall.specs.Mail.{MailStep}
 use Rattle.hp_proc.specs.Party.{Party}
-use Rattle.hp_solo.specs.Solo.{HasLookedLast, IsLaterParty, LooksLast, LooksLastAt, ServerView, server_at}
+use Rattle.hp_solo.specs.Solo.{HasLookedLast, IsLaterParty, LooksLast, LooksLastAt, ServerView, looks_in_vain, server_at}
 use Rattle.hp_solo.proofs.SoloQuiet.{below_or_same}
 
 -- who looked last into its mailbox did so where it did nothing behind it, and where it had done nothing before
-last_on : (a b c : HallView) (who : ℕ) → LooksLast a b who → HasDone b c who [] → LooksLast a c who
-last_on a b c who looked nothing = (
-  looked.0,
-  subst (λ (steps : List MailStep). HasDone a c who steps) (append-nil (looked.0 ++ Fetches None ∷ []))
-      (done_then a b c who (looked.0 ++ Fetches None ∷ []) [] looked.1 nothing),
-)
+last_on : (a b c : HallView) (who : ℕ) → c.clock ≡ b.clock → LooksLast a b who → HasDone b c who [] → LooksLast a c who
+last_on a b c who clock looked nothing =
+    let looks = looked.0 ++ looks_in_vain who b.clock in
+    let same : looks ++ [] ≡ looked.0 ++ looks_in_vain who c.clock =
+    append-nil looks ∙ ap (λ (now : ℕ). looked.0 ++ looks_in_vain who now) (sym clock) in
+    (looked.0, subst (λ (steps : List MailStep). HasDone a c who steps) same (done_then a b c who looks [] looked.1 nothing))
 
 pub last_behind : (a b c : HallView) (who : ℕ) (steps : List MailStep) → HasDone a b who steps → LooksLast b c who → LooksLast a c who
 last_behind a b c who steps did looked = (
   steps ++ looked.0,
-  subst (λ (all : List MailStep). HasDone a c who all) (sym (append_assoc steps looked.0 (Fetches None ∷ [])))
-      (done_then a b c who steps (looked.0 ++ Fetches None ∷ []) did looked.1),
+  subst (λ (all : List MailStep). HasDone a c who all) (sym (append_assoc steps looked.0 (looks_in_vain who c.clock)))
+      (done_then a b c who steps (looked.0 ++ looks_in_vain who c.clock) did looked.1),
 )
 
-last_on_at : (a b c : HallView) (who : ℕ) (server : Option ServerView) → HasDone b c who [] → LooksLastAt a b who server → LooksLastAt a c who server
-last_on_at a b c who None nothing looked = tt
-last_on_at a b c who (Some server) nothing looked = λ going some. last_on a b c who (looked going some) nothing
+last_on_at : (a b c : HallView) (who : ℕ) (server : Option ServerView) → c.clock ≡ b.clock → HasDone b c who [] → LooksLastAt a b who server
+    → LooksLastAt a c who server
+last_on_at a b c who None clock nothing looked = tt
+last_on_at a b c who (Some server) clock nothing looked = λ going some. last_on a b c who clock (looked going some) nothing
 
 last_behind_at : (a b c : HallView) (who : ℕ) (server : Option ServerView) → HasDone a b who [] → LooksLastAt b c who server
     → LooksLastAt a c who server
@@ -35,16 +36,16 @@ last_behind_at a b c who None nothing looked = tt
 last_behind_at a b c who (Some server) nothing looked = λ going some. last_behind a b c who [] nothing (looked going some)
 
 -- those from one number on looked last into their mailboxes, and then the next one
-pub looks_more : (from number : ℕ) (a b c : HallView) (old new : List ServerView) → HasDone a b number []
+pub looks_more : (from number : ℕ) (a b c : HallView) (old new : List ServerView) → c.clock ≡ b.clock → HasDone a b number []
     → ((who : ℕ) → who ≢ number → HasDone b c who []) → ((who : ℕ) → who ≢ number → server_at new who ≡ server_at old who)
     → ((who : ℕ) → from ≤ who → who < number → LooksLastAt a b who (server_at old who)) → LooksLastAt b c number (server_at new number)
     → (who : ℕ) → from ≤ who → who < number + 1 → LooksLastAt a c who (server_at new who)
-looks_more from number a b c old new before others stay so_far next who begun below =
+looks_more from number a b c old new clock before others stay so_far next who begun below =
     ⊎_elim
     (λ (earlier : who < number).
     let apart : who ≢ number = λ same. absurd (omega (arith, earlier, same)) in
     subst (LooksLastAt a c who) (sym (stay who apart))
-    (last_on_at a b c who (server_at old who) (others who apart) (so_far who begun earlier)))
+    (last_on_at a b c who (server_at old who) clock (others who apart) (so_far who begun earlier)))
     (λ (same : who ≡ number).
     subst (λ (n : ℕ). LooksLastAt a c n (server_at new n)) (sym same) (last_behind_at a b c number (server_at new number) before next))
     (below_or_same number who below)

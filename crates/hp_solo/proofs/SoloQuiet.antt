@@ -1,16 +1,17 @@
 -- Participants that serve one after another, as long as nothing moves.
-use Rattle.std.proofs.Common.{◌≡◌, ◌≢◌, ℕ, ◌+◌, ◌<◌, ◌≤◌, ◌⊎◌, false, List, [], ◌∷◌, length, set, Option, Some, None, refl, sym, ap, subst, ◌∙◌, ⊎_elim, inl, inr, arith}
+use Rattle.std.proofs.Common.{◌≡◌, ◌≢◌, ℕ, ◌+◌, ◌<◌, ◌≤◌, ◌⊎◌, false, List, [], ◌++◌, length, set, Option, Some, None, refl, sym, ap, subst, ◌∙◌, ⊎_elim, inl, inr, arith}
 use Rattle.std.specs.Prelude.{IsSome, is_some}
 use Rattle.std.specs.List.{slice_get}
 use Rattle.std.proofs.lemmas.Bool.{cases_lt}
+use Rattle.std.proofs.lemmas.List.{append-nil}
 use Rattle.std.proofs.lemmas.Option.{same_Some, slice_get_within}
 use Rattle.hp_hall.proofs.Slotted.{slice_get-set_same}
 use Rattle.hp_frame.specs.declared.frame.Frame.{Frame}
 use Rattle.hp_hall.specs.Course.{done_then}
 use Rattle.hp_hall.specs.HallView.{HallView, HasDone}
-use Rattle.hp_hall.specs.Mail.{Fetches, box_of}
+use Rattle.hp_hall.specs.Mail.{MailStep, box_of}
 use Rattle.hp_proc.specs.Party.{Party}
-use Rattle.hp_solo.specs.Solo.{FindsNothing, HasNothingToDo, HaveNotStopped, IsBetween, IsIdle, IsQuiet, ServerView, SoloView, party_in, server_at}
+use Rattle.hp_solo.specs.Solo.{FindsNothing, HasNothingToDo, HaveNotStopped, IsBetween, IsIdle, IsQuiet, ServerView, SoloView, looks_in_vain, party_in, server_at}
 
 -- before anybody has served
 pub quiet_first : (from : ℕ) (hall : SoloView) → IsQuiet (IsBetween from from) hall hall
@@ -26,7 +27,8 @@ below_or_same number who below =
     ⊎_elim (λ (before : who < number). inl before) (λ (past : number ≤ who). inr (omega arith)) (cases_lt who number)
 
 -- those from one number on were quiet, and then the next one
-module _ (from number : ℕ) (a b c : SoloView) (begun : from ≤ number) (before : HasDone a.plain b.plain number [])
+module _ (from number : ℕ) (a b c : SoloView) (begun : from ≤ number) (clock : c.plain.clock ≡ b.plain.clock)
+    (before : HasDone a.plain b.plain number [])
     (there : server_at b.servers number ≡ server_at a.servers number)
     (others : (who : ℕ) → who ≢ number → HasDone b.plain c.plain who [])
     (stay : (who : ℕ) → who ≢ number → server_at c.servers who ≡ server_at b.servers who) (first : IsQuiet (IsBetween from number) a b)
@@ -38,9 +40,13 @@ module _ (from number : ℕ) (a b c : SoloView) (begun : from ≤ number) (befor
       (λ (below : who < number).
       let apart : who ≢ number = λ same. absurd (omega (arith, below, same)) in
       let idle : IsIdle a b who server = first.idle who server (between.0, below) is going in
+      let looks = looks_in_vain who b.plain.clock in
+      let same : looks ++ [] ≡ looks_in_vain who c.plain.clock = append-nil looks ∙ ap (looks_in_vain who) (sym clock) in
       record {
         stays = stay who apart ∙ idle.stays;
-        looked = λ some. done_then a.plain b.plain c.plain who (Fetches None ∷ []) [] (idle.looked some) (others who apart);
+        looked = λ some.
+            subst (λ (steps : List MailStep). HasDone a.plain c.plain who steps) same
+            (done_then a.plain b.plain c.plain who looks [] (idle.looked some) (others who apart));
       })
       (λ (same : who ≡ number).
       let was : HasDone a.plain b.plain who [] = subst (λ (n : ℕ). HasDone a.plain b.plain n []) (sym same) before in
@@ -49,7 +55,7 @@ module _ (from number : ℕ) (a b c : SoloView) (begun : from ≤ number) (befor
       let idle : IsIdle b c who server = next.idle who server same (kept ∙ is) going in
       record {
         stays = idle.stays;
-        looked = λ some. done_then a.plain b.plain c.plain who [] (Fetches None ∷ []) was (idle.looked some);
+        looked = λ some. done_then a.plain b.plain c.plain who [] (looks_in_vain who c.plain.clock) was (idle.looked some);
       })
       (below_or_same number who between.1)
 
@@ -127,7 +133,7 @@ module _ (old new : HallView) (servers : List ServerView) (number : ℕ) (server
         stays = ap (server_at (set servers number after)) same
             ∙ slice_get-set_same servers number after (slice_get_within servers number server there)
             ∙ ap Some (stays going ∙ one);
-        looked = λ some. subst (λ (n : ℕ). HasDone old new n (Fetches None ∷ [])) (sym same)
+        looked = λ some. subst (λ (n : ℕ). HasDone old new n (looks_in_vain n new.clock)) (sym same)
             (found going (ap (λ (s : ServerView). is_some s.party) one ∙ some)).did;
       }
 

@@ -1,44 +1,20 @@
 -- Participants that serve one after another, each of a higher number than those before, do so in rising number.
-use Rattle.std.proofs.Common.{◌≡◌, ◌≢◌, ℕ, ◌-◌, ◌<◌, ◌≤◌, ◌⊎◌, eqb, cond, Bool, true, false, true≢false, List, [], ◌∷◌, ◌++◌, length, map, inl, inr, refl, sym, ap, ◌∙◌, ⊎_elim, arith, length-append, slice_index_or}
-use Rattle.std.specs.List.{All, AllByRecursion, filter}
+use Rattle.std.proofs.Common.{◌≡◌, ◌≢◌, ℕ, ◌-◌, ◌<◌, ◌≤◌, List, [], ◌++◌, length, inl, inr, refl, sym, ap, ◌∙◌, ⊎_elim, arith, length-append, slice_index_or}
+use Rattle.std.specs.List.{All, AllByRecursion}
 use Rattle.std.specs.List.Sorted.{IsNonDecreasingBy}
-use Rattle.std.proofs.lemmas.Bool.{cases_eq, cases_lt, eq-eqb}
+use Rattle.std.proofs.lemmas.Bool.{cases_eq, cases_lt}
 use Rattle.std.proofs.lemmas.List.{append-nil, append_assoc, get_or_append_left, get_or-append_right}
 use Rattle.std.proofs.lemmas.List.Elements.{All-from_recursion, All-get_or}
 use Rattle.std.proofs.lemmas.List.Sorted.{IsNonDecreasingBy-short}
 use Rattle.hp_hall.specs.Course.{IsCourse}
 use Rattle.hp_hall.specs.HallView.{HallView, HasDone}
-use Rattle.hp_hall.specs.Mail.{MailStep, steps_of}
+use Rattle.hp_hall.specs.Mail.{MailStep}
 use Rattle.hp_proc.proofs.Steps.{done_between}
 use Rattle.hp_solo.specs.Served.{IsInRisingNumber}
+use Rattle.hp_solo.proofs.SoloSteps.{by_those}
 
 abbrev maker : ℕ × MailStep → ℕ
 maker step = step.0
-
-abbrev made_by : ℕ → ℕ × MailStep → Bool
-made_by who step = eqb step.0 who
-
-abbrev what : ℕ × MailStep → MailStep
-what step = step.1
-
--- who did nothing did not do the first step, and nothing of the rest
-idle_by : (who : ℕ) (step : ℕ × MailStep) (rest : List (ℕ × MailStep)) (is : Bool) → made_by who step ≡ is
-    → map what (cond is (step ∷ rest) rest) ≡ [] → (step.0 ≢ who) × (map what rest ≡ [])
-idle_by who step rest true is none = cc
-idle_by who step rest false is none = (λ same. true≢false (sym (eq-eqb step.0 who same) ∙ is), none)
-
-idle : (who : ℕ) (step : ℕ × MailStep) (steps : List (ℕ × MailStep)) → steps_of who (step ∷ steps) ≡ []
-    → (step.0 ≢ who) × (steps_of who steps ≡ [])
-idle who step steps none = idle_by who step (filter (made_by who) steps) (made_by who step) refl none
-
--- where all others did nothing, each step is by one of those
-by_those : (those : ℕ → Type 0) → ((who : ℕ) → those who ⊎ (those who → ⊥)) → (steps : List (ℕ × MailStep))
-    → ((who : ℕ) → (those who → ⊥) → steps_of who steps ≡ []) → AllByRecursion (λ step. those step.0) steps
-by_those those among [] none = tt
-by_those those among (step ∷ steps) none = (
-  ⊎_elim (λ (is : those step.0). is) (λ (apart : those step.0 → ⊥). absurd ((idle step.0 step steps (none step.0 apart)).0 refl)) (among step.0),
-  by_those those among steps (λ who apart. (idle who step steps (none who apart)).1),
-)
 
 -- steps of those below a number in rising number, and then steps of that number
 module _ (number : ℕ) (first second : List (ℕ × MailStep)) (rising : IsNonDecreasingBy maker first)

@@ -1,60 +1,102 @@
--- A turn of a wait in a hall of one thread: what a jump of the clock leaves, and that it uses up one; and who stands beside one that waits.
-use Rattle.std.proofs.Common.{◌≡◌, ℕ, ◌+◌, ◌<◌, ◌≤◌, Bool, true, false, List, [], length, Option, Some, None, refl, sym, ap, subst, ◌∙◌, arith}
+-- A turn of a wait in a hall of one thread: what a pause leaves, and that it uses up one; and who stands beside one that waits.
+use Rattle.std.proofs.Common.{◌≡◌, ℕ, ◌+◌, ◌<◌, ◌≤◌, ◌⊎◌, Bool, true, false, true≢false, List, [], ◌∷◌, ◌++◌, length, Option, Some, None, refl, sym, ap, subst, ◌∙◌, ⊎_elim, arith}
+use Rattle.std.specs.Prelude.{IfSome}
 use Rattle.std.proofs.lemmas.Option.{slice_get_within}
 use Rattle.hp_hall.proofs.Pending.{later_from_pending}
-use Rattle.hp_hall.specs.Course.{IsCourse, done_same}
+use Rattle.hp_hall.specs.Course.{IsCourse}
+use Rattle.hp_hall.specs.HallSteps.{after_pause}
 use Rattle.hp_hall.specs.HallView.{HallView, HasDone}
-use Rattle.hp_hall.specs.Mail.{steps_of}
+use Rattle.hp_hall.specs.Mail.{MailStep, Notes}
 use Rattle.hp_hall.specs.Weights.{IsPending, boxes_weight, counted, pause_weight, pending_at}
-use Rattle.hp_solo.specs.Solo.{IsNextDue, IsNotBeside, IsServerAtRest, IsSolo, ServerView, SoloView, server_at, servers_weight, solo_weight}
-use Rattle.hp_solo.specs.SoloCourse.{IsSoloCourse, server_stays}
+use Rattle.hp_hall.specs.declared.note.Note.TheVariants.{Paused}
+use Rattle.hp_proc.specs.Party.{Party}
+use Rattle.hp_proc.proofs.MemberLemmas.{at_each}
+use Rattle.hp_solo.specs.Served.{HasServedAt, ServesOn}
+use Rattle.hp_solo.specs.Solo.{IsLaterAt, IsNextDue, IsNotBeside, IsServerAtRest, IsSolo, ServerView, SoloView, server_at, servers_weight, solo_weight}
+use Rattle.hp_solo.specs.SoloCourse.{IsSoloCourse, party_same, server_stays}
+use Rattle.hp_solo.proofs.SoloSteps.{did_apart, did_itself}
 use Rattle.hp_solo.proofs.SoloWeights.{jump_falls}
 
--- the invariant of the hall after a jump of its clock
-pub solo_jumped : (old new : HallView) (servers : List ServerView) (reading : ℕ) → new ≡ record old { clock = reading }
-    → IsSolo (record { plain = old; servers = servers }) → IsSolo (record { plain = new; servers = servers })
-solo_jumped old new servers reading same is =
+-- the invariant of the hall behind a pause
+pub solo_paused : (old new : HallView) (servers : List ServerView) (me : ℕ) (moved : Bool) (until : Option ℕ) (reading : ℕ)
+    → new ≡ after_pause me moved until reading old → IsSolo (record { plain = old; servers = servers })
+    → IsSolo (record { plain = new; servers = servers })
+solo_paused old new servers me moved until reading same is =
     subst (λ (hall : HallView). IsSolo (record { plain = hall; servers = servers })) (sym same) (record {
       count = is.count;
       tied = λ who party there. let at = is.tied who party there in record { number = at.number; tied = at.tied };
     })
 
--- nobody does anything in a jump
-nothing_jumped : (old new : HallView) (reading who : ℕ) → new ≡ record old { clock = reading } → HasDone old new who []
-nothing_jumped old new reading who same = ap (λ (hall : HallView). steps_of who hall.mail) same ∙ done_same old who
-
--- the course of the hall over one
-pub course_jumped : (old new : HallView) (servers : List ServerView) (reading : ℕ) → IsCourse old new → new ≡ record old { clock = reading }
-    → IsSoloCourse (record { plain = old; servers = servers }) (record { plain = new; servers = servers })
-course_jumped old new servers reading course same = record {
-  plain = course;
-  servers = λ who. server_stays old new who (server_at servers who) (λ there. nothing_jumped old new reading who same);
+-- one that is there pauses behind its servings
+served_paused : (old new : HallView) (who : ℕ) (party : Option Party) → HasDone old new who (Notes (Paused false None) ∷ [])
+    → HasServedAt old new who party party
+served_paused old new who None did = tt
+served_paused old new who (Some party) did = record {
+  steps = Notes (Paused false None) ∷ [];
+  did = did;
+  serves = ServesOn.pauses party party [] (ServesOn.rests party);
 }
 
--- a jump to the least deadline uses up one
-pub solo_falls : (old new : SoloView) (until : ℕ) → IsNextDue old.plain.clock old.servers until new.plain.clock
-    → new.plain ≡ record old.plain { clock = new.plain.clock } → new.servers ≡ old.servers
-    → solo_weight new + pending_at new.plain.clock until + 1 ≤ solo_weight old + pending_at old.plain.clock until
-solo_falls old new until is same servers =
-    let falls = jump_falls old.plain.clock new.plain.clock until old.servers is in
-    let boxes : boxes_weight new.plain.boxes ≡ boxes_weight old.plain.boxes = ap (λ (hall : HallView). boxes_weight hall.boxes) same in
-    let weighs : servers_weight (pending_at new.plain.clock) new.servers ≡ servers_weight (pending_at new.plain.clock) old.servers =
-    ap (servers_weight (pending_at new.plain.clock)) servers in
-    omega (arith, falls, boxes, weighs)
+server_paused : (old new : HallView) (who : ℕ) (server : Option ServerView) → HasDone old new who (Notes (Paused false None) ∷ [])
+    → IsLaterAt old new who server server
+server_paused old new who None did = tt
+server_paused old new who (Some server) did = record {
+  party = party_same server.party;
+  stopped = λ is. is;
+  served = λ going. served_paused old new who server.party did;
+}
 
--- a pause in which nothing moved
-pub pause_falls : (old new : SoloView) (moved : Bool) (until : Option ℕ) (deadline : ℕ) → moved ≡ false → until ≡ Some deadline
-    → IsNextDue old.plain.clock old.servers deadline new.plain.clock → new.plain ≡ record old.plain { clock = new.plain.clock }
-    → new.servers ≡ old.servers
+-- the course of the hall over a pause of participant 0 in which nothing moved
+pub course_paused : (old new : HallView) (servers : List ServerView) (reading : ℕ) → IsCourse old new
+    → new ≡ after_pause 0 false None reading old
+    → IsSoloCourse (record { plain = old; servers = servers }) (record { plain = new; servers = servers })
+course_paused old new servers reading course same =
+    let step = Notes (Paused false None) in
+    let mail : new.mail ≡ old.mail ++ (0, step) ∷ [] = ap (λ (hall : HallView). hall.mail) same in
+    record {
+      plain = course;
+      servers =
+          at_each (λ who. IsLaterAt old new who (server_at servers who) (server_at servers who)) 0
+          (server_paused old new 0 (server_at servers 0) (did_itself old new 0 step mail))
+          (λ who apart. server_stays old new who (server_at servers who) (λ there. did_apart old new 0 step mail who apart));
+    }
+
+-- what all weigh behind a pause
+pub weighs_paused : (old new : SoloView) (me : ℕ) (moved : Bool) (until : Option ℕ) (reading : ℕ)
+    → new.plain ≡ after_pause me moved until reading old.plain → new.servers ≡ old.servers
+    → solo_weight new ≡ boxes_weight old.plain.boxes + servers_weight (pending_at reading) old.servers
+weighs_paused old new me moved until reading same servers =
+    let boxes : boxes_weight new.plain.boxes ≡ boxes_weight old.plain.boxes = ap (λ (hall : HallView). boxes_weight hall.boxes) same in
+    let weighs : servers_weight (pending_at new.plain.clock) new.servers ≡ servers_weight (pending_at reading) old.servers =
+    ap (servers_weight (pending_at new.plain.clock)) servers
+    ∙ ap (λ (hall : HallView). servers_weight (pending_at hall.clock) old.servers) same in
+    omega (arith, boxes, weighs)
+
+-- in one thread a turn in which nothing moved waits for a deadline
+no_deadline : (clock : ℕ) → IsPending 1 (pending_at clock) false None → ⊥
+no_deadline clock pending =
+    ⊎_elim (λ (moved : false ≡ true). absurd (true≢false (sym moved))) (λ (none : 1 ≡ 0). absurd (omega (arith, none))) pending
+
+-- what a pause uses up: where something moved the clock stands, and else it jumps to the least deadline that is still to come
+pub pause_falls : (old new : SoloView) (me : ℕ) (moved : Bool) (until : Option ℕ) (reading : ℕ)
+    → IsPending 1 (pending_at old.plain.clock) moved until → (moved ≡ true → reading ≡ old.plain.clock)
+    → (moved ≡ false → IfSome until (λ deadline. IsNextDue old.plain.clock old.servers deadline reading))
+    → new.plain ≡ after_pause me moved until reading old.plain → new.servers ≡ old.servers
     → solo_weight new + counted (pending_at new.plain.clock) until + pause_weight 1 moved
     ≤ solo_weight old + counted (pending_at old.plain.clock) until
-pause_falls old new moved until deadline still some is same servers =
-    let falls = solo_falls old new deadline is same servers in
-    let now : counted (pending_at new.plain.clock) until ≡ pending_at new.plain.clock deadline = ap (counted (pending_at new.plain.clock)) some in
-    let before : counted (pending_at old.plain.clock) until ≡ pending_at old.plain.clock deadline =
-    ap (counted (pending_at old.plain.clock)) some in
-    let one : pause_weight 1 moved ≡ 1 = ap (pause_weight 1) still in
-    omega (arith, falls, now, before, one)
+pause_falls old new me true until reading before still next same servers =
+    let clock = still refl in
+    let weighs : servers_weight (pending_at reading) old.servers ≡ servers_weight (pending_at old.plain.clock) old.servers =
+    ap (λ (at : ℕ). servers_weight (pending_at at) old.servers) clock in
+    let counts : counted (pending_at new.plain.clock) until ≡ counted (pending_at old.plain.clock) until =
+    ap (λ (hall : HallView). counted (pending_at hall.clock) until) same ∙ ap (λ (at : ℕ). counted (pending_at at) until) clock in
+    omega (arith, weighs_paused old new me true until reading same servers, weighs, counts)
+pause_falls old new me false None reading before still next same servers = absurd (no_deadline old.plain.clock before)
+pause_falls old new me false (Some deadline) reading before still next same servers =
+    let falls = jump_falls old.plain.clock reading deadline old.servers (next refl) in
+    let counts : pending_at new.plain.clock deadline ≡ pending_at reading deadline =
+    ap (λ (hall : HallView). pending_at hall.clock deadline) same in
+    omega (arith, weighs_paused old new me false (Some deadline) reading same servers, falls, counts)
 
 -- a deadline for which a hall of one thread may pause is still to come
 pub pause_later : (clock : ℕ) (moved : Bool) (until : Option ℕ) (deadline : ℕ) → until ≡ Some deadline

@@ -1,18 +1,22 @@
 -- How participants serve while others do their lines: the rule "Turns in one thread" of docs/PARTICIPANTS.md.
-use Rattle.std.specs.Prelude.{◌≡◌, ℕ, Bool, List, [], ◌++◌, length, Option, Some, None, ⊤}
+use Rattle.std.specs.Prelude.{◌≡◌, ℕ, Bool, false, List, [], ◌∷◌, ◌++◌, length, Option, Some, None, ⊤}
 use Rattle.std.specs.List.Sorted.{IsNonDecreasingBy}
 use Rattle.hp_hall.specs.HallView.{HallView, HasDone}
-use Rattle.hp_hall.specs.Mail.{MailStep}
+use Rattle.hp_hall.specs.Mail.{MailStep, Notes}
+use Rattle.hp_hall.specs.declared.note.Note.TheVariants.{Paused}
 use Rattle.hp_proc.specs.Coordinating.{IsServed}
 use Rattle.hp_proc.specs.Party.{Party}
 
--- servings one after another, with pauses between them that do nothing
+-- servings one after another, and pauses between them
 pub data ServesOn (count : ℕ) : Party → Party → List MailStep → Type 0 where
   rests : (party : Party) → ServesOn count party party []
   serves : (party mid after : Party) (first last : List MailStep) (moved : Bool) → ServesOn count party mid first
       → IsServed count mid after last (Some moved) → ServesOn count party after (first ++ last)
+  -- a turn of all ends in which nothing moved: that changes nothing in it, and it waits for no deadline of its own
+  pauses : (party after : Party) (first : List MailStep) → ServesOn count party after first
+      → ServesOn count party after (first ++ Notes (Paused false None) ∷ [])
 
--- from one state to a later one a participant served, and did nothing else
+-- from one state to a later one a participant served, and did nothing else but pause
 pub record HasServed (count who : ℕ) (old new : HallView) (party after : Party) : Type 0 where
   pub steps : List MailStep
   pub did : HasDone old new who steps

@@ -1,11 +1,12 @@
 -- A hall in which participants take turns in one thread, as contracts see it: the rule "Turns in one thread" of docs/PARTICIPANTS.md.
-use Rattle.std.specs.Prelude.{◌≡◌, ◌≢◌, ℕ, ◌+◌, ◌<◌, ◌≤◌, ◌⊎◌, ◌^◌, ◌-◌, Bool, true, false, List, [], ◌∷◌, ◌++◌, length, Option, Some, None, IsSome, slice_get, sum_by, if◌then◌else◌, ⊤}
+use Rattle.std.specs.Prelude.{◌≡◌, ◌≢◌, ℕ, zero, suc, ◌+◌, ◌<◌, ◌≤◌, ◌⊎◌, ◌^◌, ◌-◌, Bool, true, false, List, [], ◌∷◌, ◌++◌, length, Option, Some, None, IsSome, slice_get, sum_by, if◌then◌else◌, ⊤}
 use Rattle.std.specs.List.{list_any}
 use Rattle.hp_base.specs.declared.limits.TheConstants.{MAX_HEAPS}
 use Rattle.hp_hall.specs.Course.{IsCourse}
 use Rattle.hp_hall.specs.HallView.{HallView, HasDone, IsHome, part_in, own_at, seen_in, slot_at, taken_from}
-use Rattle.hp_hall.specs.Mail.{Fetches, MailStep, box_of}
+use Rattle.hp_hall.specs.Mail.{Fetches, MailStep, Notes, box_of}
 use Rattle.hp_hall.specs.Weights.{boxes_weight, pending_at}
+use Rattle.hp_hall.specs.declared.note.Note.TheVariants.{Read}
 use Rattle.hp_proc.specs.Falling.{own_weight}
 use Rattle.hp_proc.specs.Party.{IsSameParty, Party, due_in}
 use Rattle.hp_proc.specs.Tied.{IsTied}
@@ -133,9 +134,15 @@ IsServedAs old new None (Some after) = ⊥
 IsServedAs old new (Some party) None = ⊥
 IsServedAs old new (Some party) (Some after) = IsPartyServed old new party after
 
+-- what a participant does that looks into its mailbox in vain: participant 0 then reads its clock, to see whether the deadline of its round
+-- has passed
+abbrev pub looks_in_vain : ℕ → ℕ → List MailStep
+looks_in_vain zero clock = Fetches None ∷ Notes (Read clock) ∷ []
+looks_in_vain (suc who) clock = Fetches None ∷ []
+
 -- a participant looks into its mailbox, which is empty, and does nothing else
 pub record FindsNothing (old new : HallView) (who : ℕ) : Type 0 where
-  pub did : HasDone old new who (Fetches None ∷ [])
+  pub did : HasDone old new who (looks_in_vain who new.clock)
   pub boxes : new.boxes ≡ old.boxes
   pub empty : box_of new.boxes who ≡ []
 
@@ -146,7 +153,7 @@ HasNothingToDo old new (Some party) = FindsNothing old new party.me
 
 -- a participant looks last into its mailbox, which is empty then
 abbrev pub LooksLast : HallView → HallView → ℕ → Type 0
-LooksLast old new who = (steps : List MailStep) × HasDone old new who (steps ++ Fetches None ∷ [])
+LooksLast old new who = (steps : List MailStep) × HasDone old new who (steps ++ looks_in_vain who new.clock)
 
 -- so does one that is there
 abbrev pub HasLookedLast : HallView → HallView → Option Party → Type 0
@@ -201,7 +208,7 @@ HaveNotStopped beside servers = (who : ℕ) (server : ServerView) → beside who
 -- a place is as it was, and the participant that is there looked into its mailbox, found it empty, and did nothing else
 pub record IsIdle (old new : SoloView) (who : ℕ) (server : ServerView) : Type 0 where
   pub stays : server_at new.servers who ≡ Some server
-  pub looked : IsSome server.party → HasDone old.plain new.plain who (Fetches None ∷ [])
+  pub looked : IsSome server.party → HasDone old.plain new.plain who (looks_in_vain who new.plain.clock)
 
 -- nothing moved on a side: whoever there had met no refusal of memory was idle; and if nobody had, the mailboxes are as they were, and
 -- those of the side are empty

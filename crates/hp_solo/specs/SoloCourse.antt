@@ -1,14 +1,15 @@
 -- The course of a hall of one thread: what later states keep of earlier ones, and that this joins: the rule "Turns in one thread" of
 -- docs/PARTICIPANTS.md.
-use Rattle.std.specs.Prelude.{◌≡◌, ℕ, Bool, true, false, List, [], ◌++◌, length, Option, Some, None, IsSome, refl}
+use Rattle.std.specs.Prelude.{◌≡◌, ℕ, Bool, true, false, List, [], ◌∷◌, ◌++◌, length, Option, Some, None, IsSome, refl}
 use Rattle.std.proofs.Common.{◌∙◌, sym, subst}
 use Rattle.std.proofs.lemmas.List.{append-nil, append_assoc}
 use Rattle.hp_hall.specs.Course.{IsCourse, course_same, course_then, done_same, done_then}
 use Rattle.hp_hall.specs.HallView.{HallView, HasDone}
-use Rattle.hp_hall.specs.Mail.{MailStep}
+use Rattle.hp_hall.specs.Mail.{MailStep, Notes}
+use Rattle.hp_hall.specs.declared.note.Note.TheVariants.{Paused}
 use Rattle.hp_proc.specs.Party.{IsSameParty, Party}
 use Rattle.hp_solo.specs.Served.{HasServed, HasServedAt, ServesOn}
-use Rattle.hp_solo.specs.Served.ServesOn.{rests, serves}
+use Rattle.hp_solo.specs.Served.ServesOn.{pauses, rests, serves}
 use Rattle.hp_solo.specs.Solo.{AreLater, IsAway, IsLaterAt, IsLaterParty, ServerView, SoloView, party_in, server_at}
 
 -- from one state to a later one: the plain values go on, and so does each that serves
@@ -24,6 +25,9 @@ servings_join count first _ party mid _ before (rests _) =
 servings_join count first _ party mid _ before (serves _ between after front rear moved here one) =
     subst (λ (steps : List MailStep). ServesOn count party after steps) (append_assoc first front rear)
     (serves party between after (first ++ front) rear moved (servings_join count first front party mid between before here) one)
+servings_join count first _ party mid _ before (pauses _ after front here) =
+    subst (λ (steps : List MailStep). ServesOn count party after steps) (append_assoc first front (Notes (Paused false None) ∷ []))
+    (pauses party after (first ++ front) (servings_join count first front party mid after before here))
 
 pub served_then : (count who : ℕ) (a b c : HallView) (party mid after : Party) → HasServed count who a b party mid
     → HasServed count who b c mid after → HasServed count who a c party after

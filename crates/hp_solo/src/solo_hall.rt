@@ -1,7 +1,6 @@
 //! A hall in which participants take turns in one thread.
 ghost use Rattle.std.specs.Prelude.{◌≡◌, ◌≢◌, ◌<◌, ℕ, None, Some, IfOk, IfSome, length, option_map, replicate};
-ghost use Rattle.hp_solo.specs.Solo.{IsAway, IsNextDue, IsSolo, IsTiedAt, has_stopped, nobody, party_at, server_at, with_party};
-ghost use Rattle.hp_solo.specs.SoloCourse.{IsSoloCourse};
+ghost use Rattle.hp_solo.specs.Solo.{IsAway, IsSolo, IsTiedAt, has_stopped, nobody, party_at, server_at, with_party};
 
 mod calls;
 mod deadlines;
@@ -13,7 +12,6 @@ mod tests;
 mod waiting;
 
 use crate::server::{Server, places};
-use deadlines::next_due;
 use hp_base::Mapper;
 use hp_hall::{Hall, PlainHall};
 use hp_proc::Participant;
@@ -94,17 +92,5 @@ impl<'p, M: Mapper> SoloHall<'p, M> {
         ensures { result ≡ has_stopped self.now.servers }
     {
         self.servers.iter().any(|server| server.is_stopped())
-    }
-
-    // The clock jumps to the least of a deadline and those of participants that are there, of such as are still to come.
-    fn jump_next(&mut self, until: u64)
-        requires later { self.old.plain.clock < until }
-        ensures next { IsNextDue self.old.plain.clock self.old.servers until self.new.plain.clock }
-        ensures clock { self.new.plain ≡ record self.old.plain { clock = self.new.plain.clock } }
-        ensures servers { self.new.servers ≡ self.old.servers }
-        ensures course { IsSoloCourse self.old self.new }
-    {
-        let reading = next_due(self.servers.as_slice(), self.plain.clock(), until);
-        self.plain.jump(reading);
     }
 }

@@ -1,6 +1,7 @@
 //! Turns of all participants, which end once nothing is left for any of them.
-ghost use Rattle.std.specs.Prelude.{◌≡◌, ◌+◌, ◌≤◌, ℕ, false, true};
+ghost use Rattle.std.specs.Prelude.{◌≡◌, ◌+◌, ◌≤◌, ℕ, None, false, true};
 ghost use Rattle.hp_base.specs.declared.limits.TheConstants.{MAX_HEAPS};
+ghost use Rattle.hp_hall.specs.HallSteps.{after_pause};
 ghost use Rattle.hp_hall.specs.HallView.{IsHome, part_in, slot_at, taken_from};
 ghost use Rattle.hp_proc.specs.Falling.{if_moved};
 ghost use Rattle.hp_solo.specs.Draining.{AreEmpty, IsDrained, IsLeastDue, IsNoneDue, TurnsLeave};
@@ -27,18 +28,20 @@ impl<'p, M: Mapper> SoloHall<'p, M> {
         serve_range(&mut self.plain, &mut self.servers, 0, count)
     }
 
-    // The clock jumps to the least deadline that is still to come and will pass. Returned is whether there is one.
+    // The clock jumps to the least deadline that is still to come and will pass, in a pause of participant 0. Returned is whether there is
+    // one.
     fn jump_due(&mut self) -> bool
         ensures leaves { TurnsLeave self.old self.new }
         ensures weight { solo_weight self.new + if_moved result ≤ solo_weight self.old }
         ensures least { result ≡ true → IsLeastDue self.old.plain.clock self.old.servers self.new.plain.clock }
         ensures none { result ≡ false → IsNoneDue self.old.plain.clock self.old.servers }
+        ensures pauses { result ≡ true → self.new.plain ≡ after_pause 0 false None self.new.plain.clock self.old.plain }
         ensures still { result ≡ false → self.new ≡ self.old }
     {
         match least_due(self.servers.as_slice(), self.plain.clock()) {
             None => false,
             Some(due) => {
-                self.plain.jump(due);
+                self.plain.pause(0, false, None, due);
                 true
             }
         }
@@ -59,7 +62,8 @@ impl<'p, M: Mapper> SoloHall<'p, M> {
     }
 
     /// Serves all who are there, in rising number and again and again, until nothing moves. Then the clock jumps to the least deadline of
-    /// a round that is still to come, and they serve on, until there is none. This is how a run goes on behind its last line. Own.
+    /// a round that is still to come, which is noted as a pause of participant 0, and they serve on, until there is none. This is how a
+    /// run goes on behind its last line. Own.
     pub fn drain(&mut self)
         requires home { IsHome (slot_at self.old.plain MAX_HEAPS) }
         ensures drained { IsDrained self.new }

@@ -1,5 +1,6 @@
 //! The end of a hall of one thread.
 ghost use Rattle.std.specs.Prelude.{◌≡◌, ◌↔◌, IfOk, IsTrue};
+ghost use Rattle.hp_solo.specs.Draining.{IsDrained};
 ghost use Rattle.hp_solo.specs.Ending.{AreThere, LeaveTables, has_absent};
 ghost use Rattle.hp_solo.specs.Solo.{AreTied};
 
@@ -34,10 +35,11 @@ impl<'p, M: Mapper> SoloHall<'p, M> {
         tables_of(alloc, self.servers.as_slice())
     }
 
-    /// Ends the hall, to which each participant has come back, and hands out their tables as they stand, and its plain values. It is
-    /// refused only where there is no memory for the tables. Own.
+    /// Ends the hall, to which each participant has come back, once nothing is left for any of them, and hands out their tables as they
+    /// stand, and its plain values. It is refused only where there is no memory for the tables. Own.
     pub fn end(self, alloc: Global) -> Result<SoloEnd, AllocError>
         requires there { AreThere self.servers }
+        requires drained { IsDrained self }
         ensures tables { IfOk result (λ end. LeaveTables self.entry.servers end.tables.items) }
         ensures plain { IfOk result (λ end. end.plain ≡ self.entry.plain) }
 

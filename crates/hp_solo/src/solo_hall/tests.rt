@@ -134,6 +134,7 @@ fn do_line(
 fn go_and_come(hall: &mut SoloHall<'_, MemMapper>, me: u8, line: Line) -> bool
     requires me { me < length hall.old.plain.owns }
     requires home { IsHome (slot_at hall.old.plain MAX_HEAPS) }
+    ensures home { IsHome (slot_at hall.new.plain MAX_HEAPS) }
 {
     let Some(mut party) = hall.away(me) else {
         return false;
@@ -204,12 +205,13 @@ fn has_rows(table: &Table, number: u64, rows: usize) -> bool {
     table.joined && table.number == number && table.rows.len() == rows
 }
 
-// Each leaves its table once both are there.
+// Each leaves its table once both are there, and nothing is left for them.
 #[test]
 fn leaves_both_tables(rt: HostRuntime) -> Result<(), Fail> {
     let plan = Plan::new(rt.alloc());
     let mut hall = hall_of_two(rt.alloc(), &plan, 0)?;
     let right = go_and_come(&mut hall, 0, Line::GrantToItself);
+    hall.drain();
     if !hall.has_all() {
         return Err("both are there".into());
     }

@@ -1,31 +1,71 @@
-ghost use Rattle.std.specs.Prelude.{◌≡◌, ◌<◌, ◌≤◌, ℕ};
-ghost use Rattle.hp_solo.specs.Solo.{IsBeside, IsBetween, IsNotBeside, IsOutside};
+ghost use Rattle.std.specs.Prelude.{◌≡◌, ◌<◌, ◌≤◌, ◌+◌, ℕ, Some, false, true, IfSome};
+ghost use Rattle.hp_base.specs.declared.limits.TheConstants.{MAX_HEAPS};
+ghost use Rattle.hp_hall.specs.HallSteps.{with_note};
+ghost use Rattle.hp_hall.specs.HallView.{IsHome, slot_at};
+ghost use Rattle.hp_hall.specs.Weights.{IsPending, pending_at};
+ghost use Rattle.hp_hall.specs.declared.note.Note.{Note};
+ghost use Rattle.hp_proc.specs.Falling.{if_moved};
+ghost use Rattle.hp_solo.specs.Beside.{HaveServedBeside};
+ghost use Rattle.hp_solo.specs.Solo.{IsAway, IsBeside, IsBetween, IsNextDue, IsNotBeside, IsOutside, server_at, solo_weight};
+ghost use Rattle.hp_solo.specs.SoloCourse.{IsSoloCourse};
 
 use super::SoloHall;
+use super::deadlines::next_due;
 use super::serving::serve_range;
 use hp_base::Mapper;
 use hp_hall::Waiting;
 use std::alloc::AllocError;
 
+impl<'p, M: Mapper> SoloHall<'p, M> {
+    // Those below or above one that waits serve, in rising number, each until nothing is left for it. Returned is whether something
+    // moved.
+    fn serve_beside(&mut self, me: u8, above: bool) -> bool
+        requires serves { IsAway (server_at self.old.servers me) }
+        requires home { IsHome (slot_at self.old.plain MAX_HEAPS) }
+        ensures served { HaveServedBeside me above self.old self.new result }
+        ensures weight { solo_weight self.new + if_moved result ≤ solo_weight self.old }
+        ensures goes_on { IsSoloCourse self.old self.new }
+    {
+        let (from, to) = apart(me as usize, above, self.servers.len());
+        serve_range(&mut self.plain, &mut self.servers, from, to)
+    }
+
+    // It is noted that one let those below or above it serve, and whether something moved.
+    fn note_yield(&mut self, me: u8, above: bool, moved: bool)
+        requires serves { IsAway (server_at self.old.servers me) }
+        ensures plain { self.new.plain ≡ with_note me (Note.Yielded above (Some moved)) self.old.plain }
+        ensures servers { self.new.servers ≡ self.old.servers }
+        ensures goes_on { IsSoloCourse self.old self.new }
+    {
+        self.plain.note_yield(me, above, Some(moved));
+    }
+
+    // The reading of the clock behind a pause. It stands where something moved, and else jumps to the least of the deadline that is waited
+    // for and those of participants that are there, of such as are still to come.
+    fn reading_behind(&self, moved: bool, until: Option<u64>) -> u64
+        requires before { IsPending 1 (pending_at self.now.plain.clock) moved until }
+        ensures still { moved ≡ true → result ≡ self.now.plain.clock }
+        ensures next { moved ≡ false → IfSome until (λ deadline.
+            IsNextDue self.now.plain.clock self.now.servers deadline result) }
+    {
+        match until {
+            Some(until) if !moved => next_due(self.servers.as_slice(), self.plain.clock(), until),
+            _ => self.plain.clock(),
+        }
+    }
+}
+
 impl<'p, M: Mapper> Waiting for SoloHall<'p, M> {
-    ghost use Rattle.std.specs.Prelude.{◌≡◌, ◌+◌, ◌*◌, ◌≤◌, ◌⊎◌, ℕ, [], None, Ok, IfSome, IsOk, IsSomeAnd, false, true};
+    ghost use Rattle.std.specs.Prelude.{◌≡◌, ◌+◌, ◌*◌, ◌≤◌, ◌⊎◌, ℕ, [], ◌∷◌, None, IfOk, IfSome, IsOk, IsSomeAnd, false, true};
+    ghost use Rattle.std.specs.Result.{result_ok};
     ghost use Rattle.hp_base.specs.declared.limits.TheConstants.{MAX_HEAPS};
+    ghost use Rattle.hp_hall.specs.HallSteps.{after_pause};
     ghost use Rattle.hp_hall.specs.HallView.{HasDone, IsHome, part_in, own_at, slot_at, taken_from};
+    ghost use Rattle.hp_hall.specs.Mail.{Notes};
     ghost use Rattle.hp_hall.specs.Weights.{IsPending, counted, moved_of, pause_weight, pending_at};
-    ghost use Rattle.hp_solo.specs.Served.{IsInRisingNumber};
-    ghost use Rattle.hp_solo.specs.Solo.{
-      IsAway,
-      IsBeside,
-      IsNextDue,
-      IsNotBeside,
-      IsQuiet,
-      IsServerAtRest,
-      IsServing,
-      LooksLastAt,
-      has_stopped,
-      server_at,
-      solo_weight,
-    };
+    ghost use Rattle.hp_hall.specs.declared.note.Note.{Note};
+    ghost use Rattle.hp_solo.specs.Beside.{HasYielded};
+    ghost use Rattle.hp_solo.specs.Solo.{IsAway, IsNextDue, has_stopped, server_at, solo_weight};
     ghost use Rattle.hp_solo.specs.SoloCourse.{IsSoloCourse};
 
     fn others(&mut self, me: u8, above: bool) -> Result<bool, AllocError>
@@ -36,26 +76,18 @@ impl<'p, M: Mapper> Waiting for SoloHall<'p, M> {
         ensures home { (number : ℕ) → IsHome (slot_at self.old.plain number) → IsHome (slot_at self.new.plain number) }
         ensures part { (heap : ℕ) → part_in self.new.plain me heap ≡ part_in self.old.plain me heap }
         ensures own { own_at self.new.plain me ≡ own_at self.old.plain me }
-        ensures did { HasDone self.old.plain self.new.plain me [] }
+        ensures did { HasDone self.old.plain self.new.plain me (Notes (Note.Yielded above (result_ok result)) ∷ []) }
         ensures weight { solo_weight self.new + 1 * moved_of result ≤ solo_weight self.old }
         ensures clock { self.new.plain.clock ≡ self.old.plain.clock }
         ensures goes_on { IsSoloCourse self.old self.new }
 
         // It never fails. Those alone who stand on that side serve, in rising number. Each of them that has met no refusal rests then, and
-        // looked last into its mailbox, which was empty.
+        // looked last into its mailbox, which was empty; and where nothing moved it had looked there once. Then that is noted.
         ensures always { IsOk result }
-        ensures serving { IsServing (IsNotBeside me above) self.old.plain self.new.plain }
-        ensures rising { IsInRisingNumber self.old.plain self.new.plain }
-        ensures places { (who : ℕ) → IsNotBeside me above who → server_at self.new.servers who ≡ server_at self.old.servers who }
-        ensures rests { (who : ℕ) → IsBeside me above who → IsServerAtRest self.new.plain.clock (server_at self.new.servers who) }
-        ensures looks { (who : ℕ) → IsBeside me above who
-            → LooksLastAt self.old.plain self.new.plain who (server_at self.new.servers who) }
-
-        // Where nothing moved, each of them that had met no refusal has looked into its mailbox once, and found it empty.
-        ensures quiet { result ≡ Ok false → IsQuiet (IsBeside me above) self.old self.new }
+        ensures yields { IfOk result (HasYielded me above self.old self.new) }
     {
-        let (from, to) = apart(me as usize, above, self.servers.len());
-        let moved = serve_range(&mut self.plain, &mut self.servers, from, to);
+        let moved = self.serve_beside(me, above);
+        self.note_yield(me, above, moved);
         Ok(moved)
     }
 
@@ -70,22 +102,19 @@ impl<'p, M: Mapper> Waiting for SoloHall<'p, M> {
         ensures home { (number : ℕ) → IsHome (slot_at self.old.plain number) → IsHome (slot_at self.new.plain number) }
         ensures part { (heap : ℕ) → part_in self.new.plain me heap ≡ part_in self.old.plain me heap }
         ensures own { own_at self.new.plain me ≡ own_at self.old.plain me }
-        ensures did { HasDone self.old.plain self.new.plain me [] }
+        ensures did { HasDone self.old.plain self.new.plain me (Notes (Note.Paused moved until) ∷ []) }
         ensures goes_on { IsSoloCourse self.old self.new }
 
-        // Where something moved nothing changes. Else the clock alone does: it jumps to the least deadline that is still to come.
-        ensures still { moved ≡ true → self.new ≡ self.old }
+        // Where something moved the clock stands. Else it jumps to the least deadline that is still to come. That is noted, and nothing
+        // else changes.
+        ensures still { moved ≡ true → self.new.plain.clock ≡ self.old.plain.clock }
         ensures next { moved ≡ false → IfSome until (λ deadline.
             IsNextDue self.old.plain.clock self.old.servers deadline self.new.plain.clock) }
-        ensures plain { self.new.plain ≡ record self.old.plain { clock = self.new.plain.clock } }
+        ensures plain { self.new.plain ≡ after_pause me moved until self.new.plain.clock self.old.plain }
         ensures servers { self.new.servers ≡ self.old.servers }
     {
-        if moved {
-            return;
-        }
-        if let Some(until) = until {
-            self.jump_next(until);
-        }
+        let reading = self.reading_behind(moved, until);
+        self.plain.pause(me, moved, until, reading);
     }
 
     fn stopped(&self) -> bool

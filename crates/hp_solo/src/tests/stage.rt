@@ -134,10 +134,10 @@ impl<'p> Stage<'p> {
         self.hall.post(from, 1 - from, frame, action)
     }
 
-    // The clock jumps, where that reading is not behind it.
+    // The clock jumps in a pause of participant 0, where that reading is not behind it.
     pub(super) fn jump(&mut self, reading: u64) {
         if self.hall.clock() <= reading {
-            self.hall.jump(reading);
+            self.hall.pause(0, false, None, reading);
         }
     }
 

@@ -32,7 +32,7 @@ returns-clause-idle g c = λ nothing.
     let old = c.args.hall.now in
     let party = c.args.participant.now in
     let served = c.serve.ensures.served in
-    (has_rested (length old.owns) party c.serve.new.self served.0 (result_ok c.serve.result) (ap result_ok nothing) served.2).1
+    (has_rested (length old.owns) party c.serve.new.self served.0 (result_ok c.serve.result) (ap result_ok nothing) served.2).2
 
 pub returns-clause-found : goal.returns-clause-found
 returns-clause-found g c = λ nothing.
@@ -41,8 +41,8 @@ returns-clause-found g c = λ nothing.
     let party = c.args.participant.now in
     let served = c.serve.ensures.served in
     let rested = has_rested (length old.owns) party c.serve.new.self served.0 (result_ok c.serve.result) (ap result_ok nothing) served.2 in
-    found_nothing old new party.me c.serve.ensures.goes_on (subst (λ (steps : List MailStep). HasDone old new party.me steps) rested.0 served.1)
-    c.serve.ensures.did_others
+    found_nothing old new party.me rested.0 c.serve.ensures.goes_on
+    (subst (λ (steps : List MailStep). HasDone old new party.me steps) rested.1 served.1) c.serve.ensures.did_others
 
 pub returns-clause-serves : goal.returns-clause-serves
 returns-clause-serves g c = c.serve.ensures.served

@@ -1,14 +1,13 @@
-use Rattle.std.proofs.Common.{◌≡◌, ℕ, Bool, true, false, Result, Ok, Err, [], ◌∷◌, None, refl, sym, ap, subst, ◌∙◌, arith}
+use Rattle.std.proofs.Common.{◌≡◌, ℕ, Bool, true, false, Result, Ok, Err, [], refl, sym, ap, subst, ◌∙◌, arith}
 use Rattle.std.specs.Result.{result_ok}
 use Rattle.hp_base.specs.declared.limits.TheConstants.{MAX_HEAPS}
 use Rattle.hp_hall.specs.Course.{done_same}
 use Rattle.hp_hall.specs.HallView.{HallView, HasDone, own_at, seen_in}
-use Rattle.hp_hall.specs.Mail.{Fetches}
 use Rattle.hp_proc.specs.Falling.{served_of}
 use Rattle.hp_proc.specs.Party.{Party}
 use Rattle.hp_proc.specs.Tied.{IsTied}
 use Rattle.hp_solo.specs.Served.ServesOn.{rests}
-use Rattle.hp_solo.specs.Solo.{FindsNothing}
+use Rattle.hp_solo.specs.Solo.{FindsNothing, looks_in_vain}
 use Rattle.hp_solo.proofs.SoloLooks.{last_behind}
 use Rattle.hp_solo.proofs.SoloTies.{party_served_same, party_served_then, served_more_by}
 use Rattle.hp_solo.proofs.server.serve_out.Goals as goal
@@ -98,4 +97,4 @@ returns-then-not-more-clause-looks g c =
     let new = c.serve_once.new.hall in
     let found = c.serve_once.ensures.found (c.in_ok-more.was ∙ ap Ok c.if-not-more.true) in
     last_behind c.args.hall.now hall new c.args.participant.now.me serves.steps serves.did
-    ([], subst (λ (who : ℕ). HasDone hall new who (Fetches None ∷ [])) c.serving.invariant.served.same.me found.did)
+    ([], subst (λ (who : ℕ). HasDone hall new who (looks_in_vain who new.clock)) c.serving.invariant.served.same.me found.did)

@@ -1,14 +1,14 @@
--- A jump to the least deadline that is still to come, or none.
-use Rattle.std.proofs.Common.{ℕ, ◌+◌, ◌≤◌, List, refl, subst}
+-- A pause until the least deadline that is still to come, or none.
+use Rattle.std.proofs.Common.{ℕ, ◌+◌, ◌≤◌, List, None, false, refl, subst}
 use Rattle.hp_solo.specs.Draining.{IsNoneDue, TurnsLeave}
 use Rattle.hp_solo.specs.Solo.{IsPendingDue, ServerView, SoloView, solo_weight}
-use Rattle.hp_solo.proofs.SoloDrained.{due_falls, turns_jumped, turns_same}
-use Rattle.hp_solo.proofs.SoloTurns.{course_jumped, solo_jumped}
+use Rattle.hp_solo.proofs.SoloDrained.{due_falls, turns_paused, turns_same}
+use Rattle.hp_solo.proofs.SoloTurns.{course_paused, solo_paused}
 use Rattle.hp_solo.proofs.solo_hall.SoloHall.jump_due.Goals as goal
 
 pub invariant_of-self : goal.invariant_of-self
 invariant_of-self g c =
-    solo_jumped c.self.inside.plain c.jump.new.self c.self.inside.servers.items c.in-Some.due c.jump.ensures.clock c.self.invariant
+    solo_paused c.self.inside.plain c.pause.new.self c.self.inside.servers.items 0 false None c.in-Some.due c.pause.ensures.hall c.self.invariant
 
 pub returns-in-None-clause-leaves : goal.returns-in-None-clause-leaves
 returns-in-None-clause-leaves g c = turns_same c.args.self.now
@@ -23,19 +23,19 @@ pub returns-in-Some-clause-leaves : goal.returns-in-Some-clause-leaves
 returns-in-Some-clause-leaves g c =
     let servers = c.self.inside.servers.items in
     let old : SoloView = record { plain = c.self.inside.plain; servers = servers } in
-    let new : SoloView = record { plain = c.jump.new.self; servers = servers } in
+    let new : SoloView = record { plain = c.pause.new.self; servers = servers } in
     subst (λ (before : SoloView). TurnsLeave before new) c.self.view_is
-    (turns_jumped old new c.in-Some.due
-    (course_jumped c.self.inside.plain c.jump.new.self servers c.in-Some.due c.jump.ensures.course c.jump.ensures.clock) c.jump.ensures.clock)
+    (turns_paused old new c.in-Some.due
+    (course_paused c.self.inside.plain c.pause.new.self servers c.in-Some.due c.pause.ensures.course c.pause.ensures.hall) c.pause.ensures.hall)
 
 pub returns-in-Some-clause-weight : goal.returns-in-Some-clause-weight
 returns-in-Some-clause-weight g c =
     let servers = c.self.inside.servers.items in
     let due = c.in-Some.due in
     let old : SoloView = record { plain = c.self.inside.plain; servers = servers } in
-    let new : SoloView = record { plain = c.jump.new.self; servers = servers } in
+    let new : SoloView = record { plain = c.pause.new.self; servers = servers } in
     let pending : IsPendingDue old.plain.clock servers due =
     subst (λ (clock : ℕ). IsPendingDue clock servers due) c.clock.ensures
     (subst (λ (all : List ServerView). IsPendingDue c.clock.result all due) c.as_slice.ensures.value c.in-Some.ensures.least.pending) in
     subst (λ (before : SoloView). solo_weight new + 1 ≤ solo_weight before) c.self.view_is
-    (due_falls old new due pending c.jump.ensures.clock refl)
+    (due_falls old new due pending c.pause.ensures.hall refl)

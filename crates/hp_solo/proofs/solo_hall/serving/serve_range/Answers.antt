@@ -123,13 +123,13 @@ loop-number-preserved g c =
           rests_more c.loop-number.hall.clock c.serve_at-served.new.hall.clock c.loop-number.servers.items c.serve_at-served.new.servers.items
           c.args.from number one.serving.clock one.others was.rests one.rests;
       looks =
-          looks_more from number first.plain before.plain after.plain before.servers after.servers (was.serving.did number waits) one.serving.did
-          one.others was.looks one.looks;
+          looks_more from number first.plain before.plain after.plain before.servers after.servers one.serving.clock
+          (was.serving.did number waits) one.serving.did one.others was.looks one.looks;
       others = λ who is. one.others who (apart who is) ∙ was.others who (fewer who is);
       quiet = λ still.
           let both = both_still c.loop-number.moved c.serve_at-served.result c.either-moved.result c.either-moved.ensures still in
-          quiet_more from number first before after was.begun (was.serving.did number waits) (was.others number waits) one.serving.did one.others
-          (was.quiet both.0) (one.quiet both.1);
+          quiet_more from number first before after was.begun one.serving.clock (was.serving.did number waits) (was.others number waits)
+          one.serving.did one.others (was.quiet both.0) (one.quiet both.1);
     }
 
 pub returns-clause-rests : goal.returns-clause-rests

@@ -1,24 +1,42 @@
--- Where nothing moved, the clock jumps to a deadline that is still to come.
-use Rattle.std.proofs.Common.{arith}
+-- The clock stands, or jumps to a deadline that is still to come, and that is noted.
+use Rattle.std.proofs.Common.{ap, ◌∙◌, arith}
 use Rattle.hp_hall.proofs.Pending.{pending_falls}
-use Rattle.hp_solo.specs.SoloCourse.{solo_same}
-use Rattle.hp_solo.proofs.SoloTurns.{pause_falls, pause_later}
+use Rattle.hp_hall.specs.HallSteps.{after_pause}
+use Rattle.hp_hall.specs.HallView.{HallView}
+use Rattle.hp_hall.specs.Mail.{Notes}
+use Rattle.hp_hall.specs.declared.note.Note.TheVariants.{Paused}
+use Rattle.hp_solo.specs.Solo.{SoloView}
+use Rattle.hp_solo.proofs.SoloSteps.{did_apart}
+use Rattle.hp_solo.proofs.SoloTies.{goes_on}
+use Rattle.hp_solo.proofs.SoloTurns.{pause_falls, solo_paused}
 use Rattle.hp_solo.proofs.solo_hall.waiting.SoloHallWaiting.pause.Goals as goal
 
-pub returns-then-moved-clause-goes_on : goal.returns-then-moved-clause-goes_on
-returns-then-moved-clause-goes_on g c = solo_same c.args.self.now
+pub invariant_of-self : goal.invariant_of-self
+invariant_of-self g c =
+    solo_paused c.self.inside.plain c.pause.new.self c.self.inside.servers.items c.args.me c.args.moved c.args.until c.reading_behind-reading.result
+    c.pause.ensures.hall c.self.invariant
 
-pub jump_next-requires : goal.jump_next-requires
-jump_next-requires g c = record {
-  later = pause_later c.args.self.now.plain.clock c.args.moved c.args.until c.in-Some.until c.in-Some.is c.requires.before;
-}
+pub returns-clause-falls : goal.returns-clause-falls
+returns-clause-falls g c =
+    let me = c.args.me in
+    let moved = c.args.moved in
+    let until = c.args.until in
+    let reading = c.reading_behind-reading.result in
+    let new : SoloView = record { plain = c.pause.new.self; servers = c.self.inside.servers.items } in
+    pause_falls c.args.self.now new me moved until reading c.requires.before c.reading_behind-reading.ensures.still
+    c.reading_behind-reading.ensures.next
+    (c.pause.ensures.hall ∙ ap (λ (hall : SoloView). after_pause me moved until reading hall.plain) c.self.view_is)
+    (ap (λ (hall : SoloView). hall.servers) c.self.view_is)
 
-pub returns-in-Some-clause-falls : goal.returns-in-Some-clause-falls
-returns-in-Some-clause-falls g c =
-    pause_falls c.args.self.now c.jump_next.new.self c.args.moved c.args.until c.in-Some.until c.if-moved.false c.in-Some.is
-    c.jump_next.ensures.next c.jump_next.ensures.clock c.jump_next.ensures.servers
+pub returns-clause-lower : goal.returns-clause-lower
+returns-clause-lower g c = λ deadline.
+    let later = c.pause.ensures.course.clock in
+    pending_falls c.args.self.now.plain.clock c.pause.new.self.clock deadline
+    (omega (arith, later, ap (λ (hall : SoloView). hall.plain.clock) c.self.view_is))
 
-pub returns-in-Some-clause-lower : goal.returns-in-Some-clause-lower
-returns-in-Some-clause-lower g c = λ deadline.
-    let later = c.jump_next.ensures.next.later in
-    pending_falls c.args.self.now.plain.clock c.jump_next.new.self.plain.clock deadline (omega (arith, later))
+pub returns-clause-goes_on : goal.returns-clause-goes_on
+returns-clause-goes_on g c =
+    goes_on c.args.self.now c.self.inside.plain c.self.inside.servers.items c.self.view_is c.args.me c.requires.serves c.pause.new.self
+    c.pause.ensures.course
+    (did_apart c.self.inside.plain c.pause.new.self c.args.me (Notes (Paused c.args.moved c.args.until))
+    (ap (λ (hall : HallView). hall.mail) c.pause.ensures.hall))

@@ -1,0 +1,44 @@
+-- Those who stand on one side of the one that waits have served, and nobody else.
+use Rattle.std.proofs.Common.{ℕ, ◌<◌, length, subst, arith}
+use Rattle.hp_solo.specs.Beside.{HaveServedBeside}
+use Rattle.hp_solo.specs.Solo.{IsBeside, IsBetween, IsNotBeside, IsOutside, SoloView}
+use Rattle.hp_solo.specs.SoloCourse.{IsSoloCourse}
+use Rattle.hp_solo.proofs.SoloLooks.{looks_within}
+use Rattle.hp_solo.proofs.SoloQuiet.{quiet_beside}
+use Rattle.hp_solo.proofs.SoloTies.{serving_narrow}
+use Rattle.hp_solo.proofs.SoloTurns.{rests_within}
+use Rattle.hp_solo.proofs.solo_hall.SoloHall.serve_beside.Goals as goal
+
+pub returns-clause-served : goal.returns-clause-served
+returns-clause-served g c =
+    let me = c.args.me in
+    let above = c.args.above in
+    let from = c.apart-from.result.0 in
+    let to = c.apart-from.result.1 in
+    let servers = c.serve_range.new.servers.items in
+    let old : SoloView = record { plain = c.self.inside.plain; servers = c.self.inside.servers.items } in
+    let new : SoloView = record { plain = c.serve_range.new.hall; servers = servers } in
+    let is = c.serve_range.ensures in
+    let between : (who : ℕ) → IsBeside me above who → who < length servers → IsBetween from to who =
+    λ who beside below. c.apart-from.ensures.beside who beside (omega (arith, below, is.count, c.len.ensures)) in
+    subst (λ (hall : SoloView). HaveServedBeside me above hall new c.serve_range.result) c.self.view_is
+    (record {
+      serving = serving_narrow (IsOutside from to) (IsNotBeside me above) old.plain new.plain c.apart-from.ensures.outside is.serving;
+      rising = is.rising;
+      places = λ who beyond. is.others who (c.apart-from.ensures.outside who beyond);
+      rests = λ who beside.
+          rests_within new.plain.clock servers who
+          (λ below. let there = between who beside below in is.rests who there.0 there.1);
+      looks = λ who beside.
+          looks_within old.plain new.plain servers who
+          (λ below. let there = between who beside below in is.looks who there.0 there.1);
+      quiet = λ still.
+          quiet_beside (IsBeside me above) (IsBetween from to) old new c.apart-from.ensures.between
+          (λ who beside below. c.apart-from.ensures.beside who beside (omega (arith, below, c.len.ensures))) (is.quiet still);
+    })
+
+pub returns-clause-goes_on : goal.returns-clause-goes_on
+returns-clause-goes_on g c =
+    let new : SoloView = record { plain = c.serve_range.new.hall; servers = c.serve_range.new.servers.items } in
+    subst (λ (hall : SoloView). IsSoloCourse hall new) c.self.view_is
+    (record { plain = c.serve_range.ensures.serving.course; servers = c.serve_range.ensures.later })
