@@ -236,7 +236,8 @@ module _ (count absent : ℕ) (pools : List PoolLine) (first start : Joint) (is 
   start_stands : StandsSince start.segs
   start_stands = record {
     armed = λ other ask is. inl (closed other ask is);
-    apart = λ one later x y from here there order shown shows same. absurd (omega (arith, from, slice_get_within start.segs.asks one x here));
+    apart = λ one later x y from here there order shown shows same.
+        absurd (omega (arith, from, slice_get_within start.segs.asks one x here));
     since = λ place entry from here. absurd (omega (arith, from, slice_get_within start.segs.asks place entry here));
     log = omega arith;
     growth = subst

@@ -227,7 +227,8 @@ module _ (who before base start : ℕ) where
             armed = armed_more taken_back;
             apart = apart_push base segs.log segs.asks taken_back old.apart
                 (λ is place x here shown same. refused_level segs.log taken_back (Withdrawn since now) x refl refl settled same);
-            since = since_push who before base start segs.asks taken_back old.since (record { at = old.log; granted = λ generation is. cc });
+            since = since_push who before base start segs.asks taken_back old.since
+                (record { at = old.log; granted = λ generation is. cc });
             log = old.log;
             growth = subst (λ growth. IfSome growth (OwnGrowth (segs.asks ++ taken_back ∷ []))) (sym alone) tt;
           }

@@ -1,5 +1,5 @@
--- Where all participants have come to in the course of a hall that goes on behind their lines: the run goes on to there, and each is attached
--- as its lines leave it, and may fail to map as before.
+-- Where all participants have come to in the course of a hall that goes on behind their lines: the run goes on to there, and each is
+-- attached as its lines leave it, and may fail to map as before.
 use Rattle.std.proofs.Common.{◌≡◌, ◌∙◌, ℕ, ◌+◌, ◌<◌, ◌≤◌, true, List, ◌++◌, length, Some, ap, sym, arith}
 use Rattle.std.specs.Prelude.{slice_get}
 use Rattle.std.proofs.lemmas.Option.{same_Some, slice_get_within}

@@ -161,7 +161,8 @@ module _ (count deadline : ℕ) (old new : SegsView) (before : AreEndedAskedFor 
       (record { pools = pools; records = []; log = log ∙ sym (append-nil old.log); outcomes = entry ∷ []; asks = asks })
       (λ place run heap here. ap (λ log. slice_get log place) (sym log) ∙ here)
       (λ generation. ap (λ growth. is_open growth generation) growth) before
-  alters_asked may_fail pools (opens ask run growth alone log asks is stamp unnoted) = opened_by pools ask run growth alone log asks is stamp
+  alters_asked may_fail pools (opens ask run growth alone log asks is stamp unnoted) =
+      opened_by pools ask run growth alone log asks is stamp
   alters_asked may_fail pools (ends growth entry end) =
       λ place run heap here ended.
       ended_by pools growth entry end place run heap (back_behind old.log new.log end.runs end.log place run heap here)
@@ -171,7 +172,8 @@ module _ (count deadline : ℕ) (old new : SegsView) (before : AreEndedAskedFor 
 pub changes_asked : (count deadline : ℕ) (may_fail : ℕ → Option (List ℕ)) (old new : SegsView) → Changes count deadline may_fail old new
     → AreEndedAskedFor old → AreEndedAskedFor new
 changes_asked count deadline may_fail _ _ (stays segs) before = before
-changes_asked count deadline may_fail _ _ (alters old new one) before = alters_asked count deadline old new before may_fail one.pools one.logs
+changes_asked count deadline may_fail _ _ (alters old new one) before =
+    alters_asked count deadline old new before may_fail one.pools one.logs
 changes_asked count deadline may_fail _ _ (goes_on old mid new here there) before =
     changes_asked count deadline may_fail mid new there (changes_asked count deadline may_fail old mid here before)
 

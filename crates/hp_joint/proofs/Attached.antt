@@ -57,8 +57,10 @@ left_so log old new same was = record {
 }
 
 pub quietly_left : {old new : Seat} (log : List LogRecord) → Quietly old new → IsAsLeft log old.party → IsAsLeft log new.party
-quietly_left log (Quietly.hears seat answered) was = left_so log _ _ (record { joined = refl; attached = refl; records = refl; number = refl }) was
-quietly_left log (Quietly.counts seat sent) was = left_so log _ _ (record { joined = refl; attached = refl; records = refl; number = refl }) was
+quietly_left log (Quietly.hears seat answered) was =
+    left_so log _ _ (record { joined = refl; attached = refl; records = refl; number = refl }) was
+quietly_left log (Quietly.counts seat sent) was =
+    left_so log _ _ (record { joined = refl; attached = refl; records = refl; number = refl }) was
 quietly_left log (Quietly.calls seat heap call answer none) was =
     left_so log _ _ (record { joined = refl; attached = refl; records = refl; number = refl }) was
 quietly_left log (Quietly.notes seat elements) was =
@@ -66,6 +68,7 @@ quietly_left log (Quietly.notes seat elements) was =
 
 pub mails_left : {who : ℕ} {old new : Seat} {step : MailStep} (log : List LogRecord) → Mails who old new step → IsAsLeft log old.party
     → IsAsLeft log new.party
+mails_left log (Mails.notes seat note) was = was
 mails_left log (Mails.finds_nothing seat) was = was
 mails_left log (Mails.fetches seat frame) was = was
 mails_left log (Mails.asks seat ask frame action posted its says) was = was

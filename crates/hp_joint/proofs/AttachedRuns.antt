@@ -109,9 +109,11 @@ module _ (count absent : ℕ) (pools : List PoolLine) (first from : Joint) (is :
     out_before : (behind : slice_get now.seats step.who ≡ Some step.behind)
         → tries_in step.behind.trace ≡ tries_in step.before.trace + 1 → step.before.party.joined ≡ false
     out_before behind more =
-        let one = seat_at from.seats step.who (omega (arith, slice_get_within mid.seats step.who step.before step.there, count_along runs)) in
+        let one =
+        seat_at from.seats step.who (omega (arith, slice_get_within mid.seats step.who step.before step.there, count_along runs)) in
         let tries = once step.who one.seat step.behind one.there behind in
-        let grown = tries_grow count absent pools first from is before few enrolled mid runs step.who one.seat step.before one.there step.there in
+        let grown =
+        tries_grow count absent pools first from is before few enrolled mid runs step.who one.seat step.before one.there step.there in
         out_stays count absent pools first from is before few enrolled mid runs step.who one.seat step.before one.there step.there
         (omega (arith, grown, more, tries.once)) (tries.out (omega (arith, grown, more)))
 

@@ -47,7 +47,8 @@ behind_longer old new is = omega (arith, ap length is.log, length-append old.log
 
 module _ (old segs : SegsView) (was : IsBehind old segs) where
   -- one outcome more, beside records that came
-  outcome_behind : (new : SegsView) (more : List LogRecord) (entry : AskLog) → new.log ≡ segs.log ++ more → new.asks ≡ segs.asks ++ entry ∷ []
+  outcome_behind : (new : SegsView) (more : List LogRecord) (entry : AskLog) → new.log ≡ segs.log ++ more
+      → new.asks ≡ segs.asks ++ entry ∷ []
       → IsBehind old new
   outcome_behind new more entry log asks =
       behind_then old segs new was (record { more = more; log = log; others = entry ∷ []; asks = asks })
@@ -109,7 +110,8 @@ caught_behind old core segs one now was =
     let on = catching_behind old segs was 0 one in
     caught_holds (IsBehind old) core segs one now core.phase was on (alone_behind old mid on one)
 
-step_behind : (old : SegsView) (denial : ℕ → ℕ → Option (List ℕ × ℕ)) (event : CoreEvent) (core : Core) (segs : SegsView) → IsBehind old segs
+step_behind : (old : SegsView) (denial : ℕ → ℕ → Option (List ℕ × ℕ)) (event : CoreEvent) (core : Core) (segs : SegsView)
+    → IsBehind old segs
     → IsBehind old (stepped denial event core segs).segs
 step_behind old denial (Grow ask) core segs was =
     came_holds (IsBehind old) denial segs was (λ alone. starts_behind old segs was) (want.Grow ask) core
@@ -117,7 +119,8 @@ step_behind old denial (Shrink from number) core segs was =
     came_holds (IsBehind old) denial segs was (λ alone. starts_behind old segs was) (want.Shrink from number) core
 step_behind old denial (SelfMapped one now) core segs was = caught_behind old core segs one now was
 step_behind old denial (Poll now acks) core segs was =
-    poll_holds (IsBehind old) denial core segs now acks core.phase was (λ alone. starts_behind old segs was) (round_behind old segs was acks)
+    poll_holds (IsBehind old) denial core segs now acks core.phase was (λ alone. starts_behind old segs was)
+    (round_behind old segs was acks)
 
 pub event_behind : (event : CoreEvent) (core : Core) (segs : SegsView) → IsBehind segs (stepping event core segs).segs
 event_behind event core segs =
@@ -125,11 +128,13 @@ event_behind event core segs =
     (record { more = []; log = sym (append-nil segs.log); others = []; asks = sym (append-nil segs.asks) })
 
 -- what a participant makes of the segment value
-pub handles_behind : {count who : ℕ} {old new : Seat} {taken given : SegsView} → Handles count who old new taken given → IsBehind taken given
+pub handles_behind : {count who : ℕ} {old new : Seat} {taken given : SegsView} → Handles count who old new taken given
+    → IsBehind taken given
 handles_behind (Handles.looks seat segs) = none_behind segs
 handles_behind (Handles.steps seat segs event core is its knows) = event_behind event core segs
 handles_behind (Handles.maps seat segs caught table now core is its caught_up) = event_behind (SelfMapped caught now) core segs
-handles_behind {count} {who} (Handles.follows seat segs caught table member caught_up) = catching_behind segs segs (none_behind segs) who caught
+handles_behind {count} {who} (Handles.follows seat segs caught table member caught_up) =
+    catching_behind segs segs (none_behind segs) who caught
 handles_behind (Handles.arms seat segs asked run number is) = still segs segs (none_behind segs) _ refl refl
 handles_behind {count} {who} (Handles.claims seat segs) = claim_behind segs segs (none_behind segs) who seat.party.asked
 handles_behind {count} {who} (Handles.settles seat segs since now late) =

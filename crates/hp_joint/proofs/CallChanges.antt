@@ -29,7 +29,8 @@ use Rattle.hp_proc.specs.Attaching.{after_attaching}
 
 module _ (count deadline : ℕ) (may_fail : ℕ → Option (List ℕ)) where
   -- one change of what logs, notes and grows alone
-  one : (old new : SegsView) → new.pools ≡ old.pools → MovesRoster count old.roster new.roster → new.ranges ≡ old.ranges → Logs count deadline may_fail old new
+  one : (old new : SegsView) → new.pools ≡ old.pools → MovesRoster count old.roster new.roster → new.ranges ≡ old.ranges
+      → Logs count deadline may_fail old new
       → Changes count deadline may_fail old new
   one old new pools roster ranges logs = alters old new (record { pools = pools; roster = roster; ranges = ranges; logs = logs })
 
@@ -89,10 +90,12 @@ module _ (count deadline : ℕ) (may_fail : ℕ → Option (List ℕ)) where
     -- an outcome beside the open growth
     pub finds_stale : (from number : ℕ) → Changes count deadline may_fail segs (after_stale from number segs)
     finds_stale from number =
-        one segs (after_stale from number segs) refl (log.same refl) refl (log.outcomes _ refl refl refl (by_number (closed_number segs.asks from)))
+        one segs (after_stale from number segs) refl (log.same refl) refl
+        (log.outcomes _ refl refl refl (by_number (closed_number segs.asks from)))
 
     pub frees : (from number : ℕ) → Changes count deadline may_fail segs (after_freed from number segs)
-    frees from number = one segs (after_freed from number segs) refl (log.same refl) refl (log.outcomes _ refl refl refl (by_notice (length segs.log)))
+    frees from number =
+        one segs (after_freed from number segs) refl (log.same refl) refl (log.outcomes _ refl refl refl (by_notice (length segs.log)))
 
     pub refuses : (ask : Ask) (refusal : PlanRefusal) → Changes count deadline may_fail segs (after_close ask (cause_of refusal) segs)
     refuses ask refusal = one segs (after_close ask (cause_of refusal) segs) refl (log.same refl) refl

@@ -94,7 +94,8 @@ module _ (workload : Workload) (may_fail : ℕ → Option (List ℕ)) where
       causes (ends growth entry end) = pushed workload may_fail old before new.asks entry end.asks end.owed
 
   -- so it stays through all changes by the workload's deadline
-  pub changes_caused : (old new : SegsView) → Changes workload.participants workload.deadline may_fail old new → AreCaused workload may_fail old
+  pub changes_caused : (old new : SegsView) → Changes workload.participants workload.deadline may_fail old new
+      → AreCaused workload may_fail old
       → AreCaused workload may_fail new
   changes_caused _ _ (stays segs) before = before
   changes_caused _ _ (alters old new one) before = alters_caused old new before one.roster one.logs

@@ -1,5 +1,5 @@
--- How far a workload was run, failed mappings and refused attaches have their reason, and stand at one place for each call; and the clauses of
--- an end that are of growths, causes, refusals and the roster.
+-- How far a workload was run, failed mappings and refused attaches have their reason, and stand at one place for each call; and the clauses
+-- of an end that are of growths, causes, refusals and the roster.
 use Rattle.std.proofs.Common.{◌≡◌, ◌∙◌, ℕ, ◌<◌, ◌≤◌, false, List, [], Some, None, inl, inr, refl, ap, sym, subst, arith}
 use Rattle.std.specs.Prelude.{Contains, slice_get}
 use Rattle.std.specs.List.{All}
@@ -39,18 +39,21 @@ module _ (workload : Workload) (courses : List Course) (parties : List Party) (h
   -- the clause `asked_for`, where no growth is open
   pub asked_for_so_far : so.now.segs.growth ≡ None → AreAskedFor so.now.segs
   asked_for_so_far =
-      causes.asked_for workload.participants workload.absent workload.pools.items so.first so.now so.is_first so.runs workload.deadline waits
+      causes.asked_for workload.participants workload.absent workload.pools.items so.first so.now so.is_first so.runs
+      workload.deadline waits
 
   -- the clause `causes`
   pub causes_so_far : All (IsRefusedIn workload) so.now.segs.asks
   causes_so_far =
-      causes.causes workload.participants workload.absent workload.pools.items so.first so.now so.is_first so.runs workload.deadline waits
+      causes.causes workload.participants workload.absent workload.pools.items so.first so.now so.is_first so.runs
+      workload.deadline waits
       workload refl refl
 
   -- the clause `nobody_else`
   pub nobody_else_so_far : (who : ℕ) → workload.participants ≤ who → is_member so.now.segs.roster who ≡ false
   nobody_else_so_far =
-      causes.nobody_else workload.participants workload.absent workload.pools.items so.first so.now so.is_first so.runs workload.deadline waits
+      causes.nobody_else workload.participants workload.absent workload.pools.items so.first so.now so.is_first so.runs
+      workload.deadline waits
 
   -- the clause `roster`
   pub roster_so_far : (who : ℕ) → who < workload.participants

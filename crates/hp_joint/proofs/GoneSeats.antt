@@ -128,6 +128,7 @@ quietly_going segs (Quietly.calls seat heap made answer none) = record {
 quietly_going segs (Quietly.notes seat standing) = rests seat _ segs refl
 
 pub mails_going : {who : ℕ} {old new : Seat} {step : MailStep} (segs : SegsView) → Mails who old new step → DoesGoing old new segs
+mails_going segs (Mails.notes seat note) = rests seat seat segs refl
 mails_going segs (Mails.finds_nothing seat) = rests seat seat segs refl
 mails_going segs (Mails.fetches seat frame) = rests seat _ segs refl
 mails_going segs (Mails.asks seat ask frame action posted its says) = rests seat seat segs refl
@@ -136,7 +137,8 @@ mails_going segs (Mails.tells seat heap run frame action posted says) =
 mails_going segs (Mails.speaks seat to frame body action posted nothing says) = rests seat seat segs refl
 
 -- what it did with the segment value in its hand
-pub handles_going : {count who : ℕ} {old new : Seat} {taken given : SegsView} → Handles count who old new taken given → DoesGoing old new given
+pub handles_going : {count who : ℕ} {old new : Seat} {taken given : SegsView} → Handles count who old new taken given
+    → DoesGoing old new given
 handles_going (Handles.looks seat segs) = rests seat seat segs refl
 handles_going (Handles.steps seat segs event core is its knows) = rests seat _ _ refl
 handles_going (Handles.maps seat segs caught table now core is its caught_up) = rests seat _ _ refl

@@ -89,7 +89,8 @@ record IsAskPicked (who index : ℕ) (asks : List AskLog) (number : ℕ) (done :
   pub mine : asked.heap ≡ index
   pub pair_is : pair ≡ (generation_of who asks number, run)
 
-ask_picked : (who index : ℕ) (asks : List AskLog) (number : ℕ) (done : Done) (pair : ℕ × Run) → granted_ask who index asks number done ≡ Some pair
+ask_picked : (who index : ℕ) (asks : List AskLog) (number : ℕ) (done : Done) (pair : ℕ × Run)
+    → granted_ask who index asks number done ≡ Some pair
     → IsAskPicked who index asks number done pair
 ask_picked who index asks number (Asked asked (Some run)) pair picks = by_heap (asked.heap == index) refl picks where
   by_heap : (mine : Bool) → (asked.heap == index) ≡ mine → cond mine (Some (generation_of who asks number, run)) None ≡ Some pair
@@ -195,17 +196,20 @@ module _ (who before : ℕ) (log more : List LogRecord) (segs : SegsView) (is_lo
       let at = picked_at (granted_record index segs.asks) (start + 1) more pair among in
       let its = record_picked index segs.asks (start + 1 + at.place) at.element pair at.picks in
       let (entry, granted, has) = granted_among (start + 1 + at.place) segs.asks its.granted in
-      let (place, asked, run, is, number, from) = granted_for who before start segs trace settled entry (start + 1 + at.place) has granted (omega arith) in
+      let (place, asked, run, is, number, from) =
+      granted_for who before start segs trace settled entry (start + 1 + at.place) has granted (omega arith) in
       let by = granted_by who before start segs trace settled place asked run is in
       asked_back pair at.place its.run place asked run is by (at.there ∙ ap Some its.is) its.pair_is
       (same_generation entry (start + 1 + at.place) place asked run has granted number from by)
     where
       same_generation : (entry : AskLog) (generation place : ℕ) (asked : PagesAsked) (run : Run) → Contains segs.asks entry
-          → entry.outcome ≡ Granted generation → entry.number ≡ before + 1 + place → entry.from ≡ who → (by : IsGrantedBy who segs (before + 1 + place) asked run)
+          → entry.outcome ≡ Granted generation → entry.number ≡ before + 1 + place → entry.from ≡ who
+          → (by : IsGrantedBy who segs (before + 1 + place) asked run)
           → by.generation ≡ generation
       same_generation entry generation place asked run has granted number from by =
-          let same = same_outcome who before start segs trace settled entry by.entry generation by.generation has by.among granted by.granted from by.from
-          (number ∙ sym by.its) in
+          let same =
+          same_outcome who before start segs trace settled entry by.entry generation by.generation has by.among granted by.granted from
+          by.from (number ∙ sym by.its) in
           let one : Granted by.generation ≡ Granted generation =
           sym by.granted ∙ (ap (λ (entry : AskLog). entry.outcome) (sym same) ∙ granted) in
           cc
@@ -256,4 +260,5 @@ module _ (who before : ℕ) (log more : List LogRecord) (segs : SegsView) (is_lo
       same_rising of_asks of_records (picked_rise (granted_ask who index segs.asks) (before + 1) (numbered_in trace) asks_rise)
       (picked_rise (granted_record index segs.asks) (start + 1) more records_rise) there back in
       sym (runs_numbered index trace)
-      ∙ (sym (asks_are who index segs.asks (before + 1) (numbered_in trace)) ∙ (ap runs_of same ∙ records_are index segs.asks (start + 1) more))
+      ∙ (sym (asks_are who index segs.asks (before + 1) (numbered_in trace))
+      ∙ (ap runs_of same ∙ records_are index segs.asks (start + 1) more))

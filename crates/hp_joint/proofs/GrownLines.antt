@@ -31,7 +31,8 @@ granted_append index asks generation (entry ∷ log) more =
     let one = run_granted index (is_granted asks generation) entry in
     ap (λ runs. one ++ runs) (granted_append index asks (generation + 1) log more)
     ∙ (ap (λ n. one ++ (granted_runs index asks (generation + 1) log ++ granted_runs index asks n more)) same
-    ∙ sym (append_assoc one (granted_runs index asks (generation + 1) log) (granted_runs index asks (generation + length (entry ∷ log)) more)))
+    ∙ sym (append_assoc one (granted_runs index asks (generation + 1) log)
+    (granted_runs index asks (generation + length (entry ∷ log)) more)))
 
 -- records are granted still
 granted_still : (index : ℕ) (asks others : List AskLog) (all : List LogRecord) (generation : ℕ) (log : List LogRecord)

@@ -6,7 +6,7 @@ use Rattle.hp_base.specs.declared.limits.TheConstants.{MAX_HEAPS}
 use Rattle.hp_hall.specs.Course.{IsCourse, IsLater}
 use Rattle.hp_hall.specs.CourseLaws.{AreSegsOf}
 use Rattle.hp_hall.specs.HallSteps.{slots_of}
-use Rattle.hp_hall.specs.HallView.{HallView, SlotView, heard_in, seen_in, segs_in, slot_at}
+use Rattle.hp_hall.specs.HallView.{HallView, SlotView, segs_in, slot_at}
 use Rattle.hp_hall.proofs.Opened.{opened_length, opened_segs}
 use Rattle.hp_heap.specs.History.{HeapView}
 use Rattle.hp_script.specs.declared.workload.Workload.{Workload}
@@ -14,7 +14,8 @@ use Rattle.hp_segs.specs.SegsView.{SegsView}
 use Rattle.hp_proc.specs.LinesDone.{Course}
 use Rattle.hp_proc.specs.Party.{Party}
 use Rattle.hp_joint.specs.SoFar.{SoFar, first_hall, first_segs}
-use Rattle.hp_joint.proofs.Opens.{slot_asks, slot_log}
+use Rattle.hp_joint.proofs.SoFarFacts.{slots_long}
+use Rattle.hp_joint.proofs.Walked.{get_there}
 
 later_there : (old new : Option SlotView) (slot : SlotView) → IsLater old new → old ≡ Some slot → (now : SlotView) × (new ≡ Some now)
 later_there None new slot later is = cc
@@ -34,33 +35,21 @@ ends_by (x ∷ xs) (suc place) none =
     let rest = ends_by xs place none in
     omega (arith, rest)
 
--- what stands at a place of a list
-pub there_at : {X : Type 0} (xs : List X) (place : ℕ) → place < length xs → (x : X) × (slice_get xs place ≡ Some x)
-there_at [] place within = absurd (omega arith)
-there_at (x ∷ xs) zero within = (x, refl)
-there_at (x ∷ xs) (suc place) within = there_at xs place (omega arith)
-
 -- a course keeps the number of slots
 slots_stay : (old new : HallView) (count : ℕ) → IsCourse old new → length old.slots ≡ count + 1 → length new.slots ≡ count + 1
 slots_stay old new count course many =
-    let last = there_at old.slots count (omega arith) in
+    let last = get_there old.slots count (omega arith) in
     let still = later_there (slot_at old count) (slot_at new count) last.0 (course.slots count) last.1 in
     let past : slot_at new (count + 1) ≡ None =
     later_none (slot_at old (count + 1)) (slot_at new (count + 1)) (course.slots (count + 1))
     (slice_get_past old.slots (count + 1) (omega arith)) in
     omega (arith, slice_get_within new.slots count still.0 still.1, ends_by new.slots (count + 1) past)
 
-slots_long : (heaps : List HeapView) (segs : SegsView) → length (slots_of heaps segs) ≡ length heaps + 1
-slots_long [] segs = refl
-slots_long (heap ∷ heaps) segs =
-    let rest = slots_long heaps segs in
-    omega (arith, rest)
-
 module _ (workload : Workload) (courses : List Course) (parties : List Party) (hall : HallView)
     (so : SoFar workload courses parties hall) where
   -- each declared participant is there
   pub party_of : (who : ℕ) → who < workload.participants → (party : Party) × (slice_get parties who ≡ Some party)
-  party_of who below = there_at parties who (omega (arith, below, so.count))
+  party_of who below = get_there parties who (omega (arith, below, so.count))
 
   -- the segment value as it opened, and now
   pub are_segs : AreSegsOf (first_hall workload so.heaps) hall (first_segs workload) so.now.segs
@@ -68,12 +57,6 @@ module _ (workload : Workload) (courses : List Course) (parties : List Party) (h
     early = opened_segs so.heaps (first_segs workload) MAX_HEAPS so.first_heaps.in_order.count;
     late = so.its_segs;
   }
-
-  pub log_same : seen_in hall ≡ so.now.segs.log
-  log_same = slot_log (slot_at hall MAX_HEAPS) so.now.segs so.its_segs
-
-  pub asks_same : heard_in hall ≡ so.now.segs.asks
-  asks_same = slot_asks (slot_at hall MAX_HEAPS) so.now.segs so.its_segs
 
   module _ (heaps : List HeapView) (segs : SegsView) (slots : hall.slots ≡ slots_of heaps segs) where
     -- there is a heap for each of its slots

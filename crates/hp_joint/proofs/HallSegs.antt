@@ -27,10 +27,12 @@ use Rattle.hp_proc.proofs.Unarmed.{all_alike}
 use Rattle.hp_joint.specs.Seats.{Seat}
 use Rattle.hp_joint.specs.SoFar.{SoFar, first_hall, first_segs}
 use Rattle.hp_joint.proofs.FirstSegs.{nobody_first}
-use Rattle.hp_joint.proofs.HallEnds.{are_segs, asks_same, party_of, there_at}
+use Rattle.hp_joint.proofs.HallEnds.{are_segs, party_of}
 use Rattle.hp_joint.proofs.HallHistories.{undeclared_idle}
 use Rattle.hp_joint.proofs.SeatsAlong.{count_along}
 use Rattle.hp_joint.proofs.SegsAlong.{armed_along, sound_along}
+use Rattle.hp_joint.proofs.SoFarFacts.{asks_are}
+use Rattle.hp_joint.proofs.Walked.{get_there}
 
 -- a later segment value is one that calls made of the earlier one
 kept_segs : (a b : Kept) (before segs : SegsView) → IsLaterKept a b → segs_of a ≡ Some before → segs_of b ≡ Some segs
@@ -92,7 +94,7 @@ module _ (workload : Workload) (courses : List Course) (parties : List Party) (h
       let armed : (part_in hall who 0).armed ≡ Some ask =
       ap (option_and_then (λ (segs : SegsView). armed_ask segs who)) so.its_segs ∙ is in
       let closed : closed_number (heard_in hall) party.me ≡ closed_number so.now.segs.asks who =
-      ap (λ (asks : List AskLog). closed_number asks party.me) (asks_same workload courses parties hall so)
+      ap (λ (asks : List AskLog). closed_number asks party.me) (asks_are workload courses parties hall so)
       ∙ ap (closed_number so.now.segs.asks) each.me in
       omega (arith, each.ready.settled 0 ask armed, closed)
 
@@ -137,7 +139,7 @@ module _ (workload : Workload) (courses : List Course) (parties : List Party) (h
 
   -- each declared participant has a seat
   pub seat_of : (who : ℕ) → who < workload.participants → (seat : Seat) × (slice_get so.now.seats who ≡ Some seat)
-  seat_of who below = there_at so.now.seats who (omega (arith, below, count_along so.runs, so.is_first.seats))
+  seat_of who below = get_there so.now.seats who (omega (arith, below, count_along so.runs, so.is_first.seats))
 
   -- a participant is in the roster exactly where it has a table
   pub is_enrolled : (who : ℕ) (party : Party) → slice_get parties who ≡ Some party → who < workload.participants

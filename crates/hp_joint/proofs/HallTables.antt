@@ -30,8 +30,9 @@ use Rattle.hp_proc.specs.Party.{Party}
 use Rattle.hp_proc.specs.Seen.{HasTakenIn}
 use Rattle.hp_proc.specs.Tied.{HasTable, part_of, nothing_yet}
 use Rattle.hp_joint.specs.SoFar.{SoFar, first_hall, first_segs}
-use Rattle.hp_joint.proofs.HallEnds.{are_segs, log_same, party_of}
+use Rattle.hp_joint.proofs.HallEnds.{are_segs, party_of}
 use Rattle.hp_joint.proofs.HallSegs.{is_enrolled, segs_sound}
+use Rattle.hp_joint.proofs.SoFarFacts.{log_is}
 
 all_from_contained : {X : Type 0} (P : X → Type 0) (xs : List X) → ((x : X) → Contains xs x → P x) → All P xs
 all_from_contained P xs each place x within = each (get_or xs place x) (All-contains_itself xs place x within)
@@ -93,7 +94,7 @@ module _ (workload : Workload) (courses : List Course) (parties : List Party) (h
     -- its table is what the hall knows of it
     has_table : HasTable segs.log (part_of party.joined own) party.maps
     has_table =
-        subst (λ (log : List LogRecord). HasTable log (part_of party.joined own) party.maps) (log_same workload courses parties hall so)
+        subst (λ (log : List LogRecord). HasTable log (part_of party.joined own) party.maps) (log_is workload courses parties hall so)
         (so.each who party at).tied.table
 
     module _ (joined : party.joined ≡ true) where

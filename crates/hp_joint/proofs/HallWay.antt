@@ -45,7 +45,8 @@ keeps_back hall segs (Some slot) at keeps =
 there_by : (hall : HallView) (slot : Option SlotView) → slot_at hall MAX_HEAPS ≡ slot → IsHome slot → IsThere (homes_in hall) true
 there_by hall None at home = absurd home
 there_by hall (Some slot) at home =
-    slice_get-map (λ (slot : SlotView). is_none slot.holder) hall.slots MAX_HEAPS ∙ ap (option_map (λ (slot : SlotView). is_none slot.holder)) at
+    slice_get-map (λ (slot : SlotView). is_none slot.holder) hall.slots MAX_HEAPS
+    ∙ ap (option_map (λ (slot : SlotView). is_none slot.holder)) at
     ∙ ap (λ (holder : Option ℕ). Some (is_none holder)) home
 
 -- where a hall has come to: each participant to its last seat

@@ -6,7 +6,7 @@ use Rattle.std.proofs.lemmas.Bool.{cases_eq}
 use Rattle.std.proofs.lemmas.Option.{slice_get_within}
 use Rattle.hp_heap.specs.declared.entry.Entry.{Entry}
 use Rattle.hp_hall.specs.Keeping.{IsGivenBy, IsKeptBy, ShowsValues, values_after}
-use Rattle.hp_hall.specs.Mail.{Fetches, Gives, MailStep, Posts, Takes, steps_of}
+use Rattle.hp_hall.specs.Mail.{Fetches, Gives, MailStep, Notes, Posts, Takes, steps_of}
 use Rattle.hp_hall.specs.Values.{history_of}
 use Rattle.hp_hall.specs.declared.kept.Kept.{Kept}
 use Rattle.hp_hall.specs.declared.kept.Kept.TheVariants.{Heap, Segments}
@@ -23,6 +23,7 @@ IsNoGive (Gives number (Segments segs)) = ⊤
 IsNoGive (Takes number kept) = ⊤
 IsNoGive (Posts to frame action posted) = ⊤
 IsNoGive (Fetches frame) = ⊤
+IsNoGive (Notes note) = ⊤
 
 -- none of these steps does
 abbrev pub GiveNoHeap : List MailStep → Type 0
@@ -79,6 +80,7 @@ module _ (of : ℕ → Type 0) where
       → (kept : Kept) × (slice_get (values_after step values) number ≡ Some kept) × HasMoreOf of (history_of before) (history_of kept)
   stepped who (Posts to frame action posted) values number before may shows there = (before, there, same_more of _ _ refl)
   stepped who (Fetches frame) values number before may shows there = (before, there, same_more of _ _ refl)
+  stepped who (Notes note) values number before may shows there = (before, there, same_more of _ _ refl)
   stepped who (Takes slot kept) values number before may shows there = (before, there, same_more of _ _ refl)
   stepped who (Gives slot kept) values number before may shows there =
       ⊎_elim

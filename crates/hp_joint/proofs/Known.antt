@@ -1,5 +1,5 @@
--- What the laws of a run of all participants know of its end: its growths were asked for, its refusals have their causes, and what its lines
--- show of the log. With that it is an end of its workload.
+-- What the laws of a run of all participants know of its end: its growths were asked for, its refusals have their causes, and what its
+-- lines show of the log. With that it is an end of its workload.
 use Rattle.std.proofs.Common.{◌≡◌, ℕ, ◌<◌, ◌≤◌, ⊎_elim, List, [], length, Some, slice_get, refl, sym, subst, arith}
 use Rattle.std.proofs.lemmas.Bool.{cases_lt}
 use Rattle.std.proofs.lemmas.List.Elements.{All-nil}

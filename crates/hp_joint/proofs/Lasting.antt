@@ -28,6 +28,7 @@ quietly_on (Quietly.calls seat heap call answer none) = with_more seat.trace (Do
 quietly_on (Quietly.notes seat standing) = still seat.trace
 
 mails_on : {who : ℕ} {old new : Seat} {step : MailStep} → Mails who old new step → GoesOn old new
+mails_on (Mails.notes seat note) = still seat.trace
 mails_on (Mails.finds_nothing seat) = still seat.trace
 mails_on (Mails.fetches seat frame) = still seat.trace
 mails_on (Mails.asks seat ask frame action posted its says) = still seat.trace

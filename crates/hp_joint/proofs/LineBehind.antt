@@ -37,7 +37,8 @@ use Rattle.hp_joint.proofs.SoFarOn.{IsKnownFor}
 use Rattle.hp_joint.proofs.WaysOn.{AllCame}
 
 -- entries of one participant are all its own
-all_own : (own : ℕ) (entries : List Entry) → AllByRecursion (λ entry. entry.caller.participant ≡ own) entries → entries_of own entries ≡ entries
+all_own : (own : ℕ) (entries : List Entry) → AllByRecursion (λ entry. entry.caller.participant ≡ own) entries
+    → entries_of own entries ≡ entries
 unfolding entries_of
 all_own own [] all = refl
 all_own own (entry ∷ entries) all =

@@ -23,8 +23,8 @@ use Rattle.hp_proc.specs.Progress.{IsLineBuilt}
 use Rattle.hp_joint.specs.Seats.{Seat}
 use Rattle.hp_joint.specs.SoFar.{IsOfDeclared, SoFar, trace_for}
 use Rattle.hp_joint.proofs.GoneSoFar.{none_of_others}
-use Rattle.hp_joint.proofs.HallEnds.{asks_same, log_same}
 use Rattle.hp_joint.proofs.HallSegs.{seat_of}
+use Rattle.hp_joint.proofs.SoFarFacts.{asks_are, log_is}
 use Rattle.hp_joint.proofs.Provenance as made
 
 -- a line of one of the participants is built
@@ -78,9 +78,9 @@ module _ (workload : Workload) (courses : List Course) (parties : List Party) (h
       → AreAsked so.now.segs.log so.now.segs.asks who 0 party.asked (trace_for who courses)
   asked_there who party at =
       subst (λ (log : List LogRecord). AreAsked log so.now.segs.asks who 0 party.asked (trace_for who courses))
-      (log_same workload courses parties hall so)
+      (log_is workload courses parties hall so)
       (subst (λ (asks : List AskLog). AreAsked (seen_in hall) asks who 0 party.asked (trace_for who courses))
-      (asks_same workload courses parties hall so) (so.each who party at).asked)
+      (asks_are workload courses parties hall so) (so.each who party at).asked)
 
   answered_seat : (who : ℕ) (seat : Seat) → slice_get so.now.seats who ≡ Some seat
       → AreAnsweredSo so.now.segs.log so.now.segs.asks who (trace_for who courses)

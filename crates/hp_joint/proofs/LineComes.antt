@@ -86,7 +86,8 @@ module _ (workload : Workload) (courses : List Course) (parties behind : List Pa
       let far = other_behind other seat.party beside party_is in
       let served = far.2.served in
       let comes =
-      serves_path workload.participants other seat.party far.0 served.steps served.serves (so.each other seat.party party_is).me seat refl in
+      serves_path workload.participants other seat.party far.0 served.steps served.serves
+      (so.each other seat.party party_is).me seat refl in
       came_by workload.participants other behind more goes.course.steps seat far.0 served.steps far.1
       (steps_done old new goes.course other served.steps served.did)
       (subst (λ (more : List Done). Comes workload.participants other far.0 more served.steps seat) (sym (other_more other beside)) comes)

@@ -121,7 +121,8 @@ module _ (count absent : ℕ) (pools : List PoolLine) (first start now : Joint) 
     numbers_are : numbered_in new.trace ≡ numbered_in old.trace ++ numbered_in trace
     numbers_are = ap numbered_in line.trace_is ∙ numbered_both old.trace trace
 
-    granted_own : (entry : AskLog) (generation : ℕ) → Contains now.segs.asks entry → entry.outcome ≡ Granted generation → records < generation
+    granted_own : (entry : AskLog) (generation : ℕ) → Contains now.segs.asks entry → entry.outcome ≡ Granted generation
+        → records < generation
         → (entry.from ≡ who) × (before_line < entry.number)
     granted_own entry generation among granted past =
         let read = among_read now.segs.asks entry among in

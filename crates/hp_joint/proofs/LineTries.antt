@@ -95,7 +95,8 @@ pub line_tries : (who : ℕ) (line : Line) (facts : Facts) (given : Answer) (tra
 line_tries who line facts given trace built leads = line_tries_by who line line.act facts given trace built leads
 
 -- a line that attaches and is refused shows that call alone
-refused_by : (call records : ℕ) (ended : Caught) → Ended (answer.Refused call) ≡ attached_with records ended → call_refused ended ≡ call ∷ []
+refused_by : (call records : ℕ) (ended : Caught) → Ended (answer.Refused call) ≡ attached_with records ended
+    → call_refused ended ≡ call ∷ []
 refused_by call records caught.Done is = cc
 refused_by call records (caught.Refused row number) is =
     let same : answer.Refused call ≡ answer.Refused number = cc in

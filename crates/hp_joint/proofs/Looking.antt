@@ -47,6 +47,7 @@ module _ (low at : ℕ) where
   quietly_looks {old} {new} (Quietly.notes seat standing) = still old new refl
 
   mails_looks : {who : ℕ} {old new : Seat} {step : MailStep} → Mails who old new step → DoesLooking low at old new
+  mails_looks {who} {old} {new} (Mails.notes seat note) = still old new refl
   mails_looks {who} {old} {new} (Mails.finds_nothing seat) = still old new refl
   mails_looks {who} {old} {new} (Mails.fetches seat frame) = still old new refl
   mails_looks {who} {old} {new} (Mails.asks seat ask frame action posted its says) = still old new refl
@@ -140,7 +141,8 @@ runs_look (Runs.stands at) who seat there = record {
   looks = All-nil (IsBetween (length at.segs.log) (length at.segs.log));
 }
 runs_look (Runs.goes_on start mid last runs step) who seat there =
-    step_looks (length start.segs.log) start.seats step (behind_longer start.segs mid.segs (runs_behind runs)) (runs_look runs) who seat there
+    step_looks (length start.segs.log) start.seats step (behind_longer start.segs mid.segs (runs_behind runs))
+    (runs_look runs) who seat there
 
 -- so has what its trace goes on by
 pub looked_between : {count : ℕ} {start now : Joint} → Runs count start now → (who : ℕ) (old new : Seat) (trace : List Done)

@@ -52,7 +52,8 @@ IsTaken took (want.Shrink from number) = WasGivenUp took from number
 pub data IsPost (took : ℕ → List Done) (frame : Frame) : Type 0 where
   asks_nothing : (body : Body) → AsksNothing body → Says frame body → IsPost took frame
   asking : (ask : Ask) → Says frame (alloc_body ask) → WasAsked took ask.from ask.number → IsPost took frame
-  telling : (from number heap : ℕ) (run : Run) → Says frame (free_body from number heap run) → WasGivenUp took from number → IsPost took frame
+  telling : (from number heap : ℕ) (run : Run) → Says frame (free_body from number heap run) → WasGivenUp took from number
+      → IsPost took frame
 
 -- an outcome has a number that was taken, by what it is an outcome of; a grant and a refusal keep the ask
 pub data IsNumbered (took : ℕ → List Done) (entry : AskLog) : Type 0 where

@@ -44,7 +44,8 @@ stays_at took later grown who place done is =
     (get_stays (took who) (grown who).more place done is)
 
 -- a seat has the numbers of its trace
-pub its_numbers : (seats : List Seat) (who : ℕ) (seat : Seat) → slice_get seats who ≡ Some seat → numbers_of seats who ≡ numbered_in seat.trace
+pub its_numbers : (seats : List Seat) (who : ℕ) (seat : Seat) → slice_get seats who ≡ Some seat
+    → numbers_of seats who ≡ numbered_in seat.trace
 its_numbers seats who seat there = ap (λ found. numbered_in (trace_in found)) there
 
 -- at one seat more was done
@@ -69,7 +70,8 @@ module _ (seats : List Seat) (who : ℕ) (old new : Seat) (there : slice_get sea
       ⊎_elim
       (λ (same : other ≡ who). record {
         more = numbered_in more;
-        is = subst (λ other. numbers_of (slice_set seats who new) other ≡ numbers_of seats other ++ numbered_in more) (sym same) more_numbers;
+        is = subst (λ other. numbers_of (slice_set seats who new) other ≡ numbers_of seats other ++ numbered_in more)
+            (sym same) more_numbers;
       })
       (λ (beside : other ≢ who). record { more = []; is = same_numbers other beside })
       (cases_eq other who)

@@ -79,8 +79,8 @@ module _ (workload : Workload) (courses : List Course) (parties behind : List Pa
 
   seen : AreSeen (length now.segs.log) (seen_by_lines now.segs.log now.segs.asks none_made lines)
   seen =
-      shown.seen_goes_on workload.participants workload.absent workload.pools.items so.first so.now now so.is_first so.runs by before.it last.it
-      did its_run courses (asks_of_each workload courses parties old so) so.seen workload
+      shown.seen_goes_on workload.participants workload.absent workload.pools.items so.first so.now now so.is_first so.runs by before.it
+      last.it did its_run courses (asks_of_each workload courses parties old so) so.seen workload
       (standing_after (opening_standing workload by) (courses_of by courses)) one refl refl (so.seats by before.it before.there).trace
       goes.built (line_is_done workload courses parties behind old new line answer given so goes)
 

@@ -12,12 +12,9 @@ use Rattle.hp_base.specs.declared.limits.TheConstants.{MAX_HEAPS, MAX_SEGMENTS}
 use Rattle.hp_base.specs.declared.pool_line.PoolLine.{PoolLine}
 use Rattle.hp_hall.specs.Course.{course_same}
 use Rattle.hp_hall.specs.HallSteps.{slots_of}
-use Rattle.hp_hall.specs.HallView.{HallView, SlotView, asks_in, history_in, log_in, own_at, part_in, seen_in, heard_in, segs_in, segs_of, serves_in, slot_at}
+use Rattle.hp_hall.specs.HallView.{HallView, history_in, own_at, part_in, seen_in, heard_in, segs_in, serves_in, slot_at}
 use Rattle.hp_hall.specs.Opening.{AreUnused}
 use Rattle.hp_hall.specs.Own.{Own, after_ack}
-use Rattle.hp_hall.specs.Values.{asks_of, log_of}
-use Rattle.hp_hall.specs.declared.kept.Kept.{Kept}
-use Rattle.hp_hall.specs.declared.kept.Kept.TheVariants.{Heap, Segments}
 use Rattle.hp_hall.proofs.Gives.{entries_made-none}
 use Rattle.hp_hall.proofs.Opened.{opened_home, opened_segs, opened_unheld, opened_unused}
 use Rattle.hp_heap.specs.History.{HeapView}
@@ -42,6 +39,7 @@ use Rattle.hp_joint.specs.Seats.{Seat}
 use Rattle.hp_joint.specs.SoFar.{AreFirstHeaps, IsOfDeclared, IsSoFarFor, SoFar, context_of, first_hall, first_segs}
 use Rattle.hp_joint.specs.Together.{IsFirst, IsFirstSeat, Joint, Runs}
 use Rattle.hp_joint.specs.EndLaws.{IsFirstParty, IsGiven, OpensSoFar, said_in}
+use Rattle.hp_joint.proofs.PartsOn.{log_shown}
 
 -- no more sockets are named than there are
 pub few_sockets : (pools : List PoolLine) → length (sockets_of pools) ≤ 32
@@ -71,23 +69,6 @@ unused_slots [] segs unused zero = refl
 unused_slots [] segs unused (suc place) = refl
 unused_slots (heap ∷ heaps) segs unused zero = unused zero heap refl
 unused_slots (heap ∷ heaps) segs unused (suc place) = unused_slots heaps segs (λ number. unused (suc number)) place
-
-kept_log : (kept : Kept) (segs : SegsView) → segs_of kept ≡ Some segs → log_of kept ≡ segs.log
-kept_log (Heap heap) segs is = cc
-kept_log (Segments kept) segs is = cc
-
-kept_asks : (kept : Kept) (segs : SegsView) → segs_of kept ≡ Some segs → asks_of kept ≡ segs.asks
-kept_asks (Heap heap) segs is = cc
-kept_asks (Segments kept) segs is = cc
-
--- the log and the outcomes are those of the segment value
-pub slot_log : (slot : Option SlotView) (segs : SegsView) → segs_in slot ≡ Some segs → log_in slot ≡ segs.log
-slot_log None segs is = cc
-slot_log (Some slot) segs is = kept_log slot.kept segs is
-
-pub slot_asks : (slot : Option SlotView) (segs : SegsView) → segs_in slot ≡ Some segs → asks_in slot ≡ segs.asks
-slot_asks None segs is = cc
-slot_asks (Some slot) segs is = kept_asks slot.kept segs is
 
 none_armed : (armed : Option Ask) (ask : Ask) → armed ≡ None → armed ≡ Some ask → ⊥
 none_armed armed ask none some = cc
@@ -218,7 +199,7 @@ module _ (workload : Workload) (heaps : List HeapView) (given : IsGiven workload
       asked = asked_none (seen_in opened) (heard_in opened) who 0 party.asked (ap (λ (party : Party). party.asked) is.is);
       ready = ready_first;
       tied =
-          tied_first (seen_in opened) (own_at opened who) party.joined party.maps (slot_log (slot_at opened MAX_HEAPS) value its_segs)
+          tied_first (seen_in opened) (own_at opened who) party.joined party.maps (log_shown opened value its_segs)
           (all_alike (after_ack 0) workload.participants who) (ap (λ (maps : MapsView). maps.rows) its_maps ∙ is.rows)
           (ap (λ (maps : MapsView). maps.number) its_maps ∙ is.number)
           (omega (arith, ap (λ (maps : MapsView). maps.capacity) its_maps, is.room));

@@ -69,14 +69,16 @@ module _ (workload : Workload) (courses later : List Course) (parties : List Par
     asked : AreAsked (seen_in new) (heard_in new) who 0 after.asked (trace_for who courses)
     asked =
         subst (λ (number : ℕ). AreAsked (seen_in new) (heard_in new) who 0 number (trace_for who courses)) (sym asked_same)
-        (asked_later (seen_in old) seen.0 (seen_in new) (heard_in old) heard.0 (heard_in new) who 0 party.asked (trace_for who courses) seen.1
+        (asked_later (seen_in old) seen.0 (seen_in new) (heard_in old) heard.0 (heard_in new) who 0 party.asked
+        (trace_for who courses) seen.1
         heard.1 its.asked)
 
     asked_there : AreAsked next.segs.log next.segs.asks who 0 last.party.asked last.trace
     asked_there =
         subst (λ (log : List LogRecord). AreAsked log next.segs.asks who 0 last.party.asked last.trace) (log_shown new next.segs its_segs)
         (subst (λ (asks : List AskLog). AreAsked (seen_in new) asks who 0 last.party.asked last.trace) (asks_shown new next.segs its_segs)
-        (subst (λ (number : ℕ). AreAsked (seen_in new) (heard_in new) who 0 number last.trace) (ap (λ (party : Party). party.asked) (sym after_is))
+        (subst (λ (number : ℕ). AreAsked (seen_in new) (heard_in new) who 0 number last.trace)
+        (ap (λ (party : Party). party.asked) (sym after_is))
         (subst (λ (trace : List Done). AreAsked (seen_in new) (heard_in new) who 0 after.asked trace) (sym (still ∙ own)) asked)))
 
     settled : (heap : ℕ) (ask : Ask) → (part_in new who heap).armed ≡ Some ask → ask.number ≤ closed_number (heard_in new) after.me

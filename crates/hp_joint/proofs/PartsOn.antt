@@ -1,6 +1,6 @@
 -- What a later hall shows to a participant of the heaps and of the segment value, where it gave no heap back: all is at home, and it has no
 -- entry more.
-use Rattle.std.proofs.Common.{◌≡◌, ◌∙◌, ℕ, ◌<◌, eqb, ne_eqb, Bool, false, List, [], ◌∷◌, ◌++◌, length, append-nil, cond, Option, Some, None, refl, sym, ap, subst, arith, sum_by}
+use Rattle.std.proofs.Common.{◌≡◌, ◌∙◌, ℕ, ◌<◌, eqb, ne_eqb, Bool, false, List, [], ◌∷◌, ◌++◌, length, append-nil, cond, Option, Some, None, refl, ap, subst, arith, sum_by}
 use Rattle.std.proofs.lemmas.Bool.{cond-false}
 use Rattle.std.specs.List.{AllByRecursion}
 use Rattle.std.specs.Option.{option_map}
@@ -9,7 +9,7 @@ use Rattle.hp_base.specs.declared.limits.TheConstants.{MAX_HEAPS}
 use Rattle.hp_heap.specs.declared.entry.Entry.{Entry}
 use Rattle.hp_heap.specs.History.{entries_of}
 use Rattle.hp_hall.specs.Course.{IsCourse, IsLater, IsLaterKept}
-use Rattle.hp_hall.specs.HallView.{HallView, IsHome, SlotView, asks_in, heard_in, history_in, is_held_by, is_held_heap, log_in, part_in, seen_in, segs_in, serves_in, serves_of, slot_at}
+use Rattle.hp_hall.specs.HallView.{HallView, IsHome, SlotView, asks_in, heard_in, history_in, is_held_by, is_held_heap, log_in, part_in, seen_in, segs_in, segs_of, serves_in, serves_of, slot_at}
 use Rattle.hp_hall.specs.Holding.{HeapPart, standing_of}
 use Rattle.hp_hall.specs.Opening.{AreHome}
 use Rattle.hp_hall.specs.Values.{asks_of, log_of}
@@ -27,32 +27,28 @@ some_same x y same = cc
 
 -- THE SEGMENT VALUE
 
-log_kept : (kept : Kept) (segs : SegsView) → segs_in (Some (record { kept = kept; holder = None })) ≡ Some segs → log_of kept ≡ segs.log
+log_kept : (kept : Kept) (segs : SegsView) → segs_of kept ≡ Some segs → log_of kept ≡ segs.log
 log_kept (Heap heap) segs is = cc
-log_kept (Segments value) segs is = ap (λ (segs : SegsView). segs.log) (some_same value segs is)
+log_kept (Segments value) segs is = cc
 
-asks_kept : (kept : Kept) (segs : SegsView) → segs_in (Some (record { kept = kept; holder = None })) ≡ Some segs → asks_of kept ≡ segs.asks
+asks_kept : (kept : Kept) (segs : SegsView) → segs_of kept ≡ Some segs → asks_of kept ≡ segs.asks
 asks_kept (Heap heap) segs is = cc
-asks_kept (Segments value) segs is = ap (λ (segs : SegsView). segs.asks) (some_same value segs is)
+asks_kept (Segments value) segs is = cc
+
+log_slot : (slot : Option SlotView) (segs : SegsView) → segs_in slot ≡ Some segs → log_in slot ≡ segs.log
+log_slot None segs is = cc
+log_slot (Some slot) segs is = log_kept slot.kept segs is
+
+asks_slot : (slot : Option SlotView) (segs : SegsView) → segs_in slot ≡ Some segs → asks_in slot ≡ segs.asks
+asks_slot None segs is = cc
+asks_slot (Some slot) segs is = asks_kept slot.kept segs is
 
 -- what everybody sees is the log and the outcomes of the segment value
 pub log_shown : (hall : HallView) (segs : SegsView) → segs_in (slot_at hall MAX_HEAPS) ≡ Some segs → seen_in hall ≡ segs.log
-log_shown hall segs is = by_slot (slot_at hall MAX_HEAPS) refl
-  where
-    by_slot : (slot : Option SlotView) → slot_at hall MAX_HEAPS ≡ slot → seen_in hall ≡ segs.log
-    by_slot None at =
-        let wrong : None ≡ Some segs = ap segs_in (sym at) ∙ is in
-        cc
-    by_slot (Some slot) at = ap log_in at ∙ log_kept slot.kept segs (ap segs_in (sym at) ∙ is)
+log_shown hall segs is = log_slot (slot_at hall MAX_HEAPS) segs is
 
 pub asks_shown : (hall : HallView) (segs : SegsView) → segs_in (slot_at hall MAX_HEAPS) ≡ Some segs → heard_in hall ≡ segs.asks
-asks_shown hall segs is = by_slot (slot_at hall MAX_HEAPS) refl
-  where
-    by_slot : (slot : Option SlotView) → slot_at hall MAX_HEAPS ≡ slot → heard_in hall ≡ segs.asks
-    by_slot None at =
-        let wrong : None ≡ Some segs = ap segs_in (sym at) ∙ is in
-        cc
-    by_slot (Some slot) at = ap asks_in at ∙ asks_kept slot.kept segs (ap segs_in (sym at) ∙ is)
+asks_shown hall segs is = asks_slot (slot_at hall MAX_HEAPS) segs is
 
 -- HISTORIES
 
@@ -124,7 +120,8 @@ home_unheld who (Some slot) home = ap (is_held_heap who slot.kept) home ∙ unhe
 -- nobody holds anything of a slot that is at home, or that there is not
 pub unheld_at_home : (hall : HallView) → AreHome hall → HasSlots hall → (who heap : ℕ) → (part_in hall who heap).holding ≡ None
 unheld_at_home hall home slots who heap =
-    ap (λ (held : Bool). cond held (option_map (standing_of heap) (segs_in (slot_at hall MAX_HEAPS))) None) (by_slot (slot_at hall heap) refl)
+    ap (λ (held : Bool). cond held (option_map (standing_of heap) (segs_in (slot_at hall MAX_HEAPS))) None)
+    (by_slot (slot_at hall heap) refl)
   where
     by_slot : (slot : Option SlotView) → slot_at hall heap ≡ slot → is_held_by who slot ≡ false
     by_slot None at = refl

@@ -1,10 +1,14 @@
 -- Paths of a participant one behind the other, and what is left of it behind one that adds nothing to its trace.
-use Rattle.std.proofs.Common.{◌≡◌, ◌∙◌, ℕ, List, [], ◌∷◌, ◌++◌, refl, sym, subst}
-use Rattle.std.proofs.lemmas.List.{append-nil}
-use Rattle.hp_hall.specs.Mail.{MailStep}
+use Rattle.std.proofs.Common.{◌≡◌, ◌∙◌, ℕ, List, [], ◌∷◌, ◌++◌, map, refl, sym, ap, subst}
+use Rattle.std.proofs.lemmas.List.{append-nil, append_assoc}
+use Rattle.hp_base.specs.declared.caught.Caught.{Caught}
+use Rattle.hp_base.specs.declared.caught.Caught.TheVariants as caught
+use Rattle.hp_hall.specs.Mail.{MailStep, Notes}
+use Rattle.hp_hall.specs.declared.note.Note.{Note}
+use Rattle.hp_hall.specs.declared.note.Note.TheVariants.{Acked}
 use Rattle.hp_proc.specs.Doing.{Done}
 use Rattle.hp_proc.specs.Party.{Party}
-use Rattle.hp_proc.specs.Serving.{gives_segments, takes_segments}
+use Rattle.hp_proc.specs.Serving.{acks_behind, gives_segments, takes_segments}
 use Rattle.hp_segs.specs.SegsView.{SegsView}
 use Rattle.hp_joint.specs.Seats.{Handles, Mails, Path, Quietly, Seat, seated}
 
@@ -28,7 +32,24 @@ pub record Serves (count who : ℕ) (party after : Party) (steps : List MailStep
 abbrev pub ServesFrom : ℕ → ℕ → Party → Party → List MailStep → Type 0
 ServesFrom count who party after steps = (seat : Seat) → Serves count who party after steps seat
 
+-- what is noted of a catching up
+abbrev pub noted_of : Caught → ℕ → List Note
+noted_of caught.Done records = Acked records ∷ []
+noted_of (caught.Refused row call) records = []
+noted_of (caught.Elsewhere row call got) records = []
+
+-- all that is noted before the segment value is given back
+pub held_notes : (caught : Caught) (records : ℕ) (notes : List Note) (rest : List MailStep)
+    → acks_behind caught records ++ (map Notes notes ++ rest) ≡ map Notes (noted_of caught records ++ notes) ++ rest
+held_notes caught.Done records notes rest = refl
+held_notes (caught.Refused row call) records notes rest = refl
+held_notes (caught.Elsewhere row call got) records notes rest = refl
+
 module _ (count who : ℕ) where
+  -- the same steps under another name
+  pub path_by : (old new : Seat) (steps did : List MailStep) → did ≡ steps → Path count who old new steps → Path count who old new did
+  path_by old new steps did is path = subst (λ (all : List MailStep). Path count who old new all) (sym is) path
+
   -- one path behind the other
   pub path_then : (old mid new : Seat) (first second : List MailStep) → Path count who old mid first → Path count who mid new second
       → Path count who old new (first ++ second)
@@ -39,8 +60,10 @@ module _ (count who : ℕ) where
       Path.holds old last step (steps ++ second) heap (path_then old new last steps second rest next)
   path_then _ _ last _ second (Path.mails old mid new step steps mail rest) next =
       Path.mails old mid last step (steps ++ second) mail (path_then mid new last steps second rest next)
-  path_then _ _ last _ second (Path.handles old mid new taken given steps handles rest) next =
-      Path.handles old mid last taken given (steps ++ second) handles (path_then mid new last steps second rest next)
+  path_then _ _ last _ second (Path.handles old mid new taken given held steps handles rest) next =
+      path_by old last _ _
+      (ap (λ (more : List MailStep). takes_segments taken ∷ more) (append_assoc (map Notes held) (gives_segments given ∷ steps) second))
+      (Path.handles old mid last taken given held (steps ++ second) handles (path_then mid new last steps second rest next))
 
   -- one thing alone
   pub path_quiet : (old new : Seat) → Quietly old new → Path count who old new []
@@ -51,7 +74,13 @@ module _ (count who : ℕ) where
 
   pub path_handle : (old new : Seat) (taken given : SegsView) → Handles count who old new taken given
       → Path count who old new (takes_segments taken ∷ gives_segments given ∷ [])
-  path_handle old new taken given handles = Path.handles old new new taken given [] handles (Path.ends new)
+  path_handle old new taken given handles = Path.handles old new new taken given [] [] handles (Path.ends new)
+
+  -- and notes, which change nothing in it
+  pub path_notes : (seat : Seat) (notes : List Note) → Path count who seat seat (map Notes notes)
+  path_notes seat [] = Path.ends seat
+  path_notes seat (note ∷ notes) =
+      Path.mails seat seat seat (Notes note) (map Notes notes) (Mails.notes seat note) (path_notes seat notes)
 
   -- behind a path it did something by itself
   pub path_quietly : (old mid new : Seat) (steps : List MailStep) → Path count who old mid steps → Quietly mid new
@@ -59,10 +88,6 @@ module _ (count who : ℕ) where
   path_quietly old mid new steps here quiet =
       subst (λ (all : List MailStep). Path count who old new all) (append-nil steps)
       (path_then old mid new steps [] here (path_quiet mid new quiet))
-
-  -- the same steps under another name
-  pub path_by : (old new : Seat) (steps did : List MailStep) → did ≡ steps → Path count who old new steps → Path count who old new did
-  path_by old new steps did is path = subst (λ (all : List MailStep). Path count who old new all) (sym is) path
 
   pub serves_same : (party : Party) → ServesFrom count who party party []
   serves_same party seat =
@@ -108,6 +133,24 @@ module _ (count who : ℕ) where
   serves_behind party after steps more seat behind trace path next =
       serves_then party party after steps more seat
       (record { behind = behind; me = refl; deadline = refl; asked = refl; trace = trace; path = path }) next
+
+  -- notes alone
+  pub serves_notes : (party : Party) (notes : List Note) → ServesFrom count who party party (map Notes notes)
+  serves_notes party notes seat = record {
+    behind = seat;
+    me = refl;
+    deadline = refl;
+    asked = refl;
+    trace = refl;
+    path = path_notes (seated party seat) notes;
+  }
+
+  -- with notes before it
+  pub serves_noted : (party after : Party) (notes : List Note) (more steps : List MailStep) (seat : Seat) → steps ≡ map Notes notes ++ more
+      → Serves count who party after more seat → Serves count who party after steps seat
+  serves_noted party after notes more steps seat did next =
+      serves_to party after after (map Notes notes ++ more) steps seat refl did
+      (serves_behind party after (map Notes notes) more seat seat refl (path_notes (seated party seat) notes) next)
 
   -- whoever sits there so
   pub comes_at : (party after : Party) (more : List Done) (steps : List MailStep) (seat : Seat) → seat.party ≡ party

@@ -14,9 +14,9 @@ use Rattle.hp_proc.specs.Doing.{Done}
 use Rattle.hp_proc.specs.Doing.Done.{Called, CaughtUp, Looked}
 use Rattle.hp_proc.specs.Party.{Party, after_call, with_standing}
 use Rattle.hp_proc.specs.declared.own_element.OwnElement.{OwnElement}
-use Rattle.hp_proc.specs.Serving.{gives_segments, takes_segments}
+use Rattle.hp_proc.specs.Serving.{acks_behind, gives_segments, takes_segments}
 use Rattle.hp_joint.specs.Seats.{Handles, Path, Quietly, Seat, seated}
-use Rattle.hp_joint.proofs.Paths.{Comes, comes_at, path_by, path_handle, path_quiet, serves_same}
+use Rattle.hp_joint.proofs.Paths.{Comes, comes_at, held_notes, noted_of, path_by, path_handle, path_quiet, serves_same}
 use Rattle.hp_joint.proofs.PathsAsking.{Acted, acted_by, acted_then, ask_path, exchanged, longest, notice_path}
 use Rattle.hp_joint.proofs.PathsWaiting.{turn_path}
 
@@ -61,8 +61,10 @@ module _ (count who : ℕ) where
       → (seat : Seat)
       → Acted count who party (with_standing (standing_tried (length taken.log) caught after.context.standing) after)
       (Looked (length taken.log) ∷ CaughtUp (length taken.log) caught ∷ [])
-      (takes_segments taken ∷ gives_segments (after_attaching party.me caught taken) ∷ []) seat
+      (takes_segments taken ∷ (acks_behind caught (length taken.log) ++ (gives_segments (after_attaching party.me caught taken) ∷ []))) seat
   attaches_acted party after taken caught me attaches seat =
+      let records : ℕ = length taken.log in
+      let held = noted_of caught records ++ [] in
       let more : List Done = Looked (length taken.log) ∷ CaughtUp (length taken.log) caught ∷ [] in
       let noted : Party = with_standing (standing_tried (length taken.log) caught after.context.standing) after in
       let behind : Seat = record seat { trace = seat.trace ++ more } in
@@ -72,10 +74,11 @@ module _ (count who : ℕ) where
         deadline = ap (λ (one : Party). one.deadline) attaches.after_is;
         trace = refl;
         path = path_by count who (seated party seat) (seated noted behind) _ _
-            (exchanged taken (after_attaching party.me caught taken) (after_attaching who caught taken) []
-            (ap (λ (n : ℕ). after_attaching n caught taken) me))
-            (path_handle count who (seated party seat) (seated noted behind) taken (after_attaching who caught taken)
-            (Handles.attaches (seated party seat) taken caught after attaches));
+            (ap
+            (λ (n : ℕ). takes_segments taken ∷ (acks_behind caught records ++ (gives_segments (after_attaching n caught taken) ∷ []))) me
+            ∙ ap (λ (more : List MailStep). takes_segments taken ∷ more) (held_notes caught records [] _))
+            (Path.handles (seated party seat) (seated noted behind) (seated noted behind) taken (after_attaching who caught taken) held []
+            (Handles.attaches (seated party seat) taken caught after attaches) (Path.ends (seated noted behind)));
       }
 
   no_primary : (party : Party) → party.me ≡ who → 0 < party.me → who ≢ 0
@@ -102,8 +105,8 @@ module _ (count who : ℕ) where
   acting_path : (party after : Party) (trace : List Done) (steps : List MailStep) → Acts count party after trace steps → party.me ≡ who
       → party.deadline ≤ longest → (seat : Seat) → Acted count who party after trace steps seat
   acting_path _ _ _ _ (Acts.nothing party) me long seat = acted_by count who party party [] seat (serves_same count who party seat)
-  acting_path _ _ _ _ (Acts.waits_turn party after moved steps turned) me long seat =
-      acted_by count who party after steps seat (turn_path count who party after steps moved turned me seat)
+  acting_path _ _ _ _ (Acts.waits_turn until party after moved steps turned) me long seat =
+      acted_by count who party after steps seat (turn_path count who until party after steps moved turned me seat)
   acting_path _ _ _ _ (Acts.takes_heap party heap) me long seat =
       heap_acted party _ seat (Path.holds (seated party seat) (seated party seat) _ [] tt (Path.ends (seated party seat)))
   acting_path _ _ _ _ (Acts.gives_heap party heap) me long seat =

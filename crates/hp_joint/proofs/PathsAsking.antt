@@ -1,13 +1,15 @@
 -- What a participant does that asks for pages, or tells that it gave some up, is a path.
 use Rattle.std.proofs.Common.{◌≡◌, ◌∙◌, ℕ, ◌+◌, ◌*◌, ◌^◌, ◌≤◌, true, false, List, [], ◌∷◌, ◌++◌, Option, Some, refl, sym, ap, subst, arith}
+use Rattle.std.specs.Prelude.{min}
 use Rattle.std.proofs.lemmas.List.{append-nil, append_assoc}
 use Rattle.hp_base.specs.declared.row.Run.{Run}
-use Rattle.hp_hall.specs.Mail.{MailStep}
+use Rattle.hp_hall.specs.Mail.{MailStep, Notes}
+use Rattle.hp_hall.specs.declared.note.Note.TheVariants.{Read}
 use Rattle.hp_segs.specs.LaterSteps.{after_arm, after_withdraw}
 use Rattle.hp_segs.specs.SegsView.{SegsView}
 use Rattle.hp_segs.specs.Steps.{after_claim}
 use Rattle.hp_segs.specs.declared.ask.Ask.{Ask}
-use Rattle.hp_proc.specs.AskSteps.{DoesAsk, DoesNotify, IsAwaitedBy, IsSentAs, IsSettledLate, waits_until}
+use Rattle.hp_proc.specs.AskSteps.{DoesAsk, DoesNotify, IsAwaitedBy, IsSentAs, IsSettledLate, latest, waits_until}
 use Rattle.hp_proc.specs.Asking.{after_settling, alloc_body, free_body, next_number}
 use Rattle.hp_proc.specs.Doing.{Done}
 use Rattle.hp_proc.specs.Doing.Done.{Asked, GaveUp}
@@ -16,8 +18,9 @@ use Rattle.hp_proc.specs.Outcomes.{ask_of}
 use Rattle.hp_proc.specs.Party.{Party, after_alloc, after_free}
 use Rattle.hp_proc.specs.Serving.{gives_segments, takes_segments}
 use Rattle.hp_proc.specs.declared.pages_asked.PagesAsked.{PagesAsked}
+use Rattle.hp_proc.proofs.Waits.{waited_past}
 use Rattle.hp_joint.specs.Seats.{Handles, Mails, Path, Quietly, Seat, numbered_on, seated}
-use Rattle.hp_joint.proofs.Paths.{Serves, ServesFrom, path_by, path_handle, path_mail, path_quietly, path_then, serves_then, serves_to}
+use Rattle.hp_joint.proofs.Paths.{Serves, ServesFrom, path_by, path_handle, path_mail, path_notes, path_quietly, path_then, serves_noted, serves_then, serves_to}
 use Rattle.hp_joint.proofs.PathsWaiting.{wait_path}
 
 -- the greatest deadline of a workload, in milliseconds: an hour
@@ -77,10 +80,10 @@ module _ (count who : ℕ) where
   -- AN ASK
 
   -- it is armed and posts its ask
-  sent_path : (party : Party) (asked : PagesAsked) (number : ℕ) (run : Option Run) (steps : List MailStep) → party.me ≡ who
-      → IsSentAs party (ask_of party.me number asked) steps → (seat : Seat)
+  sent_path : (party : Party) (asked : PagesAsked) (number since : ℕ) (run : Option Run) (steps : List MailStep) → party.me ≡ who
+      → IsSentAs party (ask_of party.me number asked) since steps → (seat : Seat)
       → Acted count who party (after_alloc number party) (Asked asked run ∷ []) steps seat
-  sent_path party asked number run steps me sent seat =
+  sent_path party asked number since run steps me sent seat =
       let ask : Ask = ask_of who number asked in
       let mid : Party = numbered_on number party in
       let new : Party = after_alloc number party in
@@ -95,6 +98,7 @@ module _ (count who : ℕ) where
       let posts =
       path_mail count who (seated mid behind) (seated mid behind) _
       (Mails.asks (seated mid behind) ask sent.frame _ sent.posted refl says) in
+      let reads = path_notes count who (seated mid behind) (Read sent.now ∷ []) in
       let did =
       sent.are
       ∙ exchanged sent.taken (after_arm (ask_of party.me number asked) sent.taken) (after_arm ask sent.taken) _
@@ -106,7 +110,8 @@ module _ (count who : ℕ) where
         trace = refl;
         path = path_by count who (seated party seat) (seated new behind) _ steps did
             (path_quietly count who (seated party seat) (seated mid behind) (seated new behind) _
-            (path_then count who (seated party seat) (seated mid behind) (seated mid behind) _ _ arms posts)
+            (path_then count who (seated party seat) (seated mid behind) (seated mid behind) _ _ arms
+            (path_then count who (seated mid behind) (seated mid behind) (seated mid behind) _ _ reads posts))
             (Quietly.counts (seated mid behind) new.sent));
       }
 
@@ -150,6 +155,10 @@ module _ (count who : ℕ) (ask : Ask) (party : Party) (from : ask.from ≡ who)
       ∙ ap (λ (n : ℕ). after_claim who party.asked (after_withdraw who n since now taken)) number in
       handled_only taken _ _ steps are is seat (Handles.settles (seated party seat) taken since now late)
 
+-- the reading from which it waits is none of the last half of the clock's type
+early_by : (since now : ℕ) → since ≡ min now latest → since ≤ 2 ^ 63
+early_by since now is = omega (arith, is)
+
 -- its deadlines have passed
 late_by : (since deadline now : ℕ) → since ≤ 2 ^ 63 → deadline ≤ longest → waits_until since deadline ≤ now → since + 3 * deadline ≤ now
 late_by since deadline now early long late = omega (arith, early, long, late)
@@ -158,8 +167,10 @@ module _ (count who : ℕ) (ask : Ask) (since : ℕ) (from : ask.from ≡ who) (
   settled_late : (party after : Party) (steps : List MailStep) → party.me ≡ who → ask.number ≡ party.asked → party.deadline ≤ longest
       → IsSettledLate count party after ask since steps → ServesFrom count who party after steps
   settled_late party after steps me number long settled seat =
-      let waits = wait_path count who false party after settled.waited settled.waits me seat in
-      let late = late_by since party.deadline settled.now early long settled.late in
+      let until : ℕ = waits_until since party.deadline in
+      let waits = wait_path count who until settled.now false party after settled.waited settled.waits me seat in
+      let past = waited_past count until party after settled.waited settled.now settled.waits in
+      let late = late_by since party.deadline settled.now early long past in
       serves_to count who party after after (settled.waited ++ _) steps seat refl settled.are
       (serves_then count who party after after settled.waited _ seat waits
       (settle_path count who ask after from (number ∙ sym waits.asked) since settled.now settled.taken _
@@ -167,13 +178,13 @@ module _ (count who : ℕ) (ask : Ask) (since : ℕ) (from : ask.from ≡ who) (
 
   awaited_path : (party after : Party) (steps : List MailStep) (run : Option Run) → party.me ≡ who → ask.number ≡ party.asked
       → party.deadline ≤ longest → IsAwaitedBy count party after ask since steps run → ServesFrom count who party after steps
-  awaited_path party after steps run me number long (IsAwaitedBy.finds waited looked waits look did) seat =
-      let here = wait_path count who true party after waited waits me seat in
+  awaited_path party after steps run me number long (IsAwaitedBy.finds now waited looked waits look did) seat =
+      let here = wait_path count who (waits_until since party.deadline) now true party after waited waits me seat in
       serves_to count who party after after (waited ++ looked) steps seat refl did
       (serves_then count who party after after waited looked seat here
       (claim_path count who ask after from (number ∙ sym here.asked) look.taken looked look.are here.behind))
-  awaited_path party after steps run me number long (IsAwaitedBy.settles mid waited looked late waits look settled did) seat =
-      let here = wait_path count who true party mid waited waits me seat in
+  awaited_path party after steps run me number long (IsAwaitedBy.settles mid now waited looked late waits look settled did) seat =
+      let here = wait_path count who (waits_until since party.deadline) now true party mid waited waits me seat in
       let looks = look_path count who ask mid from (number ∙ sym here.asked) look.taken looked look.are here.behind in
       let behind =
       settled_late mid after late (here.me ∙ me) (number ∙ sym here.asked) (omega (arith, long, here.deadline)) settled looks.behind in
@@ -187,9 +198,10 @@ module _ (count who : ℕ) where
       → party.deadline ≤ longest → DoesAsk count party after asked steps run → (seat : Seat)
       → Acted count who party after (Asked asked run ∷ []) steps seat
   ask_path party after asked run steps me long does seat =
-      let here = sent_path count who party asked after.asked run does.sending me does.sent seat in
+      let here = sent_path count who party asked after.asked does.since run does.sending me does.sent seat in
       acted_on count who party (after_alloc after.asked party) after (Asked asked run ∷ []) does.sending does.rest steps seat does.are here
-      (awaited_path count who (ask_of party.me after.asked asked) does.since me does.early (after_alloc after.asked party) after does.rest run
+      (awaited_path count who (ask_of party.me after.asked asked) does.since me (early_by does.since does.sent.now does.sent.read)
+      (after_alloc after.asked party) after does.rest run
       me refl long does.awaited here.behind)
 
   -- it tells that it gave a run up
@@ -213,5 +225,6 @@ module _ (count who : ℕ) where
         path = path_quietly count who (seated party seat) (seated mid behind) (seated new behind) _ posts
             (Quietly.counts (seated mid behind) new.sent);
       } in
-      acted_on count who party new after (GaveUp heap run ∷ []) _ does.waited steps seat does.are here
-      (wait_path count who true new after does.waited does.waits me here.behind)
+      acted_on count who party new after (GaveUp heap run ∷ []) _ (Notes (Read does.since) ∷ does.waited) steps seat does.are here
+      (serves_noted count who new after (Read does.since ∷ []) does.waited _ here.behind refl
+      (wait_path count who (waits_until does.since party.deadline) does.now true new after does.waited does.waits me here.behind))

@@ -14,7 +14,8 @@ use Rattle.hp_joint.proofs.Paths.{Serves, ServesFrom, path_by, path_mail, path_q
 
 module _ (count who : ℕ) (frame : Frame) (body : Body) (nothing : AsksNothing body) (says : Says frame body) where
   -- a message to one, or none
-  told_one : (plan : List PlanEntry) (counts : List ℕ) (to : ℕ) (told : Bool) (steps : List MailStep) → IsToldOne plan frame counts to told steps
+  told_one : (plan : List PlanEntry) (counts : List ℕ) (to : ℕ) (told : Bool) (steps : List MailStep)
+      → IsToldOne plan frame counts to told steps
       → (seat : Seat) → Path count who seat seat steps
   told_one plan counts to told steps (IsToldOne.tells posted is did) seat =
       path_by count who seat seat _ steps did (path_mail count who seat seat _ (Mails.speaks seat to frame body _ posted nothing says))
@@ -32,7 +33,8 @@ module _ (count who : ℕ) (frame : Frame) (body : Body) (nothing : AsksNothing 
 
 module _ (count who : ℕ) where
   -- it posted this, and counted that
-  posts_counted : (party : Party) (after : Party) (steps : List MailStep) (seat : Seat) → after.me ≡ party.me → after.deadline ≡ party.deadline
+  posts_counted : (party : Party) (after : Party) (steps : List MailStep) (seat : Seat) → after.me ≡ party.me
+      → after.deadline ≡ party.deadline
       → after.asked ≡ party.asked → Path count who (seated party seat) (seated party seat) steps
       → Quietly (seated party seat) (seated after seat) → Serves count who party after steps seat
   posts_counted party after steps seat me deadline asked path quiet = record {

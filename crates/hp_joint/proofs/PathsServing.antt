@@ -1,7 +1,9 @@
 -- What a participant does when it serves is a path.
-use Rattle.std.proofs.Common.{◌≡◌, ◌∙◌, ℕ, Bool, true, false, true≢false, List, [], ◌∷◌, ◌++◌, Some, None, Contains, refl, sym, ap}
+use Rattle.std.proofs.Common.{◌≡◌, ◌∙◌, ℕ, zero, suc, Bool, true, false, true≢false, nat_lt, List, [], ◌∷◌, ◌++◌, length, map, Some, None, Contains, if◌then◌else◌, refl, sym, ap}
+use Rattle.std.specs.Prelude.{slice_index}
 use Rattle.std.proofs.lemmas.List.Elements.{Contains-push}
 use Rattle.std.proofs.lemmas.Option.{none-some}
+use Rattle.hp_base.specs.declared.caught.Caught.{Caught}
 use Rattle.hp_core.specs.Core.{Core}
 use Rattle.hp_core.specs.declared.event.CoreEvent.{CoreEvent}
 use Rattle.hp_core.specs.declared.event.CoreEvent.TheVariants.{Poll, SelfMapped}
@@ -9,14 +11,16 @@ use Rattle.hp_core.specs.Following.{after_catching, reply_of}
 use Rattle.hp_core.specs.declared.out.Out.{Out}
 use Rattle.hp_frame.specs.declared.frame.Frame.{Frame}
 use Rattle.hp_frame.specs.declared.message.Body.{Body}
-use Rattle.hp_hall.specs.Mail.{Fetches, MailStep}
+use Rattle.hp_hall.specs.Mail.{Fetches, MailStep, Notes}
+use Rattle.hp_hall.specs.declared.note.Note.{Note}
+use Rattle.hp_hall.specs.declared.note.Note.TheVariants.{Loaded, Read}
 use Rattle.hp_maps.specs.MapsView.{MapsView}
 use Rattle.hp_segs.specs.SegsView.{SegsView, is_member}
-use Rattle.hp_proc.specs.Coordinating.{IsAnswered, IsCarried, IsCoreServed, IsHanded, IsHandled, IsMapped, IsObeyed, IsRested, IsServed, IsSettled, stepping, with_core}
+use Rattle.hp_proc.specs.Coordinating.{IsAnswered, IsCarried, IsCoreServed, IsHanded, IsHandled, IsMapped, IsObeyed, IsPolled, IsRested, IsServed, IsSettled, loads_of, stepping, with_core}
 use Rattle.hp_proc.specs.Party.{Party, after_reply}
-use Rattle.hp_proc.specs.Serving.{IsFollowed, IsHeeded, IsMemberServed, IsTold, Obeys, after_catching_up, gives_segments, hearing, takes_segments}
-use Rattle.hp_joint.specs.Seats.{Handles, Knows, Mails, Quietly, Seat, seated}
-use Rattle.hp_joint.proofs.Paths.{Serves, ServesFrom, path_handle, path_mail, path_quietly, path_then, serves_behind, serves_here, serves_quietly, serves_then, serves_to}
+use Rattle.hp_proc.specs.Serving.{IsFollowed, IsHeeded, IsMemberServed, IsTold, Obeys, acks_behind, after_catching_up, gives_segments, hearing, takes_segments}
+use Rattle.hp_joint.specs.Seats.{Handles, Knows, Mails, Path, Quietly, Seat, seated}
+use Rattle.hp_joint.proofs.Paths.{Serves, ServesFrom, held_notes, noted_of, path_handle, path_mail, path_notes, path_quiet, path_then, serves_behind, serves_here, serves_noted, serves_notes, serves_quietly, serves_then, serves_to}
 use Rattle.hp_joint.proofs.PathsPosting.{posted_path}
 
 -- where it was taken and this done
@@ -24,41 +28,54 @@ taken_and : (taken : SegsView) (steps more rest : List MailStep) → steps ≡ t
     → steps ≡ takes_segments taken ∷ rest
 taken_and taken steps more rest did next = did ∙ ap (λ (more : List MailStep). takes_segments taken ∷ more) next
 
-given_and : (one other : SegsView) (step next : MailStep) → one ≡ other → step ≡ next
-    → gives_segments one ∷ step ∷ [] ≡ gives_segments other ∷ next ∷ []
-given_and one other step next same is = cc
+given_and : (before : List MailStep) (one other : SegsView) (step next : MailStep) → one ≡ other → step ≡ next
+    → before ++ (gives_segments one ∷ step ∷ []) ≡ before ++ (gives_segments other ∷ next ∷ [])
+given_and before one other step next same is = cc
 
 -- WHAT ITS COORDINATOR DOES
 
 -- its coordinator made a step, so far as the steps show
-record IsStepped (event : CoreEvent) (core next : Core) (taken : SegsView) (steps : List MailStep) : Type 0 where
+record IsStepped (event : CoreEvent) (core next : Core) (taken : SegsView) (more : List MailStep) : Type 0 where
   core_is : next ≡ (stepping event core taken).core
-  did : steps ≡ takes_segments taken ∷ gives_segments (stepping event core taken).segs ∷ []
+  did : more ≡ gives_segments (stepping event core taken).segs ∷ []
 
-handed_stepped : (event : CoreEvent) (core next : Core) (taken : SegsView) (steps more : List MailStep) (answer : Out)
-    → steps ≡ takes_segments taken ∷ more → IsHanded event core next taken more (Some answer) → IsStepped event core next taken steps
-handed_stepped event core next taken steps more answer begins (IsHanded.handed did next_is is) =
-    record { core_is = next_is; did = taken_and taken steps more _ begins did }
-handed_stepped event core next taken steps more answer begins (IsHanded.no_room did next_is is) = absurd (none-some answer (sym is))
+handed_stepped : (event : CoreEvent) (core next : Core) (taken : SegsView) (more : List MailStep) (answer : Out)
+    → IsHanded event core next taken more (Some answer) → IsStepped event core next taken more
+handed_stepped event core next taken more answer (IsHanded.handed did next_is is) = record { core_is = next_is; did = did }
+handed_stepped event core next taken more answer (IsHanded.no_room did next_is is) = absurd (none-some answer (sym is))
+
+-- what it notes before its step, for which it has caught up
+abbrev before_mapped : Caught → ℕ → ℕ → ℕ → List Note
+before_mapped caught records own now = noted_of caught records ++ (Loaded 0 own ∷ Read now ∷ [])
+
+-- so its notes stand between the taking and the giving
+noted_and : (caught : Caught) (records own now : ℕ) (more given : List MailStep) → more ≡ given
+    → acks_behind caught records ++ (Notes (Loaded 0 own) ∷ Notes (Read now) ∷ more)
+    ≡ map Notes (before_mapped caught records own now) ++ given
+noted_and caught records own now more given is =
+    ap (λ (more : List MailStep). acks_behind caught records ++ (Notes (Loaded 0 own) ∷ Notes (Read now) ∷ more)) is
+    ∙ held_notes caught records (Loaded 0 own ∷ Read now ∷ []) given
 
 module _ (count who : ℕ) (primary : who ≡ 0) where
   -- it catches up for its coordinator
   mapped_path : (party after : Party) (steps : List MailStep) (answer : Out) → IsMapped party after steps (Some answer)
       → ServesFrom count who party after steps
   mapped_path party after steps answer
-      (IsMapped.maps core next taken caught table now more core_is did caught_up is_handed after_is) seat =
-      let stepped = handed_stepped (SelfMapped caught now) core next taken steps more answer did is_handed in
+      (IsMapped.maps core next taken caught table own now more core_is did caught_up is_handed after_is) seat =
+      let stepped = handed_stepped (SelfMapped caught now) core next taken more answer is_handed in
+      let held = before_mapped caught (length taken.log) own now in
       let new : Party = with_core (stepping (SelfMapped caught now) core taken).core (after_catching_up caught table party) in
       serves_to count who party new after _ steps seat
-      (after_is ∙ ap (λ (core : Core). with_core core (after_catching_up caught table party)) stepped.core_is) stepped.did
+      (after_is ∙ ap (λ (core : Core). with_core core (after_catching_up caught table party)) stepped.core_is)
+      (taken_and taken steps _ _ did (noted_and caught (length taken.log) own now more _ stepped.did))
       (record {
         behind = seat;
         me = refl;
         deadline = refl;
         asked = refl;
         trace = refl;
-        path = path_handle count who (seated party seat) (seated new seat) taken _
-            (Handles.maps (seated party seat) taken caught table now core primary core_is caught_up);
+        path = Path.handles (seated party seat) (seated new seat) (seated new seat) taken _ held []
+            (Handles.maps (seated party seat) taken caught table now core primary core_is caught_up) (Path.ends (seated new seat));
       })
   mapped_path party after steps answer (IsMapped.worn taken is_worn did after_is none) seat = absurd (none-some answer (sym none))
 
@@ -79,11 +96,11 @@ module _ (count who : ℕ) (primary : who ≡ 0) where
   handled_path : (event : CoreEvent) (party after : Party) (steps : List MailStep) → IsHandled count event party after steps true
       → (seat : Seat) → Knows count (seated party seat) event → Serves count who party after steps seat
   handled_path event party after steps (IsHandled.carries core next answer mids first more core_is hands carried did) seat knows =
-      let stepped = handed_stepped event core next hands.taken first hands.more answer hands.begins hands.is_handed in
+      let stepped = handed_stepped event core next hands.taken hands.more answer hands.is_handed in
       let new : Party = with_core (stepping event core hands.taken).core party in
       let here =
       serves_to count who party new (with_core next party) _ first seat
-      (ap (λ (core : Core). with_core core party) stepped.core_is) stepped.did
+      (ap (λ (core : Core). with_core core party) stepped.core_is) (taken_and hands.taken first hands.more _ hands.begins stepped.did)
       (record {
         behind = seat;
         me = refl;
@@ -97,6 +114,30 @@ module _ (count who : ℕ) (primary : who ≡ 0) where
       (serves_then count who party (with_core next party) after first more seat here
       (carried_path mids (with_core next party) after answer more carried here.behind))
   handled_path event party after steps (IsHandled.stops core next core_is hands after_is is) seat knows = absurd (true≢false is)
+
+-- it looks up the numbers of so many
+module _ (count who hall : ℕ) (acks : List ℕ) where
+  noted_if : (is : Bool) (note : Note) (seat : Seat) → Path count who seat seat (if is then Notes note ∷ [] else [])
+  noted_if true note seat = path_notes count who seat (note ∷ [])
+  noted_if false note seat = Path.ends seat
+
+  loads_path : (n : ℕ) (seat : Seat) → Path count who seat seat (loads_of hall acks n)
+  unfolding loads_of
+  loads_path zero seat = Path.ends seat
+  loads_path (suc n) seat =
+      path_then count who seat seat seat (loads_of hall acks n) _ (loads_path n seat)
+      (noted_if (nat_lt n hall) (Loaded n (slice_index acks n)) seat)
+
+-- it polls its coordinator
+module _ (count who : ℕ) (primary : who ≡ 0) where
+  polled_path : (now : ℕ) (party after : Party) (steps : List MailStep) → IsPolled count now party after steps true
+      → ServesFrom count who party after steps
+  polled_path now party after steps polled seat =
+      serves_to count who party after after (loads_of count polled.acks 16 ++ polled.more) steps seat refl
+      (polled.are ∙ ap (λ (looks : List MailStep). looks ++ polled.more) polled.looked_up.looked_up)
+      (serves_behind count who party after (loads_of count polled.acks 16) polled.more seat seat refl
+      (loads_path count who count polled.acks 16 (seated party seat))
+      (handled_path count who primary (Poll now polled.acks) party after polled.more polled.handled seat (Knows.polls now polled.acks)))
 
 -- WHAT IT FETCHES
 
@@ -132,8 +173,9 @@ module _ (count who : ℕ) where
 module _ (count who : ℕ) (primary : who ≡ 0) where
   answered_path : (party after : Party) (body : Body) (steps : List MailStep) → IsAnswered count party after body steps true
       → ServesFrom count who party after steps
-  answered_path party after body steps (IsAnswered.polls due now acks reply due_is handled) seat =
-      handled_path count who primary (Poll now acks) party after steps handled seat (Knows.polls now acks)
+  answered_path party after body steps (IsAnswered.polls due now more reply due_is did polled) seat =
+      serves_noted count who party after (Read now ∷ []) more steps seat did
+      (polled_path count who primary now party after more polled seat)
   answered_path party after body steps (IsAnswered.rests reply none did after_is goes_is) seat =
       serves_here count who party after steps after_is did seat
   answered_path party after body steps (IsAnswered.hears reply did after_is goes_is) seat =
@@ -150,10 +192,12 @@ module _ (count who : ℕ) (primary : who ≡ 0) where
 
   rested_path : (party after : Party) (steps : List MailStep) (moved : Bool) → IsRested count party after steps (Some moved)
       → ServesFrom count who party after steps
-  rested_path party after steps moved (IsRested.rests holds did after_is is) seat = serves_here count who party after steps after_is did seat
-  rested_path party after steps moved (IsRested.polls now acks true due handled is) seat =
-      handled_path count who primary (Poll now acks) party after steps handled seat (Knows.polls now acks)
-  rested_path party after steps moved (IsRested.polls now acks false due handled is) seat = absurd (none-some moved (sym is))
+  rested_path party after steps moved (IsRested.rests now holds early did after_is is) seat =
+      serves_to count who party party after _ steps seat after_is did (serves_notes count who party (Read now ∷ []) seat)
+  rested_path party after steps moved (IsRested.polls now more true due did polled is) seat =
+      serves_noted count who party after (Read now ∷ []) more steps seat did
+      (polled_path count who primary now party after more polled seat)
+  rested_path party after steps moved (IsRested.polls now more false due did polled is) seat = absurd (none-some moved (sym is))
 
   -- one serving of participant 0 that did not stop
   core_path : (party after : Party) (steps : List MailStep) (moved : Bool) → IsCoreServed count party after steps (Some moved)
@@ -176,17 +220,20 @@ module _ (count who : ℕ) where
       let mid : Party = after_catching_up obeys.caught table party in
       let new : Party = after_reply mid in
       let its : is_member taken.roster who ≡ true = ap (is_member taken.roster) (sym me) ∙ member in
+      let records : ℕ = length taken.log in
       let handles = Handles.follows (seated party seat) taken obeys.caught table its obeys.caught_up in
-      let first = path_handle count who (seated party seat) (seated mid seat) taken (after_catching who obeys.caught taken) handles in
+      let counts = path_quiet count who (seated mid seat) (seated new seat) (Quietly.counts (seated mid seat) new.sent) in
       let speaks =
-      path_mail count who (seated mid seat) (seated mid seat) _
+      Path.mails (seated mid seat) (seated mid seat) (seated new seat) _ []
       (Mails.speaks (seated mid seat) 0 obeys.replied.frame (reply_of party.me obeys.caught taken) _ obeys.replied.posted tt
-      obeys.replied.says) in
-      let both = path_then count who (seated party seat) (seated mid seat) (seated mid seat) _ _ first speaks in
+      obeys.replied.says) counts in
       let did =
       taken_and taken (takes_segments taken ∷ more) more _ refl
-      (obeys.done ∙ given_and (after_catching party.me obeys.caught taken) (after_catching who obeys.caught taken) obeys.reply _
-      (ap (λ (n : ℕ). after_catching n obeys.caught taken) me) obeys.replied.posts) in
+      (obeys.done
+      ∙ given_and (acks_behind obeys.caught records) (after_catching party.me obeys.caught taken)
+      (after_catching who obeys.caught taken) obeys.reply _
+      (ap (λ (n : ℕ). after_catching n obeys.caught taken) me) obeys.replied.posts
+      ∙ held_notes obeys.caught records [] _) in
       serves_to count who party new after _ (takes_segments taken ∷ more) seat obeys.after_is did
       (record {
         behind = seat;
@@ -194,8 +241,8 @@ module _ (count who : ℕ) where
         deadline = refl;
         asked = refl;
         trace = refl;
-        path = path_quietly count who (seated party seat) (seated mid seat) (seated new seat) _ both
-            (Quietly.counts (seated mid seat) new.sent);
+        path = Path.handles (seated party seat) (seated mid seat) (seated new seat) taken (after_catching who obeys.caught taken)
+            (noted_of obeys.caught records ++ []) _ handles speaks;
       })
 
   followed_path : (party after : Party) (taken : SegsView) (more : List MailStep) → party.me ≡ who → IsFollowed party after taken more true
@@ -216,14 +263,16 @@ module _ (count who : ℕ) where
 
   told_path : (party after : Party) (body : Body) (steps : List MailStep) → party.me ≡ who → IsTold party after body steps true
       → ServesFrom count who party after steps
-  told_path party after body steps me (IsTold.hears reply did after_is is) seat = hears_path count who party after body steps after_is did seat
+  told_path party after body steps me (IsTold.hears reply did after_is is) seat =
+      hears_path count who party after body steps after_is did seat
   told_path party after body steps me (IsTold.follows taken more sync did followed) seat =
       serves_to count who party after after (takes_segments taken ∷ more) steps seat refl did
       (followed_path party after taken more me followed seat)
 
   heeded_path : (party after : Party) (frame : Frame) (steps : List MailStep) → party.me ≡ who → IsHeeded party after frame steps true
       → ServesFrom count who party after steps
-  heeded_path party after frame steps me (IsHeeded.drops says did after_is is) seat = serves_here count who party after steps after_is did seat
+  heeded_path party after frame steps me (IsHeeded.drops says did after_is is) seat =
+      serves_here count who party after steps after_is did seat
   heeded_path party after frame steps me (IsHeeded.tells body says told) seat = told_path party after body steps me told seat
 
   -- one serving of a participant without a coordinator that did not stop

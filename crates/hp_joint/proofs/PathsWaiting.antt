@@ -1,13 +1,14 @@
 -- What a participant does while it waits, and while it serves on, is a path.
-use Rattle.std.proofs.Common.{◌≡◌, ℕ, zero, suc, Bool, true, false, true≢false, ◌∙◌, List, [], ◌++◌, Some, refl, sym}
+use Rattle.std.proofs.Common.{◌≡◌, ℕ, zero, suc, Bool, true, false, ◌∙◌, List, [], ◌∷◌, ◌++◌, map, Some, None, refl, sym, ap}
 use Rattle.std.proofs.lemmas.Option.{none-some}
-use Rattle.hp_hall.specs.Mail.{MailStep}
-use Rattle.hp_proc.specs.Coordinating.{IsServed}
+use Rattle.hp_hall.specs.Mail.{MailStep, Notes}
+use Rattle.hp_hall.specs.declared.note.Note.{Note}
+use Rattle.hp_hall.specs.declared.note.Note.TheVariants.{Paused, Read, Yielded}
 use Rattle.hp_proc.specs.Party.{Party}
-use Rattle.hp_proc.specs.Waiting.{AreServings, AreTurns, IsServedOut, IsTurned, IsWaited}
+use Rattle.hp_proc.specs.Waiting.{AreServings, AreTurns, HaveServed, IsServedOut, IsTurned, IsWaited}
 use Rattle.hp_joint.specs.Seats.{Seat}
 use Rattle.hp_solo.specs.Served.{ServesOn}
-use Rattle.hp_joint.proofs.Paths.{Comes, ServesFrom, comes_by, serves_here, serves_then, serves_to}
+use Rattle.hp_joint.proofs.Paths.{Comes, ServesFrom, comes_by, serves_here, serves_noted, serves_notes, serves_then, serves_to}
 use Rattle.hp_joint.proofs.PathsServing.{serving_path}
 
 module _ (count who : ℕ) where
@@ -37,28 +38,53 @@ module _ (count who : ℕ) where
   served_out_path party after steps own (IsServedOut.stops times mid first last few are served did is) me = absurd (none-some own (sym is))
   served_out_path party after steps own (IsServedOut.enough are is) me = servings_path _ party after steps are me
 
-  -- a turn that came to its end
-  pub turn_path : (party after : Party) (steps : List MailStep) (moved : Bool) → IsTurned count party after steps (Some moved)
+  -- and it made notes before that, or behind it
+  noted_before : (party after : Party) (notes : List Note) (last steps : List MailStep) → steps ≡ map Notes notes ++ last
+      → ServesFrom count who party after last → ServesFrom count who party after steps
+  noted_before party after notes last steps did next seat = serves_noted count who party after notes last steps seat did (next seat)
+
+  noted_behind : (party after : Party) (first : List MailStep) (notes : List Note) (steps : List MailStep)
+      → steps ≡ first ++ map Notes notes
+      → party.me ≡ who → ServesFrom count who party after first → ServesFrom count who party after steps
+  noted_behind party after first notes steps did me here =
+      serves_both party after after first (map Notes notes) steps did me here (λ its. serves_notes count who after notes)
+
+  -- all have served, and nobody stopped
+  all_served_path : (party after : Party) (steps : List MailStep) (moved : Bool) → HaveServed count party after steps (Some moved)
       → party.me ≡ who → ServesFrom count who party after steps
-  turn_path party after steps moved (IsTurned.below_stops did after_is is) me = absurd (none-some moved (sym is))
-  turn_path party after steps moved (IsTurned.stops served is) me = absurd (none-some moved (sym is))
-  turn_path party after steps moved (IsTurned.above_stops own served is) me = absurd (none-some moved (sym is))
-  turn_path party after steps moved (IsTurned.ends own others served is) me = served_out_path party after steps own served me
+  all_served_path party after steps moved (HaveServed.below_stops did after_is is) me = absurd (none-some moved (sym is))
+  all_served_path party after steps moved (HaveServed.stops below own served did is) me = absurd (none-some moved (sym is))
+  all_served_path party after steps moved (HaveServed.above_stops below mine own served did is) me = absurd (none-some moved (sym is))
+  all_served_path party after steps moved (HaveServed.ends below mine above own served did is) me =
+      let behind : List Note = Yielded true (Some above) ∷ [] in
+      noted_before party after (Yielded false (Some below) ∷ []) (own ++ map Notes behind) steps did
+      (noted_behind party after own behind (own ++ map Notes behind) refl me (served_out_path party after own mine served me))
+
+  -- a turn that came to its end
+  pub turn_path : (until : ℕ) (party after : Party) (steps : List MailStep) (moved : Bool)
+      → IsTurned count until party after steps (Some moved) → party.me ≡ who → ServesFrom count who party after steps
+  turn_path until party after steps moved (IsTurned.stops served is) me = absurd (none-some moved (sym is))
+  turn_path until party after steps moved (IsTurned.ends any served paused have pauses did is) me =
+      noted_behind party after served (Read pauses.now ∷ Paused any (Some pauses.next) ∷ []) steps
+      (did ∙ ap (λ (paused : List MailStep). served ++ paused) pauses.are) me (all_served_path party after served any have me)
 
   -- so many turns
-  turns_path : (heeds : Bool) (turns : ℕ) (party after : Party) (steps : List MailStep) → AreTurns count heeds turns party after steps
-      → party.me ≡ who → ServesFrom count who party after steps
+  turns_path : (until : ℕ) (heeds : Bool) (turns : ℕ) (party after : Party) (steps : List MailStep)
+      → AreTurns count until heeds turns party after steps → party.me ≡ who → ServesFrom count who party after steps
   unfolding AreTurns
-  turns_path heeds zero party after steps are me = serves_here count who party after steps are.0 are.1
-  turns_path heeds (suc n) party after steps are me =
-      serves_both party are.0 after are.1 are.2 steps are.7 me (turns_path heeds n party are.0 are.1 are.4 me)
-      (turn_path are.0 after are.2 are.3 are.6)
+  turns_path until heeds zero party after steps are me = serves_here count who party after steps are.0 are.1
+  turns_path until heeds (suc n) party after steps are me =
+      let mid : Party = are.0 in
+      serves_both party mid after are.1 (Notes (Read are.3) ∷ are.2) steps are.8 me (turns_path until heeds n party mid are.1 are.5 me)
+      (λ its. noted_before mid after (Read are.3 ∷ []) are.2 _ refl (turn_path until mid after are.2 are.4 are.7 its))
 
   -- a wait that came to its end
-  pub wait_path : (heeds : Bool) (party after : Party) (steps : List MailStep) → IsWaited count heeds party after steps true
-      → party.me ≡ who → ServesFrom count who party after steps
-  wait_path heeds party after steps (IsWaited.ends turns are is) me = turns_path heeds turns party after steps are me
-  wait_path heeds party after steps (IsWaited.stops turns mid first last are over one did is) me = absurd (true≢false is)
+  pub wait_path : (until now : ℕ) (heeds : Bool) (party after : Party) (steps : List MailStep)
+      → IsWaited count until heeds party after steps (Some now) → party.me ≡ who → ServesFrom count who party after steps
+  wait_path until now heeds party after steps (IsWaited.ends turns last first are waited did is) me =
+      noted_behind party after first (Read last ∷ []) steps did me (turns_path until heeds turns party after first are me)
+  wait_path until now heeds party after steps (IsWaited.stops turns at mid first last are waits one did is) me =
+      absurd (none-some now (sym is))
 
   -- servings one after another, with pauses between them
   serving_on : (party after : Party) (steps : List MailStep) → ServesOn count party after steps → party.me ≡ who
@@ -67,28 +93,11 @@ module _ (count who : ℕ) where
   serving_on _ _ _ (ServesOn.serves party mid after first last moved before served) me =
       serves_both party mid after first last (first ++ last) refl me (serving_on party mid first before me)
       (λ its. serving_path count who mid after last moved its served)
+  serving_on _ _ _ (ServesOn.pauses party after first before) me =
+      noted_behind party after first (Paused false None ∷ []) _ refl me (serving_on party after first before me)
 
-  -- WHAT A SEAT COMES TO
-
-  -- one serving that did not stop
-  pub served_path : (party after : Party) (steps : List MailStep) (moved : Bool) → IsServed count party after steps (Some moved)
-      → party.me ≡ who → (seat : Seat) → seat.party ≡ party → Comes count who after [] steps seat
-  served_path party after steps moved served me seat is =
-      comes_by count who party after steps seat is (serving_path count who party after steps moved me served seat)
-
-  -- servings with pauses between them
+  -- what a seat comes to
   pub serves_path : (party after : Party) (steps : List MailStep) → ServesOn count party after steps → party.me ≡ who → (seat : Seat)
       → seat.party ≡ party → Comes count who after [] steps seat
   serves_path party after steps served me seat is =
       comes_by count who party after steps seat is (serving_on party after steps served me seat)
-
-  -- a turn of a wait, and a wait, that came to their ends
-  pub turned_path : (party after : Party) (steps : List MailStep) (moved : Bool) → IsTurned count party after steps (Some moved)
-      → party.me ≡ who → (seat : Seat) → seat.party ≡ party → Comes count who after [] steps seat
-  turned_path party after steps moved turned me seat is =
-      comes_by count who party after steps seat is (turn_path party after steps moved turned me seat)
-
-  pub waited_path : (heeds : Bool) (party after : Party) (steps : List MailStep) → IsWaited count heeds party after steps true
-      → party.me ≡ who → (seat : Seat) → seat.party ≡ party → Comes count who after [] steps seat
-  waited_path heeds party after steps waited me seat is =
-      comes_by count who party after steps seat is (wait_path heeds party after steps waited me seat)

@@ -1,5 +1,5 @@
--- What a run shows of attaches that were refused: each is of a row of the log, by a call of its participant's mapper at which that may fail,
--- and these calls rise; and a look shows no more records than there are.
+-- What a run shows of attaches that were refused: each is of a row of the log, by a call of its participant's mapper at which that may
+-- fail, and these calls rise; and a look shows no more records than there are.
 use Rattle.std.proofs.Common.{◌≡◌, ℕ, ◌<◌, ◌≤◌, true, List, [], ◌++◌, length, Some, ap, sym, subst, arith}
 use Rattle.std.specs.Prelude.{Contains, slice_get, slice_set}
 use Rattle.std.specs.List.{All}

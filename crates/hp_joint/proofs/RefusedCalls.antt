@@ -1,4 +1,5 @@
--- What a catching up leaves of a mapper's calls: one that failed is a call more, at which the mapper may fail, and the row is one of the log.
+-- What a catching up leaves of a mapper's calls: one that failed is a call more, at which the mapper may fail, and the row is one of the
+-- log.
 use Rattle.std.proofs.Common.{◌≡◌, ◌∙◌, ℕ, zero, suc, ◌+◌, ◌-◌, ◌<◌, ◌≤◌, true, List, [], ◌∷◌, ◌++◌, length, map, take, get_or, Option, Some, inl, inr, refl, ap, sym, subst, arith, append_assoc, length-append}
 use Rattle.std.specs.Prelude.{Contains, slice_get, ⊤}
 use Rattle.std.specs.List.{All}

@@ -69,7 +69,8 @@ module _ (workload : Workload) (who call : ℕ) where
       by_whose (λ standing done place there. shows_in standing courses done place course there refused)
       (cases_Bool (first.line.participant == who))
     where
-      own_first : ((standing : Standing) → AreDone workload standing (courses_of who courses) → (place : ℕ) → slice_get courses place ≡ Some course
+      own_first : ((standing : Standing) → AreDone workload standing (courses_of who courses) → (place : ℕ)
+          → slice_get courses place ≡ Some course
           → Contains (refusals_in (trace_for who courses)) call) → (own : (first.line.participant == who) ≡ true)
           → (place : ℕ) → slice_get (first ∷ courses) place ≡ Some course
           → Contains (refusals_in (first.trace ++ trace_for who courses)) call
@@ -89,7 +90,8 @@ module _ (workload : Workload) (who call : ℕ) where
           (Contains-append_right (refusals_in first.trace) (refusals_in (trace_for who courses)) call
           (further (after_line first.line first.answer first.trace standing) both.1 place later))
 
-      other_first : ((standing : Standing) → AreDone workload standing (courses_of who courses) → (place : ℕ) → slice_get courses place ≡ Some course
+      other_first : ((standing : Standing) → AreDone workload standing (courses_of who courses) → (place : ℕ)
+          → slice_get courses place ≡ Some course
           → Contains (refusals_in (trace_for who courses)) call) → (other : (first.line.participant == who) ≡ false)
           → (place : ℕ) → slice_get (first ∷ courses) place ≡ Some course
           → Contains (refusals_in (trace_for who courses)) call
@@ -100,8 +102,10 @@ module _ (workload : Workload) (who call : ℕ) where
       other_first further other (suc place) later =
           further standing (subst (AreDone workload standing) (trace_other who first courses other) done) place later
 
-      by_whose : ((standing : Standing) → AreDone workload standing (courses_of who courses) → (place : ℕ) → slice_get courses place ≡ Some course
-          → Contains (refusals_in (trace_for who courses)) call) → ((first.line.participant == who) ≡ true) ⊎ ((first.line.participant == who) ≡ false)
+      by_whose : ((standing : Standing) → AreDone workload standing (courses_of who courses) → (place : ℕ)
+          → slice_get courses place ≡ Some course
+          → Contains (refusals_in (trace_for who courses)) call)
+          → ((first.line.participant == who) ≡ true) ⊎ ((first.line.participant == who) ≡ false)
           → Contains (refusals_in (trace_for who (first ∷ courses))) call
       by_whose further (inl own) =
           subst (λ lines. Contains (refusals_in (trace_of lines)) call) (sym (trace_own who first courses own))
@@ -152,14 +156,16 @@ module _ (workload : Workload) (who call : ℕ) where
           ∙ refusals_both first.trace (trace_for who courses) in
           ap suc
           (further (after_line first.line first.answer first.trace standing) both.1
-          (rises_behind (refusals_in first.trace) (refusals_in (trace_for who courses)) (subst Rises calls rise)) place other at_one at_other)
+          (rises_behind (refusals_in first.trace) (refusals_in (trace_for who courses))
+          (subst Rises calls rise)) place other at_one at_other)
 
       not_its : (other : (first.line.participant == who) ≡ false) → IsRefusedAttach who call first → ⊥
       not_its other its =
           let wrong : true ≡ false = sym (is_own first its) ∙ other in
           cc
 
-      other_first : ((standing : Standing) → AreDone workload standing (courses_of who courses) → Rises (refusals_in (trace_for who courses))
+      other_first : ((standing : Standing) → AreDone workload standing (courses_of who courses)
+          → Rises (refusals_in (trace_for who courses))
           → (place other : ℕ) → slice_get courses place ≡ Some course → slice_get courses other ≡ Some second → place ≡ other)
           → (apart : (first.line.participant == who) ≡ false) → (place other : ℕ) → slice_get (first ∷ courses) place ≡ Some course
           → slice_get (first ∷ courses) other ≡ Some second → place ≡ other

@@ -139,7 +139,8 @@ module _ (workload : Workload) (courses : List Course) (parties behind : List Pa
   on_by_rest =
       so_far_on workload courses courses parties behind old new so course home size nothing all_came to_there
       (enrolled_there workload courses parties behind old new so given.few course nothing comes tries)
-      (left_there workload courses parties behind old new so given.few course nothing comes tries) (λ who seat at. traces who) known lines_there
+      (left_there workload courses parties behind old new so given.few course nothing comes tries)
+      (λ who seat at. traces who) known lines_there
 
   pub may_fail_still : MayFailAsBefore parties behind
   may_fail_still = may_fail_before workload courses parties behind old new so given.few course nothing comes tries so.count

@@ -157,6 +157,7 @@ handles_return {who = who} (Handles.attaches seat segs caught after tried) sound
 handles_return (Handles.detaches seat segs secondary) sound = nothing_cut seat _ segs _ (rests seat _ refl) refl
 
 mails_more : {who : ℕ} {old new : Seat} {step : MailStep} → Mails who old new step → DoesMore old new []
+mails_more (Mails.notes seat note) = rests seat seat refl
 mails_more (Mails.finds_nothing seat) = rests seat seat refl
 mails_more (Mails.fetches seat frame) = rests seat _ refl
 mails_more (Mails.asks seat ask frame action posted its says) = rests seat seat refl

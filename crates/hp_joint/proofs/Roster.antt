@@ -25,8 +25,8 @@ pub record TriesOnce (old new : Seat) : Type 0 where
   pub once : tries_in new.trace ≤ tries_in old.trace + 1
   pub out : tries_in old.trace < tries_in new.trace → old.party.joined ≡ false
 
--- so far it has tried no less often; as long as it tried once at most it has a table where it is in the roster; and where it was out and did
--- not try it still is
+-- so far it has tried no less often; as long as it tried once at most it has a table where it is in the roster; and where it was out and
+-- did not try it still is
 record IsOnWay (old : Seat) (roster : List Bool) (who : ℕ) (seat : Seat) : Type 0 where
   pub grown : tries_in old.trace ≤ tries_in seat.trace
   pub enrolled : TriesOnce old seat → is_member roster who ≡ seat.party.joined
@@ -106,7 +106,8 @@ module _ (count absent : ℕ) (pools : List PoolLine) (first from : Joint) (is :
       → IsOnWay old roster who seat
 
   -- one of them did something
-  ways_on : (seats : List Seat) (taken given : List Bool) (who : ℕ) (seat new : Seat) → slice_get seats who ≡ Some seat → length seats ≡ count
+  ways_on : (seats : List Seat) (taken given : List Bool) (who : ℕ) (seat new : Seat) → slice_get seats who ≡ Some seat
+      → length seats ≡ count
       → length taken ≡ 16 → MovesSeat who seat new taken given → AreOnWay seats taken → AreOnWay (slice_set seats who new) given
   ways_on seats taken given who seat new there all places moves ways other old one early late =
       by_seat (seat_behind seats who seat new there other one late)

@@ -68,10 +68,12 @@ quietly_moves who roster (Quietly.notes seat standing) = stays refl refl refl
 
 pub mails_moves : {who : ℕ} {old new : Seat} {step : MailStep} → (roster : List Bool) → Mails who old new step
     → MovesSeat who old new roster roster
+mails_moves roster (Mails.notes seat note) = stays refl refl refl
 mails_moves roster (Mails.finds_nothing seat) = stays refl refl refl
 mails_moves roster (Mails.fetches seat frame) = stays refl refl refl
 mails_moves roster (Mails.asks seat ask frame action posted its says) = stays refl refl refl
-mails_moves roster (Mails.tells seat heap run frame action posted says) = stays refl refl (tries_same seat.trace (GaveUp heap run ∷ []) refl)
+mails_moves roster (Mails.tells seat heap run frame action posted says) =
+    stays refl refl (tries_same seat.trace (GaveUp heap run ∷ []) refl)
 mails_moves roster (Mails.speaks seat to frame body action posted nothing says) = stays refl refl refl
 
 -- the coordinator leaves the roster

@@ -80,7 +80,8 @@ module _ (count absent : ℕ) (pools : List PoolLine) (first now : Joint) (is : 
       at_first : AreCaused workload may_fail (opening pools count absent)
       at_first = record {
         causes = All-nil (IsRefusedIn workload);
-        own = subst (λ declared. AreOwnFailures declared may_fail (opening pools count absent)) same (opening_own count absent may_fail pools);
+        own = subst (λ declared. AreOwnFailures declared may_fail (opening pools count absent)) same
+            (opening_own count absent may_fail pools);
         declared = subst (λ declared. AreDeclared declared (opening_roster count absent)) same (first_declared count absent);
       }
 

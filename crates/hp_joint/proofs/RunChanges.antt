@@ -58,6 +58,7 @@ module _ (deadline : ℕ) (may_fail : ℕ → Option (List ℕ)) (who : ℕ) whe
       record { me = was.me; its_deadline = was.its_deadline; its_may_fail = was.its_may_fail; waits = was.waits }
 
   mails_steady : {old new : Seat} {step : MailStep} → Mails who old new step → Steady old → Steady new
+  mails_steady (Mails.notes seat note) was = was
   mails_steady (Mails.finds_nothing seat) was = was
   mails_steady (Mails.fetches seat frame) was =
       record { me = was.me; its_deadline = was.its_deadline; its_may_fail = was.its_may_fail; waits = was.waits }
@@ -81,7 +82,8 @@ module _ (deadline : ℕ) (may_fail : ℕ → Option (List ℕ)) (who : ℕ) whe
   handles_steady : {count : ℕ} {old new : Seat} {taken given : SegsView} → Handles count who old new taken given → Steady old → Steady new
   handles_steady (Handles.looks seat segs) was = was
   handles_steady (Handles.steps seat segs event core is its knows) was =
-      record { me = was.me; its_deadline = was.its_deadline; its_may_fail = was.its_may_fail; waits = waits_on event core segs (was.waits core its) }
+      let waits = waits_on event core segs (was.waits core its) in
+      record { me = was.me; its_deadline = was.its_deadline; its_may_fail = was.its_may_fail; waits = waits }
   handles_steady (Handles.maps seat segs caught table now core is its caught_up) was = record {
     me = was.me;
     its_deadline = was.its_deadline;

@@ -1,4 +1,5 @@
--- What a step shows of attaches that were refused: each is of a row of the log, by a call of its participant's mapper at which that may fail.
+-- What a step shows of attaches that were refused: each is of a row of the log, by a call of its participant's mapper at which that may
+-- fail.
 use Rattle.std.proofs.Common.{◌≡◌, ◌∙◌, ℕ, ◌<◌, ◌≤◌, true, List, [], ◌∷◌, ◌++◌, length, Option, refl, ap, sym, subst, arith, append-nil}
 use Rattle.std.specs.List.{All}
 use Rattle.std.specs.List.Sorted.{IsStrictlyIncreasing}
@@ -124,6 +125,7 @@ quietly_more log (Quietly.notes seat standing) =
     did_none log seat _ refl refl refl
 
 pub mails_more : {who : ℕ} {old new : Seat} {step : MailStep} → (log : List LogRecord) → Mails who old new step → DoesMore log old new
+mails_more log (Mails.notes seat note) = did_none log seat seat refl refl refl
 mails_more log (Mails.finds_nothing seat) = did_none log seat seat refl refl refl
 mails_more log (Mails.fetches seat frame) =
     did_none log seat _ refl refl refl

@@ -23,7 +23,8 @@ module _ (seats : List Seat) (who : ℕ) (old new : Seat) (there : slice_get sea
   pub other_seat : (other : ℕ) → other ≢ who → slice_get (slice_set seats who new) other ≡ slice_get seats other
   other_seat other beside = slice_get-set_other seats who other new beside
 
-  pub seat_behind : (other : ℕ) (seat : Seat) → slice_get (slice_set seats who new) other ≡ Some seat → IsSeatBehind seats who new other seat
+  pub seat_behind : (other : ℕ) (seat : Seat) → slice_get (slice_set seats who new) other ≡ Some seat
+      → IsSeatBehind seats who new other seat
   seat_behind other seat is =
       ⊎_elim
       (λ (same : other ≡ who).

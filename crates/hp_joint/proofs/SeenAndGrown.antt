@@ -45,7 +45,8 @@ module _ (count absent : ℕ) (pools : List PoolLine) (first start now : Joint) 
       abbrev SeenOf : List LogRecord → List AskLog → List Course → Type 0
       SeenOf log asks courses = AreSeen (length log) (seen_by_lines log asks none_made courses)
 
-      its : (lines : List Course) → SeenOf (start.segs.log ++ more) (start.segs.asks ++ others) lines → SeenOf now.segs.log now.segs.asks lines
+      its : (lines : List Course) → SeenOf (start.segs.log ++ more) (start.segs.asks ++ others) lines
+          → SeenOf now.segs.log now.segs.asks lines
       its lines seen =
           subst (λ log. SeenOf log now.segs.asks lines) (sym log_is)
           (subst (λ asks. SeenOf (start.segs.log ++ more) asks lines) (sym asks_are) seen)
@@ -59,7 +60,8 @@ module _ (count absent : ℕ) (pools : List PoolLine) (first start now : Joint) 
           (within_start count absent pools first start now is_first to_start who old new trace line) courses answered seen)
 
       -- and one line more shows no less
-      pub seen_goes_on : (workload : Workload) (standing : Standing) (course : Course) → course.line.participant ≡ who → course.trace ≡ trace
+      pub seen_goes_on : (workload : Workload) (standing : Standing) (course : Course) → course.line.participant ≡ who
+          → course.trace ≡ trace
           → old.trace ≡ trace_of (courses_of who courses) → IsLineBuilt who course.line.act → IsDone workload standing course
           → SeenOf now.segs.log now.segs.asks (courses ++ course ∷ [])
       seen_goes_on workload standing course own same so_far built done =
@@ -87,17 +89,20 @@ module _ (count absent : ℕ) (pools : List PoolLine) (first start now : Joint) 
     -- each heap grew by what was granted for it
     module _ (courses : List Course) (index : ℕ)
         (grown : grown_runs (history_by index none_made courses) ≡ granted_runs index start.segs.asks 1 start.segs.log) where
-      pub grown_goes_on : (workload : Workload) (standing : Standing) (course : Course) → course.trace ≡ trace → IsDone workload standing course
+      pub grown_goes_on : (workload : Workload) (standing : Standing) (course : Course) → course.trace ≡ trace
+          → IsDone workload standing course
           → grown_runs (history_by index none_made (courses ++ course ∷ [])) ≡ granted_runs index now.segs.asks 1 now.segs.log
       grown_goes_on workload standing course same done =
           lines.grown_goes_on start.segs.log more start.segs.asks others now.segs log_is asks_are
           (line_later count absent pools first start now is_first to_start who old new trace line) who
-          (length (numbered_in old.trace)) trace (line_settled count absent pools first start now is_first to_start who old new trace line) index
+          (length (numbered_in old.trace)) trace
+          (line_settled count absent pools first start now is_first to_start who old new trace line) index
           workload standing courses course same done grown
 
       pub grown_stays : trace ≡ [] → grown_runs (history_by index none_made courses) ≡ granted_runs index now.segs.asks 1 now.segs.log
       grown_stays nothing =
           lines.grown_stays start.segs.log more start.segs.asks others now.segs log_is asks_are
           (line_later count absent pools first start now is_first to_start who old new trace line) who
-          (length (numbered_in old.trace)) trace (line_settled count absent pools first start now is_first to_start who old new trace line) index
+          (length (numbered_in old.trace)) trace
+          (line_settled count absent pools first start now is_first to_start who old new trace line) index
           courses nothing grown

@@ -79,7 +79,8 @@ lines_append log asks made (first ∷ courses) course =
     let shown = seen_in log asks first.line.participant (made first.line.participant + 1) first.trace in
     let next = counted_on made first.line.participant (length (numbered_in first.trace)) in
     ap (λ rest. shown ++ rest) (lines_append log asks next courses course)
-    ∙ (ap (λ n. shown ++ (seen_by_lines log asks next courses ++ seen_in log asks who (n + 1) course.trace)) (took_next made first courses who)
+    ∙ (ap (λ n. shown ++ (seen_by_lines log asks next courses ++ seen_in log asks who (n + 1) course.trace))
+    (took_next made first courses who)
     ∙ sym (append_assoc shown (seen_by_lines log asks next courses)
     (seen_in log asks who (took made who (first ∷ courses) + 1) course.trace)))
 

@@ -19,7 +19,7 @@ use Rattle.hp_proc.specs.Outcomes.{AreInTurn}
 use Rattle.hp_proc.specs.Seen.{has_failed, seen_by, seen_by_ask, seen_in}
 use Rattle.hp_joint.proofs.StandingApart.{IsSince, StandsApart}
 use Rattle.hp_joint.proofs.GrantTurns.{numbers_rise}
-use Rattle.hp_joint.proofs.Looks.{IsNoLook}
+use Rattle.hp_joint.proofs.NoLooks.{IsNoLook}
 use Rattle.hp_joint.proofs.Rising.{Rises}
 use Rattle.hp_joint.proofs.Shown.{failed_add, first_of, last_of, shown_first, shown_later, shown_rises, shown_within, shows_none, shows_two}
 use Rattle.hp_joint.proofs.UngrantedAdds.{HasItsCause, IsUngrantedAdd, caused_at}
@@ -79,7 +79,8 @@ module _ (who before base start : ℕ) (segs : SegsView) (none : IsUngrantedAdd 
 module _ (who before base start : ℕ) (segs : SegsView) (sound : IsSound segs) (alone : segs.growth ≡ None)
     (stands : StandsApart who before base start segs) (turn : AreInTurn segs.asks)
     (none : IsUngrantedAdd segs.log segs.asks start → ⊥)
-    (behind : (place : ℕ) (entry : AskLog) → slice_get segs.asks place ≡ Some entry → entry.from ≡ who → before < entry.number → base ≤ place)
+    (behind : (place : ℕ) (entry : AskLog) → slice_get segs.asks place ≡ Some entry → entry.from ≡ who → before < entry.number
+    → base ≤ place)
   where
     settled : AreSettled segs.log segs.asks None
     settled = subst (AreSettled segs.log segs.asks) alone sound.asks.settled
@@ -175,4 +176,5 @@ module _ (who before base start : ℕ) (segs : SegsView) (sound : IsSound segs) 
     asking_line_seen trace looks =
         trace_rises trace (before + 1) (omega arith) looks start stands.log
         (λ place entry heap here own above shown.
-        first_since who before base start segs none entry (stands.since place entry (behind place entry here own (omega (arith, above))) here) heap)
+        first_since who before base start segs none entry
+        (stands.since place entry (behind place entry here own (omega (arith, above))) here) heap)

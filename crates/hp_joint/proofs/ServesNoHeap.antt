@@ -1,19 +1,22 @@
 -- Who serves gives no heap back, and stays attached.
-use Rattle.std.proofs.Common.{◌≡◌, ◌∙◌, ℕ, zero, suc, Bool, true, false, true≢false, ◌||◌, List, [], ◌∷◌, ◌++◌, Some, refl, sym, ap, subst}
+use Rattle.std.proofs.Common.{◌≡◌, ◌∙◌, ℕ, zero, suc, Bool, true, false, true≢false, ◌||◌, nat_lt, List, [], ◌∷◌, ◌++◌, length, Some, if◌then◌else◌, refl, sym, ap, subst}
 use Rattle.std.proofs.lemmas.Option.{none-some}
 use Rattle.hp_base.specs.Mapping.{is_done}
+use Rattle.hp_base.specs.declared.caught.Caught.{Caught}
+use Rattle.hp_base.specs.declared.caught.Caught.TheVariants as caught
 use Rattle.hp_core.specs.Core.{Core}
 use Rattle.hp_core.specs.declared.event.CoreEvent.{CoreEvent}
 use Rattle.hp_core.specs.declared.out.Out.{Out}
 use Rattle.hp_frame.specs.declared.frame.Frame.{Frame}
 use Rattle.hp_frame.specs.declared.message.Body.{Body}
 use Rattle.hp_base.specs.declared.plan_entry.PlanEntry.{PlanEntry}
-use Rattle.hp_hall.specs.Mail.{MailStep}
+use Rattle.hp_hall.specs.Mail.{MailStep, Notes}
+use Rattle.hp_hall.specs.declared.note.Note.{Note}
 use Rattle.hp_segs.specs.SegsView.{SegsView}
-use Rattle.hp_proc.specs.Coordinating.{IsAnswered, IsCarried, IsCoreServed, IsHanded, IsHandled, IsMapped, IsObeyed, IsRested, IsServed, IsSettled}
+use Rattle.hp_proc.specs.Coordinating.{IsAnswered, IsCarried, IsCoreServed, IsHanded, IsHandled, IsMapped, IsObeyed, IsPolled, IsRested, IsServed, IsSettled, loads_of}
 use Rattle.hp_proc.specs.Party.{Party}
 use Rattle.hp_proc.specs.Posting.{AreTold, IsPosted, IsToldOne, is_told, syncs_after}
-use Rattle.hp_proc.specs.Serving.{IsFollowed, IsHeeded, IsMemberServed, IsTold, takes_segments}
+use Rattle.hp_proc.specs.Serving.{IsFollowed, IsHeeded, IsMemberServed, IsTold, acks_behind}
 use Rattle.hp_solo.specs.Served.{ServesOn}
 use Rattle.hp_joint.proofs.HeapGivers.{GiveNoHeap, IsNoGive}
 
@@ -76,23 +79,43 @@ is_posted count party after answer steps (IsPosted.answers to number what good f
 is_posted count party after answer steps (IsPosted.nobody to number what good is asker did after_is) =
     leaves_same party after steps after_is did
 
+-- WHAT IS NOTED
+
+acks_none : (caught : Caught) (records : ℕ) → GiveNoHeap (acks_behind caught records)
+acks_none caught.Done records = (tt, tt)
+acks_none (caught.Refused row call) records = tt
+acks_none (caught.Elsewhere row call got) records = tt
+
+noted_if : (is : Bool) (note : Note) → GiveNoHeap (if is then Notes note ∷ [] else [])
+noted_if true note = (tt, tt)
+noted_if false note = tt
+
+loads_none : (count : ℕ) (acks : List ℕ) (n : ℕ) → GiveNoHeap (loads_of count acks n)
+unfolding loads_of
+loads_none count acks zero = tt
+loads_none count acks (suc n) = none_both (loads_of count acks n) _ (loads_none count acks n) (noted_if (nat_lt n count) _)
+
 -- WHAT ITS COORDINATOR DOES
 
-handed : (event : CoreEvent) (core next : Core) (taken : SegsView) (steps more : List MailStep) (answer : Out)
-    → steps ≡ takes_segments taken ∷ more → IsHanded event core next taken more (Some answer) → GiveNoHeap steps
-handed event core next taken steps more answer begins (IsHanded.handed did next_is is) =
-    subst GiveNoHeap (sym begins) (tt, subst GiveNoHeap (sym did) (tt, tt))
-handed event core next taken steps more answer begins (IsHanded.no_room did next_is is) = absurd (none-some answer (sym is))
+handed : (event : CoreEvent) (core next : Core) (taken : SegsView) (more : List MailStep) (answer : Out)
+    → IsHanded event core next taken more (Some answer) → GiveNoHeap more
+handed event core next taken more answer (IsHanded.handed did next_is is) = subst GiveNoHeap (sym did) (tt, tt)
+handed event core next taken more answer (IsHanded.no_room did next_is is) = absurd (none-some answer (sym is))
 
 still_true : (was is : Bool) → was ≡ true → (was || is) ≡ true
 still_true true is joined = refl
 still_true false is joined = cc
 
 mapped : (party after : Party) (steps : List MailStep) (answer : Out) → IsMapped party after steps (Some answer) → Leaves party after steps
-mapped party after steps answer (IsMapped.maps core next taken caught table now more core_is did caught_up is_handed after_is) = record {
-  none = handed _ core next taken steps more answer did is_handed;
-  joined = λ joined. ap (λ (party : Party). party.joined) after_is ∙ still_true party.joined (is_done caught) joined;
-}
+mapped party after steps answer (IsMapped.maps core next taken caught table own now more core_is did caught_up is_handed after_is) =
+    record {
+      none = subst GiveNoHeap (sym did) (
+        tt,
+        none_both (acks_behind caught (length taken.log)) _ (acks_none caught (length taken.log))
+            (tt, (tt, handed _ core next taken more answer is_handed)),
+      );
+      joined = λ joined. ap (λ (party : Party). party.joined) after_is ∙ still_true party.joined (is_done caught) joined;
+    }
 mapped party after steps answer (IsMapped.worn taken is_worn did after_is none) = absurd (none-some answer (sym none))
 
 settled : (count : ℕ) (party after : Party) (answer : Out) (steps : List MailStep) → IsSettled count party after answer steps true
@@ -112,14 +135,27 @@ handled count event party after steps (IsHandled.carries core next answer mids f
     let rest = carried count mids _ after answer more is_carried in
     record {
       none = subst GiveNoHeap (sym did)
-          (none_both first more (handed event core next hands.taken first hands.more answer hands.begins hands.is_handed) rest.none);
+          (none_both first more
+          (subst GiveNoHeap (sym hands.begins) (tt, handed event core next hands.taken hands.more answer hands.is_handed)) rest.none);
       joined = rest.joined;
     }
 handled count event party after steps (IsHandled.stops core next core_is hands after_is is) = absurd (true≢false is)
 
+polled : (count now : ℕ) (party after : Party) (steps : List MailStep) → IsPolled count now party after steps true
+    → Leaves party after steps
+polled count now party after steps is_polled =
+    let rest = handled count _ party after is_polled.more is_polled.handled in
+    record {
+      none = subst GiveNoHeap (sym is_polled.are)
+          (none_both is_polled.looks is_polled.more
+          (subst GiveNoHeap (sym is_polled.looked_up.looked_up) (loads_none count is_polled.acks 16)) rest.none);
+      joined = rest.joined;
+    }
+
 answered : (count : ℕ) (party after : Party) (body : Body) (steps : List MailStep) → IsAnswered count party after body steps true
     → Leaves party after steps
-answered count party after body steps (IsAnswered.polls due now acks reply due_is is_handled) = handled count _ party after steps is_handled
+answered count party after body steps (IsAnswered.polls due now more reply due_is did is_polled) =
+    leaves_behind party after _ more steps tt did (polled count now party after more is_polled)
 answered count party after body steps (IsAnswered.rests reply none did after_is goes_is) = leaves_same party after steps after_is did
 answered count party after body steps (IsAnswered.hears reply did after_is goes_is) =
     leaves_by party after steps [] (ap (λ (party : Party). party.joined) after_is) did tt
@@ -132,9 +168,11 @@ obeyed count party after frame steps (IsObeyed.others body says none is_answered
 
 rested : (count : ℕ) (party after : Party) (steps : List MailStep) (moved : Bool) → IsRested count party after steps (Some moved)
     → Leaves party after steps
-rested count party after steps moved (IsRested.rests holds did after_is is) = leaves_same party after steps after_is did
-rested count party after steps moved (IsRested.polls now acks true due is_handled is) = handled count _ party after steps is_handled
-rested count party after steps moved (IsRested.polls now acks false due is_handled is) = absurd (none-some moved (sym is))
+rested count party after steps moved (IsRested.rests now holds early did after_is is) =
+    leaves_by party after steps _ (ap (λ (party : Party). party.joined) after_is) did (tt, tt)
+rested count party after steps moved (IsRested.polls now more true due did is_polled is) =
+    leaves_behind party after _ more steps tt did (polled count now party after more is_polled)
+rested count party after steps moved (IsRested.polls now more false due did is_polled is) = absurd (none-some moved (sym is))
 
 coordinates : (count : ℕ) (party after : Party) (steps : List MailStep) (moved : Bool) → IsCoreServed count party after steps (Some moved)
     → Leaves party after steps
@@ -150,7 +188,8 @@ followed : (party after : Party) (taken : SegsView) (more : List MailStep) → I
     → Leaves party after more
 followed party after taken more (IsFollowed.obeys member obeys is) = record {
   none = subst GiveNoHeap (sym obeys.done)
-      (tt, (subst IsNoGive (sym obeys.replied.posts) tt, tt));
+      (none_both (acks_behind obeys.caught (length taken.log)) _ (acks_none obeys.caught (length taken.log))
+      (tt, (subst IsNoGive (sym obeys.replied.posts) tt, tt)));
   joined = λ joined. ap (λ (party : Party). party.joined) obeys.after_is ∙ still_true party.joined (is_done obeys.caught) joined;
 }
 followed party after taken more (IsFollowed.is_out out did after_is is) =
@@ -187,3 +226,6 @@ serves_leaves count _ _ _ (ServesOn.rests party) = leaves_same party party [] re
 serves_leaves count _ _ _ (ServesOn.serves party mid after first last moved before served) =
     leaves_both party mid after first last (first ++ last) refl (serves_leaves count party mid first before)
     (served_leaves count mid after last moved served)
+serves_leaves count _ _ _ (ServesOn.pauses party after first before) =
+    leaves_both party after after first _ _ refl (serves_leaves count party after first before)
+    (leaves_by after after _ _ refl refl (tt, tt))

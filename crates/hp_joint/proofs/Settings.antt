@@ -31,6 +31,7 @@ quietly_set (Quietly.calls seat heap call answer none) = record { me = refl; dea
 quietly_set (Quietly.notes seat standing) = record { me = refl; deadline = refl; may_fail = refl }
 
 mails_set : {who : ℕ} {old new : Seat} {step : MailStep} → Mails who old new step → IsSetAs old new
+mails_set (Mails.notes seat note) = record { me = refl; deadline = refl; may_fail = refl }
 mails_set (Mails.finds_nothing seat) = record { me = refl; deadline = refl; may_fail = refl }
 mails_set (Mails.fetches seat frame) = record { me = refl; deadline = refl; may_fail = refl }
 mails_set (Mails.asks seat ask frame action posted its says) = record { me = refl; deadline = refl; may_fail = refl }

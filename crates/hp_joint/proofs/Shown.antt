@@ -179,7 +179,8 @@ module _ (log : List LogRecord) (asks : List AskLog) (settled : AreSettled log a
   rises_level x y last first same level (behind_drop is add) first_is = absurd (level.kept add)
 
   -- a later grant or refusal shows no less
-  module _ (pools : List PoolLine) (base : ℕ) (apart : AreApart base log asks) (in_time : IsNonDecreasingBy (λ (entry : AskLog). entry.at) asks)
+  module _ (pools : List PoolLine) (base : ℕ) (apart : AreApart base log asks)
+      (in_time : IsNonDecreasingBy (λ (entry : AskLog). entry.at) asks)
       (before later : ℕ) (x y : AskLog)
       (from : base ≤ before) (here : slice_get asks before ≡ Some x) (there : slice_get asks later ≡ Some y) (behind : before < later) where
     not_before : x.at ≤ y.at

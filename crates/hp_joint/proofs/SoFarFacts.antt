@@ -38,7 +38,8 @@ at_place (x ∷ xs) (suc place) within =
     let rest = at_place xs place (omega (arith, within)) in
     record { it = rest.it; there = rest.there }
 
-slots_long : (heaps : List HeapView) (segs : SegsView) → length (slots_of heaps segs) ≡ length heaps + 1
+-- there is a slot for each heap, and one more
+pub slots_long : (heaps : List HeapView) (segs : SegsView) → length (slots_of heaps segs) ≡ length heaps + 1
 slots_long [] segs = refl
 slots_long (heap ∷ heaps) segs =
     let rest = slots_long heaps segs in

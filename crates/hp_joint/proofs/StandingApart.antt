@@ -1,5 +1,5 @@
--- What stands apart while one participant does its line: beside the records of a growth that fails or is granted one outcome alone is logged,
--- what is granted is of the line, and all other armed asks are closed. What one outcome more leaves of that.
+-- What stands apart while one participant does its line: beside the records of a growth that fails or is granted one outcome alone is
+-- logged, what is granted is of the line, and all other armed asks are closed. What one outcome more leaves of that.
 use Rattle.std.proofs.Common.{◌≡◌, ◌==◌, ◌⊎◌, ℕ, ◌<◌, ◌≤◌, max, not, ◌&&◌, false, List, [], ◌∷◌, ◌++◌, length, Option, Some, None, IfSome, inl, inr, sym, subst, arith}
 use Rattle.std.specs.List.{slice_get}
 use Rattle.std.proofs.lemmas.Bool.{cond_both}
@@ -81,7 +81,8 @@ module _ (who before base start : ℕ) where
         ]
 
   pub armed_push : (armed : ℕ → Option Ask) (asks : List AskLog) (entry : AskLog)
-      → ((other : ℕ) (ask : Ask) → armed other ≡ Some ask → (ask.number ≤ closed_number asks other) ⊎ ((other ≡ who) × (before < ask.number)))
+      → ((other : ℕ) (ask : Ask) → armed other ≡ Some ask
+      → (ask.number ≤ closed_number asks other) ⊎ ((other ≡ who) × (before < ask.number)))
       → (other : ℕ) (ask : Ask) → armed other ≡ Some ask
       → (ask.number ≤ closed_number (asks ++ entry ∷ []) other) ⊎ ((other ≡ who) × (before < ask.number))
   armed_push armed asks entry old other ask is =

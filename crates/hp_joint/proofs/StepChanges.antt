@@ -125,7 +125,8 @@ module _ (count deadline since now : ℕ) (may_fail : ℕ → Option (List ℕ))
       (λ early. stays segs)
 
   unless_changes : (failure : Option Cause) → noted_failure segs ≡ failure
-      → Leaves count deadline may_fail segs (unless_failed round (record { deadline = deadline; since = since; present = now }) acks segs failure)
+      → Leaves count deadline may_fail segs (unless_failed round
+      (record { deadline = deadline; since = since; present = now }) acks segs failure)
   unless_changes (Some cause) is = cancels count deadline may_fail segs sound cause (by_failure cause is)
   unless_changes None is = agreed_changes (lowest_member_below segs.roster acks round.generation) refl
 
@@ -178,7 +179,8 @@ module _ (count deadline : ℕ) (may_fail : ℕ → Option (List ℕ)) (round : 
       (Leaves count deadline may_fail segs) (λ none. alone_changes round.kind) (λ others. stays segs)
 
 caught_changes : (count : ℕ) (may_fail : ℕ → Option (List ℕ)) (core : Core) (segs : SegsView) (caught : Caught) (now : ℕ)
-    (phase : Phase) → IsSound segs → 0 < count → HasReason (may_fail 0) caught → LeavesAfter count core.deadline may_fail segs (caught_in core segs caught now phase)
+    (phase : Phase) → IsSound segs → 0 < count → HasReason (may_fail 0) caught
+    → LeavesAfter count core.deadline may_fail segs (caught_in core segs caught now phase)
 caught_changes count may_fail core segs caught now Idle sound some reason = stays segs
 caught_changes count may_fail core segs caught now (Mapping round) sound some reason =
     let mid = after_catching 0 caught segs in
@@ -187,8 +189,8 @@ caught_changes count may_fail core segs caught now (Mapping round) sound some re
     (told_changes count core.deadline may_fail round caught now mid behind)
 caught_changes count may_fail core segs caught now (Waiting round since) sound some reason = stays segs
 
-poll_changes : (count : ℕ) (may_fail : ℕ → Option (List ℕ)) (core : Core) (segs : SegsView) (now : ℕ) (acks : List ℕ) (phase : Phase) → IsSound segs
-    → LeavesAfter count core.deadline may_fail segs (polled_in nobody_denies core segs now acks phase)
+poll_changes : (count : ℕ) (may_fail : ℕ → Option (List ℕ)) (core : Core) (segs : SegsView) (now : ℕ) (acks : List ℕ) (phase : Phase)
+    → IsSound segs → LeavesAfter count core.deadline may_fail segs (polled_in nobody_denies core segs now acks phase)
 poll_changes count may_fail core segs now acks Idle sound = served_changes count core.deadline may_fail segs core (lowest_held core.held)
 poll_changes count may_fail core segs now acks (Mapping round) sound = stays segs
 poll_changes count may_fail core segs now acks (Waiting round since) sound =

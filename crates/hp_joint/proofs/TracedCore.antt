@@ -28,7 +28,8 @@ known_brings took count seat event are (takes frame body its among says is_ask) 
     taken_said took count frame body event (All-contains (IsPost took) seat.fetched frame are among) says is_ask
 
 module _ (at : Joint) (was : AreTraced at) (who : ℕ) (old : Seat) (there : slice_get at.seats who ≡ Some old) (event : CoreEvent)
-    (core : Core) (its : old.party.core ≡ Some core) (brings : Brings (IsTaken (numbers_of at.seats)) event) (growth : HasArmedGrowth at.segs) where
+    (core : Core) (its : old.party.core ≡ Some core) (brings : Brings (IsTaken (numbers_of at.seats)) event)
+    (growth : HasArmedGrowth at.segs) where
   abbrev took : ℕ → List Done
   took = numbers_of at.seats
 

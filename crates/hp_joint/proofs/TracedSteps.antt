@@ -61,6 +61,9 @@ traced_quietly at who old new was there (Quietly.notes seat standing) =
 -- what is done with mailboxes
 traced_mails : (at : Joint) (who : ℕ) (old new : Seat) (step : MailStep) → AreTraced at → slice_get at.seats who ≡ Some old
     → IsMailStep who step at.boxes → Mails who old new step → AreTraced (behind_step who step (with_seat who new at))
+traced_mails at who old new step was there is (Mails.notes seat note) =
+    traced_on at was who old new there [] (still old) at.segs at.boxes refl (same old) refl refl
+    (boxes_on at was who old new there [] (still old))
 traced_mails at who old new step was there is (Mails.finds_nothing seat) =
     let boxes = boxes_on at was who old new there [] (still old) in
     traced_on at was who old new there [] (still old) at.segs _ refl (same old) refl refl (posts_fetched _ at.boxes boxes who)

@@ -29,7 +29,8 @@ pub record IsLevel (log : List LogRecord) (asks : List AskLog) (at : ℕ) (later
 
 -- where a grant or a refusal stands beside as many records as an earlier one, from a place of the outcomes on, it is so
 abbrev pub AreApart : ℕ → List LogRecord → List AskLog → Type 0
-AreApart base log asks = (first later : ℕ) (x y : AskLog) → base ≤ first → slice_get asks first ≡ Some x → slice_get asks later ≡ Some y → first < later
+AreApart base log asks =
+    (first later : ℕ) (x y : AskLog) → base ≤ first → slice_get asks first ≡ Some x → slice_get asks later ≡ Some y → first < later
     → is_grant_or_refusal x.outcome ≡ true → is_grant_or_refusal y.outcome ≡ true → x.at ≡ y.at → IsLevel log asks x.at y
 
 -- no grant and no refusal stands beside so many records

@@ -1,5 +1,5 @@
 -- The way of a hall of several participants: by its steps, one after another, and by what each does itself, all come to their last seats.
-use Rattle.std.proofs.Common.{◌≡◌, ◌≢◌, ◌∙◌, ℕ, Bool, true, false, eqb, ne_eqb, List, ◌∷◌, length, map, Some, None, refl, sym, ap, subst}
+use Rattle.std.proofs.Common.{◌≡◌, ◌≢◌, ◌∙◌, ℕ, Bool, true, false, eqb, ne_eqb, List, ◌∷◌, ◌++◌, length, map, Some, None, refl, sym, ap, subst}
 use Rattle.std.specs.Prelude.{slice_get}
 use Rattle.std.specs.List.{filter}
 use Rattle.std.proofs.lemmas.Bool.{cond-false, cond-true, eq-eqb}
@@ -8,9 +8,10 @@ use Rattle.hp_frame.specs.declared.frame.Frame.{Frame}
 use Rattle.hp_hall.specs.Holding.{IsArmed}
 use Rattle.hp_hall.specs.InTurn.{homes_after}
 use Rattle.hp_hall.specs.Keeping.{IsGivenBy, ShowsValues, values_after}
-use Rattle.hp_hall.specs.Mail.{MailStep, Posts, Fetches, Takes, Gives, after_step, steps_of}
+use Rattle.hp_hall.specs.Mail.{MailStep, Posts, Fetches, Takes, Gives, Notes, after_step, steps_of}
 use Rattle.hp_hall.specs.declared.kept.Kept.{Kept}
 use Rattle.hp_hall.specs.declared.kept.Kept.TheVariants.{Heap, Segments}
+use Rattle.hp_hall.specs.declared.note.Note.{Note}
 use Rattle.hp_hall.proofs.Slotted.{slice_get-set_other}
 use Rattle.hp_proc.specs.Serving.{gives_segments}
 use Rattle.hp_segs.specs.SegsView.{SegsView}
@@ -60,18 +61,19 @@ OthersLead count lasts steps who seats = (other : ℕ) (seat : Seat) → other �
 abbrev pub AllLead : ℕ → List Seat → List (ℕ × MailStep) → List Seat → Type 0
 AllLead count lasts steps seats = (who : ℕ) (seat : Seat) → slice_get seats who ≡ Some seat → Leads count lasts steps who seat
 
--- one of them has taken the segment value, and is to give it back
+-- one of them has taken the segment value, and is to give it back behind some notes
 pub record IsHolding (count : ℕ) (lasts : List Seat) (steps : List (ℕ × MailStep)) (at : Joint) (who : ℕ) : Type 0 where
   pub old : Seat
   pub mid : Seat
   pub last : Seat
   pub given : SegsView
+  pub held : List Note
   pub rest : List MailStep
   pub there : slice_get at.seats who ≡ Some old
   pub handles : Handles count who old mid at.segs given
   pub last_is : slice_get lasts who ≡ Some last
   pub path : Path count who mid last rest
-  pub are : steps_of who steps ≡ gives_segments given ∷ rest
+  pub are : steps_of who steps ≡ map Notes held ++ (gives_segments given ∷ rest)
 
 -- where all stand: the value is at home, or one holds it
 pub data IsUnderWay (count : ℕ) (lasts : List Seat) (steps : List (ℕ × MailStep)) (at : Joint) (homes : List Bool) : Type 0 where
@@ -80,7 +82,8 @@ pub data IsUnderWay (count : ℕ) (lasts : List Seat) (steps : List (ℕ × Mail
       → IsUnderWay count lasts steps at homes
 
 -- where a step leads
-pub record IsBehind (count : ℕ) (lasts : List Seat) (who : ℕ) (step : MailStep) (steps : List (ℕ × MailStep)) (at : Joint) (values : List Kept) (homes : List Bool) : Type 0 where
+pub record IsBehind (count : ℕ) (lasts : List Seat) (who : ℕ) (step : MailStep) (steps : List (ℕ × MailStep)) (at : Joint)
+    (values : List Kept) (homes : List Bool) : Type 0 where
   pub new : Joint
   pub runs : Runs count at new
   pub size : length new.seats ≡ length at.seats
@@ -92,7 +95,8 @@ pub record IsBehind (count : ℕ) (lasts : List Seat) (who : ℕ) (step : MailSt
 -- WHAT STEPS LEAVE OF THE SLOT
 
 -- what was taken out of the slot of the segment value is that
-pub taken_is : (values : List Kept) (segs taken : SegsView) → Keeps values segs → slice_get values MAX_HEAPS ≡ Some (Segments taken) → taken ≡ segs
+pub taken_is : (values : List Kept) (segs taken : SegsView) → Keeps values segs → slice_get values MAX_HEAPS ≡ Some (Segments taken)
+    → taken ≡ segs
 taken_is values segs taken keeps shows =
     let same : Segments taken ≡ Segments segs = some_same (Segments taken) (Segments segs) (sym shows ∙ keeps) in
     cc
@@ -104,7 +108,8 @@ not_heap values segs number heap keeps shows same =
     some_same (Heap heap) (Segments segs) (sym shows ∙ ap (slice_get values) same ∙ keeps) in
     cc
 
-not_given_heap : (values : List Kept) (segs : SegsView) (who number : ℕ) (heap : _) → Keeps values segs → ShowsValues who (Gives number (Heap heap)) values
+not_given_heap : (values : List Kept) (segs : SegsView) (who number : ℕ) (heap : _) → Keeps values segs
+    → ShowsValues who (Gives number (Heap heap)) values
     → number ≢ MAX_HEAPS
 not_given_heap values segs who number heap keeps shows same =
     let was : shows.before ≡ Segments segs =
@@ -136,6 +141,7 @@ heap_leaves who (Takes number (Segments taken)) values homes segs keeps shows of
 heap_leaves who (Gives number (Segments given)) values homes segs keeps shows of_heap = absurd of_heap
 heap_leaves who (Posts to frame action posted) values homes segs keeps shows of_heap = absurd of_heap
 heap_leaves who (Fetches frame) values homes segs keeps shows of_heap = absurd of_heap
+heap_leaves who (Notes note) values homes segs keeps shows of_heap = absurd of_heap
 
 -- so does one with mailboxes
 leaves_all : (step : MailStep) (values : List Kept) (homes : List Bool) → values_after step values ≡ values → homes_after step homes ≡ homes
@@ -147,6 +153,7 @@ leaves_all step values homes values_are homes_are = record {
 
 pub mail_leaves : (who : ℕ) (old new : Seat) (step : MailStep) (values : List Kept) (homes : List Bool) → Mails who old new step
     → LeavesSegs step values homes
+mail_leaves who _ _ _ values homes (Mails.notes seat note) = leaves_all (Notes note) values homes refl refl
 mail_leaves who _ _ _ values homes (Mails.finds_nothing seat) = leaves_all (Fetches None) values homes refl refl
 mail_leaves who _ _ _ values homes (Mails.fetches seat frame) = leaves_all (Fetches (Some frame)) values homes refl refl
 mail_leaves who _ _ _ values homes (Mails.asks seat ask frame action posted is says) =
@@ -162,3 +169,4 @@ heap_boxes who (Takes number kept) boxes of_heap = refl
 heap_boxes who (Gives number kept) boxes of_heap = refl
 heap_boxes who (Posts to frame action posted) boxes of_heap = absurd of_heap
 heap_boxes who (Fetches frame) boxes of_heap = absurd of_heap
+heap_boxes who (Notes note) boxes of_heap = absurd of_heap

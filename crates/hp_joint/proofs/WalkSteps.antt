@@ -1,8 +1,9 @@
 -- One step of a hall, made by a participant whose further way is known: where it leaves all participants.
-use Rattle.std.proofs.Common.{◌≡◌, ◌≢◌, ◌∙◌, ℕ, List, [], ◌∷◌, length, Some, refl, sym, ap, subst}
+use Rattle.std.proofs.Common.{◌≡◌, ◌≢◌, ◌∙◌, ℕ, List, [], ◌∷◌, ◌++◌, length, map, Some, refl, sym, ap, subst}
 use Rattle.std.specs.Prelude.{slice_get}
 use Rattle.hp_frame.specs.declared.frame.Frame.{Frame}
-use Rattle.hp_hall.specs.Mail.{IsMailStep, MailStep, after_step}
+use Rattle.hp_hall.specs.Mail.{IsMailStep, MailStep, Notes, after_step}
+use Rattle.hp_hall.specs.declared.note.Note.{Note}
 use Rattle.hp_proc.specs.Serving.{gives_segments, takes_segments}
 use Rattle.hp_segs.specs.SegsView.{SegsView}
 use Rattle.std.proofs.lemmas.List.{length-set}
@@ -63,9 +64,10 @@ pub data IsNext (count who : ℕ) (at : Joint) (last : Seat) (step : MailStep) (
   mails : (new : Joint) (seat before : Seat) → Reaches count who at new seat (after_step who step at.boxes) → Mails who before seat step
       → Path count who seat last rest
       → IsNext count who at last step rest
-  -- it takes the segment value, which it gives back with its next step
-  takes : (new : Joint) (seat mid : Seat) (taken given : SegsView) (more : List MailStep) → Reaches count who at new seat at.boxes
-      → step ≡ takes_segments taken → rest ≡ gives_segments given ∷ more → Handles count who seat mid taken given
+  -- it takes the segment value, which it gives back with the next step that is no note
+  takes : (new : Joint) (seat mid : Seat) (taken given : SegsView) (held : List Note) (more : List MailStep)
+      → Reaches count who at new seat at.boxes
+      → step ≡ takes_segments taken → rest ≡ map Notes held ++ (gives_segments given ∷ more) → Handles count who seat mid taken given
       → Path count who mid last more → IsNext count who at last step rest
 
 module _ (count who : ℕ) (at : Joint) (step : MailStep) (rest : List MailStep) (is : IsMailStep who step at.boxes) where
@@ -86,10 +88,10 @@ module _ (count who : ℕ) (at : Joint) (step : MailStep) (rest : List MailStep)
       let its = subst (Mails who old new) first_is does in
       IsNext.mails (behind_step who step (with_seat who new mid)) new old
       (reaches_mail count who at mid old at.boxes here new step is its) its (subst (Path count who new last) rest_is path)
-  next_from mid _ _ _ are here (Path.handles old new last taken given steps does path) =
+  next_from mid _ _ _ are here (Path.handles old new last taken given held steps does path) =
       let first_is : step ≡ takes_segments taken = cc in
-      let rest_is : rest ≡ gives_segments given ∷ steps = cc in
-      IsNext.takes mid old new taken given steps here first_is rest_is does path
+      let rest_is : rest ≡ map Notes held ++ (gives_segments given ∷ steps) = cc in
+      IsNext.takes mid old new taken given held steps here first_is rest_is does path
 
   -- what the first step of its further way is
   pub next_step : (seat last : Seat) → slice_get at.seats who ≡ Some seat → Path count who seat last (step ∷ rest)
@@ -105,7 +107,7 @@ module _ (count who : ℕ) (at : Joint) where
       rests_from (with_seat who new mid) new last steps are (reaches_quietly count who at mid old at.boxes here new does) path
   rests_from mid _ _ _ are here (Path.holds seat last first steps of_heap path) = cc
   rests_from mid _ _ _ are here (Path.mails old new last first steps does path) = cc
-  rests_from mid _ _ _ are here (Path.handles old new last taken given steps does path) = cc
+  rests_from mid _ _ _ are here (Path.handles old new last taken given held steps does path) = cc
 
   pub at_rest : (seat last : Seat) → slice_get at.seats who ≡ Some seat → Path count who seat last []
       → (new : Joint) × Reaches count who at new last at.boxes

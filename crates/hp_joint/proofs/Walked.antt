@@ -1,19 +1,20 @@
 -- All steps of a hall of several participants, one after another, are a run that leads each of them to its last seat.
-use Rattle.std.proofs.Common.{◌≡◌, ◌≢◌, ◌⊎◌, ◌∙◌, ℕ, inl, inr, zero, suc, ◌<◌, ◌≤◌, Bool, false, List, [], ◌∷◌, length, Some, refl, sym, ap, subst, arith, ⊎_elim}
+use Rattle.std.proofs.Common.{◌≡◌, ◌≢◌, ◌⊎◌, ◌∙◌, ℕ, inl, inr, zero, suc, ◌<◌, ◌≤◌, Bool, false, List, [], ◌∷◌, ◌++◌, length, map, Some, refl, sym, ap, subst, arith, ⊎_elim}
 use Rattle.std.specs.Prelude.{slice_get}
 use Rattle.std.proofs.lemmas.Bool.{cases_eq}
 use Rattle.std.proofs.lemmas.Option.{none-some, slice_get_past}
 use Rattle.hp_frame.specs.declared.frame.Frame.{Frame}
 use Rattle.hp_hall.specs.InTurn.{AreTakenInTurn, homes_after}
 use Rattle.hp_hall.specs.Keeping.{IsKeptBy, values_after}
-use Rattle.hp_hall.specs.Mail.{IsMail, MailStep, steps_of}
+use Rattle.hp_hall.specs.Mail.{IsMail, MailStep, Notes, steps_of}
 use Rattle.hp_hall.specs.declared.kept.Kept.{Kept}
+use Rattle.hp_hall.specs.declared.note.Note.{Note}
 use Rattle.hp_proc.specs.Serving.{gives_segments}
 use Rattle.hp_segs.specs.SegsView.{SegsView}
 use Rattle.hp_joint.specs.Seats.{Path, Seat}
 use Rattle.hp_joint.specs.Together.{Joint, Runs}
 use Rattle.hp_joint.proofs.Walk.{AllLead, IsBehind, IsGood, IsHolding, IsThere, IsUnderWay, Keeps, Leads, OthersLead, steps_here}
-use Rattle.hp_joint.proofs.WalkOn.{IsShown, free_next, given_behind, held_next}
+use Rattle.hp_joint.proofs.WalkOn.{IsShown, free_next, held_next, holder_behind}
 use Rattle.hp_joint.proofs.WalkSteps.{at_rest, next_step}
 
 -- runs one after another
@@ -47,7 +48,8 @@ below_or_past (suc place) (suc count) =
     (below_or_past place count)
 
 -- a joint state is its parts
-joint_is : (at : Joint) (seats : List Seat) (segs : SegsView) (boxes : List (List Frame)) → at.seats ≡ seats → at.segs ≡ segs → at.boxes ≡ boxes
+joint_is : (at : Joint) (seats : List Seat) (segs : SegsView) (boxes : List (List Frame)) → at.seats ≡ seats → at.segs ≡ segs
+    → at.boxes ≡ boxes
     → at ≡ record { seats = seats; segs = segs; boxes = boxes }
 joint_is at seats segs boxes seats_are segs_is boxes_are =
     ap (λ (seats : List Seat). record { seats = seats; segs = at.segs; boxes = at.boxes }) seats_are
@@ -60,7 +62,8 @@ module _ (count : ℕ) (lasts : List Seat) where
   module _ (who : ℕ) (step : MailStep) (steps : List (ℕ × MailStep)) (at : Joint) (values : List Kept) (homes : List Bool)
       (shown : IsShown who step at values homes) (within : who < length at.seats) where
     -- the next step of one whose way is known
-    its_way : (seat : Seat) (lead : Leads count lasts ((who, step) ∷ steps) who seat) → Path count who seat lead.last (step ∷ steps_of who steps)
+    its_way : (seat : Seat) (lead : Leads count lasts ((who, step) ∷ steps) who seat)
+        → Path count who seat lead.last (step ∷ steps_of who steps)
     its_way seat lead = subst (Path count who seat lead.last) (steps_here who step steps) lead.path
 
     held_on : (holder : ℕ) → IsThere homes false → IsHolding count lasts ((who, step) ∷ steps) at holder
@@ -68,9 +71,10 @@ module _ (count : ℕ) (lasts : List Seat) where
     held_on holder there holding others =
         ⊎_elim
         (λ (same : holder ≡ who).
-        given_behind count lasts who step steps at values homes shown there
-        (subst (IsHolding count lasts ((who, step) ∷ steps) at) same holding)
-        (subst (λ (holder : ℕ). OthersLead count lasts ((who, step) ∷ steps) holder at.seats) same others))
+        let its : IsHolding count lasts ((who, step) ∷ steps) at who =
+        subst (IsHolding count lasts ((who, step) ∷ steps) at) same holding in
+        holder_behind count lasts who step steps at values homes shown there its
+        (subst (λ (holder : ℕ). OthersLead count lasts ((who, step) ∷ steps) holder at.seats) same others) its.held refl)
         (λ (beside : holder ≢ who).
         let seat = get_there at.seats who within in
         let lead = others who seat.0 (λ same. beside (sym same)) seat.1 in
@@ -82,7 +86,8 @@ module _ (count : ℕ) (lasts : List Seat) where
     step_behind (IsUnderWay.free there leads) =
         let seat = get_there at.seats who within in
         let lead = leads who seat.0 seat.1 in
-        free_next count lasts who step steps at values homes shown there (λ other found beside is. leads other found is) lead.last lead.there
+        free_next count lasts who step steps at values homes shown there
+        (λ other found beside is. leads other found is) lead.last lead.there
         (next_step count who at step (steps_of who steps) shown.mail seat.0 lead.last seat.1 (its_way seat.0 lead))
     step_behind (IsUnderWay.held holder there holding others) = held_on holder there holding others
 
@@ -145,7 +150,8 @@ module _ (count : ℕ) (lasts : List Seat) where
         (λ place.
         ⊎_elim (λ (below : place < length at.seats). rested.rested place below)
         (λ (past : length at.seats ≤ place).
-        slice_get_past rested.new.seats place (omega (arith, past, rested.size)) ∙ sym (slice_get_past lasts place (omega (arith, past, sized))))
+        slice_get_past rested.new.seats place (omega (arith, past, rested.size))
+        ∙ sym (slice_get_past lasts place (omega (arith, past, sized))))
         (below_or_past place (length at.seats))) in
         let new_is : rested.new ≡ record { seats = lasts; segs = at.segs; boxes = at.boxes } =
         joint_is rested.new lasts at.segs at.boxes seats rested.segs rested.boxes in
@@ -153,10 +159,12 @@ module _ (count : ℕ) (lasts : List Seat) where
 
   -- ALL STEPS
 
+  never_empty : (held : List Note) (given : SegsView) (rest : List MailStep) → [] ≢ map Notes held ++ (gives_segments given ∷ rest)
+  never_empty [] given rest same = cc
+  never_empty (note ∷ notes) given rest same = cc
+
   nobody_holds : (at : Joint) (who : ℕ) → IsHolding count lasts [] at who → ⊥
-  nobody_holds at who holding =
-      let wrong : [] ≡ gives_segments holding.given ∷ holding.rest = holding.are in
-      cc
+  nobody_holds at who holding = never_empty holding.held holding.given holding.rest holding.are
 
   -- no step is left
   none_left : (at : Joint) (values : List Kept) (homes : List Bool) → length at.seats ≡ length lasts → Keeps values at.segs → IsGood at.segs
@@ -167,7 +175,8 @@ module _ (count : ℕ) (lasts : List Seat) where
 
   -- behind one step the way goes on
   arrives_on : (who : ℕ) (step : MailStep) (steps : List (ℕ × MailStep)) (at : Joint) (boxes : List (List Frame)) (values later : List Kept)
-      (homes : List Bool) (here : IsBehind count lasts who step steps at values homes) → Arrives here.new boxes later → Arrives at boxes later
+      (homes : List Bool) (here : IsBehind count lasts who step steps at values homes) → Arrives here.new boxes later
+      → Arrives at boxes later
   arrives_on who step steps at boxes values later homes here on = record {
     segs = on.segs;
     runs = runs_then count at here.new (record { seats = lasts; segs = on.segs; boxes = boxes }) here.runs on.runs;
@@ -177,7 +186,8 @@ module _ (count : ℕ) (lasts : List Seat) where
 
   pub arrives : (steps : List (ℕ × MailStep)) (at : Joint) (boxes : List (List Frame)) (values later : List Kept) (homes last : List Bool)
       → length at.seats ≡ count → length lasts ≡ count → IsMail steps at.boxes boxes → IsKeptBy count steps values later
-      → AreTakenInTurn steps homes last → Keeps values at.segs → IsGood at.segs → IsUnderWay count lasts steps at homes → Arrives at boxes later
+      → AreTakenInTurn steps homes last → Keeps values at.segs → IsGood at.segs → IsUnderWay count lasts steps at homes
+      → Arrives at boxes later
   arrives [] at boxes values later homes last sized lasts_sized mail kept turns keeps good under_way =
       subst (λ (boxes : List (List Frame)). Arrives at boxes later) (sym mail)
       (subst (Arrives at at.boxes) (sym kept) (none_left at values homes (sized ∙ sym lasts_sized) keeps good under_way))
@@ -188,4 +198,5 @@ module _ (count : ℕ) (lasts : List Seat) where
       (record { keeps = keeps; good = good; mail = mail.0; shows = kept.0.shows; home = turns.0 }) within under_way in
       arrives_on step.0 step.1 steps at boxes values later homes here
       (arrives steps here.new boxes (values_after step.1 values) later (homes_after step.1 homes) last (here.size ∙ sized) lasts_sized
-      (subst (λ (now : List (List Frame)). IsMail steps now boxes) (sym here.boxes) mail.1) kept.1 turns.1 here.keeps here.good here.under_way)
+      (subst (λ (now : List (List Frame)). IsMail steps now boxes) (sym here.boxes) mail.1)
+      kept.1 turns.1 here.keeps here.good here.under_way)

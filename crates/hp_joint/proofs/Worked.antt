@@ -1,5 +1,5 @@
 -- Worked values: two participants before their first step, some of their steps and what they leave.
-use Rattle.std.proofs.Common.{◌≡◌, ℕ, zero, suc, ◌^◌, true, false, List, [], ◌∷◌, Option, Some, None, refl, sym, subst, arith}
+use Rattle.std.proofs.Common.{◌≡◌, ◌≢◌, ℕ, zero, suc, ◌^◌, true, false, List, [], ◌∷◌, Option, Some, None, refl, sym, subst, arith}
 use Rattle.std.specs.Prelude.{slice_get}
 use Rattle.std.proofs.lemmas.List.Elements.{All-nil}
 use Rattle.hp_base.specs.PoolLines.{ArePoolLines}
@@ -8,7 +8,8 @@ use Rattle.hp_base.specs.declared.pool_line.PoolLine.{PoolLine}
 use Rattle.hp_base.specs.declared.row.Run.{Run}
 use Rattle.hp_base.specs.declared.tag.Tag.{Tag}
 use Rattle.hp_frame.specs.declared.frame.Frame.{Frame}
-use Rattle.hp_hall.specs.Mail.{Fetches, Posts}
+use Rattle.hp_hall.specs.Mail.{Fetches, MailStep, Notes, Posts}
+use Rattle.hp_hall.specs.declared.note.Note.TheVariants.{Acked, Read}
 use Rattle.hp_hall.specs.declared.posted.Posted.TheVariants.{Lost, Sent}
 use Rattle.hp_heap.specs.declared.entry.HeapAnswer.TheVariants as gives
 use Rattle.hp_heap.specs.declared.entry.HeapCall.TheVariants as call
@@ -21,7 +22,7 @@ use Rattle.hp_segs.proofs.NewSound.{sound_new}
 use Rattle.hp_segs.proofs.SoundSteps.{sound_armed}
 use Rattle.hp_segs.specs.LaterSteps.{after_arm, after_leave, armed_ask}
 use Rattle.hp_segs.specs.Opening.{opening}
-use Rattle.hp_segs.specs.SegsView.{is_member}
+use Rattle.hp_segs.specs.SegsView.{SegsView, is_member}
 use Rattle.hp_segs.specs.Sound.{IsSound}
 use Rattle.hp_segs.specs.Steps.{after_retire}
 use Rattle.hp_proc.proofs.Unarmed.{armed_new}
@@ -34,8 +35,9 @@ use Rattle.hp_proc.specs.Frames.{Says}
 use Rattle.hp_proc.specs.Histories.{run_cut}
 use Rattle.hp_proc.specs.Outcomes.{ask_of}
 use Rattle.hp_proc.specs.Party.{after_call, opening_party, with_standing}
+use Rattle.hp_proc.specs.Serving.{gives_segments, takes_segments}
 use Rattle.hp_proc.specs.declared.pages_asked.PagesAsked.{PagesAsked}
-use Rattle.hp_joint.specs.Seats.{Handles, Mails, Quietly, Seat, armed_with, having_done}
+use Rattle.hp_joint.specs.Seats.{Handles, IsOfHeap, Mails, Path, Quietly, Seat, armed_with, having_done}
 use Rattle.hp_joint.specs.Together.{IsFirst, IsFirstSeat, Joint, Runs, Steps, behind_step, with_seat, with_segs}
 use Rattle.hp_joint.proofs.Returned.{cuts_by_all}
 use Rattle.hp_joint.proofs.ReturnedBySteps.{gone_in}
@@ -77,6 +79,29 @@ found = Called 0 (call.Find tag) gives.Nothing
 abbrev cut : Done
 cut = Called 0 (call.Cut 128) (gives.Pages run)
 
+-- who holds the segment value makes notes until it gives it back, and fetches nothing
+no_take : (who : ℕ) (old new : Seat) (step : MailStep) (segs : SegsView) → Mails who old new step → step ≢ takes_segments segs
+no_take who _ _ _ segs (Mails.notes seat note) same = cc
+no_take who _ _ _ segs (Mails.finds_nothing seat) same = cc
+no_take who _ _ _ segs (Mails.fetches seat frame) same = cc
+no_take who _ _ _ segs (Mails.asks seat ask frame action posted its says) same = cc
+no_take who _ _ _ segs (Mails.tells seat heap run frame action posted says) same = cc
+no_take who _ _ _ segs (Mails.speaks seat to frame body action posted nothing says) same = cc
+
+never_fetches : (count who : ℕ) (old new : Seat) (segs : SegsView) (steps more : List MailStep) → Path count who old new steps
+    → steps ≢ takes_segments segs ∷ Fetches None ∷ more
+never_fetches count who _ _ segs _ more (Path.ends seat) same = cc
+never_fetches count who _ _ segs _ more (Path.quietly old mid new steps does path) same =
+    never_fetches count who mid new segs steps more path same
+never_fetches count who _ _ segs _ more (Path.holds old new step steps of_heap path) same =
+    let step_is : step ≡ takes_segments segs = cc in
+    subst IsOfHeap step_is of_heap
+never_fetches count who _ _ segs _ more (Path.mails old mid new step steps does path) same =
+    let step_is : step ≡ takes_segments segs = cc in
+    absurd (no_take who old mid step segs does step_is)
+never_fetches count who _ _ segs _ more (Path.handles old mid new taken given [] steps does path) same = cc
+never_fetches count who _ _ segs _ more (Path.handles old mid new taken given (note ∷ held) steps does path) same = cc
+
 module _ (maps : MapsView) (context : Context) (rows : maps.rows ≡ []) (number : maps.number ≡ 0) (answers : maps.answers ≡ []) where
   abbrev seat : ℕ → Seat
   seat who = record { party = opening_party who 0 true maps [] 200 context; trace = []; fetched = []; asking = None }
@@ -116,6 +141,21 @@ module _ (maps : MapsView) (context : Context) (rows : maps.rows ≡ []) (number
 
   nobody_else : slice_get first.seats 2 ≡ None
   nobody_else = refl
+
+  -- a note is a step that leaves all as it was
+  abbrev noting : Joint
+  noting = behind_step 1 (Notes (Read 7)) (with_seat 1 (seat 1) first)
+
+  notes_once : Steps 2 first noting
+  notes_once = Steps.mails first 1 (seat 1) (seat 1) (Notes (Read 7)) refl tt (Mails.notes (seat 1) (Read 7))
+
+  note_leaves : noting ≡ first
+  note_leaves = refl
+
+  -- it may stand between the taking and the giving of the segment value
+  noted_hold : Path 2 1 (seat 1) (seat 1) (takes_segments first.segs ∷ Notes (Acked 0) ∷ gives_segments first.segs ∷ [])
+  noted_hold =
+      Path.handles (seat 1) (seat 1) (seat 1) first.segs first.segs (Acked 0 ∷ []) [] (Handles.looks (seat 1) first.segs) (Path.ends (seat 1))
 
   -- a call of a heap that cuts nothing is seen by nobody, and stands in its trace
   abbrev called : Seat

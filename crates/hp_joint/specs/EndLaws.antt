@@ -119,7 +119,8 @@ GoesOnByLine = (workload : Workload) (courses : List Course) (parties behind : L
 -- where all serve on, they have done the same lines
 abbrev pub RestsSoFar : Type 0
 RestsSoFar = (workload : Workload) (courses : List Course) (parties behind : List Party) (old new : HallView) → IsGiven workload
-    → SoFar workload courses parties old → length behind ≡ length parties → OthersServe (λ who. ⊥) workload.participants old new parties behind
+    → SoFar workload courses parties old → length behind ≡ length parties
+    → OthersServe (λ who. ⊥) workload.participants old new parties behind
     → AreHome new → IsCourse old new → SoFar workload courses behind new × MayFailAsBefore parties behind
 
 -- these are the lines of a workload with their answers, and what the hall and the participants leave

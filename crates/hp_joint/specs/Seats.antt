@@ -1,6 +1,6 @@
 -- What a participant does while others do their part, in the steps between which others may act. The rule "Together" of
 -- docs/PARTICIPANTS.md.
-use Rattle.std.specs.Prelude.{◌≡◌, ◌≢◌, ℕ, ◌+◌, ◌*◌, ◌≤◌, ⊤, Bool, true, false, List, [], ◌∷◌, ◌++◌, length, Contains, Option, Some, None}
+use Rattle.std.specs.Prelude.{◌≡◌, ◌≢◌, ℕ, ◌+◌, ◌*◌, ◌≤◌, ⊤, Bool, true, false, List, [], ◌∷◌, ◌++◌, length, map, Contains, Option, Some, None}
 use Rattle.hp_base.specs.declared.caught.Caught.{Caught}
 use Rattle.hp_base.specs.declared.plan.Action.{Action}
 use Rattle.hp_base.specs.declared.row.Run.{Run}
@@ -11,8 +11,9 @@ use Rattle.hp_core.specs.declared.event.CoreEvent.TheVariants.{Poll, SelfMapped}
 use Rattle.hp_frame.specs.declared.frame.Frame.{Frame}
 use Rattle.hp_frame.specs.declared.message.Body.{Body}
 use Rattle.hp_frame.specs.declared.message.Body.TheVariants.{Alloc, Answer, Free, Sync}
-use Rattle.hp_hall.specs.Mail.{Fetches, Gives, MailStep, Posts, Takes}
+use Rattle.hp_hall.specs.Mail.{Fetches, Gives, MailStep, Notes, Posts, Takes}
 use Rattle.hp_hall.specs.declared.kept.Kept.TheVariants.{Heap}
+use Rattle.hp_hall.specs.declared.note.Note.{Note}
 use Rattle.hp_hall.specs.declared.posted.Posted.{Posted}
 use Rattle.hp_heap.specs.declared.entry.HeapAnswer.{HeapAnswer}
 use Rattle.hp_heap.specs.declared.entry.HeapAnswer.TheVariants as gives
@@ -86,18 +87,21 @@ AsksNothing (Free from number heap address len) = ⊥
 AsksNothing (Sync generation round) = ⊤
 AsksNothing (Answer from number what code) = ⊤
 
--- what it does with mailboxes
+-- what it does with mailboxes, and what else it notes
 pub data Mails (who : ℕ) : Seat → Seat → MailStep → Type 0 where
+  notes : (seat : Seat) (note : Note) → Mails who seat seat (Notes note)
   finds_nothing : (seat : Seat) → Mails who seat seat (Fetches None)
   fetches : (seat : Seat) (frame : Frame)
       → Mails who seat (record seat { fetched = seat.fetched ++ frame ∷ [] }) (Fetches (Some frame))
   -- the ask with which it is armed goes to participant 0
-  asks : (seat : Seat) (ask : Ask) (frame : Frame) (action : Action) (posted : Posted) → seat.asking ≡ Some ask → Says frame (alloc_body ask)
+  asks : (seat : Seat) (ask : Ask) (frame : Frame) (action : Action) (posted : Posted) → seat.asking ≡ Some ask
+      → Says frame (alloc_body ask)
       → Mails who seat seat (Posts 0 frame action posted)
   -- so does the notice of a run that it gave up, by its next number
   tells : (seat : Seat) (heap : ℕ) (run : Run) (frame : Frame) (action : Action) (posted : Posted)
       → Says frame (free_body who (seat.party.asked + 1) heap run)
-      → Mails who seat (having_done (numbered_on (seat.party.asked + 1) seat.party) (GaveUp heap run ∷ []) seat) (Posts 0 frame action posted)
+      → Mails who seat (having_done (numbered_on (seat.party.asked + 1) seat.party) (GaveUp heap run ∷ []) seat)
+      (Posts 0 frame action posted)
   -- and any message that asks for nothing goes to anybody
   speaks : (seat : Seat) (to : ℕ) (frame : Frame) (body : Body) (action : Action) (posted : Posted) → AsksNothing body → Says frame body
       → Mails who seat seat (Posts to frame action posted)
@@ -116,7 +120,8 @@ pub data Handles (count who : ℕ) : Seat → Seat → SegsView → SegsView →
   steps : (seat : Seat) (segs : SegsView) (event : CoreEvent) (core : Core) → who ≡ 0 → seat.party.core ≡ Some core → Knows count seat event
       → Handles count who seat (seated (with_core (stepping event core segs).core seat.party) seat) segs (stepping event core segs).segs
   -- it catches up for its coordinator, which makes the step for that
-  maps : (seat : Seat) (segs : SegsView) (caught : Caught) (table : MapsView) (now : ℕ) (core : Core) → who ≡ 0 → seat.party.core ≡ Some core
+  maps : (seat : Seat) (segs : SegsView) (caught : Caught) (table : MapsView) (now : ℕ) (core : Core) → who ≡ 0
+      → seat.party.core ≡ Some core
       → CatchesUp segs.log seat.party.maps table caught
       → Handles count who seat
       (seated (with_core (stepping (SelfMapped caught now) core segs).core (after_catching_up caught table seat.party)) seat) segs
@@ -154,7 +159,7 @@ IsOfHeap (Takes number (Heap heap)) = ⊤
 IsOfHeap (Gives number (Heap heap)) = ⊤
 IsOfHeap _ = ⊥
 
--- one thing after another, with the steps in the hall
+-- one thing after another, with the steps in the hall; while it holds the segment value it makes notes alone
 pub data Path (count who : ℕ) : Seat → Seat → List MailStep → Type 0 where
   ends : (seat : Seat) → Path count who seat seat []
   quietly : (old mid new : Seat) (steps : List MailStep) → Quietly old mid → Path count who mid new steps → Path count who old new steps
@@ -162,5 +167,5 @@ pub data Path (count who : ℕ) : Seat → Seat → List MailStep → Type 0 whe
       → Path count who old new (step ∷ steps)
   mails : (old mid new : Seat) (step : MailStep) (steps : List MailStep) → Mails who old mid step → Path count who mid new steps
       → Path count who old new (step ∷ steps)
-  handles : (old mid new : Seat) (taken given : SegsView) (steps : List MailStep) → Handles count who old mid taken given
-      → Path count who mid new steps → Path count who old new (takes_segments taken ∷ gives_segments given ∷ steps)
+  handles : (old mid new : Seat) (taken given : SegsView) (held : List Note) (steps : List MailStep) → Handles count who old mid taken given
+      → Path count who mid new steps → Path count who old new (takes_segments taken ∷ (map Notes held ++ (gives_segments given ∷ steps)))

@@ -31,7 +31,8 @@ behind_step who step at = record { seats = at.seats; segs = at.segs; boxes = aft
 
 -- one step of one participant; the segment value that it gives back is sound
 pub data Steps (count : ℕ) : Joint → Joint → Type 0 where
-  quietly : (at : Joint) (who : ℕ) (old new : Seat) → slice_get at.seats who ≡ Some old → Quietly old new → Steps count at (with_seat who new at)
+  quietly : (at : Joint) (who : ℕ) (old new : Seat) → slice_get at.seats who ≡ Some old → Quietly old new
+      → Steps count at (with_seat who new at)
   mails : (at : Joint) (who : ℕ) (old new : Seat) (step : MailStep) → slice_get at.seats who ≡ Some old → IsMailStep who step at.boxes
       → Mails who old new step → Steps count at (behind_step who step (with_seat who new at))
   handles : (at : Joint) (who : ℕ) (old new : Seat) (given : SegsView) → slice_get at.seats who ≡ Some old
