@@ -1,0 +1,10 @@
+pub mod AttachedAlike
+pub mod EndAlike
+pub mod FailedCourses
+pub mod FailedSteps
+pub mod FailedTables
+pub mod GivenUpStays
+pub mod HeapPages
+pub mod InTables
+pub mod PagesMapped
+mod Worked

@@ -1,0 +1,11 @@
+-- The laws are lemmas.
+use Rattle.hp_agreed.proofs.FailedCourses.{failed_courses_restore}
+use Rattle.hp_agreed.proofs.FailedTables.{answering_restore, sound_logs_restore}
+use Rattle.hp_agreed.proofs.laws.restoring_law.Goals as goal
+
+pub returns : goal.returns
+returns c = record {
+  tables = sound_logs_restore;
+  answering = answering_restore;
+  states = failed_courses_restore;
+}
