@@ -1,4 +1,5 @@
--- What a run has come to: an end of its workload, and why mappings failed. The rule "Together" of docs/PARTICIPANTS.md.
+-- What a run has come to: an end of its workload, why mappings failed, and what agreement is worth. The rule "Together" of
+-- docs/PARTICIPANTS.md.
 use Rattle.std.specs.Prelude.{ℕ, List, Option}
 use Rattle.hp_heap.specs.History.{HeapView}
 use Rattle.hp_maps.specs.declared.table.Table.{Table}
@@ -6,6 +7,8 @@ use Rattle.hp_script.specs.declared.answer.Answer.{Answer}
 use Rattle.hp_script.specs.declared.workload.Workload.{Workload}
 use Rattle.hp_segs.specs.SegsView.{SegsView}
 use Rattle.hp_proc.specs.Ends.{IsSoloEnd}
+use Rattle.hp_agreed.specs.Alike.{PagesAlike, TablesAlike}
+use Rattle.hp_agreed.specs.Restored.{FailuresLeaveNoRow}
 use Rattle.hp_solo.specs.Solo.{ServerView}
 use Rattle.hp_run.specs.Failures.{AreFailuresNamed, AreRefusalsNamed, FailAsMay, FailOnce, RefuseAsMay, RefuseOnce}
 
@@ -24,8 +27,16 @@ pub record AreAsMay (workload : Workload) (servers : List ServerView) (answers :
   pub refusals : RefuseAsMay servers workload.lines.items answers
   pub refused_once : RefuseOnce workload.lines.items answers
 
+-- what agreement is worth at the end: each attached participant maps each segment in use, and so each page of each heap, alike; and a growth
+-- that failed left no row
+pub record IsAgreed (heaps : List HeapView) (segs : SegsView) (tables : List Table) : Type 0 where
+  pub alike : TablesAlike segs tables
+  pub pages : PagesAlike heaps segs tables
+  pub restored : FailuresLeaveNoRow segs.log
+
 -- an end of a workload whose lines were done one after another, in which mappings failed for such a reason
 pub record IsRunEnd (workload : Workload) (mappers : List (Option (List ℕ))) (answers : List Answer) (heaps : List HeapView)
     (segs : SegsView) (tables : List Table) : Type 0 where
   pub end : IsSoloEnd workload answers heaps segs tables
   pub named : AreNamed workload mappers answers segs
+  pub agreed : IsAgreed heaps segs tables

@@ -11,6 +11,7 @@ ghost use Rattle.hp_proc.specs.Ends.{IsSoloEnd};
 
 use crate::doing::{do_lines, do_rest};
 use crate::opening::{first_heaps, plan_of};
+use hp_agreed::{alike_law, restoring_law};
 use hp_base::{MAX_SEGMENTS, Mapper, Plan};
 use hp_hall::{HallParts, PlainHall};
 use hp_heap::Heap;
@@ -109,6 +110,8 @@ fn run_lines<'p, M: Mapper>(
     let mut hall = empty_hall(alloc, workload)?;
     come_all(alloc, workload, plan, facts, mappers, &mut hall)?;
     line_law();
+    alike_law();
+    restoring_law();
     run_in(alloc, workload, hall)
 }
 

@@ -15,6 +15,7 @@ end-requires g c =
     let workload = c.args.workload.now in
     let answers = c.in_ok-answers.answers.items in
     record {
+      drained = c.in_ok-do_rest.ensures.drained;
       there = all_in workload answers c.do_rest.new.hall
           (c.in_ok-do_rest.ensures.done workload workload.lines.items answers c.requires.runnable c.in_ok-answers.ensures.done);
     }

@@ -24,4 +24,9 @@ returns g c =
     (λ left end named. record {
       end = end;
       named = named_all workload mappers servers left.answers.items left.segs c.in_ok-come_all.ensures.come named;
+      agreed = record {
+        alike = c.alike_law.ensures.at_end workload left.answers.items left.heaps.items left.segs left.tables.items end;
+        pages = c.alike_law.ensures.pages workload left.answers.items left.heaps.items left.segs left.tables.items end;
+        restored = c.restoring_law.ensures.tables left.segs end.end.segs_sound;
+      };
     }) c.run_in.ensures.end c.run_in.ensures.named

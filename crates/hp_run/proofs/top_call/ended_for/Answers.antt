@@ -10,4 +10,5 @@ returns g c = record {
   workload = read_as_same _ _ _ c.in_ok-workload.ensures.read c.in_ok-run.ensures.workload;
   end = c.in_ok-run.ensures.end.end;
   named = c.in_ok-run.ensures.end.named;
+  agreed = c.in_ok-run.ensures.end.agreed;
 }
