@@ -14,8 +14,6 @@ mod plan_refusal;
 mod row_state;
 mod segs;
 mod table;
-#[cfg(test)]
-mod tests;
 
 pub use ask::Ask;
 pub use external_range::ExternalRange;

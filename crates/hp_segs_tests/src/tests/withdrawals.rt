@@ -1,8 +1,8 @@
 //! Asks that are taken back, failed mappings, and members that come and go.
 
 use super::{FIRST_ROW, NEW, Seen, ask_for, look, open, segs_of};
-use crate::{Cause, Closing, Outcome, Segs};
 use hp_base::MapAnswer;
+use hp_segs::{Cause, Closing, Outcome, Segs};
 use std::test::Fail;
 
 // Participant 0 takes the ask of that number back, which it is armed with.

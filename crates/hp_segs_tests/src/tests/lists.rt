@@ -1,7 +1,7 @@
 //! Pools, lists and the roster of a new value.
 
 use super::PAGE;
-use crate::{ListInfo, PoolLine, Segs};
+use hp_segs::{ListInfo, PoolLine, Segs};
 use std::test::Fail;
 
 #[test]

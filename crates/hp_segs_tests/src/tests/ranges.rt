@@ -1,8 +1,8 @@
 //! External memory.
 
 use super::{BASE, FIRST_ROW, PAGE, ask_for, open, segs_of};
-use crate::RangeFault;
 use hp_base::Row;
+use hp_segs::RangeFault;
 use std::test::Fail;
 
 // Where external memory lies.

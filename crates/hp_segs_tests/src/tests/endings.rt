@@ -3,7 +3,7 @@
 use super::{
     FIRST_ROW, FIRST_RUN, NEW, Seen, ask_for, drop_all, look, open, segs_of, table_at, take,
 };
-use crate::{Cause, LogRecord, Outcome, PlanRefusal, RowState};
+use hp_segs::{Cause, LogRecord, Outcome, PlanRefusal, RowState};
 use std::test::Fail;
 
 // Participant 1 was waited for from 0 to 200 ms.

@@ -1,7 +1,7 @@
 //! Why no run is planned.
 
 use super::{BASE, PAGE, ask_for, drop_all, grant, open, retire_page, segs_of, take_page};
-use crate::{Ask, PlanRefusal};
+use hp_segs::{Ask, PlanRefusal};
 use std::test::Fail;
 
 #[test]

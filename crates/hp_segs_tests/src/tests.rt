@@ -14,8 +14,8 @@ mod ranges;
 mod refusals;
 mod withdrawals;
 
-use crate::*;
 use hp_base::{Request, Row, Run};
+use hp_segs::*;
 use std::alloc::{AllocError, Global};
 use std::test::Fail;
 

@@ -3,7 +3,7 @@
 use super::{
     BASE, FIRST_ROW, FIRST_RUN, NEW, PAGE, Seen, ask_for, grant, look, open, segs_of, table_at,
 };
-use crate::{LogRecord, NotAll, Outcome, RowState};
+use hp_segs::{LogRecord, NotAll, Outcome, RowState};
 use std::test::Fail;
 
 #[test]

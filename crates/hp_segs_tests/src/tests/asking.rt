@@ -1,8 +1,8 @@
 //! Failed mappings, armed asks, stale asks and the roster.
 
 use super::{ask_for, open, segs_of, table_at};
-use crate::{Cause, Outcome};
 use hp_base::Row;
+use hp_segs::{Cause, Outcome};
 use std::test::Fail;
 
 // Participant 1 was waited for from 0 to 200 ms.

@@ -1,8 +1,8 @@
 //! As many segments as there can be.
 
 use super::{PAGE, ask_for, take};
-use crate::{Ask, PoolLine, Segs};
 use hp_base::Row;
+use hp_segs::{Ask, PoolLine, Segs};
 use std::test::Fail;
 
 #[test]

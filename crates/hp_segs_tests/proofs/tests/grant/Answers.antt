@@ -9,7 +9,7 @@ use Rattle.hp_segs.specs.Steps.{after_agree, after_open, after_reserve, lowest_b
 use Rattle.hp_segs.specs.declared.ask.Ask.{Ask}
 use Rattle.hp_segs.proofs.GrantLemmas.{after_granted, grant_owned, grant_unclaimed, granted_is}
 use Rattle.hp_segs.proofs.PlannedLemmas.{IsOpenPlan, open_plan}
-use Rattle.hp_segs.proofs.tests.grant.Goals as goal
+use Rattle.hp_segs_tests.proofs.tests.grant.Goals as goal
 
 record IsGrantOf (old new : SegsView) (ask : Ask) (run : Run) : Type 0 where
   same : new ≡ after_granted old ask run
