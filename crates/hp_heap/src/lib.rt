@@ -22,8 +22,6 @@ mod socket_name;
 mod state;
 mod stretch;
 mod summary;
-#[cfg(test)]
-mod tests;
 
 pub use elements::Elements;
 pub use entry::{Entry, HeapAnswer, HeapCall};

@@ -17,4 +17,3 @@ mod LeaveLemmas
 mod StayLemmas
 mod BesideLemmas
 pub mod ReadyLemmas
-mod Worked

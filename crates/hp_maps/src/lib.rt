@@ -10,8 +10,6 @@ mod planned;
 mod rows;
 mod table;
 mod telling;
-#[cfg(test)]
-mod tests;
 
 pub use laws::{
     apart_law, failed_growth_law, few_events_law, planned_law, ready_law, slot_law,

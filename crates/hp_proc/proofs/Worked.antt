@@ -12,12 +12,13 @@ use Rattle.hp_heap.specs.declared.entry.HeapAnswer.TheVariants as gives
 use Rattle.hp_log.specs.declared.log_record.LogRecord.TheVariants.{Add, Drop}
 use Rattle.hp_script.specs.declared.answer.Answer.TheVariants as answer
 use Rattle.hp_script.specs.declared.line.Act.TheVariants as act
+use Rattle.hp_script.specs.declared.options.SocketChoice.TheVariants as choose
 use Rattle.hp_segs.specs.declared.outcome.AskLog.{AskLog}
 use Rattle.hp_segs.specs.declared.outcome.Outcome.TheVariants.{Granted}
 use Rattle.hp_proc.specs.Doing.{Doing, Done, Goes, Leads}
 use Rattle.hp_proc.specs.declared.pages_asked.PagesAsked.{PagesAsked}
 use Rattle.hp_proc.specs.Doing.Done.{Called, Asked, GaveUp}
-use Rattle.hp_proc.specs.Heaps.{NamedHeap, own_first, page_sizes_for}
+use Rattle.hp_proc.specs.Heaps.{NamedHeap, heaps_for, own_first, page_sizes_for}
 use Rattle.hp_proc.specs.Allocating.{with_hint, without_hint, serving}
 use Rattle.hp_proc.specs.Freeing.{looking, freeing}
 use Rattle.hp_proc.specs.declared.searched_heap.SearchedHeap.{SearchedHeap}
@@ -70,6 +71,22 @@ heap_of index serves = record { index = index; name = []; serves = serves }
 own_heap_first : own_first 1 (heap_of 0 (Some 0) ∷ heap_of 1 (Some 1) ∷ heap_of 2 None ∷ [])
     ≡ heap_of 1 (Some 1) ∷ heap_of 0 (Some 0) ∷ []
 own_heap_first = refl
+
+-- sockets 2 and 5: a participant of neither begins with the lowest, a socket that is named has its heap alone, or none
+abbrev heaps_of_two : List NamedHeap
+heaps_of_two = heap_of 0 (Some 2) ∷ heap_of 1 (Some 5) ∷ []
+
+of_any_socket : heaps_for 5 heaps_of_two None choose.Any ≡ heap_of 1 (Some 5) ∷ heap_of 0 (Some 2) ∷ []
+of_any_socket = refl
+
+of_another_socket : heaps_for 7 heaps_of_two None choose.Any ≡ heaps_of_two
+of_another_socket = refl
+
+of_a_named_socket : heaps_for 5 heaps_of_two None (choose.Number 2) ≡ heap_of 0 (Some 2) ∷ []
+of_a_named_socket = refl
+
+of_no_socket : heaps_for 5 heaps_of_two None (choose.Number 3) ≡ []
+of_no_socket = refl
 
 abbrev tag : Tag
 tag = record { who = 0; zone = false; number = 2 }

@@ -19,9 +19,6 @@ use itoa::Buffer;
 use std::alloc::{AllocError, Global};
 use std::marker::Model;
 
-#[cfg(test)]
-mod tests;
-
 /// What a participant knows when it does a line: what the workload says, and what its earlier lines left. One that does no line is told
 /// of no workload. Own.
 #[derive(Drop)]

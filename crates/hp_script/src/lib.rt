@@ -50,6 +50,3 @@ pub use parse_fault::ParseFault;
 pub use parsing::parse;
 pub use token::Token;
 pub use workload::Workload;
-
-#[cfg(test)]
-mod tests;

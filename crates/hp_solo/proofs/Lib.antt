@@ -7,9 +7,6 @@ pub mod SoloTurns
 pub mod SoloQuiet
 pub mod SoloLooks
 pub mod SoloRises
-pub mod StageLemmas
-pub mod RetiredPage
 pub mod SoloWaits
-pub mod SoloOpened
 pub mod SoloEnds
 pub mod SoloDrained

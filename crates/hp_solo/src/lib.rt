@@ -4,8 +4,6 @@
 mod server;
 mod solo_end;
 mod solo_hall;
-#[cfg(test)]
-mod tests;
 
 pub use solo_end::SoloEnd;
 pub use solo_hall::SoloHall;

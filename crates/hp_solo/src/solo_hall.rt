@@ -7,8 +7,6 @@ mod deadlines;
 mod draining;
 mod ending;
 mod serving;
-#[cfg(test)]
-mod tests;
 mod waiting;
 
 use crate::server::{Server, places};

@@ -1,8 +1,0 @@
--- Who comes has taken in nothing.
-use Rattle.hp_solo.proofs.SoloWaits.{tied_first}
-use Rattle.hp_solo.proofs.solo_hall.tests.opening.come.Goals as goal
-
-pub back-requires-clause-tied : goal.back-requires-clause-tied
-back-requires-clause-tied c =
-    tied_first c.args.hall.now.plain c.args.me c.in_ok-participant.participant c.requires.nothing_yet c.in_ok-participant.ensures.number
-    c.in_ok-participant.ensures.tied

@@ -1,0 +1,3 @@
+mod SoloOpened
+mod RetiredPage
+mod StageLemmas

@@ -1,0 +1,106 @@
+//! How the one that does a line asks for a page for heap 0, and gives it up again: a call each.
+ghost use Rattle.std.specs.Prelude.{◌≡◌, ◌≤◌, IfOk, IfSome};
+ghost use Rattle.hp_heap.specs.Growing.{CanGrow, after_grow};
+ghost use Rattle.hp_heap.specs.Laws.{IsRunCut};
+ghost use Rattle.hp_hall.specs.HallView.{part_in};
+ghost use Rattle.hp_proc.specs.Asking.{GrowsHeld};
+ghost use Rattle.hp_solo.specs.Solo.{MayWait};
+ghost use Rattle.hp_solo.specs.SoloAsks.{IsInHand, MayAsk, MayBeginToAsk, MayGiveUp};
+
+use crate::tests::PAGE;
+use hp_base::{Caller, MemMapper, Request, Run};
+use hp_hall::{Hall, Slot};
+use hp_heap::Heap;
+use hp_proc::{PagesAsked, Participant};
+use hp_solo::SoloHall;
+use std::alloc::AllocError;
+
+/// It takes heap 0.
+pub fn take_heap(hall: &mut SoloHall<'_, MemMapper>, party: &Participant<'_, MemMapper>) -> Heap
+    requires may { MayWait hall.old party.now }
+    requires begins { MayBeginToAsk hall.old.plain party.now.me }
+    ensures may { MayAsk hall.new party.now }
+    ensures heap { IsInHand (part_in hall.new.plain party.now.me) result.plain }
+{
+    hall.take(party.number(), Slot::Heap(0)).into_heap()
+}
+
+/// It asks for a page, in which that request has a place, for the heap that it holds.
+pub fn ask_for_page(
+    hall: &mut SoloHall<'_, MemMapper>,
+    party: &mut Participant<'_, MemMapper>,
+    request: Request,
+) -> Result<Option<Run>, AllocError>
+    requires may { MayAsk hall.old party.old }
+    ensures may { MayWait hall.new party.new }
+    ensures grows { IfOk result (λ run.
+        GrowsHeld 0 run (part_in hall.old.plain party.old.me 0) (part_in hall.new.plain party.old.me 0)) }
+    ensures me { party.new.me ≡ party.old.me }
+{
+    let asked = PagesAsked {
+        heap: 0,
+        socket: 0,
+        page: PAGE,
+        request,
+    };
+    party.ask(hall, &asked)
+}
+
+// A run comes to a heap, and what can be is cut from there again.
+fn grow_and_cut(heap: &mut Heap, me: u8, run: &Run) -> Option<Run>
+    requires may { CanGrow run.now heap.old.plain }
+    requires spare { 2 ≤ heap.old.spare }
+    ensures { IfSome result (IsRunCut run.now.addr (after_grow run.now heap.old.plain)) }
+{
+    let grown = Caller {
+        participant: me,
+        number: 1,
+    };
+    let cut = Caller {
+        participant: me,
+        number: 2,
+    };
+    heap.add_run(grown, run);
+    heap.cut_pages(cut, run.addr)
+}
+
+/// It asks for a page for the heap in its hand, which has room for two calls: the page comes to the heap, and is cut from there again.
+pub fn cut_granted(
+    hall: &mut SoloHall<'_, MemMapper>,
+    party: &mut Participant<'_, MemMapper>,
+    heap: &mut Heap,
+    request: Request,
+) -> Result<Option<Run>, AllocError>
+    requires may { MayAsk hall.old party.old }
+    requires heap { IsInHand (part_in hall.old.plain party.old.me) heap.old.plain }
+    requires spare { 2 ≤ heap.old.spare }
+    ensures may { MayWait hall.new party.new }
+    ensures cut { IfOk result (λ run. IfSome run (MayGiveUp (part_in hall.new.plain party.new.me))) }
+{
+    let me = party.number();
+    match ask_for_page(hall, party, request)? {
+        None => Ok(None),
+        Some(run) => Ok(grow_and_cut(heap, me, &run)),
+    }
+}
+
+/// It gives a run up that was cut.
+pub fn retire(hall: &mut SoloHall<'_, MemMapper>, party: &Participant<'_, MemMapper>, run: &Run)
+    requires may { MayWait hall.old party.now }
+    requires cut { MayGiveUp (part_in hall.old.plain party.now.me) run.now }
+    ensures may { MayWait hall.new party.now }
+{
+    party.retire(hall, 0, run);
+}
+
+/// It tells that it gave a run up.
+pub fn notify(
+    hall: &mut SoloHall<'_, MemMapper>,
+    party: &mut Participant<'_, MemMapper>,
+    run: &Run,
+) -> Result<(), AllocError>
+    requires may { MayWait hall.old party.old }
+    ensures may { MayWait hall.new party.new }
+{
+    party.notify(hall, 0, run)
+}

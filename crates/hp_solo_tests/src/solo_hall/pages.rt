@@ -1,0 +1,284 @@
+//! One of two participants asks for a page for heap 0 in its line, and gives it up again.
+ghost use Rattle.std.specs.Prelude.{◌≡◌, ◌<◌, length};
+ghost use Rattle.hp_base.specs.declared.limits.TheConstants.{MAX_HEAPS};
+ghost use Rattle.hp_hall.specs.HallView.{IsHome, slot_at};
+ghost use Rattle.hp_solo.specs.Solo.{MayWait};
+ghost use Rattle.hp_solo.specs.SoloAsks.{MayBeginToAsk};
+
+use super::asking::{ask_for_page, cut_granted, notify, retire, take_heap};
+use super::opening::hall_for_asks;
+use super::steps::{look, read};
+use crate::tests::shown::{End, SegsShown};
+use crate::tests::{BASE, PAGE, add_message, first_ask};
+use hp_base::{MemMapper, MsgKind, Plan, Request, Run};
+use hp_proc::Participant;
+use hp_segs::RowState;
+use hp_solo::SoloHall;
+use std::alloc::{AllocError, Global};
+use std::test::Fail;
+
+// The first page of the pool.
+const FIRST_PAGE: Run = Run {
+    list: 0,
+    first: 0,
+    count: 1,
+    addr: BASE,
+    page: PAGE,
+    socket: 0,
+};
+
+// The segment value once that page was granted to a participant, and claimed for heap 0.
+const fn granted(from: u8) -> SegsShown {
+    SegsShown {
+        records: 1,
+        left: 3,
+        state: Some(RowState::Owned { heap: 0 }),
+        outcomes: 1,
+        last: Some((from, 1, End::Granted(1))),
+    }
+}
+
+// And where the first ask of participant 1 was refused so, behind so many records.
+const fn refused(records: usize, end: End) -> SegsShown {
+    SegsShown {
+        records,
+        left: 4,
+        state: None,
+        outcomes: 1,
+        last: Some((1, 1, end)),
+    }
+}
+
+// What came of a line: a run, what the segment value shows afterwards, and a reading of the clock.
+#[derive(Clone, Copy, Debug, PartialEq, Eq)]
+struct Came {
+    run: Option<Run>,
+    shown: SegsShown,
+    reading: u64,
+}
+
+// What has come of a line by now, with that run.
+fn afterwards(
+    hall: &mut SoloHall<'_, MemMapper>,
+    party: &Participant<'_, MemMapper>,
+    run: Option<Run>,
+) -> Came
+    requires may { MayWait hall.old party.now }
+    ensures may { MayWait hall.new party.now }
+{
+    let shown = look(hall, party);
+    let reading = read(hall, party);
+    Came {
+        run,
+        shown,
+        reading,
+    }
+}
+
+// It takes heap 0, and asks for a page: what was granted.
+fn ask_once(
+    hall: &mut SoloHall<'_, MemMapper>,
+    party: &mut Participant<'_, MemMapper>,
+    request: Request,
+) -> Result<Option<Run>, AllocError>
+    requires may { MayWait hall.old party.old }
+    requires begins { MayBeginToAsk hall.old.plain party.old.me }
+    ensures may { MayWait hall.new party.new }
+{
+    let _heap = take_heap(hall, party);
+    ask_for_page(hall, party, request)
+}
+
+// It takes heap 0, asks for a page, cuts it from the heap again, and gives it up: what was given up.
+fn retire_granted(
+    hall: &mut SoloHall<'_, MemMapper>,
+    party: &mut Participant<'_, MemMapper>,
+    request: Request,
+) -> Result<Option<Run>, AllocError>
+    requires may { MayWait hall.old party.old }
+    requires begins { MayBeginToAsk hall.old.plain party.old.me }
+    ensures may { MayWait hall.new party.new }
+{
+    let mut heap = take_heap(hall, party);
+    heap.reserve(2)?;
+    let run = cut_granted(hall, party, &mut heap, request)?;
+    if let Some(run) = &run {
+        retire(hall, party, run);
+    }
+    Ok(run)
+}
+
+// It does so, and tells that it did.
+fn give_up_granted(
+    hall: &mut SoloHall<'_, MemMapper>,
+    party: &mut Participant<'_, MemMapper>,
+    request: Request,
+) -> Result<Option<Run>, AllocError>
+    requires may { MayWait hall.old party.old }
+    requires begins { MayBeginToAsk hall.old.plain party.old.me }
+    ensures may { MayWait hall.new party.new }
+{
+    let run = retire_granted(hall, party, request)?;
+    if let Some(run) = &run {
+        notify(hall, party, run)?;
+    }
+    Ok(run)
+}
+
+// What the one does in its line.
+#[derive(Clone, Copy)]
+enum Line {
+    Ask,
+    Retire,
+    GiveUp,
+}
+
+// It does its line: the run that was granted, or given up.
+fn do_line(
+    hall: &mut SoloHall<'_, MemMapper>,
+    party: &mut Participant<'_, MemMapper>,
+    request: Request,
+    line: Line,
+) -> Result<Option<Run>, AllocError>
+    requires may { MayWait hall.old party.old }
+    requires begins { MayBeginToAsk hall.old.plain party.old.me }
+    ensures may { MayWait hall.new party.new }
+{
+    match line {
+        Line::Ask => ask_once(hall, party, request),
+        Line::Retire => retire_granted(hall, party, request),
+        Line::GiveUp => give_up_granted(hall, party, request),
+    }
+}
+
+// The one of a number goes away, does its line, and comes back: what came of it, where memory did not run out.
+fn go_and_come(
+    hall: &mut SoloHall<'_, MemMapper>,
+    me: u8,
+    request: Request,
+    line: Line,
+) -> Option<Came>
+    requires me { me < length hall.old.plain.owns }
+    requires home { IsHome (slot_at hall.old.plain MAX_HEAPS) }
+    requires begins { MayBeginToAsk hall.old.plain me }
+{
+    let Some(mut party) = hall.away(me) else {
+        return None;
+    };
+    let done = do_line(hall, &mut party, request, line);
+    let came = afterwards(hall, &party, done.ok().flatten());
+    hall.back(party);
+    if done.is_ok() && !hall.has_stopped() {
+        Some(came)
+    } else {
+        None
+    }
+}
+
+// What comes of the line of one of the two, by a plan.
+fn what_comes(alloc: Global, plan: &Plan, me: u8, line: Line) -> Result<Option<Came>, Fail>
+    requires { me < 2 }
+{
+    let ask = first_ask(me)?;
+    let mut hall = hall_for_asks(alloc, plan)?;
+    Ok(go_and_come(&mut hall, me, ask.request, line))
+}
+
+// What comes of an ask of participant 1 where the first message of a kind that concerns it is lost.
+fn what_comes_without(alloc: Global, kind: MsgKind) -> Result<Option<Came>, Fail> {
+    let mut plan = Plan::new(alloc);
+    add_message(&mut plan, kind, false)?;
+    what_comes(alloc, &plan, 1, Line::Ask)
+}
+
+// Each of the two asks, and claims the page.
+#[test]
+fn claims_what_is_granted(rt: HostRuntime) -> Result<(), Fail> {
+    let plan = Plan::new(rt.alloc());
+    for me in 0..2 {
+        let came = what_comes(rt.alloc(), &plan, me, Line::Ask)?;
+        let wanted = Came {
+            run: Some(FIRST_PAGE),
+            shown: granted(me),
+            reading: 0,
+        };
+        assert_eq!(rt; came, Some(wanted));
+    }
+    Ok(())
+}
+
+// The ALLOC is lost: the ask is taken back when three deadlines have passed, and nothing was logged or mapped.
+#[test]
+fn takes_back_an_ask_that_is_lost(rt: HostRuntime) -> Result<(), Fail> {
+    let came = what_comes_without(rt.alloc(), MsgKind::Alloc)?;
+    let wanted = Came {
+        run: None,
+        shown: refused(0, End::Withdrawn(0, 600)),
+        reading: 600,
+    };
+    assert_eq!(rt; came, Some(wanted));
+    Ok(())
+}
+
+// The RESULT is lost: the grant is found when three deadlines have passed.
+#[test]
+fn finds_a_grant_whose_result_is_lost(rt: HostRuntime) -> Result<(), Fail> {
+    let came = what_comes_without(rt.alloc(), MsgKind::Answer)?;
+    let wanted = Came {
+        run: Some(FIRST_PAGE),
+        shown: granted(1),
+        reading: 600,
+    };
+    assert_eq!(rt; came, Some(wanted));
+    Ok(())
+}
+
+// The first SYNC is lost: the asker itself is late at 200, and the growth is rolled back by a second record.
+#[test]
+fn is_refused_where_its_sync_is_lost(rt: HostRuntime) -> Result<(), Fail> {
+    let came = what_comes_without(rt.alloc(), MsgKind::Sync)?;
+    let wanted = Came {
+        run: None,
+        shown: refused(2, End::Late(1, 0, 200)),
+        reading: 200,
+    };
+    assert_eq!(rt; came, Some(wanted));
+    Ok(())
+}
+
+// The page that was granted is cut from the heap again: it is Retiring, and not the pool's yet.
+#[test]
+fn retires_what_was_cut(rt: HostRuntime) -> Result<(), Fail> {
+    let plan = Plan::new(rt.alloc());
+    let came = what_comes(rt.alloc(), &plan, 1, Line::Retire)?;
+    let wanted = Came {
+        run: Some(FIRST_PAGE),
+        shown: SegsShown {
+            state: Some(RowState::Retiring),
+            ..granted(1)
+        },
+        reading: 0,
+    };
+    assert_eq!(rt; came, Some(wanted));
+    Ok(())
+}
+
+// Once it has told so, a second record has dropped the page, the notice has an outcome, and the pool has the page again.
+#[test]
+fn gives_a_page_back_to_its_pool(rt: HostRuntime) -> Result<(), Fail> {
+    let plan = Plan::new(rt.alloc());
+    let came = what_comes(rt.alloc(), &plan, 1, Line::GiveUp)?;
+    let wanted = Came {
+        run: Some(FIRST_PAGE),
+        shown: SegsShown {
+            records: 2,
+            left: 4,
+            state: None,
+            outcomes: 2,
+            last: Some((1, 2, End::Freed(2))),
+        },
+        reading: 0,
+    };
+    assert_eq!(rt; came, Some(wanted));
+    Ok(())
+}
