@@ -12,8 +12,6 @@ mod out;
 mod phase;
 mod polling;
 mod starting;
-#[cfg(test)]
-mod tests;
 mod times;
 
 pub use asked::Asked;

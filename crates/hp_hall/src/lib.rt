@@ -13,8 +13,6 @@ mod plain_hall;
 mod posted;
 mod slot;
 mod slot_state;
-#[cfg(test)]
-mod tests;
 mod waiting;
 
 pub use busy::Busy;

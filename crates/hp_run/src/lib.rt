@@ -11,6 +11,3 @@ mod top_call;
 
 pub use mappers::mem_mappers;
 pub use top_call::top;
-
-#[cfg(test)]
-mod tests;

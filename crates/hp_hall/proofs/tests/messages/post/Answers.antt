@@ -1,4 +1,0 @@
-use Rattle.hp_hall.proofs.tests.messages.post.Goals as goal
-
-pub returns : goal.returns
-returns c = c.post.ensures.goes_on.count

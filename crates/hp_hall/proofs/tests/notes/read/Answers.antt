@@ -1,4 +1,0 @@
-use Rattle.hp_hall.proofs.tests.notes.read.Goals as goal
-
-pub returns : goal.returns
-returns c = c.now.ensures.goes_on.count
