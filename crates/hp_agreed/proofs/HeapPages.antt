@@ -1,17 +1,16 @@
 -- Where the pages of a heap come from: each is one of a run by which its history grew it.
-use Rattle.std.proofs.Common.{◌≡◌, ◌⊎◌, ℕ, Bool, true, false, cond, leb, not, ◌&&◌, List, [], ◌∷◌, ◌++◌, Option, Some, None, inl, inr, refl, subst}
+use Rattle.std.proofs.Common.{◌≡◌, ◌⊎◌, ℕ, not, List, [], ◌∷◌, ◌++◌, Option, Some, None, inl, inr, refl, subst}
 use Rattle.std.specs.Prelude.{Contains}
 use Rattle.std.proofs.lemmas.List.Elements.{Contains-append_cases, Contains-append_left, Contains-append_right}
 use Rattle.hp_base.specs.declared.chunk.Chunk.{Chunk}
 use Rattle.hp_base.specs.declared.row.Run.{Run}
-use Rattle.hp_base.specs.declared.span.Span.{Span}
 use Rattle.hp_heap.specs.Chunks.{after_chunk, after_share, after_unchunk, after_unshare, chunk_at, without_chunk}
 use Rattle.hp_heap.specs.Cut.{PageCut, after_cut, after_cut_of, cut_at, is_cut_page}
 use Rattle.hp_heap.specs.Growing.{after_grow, run_pages}
 use Rattle.hp_heap.specs.History.{after_entry, replay}
-use Rattle.hp_heap.specs.Joining.{after_free, after_free_of, after_insertion, busy_at, is_zone_range}
+use Rattle.hp_heap.specs.Joining.{after_free, busy_at}
 use Rattle.hp_heap.specs.PlainHeap.{HeapPage, PlainHeap}
-use Rattle.hp_heap.specs.Resizing.{after_resize, after_resize_of, bytes_needed, bytes_together, next_free, taken_over, with_new_size}
+use Rattle.hp_heap.specs.Resizing.{after_resize}
 use Rattle.hp_heap.specs.Step.{after, after_name}
 use Rattle.hp_heap.specs.declared.entry.Entry.{Entry}
 use Rattle.hp_heap.specs.declared.entry.HeapCall.{HeapCall}
@@ -19,31 +18,13 @@ use Rattle.hp_heap.specs.declared.entry.HeapCall.TheVariants as call
 use Rattle.hp_heap.proofs.AllocKept.{alloc_kept}
 use Rattle.hp_heap.proofs.ChoiceLaw.{Contains-filter, Contains-here}
 use Rattle.hp_proc.specs.Histories.{grown_runs, run_grown}
+use Rattle.hp_proc.proofs.PagesStay.{freed_pages, resized_pages}
 
 -- a page is one of a run of these
 pub record IsRunPage (runs : List Run) (page : HeapPage) : Type 0 where
   pub run : Run
   pub its_run : Contains runs run
   pub its_page : Contains (run_pages run) page
-
-pages_by : (b : Bool) (one other : PlainHeap) (pages : List HeapPage) → one.pages ≡ pages → other.pages ≡ pages
-    → (cond b one other).pages ≡ pages
-pages_by true one other pages first second = first
-pages_by false one other pages first second = second
-
-freed_pages : (zone : Bool) (heap : PlainHeap) (found : Option Span) → (after_free_of found zone heap).pages ≡ heap.pages
-unfolding after_insertion
-freed_pages zone heap None = refl
-freed_pages zone heap (Some range) = pages_by (is_zone_range range && not zone) heap (after_insertion range heap) heap.pages refl refl
-
-resized_pages : (size : ℕ) (heap : PlainHeap) (found : Option Span) → (after_resize_of found size heap).pages ≡ heap.pages
-resized_pages size heap None = refl
-resized_pages size heap (Some range) =
-    let next = next_free range heap in
-    let fits = leb (bytes_needed range size) range.whole in
-    let together = leb (bytes_needed range size) (bytes_together range next) in
-    pages_by fits (with_new_size range size heap) (cond together (taken_over range next size heap) heap) heap.pages refl
-    (pages_by together (taken_over range next size heap) heap heap.pages refl refl)
 
 chunkless_pages : (heap : PlainHeap) (found : Option Chunk) → (without_chunk found heap).pages ≡ heap.pages
 chunkless_pages heap None = refl

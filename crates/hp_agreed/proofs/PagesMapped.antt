@@ -1,8 +1,7 @@
 -- Each page of a heap is mapped alike by all who are attached: between two lines, and at the end of a run.
-use Rattle.std.proofs.Common.{◌≡◌, ◌==◌, ◌∙◌, ℕ, ◌+◌, ◌*◌, Bool, true, false, List, [], ◌∷◌, find, if◌then◌else◌, ◌&&◌, Option, Some, None, inl, inr, eq-eqb, refl, ap, sym, subst, arith}
+use Rattle.std.proofs.Common.{◌≡◌, ◌==◌, ◌∙◌, ℕ, ◌+◌, ◌*◌, Bool, true, false, List, [], ◌∷◌, find, if◌then◌else◌, ◌&&◌, Some, inl, inr, eq-eqb, refl, ap, sym, subst, arith}
 use Rattle.std.specs.Prelude.{Contains, slice_get}
 use Rattle.std.specs.List.{All}
-use Rattle.std.specs.Option.{option_map}
 use Rattle.std.proofs.Math.Nat.{add-mul}
 use Rattle.std.proofs.lemmas.Bool.{and_from, and_parts, eqb-true}
 use Rattle.std.proofs.lemmas.List.Elements.{All-contains, All-head, All-tail, Contains-append_cases}
@@ -13,7 +12,7 @@ use Rattle.hp_heap.specs.Growing.{run_page}
 use Rattle.hp_heap.specs.History.{HeapView, IsSound, replay}
 use Rattle.hp_heap.specs.PlainHeap.{HeapPage, PlainHeap}
 use Rattle.hp_heap.proofs.ChoiceLaw.{Contains-cases, Contains-none}
-use Rattle.hp_heap.proofs.Members.{Contains-image, find_some}
+use Rattle.hp_heap.proofs.Members.{Contains-image}
 use Rattle.hp_heap.proofs.RunPages.{of_run}
 use Rattle.hp_hall.specs.Holding.{HasPages, is_page_of, owned_by}
 use Rattle.hp_hall.proofs.StandingAsks.{contains_kept}
@@ -42,6 +41,7 @@ use Rattle.hp_agreed.specs.Alike.{AttachedPagesAlike, EndPagesAlike, IsMappedAli
 use Rattle.hp_agreed.proofs.AttachedAlike.{attached_map_alike}
 use Rattle.hp_agreed.proofs.EndAlike.{tables_alike}
 use Rattle.hp_agreed.proofs.HeapPages.{replayed_pages}
+use Rattle.hp_joint.proofs.HallPages.{IsSegmentAt, found_at}
 
 -- what is a heap's own is not Opened
 own_settled : (heap : ℕ) (state : RowState) → is_owned_by heap state ≡ true → is_opened state ≡ false
@@ -150,21 +150,6 @@ page_of_row lists row page placed listed list slot =
     (and_from (page.addr == row.addr) _ (eq-eqb page.addr row.addr addr)
     (and_from (page.page == row.page) (page.socket == row.socket) (eq-eqb page.page row.page size)
     (eq-eqb page.socket row.socket socket))))
-
--- a segment that has a state was found
-record IsSegmentAt (segs : List Segment) (list slot : ℕ) (state : RowState) : Type 0 where
-  segment : Segment
-  among : Contains segs segment
-  there : at_slot list slot segment.row ≡ true
-  its_state : segment.state ≡ state
-
-found_at : (segs : List Segment) (list slot : ℕ) (state : RowState) (found : Option Segment)
-    → find (λ segment. at_slot list slot segment.row) segs ≡ found
-    → option_map (λ (segment : Segment). segment.state) found ≡ Some state → IsSegmentAt segs list slot state
-found_at segs list slot state None is has = cc
-found_at segs list slot state (Some segment) is has =
-    let from = find_some (λ (segment : Segment). at_slot list slot segment.row) segs segment is in
-    record { segment = segment; among = from.1; there = from.0; its_state = same_Some segment.state state has }
 
 module _ (workload : Workload) (answers : List Answer) (heaps : List HeapView) (segs : SegsView) (tables : List Table)
     (end : IsEnd workload answers heaps segs tables) (index : ℕ) (heap : HeapView) (page : HeapPage)

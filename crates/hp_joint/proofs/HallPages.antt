@@ -40,13 +40,13 @@ own_state : (heap : ℕ) (state : RowState) → state ≡ Owned heap → is_owne
 own_state heap state is = ap (is_owned_by heap) is ∙ eq-eqb heap heap refl
 
 -- a segment that has a state was found
-record IsSegmentAt (segments : List Segment) (list slot : ℕ) (state : RowState) : Type 0 where
-  segment : Segment
-  among : Contains segments segment
-  there : at_slot list slot segment.row ≡ true
-  its_state : segment.state ≡ state
+pub record IsSegmentAt (segments : List Segment) (list slot : ℕ) (state : RowState) : Type 0 where
+  pub segment : Segment
+  pub among : Contains segments segment
+  pub there : at_slot list slot segment.row ≡ true
+  pub its_state : segment.state ≡ state
 
-found_at : (segments : List Segment) (list slot : ℕ) (state : RowState) (found : Option Segment)
+pub found_at : (segments : List Segment) (list slot : ℕ) (state : RowState) (found : Option Segment)
     → find (λ segment. at_slot list slot segment.row) segments ≡ found
     → option_map (λ (segment : Segment). segment.state) found ≡ Some state → IsSegmentAt segments list slot state
 found_at segments list slot state None is has = cc

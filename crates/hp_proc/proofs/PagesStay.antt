@@ -33,7 +33,7 @@ pages_by : (b : Bool) (one other : PlainHeap) (pages : List HeapPage) → one.pa
 pages_by true one other pages first second = first
 pages_by false one other pages first second = second
 
-freed_pages : (zone : Bool) (heap : PlainHeap) (found : Option Span) → (after_free_of found zone heap).pages ≡ heap.pages
+pub freed_pages : (zone : Bool) (heap : PlainHeap) (found : Option Span) → (after_free_of found zone heap).pages ≡ heap.pages
 unfolding after_insertion
 freed_pages zone heap None = refl
 freed_pages zone heap (Some range) = pages_by (is_zone_range range && not zone) heap (after_insertion range heap) heap.pages refl refl
@@ -44,7 +44,7 @@ unfolding after after_free
 free_pages caller addr zone answer old new is =
     ap (λ (heap : PlainHeap). heap.pages) is.heap ∙ freed_pages zone old.plain (busy_at addr old.plain)
 
-resized_pages : (size : ℕ) (heap : PlainHeap) (found : Option Span) → (after_resize_of found size heap).pages ≡ heap.pages
+pub resized_pages : (size : ℕ) (heap : PlainHeap) (found : Option Span) → (after_resize_of found size heap).pages ≡ heap.pages
 resized_pages size heap None = refl
 resized_pages size heap (Some range) =
     let next = next_free range heap in
