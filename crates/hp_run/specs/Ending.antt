@@ -34,7 +34,8 @@ pub record IsAgreed (heaps : List HeapView) (segs : SegsView) (tables : List Tab
   pub pages : PagesAlike heaps segs tables
   pub restored : FailuresLeaveNoRow segs.log
 
--- an end of a workload whose lines were done one after another, in which mappings failed for such a reason
+-- an end of a workload whose lines were done one after another, in which mappings failed for such a reason, and at which all who are
+-- attached agree on the memory in use
 pub record IsRunEnd (workload : Workload) (mappers : List (Option (List ℕ))) (answers : List Answer) (heaps : List HeapView)
     (segs : SegsView) (tables : List Table) : Type 0 where
   pub end : IsSoloEnd workload answers heaps segs tables
