@@ -1,7 +1,9 @@
 pub mod SoloSteps
 pub mod Looked
 pub mod SoloSeats
+pub mod Sequenced
 pub mod SoloTies
+pub mod SoloCalls
 pub mod SoloWeights
 pub mod SoloTurns
 pub mod SoloQuiet
@@ -10,3 +12,4 @@ pub mod SoloRises
 pub mod SoloWaits
 pub mod SoloEnds
 pub mod SoloDrained
+pub mod Visited

@@ -5,9 +5,8 @@ use Rattle.std.proofs.lemmas.List.{set-get_or}
 use Rattle.hp_frame.specs.declared.frame.Frame.{Frame}
 use Rattle.hp_hall.specs.Course.{IsCourse}
 use Rattle.hp_hall.specs.HallView.{HallView, HasDone}
-use Rattle.hp_hall.specs.Mail.{MailStep, Fetches, IsMail, Notes, box_of}
+use Rattle.hp_hall.specs.Mail.{MailStep, Fetches, IsMail, box_of}
 use Rattle.hp_hall.specs.Meters.{AreMetered, Meters, meters_in}
-use Rattle.hp_hall.specs.declared.note.Note.TheVariants.{Read}
 use Rattle.hp_proc.specs.Coordinating.{IsCoreServed, IsRested, IsServed}
 use Rattle.hp_proc.specs.Party.{Party}
 use Rattle.hp_proc.specs.Serving.{IsMemberServed, answer_behind}

@@ -1,26 +1,35 @@
 -- Turns of all participants in one thread: what they leave, and when nothing is left.
-use Rattle.std.proofs.Common.{◌≡◌, ℕ, zero, suc, ◌+◌, ◌-◌, ◌^◌, ◌<◌, ◌≤◌, false, List, [], ◌∷◌, length, Option, Some, None, refl, sym, ap, subst, ◌∙◌, ⊎_elim, arith}
+use Rattle.std.proofs.Common.{◌≡◌, ℕ, zero, suc, ◌+◌, ◌-◌, ◌^◌, ◌<◌, ◌≤◌, Bool, true, false, List, [], ◌∷◌, length, Option, Some, None, refl, sym, ap, subst, ◌∙◌, ⊎_elim, arith}
 use Rattle.std.specs.Option.{IsSome}
+use Rattle.std.specs.Prelude.{⊤}
 use Rattle.std.proofs.lemmas.Bool.{cases_lt}
 use Rattle.std.proofs.lemmas.Option.{same_Some, slice_get_within}
 use Rattle.hp_hall.proofs.Pending.{later_from_pending}
+use Rattle.hp_hall.specs.Course.{IsCourse, course_same, course_then, done_same}
 use Rattle.hp_hall.specs.HallSteps.{after_pause}
 use Rattle.hp_hall.specs.HallView.{HallView, IsHome, part_in, slot_at, taken_from}
-use Rattle.hp_hall.specs.Weights.{pending_at}
 use Rattle.hp_proc.specs.Party.{Party}
-use Rattle.hp_solo.specs.Draining.{AreEmpty, HasNoRound, IsDrained, IsNoneDue, NeverPasses, TurnsLeave}
-use Rattle.hp_solo.specs.Solo.{AreLater, IsAtRest, IsBetween, IsLaterAt, IsLaterParty, IsPendingDue, IsQuiet, IsServerAtRest, IsServing, ServerView, SoloView, due_at, has_stopped, party_at, party_in, server_at, servers_weight, solo_weight}
-use Rattle.hp_solo.specs.SoloCourse.{IsSoloCourse, not_before, solo_same, solo_then}
+use Rattle.hp_solo.specs.Draining.{AreEmpty, Drains, HasNoRound, IsDrained, IsLeastDue, IsNoneDue, NeverPasses, TurnsLeave}
+use Rattle.hp_solo.specs.Sequence.{Visits}
+use Rattle.hp_solo.specs.Solo.{AreLater, IsAtRest, IsBetween, IsLaterAt, IsLaterParty, IsPendingDue, IsQuiet, IsServerAtRest, IsServing, ServerView, SoloView, due_at, has_stopped, party_at, party_in, server_at, solo_weight}
+use Rattle.hp_solo.specs.SoloCourse.{later_then, not_before, server_stays}
 use Rattle.hp_solo.proofs.SoloEnds.{neither_first, neither_second}
 use Rattle.hp_solo.proofs.SoloTurns.{weighs_paused}
 use Rattle.hp_solo.proofs.SoloWeights.{servers_due}
 
 pub turns_same : (a : SoloView) → TurnsLeave a a
-turns_same a = record { course = solo_same a; taken = λ number. refl; home = λ number home. home; part = λ who heap. refl }
+turns_same a = record {
+  course = course_same a.plain;
+  later = λ who. server_stays a.plain a.plain who (server_at a.servers who) (λ there. done_same a.plain who);
+  taken = λ number. refl;
+  home = λ number home. home;
+  part = λ who heap. refl;
+}
 
 pub turns_then : (a b c : SoloView) → TurnsLeave a b → TurnsLeave b c → TurnsLeave a c
 turns_then a b c here next = record {
-  course = solo_then a b c here.course next.course;
+  course = course_then a.plain b.plain c.plain here.course next.course;
+  later = later_then a b c here.course here.later next.later;
   taken = λ number. next.taken number ∙ here.taken number;
   home = λ number home. next.home number (here.home number home);
   part = λ who heap. next.part who heap ∙ here.part who heap;
@@ -30,21 +39,35 @@ turns_then a b c here next = record {
 pub turns_served : (apart : ℕ → Type 0) (old new : SoloView) → IsServing apart old.plain new.plain → AreLater old new
     → TurnsLeave old new
 turns_served apart old new serving later = record {
-  course = record { plain = serving.course; servers = later };
+  course = serving.course;
+  later = later;
   taken = serving.taken;
   home = serving.home;
   part = serving.part;
 }
 
 -- participant 0 paused
-pub turns_paused : (old new : SoloView) (reading : ℕ) → IsSoloCourse old new → new.plain ≡ after_pause 0 false None reading old.plain
-    → TurnsLeave old new
-turns_paused old new reading course same = record {
+pub turns_paused : (old new : SoloView) (reading : ℕ) → IsCourse old.plain new.plain → AreLater old new
+    → new.plain ≡ after_pause 0 false None reading old.plain → TurnsLeave old new
+turns_paused old new reading course later same = record {
   course = course;
+  later = later;
   taken = λ number. ap (λ (hall : HallView). taken_from (slot_at hall number)) same;
   home = λ number home. subst (λ (hall : HallView). IsHome (slot_at hall number)) (sym same) home;
   part = λ who heap. ap (λ (hall : HallView). part_in hall who heap) same;
 }
+
+-- a turn of all in which nothing moved, and then the clock went on to the least deadline, or all is as it was
+pub drains_turn : (old mid new : SoloView) (goes : Bool) → (has_stopped mid.servers ≡ false → Visits 0 (length old.servers) old mid)
+    → IsQuiet (λ who. ⊤) old mid → (goes ≡ true → IsLeastDue mid.plain.clock mid.servers new.plain.clock)
+    → (goes ≡ true → new.plain ≡ after_pause 0 false None new.plain.clock mid.plain) → (goes ≡ false → new ≡ mid)
+    → new.servers ≡ mid.servers → has_stopped new.servers ≡ false → (first : SoloView) → Drains first old → Drains first new
+drains_turn old mid new true visits quiet least pauses still servers going first drains =
+    Drains.jumps first old mid new drains (visits (subst (λ (all : List ServerView). has_stopped all ≡ false) servers going)) quiet (least refl)
+    (pauses refl) servers
+drains_turn old mid new false visits quiet least pauses still servers going first drains =
+    let off : has_stopped mid.servers ≡ false = subst (λ (all : List ServerView). has_stopped all ≡ false) servers going in
+    subst (Drains first) (sym (still refl)) (Drains.turns first old mid drains (visits off))
 
 -- a pause until a deadline of somebody uses up one
 pub due_falls : (old new : SoloView) (reading : ℕ) → IsPendingDue old.plain.clock old.servers reading

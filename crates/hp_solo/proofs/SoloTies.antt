@@ -1,5 +1,5 @@
 -- Participants that serve in one thread: their ties over the course of the hall, and what serving one after another leaves.
-use Rattle.std.proofs.Common.{◌≡◌, ◌≢◌, ℕ, ◌<◌, Bool, true, false, List, [], ◌∷◌, ◌++◌, length, set, Option, Some, None, Result, Ok, Err, IfOk, IfErr, IsSome, refl, sym, ap, subst, ◌∙◌, ⊎_elim, arith}
+use Rattle.std.proofs.Common.{◌≡◌, ◌≢◌, ℕ, ◌<◌, Bool, true, false, List, [], ◌++◌, length, set, Option, Some, None, refl, sym, ap, subst, ◌∙◌, ⊎_elim, arith}
 use Rattle.std.specs.List.{slice_get}
 use Rattle.std.specs.Option.{option_map}
 use Rattle.std.proofs.lemmas.Bool.{cases_eq}
@@ -7,20 +7,18 @@ use Rattle.std.proofs.lemmas.Option.{same_Some, slice_get_within}
 use Rattle.hp_hall.proofs.Slotted.{slice_get-set_other, slice_get-set_same}
 use Rattle.hp_hall.specs.Course.{IsCourse, course_same, course_seen, course_then, done_same, done_then}
 use Rattle.hp_hall.specs.HallView.{HallView, HasDone, SlotView, IsHome, own_at, seen_in, taken_from}
-use Rattle.hp_hall.specs.Mail.{MailStep, Takes, steps_of}
+use Rattle.hp_hall.specs.Mail.{MailStep}
 use Rattle.hp_hall.specs.Own.{Own}
-use Rattle.hp_hall.specs.declared.kept.Kept.{Kept}
 use Rattle.hp_maps.specs.MapsView.{MapsView}
 use Rattle.hp_proc.specs.Coordinating.{IsServed}
 use Rattle.hp_proc.specs.Party.{Party}
 use Rattle.hp_proc.specs.Tied.{IsTied}
 use Rattle.hp_proc.proofs.MemberLemmas.{at_each}
-use Rattle.hp_proc.proofs.Steps.{other_step}
 use Rattle.hp_proc.proofs.Tying.{tied_along}
 use Rattle.hp_solo.specs.Served.{HasServed, HasServedAs, HasServedAt}
 use Rattle.hp_solo.specs.Served.ServesOn.{serves}
-use Rattle.hp_solo.specs.Solo.{AreLater, AreTied, IsAway, IsLaterAt, IsLaterParty, IsPartyServed, IsServedAs, IsServing, IsSolo, IsTiedAt, IsTiedIn, ServerView, SoloView, party_at, party_in, server_at}
-use Rattle.hp_solo.specs.SoloCourse.{IsSoloCourse, same_then, server_stays}
+use Rattle.hp_solo.specs.Solo.{AreLater, AreTied, IsLaterAt, IsLaterParty, IsPartyServed, IsServedAs, IsServing, IsTiedAt, IsTiedIn, ServerView, party_at, party_in, server_at}
+use Rattle.hp_solo.specs.SoloCourse.{same_then, server_stays}
 
 -- a table is tied along the course of a hall
 tied_later : (old new : HallView) (own : Own) (joined : Bool) (maps : MapsView) → IsCourse old new → IsTied (seen_in old) own joined maps
@@ -41,77 +39,6 @@ tied_on old new who party course same at = record {
 pub free_home : (slot : Option SlotView) → IsHome slot → taken_from slot ≡ None
 free_home None home = absurd home
 free_home (Some slot) home = ap (option_map (λ holder. slot.kept)) home
-
--- who is away is not there
-away_none : (server : Option ServerView) → IsAway server → party_in server ≡ None
-away_none None away = absurd away
-away_none (Some server) away = away
-
-away_some : (server : Option ServerView) → IsAway server → (there : ServerView) × (server ≡ Some there)
-away_some None away = absurd away
-away_some (Some server) away = (server, refl)
-
-pub away_below : (servers : List ServerView) (who : ℕ) → IsAway (server_at servers who) → who < length servers
-away_below servers who away =
-    let there = away_some (server_at servers who) away in slice_get_within servers who there.0 there.1
-
-none_not_some : (o : Option Party) (party : Party) → o ≡ None → o ≡ Some party → ⊥
-none_not_some o party none some = cc
-
-none_not_there : (o : Option Party) → o ≡ None → IsSome o → ⊥
-none_not_there None none there = cc
-none_not_there (Some party) none there = cc
-
--- after a call of one that is away all others are tied still
-pub tied_after_call : (old new : HallView) (servers : List ServerView) (me : ℕ) → IsAway (server_at servers me) → IsCourse old new
-    → ((who : ℕ) → who ≢ me → own_at new who ≡ own_at old who) → AreTied old servers → AreTied new servers
-tied_after_call old new servers me away course own tied who party there =
-    let apart : who ≢ me = λ (same : who ≡ me).
-    none_not_some (party_at servers me) party (away_none (server_at servers me) away) (ap (party_at servers) (sym same) ∙ there) in
-    tied_on old new who party course (own who apart) (tied who party there)
-
--- a hall that is opened for a call of one that is away: who calls is one of the values', the course of the whole is that of the values, and
--- what holds of every hall holds after it
-module _ (value : SoloView) (old : HallView) (servers : List ServerView)
-    (value_is : ◌≡◌ {A = SoloView} (record { plain = old; servers = servers }) value) (me : ℕ) (away : IsAway (server_at value.servers me)) where
-  away_here : IsAway (server_at servers me)
-  away_here = subst (λ (hall : SoloView). IsAway (server_at hall.servers me)) (sym value_is) away
-
-  -- who is there did nothing
-  pub goes_on : (new : HallView) → IsCourse old new → ((who : ℕ) → who ≢ me → HasDone old new who [])
-      → IsSoloCourse value (record { plain = new; servers = servers })
-  goes_on new course nothing =
-      subst (λ (hall : SoloView). IsSoloCourse hall (record { plain = new; servers = servers })) value_is (record {
-        plain = course;
-        servers = λ who. server_stays old new who (server_at servers who) (λ there.
-            nothing who (λ same.
-            none_not_there (party_at servers who) (ap (party_at servers) same ∙ away_none (server_at servers me) away_here) there));
-      })
-
-  -- by a step of the one that calls
-  pub goes_on_by : (new : HallView) (step : MailStep) → IsCourse old new → ((who : ℕ) → HasDone old new who (steps_of who ((me, step) ∷ [])))
-      → IsSoloCourse value (record { plain = new; servers = servers })
-  goes_on_by new step course did =
-      goes_on new course (λ who apart. subst (λ (steps : List MailStep). HasDone old new who steps) (other_step who me step apart) (did who))
-
-  module _ (is : IsSolo (record { plain = old; servers = servers })) where
-    pub may_call : me < length old.owns
-    may_call = omega (arith, away_below servers me away_here, is.count)
-
-    pub holds_after : (new : HallView) → IsCourse old new → ((who : ℕ) → who ≢ me → own_at new who ≡ own_at old who)
-        → IsSolo (record { plain = new; servers = servers })
-    holds_after new course own = record {
-      count = is.count ∙ sym course.count;
-      tied = tied_after_call old new servers me away_here course own is.tied;
-    }
-
--- whichever way a try came out, nobody else did anything
-pub tried_apart : {E : Type 0} (old new : HallView) (me number : ℕ) (result : Result Kept E)
-    → IfOk result (λ kept. (who : ℕ) → HasDone old new who (steps_of who ((me, Takes number kept) ∷ [])))
-    → IfErr result (λ busy. (who : ℕ) → HasDone old new who []) → (who : ℕ) → who ≢ me → HasDone old new who []
-tried_apart old new me number (Ok kept) took busy who apart =
-    subst (λ (steps : List MailStep). HasDone old new who steps) (other_step who me (Takes number kept) apart) (took who)
-tried_apart old new me number (Err error) took busy who apart = busy who
 
 -- serving: from a state to itself, on from state to state, and for fewer that are apart
 pub serving_same : (apart : ℕ → Type 0) (hall : HallView) → IsServing apart hall hall

@@ -1,19 +1,18 @@
 -- A turn of a wait in a hall of one thread: what a pause leaves, and that it uses up one; and who stands beside one that waits.
-use Rattle.std.proofs.Common.{◌≡◌, ℕ, ◌+◌, ◌<◌, ◌≤◌, ◌⊎◌, Bool, true, false, true≢false, List, [], ◌∷◌, ◌++◌, length, Option, Some, None, refl, sym, ap, subst, ◌∙◌, ⊎_elim, arith}
+use Rattle.std.proofs.Common.{◌≡◌, ℕ, ◌+◌, ◌<◌, ◌≤◌, Bool, true, false, true≢false, List, [], ◌∷◌, ◌++◌, length, Option, Some, None, refl, sym, ap, subst, ◌∙◌, ⊎_elim, arith}
 use Rattle.std.specs.Prelude.{IfSome}
 use Rattle.std.proofs.lemmas.Option.{slice_get_within}
 use Rattle.hp_hall.proofs.Pending.{later_from_pending}
-use Rattle.hp_hall.specs.Course.{IsCourse}
 use Rattle.hp_hall.specs.HallSteps.{after_pause}
 use Rattle.hp_hall.specs.HallView.{HallView, HasDone}
-use Rattle.hp_hall.specs.Mail.{MailStep, Notes}
+use Rattle.hp_hall.specs.Mail.{Notes}
 use Rattle.hp_hall.specs.Weights.{IsPending, boxes_weight, counted, pause_weight, pending_at}
 use Rattle.hp_hall.specs.declared.note.Note.TheVariants.{Paused}
 use Rattle.hp_proc.specs.Party.{Party}
 use Rattle.hp_proc.proofs.MemberLemmas.{at_each}
 use Rattle.hp_solo.specs.Served.{HasServedAt, ServesOn}
-use Rattle.hp_solo.specs.Solo.{IsLaterAt, IsNextDue, IsNotBeside, IsServerAtRest, IsSolo, ServerView, SoloView, server_at, servers_weight, solo_weight}
-use Rattle.hp_solo.specs.SoloCourse.{IsSoloCourse, party_same, server_stays}
+use Rattle.hp_solo.specs.Solo.{AreLater, IsLaterAt, IsNextDue, IsNotBeside, IsServerAtRest, IsSolo, ServerView, SoloView, server_at, servers_weight, solo_weight}
+use Rattle.hp_solo.specs.SoloCourse.{party_same, server_stays}
 use Rattle.hp_solo.proofs.SoloSteps.{did_apart, did_itself}
 use Rattle.hp_solo.proofs.SoloWeights.{jump_falls}
 
@@ -46,20 +45,15 @@ server_paused old new who (Some server) did = record {
   served = λ going. served_paused old new who server.party did;
 }
 
--- the course of the hall over a pause of participant 0 in which nothing moved
-pub course_paused : (old new : HallView) (servers : List ServerView) (reading : ℕ) → IsCourse old new
-    → new ≡ after_pause 0 false None reading old
-    → IsSoloCourse (record { plain = old; servers = servers }) (record { plain = new; servers = servers })
-course_paused old new servers reading course same =
+-- who serves in the hall over a pause of participant 0 in which nothing moved
+pub later_paused : (old new : HallView) (servers : List ServerView) (reading : ℕ) → new ≡ after_pause 0 false None reading old
+    → AreLater (record { plain = old; servers = servers }) (record { plain = new; servers = servers })
+later_paused old new servers reading same =
     let step = Notes (Paused false None) in
     let mail : new.mail ≡ old.mail ++ (0, step) ∷ [] = ap (λ (hall : HallView). hall.mail) same in
-    record {
-      plain = course;
-      servers =
-          at_each (λ who. IsLaterAt old new who (server_at servers who) (server_at servers who)) 0
-          (server_paused old new 0 (server_at servers 0) (did_itself old new 0 step mail))
-          (λ who apart. server_stays old new who (server_at servers who) (λ there. did_apart old new 0 step mail who apart));
-    }
+    at_each (λ who. IsLaterAt old new who (server_at servers who) (server_at servers who)) 0
+    (server_paused old new 0 (server_at servers 0) (did_itself old new 0 step mail))
+    (λ who apart. server_stays old new who (server_at servers who) (λ there. did_apart old new 0 step mail who apart))
 
 -- what all weigh behind a pause
 pub weighs_paused : (old new : SoloView) (me : ℕ) (moved : Bool) (until : Option ℕ) (reading : ℕ)

@@ -1,13 +1,17 @@
 -- Turns of all participants in one thread, behind the last line: the rule "Turns in one thread" of docs/PARTICIPANTS.md.
-use Rattle.std.specs.Prelude.{◌≡◌, ℕ, ◌-◌, ◌^◌, ◌≤◌, false, List, [], Option, Some, IsSome}
+use Rattle.std.specs.Prelude.{◌≡◌, ℕ, ◌-◌, ◌^◌, ◌≤◌, false, List, [], length, Option, Some, None, IsSome, ⊤}
+use Rattle.hp_hall.specs.Course.{IsCourse}
+use Rattle.hp_hall.specs.HallSteps.{after_pause}
 use Rattle.hp_hall.specs.HallView.{IsHome, part_in, slot_at, taken_from}
 use Rattle.hp_hall.specs.Mail.{box_of}
-use Rattle.hp_solo.specs.Solo.{IsPendingDue, ServerView, SoloView, due_at, has_stopped, party_at, server_at}
-use Rattle.hp_solo.specs.SoloCourse.{IsSoloCourse}
+use Rattle.hp_solo.specs.Sequence.{Visits}
+use Rattle.hp_solo.specs.Solo.{AreLater, IsPendingDue, IsQuiet, ServerView, SoloView, due_at, has_stopped, party_at, server_at}
 
--- what turns of all participants leave: the course goes on, and the slots and the parts in heaps are as they were
+-- what turns of all participants leave: the plain values go on, and so does each that serves; and the slots and the parts in heaps are as
+-- they were
 pub record TurnsLeave (old new : SoloView) : Type 0 where
-  pub course : IsSoloCourse old new
+  pub course : IsCourse old.plain new.plain
+  pub later : AreLater old new
   pub taken : (number : ℕ) → taken_from (slot_at new.plain number) ≡ taken_from (slot_at old.plain number)
   pub home : (number : ℕ) → IsHome (slot_at old.plain number) → IsHome (slot_at new.plain number)
   pub part : (who heap : ℕ) → part_in new.plain who heap ≡ part_in old.plain who heap
@@ -20,6 +24,15 @@ NeverPasses due = 2 ^ 64 - 1 ≤ due
 pub record IsLeastDue (clock : ℕ) (servers : List ServerView) (next : ℕ) : Type 0 where
   pub pending : IsPendingDue clock servers next
   pub least : (due : ℕ) → IsPendingDue clock servers due → next ≤ due
+
+-- all are visited in turn, again and again; where nothing moved the clock goes on to the least deadline that is still to come, in a pause
+-- of participant 0
+pub data Drains : SoloView → SoloView → Type 0 where
+  none : (hall : SoloView) → Drains hall hall
+  turns : (old mid new : SoloView) → Drains old mid → Visits 0 (length mid.servers) mid new → Drains old new
+  jumps : (old mid next new : SoloView) → Drains old mid → Visits 0 (length mid.servers) mid next → IsQuiet (λ who. ⊤) mid next
+      → IsLeastDue next.plain.clock next.servers new.plain.clock → new.plain ≡ after_pause 0 false None new.plain.clock next.plain
+      → new.servers ≡ next.servers → Drains old new
 
 -- no deadline of theirs is still to come, but such as never pass
 abbrev pub IsNoneDue : ℕ → List ServerView → Type 0

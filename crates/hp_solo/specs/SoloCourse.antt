@@ -1,21 +1,25 @@
--- The course of a hall of one thread: what later states keep of earlier ones, and that this joins: the rule "Turns in one thread" of
--- docs/PARTICIPANTS.md.
-use Rattle.std.specs.Prelude.{◌≡◌, ℕ, Bool, true, false, List, [], ◌∷◌, ◌++◌, length, Option, Some, None, IsSome, refl}
+-- The course of a hall of one thread: what later states keep of earlier ones, in which order all was done, and that this joins: the rule
+-- "Turns in one thread" of docs/PARTICIPANTS.md.
+use Rattle.std.specs.Prelude.{◌≡◌, ℕ, zero, suc, Bool, true, false, List, [], ◌∷◌, ◌++◌, length, Option, Some, None, IsSome, refl, ⊤}
 use Rattle.std.proofs.Common.{◌∙◌, sym, subst}
+use Rattle.std.proofs.lemmas.Bool.{or_from, or_parts}
 use Rattle.std.proofs.lemmas.List.{append-nil, append_assoc}
 use Rattle.hp_hall.specs.Course.{IsCourse, course_same, course_then, done_same, done_then}
 use Rattle.hp_hall.specs.HallView.{HallView, HasDone}
 use Rattle.hp_hall.specs.Mail.{MailStep, Notes}
 use Rattle.hp_hall.specs.declared.note.Note.TheVariants.{Paused}
 use Rattle.hp_proc.specs.Party.{IsSameParty, Party}
+use Rattle.hp_solo.specs.Sequence.{IsAloneAway, IsInSequence, Sequence}
 use Rattle.hp_solo.specs.Served.{HasServed, HasServedAt, ServesOn}
 use Rattle.hp_solo.specs.Served.ServesOn.{pauses, rests, serves}
-use Rattle.hp_solo.specs.Solo.{AreLater, IsAway, IsLaterAt, IsLaterParty, ServerView, SoloView, party_in, server_at}
+use Rattle.hp_solo.specs.Solo.{AreLater, IsAway, IsLaterAt, IsLaterParty, ServerView, SoloView, has_stopped, party_in, server_at}
 
--- from one state to a later one: the plain values go on, and so does each that serves
+-- from one state to a later one: the plain values go on, and so does each that serves; and where one alone is away, what it did and what
+-- the others did meanwhile stands in a sequence of its calls
 pub record IsSoloCourse (old new : SoloView) : Type 0 where
   pub plain : IsCourse old.plain new.plain
   pub servers : AreLater old new
+  pub sequence : IsInSequence old new
 
 -- servings join
 pub servings_join : (count : ℕ) (first last : List MailStep) (party mid after : Party) → ServesOn count party mid first → ServesOn count mid after last
@@ -106,18 +110,6 @@ later_then a b c course here next who =
     server_then a.plain b.plain c.plain who course.count (server_at a.servers who) (server_at b.servers who) (server_at c.servers who)
     (here who) (next who)
 
-pub solo_same : (a : SoloView) → IsSoloCourse a a
-solo_same a = record {
-  plain = course_same a.plain;
-  servers = λ who. server_stays a.plain a.plain who (server_at a.servers who) (λ there. done_same a.plain who);
-}
-
-pub solo_then : (a b c : SoloView) → IsSoloCourse a b → IsSoloCourse b c → IsSoloCourse a c
-solo_then a b c here next = record {
-  plain = course_then a.plain b.plain c.plain here.plain next.plain;
-  servers = later_then a b c here.plain here.servers next.servers;
-}
-
 none_stays : (a b : Option Party) → IsLaterParty a b → a ≡ None → b ≡ None
 none_stays None None later none = refl
 none_stays None (Some b) later none = absurd later
@@ -128,6 +120,83 @@ away_stays : (old new : HallView) (who : ℕ) (a b : Option ServerView) → IsLa
 away_stays old new who None b later away = absurd away
 away_stays old new who (Some a) None later away = absurd later
 away_stays old new who (Some a) (Some b) later away = none_stays a.party b.party later.party away
+
+none_before : (a b : Option Party) → IsLaterParty a b → b ≡ None → a ≡ None
+none_before None b later none = refl
+none_before (Some a) None later none = absurd later
+none_before (Some a) (Some b) later none = cc
+
+away_before : (old new : HallView) (who : ℕ) (a b : Option ServerView) → IsLaterAt old new who a b → IsAway b → IsAway a
+away_before old new who None None later away = absurd away
+away_before old new who None (Some b) later away = absurd later
+away_before old new who (Some a) None later away = absurd later
+away_before old new who (Some a) (Some b) later away = none_before a.party b.party later.party away
+
+-- who alone is away is so later on
+pub alone_later : (a b : SoloView) (me : ℕ) → AreLater a b → IsAloneAway me a.servers → IsAloneAway me b.servers
+alone_later a b me later is = record {
+  away = away_stays a.plain b.plain me (server_at a.servers me) (server_at b.servers me) (later me) is.away;
+  alone = λ who away.
+      is.alone who (away_before a.plain b.plain who (server_at a.servers who) (server_at b.servers who) (later who) away);
+}
+
+-- who has stopped has stopped later on
+abbrev StaysStopped : Option ServerView → Option ServerView → Type 0
+StaysStopped None after = ⊤
+StaysStopped (Some server) None = ⊥
+StaysStopped (Some server) (Some after) = server.stopped ≡ true → after.stopped ≡ true
+
+stays_stopped : (old new : HallView) (who : ℕ) (a b : Option ServerView) → IsLaterAt old new who a b → StaysStopped a b
+stays_stopped old new who None b later = tt
+stays_stopped old new who (Some a) None later = later
+stays_stopped old new who (Some a) (Some b) later = later.stopped
+
+none_so_far : (old new : List ServerView) → ((who : ℕ) → StaysStopped (server_at old who) (server_at new who)) → has_stopped new ≡ false
+    → has_stopped old ≡ false
+none_so_far [] new stays off = refl
+none_so_far (server ∷ old) [] stays off = absurd (stays zero)
+none_so_far (server ∷ old) (after ∷ new) stays off =
+    let both = or_parts after.stopped (has_stopped new) off in
+    or_from server.stopped (has_stopped old) (not_before server.stopped after.stopped (stays zero) both.0)
+    (none_so_far old new (λ who. stays (suc who)) both.1)
+
+-- where nobody has stopped later on, nobody had before
+pub going_before : (a b : SoloView) → AreLater a b → has_stopped b.servers ≡ false → has_stopped a.servers ≡ false
+going_before a b later off =
+    none_so_far a.servers b.servers
+    (λ who. stays_stopped a.plain b.plain who (server_at a.servers who) (server_at b.servers who) (later who)) off
+
+-- sequences of calls join
+pub sequence_then : (me : ℕ) (a b c : SoloView) (first last : List MailStep) → Sequence me a first b → Sequence me b last c
+    → Sequence me a (first ++ last) c
+sequence_then me _ b c _ last (Sequence.stands _) next = next
+sequence_then me a b c _ last (Sequence.goes_on _ mid _ step steps made here) next =
+    Sequence.goes_on a mid c step (steps ++ last) made (sequence_then me mid b c steps last here next)
+sequence_then me a b c first last (Sequence.tells _ mid _ _ made servers clock here) next =
+    Sequence.tells a mid c (first ++ last) made servers clock (sequence_then me mid b c first last here next)
+
+pub solo_same : (a : SoloView) → IsSoloCourse a a
+solo_same a = record {
+  plain = course_same a.plain;
+  servers = λ who. server_stays a.plain a.plain who (server_at a.servers who) (λ there. done_same a.plain who);
+  sequence = λ me alone going. ([], done_same a.plain me, Sequence.stands a);
+}
+
+in_sequence : (a b c : SoloView) → IsSoloCourse a b → IsSoloCourse b c → IsInSequence a c
+in_sequence a b c here next me alone going =
+    let first = here.sequence me alone (going_before b c next.servers going) in
+    let last = next.sequence me (alone_later a b me here.servers alone) going in (
+      first.0 ++ last.0,
+      done_then a.plain b.plain c.plain me first.0 last.0 first.1 last.1,
+      sequence_then me a b c first.0 last.0 first.2 last.2,
+    )
+
+pub solo_then : (a b c : SoloView) → IsSoloCourse a b → IsSoloCourse b c → IsSoloCourse a c
+solo_then a b c here next = record {
+  plain = course_then a.plain b.plain c.plain here.plain next.plain;
+  servers = later_then a b c here.plain here.servers next.servers;
+  sequence = in_sequence a b c here next;
+}
 
 -- who is away stays away
 pub solo_serves : (a b : SoloView) (who : ℕ) → IsSoloCourse a b → IsAway (server_at a.servers who) → IsAway (server_at b.servers who)

@@ -9,6 +9,7 @@ ghost use Rattle.hp_proc.specs.Coordinating.{IsServed};
 ghost use Rattle.hp_proc.specs.Falling.{if_moved, served_of};
 ghost use Rattle.hp_proc.specs.Tied.{IsTied};
 ghost use Rattle.hp_solo.specs.Ending.{LeavesThere};
+ghost use Rattle.hp_solo.specs.Sequence.{IsVisited, IsVisitedAs};
 ghost use Rattle.hp_solo.specs.Served.{HasServed, HasServedAs};
 ghost use Rattle.hp_solo.specs.Solo.{
   FindsNothing,
@@ -66,6 +67,7 @@ impl<'p, M: Mapper> Server<'p, M> {
         requires tied { IsTiedIn hall.old self.old.party }
         ensures served { IsServedAs hall.old hall.new self.old.party self.new.party }
         ensures serves { self.new.stopped ≡ false → HasServedAs hall.old hall.new self.old.party self.new.party }
+        ensures visited { self.new.stopped ≡ false → IsVisitedAs hall.old hall.new self.old.party self.new.party }
         ensures weight { boxes_weight hall.new.boxes + server_weight (pending_at hall.new.clock) self.new + if_moved result
             ≤ boxes_weight hall.old.boxes + server_weight (pending_at hall.old.clock) self.old }
         ensures rests { self.new.stopped ≡ false → IsAtRest hall.new.clock self.new.party }
@@ -144,6 +146,7 @@ fn serve_some<M: Mapper>(
     requires tied { IsTiedIn hall.old participant.old }
     ensures served { IsServedAs hall.old hall.new participant.old participant.new }
     ensures serves { IfOk result (λ moved. HasServedAs hall.old hall.new participant.old participant.new) }
+    ensures visited { IfOk result (λ moved. IsVisitedAs hall.old hall.new participant.old participant.new) }
     ensures weight { boxes_weight hall.new.boxes + party_weight (pending_at hall.new.clock) participant.new + served_of result
         ≤ boxes_weight hall.old.boxes + party_weight (pending_at hall.old.clock) participant.old }
     ensures rests { IfOk result (λ moved. IsAtRest hall.new.clock participant.new) }
@@ -167,6 +170,7 @@ fn serve_out<M: Mapper>(
     requires tied { IsTied (seen_in hall.old) (own_at hall.old participant.old.me) participant.old.joined participant.old.maps }
     ensures served { IsPartyServed hall.old hall.new participant.old participant.new }
     ensures serves { IfOk result (λ moved. HasServed (length hall.old.owns) participant.old.me hall.old hall.new participant.old participant.new) }
+    ensures visited { IfOk result (λ moved. IsVisited hall.old hall.new participant.old participant.new) }
     ensures weight { boxes_weight hall.new.boxes + party_weight (pending_at hall.new.clock) (Some participant.new) + served_of result
         ≤ boxes_weight hall.old.boxes + party_weight (pending_at hall.old.clock) (Some participant.old) }
     ensures rests { IfOk result (λ moved. IsResting hall.new.clock participant.new) }

@@ -1,13 +1,14 @@
 //! Turns of all participants, which end once nothing is left for any of them.
-ghost use Rattle.std.specs.Prelude.{◌≡◌, ◌+◌, ◌≤◌, ℕ, None, false, true};
+ghost use Rattle.std.specs.Prelude.{◌≡◌, ◌+◌, ◌≤◌, ℕ, None, false, length, true, ⊤};
 ghost use Rattle.hp_base.specs.declared.limits.TheConstants.{MAX_HEAPS};
+ghost use Rattle.hp_hall.specs.Course.{IsCourse};
 ghost use Rattle.hp_hall.specs.HallSteps.{after_pause};
 ghost use Rattle.hp_hall.specs.HallView.{IsHome, part_in, slot_at, taken_from};
 ghost use Rattle.hp_proc.specs.Falling.{if_moved};
-ghost use Rattle.hp_solo.specs.Draining.{AreEmpty, IsDrained, IsLeastDue, IsNoneDue, TurnsLeave};
+ghost use Rattle.hp_solo.specs.Draining.{AreEmpty, Drains, IsDrained, IsLeastDue, IsNoneDue, TurnsLeave};
+ghost use Rattle.hp_solo.specs.Sequence.{Visits};
 ghost use Rattle.hp_solo.specs.Served.{IsInRisingNumber};
-ghost use Rattle.hp_solo.specs.Solo.{IsServerAtRest, has_stopped, server_at, solo_weight};
-ghost use Rattle.hp_solo.specs.SoloCourse.{IsSoloCourse};
+ghost use Rattle.hp_solo.specs.Solo.{AreLater, IsQuiet, IsServerAtRest, SoloView, has_stopped, server_at, solo_weight};
 
 use super::SoloHall;
 use super::deadlines::least_due;
@@ -22,7 +23,9 @@ impl<'p, M: Mapper> SoloHall<'p, M> {
         ensures rising { IsInRisingNumber self.old.plain self.new.plain }
         ensures weight { solo_weight self.new + if_moved result ≤ solo_weight self.old }
         ensures rests { (who : ℕ) → IsServerAtRest self.new.plain.clock (server_at self.new.servers who) }
-        ensures quiet { result ≡ false → has_stopped self.new.servers ≡ false → AreEmpty self.new }
+        ensures quiet { result ≡ false → IsQuiet (λ who. ⊤) self.old self.new }
+        ensures empty { result ≡ false → has_stopped self.new.servers ≡ false → AreEmpty self.new }
+        ensures visits { has_stopped self.new.servers ≡ false → Visits 0 (length self.old.servers) self.old self.new }
     {
         let count = self.servers.len();
         serve_range(&mut self.plain, &mut self.servers, 0, count)
@@ -37,6 +40,7 @@ impl<'p, M: Mapper> SoloHall<'p, M> {
         ensures none { result ≡ false → IsNoneDue self.old.plain.clock self.old.servers }
         ensures pauses { result ≡ true → self.new.plain ≡ after_pause 0 false None self.new.plain.clock self.old.plain }
         ensures still { result ≡ false → self.new ≡ self.old }
+        ensures servers { self.new.servers ≡ self.old.servers }
     {
         match least_due(self.servers.as_slice(), self.plain.clock()) {
             None => false,
@@ -53,6 +57,7 @@ impl<'p, M: Mapper> SoloHall<'p, M> {
         ensures leaves { TurnsLeave self.old self.new }
         ensures weight { solo_weight self.new + if_moved result ≤ solo_weight self.old }
         ensures drained { result ≡ false → IsDrained self.new }
+        ensures drains { has_stopped self.new.servers ≡ false → (first : SoloView) → Drains first self.old → Drains first self.new }
     {
         let moved = self.serve_all();
         if moved {
@@ -73,7 +78,12 @@ impl<'p, M: Mapper> SoloHall<'p, M> {
         ensures taken { (number : ℕ) → taken_from (slot_at self.new.plain number) ≡ taken_from (slot_at self.old.plain number) }
         ensures home { (number : ℕ) → IsHome (slot_at self.old.plain number) → IsHome (slot_at self.new.plain number) }
         ensures part { (who heap : ℕ) → part_in self.new.plain who heap ≡ part_in self.old.plain who heap }
-        ensures goes_on { IsSoloCourse self.old self.new }
+
+        // The plain values go on, and so does each that serves. Where nobody has stopped in the end, all were visited in turn, again and
+        // again, and the clock jumped only behind visits in which nothing moved.
+        ensures course { IsCourse self.old.plain self.new.plain }
+        ensures later { AreLater self.old self.new }
+        ensures drains { has_stopped self.new.servers ≡ false → Drains self.old self.new }
     {
         'draining: loop {
             let more = self.turn_all();

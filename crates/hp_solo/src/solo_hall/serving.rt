@@ -4,6 +4,7 @@ ghost use Rattle.hp_base.specs.declared.limits.TheConstants.{MAX_HEAPS};
 ghost use Rattle.hp_hall.specs.HallView.{IsHome, slot_at};
 ghost use Rattle.hp_hall.specs.Weights.{boxes_weight, pending_at};
 ghost use Rattle.hp_proc.specs.Falling.{if_moved};
+ghost use Rattle.hp_solo.specs.Sequence.{Visit, Visits};
 ghost use Rattle.hp_solo.specs.Served.{IsInRisingNumber};
 ghost use Rattle.hp_solo.specs.Solo.{
   AreLater,
@@ -14,6 +15,7 @@ ghost use Rattle.hp_solo.specs.Solo.{
   IsServerAtRest,
   IsServing,
   LooksLastAt,
+  has_stopped,
   server_at,
   servers_weight,
 };
@@ -46,6 +48,9 @@ pub fn serve_range<M: Mapper>(
     ensures others { (who : ℕ) → IsOutside from to who → server_at servers.new.items who ≡ server_at servers.old.items who }
     ensures quiet { result ≡ false → IsQuiet (IsBetween from to) (record { plain = hall.old; servers = servers.old.items })
         (record { plain = hall.new; servers = servers.new.items }) }
+    ensures visits { from ≤ to → has_stopped servers.new.items ≡ false
+        → Visits from to (record { plain = hall.old; servers = servers.old.items })
+        (record { plain = hall.new; servers = servers.new.items }) }
 {
     let mut moved = false;
     for number in from..to {
@@ -76,6 +81,9 @@ fn serve_at<M: Mapper>(
     ensures rests { IsServerAtRest hall.new.clock (server_at servers.new.items number) }
     ensures looks { LooksLastAt hall.old hall.new number (server_at servers.new.items number) }
     ensures quiet { result ≡ false → IsQuiet (λ who. who ≡ number) (record { plain = hall.old; servers = servers.old.items })
+        (record { plain = hall.new; servers = servers.new.items }) }
+    ensures visited { has_stopped servers.new.items ≡ false
+        → Visit number (record { plain = hall.old; servers = servers.old.items })
         (record { plain = hall.new; servers = servers.new.items }) }
 {
     let server = &mut servers[number];

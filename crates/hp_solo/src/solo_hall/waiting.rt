@@ -1,13 +1,25 @@
-ghost use Rattle.std.specs.Prelude.{◌≡◌, ◌<◌, ◌≤◌, ◌+◌, ℕ, Some, false, true, IfSome};
+ghost use Rattle.std.specs.Prelude.{◌≡◌, ◌<◌, ◌≤◌, ◌+◌, ℕ, Some, false, true, IfSome, if◌then◌else◌};
 ghost use Rattle.hp_base.specs.declared.limits.TheConstants.{MAX_HEAPS};
+ghost use Rattle.hp_hall.specs.Course.{IsCourse};
 ghost use Rattle.hp_hall.specs.HallSteps.{with_note};
 ghost use Rattle.hp_hall.specs.HallView.{IsHome, slot_at};
 ghost use Rattle.hp_hall.specs.Weights.{IsPending, pending_at};
 ghost use Rattle.hp_hall.specs.declared.note.Note.{Note};
 ghost use Rattle.hp_proc.specs.Falling.{if_moved};
 ghost use Rattle.hp_solo.specs.Beside.{HaveServedBeside};
-ghost use Rattle.hp_solo.specs.Solo.{IsAway, IsBeside, IsBetween, IsNextDue, IsNotBeside, IsOutside, server_at, solo_weight};
-ghost use Rattle.hp_solo.specs.SoloCourse.{IsSoloCourse};
+ghost use Rattle.hp_solo.specs.Sequence.{VisitsBeside};
+ghost use Rattle.hp_solo.specs.Solo.{
+  AreLater,
+  IsAway,
+  IsBeside,
+  IsBetween,
+  IsNextDue,
+  IsNotBeside,
+  IsOutside,
+  has_stopped,
+  server_at,
+  solo_weight,
+};
 
 use super::SoloHall;
 use super::deadlines::next_due;
@@ -24,7 +36,8 @@ impl<'p, M: Mapper> SoloHall<'p, M> {
         requires home { IsHome (slot_at self.old.plain MAX_HEAPS) }
         ensures served { HaveServedBeside me above self.old self.new result }
         ensures weight { solo_weight self.new + if_moved result ≤ solo_weight self.old }
-        ensures goes_on { IsSoloCourse self.old self.new }
+        ensures later { AreLater self.old self.new }
+        ensures visits { has_stopped self.new.servers ≡ false → VisitsBeside me above self.old self.new }
     {
         let (from, to) = apart(me as usize, above, self.servers.len());
         serve_range(&mut self.plain, &mut self.servers, from, to)
@@ -35,7 +48,8 @@ impl<'p, M: Mapper> SoloHall<'p, M> {
         requires serves { IsAway (server_at self.old.servers me) }
         ensures plain { self.new.plain ≡ with_note me (Note.Yielded above (Some moved)) self.old.plain }
         ensures servers { self.new.servers ≡ self.old.servers }
-        ensures goes_on { IsSoloCourse self.old self.new }
+        ensures course { IsCourse self.old.plain self.new.plain }
+        ensures later { AreLater self.old self.new }
     {
         self.plain.note_yield(me, above, Some(moved));
     }
@@ -127,6 +141,9 @@ impl<'p, M: Mapper> Waiting for SoloHall<'p, M> {
 // The numbers of those below or above one of so many: from which on, and up to which.
 fn apart(me: usize, above: bool, count: usize) -> (usize, usize)
     requires { me < count }
+    ensures first { result.0 ≡ (if above then me + 1 else 0) }
+    ensures last { result.1 ≡ (if above then count else me) }
+    ensures order { result.0 ≤ result.1 }
     ensures within { result.1 ≤ count }
     ensures outside { (who : ℕ) → IsNotBeside me above who → IsOutside result.0 result.1 who }
     ensures beside { (who : ℕ) → IsBeside me above who → who < count → IsBetween result.0 result.1 who }

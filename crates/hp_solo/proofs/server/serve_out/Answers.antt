@@ -10,6 +10,7 @@ use Rattle.hp_solo.specs.Served.ServesOn.{rests}
 use Rattle.hp_solo.specs.Solo.{FindsNothing, looks_in_vain}
 use Rattle.hp_solo.proofs.SoloLooks.{last_behind}
 use Rattle.hp_solo.proofs.SoloTies.{party_served_same, party_served_then, served_more_by}
+use Rattle.hp_solo.proofs.Visited.{some_first, some_more, visited_by}
 use Rattle.hp_solo.proofs.server.serve_out.Goals as goal
 
 -- who goes on has done something
@@ -27,6 +28,7 @@ serving-init g c = record {
     did = done_same c.args.hall.now c.args.participant.now.me;
     serves = rests c.args.participant.now;
   };
+  served_some = some_first c.args.hall.now c.args.participant.now;
   still_hall = λ still. refl;
   still_party = λ still. refl;
 }
@@ -71,9 +73,19 @@ serving-preserved g c = record {
   serves = served_more_by c.args.hall.now c.serving.hall c.serve_once.new.hall c.args.participant.now c.serving.participant c.serve_once.new.participant
       c.in_ok-more.more (result_ok c.serve_once.result) (ap result_ok c.in_ok-more.was) c.serving.invariant.served c.serving.invariant.serves
       c.serve_once.ensures.serves;
+  served_some =
+      some_more c.args.hall.now c.serving.hall c.serve_once.new.hall c.args.participant.now c.serving.participant c.serve_once.new.participant
+      (result_ok c.serve_once.result) (ap result_ok (c.in_ok-more.was ∙ ap Ok c.if-not-more.false)) c.serving.invariant.served
+      c.serve_once.ensures.served c.serve_once.ensures.serves c.serving.invariant.served_some;
   still_hall = λ still. cc;
   still_party = λ still. cc;
 }
+
+pub returns-then-not-more-clause-visited : goal.returns-then-not-more-clause-visited
+returns-then-not-more-clause-visited g c =
+    visited_by c.args.hall.now c.serving.hall c.serve_once.new.hall c.args.participant.now c.serving.participant c.serve_once.new.participant
+    (result_ok c.serve_once.result) (ap result_ok (c.in_ok-more.was ∙ ap Ok c.if-not-more.true)) c.serving.invariant.served
+    c.serve_once.ensures.served c.serve_once.ensures.serves c.serving.invariant.served_some
 
 pub returns-then-not-more-clause-idle : goal.returns-then-not-more-clause-idle
 returns-then-not-more-clause-idle g c = λ nothing.

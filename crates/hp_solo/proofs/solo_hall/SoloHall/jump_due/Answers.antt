@@ -3,7 +3,7 @@ use Rattle.std.proofs.Common.{ℕ, ◌+◌, ◌≤◌, List, None, false, refl, 
 use Rattle.hp_solo.specs.Draining.{IsNoneDue, TurnsLeave}
 use Rattle.hp_solo.specs.Solo.{IsPendingDue, ServerView, SoloView, solo_weight}
 use Rattle.hp_solo.proofs.SoloDrained.{due_falls, turns_paused, turns_same}
-use Rattle.hp_solo.proofs.SoloTurns.{course_paused, solo_paused}
+use Rattle.hp_solo.proofs.SoloTurns.{later_paused, solo_paused}
 use Rattle.hp_solo.proofs.solo_hall.SoloHall.jump_due.Goals as goal
 
 pub invariant_of-self : goal.invariant_of-self
@@ -25,8 +25,8 @@ returns-in-Some-clause-leaves g c =
     let old : SoloView = record { plain = c.self.inside.plain; servers = servers } in
     let new : SoloView = record { plain = c.pause.new.self; servers = servers } in
     subst (λ (before : SoloView). TurnsLeave before new) c.self.view_is
-    (turns_paused old new c.in-Some.due
-    (course_paused c.self.inside.plain c.pause.new.self servers c.in-Some.due c.pause.ensures.course c.pause.ensures.hall) c.pause.ensures.hall)
+    (turns_paused old new c.in-Some.due c.pause.ensures.course
+    (later_paused c.self.inside.plain c.pause.new.self servers c.in-Some.due c.pause.ensures.hall) c.pause.ensures.hall)
 
 pub returns-in-Some-clause-weight : goal.returns-in-Some-clause-weight
 returns-in-Some-clause-weight g c =

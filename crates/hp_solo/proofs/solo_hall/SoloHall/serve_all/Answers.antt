@@ -1,9 +1,12 @@
 -- All who are there have served.
-use Rattle.std.proofs.Common.{◌≡◌, ◌<◌, length, subst, arith}
+use Rattle.std.proofs.Common.{◌≡◌, ℕ, ◌<◌, length, subst, arith}
+use Rattle.std.specs.Prelude.{⊤}
 use Rattle.hp_solo.specs.Draining.{TurnsLeave}
+use Rattle.hp_solo.specs.Sequence.{Visits}
 use Rattle.hp_solo.specs.Served.{IsInRisingNumber}
-use Rattle.hp_solo.specs.Solo.{IsOutside, SoloView}
+use Rattle.hp_solo.specs.Solo.{IsBetween, IsOutside, IsQuiet, SoloView}
 use Rattle.hp_solo.proofs.SoloDrained.{empty_at_rest, turns_served}
+use Rattle.hp_solo.proofs.SoloQuiet.{quiet_beside}
 use Rattle.hp_solo.proofs.SoloTurns.{rests_within}
 use Rattle.hp_solo.proofs.solo_hall.SoloHall.serve_all.Goals as goal
 
@@ -26,7 +29,24 @@ returns-clause-rests g c = λ who.
     c.serve_range.ensures.rests who (omega arith) (omega (arith, below, c.serve_range.ensures.count, c.len-count.ensures)))
 
 pub returns-clause-quiet : goal.returns-clause-quiet
-returns-clause-quiet g c = λ still off.
+returns-clause-quiet g c = λ still.
+    let count = c.len-count.result in
+    let old : SoloView = record { plain = c.self.inside.plain; servers = c.self.inside.servers.items } in
+    let new : SoloView = record { plain = c.serve_range.new.hall; servers = c.serve_range.new.servers.items } in
+    subst (λ (before : SoloView). IsQuiet (λ who. ⊤) before new) c.self.view_is
+    (quiet_beside (λ who. ⊤) (IsBetween 0 count) old new (λ who between. tt) (λ who beside below. (omega arith, omega (arith, below, c.len-count.ensures)))
+    (c.serve_range.ensures.quiet still))
+
+pub returns-clause-visits : goal.returns-clause-visits
+returns-clause-visits g c = λ going.
+    let old : SoloView = record { plain = c.self.inside.plain; servers = c.self.inside.servers.items } in
+    let new : SoloView = record { plain = c.serve_range.new.hall; servers = c.serve_range.new.servers.items } in
+    let all : c.len-count.result ≡ length old.servers = omega (arith, c.len-count.ensures) in
+    subst (λ (before : SoloView). Visits 0 (length before.servers) before new) c.self.view_is
+    (subst (λ (count : ℕ). Visits 0 count old new) all (c.serve_range.ensures.visits (omega arith) going))
+
+pub returns-clause-empty : goal.returns-clause-empty
+returns-clause-empty g c = λ still off.
     let old : SoloView = record { plain = c.self.inside.plain; servers = c.self.inside.servers.items } in
     let new : SoloView = record { plain = c.serve_range.new.hall; servers = c.serve_range.new.servers.items } in
     let count : c.len-count.result ≡ length old.servers = omega (arith, c.len-count.ensures) in

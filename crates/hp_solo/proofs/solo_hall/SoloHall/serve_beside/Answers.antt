@@ -1,12 +1,14 @@
 -- Those who stand on one side of the one that waits have served, and nobody else.
-use Rattle.std.proofs.Common.{ℕ, ◌<◌, length, subst, arith}
+use Rattle.std.proofs.Common.{◌≡◌, ℕ, ◌<◌, length, ap, subst, ◌∙◌, arith}
+use Rattle.std.specs.Prelude.{if◌then◌else◌}
 use Rattle.hp_solo.specs.Beside.{HaveServedBeside}
-use Rattle.hp_solo.specs.Solo.{IsBeside, IsBetween, IsNotBeside, IsOutside, SoloView}
-use Rattle.hp_solo.specs.SoloCourse.{IsSoloCourse}
+use Rattle.hp_solo.specs.Sequence.{VisitsBeside}
+use Rattle.hp_solo.specs.Solo.{AreLater, IsBeside, IsBetween, IsNotBeside, IsOutside, SoloView}
 use Rattle.hp_solo.proofs.SoloLooks.{looks_within}
 use Rattle.hp_solo.proofs.SoloQuiet.{quiet_beside}
 use Rattle.hp_solo.proofs.SoloTies.{serving_narrow}
 use Rattle.hp_solo.proofs.SoloTurns.{rests_within}
+use Rattle.hp_solo.proofs.Visited.{visits_beside}
 use Rattle.hp_solo.proofs.solo_hall.SoloHall.serve_beside.Goals as goal
 
 pub returns-clause-served : goal.returns-clause-served
@@ -37,8 +39,18 @@ returns-clause-served g c =
           (λ who beside below. c.apart-from.ensures.beside who beside (omega (arith, below, c.len.ensures))) (is.quiet still);
     })
 
-pub returns-clause-goes_on : goal.returns-clause-goes_on
-returns-clause-goes_on g c =
+pub returns-clause-later : goal.returns-clause-later
+returns-clause-later g c =
     let new : SoloView = record { plain = c.serve_range.new.hall; servers = c.serve_range.new.servers.items } in
-    subst (λ (hall : SoloView). IsSoloCourse hall new) c.self.view_is
-    (record { plain = c.serve_range.ensures.serving.course; servers = c.serve_range.ensures.later })
+    subst (λ (hall : SoloView). AreLater hall new) c.self.view_is c.serve_range.ensures.later
+
+pub returns-clause-visits : goal.returns-clause-visits
+returns-clause-visits g c = λ going.
+    let above = c.args.above in
+    let old : SoloView = record { plain = c.self.inside.plain; servers = c.self.inside.servers.items } in
+    let new : SoloView = record { plain = c.serve_range.new.hall; servers = c.serve_range.new.servers.items } in
+    let all : c.len.result ≡ length old.servers = omega (arith, c.len.ensures) in
+    subst (λ (hall : SoloView). VisitsBeside c.args.me above hall new) c.self.view_is
+    (visits_beside c.args.me above c.apart-from.result.0 c.apart-from.result.1 old new c.apart-from.ensures.first
+    (c.apart-from.ensures.last ∙ ap (λ (count : ℕ). if above then count else c.args.me) all)
+    (c.serve_range.ensures.visits c.apart-from.ensures.order going))

@@ -9,6 +9,7 @@ use Rattle.hp_solo.proofs.SoloLooks.{last_one}
 use Rattle.hp_solo.proofs.SoloQuiet.{quiet_one}
 use Rattle.hp_solo.proofs.SoloTies.{served_later, served_one, tied_in}
 use Rattle.hp_solo.proofs.SoloWeights.{served_falls}
+use Rattle.hp_solo.proofs.Visited.{visit_one}
 use Rattle.hp_solo.proofs.solo_hall.serving.serve_at.Goals as goal
 
 pub serve-requires-clause-tied : goal.serve-requires-clause-tied
@@ -47,4 +48,7 @@ returns g c =
       quiet = λ nothing.
           quiet_one old new servers c.args.number server after there numbered
           (c.serve.ensures.idle nothing) (c.serve.ensures.found nothing);
+      visited =
+          visit_one old new servers c.args.number server after there numbered c.serve.ensures.served c.serve.ensures.stopped
+          c.serve.ensures.visited;
     }

@@ -4,12 +4,14 @@ use Rattle.std.proofs.lemmas.Bool.{cases_lt}
 use Rattle.hp_base.specs.declared.limits.TheConstants.{MAX_HEAPS}
 use Rattle.hp_hall.specs.Course.{done_same}
 use Rattle.hp_proc.specs.Falling.{if_moved}
+use Rattle.hp_solo.specs.Sequence.{Visits}
 use Rattle.hp_solo.specs.Solo.{IsBetween, IsOutside, IsServerAtRest, ServerView, SoloView, server_at}
 use Rattle.hp_solo.specs.SoloCourse.{later_then, server_stays}
 use Rattle.hp_solo.proofs.SoloLooks.{looks_more}
 use Rattle.hp_solo.proofs.SoloRises.{rising_more, rising_same}
 use Rattle.hp_solo.proofs.SoloQuiet.{quiet_beside, quiet_first, quiet_more}
 use Rattle.hp_solo.proofs.SoloTies.{serving_narrow, serving_same, serving_then}
+use Rattle.hp_solo.proofs.Visited.{visits_ended, visits_more}
 use Rattle.hp_solo.proofs.solo_hall.serving.serve_range.Goals as goal
 
 -- who stands outside is another than one that stands between
@@ -79,6 +81,7 @@ loop-number-init g c = record {
   looks = λ who begun below. absurd (omega arith);
   others = λ who outside. refl;
   quiet = λ still. quiet_first c.args.from (record { plain = c.args.hall.now; servers = c.args.servers.now.items });
+  visits = λ going. Visits.none (record { plain = c.args.hall.now; servers = c.args.servers.now.items });
 }
 
 pub serve_at-served-requires : goal.serve_at-served-requires
@@ -130,6 +133,7 @@ loop-number-preserved g c =
           let both = both_still c.loop-number.moved c.serve_at-served.result c.either-moved.result c.either-moved.ensures still in
           quiet_more from number first before after was.begun one.serving.clock (was.serving.did number waits) (was.others number waits)
           one.serving.did one.others (was.quiet both.0) (one.quiet both.1);
+      visits = visits_more from number first before after one.later was.visits one.visited;
     }
 
 pub returns-clause-rests : goal.returns-clause-rests
@@ -161,6 +165,13 @@ returns-clause-quiet g c = λ still.
     let ended : to ≤ number = c.loop-number-test.false in
     quiet_beside (IsBetween from to) (IsBetween from number) old new (between_ended from to number was.within)
     (λ who between below. (between.0, omega (arith, between.1, ended))) (was.quiet still)
+
+pub returns-clause-visits : goal.returns-clause-visits
+returns-clause-visits g c = λ order going.
+    let was = c.loop-number.invariant in
+    let old : SoloView = record { plain = c.args.hall.now; servers = c.args.servers.now.items } in
+    let new : SoloView = record { plain = c.loop-number.hall; servers = c.loop-number.servers.items } in
+    visits_ended c.args.from c.args.to c.loop-number.number old new order c.loop-number-test.false was.within (was.visits going)
 
 pub returns-clause-looks : goal.returns-clause-looks
 returns-clause-looks g c = λ who begun below.

@@ -1,8 +1,9 @@
 use Rattle.std.proofs.Common.{◌≡◌, ℕ, ◌+◌, ◌<◌, ◌≤◌, ◌⊎◌, false, length}
 use Rattle.hp_hall.specs.Weights.{boxes_weight, pending_at}
 use Rattle.hp_proc.specs.Falling.{if_moved}
+use Rattle.hp_solo.specs.Sequence.{Visits}
 use Rattle.hp_solo.specs.Served.{IsInRisingNumber}
-use Rattle.hp_solo.specs.Solo.{AreLater, AreTied, IsBetween, IsOutside, IsQuiet, IsServerAtRest, IsServing, LooksLastAt, server_at, servers_weight}
+use Rattle.hp_solo.specs.Solo.{AreLater, AreTied, IsBetween, IsOutside, IsQuiet, IsServerAtRest, IsServing, LooksLastAt, has_stopped, server_at, servers_weight}
 use Rattle.hp_solo.proofs.solo_hall.serving.serve_range.Given as goal
 
 abbrev pub invariant-loop-number : goal.invariant-loop-number
@@ -20,5 +21,7 @@ invariant-loop-number g l = record {
   looks : (who : ℕ) → l.from ≤ who → who < l.number → LooksLastAt l.initial.hall l.hall who (server_at l.servers.items who);
   others : (who : ℕ) → IsOutside l.from l.number who → server_at l.servers.items who ≡ server_at l.initial.servers.items who;
   quiet : l.moved ≡ false → IsQuiet (IsBetween l.from l.number) (record { plain = l.initial.hall; servers = l.initial.servers.items })
+      (record { plain = l.hall; servers = l.servers.items });
+  visits : has_stopped l.servers.items ≡ false → Visits l.from l.number (record { plain = l.initial.hall; servers = l.initial.servers.items })
       (record { plain = l.hall; servers = l.servers.items });
 }

@@ -1,5 +1,5 @@
 use Rattle.hp_hall.specs.Mail.{Posts}
-use Rattle.hp_solo.proofs.SoloTies.{goes_on_by, holds_after}
+use Rattle.hp_solo.proofs.SoloCalls.{goes_on_by, holds_after}
 use Rattle.hp_solo.proofs.solo_hall.calls.SoloHallHall.post.Goals as goal
 
 pub invariant_of-self : goal.invariant_of-self
@@ -10,4 +10,4 @@ invariant_of-self g c =
 pub returns-clause-goes_on : goal.returns-clause-goes_on
 returns-clause-goes_on g c =
     goes_on_by c.args.self.now c.self.inside.plain c.self.inside.servers.items c.self.view_is c.args.me c.requires.serves c.post.new.self
-    (Posts c.args.to c.args.frame c.args.action c.post.result) c.post.ensures.goes_on c.post.ensures.did
+    (Posts c.args.to c.args.frame c.args.action c.post.result) tt c.post.ensures.goes_on c.post.ensures.did c.post.ensures.clock

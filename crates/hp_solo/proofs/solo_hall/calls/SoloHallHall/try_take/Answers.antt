@@ -1,5 +1,5 @@
 use Rattle.hp_hall.specs.Slots.{slot_number}
-use Rattle.hp_solo.proofs.SoloTies.{goes_on, holds_after, tried_apart}
+use Rattle.hp_solo.proofs.SoloCalls.{goes_on_tried, holds_after}
 use Rattle.hp_solo.proofs.solo_hall.calls.SoloHallHall.try_take.Goals as goal
 
 pub invariant_of-self : goal.invariant_of-self
@@ -10,5 +10,5 @@ invariant_of-self g c =
 pub returns-clause-goes_on : goal.returns-clause-goes_on
 returns-clause-goes_on g c =
     let is = c.try_take.ensures in
-    goes_on c.args.self.now c.self.inside.plain c.self.inside.servers.items c.self.view_is c.args.me c.requires.serves c.try_take.new.self
-    is.goes_on (tried_apart c.self.inside.plain c.try_take.new.self c.args.me (slot_number c.args.slot) c.try_take.result is.did is.did_nothing)
+    goes_on_tried c.args.self.now c.self.inside.plain c.self.inside.servers.items c.self.view_is c.args.me c.requires.serves c.try_take.new.self
+    (slot_number c.args.slot) c.try_take.result is.goes_on is.did is.busy is.clock

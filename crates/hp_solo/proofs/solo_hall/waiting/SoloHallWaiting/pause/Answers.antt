@@ -6,8 +6,9 @@ use Rattle.hp_hall.specs.HallView.{HallView}
 use Rattle.hp_hall.specs.Mail.{Notes}
 use Rattle.hp_hall.specs.declared.note.Note.TheVariants.{Paused}
 use Rattle.hp_solo.specs.Solo.{SoloView}
+use Rattle.hp_solo.proofs.Sequenced.{paused}
 use Rattle.hp_solo.proofs.SoloSteps.{did_apart}
-use Rattle.hp_solo.proofs.SoloTies.{goes_on}
+use Rattle.hp_solo.proofs.SoloCalls.{goes_on}
 use Rattle.hp_solo.proofs.SoloTurns.{pause_falls, solo_paused}
 use Rattle.hp_solo.proofs.solo_hall.waiting.SoloHallWaiting.pause.Goals as goal
 
@@ -36,7 +37,14 @@ returns-clause-lower g c = λ deadline.
 
 pub returns-clause-goes_on : goal.returns-clause-goes_on
 returns-clause-goes_on g c =
-    goes_on c.args.self.now c.self.inside.plain c.self.inside.servers.items c.self.view_is c.args.me c.requires.serves c.pause.new.self
+    let me = c.args.me in
+    let moved = c.args.moved in
+    let until = c.args.until in
+    let reading = c.reading_behind-reading.result in
+    let new : SoloView = record { plain = c.pause.new.self; servers = c.self.inside.servers.items } in
+    goes_on c.args.self.now c.self.inside.plain c.self.inside.servers.items c.self.view_is me c.requires.serves c.pause.new.self
     c.pause.ensures.course
-    (did_apart c.self.inside.plain c.pause.new.self c.args.me (Notes (Paused c.args.moved c.args.until))
-    (ap (λ (hall : HallView). hall.mail) c.pause.ensures.hall))
+    (did_apart c.self.inside.plain c.pause.new.self me (Notes (Paused moved until)) (ap (λ (hall : HallView). hall.mail) c.pause.ensures.hall))
+    (paused me c.args.self.now new c.requires.serves moved until reading
+    (c.pause.ensures.hall ∙ ap (λ (hall : SoloView). after_pause me moved until reading hall.plain) c.self.view_is)
+    (ap (λ (hall : SoloView). hall.servers) c.self.view_is) c.reading_behind-reading.ensures.still c.reading_behind-reading.ensures.next)

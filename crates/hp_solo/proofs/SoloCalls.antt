@@ -1,0 +1,106 @@
+-- A hall of one thread over a call of one that is away: it goes on, by one call more of its sequence, and what holds of it holds after it.
+use Rattle.std.proofs.Common.{◌≡◌, ◌≢◌, ℕ, ◌<◌, List, [], ◌∷◌, length, Option, Some, None, Result, Ok, Err, IfOk, IfErr, IsSome, refl, sym, ap, subst, ◌∙◌, arith}
+use Rattle.std.proofs.lemmas.Option.{slice_get_within}
+use Rattle.hp_hall.specs.Course.{IsCourse}
+use Rattle.hp_hall.specs.HallView.{HallView, HasDone, own_at}
+use Rattle.hp_hall.specs.Mail.{MailStep, Takes, steps_of}
+use Rattle.hp_hall.specs.declared.kept.Kept.{Kept}
+use Rattle.hp_proc.specs.Party.{Party}
+use Rattle.hp_proc.proofs.Steps.{other_step, own_step}
+use Rattle.hp_solo.specs.Sequence.{IsCall, IsInSequence, Makes}
+use Rattle.hp_solo.specs.Solo.{AreLater, AreTied, IsAway, IsSolo, ServerView, SoloView, party_at, party_in, server_at}
+use Rattle.hp_solo.specs.SoloCourse.{IsSoloCourse, server_stays}
+use Rattle.hp_solo.proofs.Sequenced.{made_by, one_call, told}
+use Rattle.hp_solo.proofs.SoloTies.{tied_on}
+
+-- who is away is not there
+away_none : (server : Option ServerView) → IsAway server → party_in server ≡ None
+away_none None away = absurd away
+away_none (Some server) away = away
+
+away_some : (server : Option ServerView) → IsAway server → (there : ServerView) × (server ≡ Some there)
+away_some None away = absurd away
+away_some (Some server) away = (server, refl)
+
+pub away_below : (servers : List ServerView) (who : ℕ) → IsAway (server_at servers who) → who < length servers
+away_below servers who away =
+    let there = away_some (server_at servers who) away in slice_get_within servers who there.0 there.1
+
+none_not_some : (o : Option Party) (party : Party) → o ≡ None → o ≡ Some party → ⊥
+none_not_some o party none some = cc
+
+none_not_there : (o : Option Party) → o ≡ None → IsSome o → ⊥
+none_not_there None none there = cc
+none_not_there (Some party) none there = cc
+
+-- after a call of one that is away all others are tied still
+pub tied_after_call : (old new : HallView) (servers : List ServerView) (me : ℕ) → IsAway (server_at servers me) → IsCourse old new
+    → ((who : ℕ) → who ≢ me → own_at new who ≡ own_at old who) → AreTied old servers → AreTied new servers
+tied_after_call old new servers me away course own tied who party there =
+    let apart : who ≢ me = λ (same : who ≡ me).
+    none_not_some (party_at servers me) party (away_none (server_at servers me) away) (ap (party_at servers) (sym same) ∙ there) in
+    tied_on old new who party course (own who apart) (tied who party there)
+
+-- a hall that is opened for a call of one that is away: who calls is one of the values', the course of the whole is that of the values, and
+-- what holds of every hall holds after it
+module _ (value : SoloView) (old : HallView) (servers : List ServerView)
+    (value_is : ◌≡◌ {A = SoloView} (record { plain = old; servers = servers }) value) (me : ℕ) (away : IsAway (server_at value.servers me)) where
+  away_here : IsAway (server_at servers me)
+  away_here = subst (λ (hall : SoloView). IsAway (server_at hall.servers me)) (sym value_is) away
+
+  -- who is there did nothing
+  pub later_after : (new : HallView) → ((who : ℕ) → who ≢ me → HasDone old new who [])
+      → AreLater value (record { plain = new; servers = servers })
+  later_after new nothing =
+      subst (λ (hall : SoloView). AreLater hall (record { plain = new; servers = servers })) value_is
+      (λ who. server_stays old new who (server_at servers who) (λ there.
+      nothing who (λ same.
+      none_not_there (party_at servers who) (ap (party_at servers) same ∙ away_none (server_at servers me) away_here) there)))
+
+  pub goes_on : (new : HallView) → IsCourse old new → ((who : ℕ) → who ≢ me → HasDone old new who [])
+      → IsInSequence value (record { plain = new; servers = servers }) → IsSoloCourse value (record { plain = new; servers = servers })
+  goes_on new course nothing sequence = record {
+    plain = subst (λ (hall : SoloView). IsCourse hall.plain new) value_is course;
+    servers = later_after new nothing;
+    sequence = sequence;
+  }
+
+  -- by a step of the one that calls
+  pub goes_on_by : (new : HallView) (step : MailStep) → IsCall step → IsCourse old new
+      → ((who : ℕ) → HasDone old new who (steps_of who ((me, step) ∷ []))) → new.clock ≡ old.clock
+      → IsSoloCourse value (record { plain = new; servers = servers })
+  goes_on_by new step call course did clock =
+      let own : HasDone old new me (step ∷ []) = subst (λ (steps : List MailStep). HasDone old new me steps) (own_step me step) (did me) in
+      let nothing : (who : ℕ) → who ≢ me → HasDone old new who [] =
+      λ who apart. subst (λ (steps : List MailStep). HasDone old new who steps) (other_step who me step apart) (did who) in
+      goes_on new course nothing
+      (subst (λ (hall : SoloView). IsInSequence hall (record { plain = new; servers = servers })) value_is
+      (one_call me (record { plain = old; servers = servers }) (record { plain = new; servers = servers }) away_here step own
+      (λ going. Makes.calls step call (made_by me (step ∷ []) old new course own nothing) refl clock)))
+
+  -- by what it tells without a step
+  pub goes_on_told : (new : HallView) → IsCourse old new → ((who : ℕ) → HasDone old new who []) → new.clock ≡ old.clock
+      → IsSoloCourse value (record { plain = new; servers = servers })
+  goes_on_told new course did clock =
+      goes_on new course (λ who apart. did who)
+      (subst (λ (hall : SoloView). IsInSequence hall (record { plain = new; servers = servers })) value_is
+      (told me (record { plain = old; servers = servers }) (record { plain = new; servers = servers }) away_here
+      (made_by me [] old new course (did me) (λ who apart. did who)) (did me) refl clock))
+
+  -- by a try, which comes out well
+  pub goes_on_tried : {E : Type 0} (new : HallView) (number : ℕ) (result : Result Kept E) → IsCourse old new
+      → IfOk result (λ kept. (who : ℕ) → HasDone old new who (steps_of who ((me, Takes number kept) ∷ []))) → IfErr result (λ busy. ⊥)
+      → new.clock ≡ old.clock → IsSoloCourse value (record { plain = new; servers = servers })
+  goes_on_tried new number (Ok kept) course took busy clock = goes_on_by new (Takes number kept) tt course took clock
+  goes_on_tried new number (Err error) course took busy clock = absurd busy
+
+  module _ (is : IsSolo (record { plain = old; servers = servers })) where
+    pub may_call : me < length old.owns
+    may_call = omega (arith, away_below servers me away_here, is.count)
+
+    pub holds_after : (new : HallView) → IsCourse old new → ((who : ℕ) → who ≢ me → own_at new who ≡ own_at old who)
+        → IsSolo (record { plain = new; servers = servers })
+    holds_after new course own = record {
+      count = is.count ∙ sym course.count;
+      tied = tied_after_call old new servers me away_here course own is.tied;
+    }
