@@ -1,0 +1,198 @@
+-- A quiet world stays quiet where states of rows alone change, and where an ask that was lost is taken back.
+use Rattle.std.proofs.Common.{◌≡◌, ◌∙◌, ℕ, ◌+◌, ◌<◌, ◌≤◌, ◌==◌, Bool, true, false, ◌&&◌, max, List, [], ◌∷◌, ◌++◌, length, Option, Some, None, inl, inr, refl, sym, ap, subst, arith}
+use Rattle.std.specs.Prelude.{slice_get}
+use Rattle.std.specs.List.{list_any}
+use Rattle.std.specs.Option.{option_and_then}
+use Rattle.std.proofs.lemmas.Bool.{and_parts, cond_both, eqb-true, or_from}
+use Rattle.std.proofs.lemmas.List.Elements.{Contains-push_cases}
+use Rattle.hp_base.specs.declared.plan_entry.MsgKind.TheVariants as message
+use Rattle.hp_hall.specs.Holding.{IsArmed}
+use Rattle.hp_maps.specs.MapsView.{calls_of}
+use Rattle.hp_segs.specs.LaterSteps.{has_failed_from}
+use Rattle.hp_segs.specs.SegsView.{SegsView, closed_number, granted_by, grants_or_refuses, is_member}
+use Rattle.hp_segs.specs.Sound.{IsSound}
+use Rattle.hp_segs.specs.declared.growth.Growth.{Growth}
+use Rattle.hp_segs.specs.declared.outcome.AskLog.{AskLog}
+use Rattle.hp_segs.specs.declared.outcome.Cause.{Cause}
+use Rattle.hp_segs.proofs.ClosedLemmas.{and_false, closed_push}
+use Rattle.hp_proc.specs.Party.{Party}
+use Rattle.hp_reasons.specs.Counting.{lost_among}
+use Rattle.hp_reasons.specs.Episode.{IsBase, IsExcused, IsInPlace, IsQuietWorld, Setting, World, number_of_party}
+use Rattle.hp_reasons.specs.Failing.{AreGrantsWithin}
+use Rattle.hp_reasons.specs.Outcomes.{late_outcomes, stale_outcomes, withdrawn_outcomes}
+use Rattle.hp_reasons.specs.Shared.{with_segs}
+use Rattle.hp_reasons.specs.Stages.{world_with}
+use Rattle.hp_reasons.proofs.AsksCounts.{if_so}
+use Rattle.hp_reasons.proofs.AsksClaims.{HasOutcomes, IsBackIn, taken_back}
+use Rattle.hp_reasons.proofs.LinesQuiet.{quiet_stays}
+use Rattle.hp_reasons.proofs.OutcomesMore.{failed_push, late_push, stale_push, withdrawn_push}
+use Rattle.hp_reasons.proofs.Said.{set_long, set_same}
+
+module _ (set : Setting) (me : ℕ) (world : World) (segs : SegsView) (party : Party) (quiet : IsQuietWorld set world)
+    (there : slice_get world.parties me ≡ Some party) (sound : IsSound segs) (armed : IsArmed segs) where
+  -- the segment value has come to another
+  abbrev pub later : World
+  later = world_with (with_segs segs world.shared) world.mail me party world
+
+  -- of which states of rows are others, and armed asks
+  pub quiet_claimed : HasOutcomes world.shared.segs segs → IsQuietWorld set later
+  quiet_claimed same =
+      let place = quiet.base.places me party there in
+      quiet_stays set me world (with_segs segs world.shared) party party quiet there
+      (record { me = refl; deadline = refl; plan = refl; core = refl; asked = refl; sent = refl; calls = omega arith })
+      (record {
+        boxes = refl;
+        numbers = refl;
+        log = same.log;
+        asks = same.asks;
+        growth = same.growth;
+        others = λ who other. refl;
+        members = λ who other. ap (λ (roster : List Bool). is_member roster who) same.roster;
+        sound = sound;
+        armed = armed;
+      })
+      (record {
+        joined = ap (λ (roster : List Bool). is_member roster me) same.roster ∙ place.joined;
+        number = place.number;
+        within = omega (arith, place.within, ap length same.log);
+        granted = λ joined. subst (AreGrantsWithin (number_of_party world me)) (sym same.asks) (place.granted joined);
+      })
+
+  -- an ask is taken back
+  module _ (number since now : ℕ) (log : segs.log ≡ world.shared.segs.log) (growth : segs.growth ≡ world.shared.segs.growth)
+      (roster : segs.roster ≡ world.shared.segs.roster)
+      (asks : segs.asks ≡ world.shared.segs.asks ++ taken_back me number since now world.shared.segs ∷ []) (sent : number ≤ party.asked)
+      (room : withdrawn_outcomes me world.shared.segs.asks < lost_among set.plan message.Alloc me party.sent.allocs) where
+    abbrev before : List AskLog
+    before = world.shared.segs.asks
+
+    abbrev entry : AskLog
+    entry = taken_back me number since now world.shared.segs
+
+    -- who is there
+    was_there : (who : ℕ) (one : Party) → slice_get later.parties who ≡ Some one → slice_get world.parties who ≡ Some one
+    was_there who one found =
+        sym (ap (λ (parties : List Party). slice_get parties who) (set_same world.parties me party there)) ∙ found
+
+    own_party : (who : ℕ) (one : Party) → slice_get world.parties who ≡ Some one → me ≡ who → one ≡ party
+    own_party who one found own =
+        let same : Some one ≡ Some party = sym found ∙ sym (ap (slice_get world.parties) own) ∙ there in
+        cc
+
+    within_still : (who n : ℕ) → AreGrantsWithin n before → AreGrantsWithin n segs.asks
+    within_still who n granted =
+        subst (AreGrantsWithin n) (sym asks)
+        (λ other generation among is.
+        elim (Contains-push_cases before entry other among) [
+          | inl old ↦ granted other generation old is
+          | inr last ↦
+              let never : None ≡ Some generation = ap (λ (entry : AskLog). granted_by entry.outcome) last ∙ is in
+              absurd (cc never)
+        ])
+
+    closed_still : (who : ℕ) (one : Party) → slice_get world.parties who ≡ Some one → closed_number segs.asks who ≤ one.asked
+    closed_still who one found =
+        let was = (quiet.base.places who one found).closed in
+        subst (λ (asks : List AskLog). closed_number asks who ≤ one.asked) (sym asks)
+        (subst (λ n. n ≤ one.asked) (sym (closed_push before entry who))
+        (cond_both ((me == who) && true) (max (closed_number before who) number) (closed_number before who) (λ n. n ≤ one.asked)
+        (λ counts.
+        let own = eqb-true me who (and_parts (me == who) true counts).0 in
+        let same : one.asked ≡ party.asked = ap (λ (one : Party). one.asked) (own_party who one found own) in
+        omega (arith, was, sent, same))
+        (λ other. was)))
+
+    failed_still : (who call : ℕ) → has_failed_from before who call ≡ false → has_failed_from segs.asks who call ≡ false
+    failed_still who call none =
+        ap (λ (asks : List AskLog). has_failed_from asks who call) asks
+        ∙ failed_push before entry who call
+        ∙ or_from (has_failed_from before who call) false none refl
+
+    place_still : (who : ℕ) (one : Party) → slice_get world.parties who ≡ Some one → IsInPlace set later who one
+    place_still who one found =
+        let place = quiet.base.places who one found in
+        record {
+          me = place.me;
+          deadline = place.deadline;
+          plan = place.plan;
+          joined = ap (λ (roster : List Bool). is_member roster who) roster ∙ place.joined;
+          number = place.number;
+          within = omega (arith, place.within, ap length log);
+          granted = λ joined. within_still who (number_of_party world who) (place.granted joined);
+          failed = failed_still who (calls_of one.maps + 1) place.failed;
+          closed = closed_still who one found;
+          follower = place.follower;
+          syncs = place.syncs;
+        }
+
+    late_still : (who : ℕ) → late_outcomes who segs.asks ≡ late_outcomes who before
+    late_still who = omega (arith, ap (late_outcomes who) asks, late_push before entry who)
+
+    stale_still : (who : ℕ) → stale_outcomes who segs.asks ≡ stale_outcomes who before
+    stale_still who =
+        let none : if_so ((me == who) && false) ≡ if_so false = ap if_so (and_false (me == who)) in
+        omega (arith, ap (stale_outcomes who) asks, stale_push before entry who, none)
+
+    withdrawn_still : (who : ℕ) (one : Party) → slice_get world.parties who ≡ Some one
+        → withdrawn_outcomes who before ≤ lost_among set.plan message.Alloc who one.sent.allocs
+        → withdrawn_outcomes who segs.asks ≤ lost_among set.plan message.Alloc who one.sent.allocs
+    withdrawn_still who one found was =
+        subst (λ (n : ℕ). n ≤ lost_among set.plan message.Alloc who one.sent.allocs)
+        (sym (ap (withdrawn_outcomes who) asks ∙ withdrawn_push before entry who))
+        (cond_both ((me == who) && true) 1 0
+        (λ (n : ℕ). withdrawn_outcomes who before + n ≤ lost_among set.plan message.Alloc who one.sent.allocs)
+        (λ counts.
+        let own = eqb-true me who (and_parts (me == who) true counts).0 in
+        let more : withdrawn_outcomes who before < lost_among set.plan message.Alloc who party.sent.allocs =
+        subst (λ (n : ℕ). withdrawn_outcomes n before < lost_among set.plan message.Alloc n party.sent.allocs) own room in
+        let same : lost_among set.plan message.Alloc who one.sent.allocs ≡ lost_among set.plan message.Alloc who party.sent.allocs =
+        ap (λ (one : Party). lost_among set.plan message.Alloc who one.sent.allocs) (own_party who one found own) in
+        omega (arith, more, same))
+        (λ other. omega (arith, was)))
+
+    excused_still : (who : ℕ) (first one : Party) → slice_get later.parties 0 ≡ Some first → slice_get later.parties who ≡ Some one
+        → IsExcused set later who first one
+    excused_still who first one top found =
+        let was = quiet.base.excused who first one (was_there 0 first top) (was_there who one found) in
+        record {
+          late = omega (arith, was.late, late_still who);
+          withdrawn = withdrawn_still who one (was_there who one found) was.withdrawn;
+        }
+
+    none_noted : (its : Option Growth) (cause : Cause) → its ≡ None → option_and_then (λ growth. growth.noted) its ≡ Some cause → ⊥
+    none_noted None cause none is = cc
+    none_noted (Some growth) cause none is = cc
+
+    base_still : IsBase set later
+    base_still = record {
+      boxes = quiet.base.boxes;
+      numbers = quiet.base.numbers;
+      mail = quiet.base.mail;
+      parties = set_long world.parties me party ∙ quiet.base.parties;
+      said = quiet.base.said;
+      sound = sound;
+      armed = armed;
+      primary = sound.places.primary;
+      declared = λ who member. quiet.base.declared who (sym (ap (λ (roster : List Bool). is_member roster who) roster) ∙ member);
+      places = λ who one found. place_still who one (was_there who one found);
+      noted = λ cause is. absurd (none_noted segs.growth cause (growth ∙ quiet.growth) is);
+      excused = excused_still;
+    }
+
+    pub quiet_back : IsQuietWorld set later
+    quiet_back = record {
+      base = base_still;
+      idle = λ primary found. quiet.idle primary (was_there 0 primary found);
+      growth = growth ∙ quiet.growth;
+      empty = quiet.empty;
+      doubled = λ who one found. omega (arith, quiet.doubled who one (was_there who one found), stale_still who);
+    }
+
+  -- so it is whether there was an answer or not
+  pub quiet_settled : (number since now : ℕ) → IsBackIn me number since now world.shared.segs segs
+      → (list_any (grants_or_refuses me number) world.shared.segs.asks ≡ false
+      → (number ≤ party.asked) × (withdrawn_outcomes me world.shared.segs.asks < lost_among set.plan message.Alloc me party.sent.allocs))
+      → IsQuietWorld set later
+  quiet_settled number since now (IsBackIn.answered same) lost = quiet_claimed same
+  quiet_settled number since now (IsBackIn.back none log growth roster asks) lost =
+      quiet_back number since now log growth roster asks (lost none).0 (lost none).1

@@ -1,0 +1,69 @@
+-- Once a wait for an answer has ended all is quiet; and an ask without an answer was lost.
+use Rattle.std.proofs.Common.{◌≡◌, ℕ, zero, suc, Bool, true, false, ◌⊎◌, [], Some, None, inl, inr, refl, arith}
+use Rattle.std.specs.Prelude.{slice_get}
+use Rattle.std.specs.List.{list_any}
+use Rattle.hp_core.specs.declared.asked.Asked.{Asked}
+use Rattle.hp_core.specs.declared.asked.Asked.TheVariants as want
+use Rattle.hp_core.specs.declared.phase.Phase.TheVariants.{Idle}
+use Rattle.hp_segs.specs.SegsView.{grants_or_refuses}
+use Rattle.hp_segs.specs.declared.ask.Ask.{Ask}
+use Rattle.hp_proc.specs.Party.{Party}
+use Rattle.hp_reasons.specs.Episode.{AreDoubled, AreOthersEmpty, HasCoordinator, IsAnsweredFor, IsQuietWorld, IsUnanswered, MayBeTakenBack, Setting, Stage, World, mail_of}
+use Rattle.hp_reasons.specs.Stages.{IsSent}
+use Rattle.hp_reasons.specs.Waits.{HasComeOut, is_ended, is_last}
+use Rattle.hp_reasons.proofs.TurnsQuiet.{quiet_idle}
+
+true_is_false : (b : Bool) → b ≡ true → b ≡ false → ⊥
+true_is_false b is other = cc
+
+all_empty : (world : World) → mail_of world 0 ≡ [] → AreOthersEmpty world → (who : ℕ) → mail_of world who ≡ []
+all_empty world none empty zero = none
+all_empty world none empty (suc who) = empty (suc who) (λ (same : suc who ≡ 0). omega (arith, same))
+
+-- an ask was lost, and nothing else is under way
+pub record WasLost (set : Setting) (call : Asked) (world : World) : Type 0 where
+  pub unanswered : IsUnanswered call world
+  pub coordinator : HasCoordinator set world Idle call false
+  pub alone : world.shared.segs.growth ≡ None
+  pub gone : mail_of world 0 ≡ []
+  pub doubled : AreDoubled set world call false false
+  pub back : MayBeTakenBack set call world
+
+-- a stage at which nothing will be under way any more
+ended_as : (set : Setting) (call : Asked) (sent : ℕ) (world : World) (stage : Stage set call sent true world) → is_ended stage ≡ true
+    → ((is_last stage ≡ true) × IsAnsweredFor call world) ⊎ WasLost set call world
+ended_as set call sent world (Stage.fresh clock unanswered coordinator alone to_do copies some empty doubled) ended =
+    absurd (true_is_false false ended refl)
+ended_as set call sent world (Stage.lost unanswered coordinator alone to_do gone empty doubled back) ended =
+    inr (record { unanswered = unanswered; coordinator = coordinator; alone = alone; gone = gone; doubled = doubled; back = back })
+ended_as set call sent world
+    (Stage.growing round holds kind from number unanswered coordinator its to_do clock bodies doubled follow awaited) ended = absurd (true_is_false false ended refl)
+ended_as set call sent world
+    (Stage.settling round since holds kind from number unanswered coordinator alone closed early clock logged bodies doubled waits answered)
+    ended = absurd (true_is_false false ended refl)
+ended_as set call sent world (Stage.over holds coordinator alone closed bodies doubled told answered) ended = inl (refl, answered)
+
+-- all is quiet at the end of a wait
+pub quiet_out : (set : Setting) (call : Asked) (sent now : ℕ) (world : World) → IsSent set call sent → HasComeOut set call sent now world
+    → IsQuietWorld set world
+quiet_out set call sent now world is_sent out =
+    elim (ended_as set call sent world out.at_turn.stage out.ended) [
+      | inl last ↦ out.at_turn.ended last.0
+      | inr lost ↦
+          quiet_idle set call sent is_sent world out.at_turn.base (all_empty world lost.gone out.at_turn.empty) lost.coordinator lost.alone
+          lost.doubled
+    ]
+
+-- an ask may be taken back
+pub record IsLostAsk (set : Setting) (ask : Ask) (world : World) : Type 0 where
+  pub asked : (party : Party) → slice_get world.parties ask.from ≡ Some party → party.asked ≡ ask.number
+  pub room : MayBeTakenBack set (want.Grow ask) world
+
+-- where it has no answer at the end
+pub lost_out : (set : Setting) (ask : Ask) (sent now : ℕ) (world : World) → HasComeOut set (want.Grow ask) sent now world
+    → list_any (grants_or_refuses ask.from ask.number) world.shared.segs.asks ≡ false → IsLostAsk set ask world
+lost_out set ask sent now world out none =
+    elim (ended_as set (want.Grow ask) sent world out.at_turn.stage out.ended) [
+      | inl last ↦ absurd (true_is_false _ last.1 none)
+      | inr lost ↦ record { asked = lost.unanswered.asked; room = lost.back }
+    ]

@@ -1,0 +1,193 @@
+-- Outcomes that fit a world, with one more too, and what holds at every moment where a growth has ended by such a one.
+use Rattle.std.proofs.Common.{◌≡◌, ◌∙◌, ℕ, ◌+◌, ◌<◌, ◌≤◌, ◌==◌, max, Bool, true, false, not, ◌&&◌, cond, List, [], ◌∷◌, ◌++◌, length, Contains, Option, Some, None, inl, inr, refl, sym, ap, subst, arith}
+use Rattle.std.proofs.lemmas.Bool.{and_parts, and_right, cond_both, eqb-true, or_from}
+use Rattle.std.proofs.lemmas.List.Elements.{Contains-push_cases}
+use Rattle.std.proofs.lemmas.Option.{slice_get-get_or}
+use Rattle.std.specs.Option.{option_and_then}
+use Rattle.std.specs.Prelude.{slice_get, slice_index_or}
+use Rattle.hp_base.specs.declared.plan_entry.MsgKind.TheVariants as message
+use Rattle.hp_core.specs.Core.{Core}
+use Rattle.hp_hall.specs.Holding.{IsArmed}
+use Rattle.hp_maps.specs.MapsView.{MapsView, calls_of}
+use Rattle.hp_segs.specs.LaterSteps.{has_failed_from, outcome_fails_from}
+use Rattle.hp_segs.specs.SegsView.{SegsView, closed_number, granted_by, is_member, is_stale}
+use Rattle.hp_segs.specs.Sound.{IsSound}
+use Rattle.hp_segs.specs.declared.growth.Growth.{Growth}
+use Rattle.hp_segs.specs.declared.outcome.AskLog.{AskLog}
+use Rattle.hp_segs.specs.declared.outcome.Cause.{Cause}
+use Rattle.hp_segs.proofs.ClosedLemmas.{closed_push}
+use Rattle.hp_proc.specs.Coordinating.{with_core}
+use Rattle.hp_proc.specs.Party.{Party}
+use Rattle.hp_proc.specs.Posting.{times_sent}
+use Rattle.hp_proc.specs.declared.sent.Sent.{Sent}
+use Rattle.hp_reasons.specs.Counting.{lost_among}
+use Rattle.hp_reasons.specs.Episode.{IsBase, IsExcused, IsInPlace, Setting, World, number_of_party}
+use Rattle.hp_reasons.specs.Failing.{AreGrantsWithin}
+use Rattle.hp_reasons.specs.Outcomes.{is_late, is_withdrawn, late_outcomes, refuses, stale_outcomes, withdrawn_outcomes}
+use Rattle.hp_reasons.proofs.CopiesAlong.{CameOf}
+use Rattle.hp_reasons.proofs.OutcomesMore.{failed_push, late_push, stale_push, withdrawn_push}
+use Rattle.hp_reasons.proofs.PollingGoes.{came_of, goes}
+use Rattle.hp_reasons.proofs.Said.{set_long}
+
+-- outcomes that fit a world: what was granted is acknowledged, what failed was called, what is closed was asked for, and what was
+-- refused is excused
+pub record FitsIn (set : Setting) (world : World) (asks : List AskLog) : Type 0 where
+  pub granted : (who : ℕ) → is_member world.shared.segs.roster who ≡ true → AreGrantsWithin (number_of_party world who) asks
+  pub failed : (who : ℕ) (party : Party) → slice_get world.parties who ≡ Some party
+      → has_failed_from asks who (calls_of party.maps + 1) ≡ false
+  pub closed : (who : ℕ) (party : Party) → slice_get world.parties who ≡ Some party → closed_number asks who ≤ party.asked
+  pub late : (who : ℕ) (primary party : Party) → slice_get world.parties 0 ≡ Some primary → slice_get world.parties who ≡ Some party
+      → late_outcomes who asks ≤ lost_among set.plan message.Sync who (times_sent primary.sent.syncs who)
+  pub withdrawn : (who : ℕ) (party : Party) → slice_get world.parties who ≡ Some party
+      → withdrawn_outcomes who asks ≤ lost_among set.plan message.Alloc who party.sent.allocs
+
+-- a participant that is declared is there
+pub is_there : (set : Setting) (world : World) (who : ℕ) → IsBase set world → who < set.count → (primary : Party)
+    → (party : Party) × (slice_get world.parties who ≡ Some party)
+is_there set world who base declared primary =
+    (slice_index_or world.parties who primary, slice_get-get_or world.parties who primary (omega (arith, base.parties, declared)))
+
+-- the outcomes that there are fit
+pub fit_before : (set : Setting) (world : World) (primary : Party) → IsBase set world → slice_get world.parties 0 ≡ Some primary
+    → FitsIn set world world.shared.segs.asks
+fit_before set world primary base there = record {
+  granted = λ who member.
+      let found = is_there set world who base (base.declared who member) primary in
+      let place = base.places who found.0 found.1 in place.granted (sym place.joined ∙ member);
+  failed = λ who party found. (base.places who party found).failed;
+  closed = λ who party found. (base.places who party found).closed;
+  late = λ who first party there found. (base.excused who first party there found).late;
+  withdrawn = λ who party found. (base.excused who primary party there found).withdrawn;
+}
+
+-- ONE OUTCOME MORE
+
+-- an outcome that fits a world: a grant is acknowledged by all, a failure was called, its ask was sent, who is late was not told, and it
+-- was not taken back
+pub record FitsOne (set : Setting) (world : World) (asks : List AskLog) (entry : AskLog) : Type 0 where
+  pub granted : (who generation : ℕ) → is_member world.shared.segs.roster who ≡ true → granted_by entry.outcome ≡ Some generation
+      → generation ≤ number_of_party world who
+  pub failed : (who : ℕ) (party : Party) → slice_get world.parties who ≡ Some party
+      → outcome_fails_from who (calls_of party.maps + 1) entry.outcome ≡ false
+  pub sent : (party : Party) → slice_get world.parties entry.from ≡ Some party → entry.number ≤ party.asked
+  pub late : (who : ℕ) (primary party : Party) → slice_get world.parties 0 ≡ Some primary → slice_get world.parties who ≡ Some party
+      → refuses (is_late who) entry.outcome ≡ true
+      → late_outcomes who asks < lost_among set.plan message.Sync who (times_sent primary.sent.syncs who)
+  pub stands : refuses is_withdrawn entry.outcome ≡ false
+
+-- no more pass, where one that comes doesn't
+nothing_more : (n : ℕ) (b : Bool) → b ≡ false → n + cond b 1 0 ≡ n
+nothing_more n b is = ap (λ (c : Bool). n + cond c 1 0) is ∙ add_none n
+  where
+    add_none : (n : ℕ) → n + 0 ≡ n
+    add_none n = omega arith
+
+-- nobody's stale asks have become more
+pub stale_same : (asks : List AskLog) (entry : AskLog) → is_stale entry.outcome ≡ false → (who : ℕ)
+    → stale_outcomes who (asks ++ entry ∷ []) ≡ stale_outcomes who asks
+stale_same asks entry fresh who =
+    stale_push asks entry who
+    ∙ nothing_more (stale_outcomes who asks) _ (and_right (entry.from == who) (is_stale entry.outcome) fresh)
+
+module _ (set : Setting) (world : World) (asks : List AskLog) (entry : AskLog) (fits : FitsIn set world asks)
+    (one : FitsOne set world asks entry) where
+  granted_more : (who : ℕ) → is_member world.shared.segs.roster who ≡ true → (other : AskLog) (generation : ℕ)
+      → Contains (asks ++ entry ∷ []) other → granted_by other.outcome ≡ Some generation → generation ≤ number_of_party world who
+  granted_more who member other generation among is =
+      elim (Contains-push_cases asks entry other among) [
+        | inl before ↦ fits.granted who member other generation before is
+        | inr last ↦ one.granted who generation member (ap (λ (entry : AskLog). granted_by entry.outcome) last ∙ is)
+      ]
+
+  closed_more : (who : ℕ) (party : Party) → slice_get world.parties who ≡ Some party → closed_number (asks ++ entry ∷ []) who ≤ party.asked
+  closed_more who party there =
+      subst (λ n. n ≤ party.asked) (sym (closed_push asks entry who))
+      (cond_both ((entry.from == who) && not (is_stale entry.outcome)) (max (closed_number asks who) entry.number) (closed_number asks who)
+      (λ n. n ≤ party.asked)
+      (λ counts.
+      let own = eqb-true entry.from who (and_parts (entry.from == who) (not (is_stale entry.outcome)) counts).0 in
+      omega (arith, fits.closed who party there, one.sent party (ap (slice_get world.parties) own ∙ there)))
+      (λ other. fits.closed who party there))
+
+  late_more : (who : ℕ) (primary party : Party) → slice_get world.parties 0 ≡ Some primary → slice_get world.parties who ≡ Some party
+      → (its : Bool) → refuses (is_late who) entry.outcome ≡ its
+      → late_outcomes who asks + cond its 1 0 ≤ lost_among set.plan message.Sync who (times_sent primary.sent.syncs who)
+  late_more who primary party first there true is = omega (arith, one.late who primary party first there is)
+  late_more who primary party first there false is = omega (arith, fits.late who primary party first there)
+
+  -- the outcomes fit with it
+  pub fits_more : FitsIn set world (asks ++ entry ∷ [])
+  fits_more = record {
+    granted = granted_more;
+    failed = λ who party there.
+        failed_push asks entry who (calls_of party.maps + 1)
+        ∙ or_from (has_failed_from asks who (calls_of party.maps + 1)) (outcome_fails_from who (calls_of party.maps + 1) entry.outcome)
+        (fits.failed who party there) (one.failed who party there);
+    closed = closed_more;
+    late = λ who primary party first there.
+        subst (λ n. n ≤ lost_among set.plan message.Sync who (times_sent primary.sent.syncs who)) (sym (late_push asks entry who))
+        (late_more who primary party first there (refuses (is_late who) entry.outcome) refl);
+    withdrawn = λ who party there.
+        let same = withdrawn_push asks entry who
+        ∙ nothing_more (withdrawn_outcomes who asks) _ (and_right (entry.from == who) (refuses is_withdrawn entry.outcome) one.stands) in
+        subst (λ n. n ≤ lost_among set.plan message.Alloc who party.sent.allocs) (sym same) (fits.withdrawn who party there);
+  }
+
+-- WHERE A GROWTH HAS ENDED
+
+module _ (set : Setting) (world : World) (primary : Party) (next : Core) (segs : SegsView) (base : IsBase set world)
+    (there : slice_get world.parties 0 ≡ Some primary) (roster : segs.roster ≡ world.shared.segs.roster)
+    (longer : length world.shared.segs.log ≤ length segs.log) (fits : FitsIn set world segs.asks) where
+  abbrev later : World
+  later = goes world primary next segs
+
+  ended_place : (who : ℕ) (party : Party) (came : CameOf world who party) → IsInPlace set later who party
+  ended_place who party came =
+      let place = base.places who came.its came.there in
+      record {
+        me = came.same.me ∙ place.me;
+        deadline = came.same.deadline ∙ place.deadline;
+        plan = came.same.plan ∙ place.plan;
+        joined = ap (λ roster. is_member roster who) roster ∙ (place.joined ∙ sym came.same.joined);
+        number = λ joined. ap (λ (maps : MapsView). maps.number) came.same.maps ∙ place.number (sym came.same.joined ∙ joined);
+        within = omega (arith, place.within, longer);
+        granted = λ joined. fits.granted who (place.joined ∙ (sym came.same.joined ∙ joined));
+        failed = ap (λ (maps : MapsView). has_failed_from segs.asks who (calls_of maps + 1)) came.same.maps
+            ∙ fits.failed who came.its came.there;
+        closed = subst (λ (asked : ℕ). closed_number segs.asks who ≤ asked) (sym came.same.asked) (fits.closed who came.its came.there);
+        follower = λ apart. ap (λ (one : Party). one.core) (came.apart apart) ∙ place.follower apart;
+        syncs = ap (λ (sent : Sent). length sent.syncs) came.same.sent ∙ place.syncs;
+      }
+
+  ended_excused : (who : ℕ) (first party : Party) (lead : CameOf world 0 first) (came : CameOf world who party)
+      → IsExcused set later who first party
+  ended_excused who first party lead came = record {
+    late = subst (λ (sent : Sent). late_outcomes who segs.asks ≤ lost_among set.plan message.Sync who (times_sent sent.syncs who))
+        (sym lead.same.sent) (fits.late who lead.its came.its lead.there came.there);
+    withdrawn = subst (λ (sent : Sent). withdrawn_outcomes who segs.asks ≤ lost_among set.plan message.Alloc who sent.allocs)
+        (sym came.same.sent) (fits.withdrawn who came.its came.there);
+  }
+
+  none_noted : (cause : Cause) → None ≡ Some cause → ⊥
+  none_noted cause is = cc
+
+  -- what holds at every moment holds then
+  pub base_ended : IsSound segs → (IsArmed world.shared.segs → IsArmed segs) → segs.growth ≡ None → IsBase set later
+  base_ended sound armed alone =
+      let came = came_of world primary next segs there in
+      record {
+        boxes = base.boxes;
+        numbers = base.numbers;
+        mail = base.mail;
+        parties = set_long world.parties 0 (with_core next primary) ∙ base.parties;
+        said = base.said;
+        sound = sound;
+        armed = armed base.armed;
+        primary = ap (λ roster. is_member roster 0) roster ∙ base.primary;
+        declared = λ who member. base.declared who (sym (ap (λ roster. is_member roster who) roster) ∙ member);
+        places = λ who party found. ended_place who party (came who party found);
+        noted = λ cause is.
+            absurd
+            (none_noted cause (sym (ap (λ (growth : Option Growth). option_and_then (λ growth. growth.noted) growth) alone) ∙ is));
+        excused = λ who first party top found. ended_excused who first party (came 0 first top) (came who party found);
+      }

@@ -1,0 +1,42 @@
+-- In one thread growths are refused, and asks taken back or stale, for reasons that the plan names: all parts together.
+use Rattle.hp_reasons.specs.Lines.{AreWaitsQuiet}
+use Rattle.hp_reasons.specs.Threads.{ThreadsHaveReasons}
+use Rattle.hp_reasons.specs.Waits.{AreServingsKnown}
+use Rattle.hp_reasons.proofs.Asks.{asks_in_quiet}
+use Rattle.hp_reasons.proofs.CopiesServes.{primary_serves}
+use Rattle.hp_reasons.proofs.CoreServings.{coordinates}
+use Rattle.hp_reasons.proofs.Lines.{acts_in_quiet}
+use Rattle.hp_reasons.proofs.MemberServes.{member_serves_once}
+use Rattle.hp_reasons.proofs.MemberServings.{members_serve}
+use Rattle.hp_reasons.proofs.Notices.{notifies_in_quiet}
+use Rattle.hp_reasons.proofs.PollingOn.{polls_on}
+use Rattle.hp_reasons.proofs.SharedAlong.{courses_go_along}
+use Rattle.hp_reasons.proofs.StartingFresh.{starts_fresh}
+use Rattle.hp_reasons.proofs.ThreadsReasons.{reasons_by_acts}
+use Rattle.hp_reasons.proofs.TurnsIdle.{turns_in_quiet}
+use Rattle.hp_reasons.proofs.WaitsEnd.{waits_out}
+use Rattle.hp_reasons.proofs.WeighingServings.{core_weighs_less, member_weighs_less}
+
+-- what single servings make of a stage
+servings_known : AreServingsKnown
+servings_known = record {
+  primary = primary_serves starts_fresh polls_on;
+  member = member_serves_once;
+  coordinates = coordinates;
+  follows = members_serve;
+  along = courses_go_along;
+  core_lighter = core_weighs_less;
+  member_lighter = member_weighs_less;
+}
+
+-- what turns, asks and notices make of a quiet world
+waits_quiet : AreWaitsQuiet
+waits_quiet = record {
+  known = servings_known;
+  turns = turns_in_quiet;
+  asks = asks_in_quiet waits_out;
+  notifies = notifies_in_quiet waits_out;
+}
+
+pub threads_reasons : ThreadsHaveReasons
+threads_reasons = reasons_by_acts waits_quiet acts_in_quiet

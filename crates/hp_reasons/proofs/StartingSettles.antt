@@ -1,0 +1,277 @@
+-- From where participant 0 is told to catch up for a rollback or a drop: its ask is over, or the round waits for its members.
+use Rattle.std.proofs.Common.{◌≡◌, ◌≢◌, ◌⊎◌, ℕ, ◌+◌, ◌<◌, ◌≤◌, ◌==◌, Bool, true, false, List, [], length, count_by, Option, Some, None, inl, inr, refl, sym, ap, subst, ◌∙◌, arith, if◌then◌else◌}
+use Rattle.std.proofs.lemmas.Bool.{cases_Bool, eqb-true}
+use Rattle.std.specs.List.{All, list_any}
+use Rattle.std.specs.Option.{option_and_then}
+use Rattle.std.specs.Prelude.{slice_get, slice_index_or}
+use Rattle.hp_base.specs.declared.caught.Caught.{Caught}
+use Rattle.hp_base.specs.declared.caught.Caught.TheVariants as caught
+use Rattle.hp_base.specs.declared.map_answer.MapAnswer.{MapAnswer}
+use Rattle.hp_base.specs.declared.map_answer.MapAnswer.TheVariants as answer
+use Rattle.hp_base.specs.declared.row.Row.{Row}
+use Rattle.hp_core.specs.Asks.{answer_by, asker, is_good, number_of}
+use Rattle.hp_core.specs.Core.{Done, is_growth}
+use Rattle.hp_core.specs.Following.{after_catching, noted}
+use Rattle.hp_core.specs.Mapped.{alone_by, drop_alone, mapped, other_members, sync_number, synced, told}
+use Rattle.hp_core.specs.Rounds.{ended, what_in}
+use Rattle.hp_core.specs.declared.asked.Asked.{Asked}
+use Rattle.hp_core.specs.declared.out.Out.{Out}
+use Rattle.hp_core.specs.declared.out.Out.TheVariants as out
+use Rattle.hp_core.specs.declared.phase.Phase.{Phase}
+use Rattle.hp_core.specs.declared.phase.Phase.TheVariants.{Idle, Mapping, Waiting}
+use Rattle.hp_core.specs.declared.phase.Round.{Round}
+use Rattle.hp_core.specs.declared.phase.RoundKind.{RoundKind}
+use Rattle.hp_core.specs.declared.phase.RoundKind.TheVariants as kind
+use Rattle.hp_core.proofs.GivingLemmas.{primary_alone}
+use Rattle.hp_frame.specs.declared.frame.Frame.{Frame}
+use Rattle.hp_frame.specs.declared.message.Body.TheVariants.{Sync}
+use Rattle.hp_segs.specs.LaterSteps.{is_failure, is_noted, noted_failure, noting}
+use Rattle.hp_segs.specs.SegsView.{SegsView, closed_number, is_member, outcome_of}
+use Rattle.hp_segs.specs.declared.growth.Growth.{Growth}
+use Rattle.hp_segs.specs.declared.outcome.AskLog.{AskLog}
+use Rattle.hp_segs.specs.declared.outcome.Cause.{Cause}
+use Rattle.hp_segs.specs.declared.outcome.Cause.TheVariants.{MapFailed}
+use Rattle.hp_segs.specs.declared.outcome.Outcome.{Outcome}
+use Rattle.hp_proc.specs.Coordinating.{MustMap, with_room}
+use Rattle.hp_proc.specs.Frames.{Says}
+use Rattle.hp_proc.specs.Party.{Party}
+use Rattle.hp_reasons.specs.Episode.{AreAnswersOrCopies, AreDoubled, HasCoordinator, IsAnsweredFor, IsBase, IsClosed, IsCopy, IsSetting, IsUnanswered, Setting, World, is_call, is_result_of, is_sync, mail_of, number_of_party}
+use Rattle.hp_reasons.specs.Servings.{CarriesOut}
+use Rattle.hp_reasons.specs.Shared.{Shared, with_boxes}
+use Rattle.hp_reasons.specs.Episode.Stage.{settling}
+use Rattle.hp_reasons.proofs.Said.{set_found}
+use Rattle.hp_reasons.specs.Stages.{ComesTo, world_with}
+use Rattle.hp_reasons.proofs.StartingMaps.{HasMapped, comes_on, has_mapped, mapped_coordinator, mapped_follows}
+use Rattle.hp_reasons.proofs.StartingBase.{Follows, base_follows, stays}
+use Rattle.hp_reasons.proofs.StartingAlong.{carries_maps, carries_posts, doubled_follows, posts_syncs, unanswered_follows}
+use Rattle.hp_reasons.proofs.StartingPosts.{base_behind, behind, coordinates_behind, doubled_behind, unanswered_behind}
+use Rattle.hp_reasons.proofs.StartingResults.{IsEnding, answered_same, ends_posted}
+use Rattle.hp_reasons.proofs.StartingSyncs.{first_unsynced, none_synced, synced_is, synced_party, syncs_mailed, syncs_posted, syncs_said}
+
+-- participant 0 is told to catch up for a rollback or a drop of an ask, which is closed; where a SYNC lies in a mailbox, it is a member's
+pub record IsSettling (set : Setting) (call : Asked) (sent : ℕ) (holds : Bool) (round : Round) (world : World) : Type 0 where
+  pub base : IsBase set world
+  pub coordinator : HasCoordinator set world (Mapping round) call holds
+  pub its_kind : is_growth round.kind ≡ false
+  pub from : round.from ≡ asker call
+  pub number : round.number ≡ number_of call
+  pub unanswered : IsUnanswered call world
+  pub alone : world.shared.segs.growth ≡ None
+  pub closed : IsClosed call world
+  pub answered : IsAnsweredFor call world
+  pub early : world.shared.clock ≤ sent + set.deadline
+  pub generation : round.generation ≤ length world.shared.segs.log
+  pub outcome : Outcome
+  pub found : outcome_of world.shared.segs.asks round.from round.number ≡ Some outcome
+  pub copies : AreAnswersOrCopies call (mail_of world 0)
+  pub doubled : AreDoubled set world call holds false
+  pub earlier : (member : ℕ) → list_any is_sync (mail_of world member) ≡ true
+      → (member ≢ 0) × (is_member world.shared.segs.roster member ≡ true)
+  pub unsettled : (member : ℕ) → member ≢ 0 → is_member world.shared.segs.roster member ≡ true
+      → (number_of_party world member < round.generation) ⊎ All (IsCopy call) (mail_of world 0)
+
+-- WHAT THE COORDINATOR MAKES OF IT
+
+elsewhere_none : (segs : SegsView) (row : Row) (call : ℕ) (got : MapAnswer) → segs.growth ≡ None → (fails : Bool)
+    → noted 0 segs (if fails then Some (record { row = row; call = call; got = got }) else None) ≡ segs
+elsewhere_none segs row call got alone true =
+    ap (λ (growth : Option Growth).
+    if is_noted segs 0 call row growth then record segs { growth = noting (MapFailed 0 call row.addr got) segs.growth } else segs) alone
+elsewhere_none segs row call got alone false = refl
+
+-- without an open growth nothing is noted
+pub catching_none : (segs : SegsView) (ended : Caught) → segs.growth ≡ None → after_catching 0 ended segs ≡ segs
+catching_none segs caught.Done alone = refl
+catching_none segs (caught.Refused row call) alone = elsewhere_none segs row call answer.Refused alone true
+catching_none segs (caught.Elsewhere row call got) alone = elsewhere_none segs row call got alone (is_failure row got)
+
+-- the round is over at once, or its SYNC goes out
+pub data Settles (round : Round) (now : ℕ) (segs : SegsView) (done : Done) : Type 0 where
+  ends : other_members segs ≡ 0 → done ≡ ended round segs → Settles round now segs done
+  waits : done ≡ synced round now (other_members segs) segs → Settles round now segs done
+
+module _ (round : Round) (ended_as : Caught) (now : ℕ) (segs : SegsView) (outcome : Outcome)
+    (found : outcome_of segs.asks round.from round.number ≡ Some outcome) where
+  alone_settles : (which : RoundKind) → is_growth which ≡ false → alone_by round ended_as now segs which ≡ ended round segs
+  alone_settles kind.Growth other = cc
+  alone_settles kind.Rollback other = ap (drop_alone round now segs) found
+  alone_settles kind.Drop other = ap (drop_alone round now segs) found
+
+  told_settles : (alone : Bool) → (other_members segs == 0) ≡ alone → is_growth round.kind ≡ false
+      → Settles round now segs
+      (if alone then alone_by round ended_as now segs round.kind else synced round now (other_members segs) segs)
+  told_settles true none other = ends (eqb-true (other_members segs) 0 none) (alone_settles round.kind other)
+  told_settles false some other = waits refl
+
+  pub mapped_settles : segs.growth ≡ None → is_growth round.kind ≡ false → Settles round now segs (mapped round ended_as now segs)
+  mapped_settles alone other =
+      subst (λ (after : SegsView). Settles round now segs (told round ended_as now after)) (sym (catching_none segs ended_as alone))
+      (told_settles (other_members segs == 0) refl other)
+
+module _ (set : Setting) (call : Asked) (sent : ℕ) (holds : Bool) (round : Round) (world : World) (primary : Party) (setting : IsSetting set)
+    (declared : asker call < set.count) (begun : IsSettling set call sent holds round world)
+    (there : slice_get world.parties 0 ≡ Some primary) where
+  module _ (mid new : Shared) (between after : Party) (next : Out) (has : HasMapped world round mid primary between next)
+      (same : has.done.segs ≡ with_room world.shared.segs) where
+    abbrev at_mid : World
+    at_mid = world_with mid world.mail 0 between world
+
+    segs_are : mid.segs ≡ with_room world.shared.segs
+    segs_are = ap (λ (shared : Shared). shared.segs) has.shared ∙ same
+
+    none_noted : (cause : Cause) → noted_failure has.done.segs ≡ Some cause → ⊥
+    none_noted cause is =
+        let none : noted_failure has.done.segs ≡ None =
+        ap noted_failure same ∙ ap (λ (growth : Option Growth). option_and_then (λ growth. growth.noted) growth) begun.alone in
+        cc (is, none)
+
+    follows : Follows set world mid primary between
+    follows =
+        mapped_follows set world round mid primary between next begun.base there setting.some has
+        (ap (λ (segs : SegsView). segs.roster) same)
+        (omega (arith, ap (λ (segs : SegsView). length segs.log) same))
+        (stays (ap (λ (segs : SegsView). segs.asks) same))
+        (λ cause is. absurd (none_noted cause is))
+
+    base_mid : IsBase set at_mid
+    base_mid = base_follows set world mid primary between begun.base there follows
+
+    there_mid : slice_get at_mid.parties 0 ≡ Some between
+    there_mid = set_found world.parties 0 primary between there
+
+    coordinator_mid : (phase : Phase) → has.done.next.phase ≡ phase → HasCoordinator set at_mid phase call holds
+    coordinator_mid phase is =
+        mapped_coordinator set world round mid primary between next begun.base there setting.some call holds phase has begun.coordinator is
+
+    asks_are : mid.segs.asks ≡ world.shared.segs.asks
+    asks_are = ap (λ (segs : SegsView). segs.asks) segs_are
+
+    alone_mid : mid.segs.growth ≡ None
+    alone_mid = ap (λ (segs : SegsView). segs.growth) segs_are ∙ begun.alone
+
+    closed_mid : IsClosed call at_mid
+    closed_mid = subst (λ (asks : List AskLog). number_of call ≤ closed_number asks (asker call)) (sym asks_are) begun.closed
+
+    answered_mid : IsAnsweredFor call at_mid
+    answered_mid = answered_same call world at_mid asks_are begun.answered
+
+    doubled_mid : AreDoubled set at_mid call holds false
+    doubled_mid = doubled_follows set world mid primary between there follows call holds false begun.doubled
+
+    ending : other_members world.shared.segs ≡ 0 → has.done.next.phase ≡ Idle → IsEnding set call holds at_mid
+    ending none phase = record {
+      base = base_mid;
+      coordinator = coordinator_mid Idle phase;
+      alone = alone_mid;
+      closed = closed_mid;
+      copies = begun.copies;
+      doubled = doubled_mid;
+      no_sync = λ member.
+          elim (cases_Bool (list_any is_sync (mail_of world member))) [
+            | inl is ↦
+                (let its = begun.earlier member is in
+                absurd (its.0 (primary_alone world.shared.segs.roster member none its.1)))
+            | inr isnt ↦ isnt
+          ];
+      answered = answered_mid;
+    }
+
+    -- the ask is answered
+    ends_so : other_members world.shared.segs ≡ 0 → has.done ≡ ended round (with_room world.shared.segs)
+        → CarriesOut set.count mid new between after next → ComesTo set call sent true world 0 new after
+    ends_so none is carried =
+        let answers_it : next ≡ out.Answer (asker call) round.number (what_in round.kind) (is_good begun.outcome) =
+        has.answer_is
+        ∙ (ap (λ (done : Done). done.next.out) is
+        ∙ (ap (answer_by round.from round.number (what_in round.kind)) begun.found
+        ∙ ap (λ (to : ℕ). out.Answer to round.number (what_in round.kind) (is_good begun.outcome)) begun.from)) in
+        comes_on set call sent true world mid new between after
+        (ends_posted set call sent true holds at_mid between (ending none (ap (λ (done : Done). done.next.phase) is)) there_mid setting.few
+        declared new after next round.number (what_in round.kind) (is_good begun.outcome) answers_it
+        (carries_posts set.count mid new between after next (λ must. subst MustMap answers_it must) carried))
+
+    module _ (frame : Frame) (says : Says frame (Sync round.generation (sync_number round.kind))) (members : ℕ)
+        (are : members ≡ other_members mid.segs) (phase : has.done.next.phase ≡ Waiting round world.shared.clock) where
+      -- who has a SYNC is another member
+      its_member : (member : ℕ)
+          → list_any is_sync
+          (slice_index_or
+          (syncs_said set at_mid between base_mid there_mid setting members are round.generation (sync_number round.kind) frame says).later member [])
+          ≡ true
+          → (member ≢ 0) × (is_member world.shared.segs.roster member ≡ true)
+      its_member member is =
+          elim (synced_is set at_mid between base_mid there_mid setting members are round.generation (sync_number round.kind) frame says member is) [
+            | inl before ↦ begun.earlier member before
+            | inr its ↦ (its.0, ap (λ (roster : List Bool). is_member roster member) (sym follows.roster) ∙ its.1)
+          ]
+
+      -- the SYNCs are posted
+      waits_for : ComesTo set call sent true at_mid 0
+          (with_boxes (syncs_said set at_mid between base_mid there_mid setting members are round.generation (sync_number round.kind) frame says).boxes mid)
+          (synced_party set at_mid between base_mid there_mid setting members are)
+      waits_for =
+          let said = syncs_said set at_mid between base_mid there_mid setting members are round.generation (sync_number round.kind) frame says in
+          let posted = syncs_posted set at_mid between base_mid there_mid setting members are in
+          let mailed = syncs_mailed set at_mid between base_mid there_mid setting members are round.generation (sync_number round.kind) frame says in
+          let party = synced_party set at_mid between base_mid there_mid setting members are in
+          let first = first_unsynced set at_mid between base_mid there_mid setting members are round.generation (sync_number round.kind) frame says in
+          record {
+            mail = said.later;
+            base = base_behind set at_mid said.boxes said.later between party base_mid there_mid posted mailed;
+            stage = settling round world.shared.clock holds begun.its_kind begun.from begun.number
+                (unanswered_behind set at_mid said.boxes said.later between party base_mid there_mid posted mailed call
+                (λ who.
+                none_synced set at_mid between base_mid there_mid setting members are round.generation (sync_number round.kind) frame says
+                (is_result_of call) refl who (begun.unanswered.nowhere who))
+                (unanswered_follows set world mid primary between there follows call begun.unanswered))
+                (coordinates_behind set at_mid said.boxes said.later between party base_mid there_mid posted mailed
+                (Waiting round world.shared.clock) call holds (coordinator_mid (Waiting round world.shared.clock) phase))
+                alone_mid closed_mid begun.early (omega (arith, follows.clock))
+                (omega (arith, begun.generation, follows.longer))
+                (subst (AreAnswersOrCopies call) (sym first) begun.copies)
+                (doubled_behind set at_mid said.boxes said.later between party base_mid there_mid posted mailed call holds false
+                (ap (count_by is_call) first) doubled_mid)
+                (λ leads member is.
+                let its = its_member member is in
+                record {
+                  stands = follows.clock;
+                  is_member = ap (λ (roster : List Bool). is_member roster member) follows.roster ∙ its.1;
+                  unsettled = elim (begun.unsettled member its.0 its.1) [
+                    | inl below ↦
+                        inl (subst (λ (n : ℕ). n < round.generation) (sym (follows.others member its.0)) below)
+                    | inr copies ↦ inr (subst (All (IsCopy call)) (sym first) copies)
+                  ];
+                })
+                (answered_same call at_mid (behind set at_mid said.boxes said.later between party base_mid there_mid posted mailed) refl answered_mid);
+          }
+
+    -- the round waits for its members
+    waits_so : has.done ≡ synced round world.shared.clock (other_members world.shared.segs) (with_room world.shared.segs)
+        → CarriesOut set.count mid new between after next → ComesTo set call sent true world 0 new after
+    waits_so is carried =
+        let members = other_members world.shared.segs in
+        let are : members ≡ other_members mid.segs = ap other_members (sym segs_are) in
+        let tells : next ≡ out.Sync round.generation (sync_number round.kind) members = has.answer_is ∙ ap (λ (done : Done). done.next.out) is in
+        let posted = posts_syncs set.count mid new between after next round.generation (sync_number round.kind) members tells
+        (carries_posts set.count mid new between after next (λ must. subst MustMap tells must) carried) in
+        let said = syncs_said set at_mid between base_mid there_mid setting members are round.generation (sync_number round.kind) posted.frame posted.says in
+        comes_on set call sent true world mid new between after
+        (subst (λ (shared : Shared). ComesTo set call sent true at_mid 0 shared after) (sym (posted.shared ∙ said.shared))
+        (subst (ComesTo set call sent true at_mid 0 (with_boxes said.boxes mid)) (sym posted.after_is)
+        (waits_for posted.frame posted.says members are (ap (λ (done : Done). done.next.phase) is))))
+
+  -- where participant 0 is told to catch up for it, the ask is over, or the round waits for its members
+  pub settles : (new : Shared) (after : Party) (answer : Out) → MustMap answer → CarriesOut set.count world.shared new primary after answer
+      → ComesTo set call sent true world 0 new after
+  settles new after answer must carried =
+      let then_so = carries_maps set.count world.shared new primary after answer must carried in
+      let has = has_mapped set world round then_so.mid primary then_so.between then_so.next begun.base there setting.some call holds begun.coordinator
+      then_so.maps_so in
+      elim (mapped_settles round has.caught world.shared.clock (with_room world.shared.segs) begun.outcome begun.found begun.alone begun.its_kind) [
+        | ends none done ↦
+            ends_so then_so.mid new then_so.between after then_so.next has (ap (λ (done : Done). done.segs) (has.is ∙ done)) none (has.is ∙ done)
+            then_so.carried
+        | waits done ↦
+            waits_so then_so.mid new then_so.between after then_so.next has (ap (λ (done : Done). done.segs) (has.is ∙ done)) (has.is ∙ done)
+            then_so.carried
+      ]

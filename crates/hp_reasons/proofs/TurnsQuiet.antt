@@ -1,0 +1,178 @@
+-- A turn has ended: the stage of the ask stands for participant 0 again, and once it is over all is quiet; and what a pause leaves of that.
+use Rattle.std.proofs.Common.{◌≡◌, ◌∙◌, ◌||◌, ◌&&◌, ◌<◌, ◌≤◌, ◌⊎◌, ℕ, zero, suc, Bool, true, false, List, [], ◌∷◌, length, replicate, Option, Some, None, is_some, inl, inr, refl, sym, ap, subst, arith}
+use Rattle.std.specs.Prelude.{slice_get, slice_set, if◌then◌else◌}
+use Rattle.std.specs.List.{list_any}
+use Rattle.std.proofs.lemmas.Bool.{cases_eq, or_from}
+use Rattle.std.proofs.lemmas.List.Elements.{All-head, All-tail}
+use Rattle.hp_core.specs.Asks.{asker}
+use Rattle.hp_core.specs.Core.{Core, holds_ask, is_idle}
+use Rattle.hp_core.specs.declared.asked.Asked.{Asked}
+use Rattle.hp_core.specs.declared.asked.Asked.TheVariants as want
+use Rattle.hp_core.specs.declared.phase.Phase.{Phase}
+use Rattle.hp_core.specs.declared.phase.Phase.TheVariants.{Idle}
+use Rattle.hp_frame.specs.declared.message.Body.{Body}
+use Rattle.hp_frame.specs.declared.message.Body.TheVariants.{Alloc, Answer, Free, Sync}
+use Rattle.hp_proc.specs.Coordinating.{core_holds}
+use Rattle.hp_proc.specs.Party.{Party}
+use Rattle.hp_reasons.specs.Episode.{AreAnswersOrCopies, AreDoubled, AreOthersEmpty, HasCoordinator, IsAnsweredFor, IsBase, IsCopy, IsQuietWorld, Setting, Stage, World, doubles, is_answer, is_sync, mail_of}
+use Rattle.hp_reasons.specs.Outcomes.{stale_outcomes}
+use Rattle.hp_reasons.specs.Stages.{IsSent}
+use Rattle.hp_reasons.specs.Waits.{is_last}
+
+true_is_false : (b : Bool) → b ≡ true → b ≡ false → ⊥
+true_is_false b is other = cc
+
+-- NO SYNC LIES AMONG ANSWERS AND COPIES OF AN ASK
+
+answer_no_sync : (body : Body) → is_answer body ≡ true → is_sync body ≡ false
+answer_no_sync (Alloc from number heap socket page size align bound flags) is = refl
+answer_no_sync (Free from number heap address len) is = refl
+answer_no_sync (Sync generation round) is = cc
+answer_no_sync (Answer from number what code) is = refl
+
+copy_no_sync : (call : Asked) (body : Body) → IsCopy call body → is_sync body ≡ false
+copy_no_sync (want.Grow ask) body copy = ap is_sync copy
+copy_no_sync (want.Shrink from number) body copy = ap is_sync copy.3
+
+pub none_syncs : (call : Asked) (bodies : List Body) → AreAnswersOrCopies call bodies → list_any is_sync bodies ≡ false
+none_syncs call [] all = refl
+none_syncs call (body ∷ bodies) all =
+    or_from (is_sync body) (list_any is_sync bodies)
+    (elim (All-head (λ body. (is_answer body ≡ true) ⊎ IsCopy call body) body bodies all) [
+      | inl answer ↦ answer_no_sync body answer
+      | inr copy ↦ copy_no_sync call body copy
+    ])
+    (none_syncs call bodies (All-tail (λ body. (is_answer body ≡ true) ⊎ IsCopy call body) body bodies all))
+
+empty_no_sync : (bodies : List Body) → bodies ≡ [] → list_any is_sync bodies ≡ false
+empty_no_sync bodies none = ap (list_any is_sync) none
+
+-- where others have nothing, and participant 0 no SYNC, nobody has one
+nobody_syncs : (call : Asked) (world : World) → AreOthersEmpty world → AreAnswersOrCopies call (mail_of world 0) → (member : ℕ)
+    → list_any is_sync (mail_of world member) ≡ true → ⊥
+nobody_syncs call world empty bodies zero some = true_is_false _ some (none_syncs call (mail_of world 0) bodies)
+nobody_syncs call world empty bodies (suc member) some =
+    true_is_false _ some (empty_no_sync (mail_of world (suc member)) (empty (suc member) (λ (same : suc member ≡ 0). omega arith)))
+
+-- THE NEXT TURN
+
+-- the stage stands for participant 0 again
+pub record LeadsAgain (set : Setting) (call : Asked) (sent : ℕ) (world : World) (before : Stage set call sent false world) : Type 0 where
+  pub stage : Stage set call sent true world
+  pub last : is_last stage ≡ true → is_last before ≡ true
+
+pub leads_again : (set : Setting) (call : Asked) (sent : ℕ) (world : World) → AreOthersEmpty world → (before : Stage set call sent false world)
+    → LeadsAgain set call sent world before
+leads_again set call sent world nobody (Stage.fresh clock unanswered coordinator alone to_do copies some empty doubled) =
+    record { stage = Stage.fresh clock unanswered coordinator alone to_do copies some empty doubled; last = λ last. last }
+leads_again set call sent world nobody (Stage.lost unanswered coordinator alone to_do none empty doubled back) =
+    record { stage = Stage.lost unanswered coordinator alone to_do none empty doubled back; last = λ last. last }
+leads_again set call sent world nobody
+    (Stage.growing round holds kind from number unanswered coordinator its to_do clock bodies doubled follow awaited) = record {
+      stage = Stage.growing round holds kind from number unanswered coordinator its to_do clock bodies doubled follow
+          (λ leads member some. absurd (nobody_syncs call world nobody bodies member some));
+      last = λ last. last;
+    }
+leads_again set call sent world nobody
+    (Stage.settling round since holds kind from number unanswered coordinator alone closed early clock logged bodies doubled waits answered) =
+    record {
+      stage = Stage.settling round since holds kind from number unanswered coordinator alone closed early clock logged bodies doubled
+          (λ leads member some. absurd (nobody_syncs call world nobody bodies member some)) answered;
+      last = λ last. last;
+    }
+leads_again set call sent world nobody (Stage.over holds coordinator alone closed bodies doubled told answered) =
+    record { stage = Stage.over holds coordinator alone closed bodies doubled told answered; last = λ last. last }
+
+-- ONCE THE ASK IS OVER
+
+held_somewhere : (held : List (Option Asked)) (place : ℕ) (call : Asked) → place < length held
+    → list_any is_some (slice_set held place (Some call)) ≡ true
+held_somewhere [] place call within = absurd (omega arith)
+held_somewhere (one ∷ held) zero call within = refl
+held_somewhere (one ∷ held) (suc place) call within = held_or (is_some one) _ (held_somewhere held place call (omega arith))
+  where
+    held_or : (first rest : Bool) → rest ≡ true → (first || rest) ≡ true
+    held_or true rest is = refl
+    held_or false rest is = is
+
+-- a coordinator that rests holds nothing
+holds_nothing : (set : Setting) (call : Asked) (sent : ℕ) (holds : Bool) (core : Core) → IsSent set call sent → holds_ask core ≡ false
+    → core.phase ≡ Idle → core.held ≡ (if holds then slice_set (replicate 16 None) (asker call) (Some call) else replicate 16 None)
+    → holds ≡ false
+holds_nothing set call sent false core is_sent none idle held = refl
+holds_nothing set call sent true core is_sent none idle held =
+    let some : list_any is_some core.held ≡ true =
+    ap (list_any is_some) held
+    ∙ held_somewhere (replicate 16 None) (asker call) call (omega (arith, is_sent.declared, is_sent.setting.few)) in
+    let both : holds_ask core ≡ true =
+    ap (λ (phase : Phase). is_idle phase && list_any is_some core.held) idle ∙ some in
+    absurd (true_is_false (holds_ask core) both none)
+
+-- what stands then
+pub record IsOver (set : Setting) (call : Asked) (world : World) : Type 0 where
+  pub holds : Bool
+  pub coordinator : HasCoordinator set world Idle call holds
+  pub alone : world.shared.segs.growth ≡ None
+  pub doubled : AreDoubled set world call holds false
+  pub answered : IsAnsweredFor call world
+
+pub over_with : (set : Setting) (call : Asked) (sent : ℕ) (leads : Bool) (world : World) (stage : Stage set call sent leads world)
+    → is_last stage ≡ true → IsOver set call world
+over_with set call sent leads world (Stage.fresh clock unanswered coordinator alone to_do copies some empty doubled) last = cc
+over_with set call sent leads world (Stage.lost unanswered coordinator alone to_do none empty doubled back) last = cc
+over_with set call sent leads world
+    (Stage.growing round holds kind from number unanswered coordinator its to_do clock bodies doubled follow awaited) last = cc
+over_with set call sent leads world
+    (Stage.settling round since holds kind from number unanswered coordinator alone closed early clock logged bodies doubled waits answered)
+    last = cc
+over_with set call sent leads world (Stage.over holds coordinator alone closed bodies doubled told answered) last =
+    record { holds = holds; coordinator = coordinator; alone = alone; doubled = doubled; answered = answered }
+
+-- all is quiet then
+module _ (set : Setting) (call : Asked) (sent : ℕ) (is_sent : IsSent set call sent) (world : World) (base : IsBase set world)
+    (none : (who : ℕ) → mail_of world who ≡ []) where
+  same_party : (coordinator : HasCoordinator set world Idle call false) (primary : Party) → slice_get world.parties 0 ≡ Some primary
+      → primary.core ≡ Some coordinator.is.its
+  same_party coordinator primary found =
+      let one : Some primary ≡ Some coordinator.primary = sym found ∙ coordinator.there in
+      let same : primary ≡ coordinator.primary = cc in
+      ap (λ (party : Party). party.core) same ∙ coordinator.is.there
+
+  few_stale : AreDoubled set world call false false → (who : ℕ) (party : Party) → slice_get world.parties who ≡ Some party
+      → stale_outcomes who world.shared.segs.asks ≤ doubles set who party
+  few_stale doubled who party found =
+      elim (cases_eq who (asker call)) [
+        | inl same ↦
+            (let its = doubled.asker_is party (subst (λ (n : ℕ). slice_get world.parties n ≡ Some party) same found) in
+            subst (λ (n : ℕ). stale_outcomes n world.shared.segs.asks ≤ doubles set n party) (sym same) (omega (arith, its)))
+        | inr apart ↦ doubled.others who party apart found
+      ]
+
+  pub quiet_idle : HasCoordinator set world Idle call false → world.shared.segs.growth ≡ None → AreDoubled set world call false false
+      → IsQuietWorld set world
+  quiet_idle coordinator alone doubled = record {
+    base = base;
+    idle = λ primary found.
+        (coordinator.is.its, same_party coordinator primary found, coordinator.is.deadline, coordinator.is.phase_is, coordinator.is.held);
+    growth = alone;
+    empty = none;
+    doubled = few_stale doubled;
+  }
+
+  quiet_with : (holds : Bool) → HasCoordinator set world Idle call holds → holds ≡ false → world.shared.segs.growth ≡ None
+      → AreDoubled set world call holds false → IsQuietWorld set world
+  quiet_with holds coordinator nothing alone doubled =
+      quiet_idle (subst (HasCoordinator set world Idle call) nothing coordinator) alone
+      (subst (λ (holds : Bool). AreDoubled set world call holds false) nothing doubled)
+
+  -- it holds nothing
+  nothing_held : (over : IsOver set call world)
+      → ((primary : Party) → slice_get world.parties 0 ≡ Some primary → core_holds primary.core ≡ false) → over.holds ≡ false
+  nothing_held over rests =
+      let its = over.coordinator.is.its in
+      let nothing : holds_ask its ≡ false = sym (ap core_holds over.coordinator.is.there) ∙ rests over.coordinator.primary over.coordinator.there in
+      holds_nothing set call sent over.holds its is_sent nothing over.coordinator.is.phase_is over.coordinator.is.held
+
+  pub quiet_over : (over : IsOver set call world)
+      → ((primary : Party) → slice_get world.parties 0 ≡ Some primary → core_holds primary.core ≡ false) → IsQuietWorld set world
+  quiet_over over rests = quiet_with over.holds over.coordinator (nothing_held over rests) over.alone over.doubled

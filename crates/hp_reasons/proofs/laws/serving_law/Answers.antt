@@ -1,0 +1,9 @@
+use Rattle.hp_reasons.proofs.CoreServings.{coordinates}
+use Rattle.hp_reasons.proofs.MemberServings.{members_serve}
+use Rattle.hp_reasons.proofs.laws.serving_law.Goals as goal
+
+pub returns-clause-members : goal.returns-clause-members
+returns-clause-members c = members_serve
+
+pub returns-clause-coordinates : goal.returns-clause-coordinates
+returns-clause-coordinates c = coordinates

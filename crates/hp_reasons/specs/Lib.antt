@@ -1,0 +1,12 @@
+pub mod Counting
+pub mod Failing
+pub mod Shared
+pub mod Servings
+pub mod Outcomes
+pub mod Episode
+pub mod Stages
+pub mod Worlds
+pub mod Weighing
+pub mod Waits
+pub mod Lines
+pub mod Threads

@@ -1,0 +1,45 @@
+-- How often growths were refused as late, and how often asks were taken back or stale. The rule "Reasons" of docs/PARTICIPANTS.md.
+use Rattle.std.specs.Prelude.{ℕ, Bool, true, false, ◌&&◌, ◌==◌, List, count_by}
+use Rattle.hp_segs.specs.SegsView.{is_stale}
+use Rattle.hp_segs.specs.declared.outcome.AskLog.{AskLog}
+use Rattle.hp_segs.specs.declared.outcome.Cause.{Cause}
+use Rattle.hp_segs.specs.declared.outcome.Cause.TheVariants.{CannotHold, Denied, Late, ListFull, MapFailed, NoList, TooFew, Withdrawn}
+use Rattle.hp_segs.specs.declared.outcome.Outcome.{Outcome}
+use Rattle.hp_segs.specs.declared.outcome.Outcome.TheVariants.{Freed, Granted, Refused, Stale}
+
+-- a growth was refused as that participant was late, and as its asker took it back
+abbrev pub is_late : ℕ → Cause → Bool
+is_late who (Late participant from to) = participant == who
+is_late who NoList = false
+is_late who (TooFew have need) = false
+is_late who (ListFull longest need) = false
+is_late who (CannotHold addr len) = false
+is_late who (Denied validator limit total) = false
+is_late who (MapFailed participant call addr got) = false
+is_late who (Withdrawn from to) = false
+
+abbrev pub is_withdrawn : Cause → Bool
+is_withdrawn (Withdrawn from to) = true
+is_withdrawn NoList = false
+is_withdrawn (TooFew have need) = false
+is_withdrawn (ListFull longest need) = false
+is_withdrawn (CannotHold addr len) = false
+is_withdrawn (Denied validator limit total) = false
+is_withdrawn (MapFailed participant call addr got) = false
+is_withdrawn (Late participant from to) = false
+
+abbrev pub refuses : (Cause → Bool) → Outcome → Bool
+refuses is (Refused cause) = is cause
+refuses is (Granted generation) = false
+refuses is (Stale done) = false
+refuses is (Freed generation) = false
+
+-- how many outcomes name that participant as late, how many of its asks were taken back, and how many of its asks and notices were stale
+abbrev pub late_outcomes : ℕ → List AskLog → ℕ
+late_outcomes who asks = count_by (λ entry. refuses (is_late who) entry.outcome) asks
+
+abbrev pub withdrawn_outcomes : ℕ → List AskLog → ℕ
+withdrawn_outcomes who asks = count_by (λ entry. (entry.from == who) && refuses is_withdrawn entry.outcome) asks
+
+abbrev pub stale_outcomes : ℕ → List AskLog → ℕ
+stale_outcomes who asks = count_by (λ entry. (entry.from == who) && is_stale entry.outcome) asks

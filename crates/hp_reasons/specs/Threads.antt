@@ -1,0 +1,117 @@
+-- Runs in one thread, line by line, and what can be said of why growths were refused in them. The rule "Reasons" of docs/PARTICIPANTS.md.
+use Rattle.std.specs.Prelude.{◌≡◌, ℕ, ◌+◌, ◌<◌, ◌≤◌, ◌^◌, false, List, [], ◌∷◌, ◌++◌, length, map, Some, None, slice_get, slice_set}
+use Rattle.std.specs.List.{All}
+use Rattle.hp_base.specs.declared.limits.TheConstants.{MAX_HEAPS}
+use Rattle.hp_base.specs.declared.plan_entry.MsgKind.TheVariants as message
+use Rattle.hp_base.specs.declared.plan_entry.PlanEntry.{PlanEntry}
+use Rattle.hp_heap.specs.History.{HeapView}
+use Rattle.hp_hall.specs.HallView.{HasDone, heard_in, part_in, seen_in, segs_in, slot_at}
+use Rattle.hp_proc.specs.LinesDone.{Course}
+use Rattle.hp_proc.specs.Party.{Party}
+use Rattle.hp_proc.specs.Progress.{DoesLine, moment_of}
+use Rattle.hp_script.specs.declared.answer.Answer.{Answer}
+use Rattle.hp_script.specs.declared.line.Line.{Line}
+use Rattle.hp_script.specs.declared.workload.Workload.{Workload}
+use Rattle.hp_segs.specs.SegsView.{SegsView}
+use Rattle.hp_segs.specs.declared.outcome.AskLog.{AskLog}
+use Rattle.hp_solo.specs.Draining.{Drains}
+use Rattle.hp_solo.specs.Sequence.{Sequence}
+use Rattle.hp_solo.specs.Solo.{ServerView, SoloView, has_stopped, party_at, server_at}
+use Rattle.hp_joint.specs.EndLaws.{IsFirstParty, IsGiven}
+use Rattle.hp_joint.specs.SoFar.{AreFirstHeaps, SoFar, first_hall}
+use Rattle.hp_reasons.specs.Counting.{planned_losses, planned_repeats}
+use Rattle.hp_reasons.specs.Episode.{IsCounted, IsQuietWorld, IsSetting, Setting, World}
+use Rattle.hp_reasons.specs.Lines.{ActsInQuiet, AreWaitsQuiet}
+use Rattle.hp_reasons.specs.Outcomes.{late_outcomes, stale_outcomes, withdrawn_outcomes}
+use Rattle.hp_reasons.specs.Shared.{IsSharedIn}
+use Rattle.hp_reasons.specs.Worlds.{IsInOrder}
+
+-- a place with its participant, which has met no refusal of memory, and the place while that does its line
+abbrev pub filled : Party → ServerView
+filled party = record { party = Some party; stopped = false }
+
+abbrev pub vacated : ServerView
+vacated = record { party = None; stopped = false }
+
+-- a place has come to this
+abbrev pub with_place : ℕ → ServerView → SoloView → SoloView
+with_place who place hall = record hall { servers = slice_set hall.servers who place }
+
+-- a participant leaves its place, does a line while the others serve whenever it waits, and comes back
+pub record DoesInTurn (line : Line) (answer : Answer) (old new : SoloView) : Type 0 where
+  pub party : Party
+  pub after : Party
+  pub away : SoloView
+  pub back : SoloView
+  pub there : server_at old.servers line.participant ≡ Some (filled party)
+  -- it has a table exactly where its lines leave it attached
+  pub attached : party.joined ≡ party.context.standing.attached
+  pub gone : away ≡ with_place line.participant vacated old
+  pub count : ℕ
+  pub all : length away.plain.owns ≡ count
+  pub does : DoesLine count (HasDone away.plain back.plain line.participant) line answer
+      (moment_of party (part_in away.plain line.participant) (seen_in away.plain) (heard_in away.plain))
+      (moment_of after (part_in back.plain line.participant) (seen_in back.plain) (heard_in back.plain))
+  pub sequence : Sequence line.participant away does.does.steps back
+  pub rises : back.plain.clock ≤ away.plain.clock + 2 ^ 40
+  pub new_is : new ≡ with_place line.participant (filled after) back
+
+-- a run: the lines of its participants one after another, and behind the last one turns of all
+pub data OneThread (first : SoloView) : List Course → SoloView → Type 0 where
+  opens : OneThread first [] first
+  goes_on : (courses : List Course) (line : Line) (answer : Answer) (old new : SoloView) → OneThread first courses old
+      → (does : DoesInTurn line answer old new)
+      → OneThread first (courses ++ record { line = line; answer = answer; trace = does.does.does.trace } ∷ []) new
+  rests : (courses : List Course) (old new : SoloView) → OneThread first courses old → Drains old new → OneThread first courses new
+
+-- growths were refused as late, and asks taken back or stale, at most as often as a plan loses or repeats messages
+pub record HaveReasons (plan : List PlanEntry) (asks : List AskLog) : Type 0 where
+  pub late : (who : ℕ) → late_outcomes who asks ≤ planned_losses plan message.Sync who
+  pub withdrawn : (who : ℕ) → withdrawn_outcomes who asks ≤ planned_losses plan message.Alloc who
+  pub stale : (who : ℕ) → stale_outcomes who asks ≤ planned_repeats plan message.Alloc who + planned_repeats plan message.Free who
+
+-- a hall of one thread in which everybody is in its place is such a world; nobody has met a refusal of memory
+pub record IsWorldAt (hall : SoloView) (world : World) : Type 0 where
+  pub shared : IsSharedIn hall.plain world.shared
+  pub order : IsInOrder hall.plain
+  pub going : has_stopped hall.servers ≡ false
+  pub all : (who : ℕ) → slice_get world.parties who ≡ party_at hall.servers who
+
+-- what a workload says that does not change in a run
+abbrev pub setting_of : Workload → Setting
+setting_of workload = record { count = workload.participants; deadline = workload.deadline; plan = workload.plan.items }
+
+-- in a quiet world turns of all leave all as it was
+abbrev pub DrainsInQuiet : Type 0
+DrainsInQuiet = (set : Setting) (old new : SoloView) (world : World) → IsSetting set → IsWorldAt old world → IsQuietWorld set world
+    → Drains old new → IsWorldAt new world
+
+-- lines lead from quiet worlds to quiet ones, by what waits do, and turns behind them leave them as they are
+pub record LeadInQuiet : Type 0 where
+  pub waits : AreWaitsQuiet
+  pub acts : ActsInQuiet
+  pub drains : DrainsInQuiet
+
+-- the hall of a workload before its first line, with all its participants in their places, by its plan
+pub record OpensThread (workload : Workload) (first : SoloView) : Type 0 where
+  pub heaps : List HeapView
+  pub first_heaps : AreFirstHeaps workload heaps
+  pub plain : first.plain ≡ first_hall workload heaps
+  pub parties : List Party
+  pub are : first.servers ≡ map filled parties
+  pub count : length parties ≡ workload.participants
+  pub each : (who : ℕ) (party : Party) → slice_get parties who ≡ Some party
+      → IsFirstParty workload who party × (party.plan ≡ workload.plan.items)
+
+-- a workload can be run: it is within its limits, and its plan names messages by numbers that it may
+pub record MayRun (workload : Workload) (courses : List Course) : Type 0 where
+  pub given : IsGiven workload
+  pub waits : 0 < workload.deadline
+  pub few : length courses ≤ 20000
+  pub counted : All IsCounted workload.plan.items
+
+-- so it is in every run in one thread
+abbrev pub ThreadsHaveReasons : Type 0
+ThreadsHaveReasons = (workload : Workload) (first last : SoloView) (courses : List Course) (parties : List Party) (segs : SegsView)
+    → MayRun workload courses → OpensThread workload first → OneThread first courses last → SoFar workload courses parties last.plain
+    → segs_in (slot_at last.plain MAX_HEAPS) ≡ Some segs → HaveReasons workload.plan.items segs.asks

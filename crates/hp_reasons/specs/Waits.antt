@@ -1,0 +1,103 @@
+-- What a turn, a wait, an ask and a notice make of a world. The rule "Reasons" of docs/PARTICIPANTS.md.
+use Rattle.std.specs.Prelude.{◌≡◌, ◌<◌, ◌≤◌, ◌^◌, ℕ, Bool, true, false, List, Option, Some, None, slice_get}
+use Rattle.hp_base.specs.declared.row.Run.{Run}
+use Rattle.hp_core.specs.Asks.{asker}
+use Rattle.hp_core.specs.Core.{Core}
+use Rattle.hp_core.specs.declared.asked.Asked.{Asked}
+use Rattle.hp_hall.specs.Mail.{MailStep}
+use Rattle.hp_proc.specs.AskSteps.{DoesAsk, DoesNotify, waits_until}
+use Rattle.hp_proc.specs.Party.{Party}
+use Rattle.hp_proc.specs.Waiting.{IsTurned, IsWaited, most_servings}
+use Rattle.hp_proc.specs.declared.pages_asked.PagesAsked.{PagesAsked}
+use Rattle.hp_solo.specs.Sequence.{Sequence}
+use Rattle.hp_solo.specs.Solo.{SoloView}
+use Rattle.hp_reasons.specs.Episode.{AreOthersEmpty, IsBase, IsQuietWorld, IsSetting, Setting, Stage, World}
+use Rattle.hp_reasons.specs.Servings.{CoordinatesSo, MembersServeSo}
+use Rattle.hp_reasons.specs.Stages.{IsSent, MemberServesOnce, PrimaryServes}
+use Rattle.hp_reasons.specs.Weighing.{CoreWeighsLess, MemberWeighsLess, weight_of}
+use Rattle.hp_reasons.specs.Worlds.{CoursesGoAlong, IsWorldOf}
+
+-- the stage is the last one: nothing is under way
+abbrev pub is_last : {set : Setting} {call : Asked} {sent : ℕ} {leads : Bool} {world : World} → Stage set call sent leads world → Bool
+is_last (Stage.fresh _ _ _ _ _ _ _ _ _) = false
+is_last (Stage.lost _ _ _ _ _ _ _ _) = false
+is_last (Stage.growing _ _ _ _ _ _ _ _ _ _ _ _ _ _) = false
+is_last (Stage.settling _ _ _ _ _ _ _ _ _ _ _ _ _ _ _ _ _) = false
+is_last (Stage.over _ _ _ _ _ _ _ _) = true
+
+-- nothing will be under way any more
+abbrev pub is_ended : {set : Setting} {call : Asked} {sent : ℕ} {leads : Bool} {world : World} → Stage set call sent leads world → Bool
+is_ended (Stage.fresh _ _ _ _ _ _ _ _ _) = false
+is_ended (Stage.lost _ _ _ _ _ _ _ _) = true
+is_ended (Stage.growing _ _ _ _ _ _ _ _ _ _ _ _ _ _) = false
+is_ended (Stage.settling _ _ _ _ _ _ _ _ _ _ _ _ _ _ _ _ _) = false
+is_ended (Stage.over _ _ _ _ _ _ _ _) = true
+
+-- the coordinator of a participant, where there is one
+abbrev pub core_in : Option Party → Option Core
+core_in None = None
+core_in (Some party) = party.core
+
+-- what the mailboxes and the coordinator of participant 0 weigh in a world
+abbrev pub weight_in : World → ℕ
+weight_in world = weight_of world.shared (core_in (slice_get world.parties 0))
+
+-- before a turn and behind it: who is not participant 0 has an empty mailbox, and once the ask is over all is quiet
+pub record IsAtTurn (set : Setting) (call : Asked) (sent : ℕ) (world : World) : Type 0 where
+  pub base : IsBase set world
+  pub stage : Stage set call sent true world
+  pub empty : AreOthersEmpty world
+  pub ended : is_last stage ≡ true → IsQuietWorld set world
+  -- nobody has so much to serve that it would not come to an end in a turn
+  pub light : weight_in world < most_servings
+
+-- a world behind another, of a hall of one thread from which one is away
+pub record LeadsTo (P : World → Type 0) (new : SoloView) (me : ℕ) (after : Party) : Type 0 where
+  pub world : World
+  pub its : IsWorldOf new me after world
+  pub holds : P world
+
+-- a wait for the answer to an ask has ended at a reading: the ask is over, or it was lost
+pub record HasComeOut (set : Setting) (call : Asked) (sent now : ℕ) (world : World) : Type 0 where
+  pub at_turn : IsAtTurn set call sent world
+  pub now_is : now ≡ world.shared.clock
+  pub ended : is_ended at_turn.stage ≡ true
+
+-- WHAT IS TO BE KNOWN OF SINGLE SERVINGS
+
+-- what single servings make of a stage and of the weight, and what is shared along a course
+pub record AreServingsKnown : Type 0 where
+  pub primary : PrimaryServes
+  pub member : MemberServesOnce
+  pub coordinates : CoordinatesSo
+  pub follows : MembersServeSo
+  pub along : CoursesGoAlong
+  pub core_lighter : CoreWeighsLess
+  pub member_lighter : MemberWeighsLess
+
+-- WHAT IS TO BE SHOWN
+
+-- a turn goes on from stage to stage
+abbrev pub TurnsOn : Type 0
+TurnsOn = AreServingsKnown → (set : Setting) (call : Asked) (sent until me : ℕ) (old new : SoloView) (party after : Party) (steps : List MailStep)
+    (moved : Bool) (world : World) → IsSent set call sent → IsWorldOf old me party world → IsAtTurn set call sent world
+    → Sequence me old steps new → IsTurned set.count until party after steps (Some moved) → LeadsTo (IsAtTurn set call sent) new me after
+
+-- the wait of an ask's asker ends at a turn; by its answer, or by three deadlines, the ask is over, or it was lost
+abbrev pub WaitsOut : Type 0
+WaitsOut = AreServingsKnown → (set : Setting) (call : Asked) (sent now : ℕ) (heeds : Bool) (old new : SoloView) (party after : Party)
+    (steps : List MailStep) (world : World) → IsSent set call sent → IsWorldOf old (asker call) party world → IsAtTurn set call sent world
+    → Sequence (asker call) old steps new → IsWaited set.count (waits_until sent set.deadline) heeds party after steps (Some now)
+    → LeadsTo (HasComeOut set call sent now) new (asker call) after
+
+-- an ask leads from a quiet world to a quiet one, and so does a notice
+abbrev pub AsksInQuiet : Type 0
+AsksInQuiet = AreServingsKnown → (set : Setting) (me : ℕ) (old new : SoloView) (party after : Party) (asked : PagesAsked) (run : Option Run)
+    (steps : List MailStep) (world : World) → IsSetting set → IsWorldOf old me party world → IsQuietWorld set world
+    → world.shared.clock ≤ 2 ^ 62 → Sequence me old steps new → DoesAsk set.count party after asked steps run
+    → LeadsTo (IsQuietWorld set) new me after
+
+abbrev pub NotifiesInQuiet : Type 0
+NotifiesInQuiet = AreServingsKnown → (set : Setting) (me heap : ℕ) (old new : SoloView) (party after : Party) (run : Run) (steps : List MailStep)
+    (world : World) → IsSetting set → IsWorldOf old me party world → IsQuietWorld set world → world.shared.clock ≤ 2 ^ 62
+    → Sequence me old steps new → DoesNotify set.count party after heap run steps → LeadsTo (IsQuietWorld set) new me after

@@ -1,0 +1,22 @@
+-- What mailboxes and a coordinator weigh, and that each serving makes it less: the rule "Messages" of docs/PARTICIPANTS.md.
+use Rattle.std.specs.Prelude.{◌≡◌, ◌+◌, ◌≤◌, ℕ, Bool, Option}
+use Rattle.hp_core.specs.Core.{Core}
+use Rattle.hp_hall.specs.Weights.{boxes_weight, pending_at}
+use Rattle.hp_proc.specs.Falling.{if_moved, own_weight}
+use Rattle.hp_proc.specs.Party.{Party}
+use Rattle.hp_reasons.specs.Servings.{CoreServes, MemberServes}
+use Rattle.hp_reasons.specs.Shared.{Shared}
+
+-- what mailboxes and a coordinator weigh at the present reading
+abbrev pub weight_of : Shared → Option Core → ℕ
+weight_of at core = boxes_weight at.boxes + own_weight 1 (pending_at at.clock) core
+
+-- a serving of participant 0 that does something makes the weight smaller
+abbrev pub CoreWeighsLess : Type 0
+CoreWeighsLess = (count : ℕ) (old new : Shared) (party after : Party) (moved : Bool) → party.me ≡ 0
+    → CoreServes count old new party after moved → weight_of new after.core + if_moved moved ≤ weight_of old party.core
+
+-- so does one of a member, whatever participant 0 has under way
+abbrev pub MemberWeighsLess : Type 0
+MemberWeighsLess = (old new : Shared) (party after : Party) (moved : Bool) (core : Option Core) → MemberServes old new party after moved
+    → weight_of new core + if_moved moved ≤ weight_of old core

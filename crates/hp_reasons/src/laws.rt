@@ -1,0 +1,32 @@
+//! Laws of lost messages, of mappings that fail, of single servings, and of whole runs. They are proved of all, and their functions have no
+//! code.
+ghost use Rattle.hp_reasons.specs.Counting.{LosesAsPlanned, RepeatsAsPlanned};
+ghost use Rattle.hp_reasons.specs.Failing.{FailsAtTheGrowth, NotesAFailure};
+ghost use Rattle.hp_reasons.specs.Servings.{CoordinatesSo, MembersServeSo};
+ghost use Rattle.hp_reasons.specs.Threads.{ThreadsHaveReasons};
+
+/// However many messages of a kind a participant has sent, the plan loses, or doubles, at most as many of them as it has lines that do so.
+/// Own.
+pub fn counting_law()
+    ensures loses { LosesAsPlanned }
+    ensures repeats { RepeatsAsPlanned }
+{}
+
+/// A mapping that fails for one who has taken in each granted record is one of the open growth's pages, and is noted for that growth, unless
+/// one by that call or a later one was logged. Own.
+pub fn failing_law()
+    ensures fails { FailsAtTheGrowth }
+    ensures notes { NotesAFailure }
+{}
+
+/// What one serving makes of the segment value, of the mailboxes and of the acknowledged numbers, whoever serves. Own.
+pub fn serving_law()
+    ensures members { MembersServeSo }
+    ensures coordinates { CoordinatesSo }
+{}
+
+/// In every run in one thread growths are refused as a participant was late, and asks of one are taken back or stale, at most as often as
+/// the plan loses SYNCs to it, loses its asks, or repeats its asks and notices. Own.
+pub fn reasons_law()
+    ensures { ThreadsHaveReasons }
+{}

@@ -1,0 +1,6 @@
+//! Why growths are refused in one thread: definitions, lemmas and laws, and no code.
+#![tactic(auto)]
+
+mod laws;
+
+pub use laws::{counting_law, failing_law, reasons_law, serving_law};
