@@ -18,6 +18,7 @@ use Rattle.hp_solo.specs.Solo.{IsTiedAt, ServerView, SoloView, nobody, server_at
 use Rattle.hp_solo.proofs.SoloWaits.{tied_first}
 use Rattle.hp_joint.specs.EndLaws.{IsFirstParty, IsGiven, OpensSoFar}
 use Rattle.hp_joint.specs.SoFar.{SoFar}
+use Rattle.hp_reasons.specs.Threads.{OneThread}
 use Rattle.hp_run.specs.Opening.{HaveCome, IsFirstHall, IsPartyOver, IsPlannedParty}
 use Rattle.hp_run.specs.Running.{HaveDoneLines, IsRunnable, place_of}
 
@@ -224,4 +225,19 @@ opens_so workload mappers hall law runnable first come = record {
       first_made workload who over.may_fail party over.planned));
   lines_are = refl;
   answered = refl;
+  thread = record {
+    first = hall;
+    opens = record {
+      heaps = first.heaps;
+      first_heaps = first.first;
+      plain = first.plain;
+      parties = come.parties;
+      are = come.are;
+      count = come.count;
+      each = λ who party there.
+          let over = come.each who party there in
+          (first_made workload who over.may_fail party over.planned, ap (λ (party : Party). party.plan) over.planned.is);
+    };
+    thread = OneThread.opens;
+  };
 }

@@ -5,9 +5,12 @@ mod OpeningLemmas
 mod Coming
 mod Places
 mod NextLine
+mod Beside
+mod Returning
 mod OneMore
 mod Resting
 mod Ending
 mod EndLemmas
 mod FailureLemmas
+mod ReasonLemmas
 pub mod FaultLemmas

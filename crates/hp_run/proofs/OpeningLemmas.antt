@@ -147,8 +147,8 @@ pub if_ok : {T E : Type 0} (P Q : T → Type 0) (result : Result T E) → ((valu
 if_ok P Q (Ok value) more holds = more value holds
 if_ok P Q (Err refusal) more holds = tt
 
--- and by two
-pub if_both : {T E : Type 0} (P Q R : T → Type 0) (result : Result T E) → ((value : T) → P value → Q value → R value) → IfOk result P
-    → IfOk result Q → IfOk result R
-if_both P Q R (Ok value) more one other = more value one other
-if_both P Q R (Err refusal) more one other = tt
+-- and by three
+pub if_three : {T E : Type 0} (P Q R S : T → Type 0) (result : Result T E) → ((value : T) → P value → Q value → R value → S value)
+    → IfOk result P → IfOk result Q → IfOk result R → IfOk result S
+if_three P Q R S (Ok value) more one other last = more value one other last
+if_three P Q R S (Err refusal) more one other last = tt

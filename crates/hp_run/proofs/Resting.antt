@@ -2,28 +2,32 @@
 use Rattle.std.proofs.Common.{◌≡◌, ◌∙◌, ℕ, ◌<◌, false, List, length, Some, sym, ap, subst, arith}
 use Rattle.std.specs.Option.{option_map}
 use Rattle.std.proofs.lemmas.Option.{slice_get_within}
+use Rattle.hp_hall.specs.Course.{IsCourse}
 use Rattle.hp_hall.specs.HallView.{IsHome, slot_at}
 use Rattle.hp_hall.specs.Opening.{AreHome}
 use Rattle.hp_script.specs.declared.answer.Answer.{Answer}
 use Rattle.hp_script.specs.declared.line.Line.{Line}
 use Rattle.hp_script.specs.declared.workload.Workload.{Workload}
 use Rattle.hp_proc.specs.Party.{Party}
-use Rattle.hp_solo.specs.Solo.{IsSolo, IsTiedAt, ServerView, SoloView, has_stopped, party_in, server_at}
-use Rattle.hp_solo.specs.SoloCourse.{IsSoloCourse}
+use Rattle.hp_solo.specs.Draining.{Drains}
+use Rattle.hp_solo.specs.Solo.{AreLater, IsSolo, IsTiedAt, ServerView, SoloView, has_stopped, party_in, server_at}
 use Rattle.hp_solo.proofs.SoloDrained.{none_stopped}
 use Rattle.hp_joint.specs.EndLaws.{IsGiven, OthersServe, RestsSoFar}
+use Rattle.hp_reasons.specs.Threads.{OneThread}
 use Rattle.hp_run.specs.Running.{AreParties, FailAsBefore, HaveDoneLines, place_of}
 use Rattle.hp_run.proofs.NextLine.{all_count}
-use Rattle.hp_run.proofs.OneMore.{fail_alike, served_filled, served_so}
+use Rattle.hp_run.proofs.Beside.{served_filled, served_so}
+use Rattle.hp_run.proofs.OneMore.{fail_alike}
 use Rattle.hp_run.proofs.Places.{IsFilled, as_many, filled_places, party_there, place_at, there_below}
 
 module _ (workload : Workload) (lines : List Line) (answers : List Answer) (old new : SoloView) (law : RestsSoFar) (given : IsGiven workload)
-    (was : HaveDoneLines workload lines answers old) (course : IsSoloCourse old new)
+    (was : HaveDoneLines workload lines answers old) (course : IsCourse old.plain new.plain) (later : AreLater old new)
+    (drains : has_stopped new.servers ≡ false → Drains old new)
     (home : (number : ℕ) → IsHome (slot_at old.plain number) → IsHome (slot_at new.plain number)) (sound : IsSolo new)
     (going : has_stopped new.servers ≡ false) where
   filled : (who : ℕ) (server : ServerView) → server_at new.servers who ≡ Some server → IsFilled server
   filled who server there =
-      served_filled old new was.parties who (place_at old.servers was.parties was.are who) course server there
+      served_filled old new was.parties who (place_at old.servers was.parties was.are who) later server there
       (none_stopped new.servers who server going there)
 
   behind : (behind : List Party) × AreParties new.servers behind
@@ -36,13 +40,13 @@ module _ (workload : Workload) (lines : List Line) (answers : List Answer) (old 
   all_serve = λ who party after apart there at.
       let place : server_at new.servers who ≡ Some (place_of after) =
       place_at new.servers behind.0 behind.1 who ∙ ap (option_map place_of) at in
-      let so = served_so old new was.parties who (place_at old.servers was.parties was.are who) course party after there place in
+      let so = served_so old new was.parties who (place_at old.servers was.parties was.are who) later party after there place in
       let tied : IsTiedAt new.plain who after = sound.tied who after (ap party_in place) in
       record { served = so.0; same = so.1; tied = tied.tied }
 
   as_before : length behind.0 ≡ length was.parties
   as_before =
-      sym (as_many new.servers behind.0 behind.1) ∙ sound.count ∙ course.plain.count ∙ count ∙ sym was.so_far.count
+      sym (as_many new.servers behind.0 behind.1) ∙ sound.count ∙ course.count ∙ count ∙ sym was.so_far.count
 
   all_home : AreHome new.plain
   all_home number below = home number (was.so_far.home number below)
@@ -51,7 +55,7 @@ module _ (workload : Workload) (lines : List Line) (answers : List Answer) (old 
   rests_so =
       let rested =
       law workload was.courses was.parties behind.0 old.plain new.plain given was.so_far as_before
-      (subst (λ (count : ℕ). OthersServe (λ who. ⊥) count old.plain new.plain was.parties behind.0) count all_serve) all_home course.plain in (
+      (subst (λ (count : ℕ). OthersServe (λ who. ⊥) count old.plain new.plain was.parties behind.0) count all_serve) all_home course in (
         record {
           parties = behind.0;
           are = behind.1;
@@ -59,6 +63,11 @@ module _ (workload : Workload) (lines : List Line) (answers : List Answer) (old 
           so_far = rested.0;
           lines_are = was.lines_are;
           answered = was.answered;
+          thread = record {
+            first = was.thread.first;
+            opens = was.thread.opens;
+            thread = OneThread.rests was.courses old new was.thread.thread (drains going);
+          };
         },
         fail_alike old.servers new.servers was.parties behind.0 was.are behind.1 rested.1,
       )

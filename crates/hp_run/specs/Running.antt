@@ -14,6 +14,7 @@ use Rattle.hp_proc.specs.LinesDone.{Course}
 use Rattle.hp_proc.specs.Party.{Party}
 use Rattle.hp_solo.specs.Solo.{ServerView, SoloView, party_at}
 use Rattle.hp_joint.specs.SoFar.{SoFar}
+use Rattle.hp_reasons.specs.Threads.{OneThread, OpensThread}
 
 -- a workload can be run: it is of what is built so far and within its limits, and so are its pools, its plan, its participants and its lines
 pub record IsRunnable (workload : Workload) : Type 0 where
@@ -34,6 +35,12 @@ place_of party = record { party = Some party; stopped = false }
 abbrev pub AreParties : List ServerView → List Party → Type 0
 AreParties servers parties = servers ≡ map place_of parties
 
+-- these lines led to a hall in one thread, one after another, from the hall that opens for the workload
+pub record CameInThread (workload : Workload) (courses : List Course) (hall : SoloView) : Type 0 where
+  pub first : SoloView
+  pub opens : OpensThread workload first
+  pub thread : OneThread first courses hall
+
 -- the participants have done these lines of a workload in turns, they were answered so, and each is back in its place
 pub record HaveDoneLines (workload : Workload) (lines : List Line) (answers : List Answer) (hall : SoloView) : Type 0 where
   pub parties : List Party
@@ -42,6 +49,7 @@ pub record HaveDoneLines (workload : Workload) (lines : List Line) (answers : Li
   pub so_far : SoFar workload courses parties hall.plain
   pub lines_are : map (λ course. course.line) courses ≡ lines
   pub answered : map (λ course. course.answer) courses ≡ answers
+  pub thread : CameInThread workload courses hall
 
 -- the mapper of each participant that is there may fail at the calls at which it might before
 abbrev pub FailAsBefore : List ServerView → List ServerView → Type 0

@@ -3,6 +3,7 @@ ghost use Rattle.std.specs.Prelude.{◌≡◌, ◌<◌, ◌≤◌, [], ℕ, IfOk
 ghost use Rattle.std.specs.List.{All};
 ghost use Rattle.hp_segs.specs.Opening.{is_present};
 ghost use Rattle.hp_joint.specs.EndLaws.{said_in};
+ghost use Rattle.hp_reasons.specs.Threads.{HaveReasons};
 ghost use Rattle.hp_run.specs.Ending.{AreAsMay, IsRunEnd};
 ghost use Rattle.hp_run.specs.Mappers.{IsUnused};
 ghost use Rattle.hp_run.specs.Opening.{HaveCome, IsEmptyHall, IsFirstHall, IsPlannedParty};
@@ -18,6 +19,7 @@ use hp_heap::Heap;
 use hp_joint::{end_law, failure_law, line_law, refusal_law};
 use hp_maps::{LocalMaps, Planned, Table};
 use hp_proc::{LineContext, Participant, WorkloadFacts};
+use hp_reasons::reasons_law;
 use hp_report::Ended;
 use hp_script::{Answer, Workload};
 use hp_segs::Segs;
@@ -211,6 +213,7 @@ fn run_in<'p, M: Mapper>(
     ensures end { IfOk result (λ left.
         IsSoloEnd workload.now left.answers.items left.heaps.items left.segs left.tables.items) }
     ensures named { IfOk result (λ left. AreAsMay workload.now hall.entry.servers left.answers.items left.segs) }
+    ensures reasons { IfOk result (λ left. HaveReasons workload.now.plan.items left.segs.asks) }
 {
     let mut hall = hall;
     let answers = do_lines(alloc, workload, &mut hall)?;
@@ -222,6 +225,7 @@ fn run_in<'p, M: Mapper>(
     end_law();
     failure_law();
     refusal_law();
+    reasons_law();
     Ok(Left {
         answers,
         heaps,

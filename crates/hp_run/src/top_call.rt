@@ -21,7 +21,10 @@ use std::alloc::{AllocError, Global};
 /// What is written where the words are none that the program takes.
 const USAGE: &[u8] = b"usage: heapsim solo|run|check|generate <start> <lines> [summary]\n";
 
-/// The program: its words, without its name, a workload, where its report goes, and a mapper for each participant that there can be. Own.
+/// The program: its words, without its name, a workload, where its report goes, and a mapper for each participant that there can be. Where
+/// it reports a workload it reports an end of it, in which each mapping that failed did so by the plan or its mapper, all who are attached
+/// agree on the memory in use, and growths were refused as late, and asks taken back or stale, at most as often as the plan loses or
+/// repeats messages. Own.
 pub fn top<S: Source, K: Sink, M: Mapper>(
     alloc: Global,
     words: &[String],

@@ -6,12 +6,14 @@ use Rattle.hp_hall.specs.HallView.{HallView, heard_in, part_in, seen_in}
 use Rattle.hp_script.specs.declared.answer.Answer.{Answer}
 use Rattle.hp_script.specs.declared.line.Line.{Line}
 use Rattle.hp_proc.specs.Progress.{IsLineBuilt, MayDo, moment_of}
+use Rattle.hp_proc.proofs.Rising.{one_clock}
 use Rattle.hp_joint.specs.SoFar.{SoFar}
 use Rattle.hp_run.specs.Running.{HaveDoneLines}
 use Rattle.hp_run.proofs.Coming.{given_by}
 use Rattle.hp_run.proofs.NextLine.{all_count, line_can, line_declared, next_line, nothing_out}
-use Rattle.hp_run.proofs.OneMore.{HasDoneIts, IsBackFrom, done_more}
+use Rattle.hp_run.proofs.OneMore.{HasDoneIts, done_more}
 use Rattle.hp_run.proofs.Places.{party_there, there_below}
+use Rattle.hp_run.proofs.Returning.{IsBackFrom}
 use Rattle.hp_run.proofs.doing.do_next.Goals as goal
 
 pub unreachable-requires : goal.unreachable-requires
@@ -111,8 +113,10 @@ returns g c =
     record {
       are = was.are;
       gone_others = c.away.ensures.others;
+      gone_here = c.away.ensures.place;
       gone_plain = c.away.ensures.plain;
       course = always.goes_on;
+      rises = always.clock one_clock;
       me = always.same.me ∙ number;
       here = c.back.ensures.party;
       came = c.back.ensures.place;

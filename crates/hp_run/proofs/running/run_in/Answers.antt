@@ -7,6 +7,7 @@ use Rattle.hp_run.specs.Running.{HaveDoneLines}
 use Rattle.hp_run.proofs.Coming.{given_by}
 use Rattle.hp_run.proofs.Ending.{all_in, ends_so, segs_there}
 use Rattle.hp_run.proofs.FailureLemmas.{fail_so}
+use Rattle.hp_run.proofs.ReasonLemmas.{reasons_so}
 use Rattle.hp_run.proofs.Resting.{fail_then}
 use Rattle.hp_run.proofs.running.run_in.Goals as goal
 
@@ -53,5 +54,7 @@ returns g c =
           c.in_ok-tables.ensures.tables;
       named = fail_so workload answers first last left.segs given c.requires.first done alike c.failure_law.ensures.fails
           c.failure_law.ensures.once c.refusal_law.ensures.fails c.refusal_law.ensures.once
+          (segs_there workload answers last done heaps left.segs slots);
+      reasons = reasons_so workload answers last left.segs c.requires.runnable c.reasons_law.ensures done
           (segs_there workload answers last done heaps left.segs slots);
     }

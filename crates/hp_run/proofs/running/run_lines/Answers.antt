@@ -1,9 +1,10 @@
 use Rattle.std.proofs.Common.{map}
 use Rattle.hp_proc.specs.Ends.{IsSoloEnd}
+use Rattle.hp_reasons.specs.Threads.{HaveReasons}
 use Rattle.hp_run.specs.Ending.{AreAsMay, IsRunEnd}
 use Rattle.hp_run.proofs.Coming.{first_stays, opens_so}
 use Rattle.hp_run.proofs.FailureLemmas.{named_all}
-use Rattle.hp_run.proofs.OpeningLemmas.{if_both}
+use Rattle.hp_run.proofs.OpeningLemmas.{if_three}
 use Rattle.hp_run.proofs.running.run_lines.Goals as goal
 
 pub run_in-requires-clause-first : goal.run_in-requires-clause-first
@@ -18,10 +19,10 @@ returns g c =
     let workload = c.args.workload.now in
     let mappers = map g.M.Mapper.may_fail c.args.mappers.items in
     let servers = c.come_all.new.hall.servers in
-    if_both (λ left. IsSoloEnd workload left.answers.items left.heaps.items left.segs left.tables.items)
-    (λ left. AreAsMay workload servers left.answers.items left.segs)
+    if_three (λ left. IsSoloEnd workload left.answers.items left.heaps.items left.segs left.tables.items)
+    (λ left. AreAsMay workload servers left.answers.items left.segs) (λ left. HaveReasons workload.plan.items left.segs.asks)
     (λ left. IsRunEnd workload mappers left.answers.items left.heaps.items left.segs left.tables.items) c.run_in.result
-    (λ left end named. record {
+    (λ left end named reasons. record {
       end = end;
       named = named_all workload mappers servers left.answers.items left.segs c.in_ok-come_all.ensures.come named;
       agreed = record {
@@ -29,4 +30,5 @@ returns g c =
         pages = c.alike_law.ensures.pages workload left.answers.items left.heaps.items left.segs left.tables.items end;
         restored = c.restoring_law.ensures.tables left.segs end.end.segs_sound;
       };
-    }) c.run_in.ensures.end c.run_in.ensures.named
+      reasons = reasons;
+    }) c.run_in.ensures.end c.run_in.ensures.named c.run_in.ensures.reasons

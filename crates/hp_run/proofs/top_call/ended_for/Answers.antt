@@ -11,4 +11,5 @@ returns g c = record {
   end = c.in_ok-run.ensures.end.end;
   named = c.in_ok-run.ensures.end.named;
   agreed = c.in_ok-run.ensures.end.agreed;
+  reasons = c.in_ok-run.ensures.end.reasons;
 }

@@ -1,0 +1,58 @@
+-- Others serve while one does its line, or behind the last line: each that was there is there, and only served.
+use Rattle.std.proofs.Common.{◌≡◌, ◌∙◌, ℕ, false, List, length, Option, Some, None, refl, sym, ap, subst}
+use Rattle.std.specs.List.{slice_get}
+use Rattle.std.specs.Option.{option_map}
+use Rattle.std.proofs.lemmas.Option.{same_Some}
+use Rattle.hp_hall.specs.HallView.{HallView}
+use Rattle.hp_proc.specs.Party.{IsSameParty, Party}
+use Rattle.hp_solo.specs.Served.{HasServed}
+use Rattle.hp_solo.specs.Solo.{AreLater, IsLaterAt, IsLaterParty, IsLaterServer, ServerView, SoloView, server_at, with_party}
+use Rattle.hp_run.specs.Running.{place_of}
+use Rattle.hp_run.proofs.Places.{IsFilled, filled_by}
+
+-- who is later on the same participant is there
+same_there : (party : Party) (after : Option Party) → IsLaterParty (Some party) after → (now : Party) × (after ≡ Some now)
+same_there party None later = absurd later
+same_there party (Some after) later = (after, refl)
+
+-- whose place has one later on had one before, which it went on from
+later_from : (old new : HallView) (who : ℕ) (before : Option Party) (now : Option ServerView) (server : ServerView)
+    → IsLaterAt old new who (option_map place_of before) now → now ≡ Some server
+    → (party : Party) × (before ≡ Some party) × IsLaterServer old new who (place_of party) server
+later_from old new who None None server later is = cc
+later_from old new who None (Some now) server later is = absurd later
+later_from old new who (Some party) None server later is = absurd later
+later_from old new who (Some party) (Some now) server later is =
+    (party, refl, subst (λ (s : ServerView). IsLaterServer old new who (place_of party) s) (same_Some now server is) later)
+
+-- whose place was one that a participant came to has that participant
+pub came_to : (after : Party) (before : Option ServerView) (server : ServerView) → option_map (with_party (Some after)) before ≡ Some server
+    → server.party ≡ Some after
+came_to after None server is = cc
+came_to after (Some before) server is =
+    ap (λ (s : ServerView). s.party) (sym (same_Some (with_party (Some after) before) server is))
+
+-- others serve from one state to a later one: each that was there and has met no want of memory is there, and only served
+module _ (old new : SoloView) (parties : List Party) (who : ℕ) (place : server_at old.servers who ≡ option_map place_of (slice_get parties who))
+    (later : AreLater old new) where
+  later_here : (server : ServerView) → server_at new.servers who ≡ Some server
+      → (party : Party) × (slice_get parties who ≡ Some party) × IsLaterServer old.plain new.plain who (place_of party) server
+  later_here server is =
+      later_from old.plain new.plain who (slice_get parties who) (server_at new.servers who) server
+      (subst (λ (before : Option ServerView). IsLaterAt old.plain new.plain who before (server_at new.servers who)) place
+      (later who)) is
+
+  pub served_filled : (server : ServerView) → server_at new.servers who ≡ Some server → server.stopped ≡ false → IsFilled server
+  served_filled server is going =
+      let was = later_here server is in
+      let now = same_there was.0 server.party was.2.party in
+      filled_by server now.0 now.1 going
+
+  pub served_so : (party after : Party) → slice_get parties who ≡ Some party → server_at new.servers who ≡ Some (place_of after)
+      → HasServed (length old.plain.owns) who old.plain new.plain party after × IsSameParty party after
+  served_so party after there is =
+      let was = later_here (place_of after) is in
+      let one : was.0 ≡ party = same_Some was.0 party (sym was.1 ∙ there) in
+      let later : IsLaterServer old.plain new.plain who (place_of party) (place_of after) =
+      subst (λ (party : Party). IsLaterServer old.plain new.plain who (place_of party) (place_of after)) one was.2 in
+      (later.served refl, later.party)
