@@ -27,6 +27,3 @@ pub use ended::Ended;
 pub use render_fault::RenderFault;
 pub use rendering::render;
 pub use writing::{WriteFault, write_whole};
-
-#[cfg(test)]
-mod tests;

@@ -1,125 +1,88 @@
-ghost use Rattle.std.specs.Prelude.{◌≡◌, ◌+◌, ◌<◌, ◌≤◌};
+//! Elements that are freed, and those of memzones.
 
-use crate::tests::{BASE, CALLER, PAGE, alloc, free_at, one_page, tag_of};
-use hp_base::{Request, Tag};
-use hp_heap::{FreeFault, Heap, HeapAnswer, SpanState};
+use super::heaps::one_page;
+use super::looks::Look::{Answers, BusyAt, Calls, Contains, Counts, FreeAt};
+use super::looks::Said;
+use super::steps::Step::{Alloc, Find, Free, FreeZone, Refuse, Reserve, See, Tell};
+use super::steps::play;
+use super::{BASE, PAGE};
+use hp_base::{Span, SpanState, Stats, Tag};
+use hp_heap::FreeFault;
 use std::test::Fail;
 
-// Frees the element with its data at an address.
-fn free(heap: &mut Heap, addr: Option<u64>) -> Result<(), FreeFault>
-    requires { 0 < heap.old.spare }
-    ensures { heap.old.spare ≤ heap.new.spare + 1 }
-{
-    match addr {
-        Some(addr) => heap.free(CALLER, addr),
-        None => Ok(()),
-    }
-}
-
-// The state of an element of 1,000 bytes for the line with that number.
-fn busy_for(line: u32) -> SpanState {
-    SpanState::Busy {
-        pad: 0,
-        size: 1024,
-        tag: tag_of(line),
-    }
-}
+// The page as one free element.
+const WHOLE_PAGE: Span = Span {
+    addr: BASE,
+    whole: PAGE,
+    list: 0,
+    page: PAGE,
+    state: SpanState::Free { stamp: 3 },
+};
 
 #[test]
 fn gives_back_what_it_joins(rt: HostRuntime) -> Result<(), Fail> {
-    let mut heap = one_page(rt.alloc())?;
-    let data = alloc(&mut heap, 1000, 2);
-    assert_eq!(rt; free(&mut heap, data), Ok(()));
-    assert_eq!(rt; heap.lookup(BASE + 5000), Some(free_at(BASE, PAGE, 3)));
-    assert_eq!(rt; heap.lookup(BASE + PAGE), None);
-    let addr = 0x1_001f_fc00;
-    assert_eq!(rt;
-        heap.free(CALLER, addr),
-        Err(FreeFault::NotAnElement { addr })
-    );
-    let stats = heap.stats(CALLER);
-    assert_eq!(rt; (stats.total, stats.free, stats.used), (PAGE, PAGE, 0));
-    assert_eq!(rt; (stats.busy, stats.frees), (0, 1));
-    Ok(())
+    let fault = FreeFault::NotAnElement {
+        addr: 0x1_001f_fc00,
+    };
+    let stats = Stats {
+        total: PAGE,
+        free: PAGE,
+        used: 0,
+        greatest: PAGE,
+        busy: 0,
+        frees: 1,
+    };
+    let steps = [
+        Alloc(1000, 2, Some(0x1_001f_fc00)),
+        Free(0x1_001f_fc00),
+        See(Contains(BASE + 5000, Some(WHOLE_PAGE))),
+        See(Contains(BASE + PAGE, None)),
+        Refuse(0x1_001f_fc00, fault),
+        Tell(stats),
+    ];
+    play(one_page(rt.alloc()), steps.as_slice())
 }
 
 #[test]
 fn takes_the_element_that_was_freed_last(rt: HostRuntime) -> Result<(), Fail> {
-    let mut heap = one_page(rt.alloc())?;
-    let _ = alloc(&mut heap, 1000, 2);
-    let second = alloc(&mut heap, 1000, 3);
-    let _ = alloc(&mut heap, 1000, 4);
-    let fourth = alloc(&mut heap, 1000, 5);
-    let _ = alloc(&mut heap, 1000, 6);
-    assert_eq!(rt;
-        (second, fourth),
-        (Some(0x1_001f_f780), Some(0x1_001f_ee80))
-    );
-    assert_eq!(rt; free(&mut heap, second), Ok(()));
-    assert_eq!(rt; free(&mut heap, fourth), Ok(()));
-    assert_eq!(rt; alloc(&mut heap, 1000, 7), fourth);
-    let mut elements = Vec::new(rt.alloc());
-    heap.elements(&mut elements)?;
-    assert_eq!(rt; elements.len(), 6);
-    assert_eq!(rt; elements[0], free_at(BASE, 2_091_392, 6));
-    assert_eq!(rt;
-        (elements[1].addr, elements[1].whole),
-        (0x1_001f_e980, 1152)
-    );
-    assert_eq!(rt; elements[2].state, busy_for(7));
-    assert_eq!(rt; elements[3].addr, 0x1_001f_f280);
-    assert_eq!(rt; elements[4], free_at(0x1_001f_f700, 1152, 7));
-    assert_eq!(rt; elements[5].state, busy_for(2));
-    Ok(())
+    let steps = [
+        Alloc(1000, 2, Some(0x1_001f_fc00)),
+        Alloc(1000, 3, Some(0x1_001f_f780)),
+        Alloc(1000, 4, Some(0x1_001f_f300)),
+        Alloc(1000, 5, Some(0x1_001f_ee80)),
+        Alloc(1000, 6, Some(0x1_001f_ea00)),
+        Free(0x1_001f_f780),
+        Free(0x1_001f_ee80),
+        Alloc(1000, 7, Some(0x1_001f_ee80)),
+        See(Counts(4, 2, PAGE)),
+        See(FreeAt(BASE, 2_091_392, 6)),
+        See(BusyAt(0x1_001f_e980, 1152, 0, 1024, 6)),
+        See(BusyAt(0x1_001f_ee00, 1152, 0, 1024, 7)),
+        See(BusyAt(0x1_001f_f280, 1152, 0, 1024, 4)),
+        See(FreeAt(0x1_001f_f700, 1152, 7)),
+        See(BusyAt(0x1_001f_fb80, 1152, 0, 1024, 2)),
+    ];
+    play(one_page(rt.alloc()), steps.as_slice())
 }
 
+// Who asked for it is not compared where the tag is looked up.
 #[test]
 fn keeps_the_element_of_a_memzone(rt: HostRuntime) -> Result<(), Fail> {
-    let mut heap = one_page(rt.alloc())?;
     let tag = Tag {
         who: 1,
         zone: true,
         number: 2,
     };
-    if let Ok(req) = Request::new(100, 0, 0, 0) {
-        assert_eq!(rt; heap.alloc(CALLER, &req, tag), Some(0x1_001f_ff80));
-    }
-    assert_eq!(rt;
-        heap.find(CALLER, Tag { who: 0, ..tag }),
-        Some(0x1_001f_ff80)
-    );
-    assert_eq!(rt; heap.find(CALLER, Tag { zone: false, ..tag }), None);
-    assert_eq!(rt;
-        heap.free(CALLER, 0x1_001f_ff80),
-        Err(FreeFault::IsZone { tag })
-    );
-    let history = heap.history();
-    assert_eq!(rt; history.len(), 5);
-    assert!(rt; matches!(history[4].answer, HeapAnswer::IsZone));
-    Ok(())
-}
-
-#[test]
-fn frees_the_element_of_a_memzone_as_one(rt: HostRuntime) -> Result<(), Fail> {
-    let mut heap = one_page(rt.alloc())?;
-    let tag = Tag {
-        who: 0,
-        zone: true,
-        number: 2,
-    };
-    if let Ok(req) = Request::new(100, 0, 0, 0) {
-        let _ = heap.alloc(CALLER, &req, tag);
-    }
-    assert_eq!(rt;
-        heap.free(CALLER, 0x1_001f_ff80),
-        Err(FreeFault::IsZone { tag })
-    );
-    let found = heap.find(CALLER, tag);
-    assert_eq!(rt; found, Some(0x1_001f_ff80));
-    if let Some(addr) = found {
-        heap.free_zone(CALLER, addr);
-    }
-    assert_eq!(rt; heap.find(CALLER, tag), None);
-    assert_eq!(rt; heap.lookup(BASE), Some(free_at(BASE, PAGE, 3)));
-    Ok(())
+    let steps = [
+        Reserve(100, tag, 0x1_001f_ff80),
+        Find(Tag { who: 0, ..tag }, Some(0x1_001f_ff80)),
+        Find(Tag { zone: false, ..tag }, None),
+        Refuse(0x1_001f_ff80, FreeFault::IsZone { tag }),
+        See(Calls(5)),
+        See(Answers(4, Said::IsZone)),
+        FreeZone(2),
+        Find(tag, None),
+        See(Contains(BASE, Some(WHOLE_PAGE))),
+    ];
+    play(one_page(rt.alloc()), steps.as_slice())
 }

@@ -1,57 +1,51 @@
-//! Growths that are opened, granted and claimed.
+//! Growths that are opened, granted and claimed, and runs that are given up.
 
-use super::{
-    BASE, FIRST_ROW, FIRST_RUN, NEW, PAGE, Seen, ask_for, grant, look, open, segs_of, table_at,
-};
-use hp_segs::{LogRecord, NotAll, Outcome, RowState};
+use super::looks::Look::{Ended, Failed, Growing, Last, Lies, Record, Shows, Table};
+use super::seen::{End, NEW, Seen};
+use super::steps::Step::{Agree, Cancel, Drop, GiveUp, Open, See, Take};
+use super::steps::play;
+use super::taking::segs_of;
+use super::{BASE, FIRST_ROW, FIRST_RUN, PAGE};
+use hp_base::Row;
+use hp_segs::{LogRecord, NotAll, RowState};
 use std::test::Fail;
+
+// The record by which the first page is added for heap 3.
+const ADDED: LogRecord = LogRecord::Add {
+    run: FIRST_RUN,
+    heap: 3,
+};
 
 #[test]
 fn opens_the_first_page(rt: HostRuntime) -> Result<(), Fail> {
-    let mut segs = segs_of(rt.alloc(), 4)?;
-    let ask = ask_for(1, 1000, 0)?;
-    assert_eq!(rt; open(&mut segs, &ask)?, FIRST_RUN);
     let opened = Seen {
         state: Some(RowState::Opened),
         pages_left: 3,
         records: 1,
         ..NEW
     };
-    assert_eq!(rt; look(&segs), opened);
-    Ok(())
+    let steps = [
+        See(Shows(NEW)),
+        See(Growing(None)),
+        Open(1, FIRST_RUN),
+        See(Growing(Some(1))),
+        See(Failed(None)),
+        See(Shows(opened)),
+        See(Record(ADDED)),
+        See(Lies(0x1_001f_fc00, Some(FIRST_ROW))),
+        See(Lies(BASE + PAGE, None)),
+        See(Table(1, Some(FIRST_ROW))),
+    ];
+    play(segs_of(rt.alloc(), 4), rt.alloc(), steps.as_slice())
 }
 
+// Participant 1 has not acknowledged the record, and then both have.
 #[test]
-fn logs_an_add_of_the_run_for_the_heap(rt: HostRuntime) -> Result<(), Fail> {
-    let mut segs = segs_of(rt.alloc(), 4)?;
-    open(&mut segs, &ask_for(1, 1000, 0)?)?;
-    let added = LogRecord::Add {
-        run: FIRST_RUN,
-        heap: 3,
-    };
-    assert_eq!(rt; segs.records(), [added].as_slice());
-    Ok(())
-}
-
-#[test]
-fn names_the_lowest_member_that_has_not_acknowledged(rt: HostRuntime) -> Result<(), Fail> {
-    let mut segs = segs_of(rt.alloc(), 4)?;
-    open(&mut segs, &ask_for(1, 1000, 0)?)?;
-    let mut acks = [0; 16];
-    acks[0] = 1;
+fn grants_what_all_acknowledged(rt: HostRuntime) -> Result<(), Fail> {
     let late = NotAll {
         participant: 1,
         acked: 0,
     };
-    assert_eq!(rt; segs.agree(&acks), Err(late));
-    assert_eq!(rt; segs.state(0, 0), Some(RowState::Opened));
-    Ok(())
-}
-
-#[test]
-fn grants_what_all_acknowledged(rt: HostRuntime) -> Result<(), Fail> {
-    let mut segs = segs_of(rt.alloc(), 4)?;
-    grant(&mut segs, &ask_for(1, 1000, 0)?)?;
     let granted = Seen {
         state: Some(RowState::Agreed { heap: 3 }),
         pages_left: 3,
@@ -60,30 +54,23 @@ fn grants_what_all_acknowledged(rt: HostRuntime) -> Result<(), Fail> {
         asks: 1,
         ..NEW
     };
-    assert_eq!(rt; look(&segs), granted);
-    Ok(())
-}
-
-#[test]
-fn keeps_the_ask_with_its_grant(rt: HostRuntime) -> Result<(), Fail> {
-    let mut segs = segs_of(rt.alloc(), 4)?;
-    let ask = ask_for(1, 1000, 0)?;
-    grant(&mut segs, &ask)?;
-    let outcome = segs.outcome(0, 1);
-    assert!(rt; matches!(outcome, Some(Outcome::Granted { generation: 1 })));
-    for entry in segs.asks() {
-        assert_eq!(rt; (entry.number, entry.at, entry.ask), (1, 1, Some(ask)));
-    }
-    Ok(())
+    let steps = [
+        Open(1, FIRST_RUN),
+        Agree(1, 0, Some(late)),
+        See(Growing(Some(1))),
+        Agree(1, 1, None),
+        See(Growing(None)),
+        See(Shows(granted)),
+        See(Last(1, 1, End::Granted(1), true)),
+        See(Ended(1, Some(End::Granted(1)))),
+        See(Ended(2, None)),
+    ];
+    play(segs_of(rt.alloc(), 4), rt.alloc(), steps.as_slice())
 }
 
 #[test]
 fn gives_the_rows_of_a_grant_to_its_heap(rt: HostRuntime) -> Result<(), Fail> {
-    let mut segs = segs_of(rt.alloc(), 4)?;
-    let ask = ask_for(1, 1000, 0)?;
-    grant(&mut segs, &ask)?;
-    assert_eq!(rt; segs.claim(ask.from, ask.number), FIRST_RUN);
-    let claimed = Seen {
+    let owned = Seen {
         state: Some(RowState::Owned { heap: 3 }),
         pages_left: 3,
         total: PAGE,
@@ -91,17 +78,49 @@ fn gives_the_rows_of_a_grant_to_its_heap(rt: HostRuntime) -> Result<(), Fail> {
         asks: 1,
         ..NEW
     };
-    assert_eq!(rt; look(&segs), claimed);
-    Ok(())
+    let steps = [Take(1, FIRST_RUN), See(Shows(owned))];
+    play(segs_of(rt.alloc(), 4), rt.alloc(), steps.as_slice())
+}
+
+// A run that its heap gives up stays mapped until it is dropped, and the table before that is kept.
+#[test]
+fn drops_a_run_that_is_given_up(rt: HostRuntime) -> Result<(), Fail> {
+    let retired = Seen {
+        state: Some(RowState::Retiring),
+        pages_left: 3,
+        retiring: 1,
+        records: 1,
+        asks: 1,
+        ..NEW
+    };
+    let dropped = Seen {
+        records: 2,
+        asks: 1,
+        ..NEW
+    };
+    let steps = [
+        GiveUp(1, FIRST_RUN),
+        See(Shows(retired)),
+        Drop(2),
+        See(Shows(dropped)),
+        See(Record(LogRecord::Drop { run: FIRST_RUN })),
+        See(Table(2, None)),
+        See(Table(1, Some(FIRST_ROW))),
+    ];
+    play(segs_of(rt.alloc(), 4), rt.alloc(), steps.as_slice())
 }
 
 #[test]
-fn finds_the_row_of_an_address(rt: HostRuntime) -> Result<(), Fail> {
-    let mut segs = segs_of(rt.alloc(), 4)?;
-    open(&mut segs, &ask_for(1, 1000, 0)?)?;
-    assert_eq!(rt; segs.virt2row(0x1_001f_fc00), Some(FIRST_ROW));
-    assert_eq!(rt; segs.virt2row(BASE + PAGE), None);
-    let rows = table_at(rt.alloc(), &segs, 1)?;
-    assert_eq!(rt; rows.as_slice(), [FIRST_ROW].as_slice());
-    Ok(())
+fn keeps_the_table_of_three_records(rt: HostRuntime) -> Result<(), Fail> {
+    let again = Row {
+        generation: 3,
+        ..FIRST_ROW
+    };
+    let steps = [
+        Open(1, FIRST_RUN),
+        Cancel,
+        Open(2, FIRST_RUN),
+        See(Table(3, Some(again))),
+    ];
+    play(segs_of(rt.alloc(), 4), rt.alloc(), steps.as_slice())
 }

@@ -1,6 +1,10 @@
 //! External memory.
 
-use super::{BASE, FIRST_ROW, PAGE, ask_for, open, segs_of};
+use super::looks::Look::Lies;
+use super::steps::Step::{Claim, Open, Release, See};
+use super::steps::play;
+use super::taking::segs_of;
+use super::{BASE, FIRST_ROW, FIRST_RUN, PAGE};
 use hp_base::Row;
 use hp_segs::RangeFault;
 use std::test::Fail;
@@ -8,41 +12,31 @@ use std::test::Fail;
 // Where external memory lies.
 const OUTSIDE: u64 = 0x70_0000_0000;
 
-#[test]
-fn refuses_an_empty_range(rt: HostRuntime) -> Result<(), Fail> {
-    let mut segs = segs_of(rt.alloc(), 4)?;
-    assert_eq!(rt;
-        segs.claim_range(OUTSIDE, 0, PAGE, 256),
-        Err(RangeFault::BadRange)
-    );
-    Ok(())
-}
+// The third slot of the list of pools, and what it would be.
+const SLOT: u64 = 0x1_0040_0000;
+
+const SLOT_ROW: Row = Row {
+    addr: SLOT,
+    slot: 2,
+    generation: 0,
+    ..FIRST_ROW
+};
 
 #[test]
-fn refuses_a_range_in_a_slot(rt: HostRuntime) -> Result<(), Fail> {
-    let mut segs = segs_of(rt.alloc(), 4)?;
-    open(&mut segs, &ask_for(1, 1000, 0)?)?;
-    let row = Row {
-        addr: 0x1_0040_0000,
-        slot: 2,
-        generation: 0,
-        ..FIRST_ROW
-    };
-    assert_eq!(rt;
-        segs.claim_range(0x1_0040_0000, PAGE, PAGE, 256),
-        Err(RangeFault::Overlaps { row })
-    );
-    assert_eq!(rt;
-        segs.claim_range(BASE, 2 * PAGE, PAGE, 256),
-        Err(RangeFault::Overlaps { row: FIRST_ROW })
-    );
-    Ok(())
+fn refuses_an_empty_range_and_one_in_a_slot(rt: HostRuntime) -> Result<(), Fail> {
+    let unmapped = RangeFault::Overlaps { row: SLOT_ROW };
+    let mapped = RangeFault::Overlaps { row: FIRST_ROW };
+    let steps = [
+        Claim(OUTSIDE, 0, 256, Err(RangeFault::BadRange)),
+        Open(1, FIRST_RUN),
+        Claim(SLOT, PAGE, 256, Err(unmapped)),
+        Claim(BASE, 2 * PAGE, 256, Err(mapped)),
+    ];
+    play(segs_of(rt.alloc(), 4), rt.alloc(), steps.as_slice())
 }
 
 #[test]
 fn gives_external_memory_a_list(rt: HostRuntime) -> Result<(), Fail> {
-    let mut segs = segs_of(rt.alloc(), 4)?;
-    assert_eq!(rt; segs.claim_range(OUTSIDE, 2 * PAGE, PAGE, 256), Ok(1));
     let row = Row {
         addr: OUTSIDE + PAGE,
         page: PAGE,
@@ -51,35 +45,19 @@ fn gives_external_memory_a_list(rt: HostRuntime) -> Result<(), Fail> {
         slot: 1,
         generation: 0,
     };
-    assert_eq!(rt; segs.virt2row(OUTSIDE + PAGE + 1), Some(row));
-    assert_eq!(rt; segs.virt2row(OUTSIDE + 2 * PAGE), None);
-    assert_eq!(rt;
-        segs.claim_range(OUTSIDE + PAGE, PAGE, PAGE, 257),
-        Err(RangeFault::Overlaps { row })
-    );
-    Ok(())
-}
-
-#[test]
-fn takes_the_list_of_external_memory_away(rt: HostRuntime) -> Result<(), Fail> {
-    let mut segs = segs_of(rt.alloc(), 4)?;
-    let list = segs
-        .claim_range(OUTSIDE, PAGE, PAGE, 256)
-        .ok()
-        .ok_or("a list")?;
-    segs.release_range(list);
-    assert_eq!(rt; segs.virt2row(OUTSIDE), None);
-    assert_eq!(rt; segs.claim_range(OUTSIDE, PAGE, PAGE, 257), Ok(1));
-    Ok(())
+    let steps = [
+        Release(OUTSIDE, PAGE, 256),
+        See(Lies(OUTSIDE, None)),
+        Claim(OUTSIDE, 2 * PAGE, 256, Ok(1)),
+        See(Lies(OUTSIDE + PAGE + 1, Some(row))),
+        See(Lies(OUTSIDE + 2 * PAGE, None)),
+        Claim(OUTSIDE + PAGE, PAGE, 257, Err(RangeFault::Overlaps { row })),
+    ];
+    play(segs_of(rt.alloc(), 4), rt.alloc(), steps.as_slice())
 }
 
 #[test]
 fn gives_three_ranges_the_lowest_numbers(rt: HostRuntime) -> Result<(), Fail> {
-    let mut segs = segs_of(rt.alloc(), 4)?;
-    for place in 0..3u32 {
-        let addr = OUTSIDE + u64::from(place) * PAGE;
-        assert_eq!(rt; segs.claim_range(addr, PAGE, PAGE, 256), Ok(1 + place));
-    }
     let second = Row {
         addr: OUTSIDE + PAGE,
         page: PAGE,
@@ -88,9 +66,12 @@ fn gives_three_ranges_the_lowest_numbers(rt: HostRuntime) -> Result<(), Fail> {
         slot: 0,
         generation: 0,
     };
-    assert_eq!(rt;
-        segs.claim_range(OUTSIDE + PAGE, 2 * PAGE, PAGE, 257),
-        Err(RangeFault::Overlaps { row: second })
-    );
-    Ok(())
+    let taken = RangeFault::Overlaps { row: second };
+    let steps = [
+        Claim(OUTSIDE, PAGE, 256, Ok(1)),
+        Claim(OUTSIDE + PAGE, PAGE, 256, Ok(2)),
+        Claim(OUTSIDE + 2 * PAGE, PAGE, 256, Ok(3)),
+        Claim(OUTSIDE + PAGE, 2 * PAGE, 257, Err(taken)),
+    ];
+    play(segs_of(rt.alloc(), 4), rt.alloc(), steps.as_slice())
 }

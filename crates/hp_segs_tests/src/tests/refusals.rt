@@ -1,86 +1,88 @@
 //! Why no run is planned.
 
-use super::{BASE, PAGE, ask_for, drop_all, grant, open, retire_page, segs_of, take_page};
-use hp_segs::{Ask, PlanRefusal};
+use super::steps::Step::{Agree, Drop, GiveUp, Open, Refuse, Take};
+use super::steps::play;
+use super::taking::{FEW_BYTES, Wants, segs_of};
+use super::{BASE, FIRST_RUN, PAGE};
+use hp_base::Run;
+use hp_segs::PlanRefusal;
 use std::test::Fail;
+
+// As many bytes as a page has, which with a header are more.
+const A_PAGE: Wants = Wants {
+    size: PAGE,
+    ..FEW_BYTES
+};
 
 #[test]
 fn refuses_a_plan_with_too_few_pages(rt: HostRuntime) -> Result<(), Fail> {
-    let segs = segs_of(rt.alloc(), 1)?;
-    let ask = ask_for(1, 2_097_152, 0)?;
-    assert_eq!(rt;
-        segs.plan_run(&ask),
-        Err(PlanRefusal::TooFew { have: 1, need: 2 })
-    );
-    Ok(())
+    let steps = [Refuse(1, A_PAGE, PlanRefusal::TooFew { have: 1, need: 2 })];
+    play(segs_of(rt.alloc(), 1), rt.alloc(), steps.as_slice())
 }
 
+// One wants pages of a size, or on a socket, of which there are none, one has no place in its run, and one comes while a growth is open.
 #[test]
-fn refuses_a_plan_whose_run_has_no_place(rt: HostRuntime) -> Result<(), Fail> {
-    let segs = segs_of(rt.alloc(), 4)?;
-    let ask = ask_for(1, 4_194_304, 4_194_304)?;
-    let refusal = PlanRefusal::CannotHold {
+fn refuses_what_cannot_be_planned(rt: HostRuntime) -> Result<(), Fail> {
+    let large = Wants {
+        page: 0x4000_0000,
+        ..FEW_BYTES
+    };
+    let elsewhere = Wants {
+        socket: 1,
+        ..FEW_BYTES
+    };
+    let aligned = Wants {
+        size: 4_194_304,
+        align: 4_194_304,
+        ..FEW_BYTES
+    };
+    let unfit = PlanRefusal::CannotHold {
         addr: BASE,
         len: 6_291_456,
     };
-    assert_eq!(rt; segs.plan_run(&ask), Err(refusal));
-    Ok(())
-}
-
-#[test]
-fn refuses_a_page_size_without_a_list(rt: HostRuntime) -> Result<(), Fail> {
-    let segs = segs_of(rt.alloc(), 4)?;
-    let ask = Ask {
-        page: 0x4000_0000,
-        ..ask_for(1, 1000, 0)?
-    };
-    assert_eq!(rt; segs.plan_run(&ask), Err(PlanRefusal::NoList));
-    let ask = Ask {
-        socket: 1,
-        ..ask_for(1, 1000, 0)?
-    };
-    assert_eq!(rt; segs.plan_run(&ask), Err(PlanRefusal::NoList));
-    Ok(())
-}
-
-#[test]
-fn refuses_a_second_growth(rt: HostRuntime) -> Result<(), Fail> {
-    let mut segs = segs_of(rt.alloc(), 4)?;
-    open(&mut segs, &ask_for(1, 1000, 0)?)?;
-    let ask = ask_for(2, 1000, 0)?;
-    assert_eq!(rt;
-        segs.plan_run(&ask),
-        Err(PlanRefusal::GrowthOpen { generation: 1 })
-    );
-    Ok(())
+    let steps = [
+        Refuse(1, large, PlanRefusal::NoList),
+        Refuse(1, elsewhere, PlanRefusal::NoList),
+        Refuse(1, aligned, unfit),
+        Open(1, FIRST_RUN),
+        Refuse(2, FEW_BYTES, PlanRefusal::GrowthOpen { generation: 1 }),
+    ];
+    play(segs_of(rt.alloc(), 4), rt.alloc(), steps.as_slice())
 }
 
 #[test]
 fn refuses_a_closed_ask(rt: HostRuntime) -> Result<(), Fail> {
-    let mut segs = segs_of(rt.alloc(), 4)?;
-    let ask = ask_for(7, 1000, 0)?;
-    grant(&mut segs, &ask)?;
-    let ask = ask_for(6, 1000, 0)?;
-    assert_eq!(rt;
-        segs.plan_run(&ask),
-        Err(PlanRefusal::StaleAsk { number: 6, done: 7 })
-    );
-    Ok(())
+    let steps = [
+        Open(7, FIRST_RUN),
+        Agree(1, 1, None),
+        Refuse(6, FEW_BYTES, PlanRefusal::StaleAsk { number: 6, done: 7 }),
+    ];
+    play(segs_of(rt.alloc(), 4), rt.alloc(), steps.as_slice())
 }
 
 // Of four slots the second and the fourth are free.
 #[test]
 fn refuses_a_plan_without_a_stretch(rt: HostRuntime) -> Result<(), Fail> {
-    let mut segs = segs_of(rt.alloc(), 8)?;
-    take_page(&mut segs, 1)?;
-    retire_page(&mut segs, 2)?;
-    take_page(&mut segs, 3)?;
-    drop_all(&mut segs)?;
-    let ask = ask_for(4, PAGE, 0)?;
-    let refusal = PlanRefusal::ListFull {
+    let second = Run {
+        first: 1,
+        addr: 0x1_0020_0000,
+        ..FIRST_RUN
+    };
+    let third = Run {
+        first: 2,
+        addr: 0x1_0040_0000,
+        ..FIRST_RUN
+    };
+    let full = PlanRefusal::ListFull {
         longest: 1,
         need: 2,
     };
-    assert_eq!(rt; segs.plan_run(&ask), Err(refusal));
-    Ok(())
+    let steps = [
+        Take(1, FIRST_RUN),
+        GiveUp(2, second),
+        Take(3, third),
+        Drop(4),
+        Refuse(4, A_PAGE, full),
+    ];
+    play(segs_of(rt.alloc(), 8), rt.alloc(), steps.as_slice())
 }
