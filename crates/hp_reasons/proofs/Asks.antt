@@ -1,5 +1,5 @@
--- An ask for pages leads from a quiet world to a quiet one: it is sent, and its answer comes, or it is taken back.
-use Rattle.std.proofs.Common.{◌≡◌, ◌∙◌, ℕ, ◌+◌, ◌<◌, ◌≤◌, ◌^◌, ◌==◌, true, List, [], ◌∷◌, length, Option, Some, None, refl, sym, ap, subst, arith, eq-eqb}
+-- An ask for pages leads from a quiet world to a quiet one, while nothing is owed: it is sent, and its answer comes, or it is taken back.
+use Rattle.std.proofs.Common.{◌≡◌, ◌∙◌, ℕ, ◌+◌, ◌<◌, ◌≤◌, ◌^◌, ◌==◌, true, false, List, [], ◌∷◌, length, Option, Some, None, refl, sym, ap, subst, arith, eq-eqb}
 use Rattle.std.specs.Prelude.{slice_get, slice_index_or}
 use Rattle.std.proofs.lemmas.Bool.{and_from}
 use Rattle.std.proofs.lemmas.Option.{slice_get-get_or, slice_get_within}
@@ -23,8 +23,9 @@ use Rattle.hp_proc.specs.Serving.{gives_segments}
 use Rattle.hp_proc.specs.declared.pages_asked.PagesAsked.{PagesAsked}
 use Rattle.hp_solo.specs.Sequence.{Sequence}
 use Rattle.hp_solo.specs.Solo.{SoloView}
-use Rattle.hp_reasons.specs.Counting.{is_doubled, is_lost, lost_among}
-use Rattle.hp_reasons.specs.Episode.{IsInPlace, IsQuietWorld, IsSetting, IsToDo, MayBeTakenBack, Setting, World, doubles}
+use Rattle.hp_reasons.specs.Counting.{LosesNothing, is_doubled, is_lost, lost_among}
+use Rattle.hp_reasons.specs.Episode.{IsGoneBefore, IsInPlace, IsSetting, IsToDo, MayBeTakenBack, Setting, World, doubles}
+use Rattle.hp_reasons.specs.Quiet.{IsQuietOwing, IsQuietWorld}
 use Rattle.hp_reasons.specs.Outcomes.{withdrawn_outcomes}
 use Rattle.hp_reasons.specs.Shared.{IsSharedIn, MakesAll, Shared, posted_to, with_segs}
 use Rattle.hp_reasons.specs.Stages.{IsSent, world_with}
@@ -33,15 +34,15 @@ use Rattle.hp_reasons.specs.Worlds.{IsInOrder, IsWorldOf}
 use Rattle.hp_reasons.proofs.AsksBack.{quiet_claimed}
 use Rattle.hp_reasons.proofs.AsksBase.{HasSent}
 use Rattle.hp_reasons.proofs.AsksClaims.{HasOutcomes}
-use Rattle.hp_reasons.proofs.AsksCounts.{doubled_more, if_so, lost_more}
 use Rattle.hp_reasons.proofs.AsksOwn.{world_own}
 use Rattle.hp_reasons.proofs.AsksStage.{just_sent, world_posted}
 use Rattle.hp_reasons.proofs.AsksWaits.{awaited_quiet}
-use Rattle.hp_reasons.proofs.LostCounts.{lost_rises}
+use Rattle.hp_reasons.proofs.LostCounts.{doubled_more, lost_more, lost_rises, never_lost}
 use Rattle.hp_reasons.proofs.Said.{index_set, set_found, set_unfound}
 use Rattle.hp_reasons.proofs.Sharing.{IsGiven, gave, posted_one, read_clock, took}
 use Rattle.hp_reasons.proofs.TurnsCalls.{calls_are}
 use Rattle.hp_reasons.proofs.TurnsSequence.{calls_own, cut_in}
+use Rattle.hp_reasons.proofs.CountingLemmas.{one_if}
 
 same_number : (n : ℕ) → (n == n) ≡ true
 same_number n = eq-eqb n n refl
@@ -63,9 +64,12 @@ arms : (ask : Ask) (segs : SegsView) → ask.from < length segs.armed → is_arm
 arms ask segs within = ap (is_armed_by ask) (index_set segs.armed ask.from (Some ask) None within) ∙ itself ask
 
 module _ (set : Setting) (party : Party) (asked : PagesAsked) (number since : ℕ) (world : World) (setting : IsSetting set)
-    (quiet : IsQuietWorld set world) (own : slice_get world.parties party.me ≡ Some party) (early : world.shared.clock ≤ 2 ^ 62)
+    (owing : IsQuietOwing set false world) (own : slice_get world.parties party.me ≡ Some party) (early : world.shared.clock ≤ 2 ^ 62)
     (sending : List MailStep) (sent : IsSentAs party (ask_of party.me number asked) since sending) (shared : Shared)
     (made : MakesAll party.me sending world.shared shared) where
+  quiet : IsQuietWorld set world
+  quiet = owing.quiet
+
   abbrev ask : Ask
   ask = ask_of party.me number asked
 
@@ -111,14 +115,14 @@ module _ (set : Setting) (party : Party) (asked : PagesAsked) (number since : �
   since_is : since ≡ world.shared.clock
   since_is = omega (arith, sent.read, reads.0, early)
 
-  is_sent : IsSent set (want.Grow ask) since
+  pub is_sent : IsSent set (want.Grow ask) since
   is_sent = record { setting = setting; declared = declared; early = omega (arith, since_is, early) }
 
   quiet_armed : IsQuietWorld set armed
   quiet_armed =
       quiet_claimed set party.me world (after_arm ask sent.taken) party quiet own gives.sound (gives.armed quiet.base.armed)
       (subst (λ (segs : SegsView). HasOutcomes segs (after_arm ask sent.taken)) began.0
-      (record { log = refl; growth = refl; roster = refl; asks = refl }))
+      (record { log = refl; growth = refl; roster = refl; asks = refl; retiring = refl }))
 
   own_armed : slice_get armed.parties party.me ≡ Some party
   own_armed = set_found world.parties party.me party party own
@@ -150,19 +154,19 @@ module _ (set : Setting) (party : Party) (asked : PagesAsked) (number since : �
   abbrev posted : World
   posted = world_posted party.me armed sent.frame (alloc_body ask) after action
 
-  grows : doubles set party.me party + if_so (is_doubled action) ≤ doubles set party.me after
+  grows : doubles set party.me party + one_if (is_doubled action) ≤ doubles set party.me after
   grows =
       let more = doubled_more set.plan message.Alloc party.me setting.counted party.sent.allocs in
-      let same : if_so (is_doubled action) ≡ if_so (is_doubled (action_of set.plan message.Alloc party.me (one_more party.sent.allocs))) =
-      ap (λ (plan : List PlanEntry). if_so (is_doubled (action_of plan message.Alloc party.me (one_more party.sent.allocs)))) place.plan in
+      let same : one_if (is_doubled action) ≡ one_if (is_doubled (action_of set.plan message.Alloc party.me (one_more party.sent.allocs))) =
+      ap (λ (plan : List PlanEntry). one_if (is_doubled (action_of plan message.Alloc party.me (one_more party.sent.allocs)))) place.plan in
       omega (arith, more, same)
 
   back : is_lost action ≡ true → MayBeTakenBack set (want.Grow ask) posted
   back lost one found =
       let more = lost_more set.plan message.Alloc party.me setting.counted party.sent.allocs in
-      let same : if_so (is_lost (action_of set.plan message.Alloc party.me (one_more party.sent.allocs))) ≡ if_so true =
-      sym (ap (λ (plan : List PlanEntry). if_so (is_lost (action_of plan message.Alloc party.me (one_more party.sent.allocs)))) place.plan)
-      ∙ ap if_so lost in
+      let same : one_if (is_lost (action_of set.plan message.Alloc party.me (one_more party.sent.allocs))) ≡ one_if true =
+      sym (ap (λ (plan : List PlanEntry). one_if (is_lost (action_of plan message.Alloc party.me (one_more party.sent.allocs)))) place.plan)
+      ∙ ap one_if lost in
       let first = slice_index_or armed.parties 0 party in
       let first_there : slice_get armed.parties 0 ≡ Some first =
       slice_get-get_or armed.parties 0 party (omega (arith, quiet_armed.base.parties, setting.some)) in
@@ -174,11 +178,20 @@ module _ (set : Setting) (party : Party) (asked : PagesAsked) (number since : �
       subst (λ (one : Party). withdrawn_outcomes party.me sent.taken.asks < lost_among set.plan message.Alloc party.me one.sent.allocs)
       (sym its) room
 
+  -- nothing is left of what was given up
+  gone : LosesNothing set.plan → IsGoneBefore (want.Grow ask) armed
+  gone nothing = ap (λ (segs : SegsView). segs.retiring) began.0 ∙ owing.gone nothing refl
+
+  never : LosesNothing set.plan → is_lost action ≡ true → ⊥
+  never nothing lost =
+      never_lost set.plan message.Alloc party.me setting.counted party.sent.allocs nothing
+      (sym (ap (λ (plan : List PlanEntry). is_lost (action_of plan message.Alloc party.me (one_more party.sent.allocs))) place.plan) ∙ lost)
+
   -- the ask was just sent
   pub at_turn_sent : IsAtTurn set (want.Grow ask) since posted
   at_turn_sent =
-      just_sent set (want.Grow ask) since armed sent.frame (alloc_body ask) party after is_sent quiet_armed own_armed sends (sym since_is) to_do
-      above sent.says refl action grows back
+      just_sent set (want.Grow ask) since armed sent.frame (alloc_body ask) party after is_sent quiet_armed own_armed sends (sym since_is)
+      to_do above sent.says refl gone action grows back never
 
   -- the hall of the world in which it was posted
   pub posted_hall : (old new : SoloView) → IsWorldOf old party.me party world → IsSharedIn new.plain shared → IsInOrder new.plain
@@ -188,14 +201,12 @@ module _ (set : Setting) (party : Party) (asked : PagesAsked) (number since : �
       (set_found armed.parties party.me party after own_armed)
       (λ who other. set_unfound armed.parties party.me who after other ∙ set_unfound world.parties party.me who party other)
 
-  pub is_sent_then : IsSent set (want.Grow ask) since
-  is_sent_then = is_sent
-
 module _ (known : AreServingsKnown) (waits_out : WaitsOut) where
   own_quiet : (set : Setting) (old new : SoloView) (party after : Party) (asked : PagesAsked) (run : Option Run) (steps : List MailStep)
-      (world : World) → IsSetting set → IsWorldOf old party.me party world → IsQuietWorld set world → world.shared.clock ≤ 2 ^ 62
-      → Sequence party.me old steps new → DoesAsk set.count party after asked steps run → LeadsTo (IsQuietWorld set) new party.me after
-  own_quiet set old new party after asked run steps world setting its quiet early sequence does =
+      (world : World) → IsSetting set → IsWorldOf old party.me party world → IsQuietOwing set false world → world.shared.clock ≤ 2 ^ 62
+      → Sequence party.me old steps new → DoesAsk set.count party after asked steps run
+      → LeadsTo (IsQuietOwing set false) new party.me after
+  own_quiet set old new party after asked run steps world setting its owing early sequence does =
       let cut = cut_in party.me old new steps does.sending does.rest does.are sequence in
       let did =
       calls_own known.along party.me old cut.mid does.sending world.shared cut.begins
@@ -203,18 +214,19 @@ module _ (known : AreServingsKnown) (waits_out : WaitsOut) where
       let at = did.along.at in
       let made = did.along.made in
       awaited_quiet known waits_out set (ask_of party.me after.asked asked) does.since
-      (is_sent_then set party asked after.asked does.since world setting quiet its.own early does.sending does.sent at made) cut.mid new
+      (is_sent set party asked after.asked does.since world setting owing its.own early does.sending does.sent at made) cut.mid new
       (after_alloc after.asked party) after does.rest run
-      (posted set party asked after.asked does.since world setting quiet its.own early does.sending does.sent at made)
-      (posted_hall set party asked after.asked does.since world setting quiet its.own early does.sending does.sent at made old cut.mid its
+      (posted set party asked after.asked does.since world setting owing its.own early does.sending does.sent at made)
+      (posted_hall set party asked after.asked does.since world setting owing its.own early does.sending does.sent at made old cut.mid its
       did.along.shared did.along.order did.servers)
-      (at_turn_sent set party asked after.asked does.since world setting quiet its.own early does.sending does.sent at made) cut.ends
+      (at_turn_sent set party asked after.asked does.since world setting owing its.own early does.sending does.sent at made) cut.ends
       does.awaited
 
 -- it is so of each ask
 pub asks_in_quiet : WaitsOut → AsksInQuiet
-asks_in_quiet waits_out known set me old new party after asked run steps world setting its quiet early sequence does =
-    let same : party.me ≡ me = (quiet.base.places me party its.own).me in
-    subst (λ (me : ℕ). LeadsTo (IsQuietWorld set) new me after) same
+asks_in_quiet waits_out known set me old new party after asked run steps world setting its owing early sequence does =
+    let same : party.me ≡ me = (owing.quiet.base.places me party its.own).me in
+    subst (λ (me : ℕ). LeadsTo (IsQuietOwing set false) new me after) same
     (own_quiet known waits_out set old new party after asked run steps world setting
-    (subst (λ (me : ℕ). IsWorldOf old me party world) (sym same) its) quiet early (subst (λ (me : ℕ). Sequence me old steps new) (sym same) sequence) does)
+    (subst (λ (me : ℕ). IsWorldOf old me party world) (sym same) its) owing early
+    (subst (λ (me : ℕ). Sequence me old steps new) (sym same) sequence) does)

@@ -1,4 +1,4 @@
--- A quiet world stays quiet where states of rows alone change, and where an ask that was lost is taken back.
+-- A quiet world stays quiet where states of rows alone change, and where an ask that was lost is taken back; nothing more is owed then.
 use Rattle.std.proofs.Common.{◌≡◌, ◌∙◌, ℕ, ◌+◌, ◌<◌, ◌≤◌, ◌==◌, Bool, true, false, ◌&&◌, max, List, [], ◌∷◌, ◌++◌, length, Option, Some, None, inl, inr, refl, sym, ap, subst, arith}
 use Rattle.std.specs.Prelude.{slice_get}
 use Rattle.std.specs.List.{list_any}
@@ -16,23 +16,29 @@ use Rattle.hp_segs.specs.declared.outcome.AskLog.{AskLog}
 use Rattle.hp_segs.specs.declared.outcome.Cause.{Cause}
 use Rattle.hp_segs.proofs.ClosedLemmas.{and_false, closed_push}
 use Rattle.hp_proc.specs.Party.{Party}
-use Rattle.hp_reasons.specs.Counting.{lost_among}
-use Rattle.hp_reasons.specs.Episode.{IsBase, IsExcused, IsInPlace, IsQuietWorld, Setting, World, number_of_party}
+use Rattle.hp_reasons.specs.Counting.{LosesNothing, lost_among}
+use Rattle.hp_reasons.specs.Episode.{AreLevel, IsBase, IsExcused, IsInPlace, Setting, World, number_of_party}
+use Rattle.hp_reasons.specs.Quiet.{IsQuietOwing, IsQuietWorld}
 use Rattle.hp_reasons.specs.Failing.{AreGrantsWithin}
 use Rattle.hp_reasons.specs.Outcomes.{late_outcomes, stale_outcomes, withdrawn_outcomes}
 use Rattle.hp_reasons.specs.Shared.{with_segs}
 use Rattle.hp_reasons.specs.Stages.{world_with}
-use Rattle.hp_reasons.proofs.AsksCounts.{if_so}
 use Rattle.hp_reasons.proofs.AsksClaims.{HasOutcomes, IsBackIn, taken_back}
 use Rattle.hp_reasons.proofs.LinesQuiet.{quiet_stays}
 use Rattle.hp_reasons.proofs.OutcomesMore.{failed_push, late_push, stale_push, withdrawn_push}
 use Rattle.hp_reasons.proofs.Said.{set_long, set_same}
+use Rattle.hp_reasons.proofs.CountingLemmas.{one_if}
 
 module _ (set : Setting) (me : ℕ) (world : World) (segs : SegsView) (party : Party) (quiet : IsQuietWorld set world)
     (there : slice_get world.parties me ≡ Some party) (sound : IsSound segs) (armed : IsArmed segs) where
   -- the segment value has come to another
   abbrev pub later : World
   later = world_with (with_segs segs world.shared) world.mail me party world
+
+  -- all members have taken in all records where neither the log nor the roster is another
+  level_kept : segs.log ≡ world.shared.segs.log → segs.roster ≡ world.shared.segs.roster → LosesNothing set.plan → AreLevel later
+  level_kept log roster loses who member =
+      quiet.level loses who (sym (ap (λ (roster : List Bool). is_member roster who) roster) ∙ member) ∙ sym (ap length log)
 
   -- of which states of rows are others, and armed asks
   pub quiet_claimed : HasOutcomes world.shared.segs segs → IsQuietWorld set later
@@ -56,6 +62,9 @@ module _ (set : Setting) (me : ℕ) (world : World) (segs : SegsView) (party : P
         number = place.number;
         within = omega (arith, place.within, ap length same.log);
         granted = λ joined. subst (AreGrantsWithin (number_of_party world me)) (sym same.asks) (place.granted joined);
+        level = λ loses joined.
+            level_kept same.log same.roster loses me
+            (ap (λ (roster : List Bool). is_member roster me) same.roster ∙ place.joined ∙ joined);
       })
 
   -- an ask is taken back
@@ -130,7 +139,7 @@ module _ (set : Setting) (me : ℕ) (world : World) (segs : SegsView) (party : P
 
     stale_still : (who : ℕ) → stale_outcomes who segs.asks ≡ stale_outcomes who before
     stale_still who =
-        let none : if_so ((me == who) && false) ≡ if_so false = ap if_so (and_false (me == who)) in
+        let none : one_if ((me == who) && false) ≡ one_if false = ap one_if (and_false (me == who)) in
         omega (arith, ap (stale_outcomes who) asks, stale_push before entry who, none)
 
     withdrawn_still : (who : ℕ) (one : Party) → slice_get world.parties who ≡ Some one
@@ -186,6 +195,7 @@ module _ (set : Setting) (me : ℕ) (world : World) (segs : SegsView) (party : P
       growth = growth ∙ quiet.growth;
       empty = quiet.empty;
       doubled = λ who one found. omega (arith, quiet.doubled who one (was_there who one found), stale_still who);
+      level = level_kept log roster;
     }
 
   -- so it is whether there was an answer or not
@@ -194,5 +204,25 @@ module _ (set : Setting) (me : ℕ) (world : World) (segs : SegsView) (party : P
       → (number ≤ party.asked) × (withdrawn_outcomes me world.shared.segs.asks < lost_among set.plan message.Alloc me party.sent.allocs))
       → IsQuietWorld set later
   quiet_settled number since now (IsBackIn.answered same) lost = quiet_claimed same
-  quiet_settled number since now (IsBackIn.back none log growth roster asks) lost =
+  quiet_settled number since now (IsBackIn.back none log growth roster asks retiring) lost =
       quiet_back number since now log growth roster asks (lost none).0 (lost none).1
+
+  -- nothing that is given up comes or goes, whether there was an answer or not
+  retiring_settled : (number since now : ℕ) → IsBackIn me number since now world.shared.segs segs
+      → segs.retiring ≡ world.shared.segs.retiring
+  retiring_settled number since now (IsBackIn.answered same) = same.retiring
+  retiring_settled number since now (IsBackIn.back none log growth roster asks retiring) = retiring
+
+  -- so nothing more is owed
+  module _ (owes : Bool) (gone : LosesNothing set.plan → owes ≡ false → world.shared.segs.retiring ≡ []) where
+    pub owing_claimed : HasOutcomes world.shared.segs segs → IsQuietOwing set owes later
+    owing_claimed same = record { quiet = quiet_claimed same; gone = λ loses none. same.retiring ∙ gone loses none }
+
+    pub owing_settled : (number since now : ℕ) → IsBackIn me number since now world.shared.segs segs
+        → (list_any (grants_or_refuses me number) world.shared.segs.asks ≡ false
+        → (number ≤ party.asked) × (withdrawn_outcomes me world.shared.segs.asks < lost_among set.plan message.Alloc me party.sent.allocs))
+        → IsQuietOwing set owes later
+    owing_settled number since now ends lost = record {
+      quiet = quiet_settled number since now ends lost;
+      gone = λ loses none. retiring_settled number since now ends ∙ gone loses none;
+    }

@@ -14,16 +14,17 @@ use Rattle.hp_segs.specs.declared.outcome.Outcome.TheVariants as outcome
 use Rattle.hp_segs.proofs.Finds.{any_found}
 use Rattle.hp_proc.specs.Asking.{after_settling}
 
--- a segment value of which states of rows alone may be others
+-- a segment value of which states of rows alone may be others, and armed asks
 pub record HasOutcomes (old new : SegsView) : Type 0 where
   pub log : new.log ≡ old.log
   pub growth : new.growth ≡ old.growth
   pub roster : new.roster ≡ old.roster
   pub asks : new.asks ≡ old.asks
+  pub retiring : new.retiring ≡ old.retiring
 
 claimed : (segs : SegsView) (grant : Option ℕ) → HasOutcomes segs (claimed_grant segs grant)
-claimed segs None = record { log = refl; growth = refl; roster = refl; asks = refl }
-claimed segs (Some generation) = record { log = refl; growth = refl; roster = refl; asks = refl }
+claimed segs None = record { log = refl; growth = refl; roster = refl; asks = refl; retiring = refl }
+claimed segs (Some generation) = record { log = refl; growth = refl; roster = refl; asks = refl; retiring = refl }
 
 -- so it is behind a claim
 pub claims : (from number : ℕ) (segs : SegsView) → HasOutcomes segs (after_claim from number segs)
@@ -44,19 +45,19 @@ pub data IsBackIn (from number since now : ℕ) (segs after : SegsView) : Type 0
   answered : HasOutcomes segs after → IsBackIn from number since now segs after
   back : list_any (grants_or_refuses from number) segs.asks ≡ false → after.log ≡ segs.log → after.growth ≡ segs.growth
       → after.roster ≡ segs.roster → after.asks ≡ segs.asks ++ taken_back from number since now segs ∷ []
-      → IsBackIn from number since now segs after
+      → after.retiring ≡ segs.retiring → IsBackIn from number since now segs after
 
 module _ (from number since now : ℕ) (segs : SegsView) where
   no_growth : (growth : Option Growth) → growth ≡ None → list_any (grants_or_refuses from number) segs.asks ≡ false
       → IsBackIn from number since now segs (withdrawn_growth from number (Withdrawn since now) segs growth)
-  no_growth None none unanswered = IsBackIn.back unanswered refl refl refl refl
+  no_growth None none unanswered = IsBackIn.back unanswered refl refl refl refl refl
   no_growth (Some growth) none unanswered = cc
 
   back_unless : (found : Option AskLog) → find (grants_or_refuses from number) segs.asks ≡ found → segs.growth ≡ None
       → IsBackIn from number since now segs
       (withdrawn_unless from number (Withdrawn since now) segs (option_map (λ entry. entry.outcome) found))
   back_unless None is none = no_growth segs.growth none (any_found (grants_or_refuses from number) segs.asks is)
-  back_unless (Some entry) is none = IsBackIn.answered (record { log = refl; growth = refl; roster = refl; asks = refl })
+  back_unless (Some entry) is none = IsBackIn.answered (record { log = refl; growth = refl; roster = refl; asks = refl; retiring = refl })
 
   -- so it is behind a withdrawal where no growth is open
   pub withdraws : segs.growth ≡ None → IsBackIn from number since now segs (after_withdraw from number since now segs)
@@ -69,13 +70,15 @@ outcomes_then old mid new first second = record {
   growth = second.growth ∙ first.growth;
   roster = second.roster ∙ first.roster;
   asks = second.asks ∙ first.asks;
+  retiring = second.retiring ∙ first.retiring;
 }
 
 back_then : (from number since now : ℕ) (segs mid new : SegsView) → IsBackIn from number since now segs mid → HasOutcomes mid new
     → IsBackIn from number since now segs new
 back_then from number since now segs mid new (IsBackIn.answered same) claims = IsBackIn.answered (outcomes_then segs mid new same claims)
-back_then from number since now segs mid new (IsBackIn.back none log growth roster asks) claims =
+back_then from number since now segs mid new (IsBackIn.back none log growth roster asks retiring) claims =
     IsBackIn.back none (claims.log ∙ log) (claims.growth ∙ growth) (claims.roster ∙ roster) (claims.asks ∙ asks)
+    (claims.retiring ∙ retiring)
 
 -- an ask is settled
 pub settles_back : (ask : Ask) (since now : ℕ) (segs : SegsView) → segs.growth ≡ None

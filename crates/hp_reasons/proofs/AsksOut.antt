@@ -1,20 +1,20 @@
 -- Once a wait for an answer has ended all is quiet; and an ask without an answer was lost.
-use Rattle.std.proofs.Common.{◌≡◌, ℕ, zero, suc, Bool, true, false, ◌⊎◌, [], Some, None, inl, inr, refl, arith}
+use Rattle.std.proofs.Common.{◌≡◌, ℕ, zero, suc, true, false, ◌⊎◌, [], Some, None, inl, inr, refl, arith, true≢false, sym, ◌∙◌}
 use Rattle.std.specs.Prelude.{slice_get}
 use Rattle.std.specs.List.{list_any}
+use Rattle.std.proofs.lemmas.Bool.{false≢true}
 use Rattle.hp_core.specs.declared.asked.Asked.{Asked}
 use Rattle.hp_core.specs.declared.asked.Asked.TheVariants as want
 use Rattle.hp_core.specs.declared.phase.Phase.TheVariants.{Idle}
 use Rattle.hp_segs.specs.SegsView.{grants_or_refuses}
 use Rattle.hp_segs.specs.declared.ask.Ask.{Ask}
 use Rattle.hp_proc.specs.Party.{Party}
-use Rattle.hp_reasons.specs.Episode.{AreDoubled, AreOthersEmpty, HasCoordinator, IsAnsweredFor, IsQuietWorld, IsUnanswered, MayBeTakenBack, Setting, Stage, World, mail_of}
+use Rattle.hp_reasons.specs.Counting.{LosesNothing}
+use Rattle.hp_reasons.specs.Episode.{AreDoubled, AreOthersEmpty, EndsLevel, HasCoordinator, IsAnsweredFor, IsUnanswered, MayBeTakenBack, Setting, Stage, World, mail_of}
+use Rattle.hp_reasons.specs.Quiet.{IsQuietOwing, IsQuietWorld}
 use Rattle.hp_reasons.specs.Stages.{IsSent}
 use Rattle.hp_reasons.specs.Waits.{HasComeOut, is_ended, is_last}
 use Rattle.hp_reasons.proofs.TurnsQuiet.{quiet_idle}
-
-true_is_false : (b : Bool) → b ≡ true → b ≡ false → ⊥
-true_is_false b is other = cc
 
 all_empty : (world : World) → mail_of world 0 ≡ [] → AreOthersEmpty world → (who : ℕ) → mail_of world who ≡ []
 all_empty world none empty zero = none
@@ -28,20 +28,32 @@ pub record WasLost (set : Setting) (call : Asked) (world : World) : Type 0 where
   pub gone : mail_of world 0 ≡ []
   pub doubled : AreDoubled set world call false false
   pub back : MayBeTakenBack set call world
+  pub loses : LosesNothing set.plan → ⊥
 
 -- a stage at which nothing will be under way any more
 ended_as : (set : Setting) (call : Asked) (sent : ℕ) (world : World) (stage : Stage set call sent true world) → is_ended stage ≡ true
-    → ((is_last stage ≡ true) × IsAnsweredFor call world) ⊎ WasLost set call world
-ended_as set call sent world (Stage.fresh clock unanswered coordinator alone to_do copies some empty doubled) ended =
-    absurd (true_is_false false ended refl)
-ended_as set call sent world (Stage.lost unanswered coordinator alone to_do gone empty doubled back) ended =
-    inr (record { unanswered = unanswered; coordinator = coordinator; alone = alone; gone = gone; doubled = doubled; back = back })
+    → ((is_last stage ≡ true) × IsAnsweredFor call world × EndsLevel set world) ⊎ WasLost set call world
+ended_as set call sent world (Stage.fresh clock unanswered coordinator alone to_do copies some empty doubled level) ended =
+    absurd (false≢true ended)
+ended_as set call sent world (Stage.lost unanswered coordinator alone to_do gone empty doubled back loses) ended =
+    inr (record {
+      unanswered = unanswered;
+      coordinator = coordinator;
+      alone = alone;
+      gone = gone;
+      doubled = doubled;
+      back = back;
+      loses = loses;
+    })
 ended_as set call sent world
-    (Stage.growing round holds kind from number unanswered coordinator its to_do clock bodies doubled follow awaited) ended = absurd (true_is_false false ended refl)
+    (Stage.growing round holds kind from number unanswered coordinator its to_do clock bodies doubled follow awaited level) ended =
+    absurd (false≢true ended)
 ended_as set call sent world
-    (Stage.settling round since holds kind from number unanswered coordinator alone closed early clock logged bodies doubled waits answered)
-    ended = absurd (true_is_false false ended refl)
-ended_as set call sent world (Stage.over holds coordinator alone closed bodies doubled told answered) ended = inl (refl, answered)
+    (Stage.settling round since holds kind from number unanswered coordinator alone closed early clock logged bodies doubled waits
+    answered level)
+    ended = absurd (false≢true ended)
+ended_as set call sent world (Stage.over holds coordinator alone closed bodies doubled told answered level) ended =
+    inl (refl, answered, level)
 
 -- all is quiet at the end of a wait
 pub quiet_out : (set : Setting) (call : Asked) (sent now : ℕ) (world : World) → IsSent set call sent → HasComeOut set call sent now world
@@ -51,8 +63,19 @@ quiet_out set call sent now world is_sent out =
       | inl last ↦ out.at_turn.ended last.0
       | inr lost ↦
           quiet_idle set call sent is_sent world out.at_turn.base (all_empty world lost.gone out.at_turn.empty) lost.coordinator lost.alone
-          lost.doubled
+          lost.doubled (λ none. absurd (lost.loses none))
     ]
+
+-- and where no message is lost nothing is left of what was given up
+pub owing_out : (set : Setting) (call : Asked) (sent now : ℕ) (world : World) → IsSent set call sent → HasComeOut set call sent now world
+    → IsQuietOwing set false world
+owing_out set call sent now world is_sent out = record {
+  quiet = quiet_out set call sent now world is_sent out;
+  gone = λ none owed. elim (ended_as set call sent world out.at_turn.stage out.ended) [
+    | inl last ↦ last.2.gone
+    | inr lost ↦ absurd (lost.loses none)
+  ];
+}
 
 -- an ask may be taken back
 pub record IsLostAsk (set : Setting) (ask : Ask) (world : World) : Type 0 where
@@ -64,6 +87,15 @@ pub lost_out : (set : Setting) (ask : Ask) (sent now : ℕ) (world : World) → 
     → list_any (grants_or_refuses ask.from ask.number) world.shared.segs.asks ≡ false → IsLostAsk set ask world
 lost_out set ask sent now world out none =
     elim (ended_as set (want.Grow ask) sent world out.at_turn.stage out.ended) [
-      | inl last ↦ absurd (true_is_false _ last.1 none)
+      | inl last ↦ absurd (true≢false (sym last.1 ∙ none))
       | inr lost ↦ record { asked = lost.unanswered.asked; room = lost.back }
+    ]
+
+-- and then some message is lost
+pub loses_out : (set : Setting) (ask : Ask) (sent now : ℕ) (world : World) → HasComeOut set (want.Grow ask) sent now world
+    → list_any (grants_or_refuses ask.from ask.number) world.shared.segs.asks ≡ false → LosesNothing set.plan → ⊥
+loses_out set ask sent now world out none lossless =
+    elim (ended_as set (want.Grow ask) sent world out.at_turn.stage out.ended) [
+      | inl last ↦ true≢false (sym last.1 ∙ none)
+      | inr lost ↦ lost.loses lossless
     ]

@@ -23,18 +23,19 @@ use Rattle.hp_proc.specs.Falling.{own_weight}
 use Rattle.hp_proc.specs.Frames.{Says}
 use Rattle.hp_proc.specs.Party.{Party}
 use Rattle.hp_proc.specs.Waiting.{most_servings}
-use Rattle.hp_reasons.specs.Counting.{is_doubled, is_lost}
-use Rattle.hp_reasons.specs.Episode.{AreDoubled, AreOthersEmpty, HasCoordinator, IsBase, IsCopy, IsQuietWorld, IsToDo, IsUnanswered, MayBeTakenBack, Setting, Stage, World, doubles, is_call, is_result_of, mail_of}
+use Rattle.hp_reasons.specs.Counting.{LosesNothing, is_doubled, is_lost}
+use Rattle.hp_reasons.specs.Episode.{AreDoubled, AreOthersEmpty, HasCoordinator, IsBase, IsCopy, IsGoneBefore, IsToDo, IsUnanswered, MayBeTakenBack, Setting, Stage, StartsLevel, World, doubles, is_call, is_result_of, mail_of}
+use Rattle.hp_reasons.specs.Quiet.{IsQuietWorld}
 use Rattle.hp_reasons.specs.Shared.{posted_to}
 use Rattle.hp_reasons.specs.Stages.{IsSent, world_with}
 use Rattle.hp_reasons.specs.Waits.{IsAtTurn, core_in, weight_in}
 use Rattle.hp_reasons.proofs.AsksBase.{HasSent, base_sent}
-use Rattle.hp_reasons.proofs.AsksCounts.{if_so}
 use Rattle.hp_reasons.proofs.AsksWeights.{copies_weigh, first_weighs, idle_weighs, two_copies}
 use Rattle.hp_reasons.proofs.BaseKept.{base_mailed}
 use Rattle.hp_reasons.proofs.CopiesBodies.{copy_is_call}
 use Rattle.hp_reasons.proofs.Said.{index_set, index_unset, mail_posted, said_posted, set_found, set_long, set_unfound}
 use Rattle.hp_reasons.proofs.TurnsMembers.{box_empty}
+use Rattle.hp_reasons.proofs.CountingLemmas.{one_if}
 
 -- a copy of an ask is no answer
 copy_is_no_result : (call : Asked) (body : Body) → IsCopy call body → is_result_of call body ≡ false
@@ -48,10 +49,16 @@ still_to_do (want.Grow ask) world other same to_do =
 still_to_do (want.Shrink from number) world other same to_do =
     subst (λ (segs : SegsView). closed_number segs.asks from < number) (sym same) to_do
 
+-- and nothing of what was given up is left before an ask for pages, as before
+still_gone : (call : Asked) (world other : World) → other.shared.segs ≡ world.shared.segs → IsGoneBefore call world
+    → IsGoneBefore call other
+still_gone (want.Grow ask) world other same gone = ap (λ (segs : SegsView). segs.retiring) same ∙ gone
+still_gone (want.Shrink from number) world other same gone = tt
+
 count_alike : {X : Type 0} (test : X → Bool) (n : ℕ) (x : X) → test x ≡ true → count_by test (replicate n x) ≡ n
 count_alike test zero x is = refl
 count_alike test (suc n) x is =
-    let first : if_so (test x) ≡ if_so true = ap if_so is in
+    let first : one_if (test x) ≡ one_if true = ap one_if is in
     let rest = count_alike test n x is in
     omega (arith, count_cons test x (replicate n x), first, rest)
 
@@ -61,7 +68,7 @@ none_alike test (suc n) x is = or_from (test x) (list_any test (replicate n x)) 
 
 -- what comes into an empty mailbox: a copy, or two of a message that is doubled, or none of one that is lost
 comes_as : (action : Action)
-    → ((n : ℕ) × (copies (posted_as action 0) ≡ n) × (0 < n) × (n ≤ if_so (is_doubled action) + 1))
+    → ((n : ℕ) × (copies (posted_as action 0) ≡ n) × (0 < n) × (n ≤ one_if (is_doubled action) + 1))
     ⊎ ((copies (posted_as action 0) ≡ 0) × (is_lost action ≡ true))
 comes_as Deliver = inl (1, refl, omega arith, omega arith)
 comes_as (Repeat line) = inl (2, refl, omega arith, omega arith)
@@ -76,7 +83,8 @@ world_posted who world frame body after action =
 module _ (set : Setting) (call : Asked) (sent : ℕ) (world : World) (frame : Frame) (body : Body) (party after : Party)
     (is_sent : IsSent set call sent) (quiet : IsQuietWorld set world) (there : slice_get world.parties (asker call) ≡ Some party)
     (sends : HasSent set (asker call) (number_of call) party after) (clock : world.shared.clock ≡ sent) (to_do : IsToDo call world)
-    (above : closed_number world.shared.segs.asks (asker call) < number_of call) (says : Says frame body) (copy : IsCopy call body) where
+    (above : closed_number world.shared.segs.asks (asker call) < number_of call) (says : Says frame body) (copy : IsCopy call body)
+    (gone : LosesNothing set.plan → IsGoneBefore call world) where
   abbrev posts : Action → Posted
   posts action = posted_as action (length (box_of world.shared.boxes 0))
 
@@ -170,6 +178,10 @@ module _ (set : Setting) (call : Asked) (sent : ℕ) (world : World) (frame : Fr
     others = λ who one other found. quiet.doubled who one (sym (set_unfound world.parties (asker call) who after other) ∙ found);
   }
 
+  -- all are level
+  starts_level : (action : Action) → StartsLevel set call (behind action)
+  starts_level action nothing = (quiet.level nothing, still_gone call world (behind action) refl (gone nothing))
+
   -- it weighs little
   light : (action : Action) → weight_in (behind action) < most_servings
   light action =
@@ -192,28 +204,30 @@ module _ (set : Setting) (call : Asked) (sent : ℕ) (world : World) (frame : Fr
     stage = Stage.fresh clock (unanswered action n is) (coordinator action) quiet.growth (still_to_do call world (behind action) refl to_do)
         (subst (All (IsCopy call)) (sym (first_mail action n is)) (All-replicate (IsCopy call) n body copy))
         (omega (arith, ap length (first_mail action n is), length-replicate n body, some)) (others_empty action)
-        (doubled action n true is room);
+        (doubled action n true is room) (starts_level action);
     empty = others_empty action;
     ended = λ last. cc;
     light = light action;
   }
 
   is_gone : (action : Action) → copies (posted_as action 0) ≡ 0 → doubles set (asker call) party ≤ doubles set (asker call) after
-      → MayBeTakenBack set call (behind action) → IsAtTurn set call sent (behind action)
-  is_gone action is room back = record {
+      → MayBeTakenBack set call (behind action) → (LosesNothing set.plan → ⊥) → IsAtTurn set call sent (behind action)
+  is_gone action is room back loses = record {
     base = base_behind action;
     stage = Stage.lost (unanswered action 0 is) (coordinator action) quiet.growth (still_to_do call world (behind action) refl to_do)
-        (first_mail action 0 is) (others_empty action) (doubled action 0 false is (omega (arith, room))) back;
+        (first_mail action 0 is) (others_empty action) (doubled action 0 false is (omega (arith, room))) back
+        loses;
     empty = others_empty action;
     ended = λ last. cc;
     light = light action;
   }
 
   -- so it is at a turn, as the plan has it
-  pub just_sent : (action : Action) → doubles set (asker call) party + if_so (is_doubled action) ≤ doubles set (asker call) after
-      → (is_lost action ≡ true → MayBeTakenBack set call (behind action)) → IsAtTurn set call sent (behind action)
-  just_sent action grows back =
+  pub just_sent : (action : Action) → doubles set (asker call) party + one_if (is_doubled action) ≤ doubles set (asker call) after
+      → (is_lost action ≡ true → MayBeTakenBack set call (behind action)) → (LosesNothing set.plan → is_lost action ≡ true → ⊥)
+      → IsAtTurn set call sent (behind action)
+  just_sent action grows back never =
       elim (comes_as action) [
         | inl some ↦ comes action some.0 some.1 some.2 (omega (arith, grows, some.3))
-        | inr none ↦ is_gone action none.0 (omega (arith, grows)) (back none.1)
+        | inr none ↦ is_gone action none.0 (omega (arith, grows)) (back none.1) (λ nothing. never nothing none.1)
       ]

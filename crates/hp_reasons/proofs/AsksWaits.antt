@@ -1,4 +1,4 @@
--- Waits of asks, from the turn at which one was sent to a quiet world.
+-- Waits of asks, from the turn at which one was sent to a quiet world in which nothing is owed.
 use Rattle.std.proofs.Common.{◌≡◌, ◌∙◌, ℕ, Bool, true, false, List, [], ◌∷◌, ◌++◌, Option, Some, refl, ap, subst, arith}
 use Rattle.hp_base.specs.declared.row.Run.{Run}
 use Rattle.hp_core.specs.declared.asked.Asked.TheVariants as want
@@ -13,14 +13,15 @@ use Rattle.hp_proc.specs.Serving.{gives_segments, takes_segments}
 use Rattle.hp_proc.specs.Waiting.{IsWaited}
 use Rattle.hp_solo.specs.Sequence.{Sequence}
 use Rattle.hp_solo.specs.Solo.{SoloView}
-use Rattle.hp_reasons.specs.Episode.{IsQuietWorld, Setting, World}
+use Rattle.hp_reasons.specs.Episode.{Setting, World}
+use Rattle.hp_reasons.specs.Quiet.{IsQuietOwing}
 use Rattle.hp_reasons.specs.Shared.{with_segs}
 use Rattle.hp_reasons.specs.Stages.{IsSent, world_with}
 use Rattle.hp_reasons.specs.Waits.{AreServingsKnown, HasComeOut, IsAtTurn, LeadsTo, WaitsOut}
 use Rattle.hp_reasons.specs.Worlds.{IsWorldOf}
-use Rattle.hp_reasons.proofs.AsksBack.{quiet_claimed, quiet_settled}
+use Rattle.hp_reasons.proofs.AsksBack.{owing_claimed, owing_settled}
 use Rattle.hp_reasons.proofs.AsksClaims.{claims, settles_back, HasOutcomes, IsBackIn}
-use Rattle.hp_reasons.proofs.AsksOut.{lost_out, quiet_out}
+use Rattle.hp_reasons.proofs.AsksOut.{lost_out, owing_out}
 use Rattle.hp_reasons.proofs.AsksOwn.{has_held, held_same}
 use Rattle.hp_reasons.proofs.TurnsSequence.{cut_in}
 
@@ -38,35 +39,36 @@ module _ (known : AreServingsKnown) (waits_out : WaitsOut) (set : Setting) (ask 
 
   -- a look that finds the answer claims what was granted
   looks_quiet : (old new : SoloView) (party : Party) (taken : SegsView) (world : World) → IsWorldOf old ask.from party world
-      → IsQuietWorld set world
+      → IsQuietOwing set false world
       → Sequence ask.from old (takes_segments taken ∷ gives_segments (after_claim ask.from ask.number taken) ∷ []) new
-      → LeadsTo (IsQuietWorld set) new ask.from party
-  looks_quiet old new party taken world its quiet sequence =
+      → LeadsTo (IsQuietOwing set false) new ask.from party
+  looks_quiet old new party taken world its owing sequence =
       let segs = after_claim ask.from ask.number taken in
       let held = has_held known.along ask.from old new party world taken segs its sequence in
       record {
         world = world_with (with_segs segs world.shared) world.mail ask.from party world;
         its = held.its;
-        holds = quiet_claimed set ask.from world segs party quiet its.own held.sound (held.armed quiet.base.armed)
-            (subst (λ (old : SegsView). HasOutcomes old segs) held.its_own (claims ask.from ask.number taken));
+        holds = owing_claimed set ask.from world segs party owing.quiet its.own held.sound (held.armed owing.quiet.base.armed) false
+            owing.gone (subst (λ (old : SegsView). HasOutcomes old segs) held.its_own (claims ask.from ask.number taken));
       }
 
   -- it settles its ask as three deadlines have passed
   settles_quiet : (old new : SoloView) (party : Party) (now : ℕ) (taken : SegsView) (world : World) → IsWorldOf old ask.from party world
       → HasComeOut set (want.Grow ask) since now world
       → Sequence ask.from old (takes_segments taken ∷ gives_segments (after_settling ask since now taken) ∷ []) new
-      → LeadsTo (IsQuietWorld set) new ask.from party
+      → LeadsTo (IsQuietOwing set false) new ask.from party
   settles_quiet old new party now taken world its out sequence =
-      let quiet = quiet_out set (want.Grow ask) since now world is_sent out in
+      let owing = owing_out set (want.Grow ask) since now world is_sent out in
       let segs = after_settling ask since now taken in
       let held = has_held known.along ask.from old new party world taken segs its sequence in
       let back : IsBackIn ask.from ask.number since now world.shared.segs segs =
       subst (λ (old : SegsView). IsBackIn ask.from ask.number since now old segs) held.its_own
-      (settles_back ask since now taken (ap (λ (segs : SegsView). segs.growth) held.its_own ∙ quiet.growth)) in
+      (settles_back ask since now taken (ap (λ (segs : SegsView). segs.growth) held.its_own ∙ owing.quiet.growth)) in
       record {
         world = world_with (with_segs segs world.shared) world.mail ask.from party world;
         its = held.its;
-        holds = quiet_settled set ask.from world segs party quiet its.own held.sound (held.armed quiet.base.armed) ask.number since now back
+        holds = owing_settled set ask.from world segs party owing.quiet its.own held.sound (held.armed owing.quiet.base.armed) false
+            owing.gone ask.number since now back
             (λ none.
             let lost = lost_out set ask since now world out none in
             (omega (arith, lost.asked party its.own), lost.room party its.own));
@@ -74,7 +76,7 @@ module _ (known : AreServingsKnown) (waits_out : WaitsOut) (set : Setting) (ask 
 
   late_quiet : (old new : SoloView) (party after : Party) (steps : List MailStep) (world : World) → IsWorldOf old ask.from party world
       → IsAtTurn set (want.Grow ask) since world → Sequence ask.from old steps new → IsSettledLate set.count party after ask since steps
-      → LeadsTo (IsQuietWorld set) new ask.from after
+      → LeadsTo (IsQuietOwing set false) new ask.from after
   late_quiet old new party after steps world its turn sequence late =
       let cut = cut_in ask.from old new steps late.waited _ late.are sequence in
       let out = waits_long old cut.mid party after late.waited false late.now world its turn cut.begins late.waits in
@@ -83,11 +85,11 @@ module _ (known : AreServingsKnown) (waits_out : WaitsOut) (set : Setting) (ask 
   -- it waits for its answer
   pub awaited_quiet : (old new : SoloView) (party after : Party) (steps : List MailStep) (run : Option Run) (world : World)
       → IsWorldOf old ask.from party world → IsAtTurn set (want.Grow ask) since world → Sequence ask.from old steps new
-      → IsAwaitedBy set.count party after ask since steps run → LeadsTo (IsQuietWorld set) new ask.from after
+      → IsAwaitedBy set.count party after ask since steps run → LeadsTo (IsQuietOwing set false) new ask.from after
   awaited_quiet old new party after steps run world its turn sequence (IsAwaitedBy.finds now waited looked waits look are) =
       let cut = cut_in ask.from old new steps waited looked are sequence in
       let out = waits_long old cut.mid party after waited true now world its turn cut.begins waits in
-      looks_quiet cut.mid new after look.taken out.world out.its (quiet_out set (want.Grow ask) since now out.world is_sent out.holds)
+      looks_quiet cut.mid new after look.taken out.world out.its (owing_out set (want.Grow ask) since now out.world is_sent out.holds)
       (subst (λ (steps : List MailStep). Sequence ask.from cut.mid steps new) look.are cut.ends)
   awaited_quiet old new party after steps run world its turn sequence
       (IsAwaitedBy.settles mid now waited looked late waits look settles are) =

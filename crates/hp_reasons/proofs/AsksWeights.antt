@@ -37,7 +37,8 @@ two_copies Twice = omega arith
 two_copies (Lost line) = omega arith
 two_copies Full = omega arith
 
-empty_weigh : (boxes : List (List Frame)) → ((who : ℕ) → box_of boxes who ≡ []) → boxes_weight boxes ≡ 0
+-- empty mailboxes weigh nothing
+pub empty_weigh : (boxes : List (List Frame)) → ((who : ℕ) → box_of boxes who ≡ []) → boxes_weight boxes ≡ 0
 empty_weigh [] none = refl
 empty_weigh (box ∷ boxes) none =
     let first : box_weight box ≡ 0 = ap box_weight (none 0) in

@@ -44,6 +44,7 @@ pub record MayNote (who calls : ℕ) (old new : SegsView) : Type 0 where
   pub asks : new.asks ≡ old.asks
   pub roster : new.roster ≡ old.roster
   pub armed : new.armed ≡ old.armed
+  pub retiring : new.retiring ≡ old.retiring
   pub opens : (round : Round) → is_open_for round new.growth ≡ is_open_for round old.growth
   pub none : old.growth ≡ None → new.growth ≡ None
   pub stays : is_some (noted_failure old) ≡ true → is_some (noted_failure new) ≡ true
@@ -56,6 +57,7 @@ as_before who calls segs = record {
   asks = refl;
   roster = refl;
   armed = refl;
+  retiring = refl;
   opens = λ round. refl;
   none = λ is. is;
   stays = λ is. is;
@@ -90,6 +92,7 @@ module _ (who call : ℕ) (row : Row) (got : MapAnswer) (calls : ℕ) (made : ca
     asks = refl;
     roster = refl;
     armed = refl;
+    retiring = refl;
     opens = λ round. open_noting (MapFailed who call row.addr got) round segs.growth;
     none = λ is. ap (noting (MapFailed who call row.addr got)) is;
     stays = stays_noting (MapFailed who call row.addr got) segs.growth;

@@ -32,6 +32,7 @@ pub record IsLike (old new : SegsView) : Type 0 where
   pub roster : new.roster ≡ old.roster
   pub growth : new.growth ≡ old.growth
   pub armed : new.armed ≡ old.armed
+  pub retiring : new.retiring ≡ old.retiring
   pub closed : (who : ℕ) → closed_number new.asks who ≡ closed_number old.asks who
   pub late : (who : ℕ) → late_outcomes who new.asks ≡ late_outcomes who old.asks
   pub withdrawn : (who : ℕ) → withdrawn_outcomes who new.asks ≡ withdrawn_outcomes who old.asks

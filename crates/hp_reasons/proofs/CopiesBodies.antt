@@ -1,8 +1,11 @@
 -- A frame that says a copy of an ask brings that ask, and no answer does.
-use Rattle.std.proofs.Common.{◌≡◌, ◌∙◌, ◌⊎◌, ℕ, ◌<◌, Bool, true, false, ◌&&◌, ◌==◌, Some, None, inl, inr, refl, ap, sym, subst, arith}
-use Rattle.std.proofs.lemmas.Bool.{eq-eqb}
+use Rattle.std.proofs.Common.{◌≡◌, ◌∙◌, ◌⊎◌, ℕ, ◌<◌, true, false, ◌&&◌, ◌==◌, List, Some, None, inl, inr, refl, ap, sym, subst, arith, ◌||◌}
+use Rattle.std.specs.List.{list_any}
+use Rattle.std.proofs.lemmas.Bool.{and_from, eq-eqb}
+use Rattle.std.proofs.lemmas.List.Elements.{All-weaker}
+use Rattle.std.proofs.lemmas.List.Folds.{list_any_none}
 use Rattle.hp_base.specs.Requests.{refusal_of, rounded_size, raised_align}
-use Rattle.hp_core.specs.Asks.{asker}
+use Rattle.hp_core.specs.Asks.{asker, number_of}
 use Rattle.hp_core.specs.Outs.{IsAskOf}
 use Rattle.hp_core.specs.declared.asked.Asked.{Asked}
 use Rattle.hp_core.specs.declared.asked.Asked.TheVariants as want
@@ -13,13 +16,10 @@ use Rattle.hp_frame.specs.declared.message.Body.TheVariants.{Alloc, Answer, Free
 use Rattle.hp_segs.specs.declared.ask.Ask.{Ask}
 use Rattle.hp_proc.specs.Asking.{alloc_body}
 use Rattle.hp_proc.specs.Coordinating.{IsAskIn, IsNoAsk, IsRequestOf, answers, asks, frees, is_sync_reply, no_request, syncs, undeclared_asker, undeclared_giver}
-use Rattle.hp_reasons.specs.Episode.{IsCopy, is_answer, is_call, is_sync}
+use Rattle.hp_proc.specs.Party.{Party}
+use Rattle.hp_proc.specs.Serving.{is_answer_to}
+use Rattle.hp_reasons.specs.Episode.{AreAnswersOrCopies, IsCopy, is_answer, is_call, is_result_of, is_sync}
 use Rattle.hp_reasons.proofs.CopiesRequests.{not_refused, raised_again, rounded_again}
-
--- tests that both pass
-both : (p q : Bool) → p ≡ true → q ≡ true → (p && q) ≡ true
-both true q here there = there
-both false q here there = cc
 
 -- asks of the same numbers are one
 same_numbers : (a b : Ask) → a.from ≡ b.from → a.number ≡ b.number → a.heap ≡ b.heap → a.socket ≡ b.socket → a.page ≡ b.page
@@ -27,14 +27,14 @@ same_numbers : (a b : Ask) → a.from ≡ b.from → a.number ≡ b.number → a
     → a.request.flags ≡ b.request.flags → a ≡ b
 same_numbers a b from number heap socket page size align bound flags =
     same_ask a b
-    (both (a.from == b.from) _ (eq-eqb a.from b.from from)
-    (both (a.number == b.number) _ (eq-eqb a.number b.number number)
-    (both (a.heap == b.heap) _ (eq-eqb a.heap b.heap heap)
-    (both (a.socket == b.socket) _ (eq-eqb a.socket b.socket socket)
-    (both (a.page == b.page) _ (eq-eqb a.page b.page page)
-    (both (a.request.size == b.request.size) _ (eq-eqb a.request.size b.request.size size)
-    (both (a.request.align == b.request.align) _ (eq-eqb a.request.align b.request.align align)
-    (both (a.request.bound == b.request.bound) _ (eq-eqb a.request.bound b.request.bound bound)
+    (and_from (a.from == b.from) _ (eq-eqb a.from b.from from)
+    (and_from (a.number == b.number) _ (eq-eqb a.number b.number number)
+    (and_from (a.heap == b.heap) _ (eq-eqb a.heap b.heap heap)
+    (and_from (a.socket == b.socket) _ (eq-eqb a.socket b.socket socket)
+    (and_from (a.page == b.page) _ (eq-eqb a.page b.page page)
+    (and_from (a.request.size == b.request.size) _ (eq-eqb a.request.size b.request.size size)
+    (and_from (a.request.align == b.request.align) _ (eq-eqb a.request.align b.request.align align)
+    (and_from (a.request.bound == b.request.bound) _ (eq-eqb a.request.bound b.request.bound bound)
     (eq-eqb a.request.flags b.request.flags flags)))))))))
 
 -- an ask is the one of which a message has the numbers
@@ -89,7 +89,8 @@ copy_is_no_answer : (call : Asked) (body : Body) → IsCopy call body → is_ans
 copy_is_no_answer (want.Grow ask) body copy = ap is_answer copy
 copy_is_no_answer (want.Shrink from number) body copy = ap is_answer copy.3
 
-copy_is_no_sync : (call : Asked) (body : Body) → IsCopy call body → is_sync body ≡ false
+-- nor is a copy a SYNC
+pub copy_is_no_sync : (call : Asked) (body : Body) → IsCopy call body → is_sync body ≡ false
 copy_is_no_sync (want.Grow ask) body copy = ap is_sync copy
 copy_is_no_sync (want.Shrink from number) body copy = ap is_sync copy.3
 
@@ -103,6 +104,21 @@ answer_is_no_sync (Answer from number what code) is = refl
 pub body_is_no_sync : (call : Asked) (body : Body) → (is_answer body ≡ true) ⊎ IsCopy call body → is_sync body ≡ false
 body_is_no_sync call body (inl answer) = answer_is_no_sync body answer
 body_is_no_sync call body (inr copy) = copy_is_no_sync call body copy
+
+-- and so none lies among them
+pub bodies_unsynced : (call : Asked) (bodies : List Body) → AreAnswersOrCopies call bodies → list_any is_sync bodies ≡ false
+bodies_unsynced call bodies are =
+    list_any_none is_sync bodies
+    (All-weaker (λ body. (is_answer body ≡ true) ⊎ IsCopy call body) (λ body. is_sync body ≡ false) (body_is_no_sync call) bodies are)
+
+-- what is no answer to the ask is none to who asked last for that
+pub not_answered : (party : Party) (call : Asked) (body : Body) → party.asked ≡ number_of call → is_result_of call body ≡ false
+    → is_answer_to party body ≡ false
+not_answered party call (Alloc from number heap socket page size align bound flags) asked is = refl
+not_answered party call (Free from number heap address len) asked is = refl
+not_answered party call (Sync generation round) asked is = refl
+not_answered party call (Answer from number what code) asked is =
+    ap (λ (n : ℕ). ((what == 2) || (what == 3)) && (number == n)) asked ∙ is
 
 -- a reply to a SYNC is an answer
 pub reply_is_answer : (body : Body) → is_sync_reply body ≡ true → is_answer body ≡ true

@@ -3,8 +3,6 @@ use Rattle.std.proofs.Common.{◌≡◌, ◌∙◌, ◌⊎◌, ℕ, ◌+◌, ◌
 use Rattle.std.specs.Prelude.{is_some, slice_get, slice_index_or}
 use Rattle.std.specs.List.{list_any}
 use Rattle.std.proofs.lemmas.Bool.{cases_eq}
-use Rattle.std.proofs.lemmas.List.Elements.{All-weaker}
-use Rattle.std.proofs.lemmas.List.Folds.{list_any_none}
 use Rattle.hp_base.specs.declared.plan_entry.MsgKind.TheVariants as message
 use Rattle.hp_core.specs.Asks.{asker, is_armed_by, number_of}
 use Rattle.hp_core.specs.Core.{is_growth, is_open_for}
@@ -21,10 +19,11 @@ use Rattle.hp_proc.specs.Party.{Party}
 use Rattle.hp_proc.specs.Posting.{times_sent}
 use Rattle.hp_proc.specs.declared.sent.Sent.{Sent}
 use Rattle.hp_reasons.specs.Counting.{lost_among}
-use Rattle.hp_reasons.specs.Episode.{AreAnswersOrCopies, AreDoubled, FollowsGrowth, HasCoordinator, IsAnsweredFor, IsAwaited, IsClosed, IsCopy, IsToDo, IsUnanswered, Setting, Stage, WaitsToSettle, World, is_answer, is_result_of, is_sync, mail_of}
+use Rattle.hp_reasons.specs.Episode.{AreAnswersOrCopies, AreDoubled, EndsLevel, FollowsGrowth, GrowsLevel, HasCoordinator, IsAnsweredFor, IsAwaited, IsClosed, IsCopy, IsToDo, IsUnanswered, Setting, SettlesLevel, Stage, WaitsToSettle, World, is_answer, is_result_of, is_sync, mail_of}
 use Rattle.hp_reasons.specs.Outcomes.{late_outcomes}
 use Rattle.hp_reasons.proofs.CopiesAlong.{IsAlong, all_first, none_anywhere, none_first, noted_same, number_same}
-use Rattle.hp_reasons.proofs.CopiesBodies.{body_is_no_sync}
+use Rattle.hp_reasons.proofs.CopiesBodies.{bodies_unsynced}
+use Rattle.hp_reasons.proofs.CopiesLevel.{ends_along, grows_along, settles_along}
 
 -- nobody has heard of the coordinator's answer to the ask
 abbrev pub IsUnheard : Asked → World → Type 0
@@ -43,13 +42,6 @@ module _ (set : Setting) (call : Asked) (sent : ℕ) (old new : World) (along : 
   pub closed_along : IsClosed call old → IsClosed call new
   closed_along is = subst (λ (n : ℕ). number_of call ≤ n) (sym (along.segs.closed (asker call))) is
 
-  -- nothing in mailbox 0 is a SYNC
-  unsynced : AreAnswersOrCopies call (mail_of old 0) → list_any is_sync (mail_of old 0) ≡ false
-  unsynced bodies =
-      list_any_none is_sync (mail_of old 0)
-      (All-weaker (λ body. (is_answer body ≡ true) ⊎ IsCopy call body) (λ body. is_sync body ≡ false) (body_is_no_sync call)
-      (mail_of old 0) bodies)
-
   -- a SYNC in a mailbox was there before
   pub synced_before : AreAnswersOrCopies call (mail_of old 0) → (member : ℕ) → list_any is_sync (mail_of new member) ≡ true
       → list_any is_sync (mail_of old member) ≡ true
@@ -58,7 +50,8 @@ module _ (set : Setting) (call : Asked) (sent : ℕ) (old new : World) (along : 
         | inl primary ↦
             absurd (let wrong : true ≡ false =
             sym there
-            ∙ (ap (λ (n : ℕ). list_any is_sync (mail_of new n)) primary ∙ none_first set old new along is_sync (unsynced bodies)) in
+            ∙ (ap (λ (n : ℕ). list_any is_sync (mail_of new n)) primary
+            ∙ none_first set old new along is_sync (bodies_unsynced call (mail_of old 0) bodies)) in
             let none : ⊥ = cc in none)
         | inr apart ↦ sym (ap (list_any is_sync) (along.others member apart)) ∙ there
       ]
@@ -70,7 +63,7 @@ module _ (set : Setting) (call : Asked) (sent : ℕ) (old new : World) (along : 
       elim (cases_eq member 0) [
         | inl primary ↦
             absurd (let wrong : true ≡ false =
-            sym there ∙ (ap (λ (n : ℕ). list_any is_sync (mail_of old n)) primary ∙ unsynced bodies) in
+            sym there ∙ (ap (λ (n : ℕ). list_any is_sync (mail_of old n)) primary ∙ bodies_unsynced call (mail_of old 0) bodies) in
             let none : ⊥ = cc in none)
         | inr apart ↦
             FollowsGrowth.told (along.clock ∙ clock) (ap (list_any is_sync) (along.others member apart) ∙ there)
@@ -117,8 +110,8 @@ module _ (set : Setting) (call : Asked) (sent : ℕ) (old new : World) (along : 
       → AreAnswersOrCopies call (mail_of old 0) → AreDoubled set new call holds false
       → ((member : ℕ) → is_member old.shared.segs.roster member ≡ true → FollowsGrowth set old round.generation sent member)
       → ((member : ℕ) → list_any is_sync (mail_of old member) ≡ true → IsAwaited old round.generation member)
-      → Stage set call sent true new
-  growing_along round holds its_kind from number unanswered unheard coordinator its to_do clock bodies doubled follow awaited =
+      → GrowsLevel old → Stage set call sent true new
+  growing_along round holds its_kind from number unanswered unheard coordinator its to_do clock bodies doubled follow awaited level =
       Stage.growing round holds its_kind from number (unanswered_along unanswered unheard) coordinator
       (ap (λ (growth : Option Growth). is_open_for round growth) along.segs.growth ∙ its) to_do
       (subst (λ (n : ℕ). n ≤ sent + set.deadline) (sym along.clock) clock) (bodies_along bodies) doubled
@@ -126,6 +119,7 @@ module _ (set : Setting) (call : Asked) (sent : ℕ) (old new : World) (along : 
       follows_along bodies round.generation sent member
       (follow member (sym (ap (λ (roster : List Bool). is_member roster member) along.segs.roster) ∙ joined)))
       (λ leads member there. awaited_along round.generation member (awaited member (synced_before bodies member there)))
+      (grows_along set call old new along level)
 
   -- a rollback or the drops go on
   abbrev pub settling_along : (round : Round) (since : ℕ) (holds : Bool) → is_growth round.kind ≡ false → round.from ≡ asker call
@@ -134,21 +128,23 @@ module _ (set : Setting) (call : Asked) (sent : ℕ) (old new : World) (along : 
       → round.generation ≤ length old.shared.segs.log → AreAnswersOrCopies call (mail_of old 0)
       → AreDoubled set new call holds false
       → ((member : ℕ) → list_any is_sync (mail_of old member) ≡ true → WaitsToSettle call old round.generation since member)
-      → IsAnsweredFor call new → Stage set call sent true new
+      → IsAnsweredFor call new → SettlesLevel set old round.generation → Stage set call sent true new
   settling_along round since holds its_kind from number unanswered unheard coordinator alone closed early clock logged bodies doubled waits
-      answered =
+      answered level =
       Stage.settling round since holds its_kind from number (unanswered_along unanswered unheard) coordinator (along.segs.growth ∙ alone)
       (closed_along closed) early (subst (λ (n : ℕ). n ≤ since + set.deadline) (sym along.clock) clock)
       (subst (λ (log : List LogRecord). round.generation ≤ length log) (sym along.segs.log) logged) (bodies_along bodies) doubled
       (λ leads member there. waits_along round.generation since member (waits member (synced_before bodies member there))) answered
+      (settles_along set call old new along bodies round.generation level)
 
   -- it stays over
   abbrev pub over_along : (holds : Bool) → HasCoordinator set new Idle call holds → old.shared.segs.growth ≡ None → IsClosed call old
       → AreAnswersOrCopies call (mail_of old 0) → AreDoubled set new call holds false
-      → ((member : ℕ) → list_any is_sync (mail_of old member) ≡ false) → IsAnsweredFor call new → Stage set call sent true new
-  over_along holds coordinator alone closed bodies doubled told answered =
+      → ((member : ℕ) → list_any is_sync (mail_of old member) ≡ false) → IsAnsweredFor call new
+      → EndsLevel set old → Stage set call sent true new
+  over_along holds coordinator alone closed bodies doubled told answered level =
       Stage.over holds coordinator (along.segs.growth ∙ alone) (closed_along closed) (bodies_along bodies) doubled
-      (none_anywhere set old new along is_sync told) answered
+      (none_anywhere set old new along is_sync told) answered (ends_along set call old new along level)
 
 -- the ask is to do, or answered, as it was
 pub to_do_along : (call : Asked) (old new : World) (along : IsAlong old new) → IsToDo call old → IsToDo call new

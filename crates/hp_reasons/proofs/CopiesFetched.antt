@@ -3,6 +3,7 @@ use Rattle.std.proofs.Common.{◌≡◌, ◌∙◌, ◌⊎◌, ℕ, ◌+◌, ◌
 use Rattle.std.specs.Prelude.{count_by, slice_get, slice_set}
 use Rattle.std.specs.List.{All, list_any}
 use Rattle.std.proofs.lemmas.List.Elements.{All-head}
+use Rattle.std.proofs.lemmas.Option.{same_Some}
 use Rattle.hp_core.specs.Asks.{asker}
 use Rattle.hp_core.specs.declared.asked.Asked.{Asked}
 use Rattle.hp_core.specs.declared.phase.Phase.{Phase}
@@ -16,11 +17,12 @@ use Rattle.hp_reasons.specs.Stages.{HasOneMore, HasRoomFor, IsSent, IsStarting, 
 use Rattle.hp_reasons.proofs.CopiesAlong.{IsAlong, IsSameBut, all_first}
 use Rattle.hp_reasons.proofs.CopiesBodies.{answer_is_no_copy, copy_is_call}
 use Rattle.hp_reasons.proofs.CopiesCarried.{IsUnheard, answered_along, growing_along, over_along, settling_along, synced_before, to_do_along, unanswered_along}
-use Rattle.hp_reasons.proofs.CopiesSet.{along_set, base_set, some_same, world_set}
+use Rattle.hp_reasons.proofs.CopiesLevel.{starts_along}
+use Rattle.hp_reasons.proofs.CopiesSet.{along_set, base_set, world_set}
 use Rattle.hp_reasons.proofs.CopiesStages.{doubles_same}
-use Rattle.hp_reasons.proofs.CopiesStale.{one_if}
 use Rattle.hp_reasons.proofs.CopiesTaken.{like_same}
 use Rattle.hp_reasons.proofs.Said.{index_set, index_unset, mail_fetched, said_fetched, set_found, set_long}
+use Rattle.hp_reasons.proofs.CountingLemmas.{one_if}
 
 -- the world behind a fetch of participant 0, which has become such a one
 abbrev pub fetched : Party → World → World
@@ -67,7 +69,7 @@ module _ (set : Setting) (call : Asked) (sent : ℕ) (world : World) (primary af
     is = record {
       its = was.is.its;
       there =
-          core_same ∙ (ap (λ (p : Party). p.core) (some_same primary was.primary (sym there ∙ was.there)) ∙ was.is.there);
+          core_same ∙ (ap (λ (p : Party). p.core) (same_Some primary was.primary (sym there ∙ was.there)) ∙ was.is.there);
       deadline = was.is.deadline;
       phase_is = was.is.phase_is;
       held = was.is.held;
@@ -142,7 +144,7 @@ module _ (set : Setting) (call : Asked) (sent : ℕ) (world : World) (primary af
     -- a stage behind the fetch
     pub stage_fetched : (IsUnanswered call world → IsUnheard call (fetched after world)) → Stage set call sent true world
         → IsFetched set call sent body (fetched after world)
-    stage_fetched unheard (Stage.fresh clock unanswered coordinator alone to_do copies some empty doubled) =
+    stage_fetched unheard (Stage.fresh clock unanswered coordinator alone to_do copies some empty doubled level) =
         let copy : IsCopy call body = of_head (IsCopy call) copies in
         IsFetched.starts copy (record {
           clock = clock;
@@ -154,29 +156,31 @@ module _ (set : Setting) (call : Asked) (sent : ℕ) (world : World) (primary af
           copies = all_first set world (fetched after world) along_fetched (IsCopy call) copies;
           empty = λ who apart. along_fetched.others who apart ∙ empty who apart;
           doubled = doubled_started copy doubled;
+          level = starts_along set call world (fetched after world) along_fetched level;
         })
-    stage_fetched unheard (Stage.lost unanswered coordinator alone to_do none empty doubled taken_back) =
+    stage_fetched unheard (Stage.lost unanswered coordinator alone to_do none empty doubled taken_back loses) =
         absurd (let wrong : [] ≡ body ∷ drop 1 (mail_of world 0) = sym none ∙ head in let false : ⊥ = cc in false)
     stage_fetched unheard
-        (Stage.growing round holds kind from number unanswered coordinator its to_do clock bodies doubled follow awaited) =
+        (Stage.growing round holds kind from number unanswered coordinator its to_do clock bodies doubled follow awaited level) =
         IsFetched.goes_on
         (growing_along set call sent world (fetched after world) along_fetched round holds kind from number unanswered (unheard unanswered)
         (coordinator_fetched (Waiting round sent) holds coordinator) its
         (to_do_along call world (fetched after world) along_fetched to_do) clock bodies (doubled_fetched holds doubled) follow
-        (λ member told. awaited refl member told))
+        (λ member told. awaited refl member told) level)
         (of_head (λ body. (is_answer body ≡ true) ⊎ IsCopy call body) bodies) (room_fetched holds doubled) (λ answer. tt)
     stage_fetched unheard
         (Stage.settling round since holds kind from number unanswered coordinator alone closed early clock logged bodies doubled waits
-        answered) =
+        answered level) =
         IsFetched.goes_on
         (settling_along set call sent world (fetched after world) along_fetched round since holds kind from number unanswered
         (unheard unanswered) (coordinator_fetched (Waiting round since) holds coordinator) alone closed early clock logged bodies
         (doubled_fetched holds doubled) (λ member told. waits refl member told)
-        (answered_along call world (fetched after world) along_fetched answered))
+        (answered_along call world (fetched after world) along_fetched answered) level)
         (of_head (λ body. (is_answer body ≡ true) ⊎ IsCopy call body) bodies) (room_fetched holds doubled)
         (may_poll round.generation since bodies (λ member told. waits refl member told))
-    stage_fetched unheard (Stage.over holds coordinator alone closed bodies doubled told answered) =
+    stage_fetched unheard (Stage.over holds coordinator alone closed bodies doubled told answered level) =
         IsFetched.goes_on
         (over_along set call sent world (fetched after world) along_fetched holds (coordinator_fetched Idle holds coordinator) alone closed
-        bodies (doubled_fetched holds doubled) told (answered_along call world (fetched after world) along_fetched answered))
+        bodies (doubled_fetched holds doubled) told (answered_along call world (fetched after world) along_fetched answered)
+        level)
         (of_head (λ body. (is_answer body ≡ true) ⊎ IsCopy call body) bodies) (room_fetched holds doubled) (λ answer. tt)

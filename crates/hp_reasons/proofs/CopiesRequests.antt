@@ -3,6 +3,7 @@ use Rattle.std.proofs.Common.{◌≡◌, ℕ, ◌+◌, ◌^◌, ◌<◌, ◌≤�
 use Rattle.std.specs.Prelude.{nat_le}
 use Rattle.std.specs.Int.{is_power_of_two}
 use Rattle.std.proofs.lemmas.Bool.Decides.{nat_tests}
+use Rattle.std.proofs.lemmas.Bool.{or_right}
 use Rattle.hp_base.specs.Requests.{IsAccepted, bytes_asked, is_align, is_bound, is_too_large, raised_align, refusal_of, rounded_size}
 use Rattle.hp_base.specs.Round.{ceil_of}
 use Rattle.hp_base.specs.declared.page_size.TheConstants.{GREATEST_PAGE}
@@ -40,15 +41,11 @@ module _ (size align bound : ℕ) (accepted : IsAccepted size align bound) where
   pub not_refused : refusal_of size align bound ≡ None
   not_refused =
       let some : (size == 0) ≡ false = grind (arith, nat_tests, accepted.some) in
-      let aligns : is_align align ≡ true = either (align == 0) (is_power_of_two align) accepted.power in
+      let aligns : is_align align ≡ true = or_right (align == 0) (is_power_of_two align) accepted.power in
       let block : is_bound (rounded_size size) bound ≡ true =
       subst (λ (n : ℕ). is_bound n bound ≡ true) (sym rounded_again) accepted.block in
       all (size == 0) (is_too_large size align) (is_align align) (is_bound (rounded_size size) bound) some not_too_large aligns block
     where
-      either : (zero power : Bool) → power ≡ true → (zero || power) ≡ true
-      either true power is = refl
-      either false power is = is
-
       all : (zero large aligns block : Bool) → zero ≡ false → large ≡ false → aligns ≡ true → block ≡ true
           → cond zero (Some Zero) (cond large (Some Overflow) (cond (not aligns) (Some Align) (cond block None (Some Bound)))) ≡ None
       all true large aligns block some fits good in_block = cc

@@ -1,8 +1,10 @@
 -- Participant 0 serves once: whatever lies in its mailbox, it comes to a stage of the ask.
-use Rattle.std.proofs.Common.{◌≡◌, ◌∙◌, ◌⊎◌, ℕ, ◌+◌, ◌-◌, ◌^◌, ◌<◌, Bool, true, false, ◌||◌, ◌&&◌, ◌==◌, List, [], ◌∷◌, drop, Option, Some, inl, inr, refl, ap, sym, subst, arith}
+use Rattle.std.proofs.Common.{◌≡◌, ◌∙◌, ◌⊎◌, ℕ, ◌+◌, ◌-◌, ◌^◌, ◌<◌, Bool, true, false, ◌||◌, ◌&&◌, List, [], ◌∷◌, drop, Option, Some, inl, inr, refl, ap, sym, subst, arith}
 use Rattle.std.specs.Prelude.{is_some, min, slice_get, slice_set}
 use Rattle.std.specs.List.{list_any}
-use Rattle.hp_core.specs.Asks.{asker, number_of}
+use Rattle.std.proofs.lemmas.Option.{same_Some}
+use Rattle.std.proofs.lemmas.Bool.{or_parts}
+use Rattle.hp_core.specs.Asks.{asker}
 use Rattle.hp_core.specs.Core.{Core, due_of, holds_ask, is_idle}
 use Rattle.hp_core.specs.declared.asked.Asked.{Asked}
 use Rattle.hp_core.specs.declared.event.CoreEvent.{CoreEvent}
@@ -11,7 +13,6 @@ use Rattle.hp_core.specs.declared.phase.Phase.{Phase}
 use Rattle.hp_core.specs.declared.phase.Phase.TheVariants.{Waiting}
 use Rattle.hp_frame.specs.declared.frame.Frame.{Frame}
 use Rattle.hp_frame.specs.declared.message.Body.{Body}
-use Rattle.hp_frame.specs.declared.message.Body.TheVariants.{Alloc, Answer, Free, Sync}
 use Rattle.hp_hall.specs.Mail.{box_of}
 use Rattle.hp_proc.specs.Coordinating.{IsAskIn, IsNoAsk, is_sync_reply}
 use Rattle.hp_proc.specs.Falling.{HasPassedAt, IsDue}
@@ -23,10 +24,10 @@ use Rattle.hp_reasons.specs.Servings.{CoreServes, Handles, Polls}
 use Rattle.hp_reasons.specs.Shared.{Shared, fetched_by}
 use Rattle.hp_reasons.specs.Stages.{ComesTo, IsSent, MayPoll, PollsOn, PrimaryServes, StartsFresh, world_with}
 use Rattle.hp_reasons.proofs.CopiesAlong.{IsSameBut}
-use Rattle.hp_reasons.proofs.CopiesBodies.{answer_is_no_ask, copy_is_ask, copy_is_asked, copy_is_no_reply, reply_is_answer}
+use Rattle.hp_reasons.proofs.CopiesBodies.{answer_is_no_ask, copy_is_ask, copy_is_asked, copy_is_no_reply, not_answered, reply_is_answer}
 use Rattle.hp_reasons.proofs.CopiesCarried.{IsUnheard}
 use Rattle.hp_reasons.proofs.CopiesFetched.{IsFetched, base_fetched, fetched, stage_fetched}
-use Rattle.hp_reasons.proofs.CopiesSet.{same_party, set_twice, some_same, unheard_set}
+use Rattle.hp_reasons.proofs.CopiesSet.{same_party, set_twice, unheard_set}
 use Rattle.hp_reasons.proofs.CopiesStages.{takes_a_copy}
 use Rattle.hp_reasons.proofs.CopiesTaken.{like_same}
 use Rattle.hp_reasons.proofs.Said.{first_said, first_unsaid, mail_fetched, set_found, set_same}
@@ -35,23 +36,9 @@ use Rattle.hp_reasons.proofs.Said.{first_said, first_unsaid, mail_fetched, set_f
 due_later : (since deadline due : ℕ) → due ≡ min (since + deadline) (2 ^ 64 - 1) → 0 < deadline → due < 2 ^ 64 - 1 → since < due
 due_later since deadline due is waits early = omega (arith, is)
 
--- what is no answer to the ask is none to who asked last for that
-not_answered : (party : Party) (call : Asked) (body : Body) → party.asked ≡ number_of call → is_result_of call body ≡ false
-    → is_answer_to party body ≡ false
-not_answered party call (Alloc from number heap socket page size align bound flags) asked is = refl
-not_answered party call (Free from number heap address len) asked is = refl
-not_answered party call (Sync generation round) asked is = refl
-not_answered party call (Answer from number what code) asked is =
-    ap (λ (n : ℕ). ((what == 2) || (what == 3)) && (number == n)) asked ∙ is
-
 -- a world of these
 abbrev world_of : Shared → List (List Body) → List Party → World
 world_of shared mail parties = record { shared = shared; mail = mail; parties = parties }
-
--- where neither of two passes the first doesn't
-first_fails : (first rest : Bool) → (first || rest) ≡ false → first ≡ false
-first_fails true rest is = is
-first_fails false rest is = refl
 
 module _ (set : Setting) (call : Asked) (sent : ℕ) (world : World) (primary : Party) (is_sent : IsSent set call sent)
     (base : IsBase set world) (there : slice_get world.parties 0 ≡ Some primary) where
@@ -61,16 +48,17 @@ module _ (set : Setting) (call : Asked) (sent : ℕ) (world : World) (primary : 
   -- no SYNC of a settling round lies in a mailbox when the round's deadline has passed
   may_poll_due : (stage : Stage set call sent true world) → IsDue primary.core (Poll world.shared.clock [])
       → MayPoll set call sent true world stage
-  may_poll_due (Stage.fresh clock unanswered coordinator alone to_do copies some empty doubled) due = tt
-  may_poll_due (Stage.lost unanswered coordinator alone to_do none empty doubled taken_back) due = tt
-  may_poll_due (Stage.growing round holds kind from number unanswered coordinator its to_do clock bodies doubled follow awaited) due = tt
+  may_poll_due (Stage.fresh clock unanswered coordinator alone to_do copies some empty doubled level) due = tt
+  may_poll_due (Stage.lost unanswered coordinator alone to_do none empty doubled taken_back loses) due = tt
+  may_poll_due
+      (Stage.growing round holds kind from number unanswered coordinator its to_do clock bodies doubled follow awaited level) due = tt
   may_poll_due
       (Stage.settling round since holds kind from number unanswered coordinator alone closed early clock logged bodies doubled waits
-      answered) due =
+      answered level) due =
       λ member told.
       absurd (too_early coordinator.is.its coordinator.is.deadline coordinator.is.phase_is (waits refl member told).stands
       (subst (λ (c : Option Core). IsDue c (Poll world.shared.clock []))
-      (ap (λ (p : Party). p.core) (some_same primary coordinator.primary (sym there ∙ coordinator.there)) ∙ coordinator.is.there) due))
+      (ap (λ (p : Party). p.core) (same_Some primary coordinator.primary (sym there ∙ coordinator.there)) ∙ coordinator.is.there) due))
     where
       too_early : (core : Core) → core.deadline ≡ set.deadline → core.phase ≡ Waiting round since → world.shared.clock ≡ since
           → (holds_ask core ≡ true) ⊎ HasPassedAt core world.shared.clock → ⊥
@@ -83,11 +71,11 @@ module _ (set : Setting) (call : Asked) (sent : ℕ) (world : World) (primary : 
           sym passed.its_due
           ∙ (ap (λ (p : Phase). due_of core.deadline p) phase ∙ ap (λ (d : ℕ). due_of d (Waiting round since)) deadline) in
           let same : passed.due ≡ min (since + set.deadline) (2 ^ 64 - 1) =
-          some_same passed.due (min (since + set.deadline) (2 ^ 64 - 1)) due_is in
+          same_Some passed.due (min (since + set.deadline) (2 ^ 64 - 1)) due_is in
           let later : since < passed.due =
           due_later since set.deadline passed.due same is_sent.setting.waits passed.early in
           omega (arith, later, passed.passed, stands)
-  may_poll_due (Stage.over holds coordinator alone closed bodies doubled told answered) due = tt
+  may_poll_due (Stage.over holds coordinator alone closed bodies doubled told answered level) due = tt
 
   -- where participant 0 did nothing all is as it was
   still_is : world_with world.shared world.mail 0 primary world ≡ world
@@ -143,8 +131,8 @@ module _ (set : Setting) (call : Asked) (sent : ℕ) (world : World) (primary : 
       (λ its. (let here : slice_get world.parties (asker call) ≡ Some primary =
       subst (λ (n : ℕ). slice_get world.parties n ≡ Some primary) (sym its) there in
       let other : is_result_of call body ≡ false =
-      first_fails (is_result_of call body) (list_any (is_result_of call) (drop 1 (mail_of world 0)))
-      (sym (ap (list_any (is_result_of call)) head) ∙ was.nowhere 0) in
+      (or_parts (is_result_of call body) (list_any (is_result_of call) (drop 1 (mail_of world 0)))
+      (sym (ap (list_any (is_result_of call)) head) ∙ was.nowhere 0)).0 in
       ap (λ (answered : Bool). answered || is_answer_to primary body) (was.unheard primary here)
       ∙ not_answered primary call body (was.asked primary here) other))
 

@@ -1,6 +1,7 @@
 -- A world in which participant 0 has become another of the same kind, with what is shared and what the mailboxes say.
 use Rattle.std.proofs.Common.{◌≡◌, ◌≢◌, ◌∙◌, ◌⊎◌, ℕ, zero, suc, false, List, [], ◌∷◌, drop, length, Some, inl, inr, refl, ap, sym, subst}
 use Rattle.std.specs.Prelude.{slice_get, slice_set}
+use Rattle.std.proofs.lemmas.Option.{same_Some}
 use Rattle.hp_core.specs.Asks.{asker}
 use Rattle.hp_core.specs.declared.asked.Asked.{Asked}
 use Rattle.hp_frame.specs.declared.frame.Frame.{Frame}
@@ -14,10 +15,6 @@ use Rattle.hp_reasons.specs.Episode.{AreSaid, IsBase, Setting, World, mail_of}
 use Rattle.hp_reasons.proofs.CopiesAlong.{CameOf, IsAlong, IsLike, IsSameBut, base_along}
 use Rattle.hp_reasons.proofs.CopiesCarried.{IsUnheard}
 use Rattle.hp_reasons.proofs.Said.{get_set, set_found, set_long}
-
--- what is there is one
-pub some_same : {X : Type 0} (x y : X) → Some x ≡ Some y → x ≡ y
-some_same x y same = cc
 
 -- what is set twice is set once
 pub set_twice : {X : Type 0} (xs : List X) (place : ℕ) (x y : X) → slice_set (slice_set xs place x) place y ≡ slice_set xs place y
@@ -37,21 +34,23 @@ world_set segs boxes mail after world = record {
   parties = slice_set world.parties 0 after;
 }
 
+-- whoever is there behind such a change was there before
+pub came_from : (world : World) (primary after : Party) → slice_get world.parties 0 ≡ Some primary → IsSameBut primary after
+    → (who : ℕ) (party : Party) → slice_get (slice_set world.parties 0 after) who ≡ Some party → CameOf world who party
+came_from world primary after there same who party is =
+    elim (get_set world.parties 0 who after party is) [
+      | inl own ↦
+          record {
+            its = primary;
+            there = ap (slice_get world.parties) own.0 ∙ there;
+            same = subst (IsSameBut primary) (sym own.1) same;
+            apart = λ other. absurd (other own.0);
+          }
+      | inr other ↦ record { its = party; there = other.1; same = same_party party; apart = λ apart. refl }
+    ]
+
 module _ (set : Setting) (world : World) (segs : SegsView) (boxes : List (List Frame)) (mail : List (List Body)) (primary after : Party)
     (there : slice_get world.parties 0 ≡ Some primary) (same : IsSameBut primary after) (like : IsLike world.shared.segs segs) where
-  came_set : (who : ℕ) (party : Party) → slice_get (slice_set world.parties 0 after) who ≡ Some party → CameOf world who party
-  came_set who party is =
-      elim (get_set world.parties 0 who after party is) [
-        | inl its ↦
-            record {
-              its = primary;
-              there = subst (λ (n : ℕ). slice_get world.parties n ≡ Some primary) (sym its.0) there;
-              same = subst (λ (p : Party). IsSameBut primary p) (sym its.1) same;
-              apart = λ apart. absurd (apart its.0);
-            }
-        | inr other ↦ record { its = party; there = other.1; same = same_party party; apart = λ apart. refl }
-      ]
-
   -- nothing else has happened
   pub along_set : ((who : ℕ) → who ≢ 0 → mail_of (world_set segs boxes mail after world) who ≡ mail_of world who)
       → (mail_of (world_set segs boxes mail after world) 0 ≡ mail_of world 0)
@@ -63,11 +62,11 @@ module _ (set : Setting) (world : World) (segs : SegsView) (boxes : List (List F
     numbers = refl;
     others = others;
     first = first;
-    before = came_set;
+    before = came_from world primary after there same;
     primary = λ party is. record {
       after = after;
       there = set_found world.parties 0 primary after there;
-      same = subst (λ (p : Party). IsSameBut p after) (some_same primary party (sym there ∙ is)) same;
+      same = subst (λ (p : Party). IsSameBut p after) (same_Some primary party (sym there ∙ is)) same;
     };
   }
 

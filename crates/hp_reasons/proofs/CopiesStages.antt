@@ -1,7 +1,8 @@
 -- A further copy of an ask is held, or stale: it comes to the same stage.
-use Rattle.std.proofs.Common.{◌≡◌, ◌≢◌, ◌∙◌, ℕ, ◌+◌, ◌≤◌, Bool, true, false, ◌==◌, List, length, replicate, Option, Some, None, inl, refl, ap, sym, subst, arith}
+use Rattle.std.proofs.Common.{◌≡◌, ◌≢◌, ◌∙◌, ℕ, ◌+◌, ◌≤◌, Bool, true, false, ◌==◌, List, replicate, Option, Some, None, inl, refl, ap, sym, subst, arith}
 use Rattle.std.specs.Prelude.{count_by, slice_get, slice_set, if◌then◌else◌}
 use Rattle.std.proofs.lemmas.Bool.{eq-eqb, eqb-true}
+use Rattle.std.proofs.lemmas.Option.{same_Some}
 use Rattle.hp_base.specs.declared.plan_entry.MsgKind.TheVariants as message
 use Rattle.hp_core.specs.Asks.{asker, number_of}
 use Rattle.hp_core.specs.Core.{Core}
@@ -10,21 +11,20 @@ use Rattle.hp_core.specs.declared.asked.Asked.{Asked}
 use Rattle.hp_core.specs.declared.phase.Phase.{Phase}
 use Rattle.hp_core.specs.declared.phase.Phase.TheVariants.{Idle, Waiting}
 use Rattle.hp_segs.specs.LaterSteps.{after_stale}
-use Rattle.hp_segs.specs.SegsView.{SegsView, closed_number}
+use Rattle.hp_segs.specs.SegsView.{SegsView}
 use Rattle.hp_proc.specs.Coordinating.{with_core, with_room}
 use Rattle.hp_proc.specs.Party.{Party}
 use Rattle.hp_proc.specs.declared.sent.Sent.{Sent}
 use Rattle.hp_reasons.specs.Counting.{doubled_among}
 use Rattle.hp_reasons.specs.Episode.{AreDoubled, HasCoordinator, IsBase, Setting, Stage, World, doubles, is_call, mail_of}
-use Rattle.hp_reasons.specs.Outcomes.{stale_outcomes}
 use Rattle.hp_reasons.specs.Shared.{Shared, with_segs}
 use Rattle.hp_reasons.specs.Stages.{ComesTo, HasOneMore, TakesACopy}
 use Rattle.hp_reasons.proofs.CopiesAlong.{IsAlong, IsLike, IsSameBut}
 use Rattle.hp_reasons.proofs.CopiesCarried.{IsUnheard, answered_along, growing_along, over_along, settling_along, to_do_along}
-use Rattle.hp_reasons.proofs.CopiesSet.{along_set, base_set, set_twice, some_same, unheard_set, world_set}
-use Rattle.hp_reasons.proofs.CopiesStale.{one_if, stale_rises}
-use Rattle.hp_reasons.proofs.CopiesTaken.{IsTaken, handled_so, held_growing, held_settling, like_room, like_stale, rested, stale_step}
+use Rattle.hp_reasons.proofs.CopiesSet.{along_set, base_set, set_twice, unheard_set, world_set}
+use Rattle.hp_reasons.proofs.CopiesTaken.{IsTaken, handled_so, held_growing, held_settling, like_room, like_stale, rested, stale_more, stale_step}
 use Rattle.hp_reasons.proofs.Said.{set_found}
+use Rattle.hp_reasons.proofs.CountingLemmas.{one_if}
 
 -- the places of a coordinator that holds the ask, or nothing
 abbrev held_by : Asked → Bool → List (Option Asked)
@@ -56,7 +56,7 @@ module _ (set : Setting) (call : Asked) (sent : ℕ) (world : World) (primary : 
   its_core : (phase : Phase) (holds : Bool) (coordinator : HasCoordinator set world phase call holds)
       → primary.core ≡ Some coordinator.is.its
   its_core phase holds coordinator =
-      ap (λ (p : Party). p.core) (some_same primary coordinator.primary (sym there ∙ coordinator.there)) ∙ coordinator.is.there
+      ap (λ (p : Party). p.core) (same_Some primary coordinator.primary (sym there ∙ coordinator.there)) ∙ coordinator.is.there
 
   -- the world behind the step
   abbrev behind : SegsView → Core → World
@@ -129,12 +129,6 @@ module _ (set : Setting) (call : Asked) (sent : ℕ) (world : World) (primary : 
   abbrev staled : SegsView
   staled = after_stale (asker call) (number_of call) (with_room world.shared.segs)
 
-  -- it is one of the asker's, for which there is room
-  stale_more : (who : ℕ) → stale_outcomes who staled.asks ≡ stale_outcomes who world.shared.segs.asks + one_if (asker call == who)
-  stale_more who =
-      stale_rises world.shared.segs.asks (asker call) (number_of call) (closed_number world.shared.segs.asks (asker call))
-      (length world.shared.segs.log) who
-
   doubled_staled : (core : Core) (holds : Bool) → HasOneMore set world call holds → AreDoubled set world call holds false
       → AreDoubled set (behind staled core) call holds false
   doubled_staled core holds room doubled = record {
@@ -142,14 +136,14 @@ module _ (set : Setting) (call : Asked) (sent : ℕ) (world : World) (primary : 
         (let came = (along_behind staled core (like_stale world.shared.segs (asker call) (number_of call))).before (asker call) party is in
         let sends = doubles_same set (asker call) came.its party came.same.sent in
         let more = room came.its came.there in
-        let rises = stale_more (asker call) in
+        let rises = stale_more world.shared.segs (asker call) (number_of call) (asker call) in
         let one : one_if (asker call == asker call) ≡ 1 = ap one_if (eq-eqb (asker call) (asker call) refl) in
         omega (arith, sends, more, rises, one));
     others = λ who party apart is.
         (let came = (along_behind staled core (like_stale world.shared.segs (asker call) (number_of call))).before who party is in
         let sends = doubles_same set who came.its party came.same.sent in
         let before = doubled.others who came.its apart came.there in
-        let rises = stale_more who in
+        let rises = stale_more world.shared.segs (asker call) (number_of call) who in
         let none : one_if (asker call == who) ≡ 0 = ap one_if (unlike (asker call) who (asker call == who) refl apart) in
         omega (arith, sends, before, rises, none));
   }
@@ -173,14 +167,14 @@ module _ (set : Setting) (call : Asked) (sent : ℕ) (world : World) (primary : 
 -- a further copy is held, or stale
 pub takes_a_copy : TakesACopy
 takes_a_copy set call sent event world shared primary after is_sent base
-    (Stage.fresh clock unanswered coordinator alone to_do copies some empty doubled) room there asked handles =
+    (Stage.fresh clock unanswered coordinator alone to_do copies some empty doubled level) room there asked handles =
     absurd room
 takes_a_copy set call sent event world shared primary after is_sent base
-    (Stage.lost unanswered coordinator alone to_do none empty doubled taken_back) room there asked handles =
+    (Stage.lost unanswered coordinator alone to_do none empty doubled taken_back loses) room there asked handles =
     absurd room
 takes_a_copy set call sent event world shared primary after is_sent base
-    (Stage.growing round holds its_kind from number unanswered coordinator its to_do clock bodies doubled follow awaited) room there asked
-    handles =
+    (Stage.growing round holds its_kind from number unanswered coordinator its to_do clock bodies doubled follow awaited level) room there
+    asked handles =
     let core : Core = coordinator.is.its in
     let segs : SegsView = with_room world.shared.segs in
     let like : IsLike world.shared.segs segs = like_room world.shared.segs in
@@ -197,10 +191,10 @@ takes_a_copy set call sent event world shared primary after is_sent base
     (held_behind set call sent world primary base there segs (Waiting round sent) holds coordinator) its
     (to_do_along call world (behind set call sent world primary base there segs (holding call core)) along to_do) clock bodies
     (doubled_held set call sent world primary base there (holding call core) holds room doubled) follow
-    (λ member told. awaited refl member told))
+    (λ member told. awaited refl member told) level)
 takes_a_copy set call sent event world shared primary after is_sent base
     (Stage.settling round since holds its_kind from number unanswered coordinator alone closed early clock logged bodies doubled waits
-    answered) room there asked handles =
+    answered level) room there asked handles =
     let core : Core = coordinator.is.its in
     let segs : SegsView = with_room world.shared.segs in
     let like : IsLike world.shared.segs segs = like_room world.shared.segs in
@@ -217,9 +211,9 @@ takes_a_copy set call sent event world shared primary after is_sent base
     (held_behind set call sent world primary base there segs (Waiting round since) holds coordinator) alone closed early clock logged bodies
     (doubled_held set call sent world primary base there (holding call core) holds room doubled)
     (λ member told. waits refl member told)
-    (answered_along call world (behind set call sent world primary base there segs (holding call core)) along answered))
+    (answered_along call world (behind set call sent world primary base there segs (holding call core)) along answered) level)
 takes_a_copy set call sent event world shared primary after is_sent base
-    (Stage.over holds coordinator alone closed bodies doubled told answered) room there asked handles =
+    (Stage.over holds coordinator alone closed bodies doubled told answered level) room there asked handles =
     let core : Core = coordinator.is.its in
     let segs : SegsView = after_stale (asker call) (number_of call) (with_room world.shared.segs) in
     let like : IsLike world.shared.segs segs = like_stale world.shared.segs (asker call) (number_of call) in
@@ -233,4 +227,4 @@ takes_a_copy set call sent event world shared primary after is_sent base
     (over_along set call sent world (behind set call sent world primary base there segs (rested core)) along holds
     (rested_behind set call sent world primary base there segs holds coordinator) alone closed bodies
     (doubled_staled set call sent world primary base there (rested core) holds room doubled) told
-    (answered_along call world (behind set call sent world primary base there segs (rested core)) along answered))
+    (answered_along call world (behind set call sent world primary base there segs (rested core)) along answered) level)

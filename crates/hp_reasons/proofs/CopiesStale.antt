@@ -1,8 +1,8 @@
 -- What one more stale outcome leaves of all that is read off the outcomes.
-use Rattle.std.proofs.Common.{◌≡◌, ◌∙◌, ℕ, ◌+◌, Bool, true, false, cond, ◌&&◌, ◌||◌, ◌==◌, List, [], ◌∷◌, ◌++◌, Some, None, Contains, inl, inr, refl, ap, arith}
+use Rattle.std.proofs.Common.{◌≡◌, ◌∙◌, ℕ, ◌+◌, Bool, true, false, cond, ◌&&◌, ◌||◌, ◌==◌, List, [], ◌∷◌, ◌++◌, Some, None, Contains, inl, inr, ap, arith}
 use Rattle.std.specs.Prelude.{max}
 use Rattle.std.specs.List.{list_any}
-use Rattle.std.proofs.Math.Bool.{and-false, or-false}
+use Rattle.std.proofs.Math.Bool.{and-false, and-true, or-false}
 use Rattle.std.proofs.lemmas.List.Elements.{Contains-push_cases}
 use Rattle.std.proofs.lemmas.List.Folds.{list_any-append}
 use Rattle.hp_segs.specs.LaterSteps.{has_failed_from}
@@ -12,18 +12,11 @@ use Rattle.hp_segs.specs.declared.outcome.Outcome.TheVariants.{Stale}
 use Rattle.hp_segs.proofs.ClosedLemmas.{closed_push}
 use Rattle.hp_reasons.specs.Outcomes.{late_outcomes, stale_outcomes, withdrawn_outcomes}
 use Rattle.hp_reasons.proofs.OutcomesMore.{failed_push, late_push, stale_push, withdrawn_push}
+use Rattle.hp_reasons.proofs.CountingLemmas.{one_if}
 
 -- the outcome of an ask that is stale
 abbrev pub stale_entry : (from number done at : ℕ) → AskLog
 stale_entry from number done at = record { from = from; number = number; outcome = Stale done; at = at; ask = None }
-
--- 1 where a test passes
-abbrev pub one_if : Bool → ℕ
-one_if passes = cond passes 1 0
-
-and_true : (test : Bool) → (test && true) ≡ test
-and_true true = refl
-and_true false = refl
 
 module _ (asks : List AskLog) (from number done at : ℕ) where
   -- each one's closed number stays
@@ -68,4 +61,4 @@ module _ (asks : List AskLog) (from number done at : ℕ) where
       → stale_outcomes who (asks ++ stale_entry from number done at ∷ []) ≡ stale_outcomes who asks + one_if (from == who)
   stale_rises who =
       stale_push asks (stale_entry from number done at) who
-      ∙ ap (λ (its : Bool). stale_outcomes who asks + one_if its) (and_true (from == who))
+      ∙ ap (λ (its : Bool). stale_outcomes who asks + one_if its) (and-true (from == who))

@@ -1,8 +1,9 @@
 -- What becomes of a further copy of an ask: the coordinator holds it, or it is stale, and nothing is posted.
-use Rattle.std.proofs.Common.{◌≡◌, ◌∙◌, ℕ, Bool, true, false, not, ◌&&◌, length, Option, List, Some, None, refl, ap, sym, subst}
+use Rattle.std.proofs.Common.{◌≡◌, ◌∙◌, ℕ, Bool, true, false, not, ◌&&◌, length, Option, List, Some, None, refl, ap, sym, subst, ◌+◌, ◌==◌}
 use Rattle.std.specs.List.{list_any}
 use Rattle.std.proofs.Math.Bool.{and-false}
 use Rattle.std.proofs.lemmas.Bool.{cond-false, cond-true, le-leb}
+use Rattle.std.proofs.lemmas.Option.{same_Some}
 use Rattle.hp_core.specs.Asks.{asker, is_armed, is_closed, is_unarmed, number_of}
 use Rattle.hp_core.specs.Core.{Core, Stepped, going_on, is_foreign, is_idle, is_open_for, unchanged}
 use Rattle.hp_core.specs.Outs.{IsAskOf}
@@ -26,21 +27,22 @@ use Rattle.hp_proc.specs.Coordinating.{MustMap, nobody_denies, stepping, with_co
 use Rattle.hp_proc.specs.Party.{Party}
 use Rattle.hp_reasons.specs.Episode.{IsClosed, IsToDo, World}
 use Rattle.hp_reasons.specs.Failing.{AreGrantsWithin}
-use Rattle.hp_reasons.specs.Outcomes.{late_outcomes, withdrawn_outcomes}
+use Rattle.hp_reasons.specs.Outcomes.{late_outcomes, stale_outcomes, withdrawn_outcomes}
 use Rattle.hp_reasons.specs.Servings.{CarriesOut, Handles, PostsFor}
 use Rattle.hp_reasons.specs.Shared.{Shared, with_segs}
 use Rattle.hp_reasons.proofs.CopiesAlong.{IsLike}
-use Rattle.hp_reasons.proofs.CopiesSet.{some_same}
-use Rattle.hp_reasons.proofs.CopiesStale.{answered_stays, closed_stays, failed_stays, granted_before, late_stays, withdrawn_stays}
+use Rattle.hp_reasons.proofs.CopiesStale.{answered_stays, closed_stays, failed_stays, granted_before, late_stays, stale_rises, withdrawn_stays}
+use Rattle.hp_reasons.proofs.CountingLemmas.{one_if}
 
 -- where the outcomes are the same, and nothing else changes that counts
 like_by : (old new : SegsView) → new.log ≡ old.log → new.roster ≡ old.roster → new.growth ≡ old.growth → new.armed ≡ old.armed
-    → new.asks ≡ old.asks → IsLike old new
-like_by old new log roster growth armed same = record {
+    → new.retiring ≡ old.retiring → new.asks ≡ old.asks → IsLike old new
+like_by old new log roster growth armed retiring same = record {
   log = log;
   roster = roster;
   growth = growth;
   armed = armed;
+  retiring = retiring;
   closed = λ who. ap (λ (asks : List AskLog). closed_number asks who) same;
   late = λ who. ap (late_outcomes who) same;
   withdrawn = λ who. ap (withdrawn_outcomes who) same;
@@ -51,10 +53,10 @@ like_by old new log roster growth armed same = record {
 
 -- nothing was done, places alone were made, or a stale outcome was logged behind that
 pub like_same : (segs : SegsView) → IsLike segs segs
-like_same segs = like_by segs segs refl refl refl refl refl
+like_same segs = like_by segs segs refl refl refl refl refl refl
 
 pub like_room : (segs : SegsView) → IsLike segs (with_room segs)
-like_room segs = like_by segs (with_room segs) refl refl refl refl refl
+like_room segs = like_by segs (with_room segs) refl refl refl refl refl refl
 
 pub like_stale : (segs : SegsView) (from number : ℕ) → IsLike segs (after_stale from number (with_room segs))
 like_stale segs from number = record {
@@ -62,6 +64,7 @@ like_stale segs from number = record {
   roster = refl;
   growth = refl;
   armed = refl;
+  retiring = refl;
   closed = closed_stays segs.asks from number (closed_number segs.asks from) (length segs.log);
   late = late_stays segs.asks from number (closed_number segs.asks from) (length segs.log);
   withdrawn = withdrawn_stays segs.asks from number (closed_number segs.asks from) (length segs.log);
@@ -71,6 +74,11 @@ like_stale segs from number = record {
       (granted_before segs.asks from number (closed_number segs.asks from) (length segs.log) entry generation there grants) grants;
   answered = answered_stays segs.asks from number (closed_number segs.asks from) (length segs.log);
 }
+
+-- then one more of its asker's outcomes is stale
+pub stale_more : (segs : SegsView) (from number who : ℕ)
+    → stale_outcomes who (after_stale from number (with_room segs)).asks ≡ stale_outcomes who segs.asks + one_if (from == who)
+stale_more segs from number who = stale_rises segs.asks from number (closed_number segs.asks from) (length segs.log) who
 
 -- what the coordinator does with an ask that comes
 asked_step : (event : CoreEvent) (call : Asked) (core : Core) (segs : SegsView) → IsAskOf event call
@@ -172,7 +180,7 @@ pub handled_so : (count : ℕ) (event : CoreEvent) (old new : Shared) (party aft
     → Handles count event old new party after → party.core ≡ Some core → stepping event core old.segs ≡ unchanged next segs
     → IsTaken segs next old new party after
 handled_so count event old new party after core next segs handles there is =
-    let same : handles.core ≡ core = some_same handles.core core (sym handles.there ∙ there) in
+    let same : handles.core ≡ core = same_Some handles.core core (sym handles.there ∙ there) in
     let all : stepping event handles.core old.segs ≡ unchanged next segs = ap (λ (c : Core). stepping event c old.segs) same ∙ is in
     let answer : handles.answer ≡ out.Nothing = handles.steps.answer_is ∙ ap (λ (s : Stepped). s.out) all in
     let core_is : handles.next ≡ next = handles.steps.core_is ∙ ap (λ (s : Stepped). s.core) all in

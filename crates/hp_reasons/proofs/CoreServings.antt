@@ -3,7 +3,7 @@ use Rattle.std.proofs.Common.{◌≡◌, ◌≢◌, ◌∙◌, ℕ, zero, suc, �
 use Rattle.std.specs.Prelude.{slice_get, slice_index}
 use Rattle.std.proofs.lemmas.Bool.{cases_eq}
 use Rattle.std.proofs.lemmas.Bool.Decides.{nat_tests}
-use Rattle.std.proofs.lemmas.Option.{get_or_from_slice_get, none-some}
+use Rattle.std.proofs.lemmas.Option.{get_or_from_slice_get, none-some, same_Some}
 use Rattle.hp_core.specs.Core.{Core}
 use Rattle.hp_core.specs.declared.event.CoreEvent.{CoreEvent}
 use Rattle.hp_core.specs.declared.event.CoreEvent.TheVariants.{Poll, SelfMapped}
@@ -23,7 +23,7 @@ use Rattle.hp_proc.specs.Serving.{CatchesUp, acks_behind}
 use Rattle.hp_reasons.specs.Servings.{CarriesOut, CoordinatesSo, CoreServes, Handles, MapsItself, Polls, Steps, numbered}
 use Rattle.hp_reasons.specs.Shared.{MakesAll, Shared, fetched_by}
 use Rattle.hp_reasons.proofs.Postings.{posted}
-use Rattle.hp_reasons.proofs.Sharing.{acked, cut_at, fetched_one, found_nothing, gave, loaded, numbered_clock, numbered_segs, read_clock, some_same, took}
+use Rattle.hp_reasons.proofs.Sharing.{acked, cut_at, fetched_one, found_nothing, gave, loaded, numbered_clock, numbered_segs, read_clock, took}
 
 -- WHAT ITS COORDINATOR DOES
 
@@ -34,7 +34,7 @@ handed event core next steps answer old new (IsHanded.handed did next_is is) mak
     let back = gave 0 _ [] old new (subst (λ (steps : List MailStep). MakesAll 0 steps old new) did makes) in
     record {
       core_is = next_is;
-      answer_is = some_same answer _ is;
+      answer_is = same_Some answer _ is;
       shared = back.rest;
       sound = subst (λ (at : Shared). IsSound at.segs) (sym back.rest) back.sound;
       armed = λ armed. subst (λ (at : Shared). IsArmed at.segs) (sym back.rest) (back.armed armed);
@@ -190,11 +190,11 @@ module _ (count : ℕ) where
       → IsRested count party after steps (Some moved) → MakesAll 0 steps old new → CoreServes count old new party after moved
   rested party after steps moved old new none (IsRested.rests now holds early did after_is is) makes =
       let read = read_clock 0 now [] old new (subst (λ (steps : List MailStep). MakesAll 0 steps old new) did makes) in
-      subst (CoreServes count old new party after) (some_same false moved (sym is))
+      subst (CoreServes count old new party after) (same_Some false moved (sym is))
       (CoreServes.rests none holds (subst (λ (now : ℕ). IsToComeAt now (due_in party.core)) read.0 early) read.1 after_is)
   rested party after steps moved old new none (IsRested.polls now more true due did is_polled is) makes =
       let read = read_clock 0 now more old new (subst (λ (steps : List MailStep). MakesAll 0 steps old new) did makes) in
-      subst (CoreServes count old new party after) (some_same true moved (sym is))
+      subst (CoreServes count old new party after) (same_Some true moved (sym is))
       (CoreServes.polls none (subst (λ (now : ℕ). IsDue party.core (Poll now [])) read.0 due)
       (polled now party after more old new is_polled read.0 read.1))
   rested party after steps moved old new none (IsRested.polls now more false due did is_polled is) makes = absurd (none-some moved (sym is))
@@ -206,7 +206,7 @@ coordinates count old new party after steps moved primary boxes numbers some few
 coordinates count old new party after steps moved primary boxes numbers some few
     (IsCoreServed.heeds frame more true did is_obeyed is) makes =
     let has = fetched_one 0 frame more old new (subst (λ (steps : List MailStep). MakesAll 0 steps old new) did makes) in
-    subst (CoreServes count old new party after) (some_same true moved (sym is))
+    subst (CoreServes count old new party after) (same_Some true moved (sym is))
     (obeyed count old new party after frame (drop 1 (box_of old.boxes 0)) (ap (box_of old.boxes) primary ∙ has.0) more is_obeyed
     (subst (λ (who : ℕ). MakesAll 0 more (fetched_by who old) new) (sym primary) has.1))
 coordinates count old new party after steps moved primary boxes numbers some few

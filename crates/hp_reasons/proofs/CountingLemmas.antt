@@ -31,7 +31,11 @@ one passes = ap (λ b. cond {A = ℕ} b 1 0) passes
 nothing : {b : Bool} → b ≡ false → cond {A = ℕ} b 1 0 ≡ 0
 nothing fails = ap (λ b. cond {A = ℕ} b 1 0) fails
 
-at_most_one : (b : Bool) → cond {A = ℕ} b 1 0 ≤ 1
+-- 1 where a test passes
+abbrev pub one_if : Bool → ℕ
+one_if passes = cond passes 1 0
+
+pub at_most_one : (b : Bool) → one_if b ≤ 1
 at_most_one true = omega arith
 at_most_one false = omega arith
 

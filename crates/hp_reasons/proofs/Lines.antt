@@ -1,4 +1,5 @@
--- What a participant does of its line leads from a quiet world to a quiet one: it walks over all that it did.
+-- What a participant does of its line leads from a quiet world to a quiet one, in which it owes word of a run, or not: it walks over all
+-- that it did.
 use Rattle.std.proofs.Common.{◌≡◌, ◌≢◌, ◌∙◌, ℕ, ◌≤◌, ◌<◌, ◌^◌, Bool, true, false, ◌||◌, List, [], ◌∷◌, ◌++◌, length, count_by, inl, inr, refl, sym, ap, subst, arith}
 use Rattle.std.specs.List.{list_any}
 use Rattle.std.proofs.lemmas.Bool.{cases_Bool}
@@ -16,12 +17,14 @@ use Rattle.hp_proc.specs.Acting.{Acts}
 use Rattle.hp_proc.specs.Attaching.{Attaches, after_attaching}
 use Rattle.hp_proc.specs.Courses.{Standing}
 use Rattle.hp_proc.specs.Doing.{Done}
+use Rattle.hp_proc.specs.Doing.Done.{Asked, GaveUp}
 use Rattle.hp_proc.specs.Party.{Party, with_standing}
 use Rattle.hp_proc.specs.Serving.{acks_behind, gives_segments, takes_segments}
 use Rattle.hp_solo.specs.Sequence.{Sequence}
 use Rattle.hp_solo.specs.Solo.{SoloView}
-use Rattle.hp_reasons.specs.Episode.{IsQuietWorld, IsSetting, Setting, World}
-use Rattle.hp_reasons.specs.Lines.{ActsInQuiet, AreWaitsQuiet, AttachesOnce, is_looked}
+use Rattle.hp_reasons.specs.Episode.{IsSetting, Setting, World}
+use Rattle.hp_reasons.specs.Quiet.{IsQuietOwing, IsQuietWorld}
+use Rattle.hp_reasons.specs.Lines.{ActsInQuiet, AreWaitsQuiet, AttachesOnce, Owes, is_looked}
 use Rattle.hp_reasons.specs.Shared.{MakesAll}
 use Rattle.hp_reasons.specs.Waits.{LeadsTo}
 use Rattle.hp_reasons.specs.Worlds.{AreCalls, IsWorldOf}
@@ -29,6 +32,7 @@ use Rattle.hp_reasons.proofs.LinesCarried.{acts_timed, clock_rises}
 use Rattle.hp_reasons.proofs.LinesOwn.{HasSameTable, HasTried, attaches, calls_rise, cuts, leaves, stays}
 use Rattle.hp_reasons.proofs.LinesQuiet.{IsAsBefore}
 use Rattle.hp_reasons.proofs.LinesRoster.{hall_out, out_stays, world_out}
+use Rattle.hp_reasons.proofs.OwesAlong.{owes_both, owes_cut, owes_no_more, owes_once, owes_still, owes_tried}
 use Rattle.hp_reasons.proofs.TurnsCalls.{acks_calls, calls_then}
 use Rattle.hp_reasons.proofs.TurnsSequence.{IsOwn, calls_own, cut_in}
 
@@ -117,20 +121,28 @@ module _ (quietly : AreWaitsQuiet) (set : Setting) (me : ℕ) (is_set : IsSettin
   has_place old party world its quiet =
       omega (arith, slice_get_within world.parties me party its.own, quiet.base.parties, is_set.few)
 
+  -- it owes so much behind what it did
+  left_as : (left owes : Bool) (new : SoloView) (after : Party) → left ≡ owes → LeadsTo (IsQuietOwing set owes) new me after
+      → LeadsTo (IsQuietOwing set left) new me after
+  left_as left owes new after is leads = subst (λ (owes : Bool). LeadsTo (IsQuietOwing set owes) new me after) (sym is) leads
+
   -- it changed what it knows alone
   knows_more : (old new : SoloView) (party after : Party) (world : World) (steps : List MailStep) → IsWorldOf old me party world
-      → IsQuietWorld set world → Sequence me old steps new → AreCalls steps
+      → (owes left : Bool) → IsQuietOwing set owes world → left ≡ owes → Sequence me old steps new → AreCalls steps
       → ((own : IsOwn me steps old.servers new world.shared) → own.along.at ≡ world.shared) → IsAsBefore party after
-      → HasSameTable party after → LeadsTo (IsQuietWorld set) new me after
-  knows_more old new party after world steps its quiet sequence calls still goes same =
+      → HasSameTable party after → LeadsTo (IsQuietOwing set left) new me after
+  knows_more old new party after world steps its owes left owing is sequence calls still goes same =
       let own = own_calls old new party world steps its sequence calls in
-      stays set me old new party after world its quiet own.servers own.along.order goes own.along.at own.along.shared (still own) same
+      left_as left owes new after is
+      (stays set me old new party after world its owes owing own.servers own.along.order goes own.along.at own.along.shared (still own)
+      same)
 
   -- while it is out, what it does but for an attach leaves it out
   still_out : (old between : SoloView) (party mid : Party) (world : World) (first : List Done) (before : List MailStep)
       → IsWorldOf old me party world → IsQuietWorld set world → Acts set.count party mid first before → Sequence me old before between
-      → LeadsTo (IsQuietWorld set) between me mid → party.joined ≡ false → list_any is_looked first ≡ false → mid.joined ≡ false
-  still_out old between party mid world first before its quiet here sequence behind out nothing =
+      → (owes : Bool) → LeadsTo (IsQuietOwing set owes) between me mid → party.joined ≡ false → list_any is_looked first ≡ false
+      → mid.joined ≡ false
+  still_out old between party mid world first before its quiet here sequence owes behind out nothing =
       let place = quiet.base.places me party its.own in
       let is_out : is_member world.shared.segs.roster me ≡ false = place.joined ∙ out in
       let secondary : me ≢ 0 =
@@ -141,83 +153,96 @@ module _ (quietly : AreWaitsQuiet) (set : Setting) (me : ℕ) (is_set : IsSettin
       let now =
       out_stays set.count me secondary party mid first before old between place.me here nothing sequence
       (hall_out old me party world its is_out) in
-      sym (behind.holds.base.places me mid behind.its.own).joined ∙ world_out between me mid behind.world behind.its now
+      sym (behind.holds.quiet.base.places me mid behind.its.own).joined ∙ world_out between me mid behind.world behind.its now
 
   walks : (party after : Party) (trace : List Done) (steps : List MailStep) → Acts set.count party after trace steps → (old new : SoloView)
-      (world : World) → IsWorldOf old me party world → IsQuietWorld set world → new.plain.clock ≤ 2 ^ 62 → Sequence me old steps new
-      → AttachesOnce party trace → LeadsTo (IsQuietWorld set) new me after
-  walks party after trace steps (Acts.nothing _) old new world its quiet early sequence once =
-      knows_more old new party party world [] its quiet sequence tt (λ own. own.along.made)
+      (world : World) → IsWorldOf old me party world → (owes left : Bool) → IsQuietOwing set owes world → new.plain.clock ≤ 2 ^ 62
+      → Sequence me old steps new → AttachesOnce party trace → Owes owes trace left → LeadsTo (IsQuietOwing set left) new me after
+  walks party after trace steps (Acts.nothing _) old new world its owes left owing early sequence once pays =
+      knows_more old new party party world [] its owes left owing (owes_still owes left pays) sequence tt (λ own. own.along.made)
       (record { me = refl; deadline = refl; plan = refl; core = refl; asked = refl; sent = refl; calls = omega arith })
       (record { joined = refl; maps = refl })
-  walks party after trace steps (Acts.waits_turn until _ _ moved _ turned) old new world its quiet early sequence once =
-      quietly.turns quietly.known set until me old new party after moved steps world is_set its quiet
+  walks party after trace steps (Acts.waits_turn until _ _ moved _ turned) old new world its owes left owing early sequence once pays =
+      left_as left owes new after (owes_still owes left pays)
+      (quietly.turns quietly.known set until me owes old new party after moved steps world is_set its owing
       (not_above world.shared.clock old.plain.clock new.plain.clock (2 ^ 62) its.shared.clock
       (clock_rises me steps old new sequence
-      (acts_timed set.count party after [] steps (Acts.waits_turn until party after moved steps turned))) early) sequence turned
-  walks party after trace steps (Acts.takes_heap _ heap) old new world its quiet early sequence once =
-      knows_more old new party party world steps its quiet sequence (tt, tt) (λ own. own.along.made.2 ∙ own.along.made.1)
+      (acts_timed set.count party after [] steps (Acts.waits_turn until party after moved steps turned))) early) sequence turned)
+  walks party after trace steps (Acts.takes_heap _ heap) old new world its owes left owing early sequence once pays =
+      knows_more old new party party world steps its owes left owing (owes_still owes left pays) sequence (tt, tt)
+      (λ own. own.along.made.2 ∙ own.along.made.1)
       (record { me = refl; deadline = refl; plan = refl; core = refl; asked = refl; sent = refl; calls = omega arith })
       (record { joined = refl; maps = refl })
-  walks party after trace steps (Acts.gives_heap _ heap) old new world its quiet early sequence once =
-      knows_more old new party party world steps its quiet sequence (tt, tt) (λ own. own.along.made.2 ∙ own.along.made.1)
+  walks party after trace steps (Acts.gives_heap _ heap) old new world its owes left owing early sequence once pays =
+      knows_more old new party party world steps its owes left owing (owes_still owes left pays) sequence (tt, tt)
+      (λ own. own.along.made.2 ∙ own.along.made.1)
       (record { me = refl; deadline = refl; plan = refl; core = refl; asked = refl; sent = refl; calls = omega arith })
       (record { joined = refl; maps = refl })
-  walks party after trace steps (Acts.makes_call _ heap call answer none) old new world its quiet early sequence once =
-      knows_more old new party after world [] its quiet sequence tt (λ own. own.along.made)
+  walks party after trace steps (Acts.makes_call _ heap call answer none) old new world its owes left owing early sequence once pays =
+      knows_more old new party after world [] its owes left owing (owes_no_more owes left heap call answer none pays) sequence tt
+      (λ own. own.along.made)
       (record { me = refl; deadline = refl; plan = refl; core = refl; asked = refl; sent = refl; calls = omega arith })
       (record { joined = refl; maps = refl })
-  walks party after trace steps (Acts.cuts_run _ heap addr run taken) old new world its quiet early sequence once =
+  walks party after trace steps (Acts.cuts_run _ heap addr run taken) old new world its owes left owing early sequence once pays =
       let own = own_calls old new party world steps its sequence (tt, (tt, tt)) in
-      cuts set me old new party after world its quiet own.servers own.along.order
+      left_as left true new after (owes_cut owes left heap addr run pays)
+      (cuts set me old new party after world its owes owing own.servers own.along.order
       (record { me = refl; deadline = refl; plan = refl; core = refl; asked = refl; sent = refl; calls = omega arith }) own.along.at
-      own.along.shared run taken own.along.made (record { joined = refl; maps = refl })
-  walks party after trace steps (Acts.asks_pages _ _ asked run _ does) old new world its quiet early sequence once =
-      quietly.asks quietly.known set me old new party after asked run steps world is_set its quiet
+      own.along.shared run taken own.along.made (record { joined = refl; maps = refl }))
+  walks party after trace steps (Acts.asks_pages _ _ asked run _ does) old new world its owes left owing early sequence once pays =
+      let does_so = owes_once owes left (Asked asked run) pays in
+      left_as left false new after (does_so.left_is ∙ does_so.may)
+      (quietly.asks quietly.known set me old new party after asked run steps world is_set its
+      (subst (λ (owes : Bool). IsQuietOwing set owes world) does_so.may owing)
       (not_above world.shared.clock old.plain.clock new.plain.clock (2 ^ 62) its.shared.clock
       (clock_rises me steps old new sequence
-      (acts_timed set.count party after trace steps (Acts.asks_pages party after asked run steps does))) early) sequence does
-  walks party after trace steps (Acts.notifies_run _ _ heap run _ does) old new world its quiet early sequence once =
-      quietly.notifies quietly.known set me heap old new party after run steps world is_set its quiet
+      (acts_timed set.count party after trace steps (Acts.asks_pages party after asked run steps does))) early) sequence does)
+  walks party after trace steps (Acts.notifies_run _ _ heap run _ does) old new world its owes left owing early sequence once pays =
+      left_as left false new after (owes_once owes left (GaveUp heap run) pays).left_is
+      (quietly.notifies quietly.known set me heap old new party after run steps world is_set its owing.quiet
       (not_above world.shared.clock old.plain.clock new.plain.clock (2 ^ 62) its.shared.clock
       (clock_rises me steps old new sequence
-      (acts_timed set.count party after trace steps (Acts.notifies_run party after heap run steps does))) early) sequence does
-  walks party _ trace steps (Acts.attaches _ mid taken ended tries) old new world its quiet early sequence once =
+      (acts_timed set.count party after trace steps (Acts.notifies_run party after heap run steps does))) early) sequence does)
+  walks party _ trace steps (Acts.attaches _ mid taken ended tries) old new world its owes left owing early sequence once pays =
       let given = gives_segments (after_attaching party.me ended taken) ∷ [] in
       let own =
       own_calls old new party world steps its sequence
       (tt, calls_then (acks_behind ended (length taken.log)) given (acks_calls ended (length taken.log)) (tt, tt)) in
-      attaches set me old new party _ world its quiet own.servers own.along.order (tried_as_before party mid _ taken.log ended tries)
-      own.along.at own.along.shared (has_place old party world its quiet) taken ended
+      left_as left owes new _ (owes_tried owes left (length taken.log) ended pays)
+      (attaches set me old new party _ world its owes owing own.servers own.along.order (tried_as_before party mid _ taken.log ended tries)
+      own.along.at own.along.shared (has_place old party world its owing.quiet) taken ended
       (subst
       (λ (who : ℕ).
       MakesAll me (takes_segments taken ∷ (acks_behind ended (length taken.log) ++ (gives_segments (after_attaching who ended taken) ∷ [])))
       world.shared own.along.at)
-      (quiet.base.places me party its.own).me own.along.made)
-      (out_before party _ _ refl once) (tried_so party mid _ taken.log ended tries)
-  walks party after trace steps (Acts.detaches _ taken secondary) old new world its quiet early sequence once =
+      (owing.quiet.base.places me party its.own).me own.along.made)
+      (out_before party _ _ refl once) (tried_so party mid _ taken.log ended tries))
+  walks party after trace steps (Acts.detaches _ taken secondary) old new world its owes left owing early sequence once pays =
       let own = own_calls old new party world steps its sequence (tt, (tt, tt)) in
-      leaves set me old new party after world its quiet own.servers own.along.order
+      left_as left owes new after (owes_still owes left pays)
+      (leaves set me old new party after world its owes owing own.servers own.along.order
       (record { me = refl; deadline = refl; plan = refl; core = refl; asked = refl; sent = refl; calls = omega arith }) own.along.at
-      own.along.shared (has_place old party world its quiet) taken
+      own.along.shared (has_place old party world its owing.quiet) taken
       (subst (λ (who : ℕ). MakesAll me (takes_segments taken ∷ gives_segments (after_leave who taken) ∷ []) world.shared own.along.at)
-      (quiet.base.places me party its.own).me own.along.made) refl
-  walks party after trace steps (Acts.notes_left _ elements) old new world its quiet early sequence once =
-      knows_more old new party after world [] its quiet sequence tt (λ own. own.along.made)
+      (owing.quiet.base.places me party its.own).me own.along.made) refl)
+  walks party after trace steps (Acts.notes_left _ elements) old new world its owes left owing early sequence once pays =
+      knows_more old new party after world [] its owes left owing (owes_still owes left pays) sequence tt (λ own. own.along.made)
       (record { me = refl; deadline = refl; plan = refl; core = refl; asked = refl; sent = refl; calls = omega arith })
       (record { joined = refl; maps = refl })
-  walks party after _ steps (Acts.and_then _ mid _ first rest before behind here next) old new world its quiet early sequence once =
+  walks party after _ steps (Acts.and_then _ mid _ first rest before behind here next) old new world its owes left owing early sequence once
+      pays =
       let cut = cut_in me old new steps before behind refl sequence in
       let rises = clock_rises me behind cut.mid new cut.ends (acts_timed set.count mid after rest behind next) in
+      let both = owes_both owes left first rest pays in
       let begins =
-      walks party mid first before here old cut.mid world its quiet
+      walks party mid first before here old cut.mid world its owes both.mid owing
       (not_above cut.mid.plain.clock cut.mid.plain.clock new.plain.clock (2 ^ 62) refl rises early) cut.begins
-      (first_once party first rest once) in
-      walks mid after rest behind next cut.mid new begins.world begins.its begins.holds early cut.ends
+      (first_once party first rest once) both.begins in
+      walks mid after rest behind next cut.mid new begins.world begins.its both.mid left begins.holds early cut.ends
       (rest_once party mid first rest once
-      (still_out old cut.mid party mid world first before its quiet here cut.begins begins))
+      (still_out old cut.mid party mid world first before its owing.quiet here cut.begins both.mid begins)) both.ends
 
 -- so it is
 pub acts_in_quiet : ActsInQuiet
-acts_in_quiet quietly set me old new party after trace steps world is_set its quiet early sequence once acts =
-    walks quietly set me is_set party after trace steps acts old new world its quiet early sequence once
+acts_in_quiet quietly set me owes left old new party after trace steps world is_set its owing early sequence once pays acts =
+    walks quietly set me is_set party after trace steps acts old new world its owes left owing early sequence once pays

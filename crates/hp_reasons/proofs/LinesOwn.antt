@@ -24,7 +24,9 @@ use Rattle.hp_proc.specs.Attaching.{after_attaching, table_left}
 use Rattle.hp_proc.specs.Party.{Party}
 use Rattle.hp_proc.specs.Serving.{CatchesUp, acks_behind, gives_segments, takes_segments}
 use Rattle.hp_solo.specs.Solo.{ServerView, SoloView, has_stopped, party_at}
-use Rattle.hp_reasons.specs.Episode.{IsQuietWorld, Setting, World, number_of_party}
+use Rattle.hp_reasons.specs.Counting.{LosesNothing}
+use Rattle.hp_reasons.specs.Episode.{Setting, World, number_of_party}
+use Rattle.hp_reasons.specs.Quiet.{IsQuietOwing, IsQuietWorld}
 use Rattle.hp_reasons.specs.Failing.{AreGrantsWithin}
 use Rattle.hp_reasons.specs.Servings.{numbered}
 use Rattle.hp_reasons.specs.Shared.{IsSharedIn, MakesAll, Shared, with_segs}
@@ -89,15 +91,19 @@ pub record HasTried (log : List LogRecord) (ended : Caught) (old new : Party) : 
   pub joined : new.joined ≡ is_done ended
 
 module _ (set : Setting) (me : ℕ) (old new : SoloView) (party after : Party) (world : World) (its : IsWorldOf old me party world)
-    (quiet : IsQuietWorld set world) (servers : new.servers ≡ old.servers) (order : IsInOrder new.plain)
+    (owes : Bool) (owing : IsQuietOwing set owes world) (servers : new.servers ≡ old.servers) (order : IsInOrder new.plain)
     (goes : IsAsBefore party after) where
-  -- it leads to a quiet world
-  abbrev Leads : Type 0
-  Leads = LeadsTo (IsQuietWorld set) new me after
+  quiet : IsQuietWorld set world
+  quiet = owing.quiet
+
+  -- it leads to a quiet world, in which it owes word of a run, or not
+  abbrev Leads : Bool → Type 0
+  Leads left = LeadsTo (IsQuietOwing set left) new me after
 
   -- the hall is such a world again
-  own_leads : (at : Shared) → IsSharedIn new.plain at → SharesAsBefore me world.shared at → IsKnownTo me at after → Leads
-  own_leads at shared shares known = record {
+  own_leads : (left : Bool) (at : Shared) → IsSharedIn new.plain at → SharesAsBefore me world.shared at → IsKnownTo set me at after
+      → (LosesNothing set.plan → left ≡ false → at.segs.retiring ≡ []) → Leads left
+  own_leads left at shared shares known gone = record {
     world = world_with at world.mail me after world;
     its = record {
       shared = shared;
@@ -109,12 +115,12 @@ module _ (set : Setting) (me : ℕ) (old new : SoloView) (party after : Party) (
           ∙ its.others who other
           ∙ sym (ap (λ (servers : List ServerView). party_at servers who) servers);
     };
-    holds = quiet_stays set me world at party after quiet its.own goes shares known;
+    holds = record { quiet = quiet_stays set me world at party after quiet its.own goes shares known; gone = gone };
   }
 
   -- the segment value has come to another of which the rows alone are others
   known_still : (segs : SegsView) → segs.roster ≡ world.shared.segs.roster → segs.log ≡ world.shared.segs.log
-      → segs.asks ≡ world.shared.segs.asks → HasSameTable party after → IsKnownTo me (with_segs segs world.shared) after
+      → segs.asks ≡ world.shared.segs.asks → HasSameTable party after → IsKnownTo set me (with_segs segs world.shared) after
   known_still segs roster log asks same =
       let place = quiet.base.places me party its.own in
       record {
@@ -122,6 +128,7 @@ module _ (set : Setting) (me : ℕ) (old new : SoloView) (party after : Party) (
         number = λ joined. ap (λ (maps : MapsView). maps.number) same.maps ∙ place.number (sym same.joined ∙ joined);
         within = omega (arith, place.within, ap length log);
         granted = λ joined. subst (AreGrantsWithin (number_of_party world me)) (sym asks) (place.granted (sym same.joined ∙ joined));
+        level = λ nothing joined. quiet.level nothing me (place.joined ∙ sym same.joined ∙ joined) ∙ sym (ap length log);
       }
 
   shares_still : (segs : SegsView) → segs.roster ≡ world.shared.segs.roster → segs.log ≡ world.shared.segs.log
@@ -140,29 +147,31 @@ module _ (set : Setting) (me : ℕ) (old new : SoloView) (party after : Party) (
   }
 
   -- nothing that is shared has changed
-  pub stays : (at : Shared) → IsSharedIn new.plain at → at ≡ world.shared → HasSameTable party after → Leads
+  pub stays : (at : Shared) → IsSharedIn new.plain at → at ≡ world.shared → HasSameTable party after → Leads owes
   stays at shared is same =
       let segs = world.shared.segs in
-      own_leads (with_segs segs world.shared) (subst (IsSharedIn new.plain) is shared)
-      (shares_still segs refl refl refl refl quiet.base.sound quiet.base.armed) (known_still segs refl refl refl same)
+      own_leads owes (with_segs segs world.shared) (subst (IsSharedIn new.plain) is shared)
+      (shares_still segs refl refl refl refl quiet.base.sound quiet.base.armed) (known_still segs refl refl refl same) owing.gone
 
-  -- it gave up a run
+  -- it gave up a run, of which it owes word
   pub cuts : (at : Shared) → IsSharedIn new.plain at → (run : Run) (taken : SegsView)
-      → MakesAll me (takes_segments taken ∷ gives_segments (after_retire run taken) ∷ []) world.shared at → HasSameTable party after → Leads
+      → MakesAll me (takes_segments taken ∷ gives_segments (after_retire run taken) ∷ []) world.shared at → HasSameTable party after
+      → Leads true
   cuts at shared run taken made same =
       let segs = after_retire run world.shared.segs in
       let began = took me taken (gives_segments (after_retire run taken) ∷ []) world.shared at made in
       let given = gave me (after_retire run taken) [] world.shared at began.1 in
       let is : at ≡ with_segs segs world.shared =
       given.rest ∙ ap (λ (segs : SegsView). with_segs (after_retire run segs) world.shared) began.0 in
-      own_leads (with_segs segs world.shared) (subst (IsSharedIn new.plain) is shared)
+      own_leads true (with_segs segs world.shared) (subst (IsSharedIn new.plain) is shared)
       (shares_still segs refl refl refl refl (subst (λ (segs : SegsView). IsSound (after_retire run segs)) began.0 given.sound)
       (subst (λ (segs : SegsView). IsArmed (after_retire run segs)) began.0 (given.armed quiet.base.armed)))
-      (known_still segs refl refl refl same)
+      (known_still segs refl refl refl same) (λ nothing owes_nothing. cc)
 
   -- it left the roster
   pub leaves : (at : Shared) → IsSharedIn new.plain at → me < 16 → (taken : SegsView)
-      → MakesAll me (takes_segments taken ∷ gives_segments (after_leave me taken) ∷ []) world.shared at → after.joined ≡ false → Leads
+      → MakesAll me (takes_segments taken ∷ gives_segments (after_leave me taken) ∷ []) world.shared at → after.joined ≡ false
+      → Leads owes
   leaves at shared few taken made out =
       let place = quiet.base.places me party its.own in
       let segs = after_leave me world.shared.segs in
@@ -171,7 +180,7 @@ module _ (set : Setting) (me : ℕ) (old new : SoloView) (party after : Party) (
       let is : at ≡ with_segs segs world.shared =
       given.rest ∙ ap (λ (segs : SegsView). with_segs (after_leave me segs) world.shared) began.0 in
       let has_place : me < length world.shared.segs.roster = omega (arith, few, quiet.base.sound.places.roster_places) in
-      own_leads (with_segs segs world.shared) (subst (IsSharedIn new.plain) is shared)
+      own_leads owes (with_segs segs world.shared) (subst (IsSharedIn new.plain) is shared)
       (record {
         boxes = refl;
         numbers = refl;
@@ -188,7 +197,9 @@ module _ (set : Setting) (me : ℕ) (old new : SoloView) (party after : Party) (
         number = λ joined. cc;
         within = place.within;
         granted = λ joined. cc;
+        level = λ nothing joined. cc;
       })
+      owing.gone
 
   -- what is shared behind an attach
   abbrev behind : Caught → Shared
@@ -213,7 +224,7 @@ module _ (set : Setting) (me : ℕ) (old new : SoloView) (party after : Party) (
   attach_shares (caught.Refused row call) sound armed = shares_still world.shared.segs refl refl refl refl sound armed
   attach_shares (caught.Elsewhere row call got) sound armed = shares_still world.shared.segs refl refl refl refl sound armed
 
-  stays_out : party.joined ≡ false → after.joined ≡ false → IsKnownTo me (with_segs world.shared.segs world.shared) after
+  stays_out : party.joined ≡ false → after.joined ≡ false → IsKnownTo set me (with_segs world.shared.segs world.shared) after
   stays_out out fails =
       let place = quiet.base.places me party its.own in
       record {
@@ -221,10 +232,11 @@ module _ (set : Setting) (me : ℕ) (old new : SoloView) (party after : Party) (
         number = λ joined. cc;
         within = place.within;
         granted = λ joined. cc;
+        level = λ nothing joined. cc;
       }
 
   attach_known : (ended : Caught) → me < 16 → party.joined ≡ false → HasTried world.shared.segs.log ended party after
-      → IsKnownTo me (behind ended) after
+      → IsKnownTo set me (behind ended) after
   attach_known caught.Done few out tried =
       let log = world.shared.segs.log in
       let its_number : slice_index_or (slice_set world.shared.numbers me (length log)) me 0 ≡ length log =
@@ -238,9 +250,15 @@ module _ (set : Setting) (me : ℕ) (old new : SoloView) (party after : Party) (
         granted = λ joined.
             subst (λ (n : ℕ). AreGrantsWithin n world.shared.segs.asks) (sym its_number)
             (grants_logged world.shared.segs quiet.base.sound);
+        level = λ nothing joined. its_number;
       }
   attach_known (caught.Refused row call) few out tried = stays_out out tried.joined
   attach_known (caught.Elsewhere row call got) few out tried = stays_out out tried.joined
+
+  attach_gone : (ended : Caught) → LosesNothing set.plan → owes ≡ false → (behind ended).segs.retiring ≡ []
+  attach_gone caught.Done = owing.gone
+  attach_gone (caught.Refused row call) = owing.gone
+  attach_gone (caught.Elsewhere row call got) = owing.gone
 
   -- the steps behind the take
   abbrev tries : Caught → SegsView → List MailStep
@@ -249,7 +267,7 @@ module _ (set : Setting) (me : ℕ) (old new : SoloView) (party after : Party) (
   -- it attached, or tried to
   pub attaches : (at : Shared) → IsSharedIn new.plain at → me < 16 → (taken : SegsView) (ended : Caught)
       → MakesAll me (takes_segments taken ∷ tries ended taken) world.shared at
-      → party.joined ≡ false → HasTried taken.log ended party after → Leads
+      → party.joined ≡ false → HasTried taken.log ended party after → Leads owes
   attaches at shared few taken ended made out tried =
       let segs = world.shared.segs in
       let began = took me taken (tries ended taken) world.shared at made in
@@ -258,5 +276,5 @@ module _ (set : Setting) (me : ℕ) (old new : SoloView) (party after : Party) (
       (subst (λ (segs : SegsView). MakesAll me (tries ended segs) world.shared at) began.0 began.1) in
       let given = gave me (after_attaching me ended segs) [] (numbered me ended world.shared) at more in
       let armed = given.armed (subst IsArmed (sym (numbered_segs me ended world.shared)) quiet.base.armed) in
-      own_leads (behind ended) (subst (IsSharedIn new.plain) given.rest shared) (attach_shares ended given.sound armed)
-      (attach_known ended few out (subst (λ (segs : SegsView). HasTried segs.log ended party after) began.0 tried))
+      own_leads owes (behind ended) (subst (IsSharedIn new.plain) given.rest shared) (attach_shares ended given.sound armed)
+      (attach_known ended few out (subst (λ (segs : SegsView). HasTried segs.log ended party after) began.0 tried)) (attach_gone ended)

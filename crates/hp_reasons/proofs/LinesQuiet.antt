@@ -20,8 +20,9 @@ use Rattle.hp_segs.specs.declared.outcome.Cause.{Cause}
 use Rattle.hp_proc.specs.Party.{Party}
 use Rattle.hp_proc.specs.Posting.{times_sent}
 use Rattle.hp_proc.specs.declared.sent.Sent.{Sent}
-use Rattle.hp_reasons.specs.Counting.{doubled_among, lost_among}
-use Rattle.hp_reasons.specs.Episode.{AreSaid, IsBase, IsExcused, IsInPlace, IsNotedCall, IsQuietWorld, Setting, World, doubles, mail_of, number_of_party}
+use Rattle.hp_reasons.specs.Counting.{LosesNothing, doubled_among, lost_among}
+use Rattle.hp_reasons.specs.Episode.{AreLevel, AreSaid, IsBase, IsExcused, IsInPlace, IsNotedCall, Setting, World, doubles, mail_of, number_of_party}
+use Rattle.hp_reasons.specs.Quiet.{IsQuietWorld}
 use Rattle.hp_reasons.specs.Failing.{AreGrantsWithin}
 use Rattle.hp_reasons.specs.Outcomes.{late_outcomes, stale_outcomes, withdrawn_outcomes}
 use Rattle.hp_reasons.specs.Shared.{Shared}
@@ -51,12 +52,14 @@ pub record SharesAsBefore (me : ℕ) (old new : Shared) : Type 0 where
   pub sound : IsSound new.segs
   pub armed : IsArmed new.segs
 
--- what is shared knows of that participant: it is in the roster where it has a table, which has taken in what was acknowledged
-pub record IsKnownTo (me : ℕ) (at : Shared) (party : Party) : Type 0 where
+-- what is shared knows of that participant: it is in the roster where it has a table, which has taken in what was acknowledged, and where
+-- no message is lost all records
+pub record IsKnownTo (set : Setting) (me : ℕ) (at : Shared) (party : Party) : Type 0 where
   pub joined : is_member at.segs.roster me ≡ party.joined
   pub number : party.joined ≡ true → party.maps.number ≡ slice_index_or at.numbers me 0
   pub within : slice_index_or at.numbers me 0 ≤ length at.segs.log
   pub granted : party.joined ≡ true → AreGrantsWithin (slice_index_or at.numbers me 0) at.segs.asks
+  pub level : LosesNothing set.plan → party.joined ≡ true → slice_index_or at.numbers me 0 ≡ length at.segs.log
 
 -- who was there before, who has sent as much and has the same coordinator
 record WasThere (world : World) (who : ℕ) (party : Party) : Type 0 where
@@ -71,7 +74,7 @@ no_noted (Some growth) cause none is = cc
 
 module _ (set : Setting) (me : ℕ) (world : World) (shared : Shared) (party after : Party) (quiet : IsQuietWorld set world)
     (there : slice_get world.parties me ≡ Some party) (goes : IsAsBefore party after) (shares : SharesAsBefore me world.shared shared)
-    (known : IsKnownTo me shared after) where
+    (known : IsKnownTo set me shared after) where
   abbrev later : World
   later = world_with shared world.mail me after world
 
@@ -191,6 +194,18 @@ module _ (set : Setting) (me : ℕ) (world : World) (shared : Shared) (party aft
   abbrev doubled_of : ℕ → Sent → ℕ
   doubled_of who sent = doubled_among set.plan message.Alloc who sent.allocs + doubled_among set.plan message.Free who sent.frees
 
+  level_here : LosesNothing set.plan → AreLevel later
+  level_here nothing who member =
+      elim (cases_eq who me) [
+        | inl same ↦
+            let joined : after.joined ≡ true = sym known.joined ∙ ap (is_member shared.segs.roster) (sym same) ∙ member in
+            ap (λ (n : ℕ). slice_index_or shared.numbers n 0) same ∙ known.level nothing joined
+        | inr other ↦
+            shares.others who other
+            ∙ quiet.level nothing who (sym (shares.members who other) ∙ member)
+            ∙ sym (ap length shares.log)
+      ]
+
   -- and all is quiet
   pub quiet_stays : IsQuietWorld set later
   quiet_stays = record {
@@ -203,4 +218,5 @@ module _ (set : Setting) (me : ℕ) (world : World) (shared : Shared) (party aft
         subst (λ (asks : List AskLog). stale_outcomes who asks ≤ doubles set who one) (sym shares.asks)
         (subst (λ (sent : Sent). stale_outcomes who world.shared.segs.asks ≤ doubled_of who sent) (sym its.sent)
         (quiet.doubled who its.old its.there)));
+    level = level_here;
   }

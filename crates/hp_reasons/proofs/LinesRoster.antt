@@ -2,7 +2,7 @@
 use Rattle.std.proofs.Common.{◌≡◌, ◌≢◌, ◌∙◌, ℕ, zero, suc, Bool, true, false, List, [], ◌∷◌, ◌++◌, length, map, Option, Some, refl, sym, ap, subst, arith}
 use Rattle.std.specs.Prelude.{⊤, slice_get, slice_set}
 use Rattle.std.specs.List.{list_any}
-use Rattle.std.proofs.lemmas.Option.{slice_get-map, slice_get_within}
+use Rattle.std.proofs.lemmas.Option.{same_Some, slice_get-map, slice_get_within}
 use Rattle.hp_base.specs.declared.limits.TheConstants.{MAX_HEAPS}
 use Rattle.hp_frame.specs.declared.frame.Frame.{Frame}
 use Rattle.hp_frame.specs.declared.message.Body.{Body}
@@ -26,7 +26,6 @@ use Rattle.hp_reasons.specs.Worlds.{IsWorldOf}
 use Rattle.hp_reasons.proofs.LinesCarried.{IsCarried, sequence_carried}
 use Rattle.hp_reasons.proofs.LinesSteps.{HoldsOfSteps, acts_are}
 use Rattle.hp_reasons.proofs.SharedAlong.{fits_values, segs_shown}
-use Rattle.hp_reasons.proofs.Sharing.{some_same}
 use Rattle.hp_reasons.proofs.StepsAlong.{FitSlots, fits_set, given_heap, given_segs, segs_same}
 
 -- slots keep values of their own, and in the segment value the participant has no place in the roster
@@ -66,7 +65,7 @@ module _ (me who number : ℕ) (values : List Kept) where
       let fit : number ≡ MAX_HEAPS = given_segs who number gives.before given gives.by (was.fits number gives.before gives.there) in
       let within = slice_get_within values number gives.before gives.there in
       let before : gives.before ≡ Segments was.segs =
-      some_same gives.before (Segments was.segs) (sym gives.there ∙ ap (slice_get values) fit ∙ was.there) in
+      same_Some gives.before (Segments was.segs) (sym gives.there ∙ ap (slice_get values) fit ∙ was.there) in
       record {
         fits = fits_set values number (Segments given) was.fits within fit;
         segs = given;
@@ -81,7 +80,7 @@ module _ (me who number : ℕ) (values : List Kept) where
       let fit : number ≡ MAX_HEAPS = was.fits number (Segments segs) there in
       let same : segs ≡ was.segs =
       segs_same segs was.segs
-      (some_same (Segments segs) (Segments was.segs) (sym there ∙ ap (slice_get values) fit ∙ was.there)) in
+      (same_Some (Segments segs) (Segments was.segs) (sym there ∙ ap (slice_get values) fit ∙ was.there)) in
       ap (λ (segs : SegsView). is_member segs.roster me) same ∙ was.out
 
 module _ (me : ℕ) where

@@ -1,5 +1,5 @@
--- The count of lost messages does not fall as one more is sent.
-use Rattle.std.proofs.Common.{◌≡◌, ◌∙◌, ℕ, zero, suc, ◌+◌, ◌-◌, ◌^◌, ◌<◌, ◌≤◌, true, List, [], ◌∷◌, inl, inr, refl, sym, ap, subst, arith, if◌then◌else◌}
+-- The counts of lost and of doubled messages as one more is sent: they do not fall.
+use Rattle.std.proofs.Common.{◌≡◌, ◌∙◌, ℕ, Bool, zero, suc, ◌+◌, ◌-◌, ◌^◌, ◌<◌, ◌≤◌, true, List, [], ◌∷◌, inl, inr, refl, ap, subst, arith, false}
 use Rattle.std.proofs.lemmas.Bool.{cases_Bool, cases_lt, cond-false}
 use Rattle.std.proofs.lemmas.List.Elements.{All-head, All-tail}
 use Rattle.std.specs.List.{All}
@@ -11,10 +11,12 @@ use Rattle.hp_base.specs.declared.plan.Action.TheVariants.{Deliver}
 use Rattle.hp_base.specs.declared.plan_entry.MsgKind.{MsgKind}
 use Rattle.hp_base.specs.declared.plan_entry.PlanEntry.{PlanEntry}
 use Rattle.hp_base.specs.declared.plan_entry.PlanEntry.TheVariants.{Mapping, Message}
+use Rattle.hp_base.specs.declared.plan.Action.{Action}
 use Rattle.hp_proc.specs.Party.{one_more}
-use Rattle.hp_reasons.specs.Counting.{is_lost, lost_among}
+use Rattle.hp_reasons.specs.Counting.{LosesNothing, doubled_among, is_doubled, is_lost, lost_among}
 use Rattle.hp_reasons.specs.Episode.{IsCounted}
-use Rattle.hp_reasons.proofs.CountingLemmas.{named_number}
+use Rattle.hp_reasons.proofs.CountingLemmas.{named_number, one_if}
+use Rattle.hp_reasons.proofs.NothingLost.{none_lost}
 
 other_number : (kind : MsgKind) (party k : ℕ) (entry : PlanEntry) → IsCounted entry → MAX_COUNT < k → names_message kind party k entry ≡ true
     → ⊥
@@ -23,7 +25,7 @@ other_number kind party k (Message its_kind its_party number twice line) counted
 other_number kind party k (Mapping its_party call elsewhere line) counted beyond named = cc
 
 -- a message with a number that no workload may have is delivered
-pub beyond_entries : (plan : List PlanEntry) (kind : MsgKind) (party k : ℕ) → All IsCounted plan → MAX_COUNT < k
+beyond_entries : (plan : List PlanEntry) (kind : MsgKind) (party k : ℕ) → All IsCounted plan → MAX_COUNT < k
     → action_of plan kind party k ≡ Deliver
 beyond_entries [] kind party k counted beyond = refl
 beyond_entries (entry ∷ plan) kind party k counted beyond = elim (cases_Bool (names_message kind party k entry)) [
@@ -33,52 +35,84 @@ beyond_entries (entry ∷ plan) kind party k counted beyond = elim (cases_Bool (
       ∙ beyond_entries plan kind party k (All-tail IsCounted entry plan counted) beyond
 ]
 
-module _ (plan : List PlanEntry) (kind : MsgKind) (party : ℕ) where
-  pub lost_next : (n : ℕ) → lost_among plan kind party (suc n)
-      ≡ lost_among plan kind party n + (if is_lost (action_of plan kind party (suc n)) then 1 else 0)
-  unfolding lost_among
-  lost_next n = refl
+-- a count of those messages that a plan treats in some way, which grows by single messages
+module _ (plan : List PlanEntry) (kind : MsgKind) (party : ℕ) (counted : All IsCounted plan) (count : ℕ → ℕ) (is : Action → Bool)
+    (kept : is Deliver ≡ false) (next : (n : ℕ) → count (suc n) ≡ count n + one_if (is (action_of plan kind party (suc n)))) where
+  none_there : (k : ℕ) → MAX_COUNT < k → one_if (is (action_of plan kind party k)) ≡ 0
+  none_there k beyond = ap (λ (action : Action). one_if (is action)) (beyond_entries plan kind party k counted beyond) ∙ ap one_if kept
 
-  pub lost_on : (n : ℕ) → lost_among plan kind party n ≤ lost_among plan kind party (suc n)
-  lost_on n = omega (arith, lost_next n)
-
-  -- behind the greatest number of a workload none is lost
-  same_beyond : All IsCounted plan → (m n : ℕ) → MAX_COUNT ≤ m → m ≤ n → lost_among plan kind party n ≡ lost_among plan kind party m
-  same_beyond counted m zero far before = ap (lost_among plan kind party) (none m before)
+  -- behind the greatest number of a workload it stays
+  stays_beyond : (m n : ℕ) → MAX_COUNT ≤ m → m ≤ n → count n ≡ count m
+  stays_beyond m zero far before = ap count (none m before)
     where
       none : (m : ℕ) → m ≤ 0 → 0 ≡ m
       none m below = omega (arith, below)
-  same_beyond counted m (suc n) far before =
+  stays_beyond m (suc n) far before =
       elim (cases_lt n m) [
-        | inl at ↦ ap (lost_among plan kind party) (last m n at before)
+        | inl at ↦ ap count (last m n at before)
         | inr behind ↦
-            lost_next n
-            ∙ ap (λ action. lost_among plan kind party n + (if is_lost action then 1 else 0))
-            (beyond_entries plan kind party (suc n) counted (omega (arith, far, behind)))
-            ∙ (no_more (lost_among plan kind party n) ∙ same_beyond counted m n far behind)
+            let same : count n ≡ count m = stays_beyond m n far behind in
+            let no_more = none_there (suc n) (omega (arith, far, behind)) in
+            omega (arith, next n, same, no_more)
       ]
     where
       last : (m n : ℕ) → n < m → m ≤ suc n → suc n ≡ m
       last m n at before = omega (arith, at, before)
 
-      no_more : (n : ℕ) → n + 0 ≡ n
-      no_more n = omega arith
-
-  -- one more that is sent leaves no fewer lost
-  pub lost_rises : All IsCounted plan → (n : ℕ) → lost_among plan kind party n ≤ lost_among plan kind party (one_more n)
-  lost_rises counted n =
+  -- it grows by the next message alone
+  goes_up : (n : ℕ) → count (one_more n) ≡ count n + one_if (is (action_of plan kind party (one_more n)))
+  goes_up n =
       elim (cases_lt n (2 ^ 64 - 1)) [
-        | inl before ↦ subst (λ k. lost_among plan kind party n ≤ lost_among plan kind party k) (next n before) (lost_on n)
+        | inl before ↦
+            subst (λ (k : ℕ). count k ≡ count n + one_if (is (action_of plan kind party k))) (next_is n before) (next n)
         | inr past ↦
-            subst (λ k. k ≤ lost_among plan kind party (one_more n)) (sym (same_beyond counted (one_more n) n (far n past) (before n past)))
-            (omega arith)
+            let same : count n ≡ count (one_more n) = stays_beyond (one_more n) n (far n past) (before n past) in
+            let no_more = none_there (one_more n) (beyond n past) in
+            omega (arith, same, no_more)
       ]
     where
-      next : (n : ℕ) → n < 2 ^ 64 - 1 → suc n ≡ one_more n
-      next n below = omega (arith, below)
+      next_is : (n : ℕ) → n < 2 ^ 64 - 1 → suc n ≡ one_more n
+      next_is n below = omega (arith, below)
 
       far : (n : ℕ) → 2 ^ 64 - 1 ≤ n → MAX_COUNT ≤ one_more n
       far n past = omega (arith, past)
 
+      beyond : (n : ℕ) → 2 ^ 64 - 1 ≤ n → MAX_COUNT < one_more n
+      beyond n past = omega (arith, past)
+
       before : (n : ℕ) → 2 ^ 64 - 1 ≤ n → one_more n ≤ n
       before n past = omega (arith, past)
+
+module _ (plan : List PlanEntry) (kind : MsgKind) (party : ℕ) (counted : All IsCounted plan) (n : ℕ) where
+  lost_next : (n : ℕ) → lost_among plan kind party (suc n)
+      ≡ lost_among plan kind party n + one_if (is_lost (action_of plan kind party (suc n)))
+  unfolding lost_among
+  lost_next n = refl
+
+  doubled_next : (n : ℕ) → doubled_among plan kind party (suc n)
+      ≡ doubled_among plan kind party n + one_if (is_doubled (action_of plan kind party (suc n)))
+  unfolding doubled_among
+  doubled_next n = refl
+
+  -- one more that is sent is lost, or comes twice, where the plan has it so
+  pub lost_more : lost_among plan kind party (one_more n)
+      ≡ lost_among plan kind party n + one_if (is_lost (action_of plan kind party (one_more n)))
+  lost_more = goes_up plan kind party counted (lost_among plan kind party) is_lost refl lost_next n
+
+  pub doubled_more : doubled_among plan kind party (one_more n)
+      ≡ doubled_among plan kind party n + one_if (is_doubled (action_of plan kind party (one_more n)))
+  doubled_more = goes_up plan kind party counted (doubled_among plan kind party) is_doubled refl doubled_next n
+
+  -- so no fewer are lost, and one more where the plan loses it
+  pub lost_rises : lost_among plan kind party n ≤ lost_among plan kind party (one_more n)
+  lost_rises = omega (arith, lost_more)
+
+  pub one_lost : is_lost (action_of plan kind party (one_more n)) ≡ true
+      → lost_among plan kind party n + 1 ≤ lost_among plan kind party (one_more n)
+  one_lost is =
+      let one : one_if (is_lost (action_of plan kind party (one_more n))) ≡ one_if true = ap one_if is in
+      omega (arith, lost_more, one)
+
+  -- by a plan that loses nothing it is not lost
+  pub never_lost : LosesNothing plan → is_lost (action_of plan kind party (one_more n)) ≡ true → ⊥
+  never_lost nothing lost = omega (arith, one_lost lost, none_lost plan kind party (one_more n) nothing)

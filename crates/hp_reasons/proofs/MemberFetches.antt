@@ -1,9 +1,9 @@
 -- A member that fetched what is no SYNC to it keeps what holds between the servings of an ask, and the ask's stage.
-use Rattle.std.proofs.Common.{◌≡◌, ◌≢◌, ◌∙◌, ℕ, ◌<◌, Bool, false, ◌||◌, ◌&&◌, ◌==◌, List, [], ◌∷◌, drop, length, Some, refl, sym, ap, subst, arith, append-nil}
+use Rattle.std.proofs.Common.{◌≡◌, ◌≢◌, ◌∙◌, ℕ, ◌<◌, Bool, false, ◌||◌, List, [], ◌∷◌, drop, length, Some, refl, sym, ap, subst, arith, append-nil}
 use Rattle.std.specs.List.{list_any}
 use Rattle.std.specs.Prelude.{slice_get, slice_index_or, slice_set}
 use Rattle.std.proofs.lemmas.Option.{slice_get_within}
-use Rattle.hp_core.specs.Asks.{asker, number_of}
+use Rattle.hp_core.specs.Asks.{asker}
 use Rattle.hp_core.specs.declared.asked.Asked.{Asked}
 use Rattle.hp_frame.specs.declared.frame.Frame.{Frame}
 use Rattle.hp_frame.specs.declared.message.Body.{Body}
@@ -14,16 +14,18 @@ use Rattle.hp_segs.proofs.ListFacts.{or_off_parts}
 use Rattle.hp_segs.specs.SegsView.{is_member}
 use Rattle.hp_proc.specs.Frames.{Says}
 use Rattle.hp_proc.specs.Party.{Party}
-use Rattle.hp_proc.specs.Serving.{CatchesUp, after_catching_up, hearing, is_answer_to}
+use Rattle.hp_proc.specs.Serving.{hearing, is_answer_to}
 use Rattle.hp_proc.specs.Serving as serving
 use Rattle.hp_reasons.specs.Episode.{IsBase, IsInPlace, IsUnanswered, Setting, Stage, World, is_result_of, is_sync, mail_of}
 use Rattle.hp_reasons.specs.Shared.{Shared, fetched_by}
 use Rattle.hp_reasons.specs.Stages.{ComesTo, world_with}
 use Rattle.hp_reasons.proofs.CaughtUp.{as_before}
-use Rattle.hp_reasons.proofs.MemberStages as stages
-use Rattle.hp_reasons.proofs.MemberStages.{Heeds, TakesMail, stage_with}
+use Rattle.hp_reasons.proofs.MemberMail as mails
+use Rattle.hp_reasons.proofs.MemberMail.{Heeds, TakesMail}
+use Rattle.hp_reasons.proofs.MemberStages.{stage_with}
 use Rattle.hp_reasons.proofs.MemberWorlds.{IsStillParty, ServesAlone, base_with}
 use Rattle.hp_reasons.proofs.Said.{first_said, index_set, index_unset, mail_fetched, said_fetched, set_long, set_same}
+use Rattle.hp_reasons.proofs.CopiesBodies.{not_answered}
 
 -- the two tests for a SYNC
 sync_same : (body : Body) → is_sync body ≡ serving.is_sync body
@@ -31,15 +33,6 @@ sync_same (Alloc from number heap socket page size align bound flags) = refl
 sync_same (Free from number heap address len) = refl
 sync_same (Sync generation round) = refl
 sync_same (Answer from number what code) = refl
-
--- what is no answer to the ask is no answer to its asker's last one
-no_answer : (party : Party) (call : Asked) (body : Body) → party.asked ≡ number_of call → is_result_of call body ≡ false
-    → is_answer_to party body ≡ false
-no_answer party call (Alloc from number heap socket page size align bound flags) asked isnt = refl
-no_answer party call (Free from number heap address len) asked isnt = refl
-no_answer party call (Sync generation round) asked isnt = refl
-no_answer party call (Answer from number what code) asked isnt =
-    ap (λ (last : ℕ). ((what == 2) || (what == 3)) && (number == last)) asked ∙ isnt
 
 still_party : (party : Party) → IsStillParty party party
 still_party party = record {
@@ -184,7 +177,7 @@ module _ (set : Setting) (call : Asked) (sent : ℕ) (world : World) (who : ℕ)
       (or_off_parts (is_result_of call body) (list_any (is_result_of call) (drop 1 (mail_of world who)))
       (ap (list_any (is_result_of call)) (sym front) ∙ un.nowhere who)).0 in
       ap (λ (b : Bool). b || is_answer_to party body) ((unheard_party set world who party base there) call same un)
-      ∙ no_answer party call body (un.asked party (ap (slice_get world.parties) same ∙ there)) first
+      ∙ not_answered party call body (un.asked party (ap (slice_get world.parties) same ∙ there)) first
 
   pub heard : (shared : Shared) (after : Party) (frame : Frame) (more : List Frame) (body : Body)
       → box_of world.shared.boxes party.me ≡ frame ∷ more
@@ -193,7 +186,7 @@ module _ (set : Setting) (call : Asked) (sent : ℕ) (world : World) (who : ℕ)
   heard shared after frame more body box says isnt is after_is =
       let front = (body_front set world who party base there) frame more body box says in
       subst (ComesTo set call sent false world who shared) (sym after_is)
-      (fetched shared (hearing body party) body is (hearing_still body) refl front (stages.passes (sync_same body ∙ isnt))
+      (fetched shared (hearing body party) body is (hearing_still body) refl front (mails.passes (sync_same body ∙ isnt))
       (heard_nothing body front))
 
   -- it is not in the roster
@@ -203,4 +196,4 @@ module _ (set : Setting) (call : Asked) (sent : ℕ) (world : World) (who : ℕ)
   out_of_it shared after frame more body box says outside is unchanged =
       subst (ComesTo set call sent false world who shared) (sym unchanged)
       (fetched shared party body is (still_party party) refl ((body_front set world who party base there) frame more body box says)
-      (stages.is_out (ap (is_member world.shared.segs.roster) (sym its.me) ∙ outside)) (unheard_party set world who party base there))
+      (mails.is_out (ap (is_member world.shared.segs.roster) (sym its.me) ∙ outside)) (unheard_party set world who party base there))

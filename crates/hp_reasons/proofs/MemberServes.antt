@@ -1,5 +1,5 @@
 -- A member that serves once keeps what holds between the servings of an ask, and the ask's stage.
-use Rattle.std.proofs.Common.{◌≡◌, ◌≢◌, ◌∙◌, ℕ, ◌+◌, ◌<◌, ◌≤◌, Bool, true, false, ◌||◌, List, [], ◌∷◌, ◌++◌, drop, length, replicate, Some, is_some, refl, sym, ap, subst, arith}
+use Rattle.std.proofs.Common.{◌≡◌, ◌≢◌, ◌∙◌, ℕ, ◌+◌, ◌<◌, ◌≤◌, Bool, true, false, ◌||◌, List, [], ◌∷◌, ◌++◌, drop, length, replicate, Some, is_some, refl, sym, ap, subst, arith, true≢false}
 use Rattle.std.specs.Prelude.{slice_get, slice_index_or, slice_set, if◌then◌else◌}
 use Rattle.hp_base.specs.Mapping.{is_done}
 use Rattle.hp_base.specs.Plans.{action_of}
@@ -27,8 +27,8 @@ use Rattle.hp_reasons.specs.Shared.{Shared, fetched_by, posted_to, with_number, 
 use Rattle.hp_reasons.specs.Stages.{ComesTo, MemberServesOnce}
 use Rattle.hp_reasons.proofs.CaughtUp.{Ends, fresh_rows, catching_may, ends_so, failed, none_later, whole}
 use Rattle.hp_reasons.proofs.FailingLemmas.{notes_a_failure}
-use Rattle.hp_reasons.proofs.MemberStages as stages
-use Rattle.hp_reasons.proofs.MemberStages.{Heeds, TakesMail, stage_with}
+use Rattle.hp_reasons.proofs.MemberMail as mails
+use Rattle.hp_reasons.proofs.MemberMail.{Heeds, TakesMail}
 use Rattle.hp_reasons.proofs.MemberWorlds.{IsStillParty, ServesAlone}
 use Rattle.hp_reasons.proofs.Said.{first_unsaid, index_set, index_unset, mail_posted, said_fetched, said_posted, set_long}
 use Rattle.hp_reasons.proofs.MemberFetches.{body_front, comes, fetched_boxes, fetched_long, fetched_mail, fetched_other, fetched_own, fetched_wide, heard, mailed, out_of_it, rested, unheard_party}
@@ -157,7 +157,7 @@ module _ (set : Setting) (call : Asked) (sent : ℕ) (world : World) (who : ℕ)
           subst (λ (s : Shared). ComesTo set call sent false world who s after) (sym is)
           (obeyed_comes numbers (set_long world.shared.numbers who (length world.shared.segs.log) ∙ base.numbers)
           (λ other apart. index_unset world.shared.numbers who other (length world.shared.segs.log) 0 apart)
-          (omega (arith, own, its.within)) (omega (arith, own)) (number ∙ sym own) calls body front (stages.catches own))
+          (omega (arith, own, its.within)) (omega (arith, own)) (number ∙ sym own) calls body front (mails.catches own))
 
       -- a mapping failed
       failed_comes : (failing : ℕ) → failing_call ended ≡ Some failing → calls_of party.maps + 1 ≤ failing → failing ≡ calls_of after.maps
@@ -170,14 +170,14 @@ module _ (set : Setting) (call : Asked) (sent : ℕ) (world : World) (who : ℕ)
           (none_later who (calls_of party.maps + 1) failing later world.shared.segs.asks its.failed) in
           subst (λ (s : Shared). ComesTo set call sent false world who s after) (sym is)
           (obeyed_comes world.shared.numbers base.numbers (λ other apart. refl) (omega arith) its.within (number ∙ its.number joined)
-          (omega (arith, later, last)) body front (stages.notes noted))
+          (omega (arith, later, last)) body front (mails.notes noted))
 
   -- the numbers behind a catching up
   numbered_whole : (ended : Caught) (at : Shared) → ended ≡ caught.Done → numbered who ended at ≡ with_number who (length at.segs.log) at
   numbered_whole ended at is = ap (λ (e : Caught). numbered who e at) is
 
   numbered_failed : (ended : Caught) (at : Shared) → is_done ended ≡ false → numbered who ended at ≡ at
-  numbered_failed caught.Done at isnt = absurd (stages.true_apart isnt)
+  numbered_failed caught.Done at isnt = absurd (true≢false isnt)
   numbered_failed (caught.Refused row number) at isnt = refl
   numbered_failed (caught.Elsewhere row number got) at isnt = refl
 

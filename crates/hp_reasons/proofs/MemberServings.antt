@@ -1,6 +1,6 @@
 -- What one serving makes of a participant without a coordinator and of what is shared.
 use Rattle.std.proofs.Common.{◌≡◌, ◌∙◌, true, false, true≢false, List, [], ◌∷◌, drop, sym, ap, subst}
-use Rattle.std.proofs.lemmas.Option.{none-some}
+use Rattle.std.proofs.lemmas.Option.{none-some, same_Some}
 use Rattle.hp_base.specs.Plans.{action_of}
 use Rattle.hp_base.specs.declared.plan_entry.MsgKind.TheVariants as message
 use Rattle.hp_core.specs.Following.{after_catching}
@@ -15,7 +15,7 @@ use Rattle.hp_proc.specs.Party.{Party, one_more}
 use Rattle.hp_proc.specs.Serving.{IsFollowed, IsHeeded, IsMemberServed, IsTold, Obeys, gives_segments, is_sync}
 use Rattle.hp_reasons.specs.Servings.{MemberServes, MembersServeSo, ObeysIn, numbered}
 use Rattle.hp_reasons.specs.Shared.{MakesAll, Shared, fetched_by, posted_to, with_segs}
-use Rattle.hp_reasons.proofs.Sharing.{acked, fetched_one, found_nothing, gave, numbered_segs, posted_one, some_same, took}
+use Rattle.hp_reasons.proofs.Sharing.{acked, fetched_one, found_nothing, gave, numbered_segs, posted_one, took}
 
 -- a member obeys, with the value that is shared
 obeyed : (old new : Shared) (party after : Party) (steps : List MailStep) → Obeys party after old.segs steps
@@ -85,10 +85,10 @@ module _ (old new : Shared) (party after : Party) (frame : Frame) (box : List Fr
 pub members_serve : MembersServeSo
 members_serve old new party after steps moved below (IsMemberServed.rests did after_is is) makes =
     let found = found_nothing party.me [] old new (subst (λ (steps : List MailStep). MakesAll party.me steps old new) did makes) in
-    subst (MemberServes old new party after) (some_same false moved (sym is)) (MemberServes.rests found.0 found.1 after_is)
+    subst (MemberServes old new party after) (same_Some false moved (sym is)) (MemberServes.rests found.0 found.1 after_is)
 members_serve old new party after steps moved below (IsMemberServed.heeds frame more true did is_heeded is) makes =
     let has = fetched_one party.me frame more old new (subst (λ (steps : List MailStep). MakesAll party.me steps old new) did makes) in
-    subst (MemberServes old new party after) (some_same true moved (sym is))
+    subst (MemberServes old new party after) (same_Some true moved (sym is))
     (heeded old new party after frame (drop 1 (box_of old.boxes party.me)) has.0 more is_heeded has.1)
 members_serve old new party after steps moved below (IsMemberServed.heeds frame more false did is_heeded is) makes =
     absurd (none-some moved (sym is))

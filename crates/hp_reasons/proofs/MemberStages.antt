@@ -1,10 +1,9 @@
 -- The stage of an ask behind one serving of a member.
-use Rattle.std.proofs.Common.{◌≡◌, ◌≢◌, ◌⊎◌, ◌∙◌, ℕ, ◌<◌, ◌≤◌, Bool, true, false, ◌||◌, ◌==◌, List, [], ◌∷◌, ◌++◌, count_by, drop, length, replicate, Option, Some, None, is_some, inl, inr, refl, sym, ap, subst, arith}
+use Rattle.std.proofs.Common.{◌≡◌, ◌≢◌, ◌⊎◌, ◌∙◌, ℕ, ◌<◌, ◌≤◌, Bool, true, false, ◌==◌, List, [], count_by, drop, length, replicate, Option, Some, None, inl, inr, refl, sym, ap, subst, arith, true≢false}
 use Rattle.std.specs.List.{list_any}
 use Rattle.std.specs.Prelude.{slice_get, slice_index_or}
-use Rattle.std.proofs.lemmas.Bool.{and_parts, cases_eq, eqb-true, or_left}
+use Rattle.std.proofs.lemmas.Bool.{and_parts, cases_eq, eqb-true}
 use Rattle.std.proofs.lemmas.List.Elements.{All-append, All-replicate}
-use Rattle.std.proofs.lemmas.List.Folds.{list_any-append, list_any_none}
 use Rattle.hp_base.specs.declared.plan_entry.MsgKind.TheVariants as message
 use Rattle.hp_core.specs.Asks.{asker, is_armed_by}
 use Rattle.hp_core.specs.declared.asked.Asked.{Asked}
@@ -17,9 +16,6 @@ use Rattle.hp_core.specs.declared.phase.Round.{Round}
 use Rattle.hp_frame.specs.declared.message.Body.{Body}
 use Rattle.hp_frame.specs.declared.message.Body.TheVariants.{Answer}
 use Rattle.hp_hall.proofs.Slotted.{slice_get-set_other}
-use Rattle.hp_log.proofs.Counts.{count_append, count_none}
-use Rattle.hp_segs.proofs.ListFacts.{or_off_parts}
-use Rattle.hp_segs.specs.LaterSteps.{noted_failure}
 use Rattle.hp_segs.specs.SegsView.{SegsView, closed_number, grants_or_refuses, is_member}
 use Rattle.hp_segs.specs.Sound.{IsSound}
 use Rattle.hp_segs.specs.declared.growth.Growth.{Growth}
@@ -31,35 +27,10 @@ use Rattle.hp_reasons.specs.Episode.{AreAnswersOrCopies, AreDoubled, AreOthersEm
 use Rattle.hp_reasons.specs.Outcomes.{late_outcomes, stale_outcomes}
 use Rattle.hp_reasons.specs.Shared.{Shared}
 use Rattle.hp_reasons.specs.Stages.{world_with}
+use Rattle.hp_reasons.proofs.MemberLevels.{ends_with, grows_with, settles_with, was_member}
+use Rattle.hp_reasons.proofs.MemberMail.{Heeds, TakesMail, any_behind, any_stays, catches, cons_not_nil, count_more, is_out, none_stays, notes, passes}
 use Rattle.hp_reasons.proofs.MemberWorlds.{ServesAlone}
 use Rattle.hp_reasons.proofs.Said.{get_set}
-
--- what a member makes of what it fetched: it was no SYNC, or it is not in the roster, or it has taken in the log, or a failure is noted
-pub data Heeds (world : World) (who : ℕ) (shared : Shared) (body : Body) : Type 0 where
-  passes : is_sync body ≡ false → Heeds world who shared body
-  is_out : is_member world.shared.segs.roster who ≡ false → Heeds world who shared body
-  catches : slice_index_or shared.numbers who 0 ≡ length world.shared.segs.log → Heeds world who shared body
-  notes : is_some (noted_failure shared.segs) ≡ true → Heeds world who shared body
-
--- of its mail the first body is gone, and copies of a reply have come to participant 0
-pub record TakesMail (world : World) (who : ℕ) (after : Party) (shared : Shared) (mail : List (List Body)) : Type 0 where
-  pub body : Body
-  pub front : mail_of world who ≡ body ∷ drop 1 (mail_of world who)
-  pub own : slice_index_or mail who [] ≡ drop 1 (mail_of world who)
-  pub from : ℕ
-  pub number : ℕ
-  pub code : ℕ
-  pub count : ℕ
-  pub first : slice_index_or mail 0 [] ≡ mail_of world 0 ++ replicate count (Answer from number 1 code)
-  pub others : (other : ℕ) → other ≢ 0 → other ≢ who → slice_index_or mail other [] ≡ mail_of world other
-  pub heeds : Heeds world who shared body
-  pub unheard : (call : Asked) → asker call ≡ who → IsUnanswered call world → after.answered ≡ false
-
-pub true_apart : true ≡ false → ⊥
-true_apart same = cc
-
-cons_not_nil : (body : Body) (rest : List Body) → body ∷ rest ≡ [] → ⊥
-cons_not_nil body rest same = cc
 
 -- the generation of a growth's round is that of the last record
 opens_by : (segs : SegsView) (round : Round) (growth : Option Growth) → IsSound segs → segs.growth ≡ growth
@@ -74,64 +45,9 @@ opens_by segs round (Some growth) sound is opens =
 opens_logged : (segs : SegsView) (round : Round) → IsSound segs → is_open_for round segs.growth ≡ true → round.generation ≤ length segs.log
 opens_logged segs round sound opens = opens_by segs round segs.growth sound refl opens
 
-module _ {X : Type 0} (p : X → Bool) where
-  none_dropped : (xs : List X) → list_any p xs ≡ false → list_any p (drop 1 xs) ≡ false
-  none_dropped [] none = none
-  none_dropped (x ∷ xs) none = (or_off_parts (p x) (list_any p xs) none).1
-
-  none_more : (xs : List X) (n : ℕ) (x : X) → p x ≡ false → list_any p xs ≡ false → list_any p (xs ++ replicate n x) ≡ false
-  none_more xs n x failing none =
-      list_any-append p xs (replicate n x)
-      ∙ ap (λ (b : Bool). b || list_any p (replicate n x)) none
-      ∙ list_any_none p (replicate n x) (All-replicate (λ x. p x ≡ false) n x failing)
-
-  any_more : (xs ys : List X) → list_any p xs ≡ true → list_any p (xs ++ ys) ≡ true
-  any_more xs ys any = list_any-append p xs ys ∙ or_left (list_any p xs) (list_any p ys) any
-
-  any_behind : (x : X) (xs : List X) → p x ≡ false → list_any p (x ∷ xs) ≡ true → list_any p xs ≡ true
-  any_behind x xs failing any = sym (ap (λ (b : Bool). b || list_any p xs) failing) ∙ any
-
-  count_more : (xs : List X) (n : ℕ) (x : X) → p x ≡ false → count_by p (xs ++ replicate n x) ≡ count_by p xs
-  count_more xs n x failing =
-      omega (
-        arith,
-        count_append p xs (replicate n x),
-        count_none p (replicate n x) (All-replicate (λ x. p x ≡ false) n x failing),
-      )
-
 module _ (set : Setting) (world : World) (who : ℕ) (party after : Party) (shared : Shared) (mail : List (List Body)) (member : who ≢ 0)
     (there : slice_get world.parties who ≡ Some party) (serves : ServesAlone set world who party after shared mail)
     (takes : TakesMail world who after shared mail) where
-  -- what no body of a mailbox passes none of it passes behind the serving
-  none_stays : (p : Body → Bool) → p (Answer takes.from takes.number 1 takes.code) ≡ false → (other : ℕ)
-      → list_any p (mail_of world other) ≡ false → list_any p (slice_index_or mail other []) ≡ false
-  none_stays p failing other none =
-      elim (cases_eq other 0) [
-        | inl same ↦
-            ap (λ (n : ℕ). list_any p (slice_index_or mail n [])) same ∙ ap (list_any p) takes.first
-            ∙ none_more p (mail_of world 0) takes.count (Answer takes.from takes.number 1 takes.code) failing
-            (ap (λ (n : ℕ). list_any p (mail_of world n)) (sym same) ∙ none)
-        | inr others ↦
-            elim (cases_eq other who) [
-              | inl same ↦
-                  ap (λ (n : ℕ). list_any p (slice_index_or mail n [])) same ∙ ap (list_any p) takes.own
-                  ∙ none_dropped p (mail_of world who) (ap (λ (n : ℕ). list_any p (mail_of world n)) (sym same) ∙ none)
-              | inr apart ↦ ap (list_any p) (takes.others other others apart) ∙ none
-            ]
-      ]
-
-  -- a SYNC in another mailbox is still there
-  any_stays : (other : ℕ) → other ≢ who → list_any is_sync (mail_of world other) ≡ true
-      → list_any is_sync (slice_index_or mail other []) ≡ true
-  any_stays other apart any =
-      elim (cases_eq other 0) [
-        | inl same ↦
-            ap (λ (n : ℕ). list_any is_sync (slice_index_or mail n [])) same ∙ ap (list_any is_sync) takes.first
-            ∙ any_more is_sync (mail_of world 0) (replicate takes.count (Answer takes.from takes.number 1 takes.code))
-            (ap (λ (n : ℕ). list_any is_sync (mail_of world n)) (sym same) ∙ any)
-        | inr others ↦ ap (list_any is_sync) (takes.others other others apart) ∙ any
-      ]
-
   unanswered_with : (call : Asked) → IsUnanswered call world → IsUnanswered call (world_with shared mail who after world)
   unanswered_with call un = record {
     asked = λ its found.
@@ -146,7 +62,7 @@ module _ (set : Setting) (world : World) (who : ℕ) (party after : Party) (shar
           | inl both ↦ ap (λ (p : Party). p.answered) both.1 ∙ takes.unheard call both.0 un
           | inr apart ↦ un.unheard its apart.1
         ];
-    nowhere = λ other. none_stays (is_result_of call) refl other (un.nowhere other);
+    nowhere = λ other. none_stays world who after shared mail takes (is_result_of call) refl other (un.nowhere other);
   }
 
   coordinator_with : (phase : Phase) (call : Asked) (holds : Bool) → HasCoordinator set world phase call holds
@@ -246,13 +162,14 @@ module _ (set : Setting) (world : World) (who : ℕ) (party after : Party) (shar
         told (serves.clock ∙ stands)
         (ap (list_any is_sync) takes.own
         ∙ any_behind is_sync takes.body (drop 1 (mail_of world who)) isnt (ap (list_any is_sync) (sym takes.front) ∙ any))
-    heeded (is_out isnt) = absurd (true_apart (sym joined ∙ isnt))
+    heeded (is_out isnt) = absurd (true≢false (sym joined ∙ isnt))
     heeded (catches number) = has (omega (arith, number, logged))
     heeded (notes is) = fails is
 
   others_follow : (generation since other : ℕ) → other ≢ who → FollowsGrowth set world generation since other
       → FollowsGrowth set (world_with shared mail who after world) generation since other
-  others_follow generation since other apart (told stands any) = told (serves.clock ∙ stands) (any_stays other apart any)
+  others_follow generation since other apart (told stands any) =
+      told (serves.clock ∙ stands) (any_stays world who after shared mail takes other apart any)
   others_follow generation since other apart (has within) = has (omega (arith, within, serves.others other apart))
   others_follow generation since other apart (fails is) = fails (serves.segs.stays is)
   others_follow generation since other apart (lost primary found below) = lost_with generation since other primary found below
@@ -267,15 +184,14 @@ module _ (set : Setting) (world : World) (who : ℕ) (party after : Party) (shar
   -- the stage stays
   pub stage_with : (call : Asked) (sent : ℕ) → IsSound world.shared.segs → Stage set call sent false world
       → Stage set call sent false (world_with shared mail who after world)
-  stage_with call sent sound (fresh stands un core none to_do copies some empty doubled) = absurd (not_empty empty)
-  stage_with call sent sound (lost un core none to_do nothing empty doubled room) = absurd (not_empty empty)
-  stage_with call sent sound (growing round holds is from number un core opens to_do within answers doubled follows waits) =
+  stage_with call sent sound (fresh stands un core none to_do copies some empty doubled level) = absurd (not_empty empty)
+  stage_with call sent sound (lost un core none to_do nothing empty doubled room loses) = absurd (not_empty empty)
+  stage_with call sent sound (growing round holds is from number un core opens to_do within answers doubled follows waits level) =
       growing round holds is from number (unanswered_with call un) (coordinator_with (Waiting round sent) call holds core)
       (serves.segs.opens round ∙ opens) (to_do_with call to_do) (omega (arith, within, serves.clock)) (answers_with call answers)
       (doubled_with call holds false doubled)
       (λ other joined.
-      let before : is_member world.shared.segs.roster other ≡ true =
-      sym (ap (λ (roster : List Bool). is_member roster other) serves.segs.roster) ∙ joined in
+      let before = was_member set world who party after shared mail serves other joined in
       let logged = opens_logged world.shared.segs round sound opens in
       elim (cases_eq other who) [
         | inl same ↦
@@ -284,13 +200,15 @@ module _ (set : Setting) (world : World) (who : ℕ) (party after : Party) (shar
             (subst (FollowsGrowth set world round.generation sent) same (follows other before)))
         | inr apart ↦ others_follow round.generation sent other apart (follows other before)
       ])
-      (λ leads. absurd (true_apart (sym leads)))
+      (λ leads. absurd (true≢false (sym leads))) (grows_with set world who party after shared mail serves takes level)
   stage_with call sent sound
-      (settling round since holds isnt from number un core none closed early within logged answers doubled waits granted) =
+      (settling round since holds isnt from number un core none closed early within logged answers doubled waits granted level) =
       settling round since holds isnt from number (unanswered_with call un) (coordinator_with (Waiting round since) call holds core)
       (serves.segs.none none) (closed_with call closed) early (omega (arith, within, serves.clock))
       (omega (arith, logged, ap length serves.segs.log)) (answers_with call answers) (doubled_with call holds false doubled)
-      (λ leads. absurd (true_apart (sym leads))) (answered_with call granted)
-  stage_with call sent sound (over holds core none closed answers doubled unsynced granted) =
+      (λ leads. absurd (true≢false (sym leads))) (answered_with call granted)
+      (settles_with set world who party after shared mail serves takes none round.generation level)
+  stage_with call sent sound (over holds core none closed answers doubled unsynced granted level) =
       over holds (coordinator_with Idle call holds core) (serves.segs.none none) (closed_with call closed) (answers_with call answers)
-      (doubled_with call holds false doubled) (λ other. none_stays is_sync refl other (unsynced other)) (answered_with call granted)
+      (doubled_with call holds false doubled) (λ other. none_stays world who after shared mail takes is_sync refl other (unsynced other))
+      (answered_with call granted) (ends_with set world who party after shared mail serves level)

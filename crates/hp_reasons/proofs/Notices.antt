@@ -1,5 +1,5 @@
--- A notice leads from a quiet world to a quiet one: it is sent, and its answer comes, or it was lost.
-use Rattle.std.proofs.Common.{◌≡◌, ◌∙◌, ℕ, ◌+◌, ◌-◌, ◌<◌, ◌≤◌, ◌^◌, true, min, List, [], ◌∷◌, Some, refl, sym, ap, subst, arith}
+-- A notice leads from a quiet world to a quiet one in which nothing is owed: it is sent, and its answer comes, or it was lost.
+use Rattle.std.proofs.Common.{◌≡◌, ◌∙◌, ℕ, ◌+◌, ◌-◌, ◌<◌, ◌≤◌, ◌^◌, true, false, min, List, [], ◌∷◌, Some, refl, sym, ap, subst, arith}
 use Rattle.std.specs.Prelude.{slice_get}
 use Rattle.std.proofs.lemmas.Option.{slice_get_within}
 use Rattle.hp_base.specs.Plans.{action_of}
@@ -22,20 +22,22 @@ use Rattle.hp_proc.specs.Party.{Party, after_free, one_more}
 use Rattle.hp_proc.specs.Waiting.{IsWaited}
 use Rattle.hp_solo.specs.Sequence.{Sequence}
 use Rattle.hp_solo.specs.Solo.{SoloView}
-use Rattle.hp_reasons.specs.Counting.{is_doubled}
-use Rattle.hp_reasons.specs.Episode.{IsInPlace, IsQuietWorld, IsSetting, Setting, World, doubles}
+use Rattle.hp_reasons.specs.Counting.{LosesNothing, is_doubled, is_lost}
+use Rattle.hp_reasons.specs.Episode.{IsInPlace, IsSetting, Setting, World, doubles}
+use Rattle.hp_reasons.specs.Quiet.{IsQuietOwing, IsQuietWorld}
 use Rattle.hp_reasons.specs.Shared.{IsSharedIn, Shared}
 use Rattle.hp_reasons.specs.Stages.{IsSent}
 use Rattle.hp_reasons.specs.Waits.{AreServingsKnown, IsAtTurn, LeadsTo, NotifiesInQuiet, WaitsOut}
 use Rattle.hp_reasons.specs.Worlds.{IsWorldOf}
 use Rattle.hp_reasons.proofs.AsksBase.{HasSent}
-use Rattle.hp_reasons.proofs.AsksCounts.{doubled_more, if_so}
-use Rattle.hp_reasons.proofs.AsksOut.{quiet_out}
+use Rattle.hp_reasons.proofs.AsksOut.{owing_out}
 use Rattle.hp_reasons.proofs.AsksOwn.{world_own}
 use Rattle.hp_reasons.proofs.AsksStage.{just_sent, world_posted}
 use Rattle.hp_reasons.proofs.Said.{set_found, set_unfound}
 use Rattle.hp_reasons.proofs.Sharing.{read_clock}
 use Rattle.hp_reasons.proofs.TurnsSequence.{calls_own, cut_in}
+use Rattle.hp_reasons.proofs.CountingLemmas.{one_if}
+use Rattle.hp_reasons.proofs.LostCounts.{doubled_more, never_lost}
 
 module _ (set : Setting) (party : Party) (heap : ℕ) (run : Run) (since : ℕ) (world : World) (setting : IsSetting set)
     (quiet : IsQuietWorld set world) (own : slice_get world.parties party.me ≡ Some party) (early : since ≤ 2 ^ 62)
@@ -78,23 +80,29 @@ module _ (set : Setting) (party : Party) (heap : ℕ) (run : Run) (since : ℕ) 
   to_do : closed_number world.shared.segs.asks party.me < party.asked + 1
   to_do = omega (arith, place.closed)
 
-  grows : doubles set party.me party + if_so (is_doubled action) ≤ doubles set party.me after
+  grows : doubles set party.me party + one_if (is_doubled action) ≤ doubles set party.me after
   grows =
       let more = doubled_more set.plan message.Free party.me setting.counted party.sent.frees in
-      let same : if_so (is_doubled action) ≡ if_so (is_doubled (action_of set.plan message.Free party.me (one_more party.sent.frees))) =
-      ap (λ (plan : List PlanEntry). if_so (is_doubled (action_of plan message.Free party.me (one_more party.sent.frees)))) place.plan in
+      let same : one_if (is_doubled action) ≡ one_if (is_doubled (action_of set.plan message.Free party.me (one_more party.sent.frees))) =
+      ap (λ (plan : List PlanEntry). one_if (is_doubled (action_of plan message.Free party.me (one_more party.sent.frees)))) place.plan in
       omega (arith, more, same)
+
+  never : LosesNothing set.plan → is_lost action ≡ true → ⊥
+  never nothing lost =
+      never_lost set.plan message.Free party.me setting.counted party.sent.frees nothing
+      (sym (ap (λ (plan : List PlanEntry). is_lost (action_of plan message.Free party.me (one_more party.sent.frees))) place.plan) ∙ lost)
 
   -- it was just sent, in a frame that says so
   tells_at_turn : (frame : Frame) → Says frame body → IsAtTurn set call since (world_posted party.me world frame body after action)
   tells_at_turn frame says =
       just_sent set call since world frame body party after is_sent quiet own sends (sym since_is) to_do to_do says
-      (heap, run.addr, min (run_bytes run) (2 ^ 64 - 1), refl) action grows (λ lost. tt)
+      (heap, run.addr, min (run_bytes run) (2 ^ 64 - 1), refl) (λ nothing. tt) action grows (λ lost. tt) never
 
 module _ (known : AreServingsKnown) (waits_out : WaitsOut) where
   own_quiet : (set : Setting) (heap : ℕ) (old new : SoloView) (party after : Party) (run : Run) (steps : List MailStep) (world : World)
       → IsSetting set → IsWorldOf old party.me party world → IsQuietWorld set world → world.shared.clock ≤ 2 ^ 62
-      → Sequence party.me old steps new → DoesNotify set.count party after heap run steps → LeadsTo (IsQuietWorld set) new party.me after
+      → Sequence party.me old steps new → DoesNotify set.count party after heap run steps
+      → LeadsTo (IsQuietOwing set false) new party.me after
   own_quiet set heap old new party after run steps world setting its quiet early sequence does =
       let sent_then : Party = after_free (party.asked + 1) party in
       let action_then : Action = action_of party.plan message.Free party.me (one_more party.sent.frees) in
@@ -119,19 +127,19 @@ module _ (known : AreServingsKnown) (waits_out : WaitsOut) where
       subst (λ (deadline : ℕ). IsWaited set.count (waits_until does.since deadline) true sent_then after does.waited (Some does.now)) same
       does.waits in
       let out =
-      waits_out known set (want.Shrink party.me (party.asked + 1)) does.since does.now true cut.mid new sent_then after does.waited later sent
-      its_then turn cut.ends waits in
+      waits_out known set (want.Shrink party.me (party.asked + 1)) does.since does.now true cut.mid new sent_then after does.waited later
+      sent its_then turn cut.ends waits in
       record {
         world = out.world;
         its = out.its;
-        holds = quiet_out set (want.Shrink party.me (party.asked + 1)) does.since does.now out.world sent out.holds;
+        holds = owing_out set (want.Shrink party.me (party.asked + 1)) does.since does.now out.world sent out.holds;
       }
 
 -- it is so of each notice
 pub notifies_in_quiet : WaitsOut → NotifiesInQuiet
 notifies_in_quiet waits_out known set me heap old new party after run steps world setting its quiet early sequence does =
     let same : party.me ≡ me = (quiet.base.places me party its.own).me in
-    subst (λ (me : ℕ). LeadsTo (IsQuietWorld set) new me after) same
+    subst (λ (me : ℕ). LeadsTo (IsQuietOwing set false) new me after) same
     (own_quiet known waits_out set heap old new party after run steps world setting
     (subst (λ (me : ℕ). IsWorldOf old me party world) (sym same) its) quiet early
     (subst (λ (me : ℕ). Sequence me old steps new) (sym same) sequence) does)

@@ -1,9 +1,8 @@
 -- A growth that failed, or for which a member is late, is cancelled, and its rollback begins.
-use Rattle.std.proofs.Common.{◌≡◌, ◌∙◌, ◌⊎◌, ℕ, ◌+◌, ◌-◌, ◌<◌, ◌≤◌, ◌==◌, Bool, true, false, ◌&&◌, List, [], ◌∷◌, length, Option, Some, None, inl, refl, sym, ap, subst, arith, length-append}
+use Rattle.std.proofs.Common.{◌≡◌, ◌∙◌, ℕ, ◌+◌, ◌-◌, ◌<◌, ◌≤◌, ◌==◌, Bool, true, false, ◌&&◌, List, [], ◌∷◌, length, Option, Some, None, inl, refl, sym, ap, subst, arith, length-append}
 use Rattle.std.proofs.lemmas.Bool.{and_parts, eqb-true}
 use Rattle.std.proofs.lemmas.Bool.Decides.{nat_tests}
-use Rattle.std.proofs.lemmas.List.Elements.{All-weaker}
-use Rattle.std.proofs.lemmas.List.Folds.{list_any_none}
+use Rattle.std.proofs.lemmas.Option.{same_Some}
 use Rattle.std.specs.List.{find, list_any, range_with_len}
 use Rattle.std.specs.Option.{option_map}
 use Rattle.std.specs.Prelude.{is_some, nat_le, nat_lt, slice_get, slice_index}
@@ -18,7 +17,6 @@ use Rattle.hp_core.specs.declared.phase.Round.{Round}
 use Rattle.hp_core.specs.declared.phase.RoundKind.TheVariants as kind
 use Rattle.hp_core.proofs.GivingLemmas.{member_within}
 use Rattle.hp_core.proofs.RoundLemmas.{IsGrowthOf, has_outcome, is_its_outcome}
-use Rattle.hp_frame.specs.declared.message.Body.{Body}
 use Rattle.hp_log.specs.declared.log_record.LogRecord.TheVariants.{Drop}
 use Rattle.hp_maps.specs.MapsView.{calls_of}
 use Rattle.hp_segs.proofs.RangeLemmas.{find_passes}
@@ -34,13 +32,12 @@ use Rattle.hp_proc.specs.Coordinating.{with_core, with_room}
 use Rattle.hp_proc.specs.Party.{Party}
 use Rattle.hp_proc.specs.Posting.{times_sent}
 use Rattle.hp_reasons.specs.Counting.{lost_among}
-use Rattle.hp_reasons.specs.Episode.{AreAnswersOrCopies, FollowsGrowth, IsBase, IsCoordinator, IsCopy, IsNotedCall, Setting, World, is_answer, is_sync, mail_of, number_of_party}
+use Rattle.hp_reasons.specs.Episode.{FollowsGrowth, IsBase, IsCoordinator, IsNotedCall, Setting, World, is_sync, mail_of, number_of_party}
 use Rattle.hp_reasons.specs.Outcomes.{late_outcomes}
 use Rattle.hp_reasons.specs.Shared.{Shared, with_segs}
 use Rattle.hp_reasons.specs.Stages.{ComesTo, IsSent}
-use Rattle.hp_reasons.proofs.CopiesBodies.{body_is_no_sync}
-use Rattle.hp_reasons.proofs.CopiesSet.{some_same}
-use Rattle.hp_reasons.proofs.PollingFits.{FitsIn, FitsOne, base_ended, fit_before, fits_more, is_there, stale_same}
+use Rattle.hp_reasons.proofs.CopiesBodies.{bodies_unsynced}
+use Rattle.hp_reasons.proofs.PollingFits.{FitsIn, FitsOne, base_ended, fit_before, fits_more, is_there}
 use Rattle.hp_reasons.proofs.PollingGrants.{IsGrowing}
 use Rattle.hp_reasons.proofs.PollingGoes.{goes, goes_coordinated, goes_doubled, goes_there, goes_unanswered, with_phase}
 use Rattle.hp_reasons.proofs.PollingSteps.{MakesStep}
@@ -48,12 +45,7 @@ use Rattle.hp_reasons.proofs.PollingWays.{has_passed_at}
 use Rattle.hp_reasons.proofs.StartingMaps.{comes_on}
 use Rattle.hp_reasons.proofs.StartingOutcomes.{answered_behind, closed_behind}
 use Rattle.hp_reasons.proofs.StartingSettles.{IsSettling, settles}
-
--- among answers and copies of an ask is no SYNC
-no_sync_first : (call : Asked) (bodies : List Body) → AreAnswersOrCopies call bodies → list_any is_sync bodies ≡ false
-no_sync_first call bodies are =
-    list_any_none is_sync bodies
-    (All-weaker (λ body. (is_answer body ≡ true) ⊎ IsCopy call body) (λ body. is_sync body ≡ false) (body_is_no_sync call) bodies are)
+use Rattle.hp_reasons.proofs.OutcomesMore.{stale_same}
 
 -- WHO IS BELOW
 
@@ -175,7 +167,7 @@ module _ (set : Setting) (call : Asked) (sent : ℕ) (world : World) (primary : 
         (λ (one : Party).
         late_outcomes member.participant world.shared.segs.asks
         < lost_among set.plan message.Sync member.participant (times_sent one.sent.syncs member.participant))
-        (some_same its first (sym found ∙ top)) less
+        (same_Some its first (sym found ∙ top)) less
 
     -- and so a refusal as late fits
     pub late_fits : FitsOne set world world.shared.segs.asks (refusal (Late member.participant sent world.shared.clock))
@@ -225,22 +217,24 @@ module _ (set : Setting) (call : Asked) (sent : ℕ) (world : World) (primary : 
           closed = closed_behind call cancelled_world world.shared.segs.asks (refusal cause) refl its_from its_number refl;
           answered = answered_behind call cancelled_world world.shared.segs.asks (refusal cause) refl its_from its_number refl;
           early = grows.clock;
-          generation = omega arith;
+          generation = refl;
           outcome = outcome.0;
           found = outcome.1;
           copies = grows.bodies;
           doubled = goes_doubled world primary mapping (segs cause) there set call holds holds false
-              (omega (arith, stale_same world.shared.segs.asks (refusal cause) refl (asker call)))
-              (λ who apart. stale_same world.shared.segs.asks (refusal cause) refl who) grows.doubled;
+              (omega (arith, stale_same world.shared.segs.asks (refusal cause) (asker call) refl))
+              (λ who apart. stale_same world.shared.segs.asks (refusal cause) who refl) grows.doubled;
           earlier = λ member lies. (
             λ first. clash (sym lies ∙ (ap (λ (n : ℕ). list_any is_sync (mail_of world n)) first
-                ∙ no_sync_first call (mail_of world 0) grows.bodies)),
+                ∙ bodies_unsynced call (mail_of world 0) grows.bodies)),
             (grows.awaited member lies).is_member,
           );
           unsettled = λ member other member_is.
               let found = is_there set world member base (base.declared member member_is) primary in
               let within = (base.places member found.0 found.1).within in
               inl (omega (arith, within, longer));
+          gone = grows.level.gone;
+          room = grows.level.room;
         }
       where
         clash : true ≡ false → ⊥

@@ -27,7 +27,8 @@ module _ (set : Setting) (call : Asked) (sent : ℕ) (holds : Bool) (world : Wor
         mail = world.mail;
         base = subst (IsBase set) same ends.base;
         stage = subst (Stage set call sent true) same
-            (Stage.over holds ends.coordinator ends.alone ends.closed ends.copies ends.doubled ends.no_sync ends.answered);
+            (Stage.over holds ends.coordinator ends.alone ends.closed ends.copies ends.doubled ends.no_sync ends.answered
+            ends.level);
       }
 
   -- the ask is over once it was answered

@@ -1,7 +1,5 @@
 -- Outcomes that fit a world, with one more too, and what holds at every moment where a growth has ended by such a one.
-use Rattle.std.proofs.Common.{◌≡◌, ◌∙◌, ℕ, ◌+◌, ◌<◌, ◌≤◌, ◌==◌, max, Bool, true, false, not, ◌&&◌, cond, List, [], ◌∷◌, ◌++◌, length, Contains, Option, Some, None, inl, inr, refl, sym, ap, subst, arith}
-use Rattle.std.proofs.lemmas.Bool.{and_parts, and_right, cond_both, eqb-true, or_from}
-use Rattle.std.proofs.lemmas.List.Elements.{Contains-push_cases}
+use Rattle.std.proofs.Common.{◌≡◌, ◌∙◌, ℕ, ◌+◌, ◌<◌, ◌≤◌, Bool, true, false, cond, List, [], ◌∷◌, ◌++◌, length, Option, Some, None, refl, sym, ap, subst, arith}
 use Rattle.std.proofs.lemmas.Option.{slice_get-get_or}
 use Rattle.std.specs.Option.{option_and_then}
 use Rattle.std.specs.Prelude.{slice_get, slice_index_or}
@@ -10,12 +8,11 @@ use Rattle.hp_core.specs.Core.{Core}
 use Rattle.hp_hall.specs.Holding.{IsArmed}
 use Rattle.hp_maps.specs.MapsView.{MapsView, calls_of}
 use Rattle.hp_segs.specs.LaterSteps.{has_failed_from, outcome_fails_from}
-use Rattle.hp_segs.specs.SegsView.{SegsView, closed_number, granted_by, is_member, is_stale}
+use Rattle.hp_segs.specs.SegsView.{SegsView, closed_number, granted_by, is_member}
 use Rattle.hp_segs.specs.Sound.{IsSound}
 use Rattle.hp_segs.specs.declared.growth.Growth.{Growth}
 use Rattle.hp_segs.specs.declared.outcome.AskLog.{AskLog}
 use Rattle.hp_segs.specs.declared.outcome.Cause.{Cause}
-use Rattle.hp_segs.proofs.ClosedLemmas.{closed_push}
 use Rattle.hp_proc.specs.Coordinating.{with_core}
 use Rattle.hp_proc.specs.Party.{Party}
 use Rattle.hp_proc.specs.Posting.{times_sent}
@@ -23,9 +20,9 @@ use Rattle.hp_proc.specs.declared.sent.Sent.{Sent}
 use Rattle.hp_reasons.specs.Counting.{lost_among}
 use Rattle.hp_reasons.specs.Episode.{IsBase, IsExcused, IsInPlace, Setting, World, number_of_party}
 use Rattle.hp_reasons.specs.Failing.{AreGrantsWithin}
-use Rattle.hp_reasons.specs.Outcomes.{is_late, is_withdrawn, late_outcomes, refuses, stale_outcomes, withdrawn_outcomes}
+use Rattle.hp_reasons.specs.Outcomes.{is_late, is_withdrawn, late_outcomes, refuses, withdrawn_outcomes}
 use Rattle.hp_reasons.proofs.CopiesAlong.{CameOf}
-use Rattle.hp_reasons.proofs.OutcomesMore.{failed_push, late_push, stale_push, withdrawn_push}
+use Rattle.hp_reasons.proofs.OutcomesMore.{closed_within, failed_same, granted_within, late_push, withdrawn_same}
 use Rattle.hp_reasons.proofs.PollingGoes.{came_of, goes}
 use Rattle.hp_reasons.proofs.Said.{set_long}
 
@@ -75,40 +72,8 @@ pub record FitsOne (set : Setting) (world : World) (asks : List AskLog) (entry :
       → late_outcomes who asks < lost_among set.plan message.Sync who (times_sent primary.sent.syncs who)
   pub stands : refuses is_withdrawn entry.outcome ≡ false
 
--- no more pass, where one that comes doesn't
-nothing_more : (n : ℕ) (b : Bool) → b ≡ false → n + cond b 1 0 ≡ n
-nothing_more n b is = ap (λ (c : Bool). n + cond c 1 0) is ∙ add_none n
-  where
-    add_none : (n : ℕ) → n + 0 ≡ n
-    add_none n = omega arith
-
--- nobody's stale asks have become more
-pub stale_same : (asks : List AskLog) (entry : AskLog) → is_stale entry.outcome ≡ false → (who : ℕ)
-    → stale_outcomes who (asks ++ entry ∷ []) ≡ stale_outcomes who asks
-stale_same asks entry fresh who =
-    stale_push asks entry who
-    ∙ nothing_more (stale_outcomes who asks) _ (and_right (entry.from == who) (is_stale entry.outcome) fresh)
-
 module _ (set : Setting) (world : World) (asks : List AskLog) (entry : AskLog) (fits : FitsIn set world asks)
     (one : FitsOne set world asks entry) where
-  granted_more : (who : ℕ) → is_member world.shared.segs.roster who ≡ true → (other : AskLog) (generation : ℕ)
-      → Contains (asks ++ entry ∷ []) other → granted_by other.outcome ≡ Some generation → generation ≤ number_of_party world who
-  granted_more who member other generation among is =
-      elim (Contains-push_cases asks entry other among) [
-        | inl before ↦ fits.granted who member other generation before is
-        | inr last ↦ one.granted who generation member (ap (λ (entry : AskLog). granted_by entry.outcome) last ∙ is)
-      ]
-
-  closed_more : (who : ℕ) (party : Party) → slice_get world.parties who ≡ Some party → closed_number (asks ++ entry ∷ []) who ≤ party.asked
-  closed_more who party there =
-      subst (λ n. n ≤ party.asked) (sym (closed_push asks entry who))
-      (cond_both ((entry.from == who) && not (is_stale entry.outcome)) (max (closed_number asks who) entry.number) (closed_number asks who)
-      (λ n. n ≤ party.asked)
-      (λ counts.
-      let own = eqb-true entry.from who (and_parts (entry.from == who) (not (is_stale entry.outcome)) counts).0 in
-      omega (arith, fits.closed who party there, one.sent party (ap (slice_get world.parties) own ∙ there)))
-      (λ other. fits.closed who party there))
-
   late_more : (who : ℕ) (primary party : Party) → slice_get world.parties 0 ≡ Some primary → slice_get world.parties who ≡ Some party
       → (its : Bool) → refuses (is_late who) entry.outcome ≡ its
       → late_outcomes who asks + cond its 1 0 ≤ lost_among set.plan message.Sync who (times_sent primary.sent.syncs who)
@@ -118,19 +83,20 @@ module _ (set : Setting) (world : World) (asks : List AskLog) (entry : AskLog) (
   -- the outcomes fit with it
   pub fits_more : FitsIn set world (asks ++ entry ∷ [])
   fits_more = record {
-    granted = granted_more;
+    granted = λ who member.
+        granted_within (number_of_party world who) asks entry (fits.granted who member)
+        (λ generation its. one.granted who generation member its);
     failed = λ who party there.
-        failed_push asks entry who (calls_of party.maps + 1)
-        ∙ or_from (has_failed_from asks who (calls_of party.maps + 1)) (outcome_fails_from who (calls_of party.maps + 1) entry.outcome)
-        (fits.failed who party there) (one.failed who party there);
-    closed = closed_more;
+        failed_same asks entry who (calls_of party.maps + 1) (fits.failed who party there) (one.failed who party there);
+    closed = λ who party there.
+        closed_within asks entry who party.asked (fits.closed who party there)
+        (λ own. one.sent party (ap (slice_get world.parties) own ∙ there));
     late = λ who primary party first there.
         subst (λ n. n ≤ lost_among set.plan message.Sync who (times_sent primary.sent.syncs who)) (sym (late_push asks entry who))
         (late_more who primary party first there (refuses (is_late who) entry.outcome) refl);
     withdrawn = λ who party there.
-        let same = withdrawn_push asks entry who
-        ∙ nothing_more (withdrawn_outcomes who asks) _ (and_right (entry.from == who) (refuses is_withdrawn entry.outcome) one.stands) in
-        subst (λ n. n ≤ lost_among set.plan message.Alloc who party.sent.allocs) (sym same) (fits.withdrawn who party there);
+        subst (λ n. n ≤ lost_among set.plan message.Alloc who party.sent.allocs) (sym (withdrawn_same asks entry who one.stands))
+        (fits.withdrawn who party there);
   }
 
 -- WHERE A GROWTH HAS ENDED

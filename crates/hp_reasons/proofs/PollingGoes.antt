@@ -1,6 +1,7 @@
 -- Worlds in which the coordinator made a step by which, beside it, the segment value alone has changed: what stays of an ask.
 use Rattle.std.proofs.Common.{◌≡◌, ◌≢◌, ◌∙◌, ℕ, ◌+◌, ◌≤◌, Bool, Option, Some, inl, inr, refl, sym, ap, subst, arith, if◌then◌else◌}
 use Rattle.std.specs.Prelude.{slice_get}
+use Rattle.std.proofs.lemmas.Option.{same_Some}
 use Rattle.hp_core.specs.Asks.{asker}
 use Rattle.hp_core.specs.Core.{Core}
 use Rattle.hp_core.specs.declared.asked.Asked.{Asked}
@@ -14,7 +15,7 @@ use Rattle.hp_reasons.specs.Shared.{with_segs}
 use Rattle.hp_reasons.specs.Stages.{world_with}
 use Rattle.hp_reasons.proofs.CopiesAlong.{CameOf, IsSameBut}
 use Rattle.hp_reasons.proofs.CopiesCarried.{IsUnheard}
-use Rattle.hp_reasons.proofs.CopiesSet.{same_party, some_same}
+use Rattle.hp_reasons.proofs.CopiesSet.{came_from}
 use Rattle.hp_reasons.proofs.CopiesStages.{doubles_same}
 use Rattle.hp_reasons.proofs.Said.{get_set, set_found}
 
@@ -27,7 +28,7 @@ pub its_coordinator : (set : Setting) (world : World) (phase : Phase) (call : As
     → HasCoordinator set world phase call holds → slice_get world.parties 0 ≡ Some primary
     → IsCoordinator set phase call holds primary.core
 its_coordinator set world phase call holds primary has there =
-    subst (λ (one : Party). IsCoordinator set phase call holds one.core) (some_same has.primary primary (sym has.there ∙ there)) has.is
+    subst (λ (one : Party). IsCoordinator set phase call holds one.core) (same_Some has.primary primary (sym has.there ∙ there)) has.is
 
 -- the coordinator has come to another phase
 pub with_phase : (set : Setting) (old new : Phase) (call : Asked) (holds : Bool) (core : Option Core)
@@ -47,16 +48,7 @@ module _ (world : World) (primary : Party) (next : Core) (segs : SegsView) (ther
 
   -- whoever is there was there
   pub came_of : (who : ℕ) (party : Party) → slice_get (goes world primary next segs).parties who ≡ Some party → CameOf world who party
-  came_of who party found =
-      elim (get_set world.parties 0 who (with_core next primary) party found) [
-        | inl own ↦ record {
-          its = primary;
-          there = ap (slice_get world.parties) own.0 ∙ there;
-          same = subst (IsSameBut primary) (sym own.1) (with_core_same next primary);
-          apart = λ other. absurd (other own.0);
-        }
-        | inr other ↦ record { its = party; there = other.1; same = same_party party; apart = λ apart. refl }
-      ]
+  came_of = came_from world primary (with_core next primary) there (with_core_same next primary)
 
   module _ (set : Setting) (call : Asked) where
     pub goes_coordinated : (phase : Phase) (holds : Bool) → IsCoordinator set phase call holds (Some next)

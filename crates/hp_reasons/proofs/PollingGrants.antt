@@ -1,6 +1,7 @@
 -- A growth that all members have acknowledged is granted, and its ask is over.
 use Rattle.std.proofs.Common.{◌≡◌, ◌∙◌, ℕ, ◌+◌, ◌<◌, ◌≤◌, Bool, true, false, List, length, Some, None, inl, inr, refl, sym, ap, subst, arith}
 use Rattle.std.proofs.lemmas.Bool.{cases_Bool}
+use Rattle.std.proofs.lemmas.Option.{same_Some}
 use Rattle.std.specs.List.{list_any}
 use Rattle.std.specs.Prelude.{slice_get, slice_index}
 use Rattle.hp_core.specs.Asks.{asker, number_of}
@@ -13,22 +14,23 @@ use Rattle.hp_core.specs.declared.phase.RoundKind.TheVariants as kind
 use Rattle.hp_core.proofs.GivingLemmas.{all_acknowledged, member_within}
 use Rattle.hp_core.proofs.RoundLemmas.{IsGrowthOf, grant_of_round}
 use Rattle.hp_segs.specs.SegsView.{SegsView, is_member, outcome_of}
+use Rattle.hp_segs.specs.SoundRows.{IsGrowth, IsLogged}
 use Rattle.hp_segs.specs.Steps.{after_grant, lowest_member_below}
 use Rattle.hp_segs.specs.declared.outcome.AskLog.{AskLog}
 use Rattle.hp_segs.specs.declared.outcome.Outcome.TheVariants.{Granted}
 use Rattle.hp_proc.specs.Coordinating.{with_core, with_room}
 use Rattle.hp_proc.specs.Party.{Party}
-use Rattle.hp_reasons.specs.Episode.{AreAnswersOrCopies, AreDoubled, FollowsGrowth, HasCoordinator, IsAwaited, IsBase, IsCoordinator, IsToDo, IsUnanswered, Setting, World, is_sync, mail_of, number_of_party}
+use Rattle.hp_reasons.specs.Episode.{AreAnswersOrCopies, AreDoubled, AreLevel, FollowsGrowth, GrowsLevel, HasCoordinator, IsAwaited, IsBase, IsCoordinator, IsToDo, IsUnanswered, Setting, World, is_sync, mail_of, number_of_party}
 use Rattle.hp_reasons.specs.Shared.{Shared, with_segs}
 use Rattle.hp_reasons.specs.Stages.{ComesTo, IsSent}
-use Rattle.hp_reasons.proofs.CopiesSet.{some_same}
-use Rattle.hp_reasons.proofs.PollingFits.{FitsIn, FitsOne, base_ended, fit_before, fits_more, stale_same}
+use Rattle.hp_reasons.proofs.PollingFits.{FitsIn, FitsOne, base_ended, fit_before, fits_more, is_there}
 use Rattle.hp_reasons.proofs.PollingEnds.{ends_by}
 use Rattle.hp_reasons.proofs.PollingGoes.{goes, goes_coordinated, goes_doubled, goes_there, with_phase}
 use Rattle.hp_reasons.proofs.PollingSteps.{MakesStep}
 use Rattle.hp_reasons.proofs.StartingMaps.{comes_on}
 use Rattle.hp_reasons.proofs.StartingOutcomes.{answered_behind, closed_behind}
 use Rattle.hp_reasons.proofs.StartingResults.{IsEnding}
+use Rattle.hp_reasons.proofs.OutcomesMore.{stale_same}
 
 -- the growth of an ask waits for its members, while participant 0 may serve
 pub record IsGrowing (set : Setting) (call : Asked) (sent : ℕ) (world : World) (round : Round) (holds : Bool) : Type 0 where
@@ -44,6 +46,7 @@ pub record IsGrowing (set : Setting) (call : Asked) (sent : ℕ) (world : World)
   pub doubled : AreDoubled set world call holds false
   pub follow : (member : ℕ) → is_member world.shared.segs.roster member ≡ true → FollowsGrowth set world round.generation sent member
   pub awaited : (member : ℕ) → list_any is_sync (mail_of world member) ≡ true → IsAwaited world round.generation member
+  pub level : GrowsLevel world
 
 module _ (set : Setting) (call : Asked) (sent : ℕ) (world : World) (primary : Party) (round : Round) (holds : Bool) (acks : List ℕ)
     (base : IsBase set world) (there : slice_get world.parties 0 ≡ Some primary) (grows : IsGrowing set call sent world round holds)
@@ -57,6 +60,20 @@ module _ (set : Setting) (call : Asked) (sent : ℕ) (world : World) (primary : 
       let within : who < 16 = omega (arith, places, member_within world.shared.segs.roster who member) in
       let same = known who (base.declared who member) within in
       omega (arith, all_acknowledged world.shared.segs.roster acks round.generation who places all member, same)
+
+  -- its record is the last one, and so each has taken in all records
+  last_record : round.generation ≡ length world.shared.segs.log
+  last_record =
+      let segs = world.shared.segs in
+      let growth : IsGrowth segs.pools segs.log segs.segments of.growth =
+      subst (IsLogged segs.pools segs.log segs.segments) of.its_growth base.sound.rows.logged in
+      omega (arith, growth.last, of.generation)
+
+  all_level : AreLevel world
+  all_level who member =
+      let found = is_there set world who base (base.declared who member) primary in
+      let within = (base.places who found.0 found.1).within in
+      omega (arith, has_it who member, within, last_record)
 
   -- the outcome, and the segment value with it
   abbrev entry : AskLog
@@ -80,7 +97,7 @@ module _ (set : Setting) (call : Asked) (sent : ℕ) (world : World) (primary : 
   entry_fits : FitsOne set world world.shared.segs.asks entry
   entry_fits = record {
     granted = λ who generation member is.
-        let its : of.growth.generation ≡ generation = some_same of.growth.generation generation is in
+        let its : of.growth.generation ≡ generation = same_Some of.growth.generation generation is in
         omega (arith, its, of.generation, has_it who member);
     failed = λ who party found. refl;
     sent = λ party found.
@@ -123,10 +140,11 @@ module _ (set : Setting) (call : Asked) (sent : ℕ) (world : World) (primary : 
       closed = closed_behind call ending world.shared.segs.asks entry refl its_from its_number refl;
       copies = grows.bodies;
       doubled = goes_doubled world primary resting segs there set call holds holds false
-          (omega (arith, stale_same world.shared.segs.asks entry refl (asker call)))
-          (λ who apart. stale_same world.shared.segs.asks entry refl who) grows.doubled;
+          (omega (arith, stale_same world.shared.segs.asks entry (asker call) refl))
+          (λ who apart. stale_same world.shared.segs.asks entry who refl) grows.doubled;
       no_sync = unsynced;
       answered = answered_behind call ending world.shared.segs.asks entry refl its_from its_number refl;
+      level = record { gone = grows.level.gone; level = λ loses. all_level };
     }
 
     -- the growth is granted, and that is answered

@@ -1,5 +1,5 @@
 -- A poll of participant 0 leads from a stage of an ask to one.
-use Rattle.std.proofs.Common.{◌≡◌, ◌≢◌, ◌∙◌, ℕ, ◌+◌, ◌<◌, ◌≤◌, ◌==◌, Bool, true, false, length, Some, None, refl, sym, ap, arith}
+use Rattle.std.proofs.Common.{◌≡◌, ◌≢◌, ◌∙◌, ℕ, ◌+◌, ◌<◌, ◌==◌, Bool, true, false, Some, None, refl, sym, ap, arith}
 use Rattle.std.proofs.lemmas.Bool.{le-leb, ne_eqb}
 use Rattle.std.specs.List.{list_any}
 use Rattle.std.specs.Prelude.{slice_get}
@@ -12,20 +12,21 @@ use Rattle.hp_segs.specs.LaterSteps.{after_stale}
 use Rattle.hp_segs.specs.SegsView.{SegsView, closed_number}
 use Rattle.hp_proc.specs.Coordinating.{with_room}
 use Rattle.hp_proc.specs.Party.{Party}
-use Rattle.hp_reasons.specs.Episode.{AreAnswersOrCopies, AreDoubled, HasCoordinator, IsAnsweredFor, IsBase, IsClosed, IsCoordinator, IsUnanswered, Setting, Stage, World, is_sync, mail_of}
+use Rattle.hp_reasons.specs.Episode.{AreAnswersOrCopies, AreDoubled, EndsLevel, HasCoordinator, IsAnsweredFor, IsBase, IsClosed, IsCoordinator, IsUnanswered, Setting, Stage, World, is_sync, mail_of}
 use Rattle.hp_reasons.specs.Outcomes.{stale_outcomes}
 use Rattle.hp_reasons.specs.Servings.{Polls}
 use Rattle.hp_reasons.specs.Shared.{Shared}
 use Rattle.hp_reasons.specs.Stages.{ComesTo, IsSent, PollsOn}
 use Rattle.hp_reasons.proofs.CopiesCarried.{answered_along, over_along, to_do_along}
-use Rattle.hp_reasons.proofs.CopiesStale.{one_if, stale_rises}
-use Rattle.hp_reasons.proofs.CopiesTaken.{like_room, like_stale}
+use Rattle.hp_reasons.proofs.CopiesLevel.{starts_along}
+use Rattle.hp_reasons.proofs.CopiesTaken.{like_room, like_stale, stale_more}
 use Rattle.hp_reasons.proofs.HeldAsks.{none_held}
 use Rattle.hp_reasons.proofs.PollingGoes.{goes, goes_coordinated, goes_doubled, goes_unanswered, its_coordinator}
 use Rattle.hp_reasons.proofs.PollingSettles.{drop_on, growth_on}
 use Rattle.hp_reasons.proofs.PollingStays.{comes_taken, goes_along, goes_back}
 use Rattle.hp_reasons.proofs.PollingSteps.{handled, taken_by}
 use Rattle.hp_reasons.proofs.PollingWays.{idle_polled, stale_polled}
+use Rattle.hp_reasons.proofs.CountingLemmas.{at_most_one, one_if}
 
 module _ (set : Setting) (call : Asked) (sent : ℕ) (world : World) (shared : Shared) (primary after : Party)
     (is_sent : IsSent set call sent)
@@ -64,25 +65,17 @@ module _ (set : Setting) (call : Asked) (sent : ℕ) (world : World) (shared : S
   -- an ask that is held is started: it is closed, and so stale
   module _ (is : IsCoordinator set Idle call true primary.core) (alone : world.shared.segs.growth ≡ None) (closed : IsClosed call world)
       (bodies : AreAnswersOrCopies call (mail_of world 0)) (doubled : AreDoubled set world call true false)
-      (none : (member : ℕ) → list_any is_sync (mail_of world member) ≡ false) (answered : IsAnsweredFor call world) where
+      (none : (member : ℕ) → list_any is_sync (mail_of world member) ≡ false) (answered : IsAnsweredFor call world)
+      (level : EndsLevel set world) where
     abbrev released : Core
     released = record { deadline = is.its.deadline; phase = Idle; held = none_held }
 
     abbrev stale_segs : SegsView
     stale_segs = after_stale (asker call) (number_of call) room
 
-    at_most_one : (b : Bool) → one_if b ≤ 1
-    at_most_one true = omega arith
-    at_most_one false = omega arith
-
-    stale_more : (who : ℕ) → stale_outcomes who stale_segs.asks ≡ stale_outcomes who world.shared.segs.asks + one_if (asker call == who)
-    stale_more who =
-        stale_rises world.shared.segs.asks (asker call) (number_of call) (closed_number world.shared.segs.asks (asker call))
-        (length world.shared.segs.log) who
-
     stale_other : (who : ℕ) → who ≢ asker call → stale_outcomes who stale_segs.asks ≡ stale_outcomes who world.shared.segs.asks
     stale_other who apart =
-        stale_more who
+        stale_more world.shared.segs (asker call) (number_of call) who
         ∙ (ap (λ (b : Bool). stale_outcomes who world.shared.segs.asks + one_if b) (ne_eqb (asker call) who (λ same. apart (sym same)))
         ∙ add_none (stale_outcomes who world.shared.segs.asks))
       where
@@ -107,36 +100,39 @@ module _ (set : Setting) (call : Asked) (sent : ℕ) (world : World) (shared : S
         (record { its = released; there = refl; deadline = is.deadline; phase_is = refl; held = refl }))
         alone closed bodies
         (goes_doubled world primary released stale_segs there set call true false false
-        (omega (arith, stale_more (asker call), at_most_one (asker call == asker call))) stale_other doubled)
-        none (answered_along call world later along answered))
+        (omega (arith, stale_more world.shared.segs (asker call) (number_of call) (asker call), at_most_one (asker call == asker call)))
+        stale_other doubled)
+        none (answered_along call world later along answered) level)
 
   over_on : (holds : Bool) → HasCoordinator set world Idle call holds → world.shared.segs.growth ≡ None → IsClosed call world
       → AreAnswersOrCopies call (mail_of world 0) → AreDoubled set world call holds false
-      → ((member : ℕ) → list_any is_sync (mail_of world member) ≡ false) → IsAnsweredFor call world
+      → ((member : ℕ) → list_any is_sync (mail_of world member) ≡ false) → IsAnsweredFor call world → EndsLevel set world
       → ComesTo set call sent true world 0 shared after
-  over_on false coordinator alone closed bodies doubled none answered =
+  over_on false coordinator alone closed bodies doubled none answered level =
       let is = its_coordinator set world Idle call false primary coordinator there in
       let along = goes_along set world primary is.its room base there (like_room world.shared.segs) in
       idle_on is
       (over_along set call sent world (still is) along false (still_idle is) alone closed bodies (still_doubled is false doubled) none
-      (answered_along call world (still is) along answered))
-  over_on true coordinator alone closed bodies doubled none answered =
+      (answered_along call world (still is) along answered) level)
+  over_on true coordinator alone closed bodies doubled none answered level =
       stale_on (its_coordinator set world Idle call true primary coordinator there) alone closed bodies doubled none answered
+      level
 
 -- wherever an ask is, a poll leads to a stage of it
 pub polls_on : PollsOn
 polls_on set call sent world shared primary after is_sent base
-    (Stage.fresh clock unanswered coordinator alone to_do copies some empty doubled) may there polls =
+    (Stage.fresh clock unanswered coordinator alone to_do copies some empty doubled level) may there polls =
     let is = its_coordinator set world Idle call false primary coordinator there in
     let later = still set call sent world shared primary after is_sent base there polls is in
+    let along = goes_along set world primary is.its (with_room world.shared.segs) base there (like_room world.shared.segs) in
     idle_on set call sent world shared primary after is_sent base there polls is
     (Stage.fresh clock (still_unanswered set call sent world shared primary after is_sent base there polls is unanswered)
     (still_idle set call sent world shared primary after is_sent base there polls is) alone
-    (to_do_along call world later
-    (goes_along set world primary is.its (with_room world.shared.segs) base there (like_room world.shared.segs)) to_do)
-    copies some empty (still_doubled set call sent world shared primary after is_sent base there polls is true doubled))
+    (to_do_along call world later along to_do) copies some empty
+    (still_doubled set call sent world shared primary after is_sent base there polls is true doubled)
+    (starts_along set call world later along level))
 polls_on set call sent world shared primary after is_sent base
-    (Stage.lost unanswered coordinator alone to_do none empty doubled taken_back) may there polls =
+    (Stage.lost unanswered coordinator alone to_do none empty doubled taken_back loses) may there polls =
     let is = its_coordinator set world Idle call false primary coordinator there in
     let later = still set call sent world shared primary after is_sent base there polls is in
     idle_on set call sent world shared primary after is_sent base there polls is
@@ -145,10 +141,11 @@ polls_on set call sent world shared primary after is_sent base
     (to_do_along call world later
     (goes_along set world primary is.its (with_room world.shared.segs) base there (like_room world.shared.segs)) to_do)
     none empty (still_doubled set call sent world shared primary after is_sent base there polls is false doubled)
-    (goes_back set world primary is.its (with_room world.shared.segs) base there (like_room world.shared.segs) call taken_back))
+    (goes_back set world primary is.its (with_room world.shared.segs) base there (like_room world.shared.segs) call taken_back)
+    loses)
 polls_on set call sent world shared primary after is_sent base
     (Stage.growing round holds its_kind from number unanswered coordinator opens to_do clock bodies doubled follow
-    awaited) may there polls =
+    awaited level) may there polls =
     growth_on set call sent world shared primary after is_sent base there polls round holds
     (record {
       its_kind = its_kind;
@@ -163,10 +160,11 @@ polls_on set call sent world shared primary after is_sent base
       doubled = doubled;
       follow = follow;
       awaited = awaited refl;
+      level = level;
     })
 polls_on set call sent world shared primary after is_sent base
     (Stage.settling round since holds its_kind from number unanswered coordinator alone closed early clock logged bodies doubled waits
-    granted) may
+    granted level) may
     there polls =
     drop_on set call sent world shared primary after is_sent base there polls round holds since
     (record {
@@ -184,7 +182,9 @@ polls_on set call sent world shared primary after is_sent base
       doubled = doubled;
       waiting = waits refl;
       answered = granted;
+      level = level;
     }) may
 polls_on set call sent world shared primary after is_sent base
-    (Stage.over holds coordinator alone closed bodies doubled told granted) may there polls =
+    (Stage.over holds coordinator alone closed bodies doubled told granted level) may there polls =
     over_on set call sent world shared primary after is_sent base there polls holds coordinator alone closed bodies doubled told granted
+    level

@@ -18,7 +18,8 @@ use Rattle.hp_segs.specs.declared.fault.NotAll.{NotAll}
 use Rattle.hp_segs.specs.declared.outcome.Cause.TheVariants.{Late}
 use Rattle.hp_proc.specs.Coordinating.{with_core, with_room}
 use Rattle.hp_proc.specs.Party.{Party}
-use Rattle.hp_reasons.specs.Episode.{AreAnswersOrCopies, AreDoubled, HasCoordinator, IsAnsweredFor, IsBase, IsClosed, IsCoordinator, IsUnanswered, Setting, Stage, WaitsToSettle, World, is_sync, mail_of, number_of_party}
+use Rattle.hp_reasons.specs.Counting.{LosesNothing}
+use Rattle.hp_reasons.specs.Episode.{AreAnswersOrCopies, AreDoubled, AreLevel, HasCoordinator, IsAnsweredFor, IsBase, IsClosed, IsCoordinator, IsUnanswered, Setting, SettlesLevel, Stage, WaitsToSettle, World, is_sync, mail_of, number_of_party}
 use Rattle.hp_reasons.specs.Servings.{Polls}
 use Rattle.hp_reasons.specs.Shared.{Shared, with_segs}
 use Rattle.hp_reasons.specs.Stages.{ComesTo, IsSent}
@@ -26,6 +27,7 @@ use Rattle.hp_reasons.proofs.CopiesCarried.{answered_along, growing_along, settl
 use Rattle.hp_reasons.proofs.CopiesTaken.{like_room}
 use Rattle.hp_reasons.proofs.PollingCancels.{cancels_on, failure_fits, late_fits, not_passed}
 use Rattle.hp_reasons.proofs.PollingEnds.{ends_by}
+use Rattle.hp_reasons.proofs.PollingFits.{is_there}
 use Rattle.hp_reasons.proofs.PollingGrants.{IsGrowing, grants_on}
 use Rattle.hp_reasons.proofs.PollingGoes.{goes, goes_coordinated, goes_doubled, goes_there, goes_unheard, its_coordinator, with_phase}
 use Rattle.hp_reasons.proofs.PollingStays.{comes_taken, goes_along, goes_base}
@@ -50,6 +52,7 @@ pub record IsSettling (set : Setting) (call : Asked) (sent : ℕ) (world : World
   pub doubled : AreDoubled set world call holds false
   pub waiting : (member : ℕ) → list_any is_sync (mail_of world member) ≡ true → WaitsToSettle call world round.generation since member
   pub answered : IsAnsweredFor call world
+  pub level : SettlesLevel set world round.generation
 
 module _ (set : Setting) (call : Asked) (sent : ℕ) (world : World) (shared : Shared) (primary after : Party)
     (is_sent : IsSent set call sent)
@@ -79,7 +82,7 @@ module _ (set : Setting) (call : Asked) (sent : ℕ) (world : World) (shared : S
         grows.opens (to_do_along call world growing_world along grows.to_do) grows.clock grows.bodies
         (goes_doubled world primary growing_core room there set call holds holds false (omega arith) (λ who apart. refl)
         grows.doubled)
-        grows.follow grows.awaited
+        grows.follow grows.awaited grows.level
 
     by_growth : (done : Done) → GrowthPolled round is.its.deadline sent world.shared.clock polls.acks room done
         → MakesStep set.count (going_on is.its done) world.shared shared primary after → ComesTo set call sent true world 0 shared after
@@ -137,7 +140,7 @@ module _ (set : Setting) (call : Asked) (sent : ℕ) (world : World) (shared : S
         settles.alone settles.closed settles.early settles.clock settles.logged settles.bodies
         (goes_doubled world primary waiting_core room there set call holds holds false (omega arith) (λ who apart. refl)
         settles.doubled)
-        settles.waiting (answered_along call world waiting_world along settles.answered)
+        settles.waiting (answered_along call world waiting_world along settles.answered) settles.level
 
     -- where all have acknowledged the round, or its deadline has passed, no SYNC lies in a mailbox
     awaited_none : (none passed : Bool) → is_none (lowest_member_below world.shared.segs.roster polls.acks round.generation) ≡ none
@@ -172,6 +175,19 @@ module _ (set : Setting) (call : Asked) (sent : ℕ) (world : World) (shared : S
       | inr off ↦ off
     ]
 
+    -- who has no SYNC in its mailbox has taken in all records, where no message is lost
+    all_level : ((member : ℕ) → list_any is_sync (mail_of world member) ≡ false) → LosesNothing set.plan → AreLevel world
+    all_level none loses who member =
+        let found = is_there set world who base (base.declared who member) primary in
+        let within = (base.places who found.0 found.1).within in
+        elim (settles.level.follows loses who member) [
+          | inl told ↦ absurd (clash (sym told ∙ none who))
+          | inr has ↦ omega (arith, has, within, settles.level.whole)
+        ]
+      where
+        clash : true ≡ false → ⊥
+        clash same = cc
+
     by_drop : (done : Done) → DropPolled round is.its.deadline since world.shared.clock polls.acks room done
         → MakesStep set.count (going_on is.its done) world.shared shared primary after → ComesTo set call sent true world 0 shared after
     by_drop _ (ends over) step =
@@ -179,6 +195,9 @@ module _ (set : Setting) (call : Asked) (sent : ℕ) (world : World) (shared : S
         let next = record is.its { phase = Idle } in
         let party = with_core next primary in
         let along = goes_along set world primary next room base there like in
+        let none = unsynced
+        (awaited_none (is_none (lowest_member_below world.shared.segs.roster polls.acks round.generation))
+        (has_passed_at is.its.deadline since world.shared.clock) refl refl over) in
         let ending_world = goes world primary next room in
         let ending : IsEnding set call holds ending_world = record {
           base = goes_base set world primary next room base there like step.sound step.armed;
@@ -189,10 +208,9 @@ module _ (set : Setting) (call : Asked) (sent : ℕ) (world : World) (shared : S
           copies = settles.bodies;
           doubled = goes_doubled world primary next room there set call holds holds false (omega arith) (λ who apart. refl)
               settles.doubled;
-          no_sync = unsynced
-              (awaited_none (is_none (lowest_member_below world.shared.segs.roster polls.acks round.generation))
-              (has_passed_at is.its.deadline since world.shared.clock) refl refl over);
+          no_sync = none;
           answered = answered_along call world ending_world along settles.answered;
+          level = record { gone = settles.level.gone; level = λ loses. all_level none loses };
         } in
         comes_on set call sent true world (with_segs room world.shared) shared party after
         (ends_by set call sent holds ending_world party ending (goes_there world primary next room there) is_sent.setting.few

@@ -1,5 +1,6 @@
 -- A step of the coordinator, where what it makes is known.
 use Rattle.std.proofs.Common.{◌≡◌, ◌∙◌, ℕ, Some, sym, ap, subst}
+use Rattle.std.proofs.lemmas.Option.{same_Some}
 use Rattle.hp_core.specs.Core.{Core, Stepped, unchanged}
 use Rattle.hp_core.specs.declared.event.CoreEvent.{CoreEvent}
 use Rattle.hp_core.specs.declared.out.Out.{Out}
@@ -11,7 +12,6 @@ use Rattle.hp_proc.specs.Coordinating.{stepping, with_core}
 use Rattle.hp_proc.specs.Party.{Party}
 use Rattle.hp_reasons.specs.Servings.{CarriesOut, Handles, PostsFor, Steps}
 use Rattle.hp_reasons.specs.Shared.{Shared, with_segs}
-use Rattle.hp_reasons.proofs.CopiesSet.{some_same}
 use Rattle.hp_reasons.proofs.CopiesTaken.{IsTaken}
 use Rattle.hp_reasons.proofs.StartingAlong.{carries_posts}
 
@@ -42,7 +42,7 @@ module _ (count : ℕ) (event : CoreEvent) (core : Core) (old new : Shared) (par
   pub handled : Handles count event old new party after → party.core ≡ Some core → stepping event core old.segs ≡ stepped
       → MakesStep count stepped old new party after
   handled handles there made =
-      let same : handles.core ≡ core = some_same handles.core core (sym handles.there ∙ there) in
+      let same : handles.core ≡ core = same_Some handles.core core (sym handles.there ∙ there) in
       let steps : Steps event core handles.answer handles.next old handles.mid =
       subst (λ (one : Core). Steps event one handles.answer handles.next old handles.mid) same handles.steps in
       stepped_by handles.next handles.answer handles.mid made steps handles.carries

@@ -1,6 +1,7 @@
--- In one thread growths are refused, and asks taken back or stale, for reasons that the plan names: all parts together.
+-- In one thread growths are refused, and asks taken back or stale, for reasons that the plan names, and where no message is lost nothing is
+-- left to do at the end: all parts together.
 use Rattle.hp_reasons.specs.Lines.{AreWaitsQuiet}
-use Rattle.hp_reasons.specs.Threads.{ThreadsHaveReasons}
+use Rattle.hp_reasons.specs.Threads.{LeadInQuiet, ThreadsEndLevel, ThreadsHaveReasons}
 use Rattle.hp_reasons.specs.Waits.{AreServingsKnown}
 use Rattle.hp_reasons.proofs.Asks.{asks_in_quiet}
 use Rattle.hp_reasons.proofs.CopiesServes.{primary_serves}
@@ -9,10 +10,13 @@ use Rattle.hp_reasons.proofs.Lines.{acts_in_quiet}
 use Rattle.hp_reasons.proofs.MemberServes.{member_serves_once}
 use Rattle.hp_reasons.proofs.MemberServings.{members_serve}
 use Rattle.hp_reasons.proofs.Notices.{notifies_in_quiet}
+use Rattle.hp_reasons.proofs.OwesNothing.{lines_owe_nothing}
 use Rattle.hp_reasons.proofs.PollingOn.{polls_on}
 use Rattle.hp_reasons.proofs.SharedAlong.{courses_go_along}
 use Rattle.hp_reasons.proofs.StartingFresh.{starts_fresh}
-use Rattle.hp_reasons.proofs.ThreadsReasons.{reasons_by_acts}
+use Rattle.hp_reasons.proofs.ThreadsBetween.{leads_by}
+use Rattle.hp_reasons.proofs.ThreadsLevel.{threads_end_level}
+use Rattle.hp_reasons.proofs.ThreadsReasons.{threads_have_reasons}
 use Rattle.hp_reasons.proofs.TurnsIdle.{turns_in_quiet}
 use Rattle.hp_reasons.proofs.WaitsEnd.{waits_out}
 use Rattle.hp_reasons.proofs.WeighingServings.{core_weighs_less, member_weighs_less}
@@ -38,5 +42,12 @@ waits_quiet = record {
   notifies = notifies_in_quiet waits_out;
 }
 
+-- what lines make of one
+lead : LeadInQuiet
+lead = leads_by waits_quiet acts_in_quiet lines_owe_nothing
+
 pub threads_reasons : ThreadsHaveReasons
-threads_reasons = reasons_by_acts waits_quiet acts_in_quiet
+threads_reasons = threads_have_reasons lead
+
+pub threads_level : ThreadsEndLevel
+threads_level = threads_end_level lead

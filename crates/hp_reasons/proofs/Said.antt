@@ -98,6 +98,12 @@ none_said [] [] said none = refl
 none_said [] (body ∷ bodies) said none = absurd said
 none_said (frame ∷ frames) bodies said none = cc
 
+-- where nothing is said there are no frames
+pub unsaid_none : (frames : List Frame) (bodies : List Body) → AreSaid frames bodies → bodies ≡ [] → frames ≡ []
+unsaid_none [] bodies said none = refl
+unsaid_none (frame ∷ frames) [] said none = absurd said
+unsaid_none (frame ∷ frames) (body ∷ bodies) said none = cc
+
 said_front : (frame : Frame) (frames : List Frame) (bodies : List Body) (body : Body) → AreSaid (frame ∷ frames) bodies → Says frame body
     → bodies ≡ body ∷ drop 1 bodies
 said_front frame frames [] body said says = absurd said

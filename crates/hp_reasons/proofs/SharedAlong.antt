@@ -3,7 +3,7 @@ use Rattle.std.proofs.Common.{◌≡◌, ◌∙◌, ℕ, ◌≤◌, List, [], �
 use Rattle.std.specs.Prelude.{slice_get}
 use Rattle.std.specs.Option.{option_map}
 use Rattle.std.proofs.lemmas.List.{length-set}
-use Rattle.std.proofs.lemmas.Option.{slice_get-map}
+use Rattle.std.proofs.lemmas.Option.{same_Some, slice_get-map}
 use Rattle.hp_base.specs.declared.limits.TheConstants.{MAX_HEAPS, MAX_PARTICIPANTS}
 use Rattle.hp_frame.specs.declared.frame.Frame.{Frame}
 use Rattle.hp_segs.specs.SegsView.{SegsView}
@@ -22,9 +22,6 @@ use Rattle.hp_solo.specs.Sequence.{IsCall, IsCallNote}
 use Rattle.hp_reasons.specs.Shared.{IsSharedIn, Shared}
 use Rattle.hp_reasons.specs.Worlds.{AreCalls, CoursesGoAlong, GoesAlong, IsInOrder}
 use Rattle.hp_reasons.proofs.StepsAlong.{AreStill, FitSlots, IsStill, made_by, steps_along}
-
-some_same : {X : Type 0} (x y : X) → Some x ≡ Some y → x ≡ y
-some_same x y same = cc
 
 -- a hall is
 pub in_order : (hall : HallView) → IsHall hall → IsInOrder hall
@@ -46,7 +43,7 @@ mail_count (step ∷ steps) old new mail =
 kept_in : (number : ℕ) (slot : Option SlotView) (kept : Kept) → option_map (λ slot. slot.kept) slot ≡ Some kept
     → ((its : SlotView) → slot ≡ Some its → Fits number its.kept) → Fits number kept
 kept_in number None kept is fits = cc
-kept_in number (Some slot) kept is fits = subst (Fits number) (some_same slot.kept kept is) (fits slot refl)
+kept_in number (Some slot) kept is fits = subst (Fits number) (same_Some slot.kept kept is) (fits slot refl)
 
 -- what slots keep is of the slots
 pub fits_values : (hall : HallView) → IsInOrder hall → FitSlots (values_in hall)
@@ -56,7 +53,7 @@ fits_values hall order number kept there =
 
 segs_kept : (kept : Kept) (segs : SegsView) → segs_of kept ≡ Some segs → kept ≡ Segments segs
 segs_kept (Heap heap) segs is = cc
-segs_kept (Segments its) segs is = ap Segments (some_same its segs is)
+segs_kept (Segments its) segs is = ap Segments (same_Some its segs is)
 
 pub segs_shown : (slot : Option SlotView) (segs : SegsView) → segs_in slot ≡ Some segs
     → option_map (λ slot. slot.kept) slot ≡ Some (Segments segs)
@@ -66,7 +63,7 @@ segs_shown (Some slot) segs is = ap Some (segs_kept slot.kept segs is)
 shown_segs : (slot : Option SlotView) (segs : SegsView) → option_map (λ slot. slot.kept) slot ≡ Some (Segments segs)
     → segs_in slot ≡ Some segs
 shown_segs None segs is = cc
-shown_segs (Some slot) segs is = ap segs_of (some_same slot.kept (Segments segs) is)
+shown_segs (Some slot) segs is = ap segs_of (same_Some slot.kept (Segments segs) is)
 
 -- where that participant alone did something, the steps are its own of the course, and the clock stands
 pub shared_along : (old new : HallView) (who : ℕ) (steps : List MailStep) (course : IsCourse old new)

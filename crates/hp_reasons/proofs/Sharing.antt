@@ -16,9 +16,6 @@ use Rattle.hp_proc.specs.Serving.{acks_behind, gives_segments, takes_segments}
 use Rattle.hp_reasons.specs.Servings.{numbered}
 use Rattle.hp_reasons.specs.Shared.{MakesAll, Shared, fetched_by, posted_to, with_boxes, with_segs}
 
-pub some_same : {X : Type 0} (x y : X) → Some x ≡ Some y → x ≡ y
-some_same x y same = cc
-
 -- what is shared between the first steps and the rest
 pub record IsCut (who : ℕ) (first rest : List MailStep) (old new : Shared) : Type 0 where
   pub mid : Shared

@@ -58,7 +58,7 @@ module _ (set : Setting) (world : World) (shared : Shared) (primary after : Part
 pub carries_posts : (count : ℕ) (old new : Shared) (party after : Party) (answer : Out) → (MustMap answer → ⊥)
     → CarriesOut count old new party after answer → PostsFor count old new party after answer
 carries_posts count _ _ _ _ _ none (posts old new party after answer its) = its
-carries_posts count _ _ _ _ _ none (maps old mid new party between after answer next must mapped carried) = absurd (none must)
+carries_posts count _ _ _ _ _ none (maps old mid new party between after answer told must mapped carried) = absurd (none must)
 
 -- the telling to catch up is obeyed, and then what the coordinator answers is carried out
 pub record MapsThen (count : ℕ) (old new : Shared) (party after : Party) : Type 0 where

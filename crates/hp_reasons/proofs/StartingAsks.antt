@@ -18,7 +18,7 @@ use Rattle.hp_core.specs.declared.phase.RoundKind.TheVariants as kind
 use Rattle.hp_core.proofs.RoundLemmas.{has_outcome, is_its_outcome}
 use Rattle.hp_log.specs.declared.log_record.LogRecord.TheVariants.{Add, Drop}
 use Rattle.hp_segs.specs.LaterSteps.{noted_failure}
-use Rattle.hp_segs.specs.SegsView.{SegsView, outcome_of}
+use Rattle.hp_segs.specs.SegsView.{SegsView, is_member, outcome_of}
 use Rattle.hp_segs.specs.Steps.{after_close, after_freed, after_open}
 use Rattle.hp_segs.specs.declared.ask.Ask.{Ask}
 use Rattle.hp_segs.specs.declared.growth.Growth.{Growth}
@@ -32,11 +32,11 @@ use Rattle.hp_reasons.specs.Episode.{IsSetting, Setting, World, mail_of}
 use Rattle.hp_reasons.specs.Servings.{CarriesOut}
 use Rattle.hp_reasons.specs.Shared.{Shared}
 use Rattle.hp_reasons.specs.Stages.{ComesTo, IsStarting}
-use Rattle.hp_reasons.specs.Episode.{IsAnsweredFor, IsBase}
+use Rattle.hp_reasons.specs.Episode.{EndsLevel, IsAnsweredFor, IsBase, IsGoneBefore}
 use Rattle.hp_reasons.proofs.StartingAlong.{carries_posts, doubled_follows, unanswered_follows}
 use Rattle.hp_reasons.proofs.StartingBase.{IsOrderly, base_follows, logs, stays}
 use Rattle.hp_reasons.proofs.StartingFirst.{HasStarted, acknowledged_within, dropped, started_asked, started_coordinator, started_follows, started_found, started_world}
-use Rattle.hp_reasons.proofs.StartingGrants.{copies_or, copies_unsynced}
+use Rattle.hp_reasons.proofs.StartingGrants.{copies_or, copies_unsynced, others_room}
 use Rattle.hp_reasons.proofs.StartingGrowing.{IsOpening}
 use Rattle.hp_reasons.proofs.StartingGrowths.{opened_on}
 use Rattle.hp_reasons.proofs.StartingMaps.{comes_on}
@@ -58,6 +58,15 @@ opened_for ask run segs =
 -- there are no fewer records behind the drops
 drops_longer : (segs : SegsView) → length segs.log ≤ length (dropped segs).log
 drops_longer segs = omega (arith, length-append segs.log (map (λ run. Drop run) segs.retiring))
+
+-- and where nothing is to be dropped, there are as many
+drops_none : (segs : SegsView) → segs.retiring ≡ [] → length (dropped segs).log ≡ length segs.log
+drops_none segs none =
+    omega (
+      arith,
+      length-append segs.log (map (λ run. Drop run) segs.retiring),
+      ap (λ (runs : List Run). length (map (λ run. Drop run) runs)) none,
+    )
 
 module _ (set : Setting) (call : Asked) (sent : ℕ) (world : World) (primary : Party) (setting : IsSetting set) (declared : asker call < set.count)
     (base : IsBase set world) (starting : IsStarting set call sent world) (there : slice_get world.parties 0 ≡ Some primary)
@@ -81,6 +90,21 @@ module _ (set : Setting) (call : Asked) (sent : ℕ) (world : World) (primary : 
 
   sent_so : (party : Party) → slice_get at_mid.parties (asker call) ≡ Some party → party.asked ≡ number_of call
   sent_so = started_asked set world mid primary core next answer done base there has call starting.unanswered.asked
+
+  -- nothing is left of what was given up, and where no message is lost there are as many records as before: all members stay level
+  stays_level : (ask : Ask) → call ≡ want.Grow ask → (cause : Cause) → done.segs ≡ after_close ask cause (dropped world.shared.segs)
+      → EndsLevel set at_mid
+  stays_level ask is cause done_segs =
+      let mid_segs = ap (λ (shared : Shared). shared.segs) has.shared ∙ done_segs in
+      record {
+        gone = ap (λ (segs : SegsView). segs.retiring) mid_segs;
+        level = λ nothing who member.
+            let level = starting.level nothing in
+            let none : world.shared.segs.retiring ≡ [] = subst (λ (call : Asked). IsGoneBefore call world) is level.1 in
+            ap (λ (shared : Shared). slice_index_or shared.numbers who 0) has.shared
+            ∙ (level.0 who (ap (λ (segs : SegsView). is_member segs.roster who) (sym mid_segs) ∙ member)
+            ∙ (sym (drops_none world.shared.segs none) ∙ sym (ap (λ (segs : SegsView). length segs.log) mid_segs)));
+      }
 
   -- it is refused, and that is answered
   pub refuses_so : (ask : Ask) → call ≡ want.Grow ask → (refusal : PlanRefusal) → done ≡ refused ask (cause_of refusal) (dropped world.shared.segs)
@@ -119,6 +143,7 @@ module _ (set : Setting) (call : Asked) (sent : ℕ) (world : World) (primary : 
         doubled = doubled_follows set world mid primary (with_core next primary) there follows call false false starting.doubled;
         no_sync = none_syncs;
         answered = answered_behind call at_mid world.shared.segs.asks entry mid_asks from_is number_is refl;
+        level = stays_level ask is (cause_of refusal) done_segs;
       } in
       let outcome = has_outcome world.shared.segs.asks entry ask.from ask.number (is_its_outcome entry ask.from ask.number refl refl refl) in
       let answers_it : answer ≡ out.Answer (asker call) ask.number 2 (is_good outcome.0) =
@@ -165,6 +190,7 @@ module _ (set : Setting) (call : Asked) (sent : ℕ) (world : World) (primary : 
         to_do = to_do_same call world at_mid (ap (λ (segs : SegsView). segs.asks) mid_segs) (ap (λ (segs : SegsView). segs.armed) mid_segs) starting.to_do;
         clock = follows.clock ∙ starting.clock;
         generation = ap (λ (segs : SegsView). length segs.log) (sym mid_segs);
+        gone = ap (λ (segs : SegsView). segs.retiring) mid_segs;
         below = λ member.
             omega (
               arith,
@@ -226,13 +252,15 @@ module _ (set : Setting) (call : Asked) (sent : ℕ) (world : World) (primary : 
         closed = closed_behind call at_mid world.shared.segs.asks entry mid_asks from_is number_is refl;
         answered = answered_none at_mid;
         early = omega (arith, follows.clock, starting.clock);
-        generation = omega (arith, ap (λ (segs : SegsView). length segs.log) (sym mid_segs));
+        generation = ap (λ (segs : SegsView). length segs.log) (sym mid_segs);
+        gone = ap (λ (segs : SegsView). segs.retiring) mid_segs;
         outcome = outcome.0;
         found = ap (λ (asks : List AskLog). outcome_of asks from number) mid_asks ∙ outcome.1;
         copies = copies_or call (mail_of world 0) starting.copies;
         doubled = doubled_follows set world mid primary (with_core next primary) there follows call false false starting.doubled;
         earlier = λ member synced. absurd (never_synced (sym synced ∙ none_syncs member));
         unsettled = λ member other is_in. inr starting.copies;
+        room = others_room world starting.empty;
       } in
       let maps_it : answer ≡ out.MapSelf (length (after_freed from number segs).log) =
       has.answer_is ∙ ap (λ (done : Done). done.next.out) done_is in

@@ -1,7 +1,6 @@
 -- Worlds behind what participant 0 did for its coordinator, but for posts: what holds at every moment holds there.
-use Rattle.std.proofs.Common.{◌≡◌, ◌≢◌, ℕ, ◌+◌, ◌≤◌, max, Bool, true, false, not, ◌&&◌, ◌||◌, ◌==◌, cond, List, [], ◌∷◌, ◌++◌, length, Some, inl, inr, refl, sym, ap, subst, ◌∙◌, arith, if◌then◌else◌}
-use Rattle.std.proofs.lemmas.Bool.{and_parts, and_right, cases_eq, eqb-true}
-use Rattle.std.proofs.lemmas.List.Elements.{Contains-push_cases}
+use Rattle.std.proofs.Common.{◌≡◌, ◌≢◌, ℕ, ◌+◌, ◌≤◌, Bool, true, false, List, [], ◌∷◌, ◌++◌, length, Some, inl, inr, refl, sym, ap, subst, ◌∙◌, arith}
+use Rattle.std.proofs.lemmas.Bool.{cases_eq}
 use Rattle.std.specs.Prelude.{slice_get, slice_index_or, slice_set}
 use Rattle.hp_frame.specs.declared.frame.Frame.{Frame}
 use Rattle.hp_hall.specs.Holding.{IsArmed}
@@ -12,7 +11,6 @@ use Rattle.hp_segs.specs.SegsView.{closed_number, granted_by, is_member, is_stal
 use Rattle.hp_segs.specs.Sound.{IsSound}
 use Rattle.hp_segs.specs.declared.outcome.AskLog.{AskLog}
 use Rattle.hp_segs.specs.declared.outcome.Cause.{Cause}
-use Rattle.hp_segs.proofs.ClosedLemmas.{closed_push}
 use Rattle.hp_base.specs.declared.plan_entry.MsgKind.TheVariants as message
 use Rattle.hp_proc.specs.Party.{Party}
 use Rattle.hp_proc.specs.Posting.{times_sent}
@@ -24,7 +22,7 @@ use Rattle.hp_reasons.specs.Outcomes.{is_late, is_withdrawn, late_outcomes, refu
 use Rattle.hp_reasons.specs.Shared.{Shared}
 use Rattle.hp_reasons.specs.Stages.{world_with}
 use Rattle.hp_reasons.proofs.CaughtUp.{none_later}
-use Rattle.hp_reasons.proofs.OutcomesMore.{failed_push, late_push, stale_push, withdrawn_push}
+use Rattle.hp_reasons.proofs.OutcomesMore.{closed_within, failed_same, granted_within, late_same, stale_same, withdrawn_same}
 use Rattle.hp_reasons.proofs.Said.{get_set, set_found, set_long}
 
 -- a participant goes on as it was, but for its coordinator, its table, and what it has sent as a coordinator
@@ -92,39 +90,30 @@ pub data LogsOne (world : World) (old new : List AskLog) : Type 0 where
   stays : new ≡ old → LogsOne world old new
   logs : (entry : AskLog) → new ≡ old ++ entry ∷ [] → IsOrderly world entry → LogsOne world old new
 
-nothing_more : (n : ℕ) (b : Bool) → b ≡ false → n + cond b 1 0 ≡ n
-nothing_more n b is = ap (λ (c : Bool). n + cond c 1 0) is ∙ omega arith
-
 -- then no more outcomes are late, taken back or stale
 pub late_logged : (world : World) (old new : List AskLog) (who : ℕ) → LogsOne world old new → late_outcomes who new ≡ late_outcomes who old
 late_logged world old new who (stays same) = ap (late_outcomes who) same
 late_logged world old new who (logs entry more orderly) =
-    ap (late_outcomes who) more ∙ (late_push old entry who ∙ nothing_more (late_outcomes who old) _ (orderly.in_time who))
+    ap (late_outcomes who) more ∙ late_same old entry who (orderly.in_time who)
 
 pub withdrawn_logged : (world : World) (old new : List AskLog) (who : ℕ) → LogsOne world old new
     → withdrawn_outcomes who new ≡ withdrawn_outcomes who old
 withdrawn_logged world old new who (stays same) = ap (withdrawn_outcomes who) same
 withdrawn_logged world old new who (logs entry more orderly) =
-    ap (withdrawn_outcomes who) more
-    ∙ (withdrawn_push old entry who ∙ nothing_more (withdrawn_outcomes who old) _ (and_right (entry.from == who) _ orderly.stands))
+    ap (withdrawn_outcomes who) more ∙ withdrawn_same old entry who orderly.stands
 
 pub stale_logged : (world : World) (old new : List AskLog) (who : ℕ) → LogsOne world old new → stale_outcomes who new ≡ stale_outcomes who old
 stale_logged world old new who (stays same) = ap (stale_outcomes who) same
 stale_logged world old new who (logs entry more orderly) =
-    ap (stale_outcomes who) more
-    ∙ (stale_push old entry who ∙ nothing_more (stale_outcomes who old) _ (and_right (entry.from == who) _ orderly.fresh))
+    ap (stale_outcomes who) more ∙ stale_same old entry who orderly.fresh
 
 -- what was granted is within the numbers
 granted_logged : (world : World) (old new : List AskLog) (who : ℕ) → LogsOne world old new → is_member world.shared.segs.roster who ≡ true
     → AreGrantsWithin (number_of_party world who) old → AreGrantsWithin (number_of_party world who) new
 granted_logged world old new who (stays same) member within = subst (AreGrantsWithin (number_of_party world who)) (sym same) within
 granted_logged world old new who (logs last more orderly) member within =
-    subst (AreGrantsWithin (number_of_party world who)) (sym more) (λ entry generation among its.
-    elim (Contains-push_cases old last entry among) [
-      | inl before ↦ within entry generation before its
-      | inr is_last ↦
-          orderly.granted who generation member (ap (λ (entry : AskLog). granted_by entry.outcome) is_last ∙ its)
-    ])
+    subst (AreGrantsWithin (number_of_party world who)) (sym more)
+    (granted_within (number_of_party world who) old last within (λ generation its. orderly.granted who generation member its))
 
 -- no failed mapping by a next call was logged
 failed_logged : (world : World) (old new : List AskLog) (who : ℕ) (party : Party) → LogsOne world old new
@@ -134,13 +123,7 @@ failed_logged world old new who party (stays same) there none =
     ap (λ asks. has_failed_from asks who (calls_of party.maps + 1)) same ∙ none
 failed_logged world old new who party (logs entry more orderly) there none =
     ap (λ asks. has_failed_from asks who (calls_of party.maps + 1)) more
-    ∙ (failed_push old entry who (calls_of party.maps + 1)
-    ∙ (ap (λ b. b || outcome_fails_from who (calls_of party.maps + 1) entry.outcome) none ∙ orderly.failed who party there))
-
-greater : (done number bound : ℕ) (counts : Bool) → done ≤ bound → (counts ≡ true → number ≤ bound)
-    → (if counts then max done number else done) ≤ bound
-greater done number bound true before sent = let its : number ≤ bound = sent refl in omega arith
-greater done number bound false before sent = before
+    ∙ failed_same old entry who (calls_of party.maps + 1) none (orderly.failed who party there)
 
 -- closed numbers are of asks that were sent
 closed_logged : (world : World) (old new : List AskLog) (who : ℕ) (party : Party) → LogsOne world old new
@@ -149,10 +132,7 @@ closed_logged world old new who party (stays same) there closed =
     subst (λ (asks : List AskLog). closed_number asks who ≤ party.asked) (sym same) closed
 closed_logged world old new who party (logs entry more orderly) there closed =
     subst (λ (asks : List AskLog). closed_number asks who ≤ party.asked) (sym more)
-    (subst (λ (n : ℕ). n ≤ party.asked) (sym (closed_push old entry who))
-    (greater (closed_number old who) entry.number party.asked ((entry.from == who) && not (is_stale entry.outcome)) closed
-    (λ counts.
-    orderly.sent party (ap (slice_get world.parties) (eqb-true entry.from who (and_parts (entry.from == who) _ counts).0) ∙ there))))
+    (closed_within old entry who party.asked closed (λ own. orderly.sent party (ap (slice_get world.parties) own ∙ there)))
 
 -- what becomes of all that is shared, but for mailboxes, and of participant 0
 pub record Follows (set : Setting) (world : World) (shared : Shared) (primary after : Party) : Type 0 where

@@ -27,7 +27,7 @@ use Rattle.hp_reasons.specs.Shared.{Shared}
 use Rattle.hp_reasons.specs.Stages.{ComesTo}
 use Rattle.hp_reasons.proofs.StartingAlong.{doubled_follows, unanswered_follows}
 use Rattle.hp_reasons.proofs.StartingBase.{Follows, IsOrderly, base_follows, logs}
-use Rattle.hp_reasons.proofs.StartingGrants.{copies_or, none_syncs, sent_so}
+use Rattle.hp_reasons.proofs.StartingGrants.{copies_or, none_syncs, others_room, sent_so}
 use Rattle.hp_reasons.proofs.StartingGrowing.{IsOpening, calls_made, catching, caught_segs, mid_found, mid_world, open_still, own_failure}
 use Rattle.hp_reasons.proofs.StartingMaps.{HasMapped, comes_on, mapped_coordinator, mapped_follows}
 use Rattle.hp_reasons.proofs.StartingOutcomes.{answered_behind, closed_behind, orderly_failure}
@@ -104,7 +104,8 @@ module _ (set : Setting) (call : Asked) (sent : ℕ) (round : Round) (world : Wo
           closed = closed_behind call at_mid world.shared.segs.asks entry mid_asks from_is number_is refl;
           answered = answered_behind call at_mid world.shared.segs.asks entry mid_asks from_is number_is refl;
           early = omega (arith, follows.clock, begun.clock);
-          generation = omega (arith, back_log, ap (λ (shared : Shared). length shared.segs.log) has.shared);
+          generation = back_log ∙ sym (ap (λ (shared : Shared). length shared.segs.log) has.shared);
+          gone = ap (λ (segs : SegsView). segs.retiring) mid_segs ∙ (noting.retiring ∙ begun.gone);
           outcome = outcome.0;
           found = ap (λ (asks : List AskLog). outcome_of asks round.from round.number) mid_asks ∙ outcome.1;
           copies = copies_or call (mail_of world 0) begun.copies;
@@ -113,6 +114,7 @@ module _ (set : Setting) (call : Asked) (sent : ℕ) (round : Round) (world : Wo
               absurd (never_synced (sym synced ∙ none_syncs set call sent round world primary setting declared begun there member));
           unsettled = λ member other is_in.
               inl (omega (arith, follows.others member other, begun.below member, begun.generation, back_log, log_is));
+          room = others_room world begun.empty;
         } in
         let maps_it : next ≡ out.MapSelf (length (after_cancel cause then_segs).log) = has.answer_is ∙ ap (λ (done : Done). done.next.out) is in
         comes_on set call sent true world mid new between after

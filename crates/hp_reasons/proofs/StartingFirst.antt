@@ -2,6 +2,7 @@
 use Rattle.std.proofs.Common.{◌≡◌, ◌⊎◌, ℕ, ◌<◌, ◌≤◌, Bool, true, false, List, [], ◌∷◌, length, Some, None, Result, Ok, Err, inl, inr, refl, sym, ap, subst, ◌∙◌, arith, if◌then◌else◌}
 use Rattle.std.proofs.lemmas.Bool.{cases_lt, cond-false}
 use Rattle.std.proofs.lemmas.List.{get_or_past}
+use Rattle.std.proofs.lemmas.Option.{same_Some}
 use Rattle.std.specs.Prelude.{slice_get, slice_index_or}
 use Rattle.hp_base.specs.declared.row.Run.{Run}
 use Rattle.hp_core.specs.Asks.{asker, is_armed, is_closed, is_unarmed, number_of}
@@ -152,7 +153,7 @@ module _ (set : Setting) (world : World) (mid : Shared) (primary : Party) (core 
   started_coordinator call phase its old is =
       let same : primary ≡ old.primary = cc (there, old.there) in
       let cores : Some core ≡ Some old.is.its = sym its ∙ (ap (λ (party : Party). party.core) same ∙ old.is.there) in
-      let core_is : core ≡ old.is.its = only_core core old.is.its cores in
+      let core_is : core ≡ old.is.its = same_Some core old.is.its cores in
       record {
         primary = with_core next primary;
         there = started_found;
@@ -164,9 +165,6 @@ module _ (set : Setting) (world : World) (mid : Shared) (primary : Party) (core 
           held = ap (λ (core : Core). core.held) has.core_is ∙ (ap (λ (core : Core). core.held) core_is ∙ old.is.held);
         };
       }
-    where
-      only_core : (one other : Core) → Some one ≡ Some other → one ≡ other
-      only_core one other is = cc
 
   -- the ask was sent by its asker
   pub started_asked : (call : Asked) → ((party : Party) → slice_get world.parties (asker call) ≡ Some party → party.asked ≡ number_of call)

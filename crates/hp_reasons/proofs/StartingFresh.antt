@@ -1,6 +1,7 @@
 -- Where participant 0 starts an ask that is to do, from a quiet world but for copies of the ask, it comes to a stage of the ask.
 use Rattle.std.proofs.Common.{◌≡◌, ℕ, ◌<◌, false, true, Some, refl, sym, ap, subst, ◌∙◌, arith}
 use Rattle.std.proofs.lemmas.Bool.Decides.{nat_tests}
+use Rattle.std.proofs.lemmas.Option.{same_Some}
 use Rattle.std.specs.Prelude.{nat_le, slice_get}
 use Rattle.hp_core.specs.Asks.{asker, is_armed, is_closed}
 use Rattle.hp_core.specs.Core.{Core, Done, Stepped, going_on}
@@ -29,9 +30,6 @@ open_ask : (call : Asked) (world : World) → IsToDo call world → is_closed ca
 open_ask (want.Grow ask) world to_do = not_closed ask.number _ to_do.0
 open_ask (want.Shrink from number) world to_do = not_closed number _ to_do
 
-only_core : (one other : Core) → Some one ≡ Some other → one ≡ other
-only_core one other is = cc
-
 module _ (set : Setting) (call : Asked) (sent : ℕ) (event : CoreEvent) (world : World) (shared : Shared) (primary after : Party)
     (base : IsBase set world) (starting : IsStarting set call sent world) (there : slice_get world.parties 0 ≡ Some primary)
     (handles : Handles set.count event world.shared shared primary after) where
@@ -44,7 +42,7 @@ module _ (set : Setting) (call : Asked) (sent : ℕ) (event : CoreEvent) (world 
       let old = starting.coordinator in
       let same : primary ≡ old.primary = cc (there, old.there) in
       let cores : Some handles.core ≡ Some old.is.its = sym handles.there ∙ (ap (λ (party : Party). party.core) same ∙ old.is.there) in
-      ap (λ (core : Core). core.phase) (only_core handles.core old.is.its cores) ∙ old.is.phase_is
+      ap (λ (core : Core). core.phase) (same_Some handles.core old.is.its cores) ∙ old.is.phase_is
 
   starts_as : stepping event handles.core world.shared.segs ≡ going_on handles.core begun
       → HasStarted world handles.mid primary handles.core handles.next handles.answer begun

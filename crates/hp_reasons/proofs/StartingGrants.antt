@@ -1,5 +1,5 @@
 -- A growth that was opened while no other member is there: it is granted, or cancelled and rolled back.
-use Rattle.std.proofs.Common.{◌≡◌, ◌⊎◌, ℕ, ◌<◌, Bool, true, false, List, [], ◌∷◌, ◌++◌, length, replicate, Option, Some, None, inl, inr, refl, sym, ap, subst, ◌∙◌, arith}
+use Rattle.std.proofs.Common.{◌≡◌, ◌≢◌, ◌⊎◌, ℕ, ◌<◌, Bool, true, false, List, [], ◌∷◌, ◌++◌, length, replicate, Option, Some, None, inl, inr, refl, sym, ap, subst, ◌∙◌, arith}
 use Rattle.std.proofs.lemmas.Bool.{cases_eq}
 use Rattle.std.proofs.lemmas.List.Elements.{All-weaker}
 use Rattle.std.proofs.lemmas.List.Folds.{list_any_none}
@@ -12,7 +12,6 @@ use Rattle.hp_core.specs.Following.{failure_of}
 use Rattle.hp_core.specs.Mapped.{other_members}
 use Rattle.hp_core.specs.Rounds.{granted, what_in}
 use Rattle.hp_core.specs.declared.asked.Asked.{Asked}
-use Rattle.hp_core.specs.declared.asked.Asked.TheVariants as want
 use Rattle.hp_core.specs.declared.out.Out.{Out}
 use Rattle.hp_core.specs.declared.out.Out.TheVariants as out
 use Rattle.hp_core.specs.declared.phase.Phase.TheVariants.{Idle}
@@ -20,6 +19,7 @@ use Rattle.hp_core.specs.declared.phase.Round.{Round}
 use Rattle.hp_core.proofs.GivingLemmas.{primary_alone}
 use Rattle.hp_core.proofs.RoundLemmas.{grant_has_outcome, grant_of_round, growth_of, none_below}
 use Rattle.hp_frame.specs.declared.message.Body.{Body}
+use Rattle.hp_hall.specs.declared.mailbox.TheConstants.{MAILBOX_FRAMES}
 use Rattle.hp_segs.specs.LaterSteps.{noted_failure}
 use Rattle.hp_segs.specs.SegsView.{SegsView, is_member}
 use Rattle.hp_segs.specs.Steps.{after_grant}
@@ -29,7 +29,7 @@ use Rattle.hp_segs.specs.declared.outcome.Cause.{Cause}
 use Rattle.hp_segs.specs.declared.outcome.Outcome.TheVariants.{Granted}
 use Rattle.hp_proc.specs.Coordinating.{MustMap, with_room}
 use Rattle.hp_proc.specs.Party.{Party}
-use Rattle.hp_reasons.specs.Episode.{AreAnswersOrCopies, IsCopy, IsSetting, Setting, World, is_answer, is_sync, mail_of, number_of_party}
+use Rattle.hp_reasons.specs.Episode.{AreAnswersOrCopies, AreOthersEmpty, IsCopy, IsSetting, Setting, World, is_answer, is_sync, mail_of, number_of_party}
 use Rattle.hp_reasons.specs.Servings.{CarriesOut}
 use Rattle.hp_reasons.specs.Shared.{Shared}
 use Rattle.hp_reasons.specs.Stages.{ComesTo}
@@ -39,11 +39,7 @@ use Rattle.hp_reasons.proofs.StartingGrowing.{IsOpening, asked_mid, caught_segs,
 use Rattle.hp_reasons.proofs.StartingMaps.{HasMapped, comes_on, mapped_coordinator, mapped_follows}
 use Rattle.hp_reasons.proofs.StartingOutcomes.{WasSent, answered_behind, closed_behind, orderly_grant}
 use Rattle.hp_reasons.proofs.StartingResults.{IsEnding, ends_posted}
-
--- a copy of an ask is no SYNC
-copy_unsynced : (call : Asked) (body : Body) → IsCopy call body → is_sync body ≡ false
-copy_unsynced (want.Grow ask) body is = ap is_sync is
-copy_unsynced (want.Shrink from number) body is = ap is_sync is.3
+use Rattle.hp_reasons.proofs.CopiesBodies.{copy_is_no_sync}
 
 -- copies of an ask are answers or copies, and no SYNC is among them
 pub copies_or : (call : Asked) (bodies : List Body) → All (IsCopy call) bodies → AreAnswersOrCopies call bodies
@@ -51,7 +47,11 @@ copies_or call bodies copies = All-weaker (IsCopy call) (λ body. (is_answer bod
 
 pub copies_unsynced : (call : Asked) (bodies : List Body) → All (IsCopy call) bodies → list_any is_sync bodies ≡ false
 copies_unsynced call bodies copies =
-    list_any_none is_sync bodies (All-weaker (IsCopy call) (λ body. is_sync body ≡ false) (copy_unsynced call) bodies copies)
+    list_any_none is_sync bodies (All-weaker (IsCopy call) (λ body. is_sync body ≡ false) (copy_is_no_sync call) bodies copies)
+
+-- where nothing lies in the mailboxes of the others there is room in them
+pub others_room : (world : World) → AreOthersEmpty world → (who : ℕ) → who ≢ 0 → length (mail_of world who) < MAILBOX_FRAMES
+others_room world empty who other = omega (arith, ap length (empty who other))
 
 module _ (set : Setting) (call : Asked) (sent : ℕ) (round : Round) (world : World) (primary : Party) (setting : IsSetting set)
     (declared : asker call < set.count) (begun : IsOpening set call sent round world) (there : slice_get world.parties 0 ≡ Some primary) where
@@ -102,13 +102,15 @@ module _ (set : Setting) (call : Asked) (sent : ℕ) (round : Round) (world : Wo
           let roster_is : mid.segs.roster ≡ world.shared.segs.roster =
           ap (λ (segs : SegsView). segs.roster) segs_are ∙ ap (λ (segs : SegsView). segs.roster) done_segs in
           let growth_is : has.done.segs.growth ≡ None = ap (λ (segs : SegsView). segs.growth) done_segs in
+          let whole = whole_number set call sent round world primary setting begun there mid between next has none in
+          let has_all : (who : ℕ) → is_member mid.segs.roster who ≡ true → number_of_party at_mid who ≡ round.generation =
+          λ who member.
+          ap (number_of_party at_mid)
+          (primary_alone world.shared.segs.roster who alone (ap (λ (roster : List Bool). is_member roster who) (sym roster_is) ∙ member))
+          ∙ whole in
           let orderly : IsOrderly at_mid entry =
           orderly_grant at_mid growth.ask.from growth.ask.number (length segs.log) (Some growth.ask) growth.generation
-          (λ who member.
-          let first : who ≡ 0 =
-          primary_alone world.shared.segs.roster who alone (ap (λ (roster : List Bool). is_member roster who) (sym roster_is) ∙ member) in
-          let whole = whole_number set call sent round world primary setting begun there mid between next has none in
-          omega (arith, whole, of.generation, ap (number_of_party at_mid) first))
+          (λ who member. omega (arith, has_all who member, of.generation))
           (sent_so growth.ask.from growth.ask.number (length segs.log) (Some growth.ask) (Granted growth.generation) (of.from ∙ begun.from)
           (of.number ∙ begun.number)) in
           let follows = mapped_follows set world round mid primary between next begun.base there setting.some has
@@ -130,6 +132,11 @@ module _ (set : Setting) (call : Asked) (sent : ℕ) (round : Round) (world : Wo
             doubled = doubled_follows set world mid primary between there follows call false false begun.doubled;
             no_sync = none_syncs;
             answered = answered_behind call at_mid world.shared.segs.asks entry mid_asks (of.from ∙ begun.from) (of.number ∙ begun.number) refl;
+            level = record {
+              gone = ap (λ (segs : SegsView). segs.retiring) segs_are ∙ (ap (λ (segs : SegsView). segs.retiring) done_segs ∙ begun.gone);
+              level = λ nothing who member.
+                  has_all who member ∙ (begun.generation ∙ sym (ap (λ (segs : SegsView). length segs.log) (segs_are ∙ done_segs)));
+            };
           } in
           let outcome = grant_has_outcome round acks segs begun.opened (none_below segs.roster round.generation) in
           let answers_it : next ≡ out.Answer (asker call) round.number (what_in round.kind) (is_good outcome.0) =

@@ -1,8 +1,9 @@
 -- Where participant 0 is told to catch up for a growth that was opened: what is known behind that.
-use Rattle.std.proofs.Common.{◌≡◌, ℕ, ◌+◌, ◌<◌, ◌≤◌, true, false, length, Option, Some, None, is_some, inl, inr, refl, sym, ap, subst, ◌∙◌, arith}
+use Rattle.std.proofs.Common.{◌≡◌, ℕ, ◌+◌, ◌<◌, ◌≤◌, true, false, [], length, Option, Some, None, is_some, inl, inr, refl, sym, ap, subst, ◌∙◌, arith}
 use Rattle.std.specs.List.{All}
 use Rattle.std.specs.Option.{option_map}
 use Rattle.std.specs.Prelude.{slice_get, slice_index_or}
+use Rattle.std.proofs.lemmas.Option.{none-some}
 use Rattle.hp_core.specs.Asks.{asker, number_of}
 use Rattle.hp_core.specs.Core.{is_open_for}
 use Rattle.hp_core.specs.Following.{after_catching, failure_of}
@@ -43,6 +44,7 @@ pub record IsOpening (set : Setting) (call : Asked) (sent : ℕ) (round : Round)
   pub to_do : IsToDo call world
   pub clock : world.shared.clock ≡ sent
   pub generation : round.generation ≡ length world.shared.segs.log
+  pub gone : world.shared.segs.retiring ≡ []
   pub below : (member : ℕ) → number_of_party world member < round.generation
   pub copies : All (IsCopy call) (mail_of world 0)
   pub empty : AreOthersEmpty world
@@ -114,22 +116,16 @@ module _ (set : Setting) (call : Asked) (sent : ℕ) (round : Round) (world : Wo
       elim ends_how as (λ ends. number_of_party mid_world 0 ≡ round.generation) [
         | whole is number calls ↦ numbers ∙ (number ∙ sym begun.generation)
         | failed its_call fails later last undone number ↦
-            absurd (none_is (sym (ap (option_map (λ failure. failure.call)) none) ∙ fails))
+            absurd (none-some _ (sym (ap (option_map (λ failure. failure.call)) none) ∙ fails))
       ]
-    where
-      none_is : {n : ℕ} → None ≡ Some n → ⊥
-      none_is same = cc
 
   -- what is noted then is a failure of participant 0, by a call that it has made
   pub own_failure : (cause : Cause) → noted_failure caught_segs ≡ Some cause → IsOwnFailure 0 (calls_of has.table) cause
   own_failure cause is =
       elim (catching.noted cause is) [
-        | inl before ↦ absurd (none_is (sym begun.unfailed ∙ before))
+        | inl before ↦ absurd (none-some _ (sym begun.unfailed ∙ before))
         | inr own ↦ own
       ]
-    where
-      none_is : None ≡ Some cause → ⊥
-      none_is same = cc
 
   pub calls_made : (party : Party) → slice_get mid_world.parties 0 ≡ Some party → calls_of has.table ≤ calls_of party.maps
   calls_made party found =

@@ -1,6 +1,8 @@
 -- What participant 0 has come to once it has caught up for a round, or failed to.
-use Rattle.std.proofs.Common.{◌≡◌, ◌≢◌, ℕ, ◌<◌, ◌≤◌, Bool, true, ◌||◌, List, [], ◌∷◌, length, Some, refl, sym, ap, subst, ◌∙◌, arith}
+use Rattle.std.proofs.Common.{◌≡◌, ◌≢◌, ℕ, ◌<◌, ◌≤◌, Bool, List, [], ◌∷◌, length, Some, refl, sym, ap, subst, ◌∙◌, arith}
 use Rattle.std.specs.Prelude.{slice_get, slice_index_or, slice_set}
+use Rattle.std.proofs.lemmas.Option.{same_Some}
+use Rattle.std.proofs.lemmas.Bool.{or_left}
 use Rattle.hp_base.specs.Mapping.{is_done}
 use Rattle.hp_base.specs.declared.caught.Caught.{Caught}
 use Rattle.hp_base.specs.declared.caught.Caught.TheVariants as caught
@@ -117,9 +119,6 @@ pub record HasMapped (world : World) (round : Round) (mid : Shared) (primary bet
   pub sound : IsSound mid.segs
   pub armed : IsArmed mid.segs
 
-only_core : (one other : Core) → Some one ≡ Some other → one ≡ other
-only_core one other is = cc
-
 module _ (set : Setting) (world : World) (round : Round) (mid : Shared) (primary between : Party) (answer : Out) (base : IsBase set world)
     (there : slice_get world.parties 0 ≡ Some primary) (some : 0 < set.count) where
   pub has_mapped : (call : Asked) (holds : Bool) → HasCoordinator set world (Mapping round) call holds
@@ -130,7 +129,7 @@ module _ (set : Setting) (world : World) (round : Round) (mid : Shared) (primary
       let cores : Some maps.core ≡ Some coordinator.is.its =
       sym maps.there ∙ (ap (λ (party : Party). party.core) same ∙ coordinator.is.there) in
       let phase : maps.core.phase ≡ Mapping round =
-      ap (λ (core : Core). core.phase) (only_core maps.core coordinator.is.its cores) ∙ coordinator.is.phase_is in
+      ap (λ (core : Core). core.phase) (same_Some maps.core coordinator.is.its cores) ∙ coordinator.is.phase_is in
       let at = numbered 0 maps.caught world.shared in
       let step : stepping (SelfMapped maps.caught world.shared.clock) maps.core at.segs
       ≡ going_on maps.core (mapped round maps.caught world.shared.clock (with_room world.shared.segs)) =
@@ -152,9 +151,6 @@ module _ (set : Setting) (world : World) (round : Round) (mid : Shared) (primary
         sound = maps.steps.sound;
         armed = maps.steps.armed (subst IsArmed (sym up.segs) base.armed);
       }
-
-  or_true : (joined done : Bool) → joined ≡ true → (joined || done) ≡ true
-  or_true joined done is = ap (λ (b : Bool). b || done) is
 
   pub maps_after : (has : HasMapped world round mid primary between answer) → between.maps ≡ has.table
   maps_after has = ap (λ (party : Party). party.maps) has.after_is
@@ -199,7 +195,7 @@ module _ (set : Setting) (world : World) (round : Round) (mid : Shared) (primary
         on = mapped_on has;
         sent = ap (λ (party : Party). party.sent) has.after_is;
         joined = ap (λ (party : Party). party.joined) has.after_is
-            ∙ or_true primary.joined (is_done has.caught) (sym own.joined ∙ base.primary);
+            ∙ or_left primary.joined (is_done has.caught) (sym own.joined ∙ base.primary);
         number = ap (λ (maps : MapsView). maps.number) maps_are ∙ (up.number ∙ sym first);
         rises = omega (arith, first, up.rises);
         within = omega (arith, first, up.within, log_is, longer);
@@ -214,7 +210,7 @@ module _ (set : Setting) (world : World) (round : Round) (mid : Shared) (primary
   mapped_coordinator call holds phase has old is =
       let same : primary ≡ old.primary = cc (there, old.there) in
       let cores : Some has.core ≡ Some old.is.its = sym has.there ∙ (ap (λ (party : Party). party.core) same ∙ old.is.there) in
-      let core_is : has.core ≡ old.is.its = only_core has.core old.is.its cores in
+      let core_is : has.core ≡ old.is.its = same_Some has.core old.is.its cores in
       record {
         primary = between;
         there = set_found world.parties 0 primary between there;

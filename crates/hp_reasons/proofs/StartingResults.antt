@@ -1,6 +1,6 @@
 -- A RESULT that participant 0 posts ends its ask.
 use Rattle.std.proofs.Common.{◌≡◌, ◌⊎◌, ℕ, ◌<◌, ◌≤◌, Bool, true, false, ◌||◌, List, [], ◌++◌, length, replicate, count_by, Some, None, inl, inr, refl, sym, ap, subst, ◌∙◌, arith, nat_lt}
-use Rattle.std.proofs.lemmas.Bool.{and_from, cases_eq, lt-ltb}
+use Rattle.std.proofs.lemmas.Bool.{and_from, cases_eq, false≢true, lt-ltb}
 use Rattle.std.proofs.lemmas.List.Elements.{All-append, All-replicate}
 use Rattle.std.proofs.lemmas.List.Folds.{list_any-append, list_any_none}
 use Rattle.std.specs.List.{All, list_any}
@@ -21,7 +21,7 @@ use Rattle.hp_segs.specs.SegsView.{grants_or_refuses}
 use Rattle.hp_proc.specs.Frames.{Says}
 use Rattle.hp_proc.specs.Party.{Party, one_more}
 use Rattle.hp_proc.specs.Posting.{after_answer, is_asker, result_body, times_sent}
-use Rattle.hp_reasons.specs.Episode.{AreAnswersOrCopies, AreDoubled, HasCoordinator, IsAnsweredFor, IsBase, IsClosed, IsCopy, Setting, World, is_answer, is_call, is_sync, mail_of}
+use Rattle.hp_reasons.specs.Episode.{AreAnswersOrCopies, AreDoubled, EndsLevel, HasCoordinator, IsAnsweredFor, IsBase, IsClosed, IsCopy, Setting, World, is_answer, is_call, is_sync, mail_of}
 use Rattle.hp_reasons.specs.Episode.Stage.{over}
 use Rattle.hp_reasons.specs.Servings.{PostsFor, answers, nobody, nothing, syncs}
 use Rattle.hp_reasons.specs.Shared.{Shared, posted_to}
@@ -55,9 +55,6 @@ pub answered_same : (call : Asked) (old new : World) → new.shared.segs.asks �
 answered_same (want.Grow ask) old new same is = ap (list_any (grants_or_refuses ask.from ask.number)) same ∙ is
 answered_same (want.Shrink from number) old new same is = is
 
-true_apart : false ≡ true → ⊥
-true_apart same = cc
-
 -- the ask is closed, nothing is under way, and no SYNC lies in a mailbox
 pub record IsEnding (set : Setting) (call : Asked) (holds : Bool) (world : World) : Type 0 where
   pub base : IsBase set world
@@ -68,6 +65,7 @@ pub record IsEnding (set : Setting) (call : Asked) (holds : Bool) (world : World
   pub doubled : AreDoubled set world call holds false
   pub no_sync : (member : ℕ) → list_any is_sync (mail_of world member) ≡ false
   pub answered : IsAnsweredFor call world
+  pub level : EndsLevel set world
 
 module _ (set : Setting) (call : Asked) (sent : ℕ) (leads : Bool) (holds : Bool) (world : World) (primary : Party)
     (ends : IsEnding set call holds world) (there : slice_get world.parties 0 ≡ Some primary) (few : set.count ≤ 16)
@@ -133,7 +131,7 @@ module _ (set : Setting) (call : Asked) (sent : ℕ) (leads : Bool) (holds : Boo
             ends.doubled)
             (grows (λ who bodies. list_any is_sync bodies ≡ false) ends.no_sync
             (λ who. none_came (mail_of world who) (copies posted) body is_sync (ends.no_sync who) refl))
-            (answered_same call world new refl ends.answered);
+            (answered_same call world new refl ends.answered) (record { gone = ends.level.gone; level = ends.level.level });
       }
 
   answers_by : (new : Shared) (after : Party) (to number what : ℕ) (good : Bool) (frame : Frame) → to ≡ asker call
@@ -171,8 +169,8 @@ module _ (set : Setting) (call : Asked) (sent : ℕ) (leads : Bool) (holds : Boo
 
   posted_by : (new : Shared) (after : Party) (answer : Out) → is_an_answer answer ≡ true → its_asker answer ≡ asker call
       → PostsFor set.count world.shared new primary after answer → ComesTo set call sent leads world 0 new after
-  posted_by new after _ answers_it to_is (nothing same stays) = absurd (true_apart answers_it)
-  posted_by new after _ answers_it to_is (syncs generation round members frame says to shared) = absurd (true_apart answers_it)
+  posted_by new after _ answers_it to_is (nothing same stays) = absurd (false≢true answers_it)
+  posted_by new after _ answers_it to_is (syncs generation round members frame says to shared) = absurd (false≢true answers_it)
   posted_by new after _ answers_it to_is (answers to number what good frame asks says new_is after_is) =
       answers_by new after to number what good frame to_is says new_is after_is
   posted_by new after _ answers_it to_is (nobody to number what good not_asker same stays) = absurd (asks_for to to_is not_asker)

@@ -1,18 +1,12 @@
 -- From where participant 0 is told to catch up for a rollback or a drop: its ask is over, or the round waits for its members.
-use Rattle.std.proofs.Common.{◌≡◌, ◌≢◌, ◌⊎◌, ℕ, ◌+◌, ◌<◌, ◌≤◌, ◌==◌, Bool, true, false, List, [], length, count_by, Option, Some, None, inl, inr, refl, sym, ap, subst, ◌∙◌, arith, if◌then◌else◌}
-use Rattle.std.proofs.lemmas.Bool.{cases_Bool, eqb-true}
+use Rattle.std.proofs.Common.{◌≡◌, ◌≢◌, ◌⊎◌, ℕ, ◌+◌, ◌<◌, ◌≤◌, Bool, true, false, List, [], length, count_by, Option, Some, None, inl, inr, refl, sym, ap, subst, ◌∙◌, arith}
+use Rattle.std.proofs.lemmas.Bool.{cases_Bool, cases_eq}
 use Rattle.std.specs.List.{All, list_any}
 use Rattle.std.specs.Option.{option_and_then}
 use Rattle.std.specs.Prelude.{slice_get, slice_index_or}
-use Rattle.hp_base.specs.declared.caught.Caught.{Caught}
-use Rattle.hp_base.specs.declared.caught.Caught.TheVariants as caught
-use Rattle.hp_base.specs.declared.map_answer.MapAnswer.{MapAnswer}
-use Rattle.hp_base.specs.declared.map_answer.MapAnswer.TheVariants as answer
-use Rattle.hp_base.specs.declared.row.Row.{Row}
 use Rattle.hp_core.specs.Asks.{answer_by, asker, is_good, number_of}
 use Rattle.hp_core.specs.Core.{Done, is_growth}
-use Rattle.hp_core.specs.Following.{after_catching, noted}
-use Rattle.hp_core.specs.Mapped.{alone_by, drop_alone, mapped, other_members, sync_number, synced, told}
+use Rattle.hp_core.specs.Mapped.{other_members, sync_number, synced}
 use Rattle.hp_core.specs.Rounds.{ended, what_in}
 use Rattle.hp_core.specs.declared.asked.Asked.{Asked}
 use Rattle.hp_core.specs.declared.out.Out.{Out}
@@ -20,35 +14,37 @@ use Rattle.hp_core.specs.declared.out.Out.TheVariants as out
 use Rattle.hp_core.specs.declared.phase.Phase.{Phase}
 use Rattle.hp_core.specs.declared.phase.Phase.TheVariants.{Idle, Mapping, Waiting}
 use Rattle.hp_core.specs.declared.phase.Round.{Round}
-use Rattle.hp_core.specs.declared.phase.RoundKind.{RoundKind}
-use Rattle.hp_core.specs.declared.phase.RoundKind.TheVariants as kind
 use Rattle.hp_core.proofs.GivingLemmas.{primary_alone}
 use Rattle.hp_frame.specs.declared.frame.Frame.{Frame}
 use Rattle.hp_frame.specs.declared.message.Body.TheVariants.{Sync}
-use Rattle.hp_segs.specs.LaterSteps.{is_failure, is_noted, noted_failure, noting}
+use Rattle.hp_hall.specs.declared.mailbox.TheConstants.{MAILBOX_FRAMES}
+use Rattle.hp_segs.specs.LaterSteps.{noted_failure}
 use Rattle.hp_segs.specs.SegsView.{SegsView, closed_number, is_member, outcome_of}
 use Rattle.hp_segs.specs.declared.growth.Growth.{Growth}
 use Rattle.hp_segs.specs.declared.outcome.AskLog.{AskLog}
 use Rattle.hp_segs.specs.declared.outcome.Cause.{Cause}
-use Rattle.hp_segs.specs.declared.outcome.Cause.TheVariants.{MapFailed}
 use Rattle.hp_segs.specs.declared.outcome.Outcome.{Outcome}
 use Rattle.hp_proc.specs.Coordinating.{MustMap, with_room}
 use Rattle.hp_proc.specs.Frames.{Says}
 use Rattle.hp_proc.specs.Party.{Party}
+use Rattle.hp_reasons.specs.Counting.{LosesNothing}
 use Rattle.hp_reasons.specs.Episode.{AreAnswersOrCopies, AreDoubled, HasCoordinator, IsAnsweredFor, IsBase, IsClosed, IsCopy, IsSetting, IsUnanswered, Setting, World, is_call, is_result_of, is_sync, mail_of, number_of_party}
 use Rattle.hp_reasons.specs.Servings.{CarriesOut}
 use Rattle.hp_reasons.specs.Shared.{Shared, with_boxes}
 use Rattle.hp_reasons.specs.Episode.Stage.{settling}
 use Rattle.hp_reasons.proofs.Said.{set_found}
 use Rattle.hp_reasons.specs.Stages.{ComesTo, world_with}
+use Rattle.hp_reasons.proofs.StartingLevel.{all_taken_in}
 use Rattle.hp_reasons.proofs.StartingMaps.{HasMapped, comes_on, has_mapped, mapped_coordinator, mapped_follows}
 use Rattle.hp_reasons.proofs.StartingBase.{Follows, base_follows, stays}
 use Rattle.hp_reasons.proofs.StartingAlong.{carries_maps, carries_posts, doubled_follows, posts_syncs, unanswered_follows}
 use Rattle.hp_reasons.proofs.StartingPosts.{base_behind, behind, coordinates_behind, doubled_behind, unanswered_behind}
 use Rattle.hp_reasons.proofs.StartingResults.{IsEnding, answered_same, ends_posted}
-use Rattle.hp_reasons.proofs.StartingSyncs.{first_unsynced, none_synced, synced_is, synced_party, syncs_mailed, syncs_posted, syncs_said}
+use Rattle.hp_reasons.proofs.StartingSyncs.{first_unsynced, member_follows, none_synced, synced_is, synced_party, syncs_mailed, syncs_posted, syncs_said}
+use Rattle.hp_reasons.proofs.StartingDrops.{ends, mapped_settles, waits}
 
--- participant 0 is told to catch up for a rollback or a drop of an ask, which is closed; where a SYNC lies in a mailbox, it is a member's
+-- participant 0 is told to catch up for a rollback or a drop of an ask, which is closed, and for all records that there are; where a SYNC
+-- lies in a mailbox, it is a member's, and there is room in each mailbox but participant 0's
 pub record IsSettling (set : Setting) (call : Asked) (sent : ℕ) (holds : Bool) (round : Round) (world : World) : Type 0 where
   pub base : IsBase set world
   pub coordinator : HasCoordinator set world (Mapping round) call holds
@@ -60,7 +56,8 @@ pub record IsSettling (set : Setting) (call : Asked) (sent : ℕ) (holds : Bool)
   pub closed : IsClosed call world
   pub answered : IsAnsweredFor call world
   pub early : world.shared.clock ≤ sent + set.deadline
-  pub generation : round.generation ≤ length world.shared.segs.log
+  pub generation : round.generation ≡ length world.shared.segs.log
+  pub gone : world.shared.segs.retiring ≡ []
   pub outcome : Outcome
   pub found : outcome_of world.shared.segs.asks round.from round.number ≡ Some outcome
   pub copies : AreAnswersOrCopies call (mail_of world 0)
@@ -69,44 +66,7 @@ pub record IsSettling (set : Setting) (call : Asked) (sent : ℕ) (holds : Bool)
       → (member ≢ 0) × (is_member world.shared.segs.roster member ≡ true)
   pub unsettled : (member : ℕ) → member ≢ 0 → is_member world.shared.segs.roster member ≡ true
       → (number_of_party world member < round.generation) ⊎ All (IsCopy call) (mail_of world 0)
-
--- WHAT THE COORDINATOR MAKES OF IT
-
-elsewhere_none : (segs : SegsView) (row : Row) (call : ℕ) (got : MapAnswer) → segs.growth ≡ None → (fails : Bool)
-    → noted 0 segs (if fails then Some (record { row = row; call = call; got = got }) else None) ≡ segs
-elsewhere_none segs row call got alone true =
-    ap (λ (growth : Option Growth).
-    if is_noted segs 0 call row growth then record segs { growth = noting (MapFailed 0 call row.addr got) segs.growth } else segs) alone
-elsewhere_none segs row call got alone false = refl
-
--- without an open growth nothing is noted
-pub catching_none : (segs : SegsView) (ended : Caught) → segs.growth ≡ None → after_catching 0 ended segs ≡ segs
-catching_none segs caught.Done alone = refl
-catching_none segs (caught.Refused row call) alone = elsewhere_none segs row call answer.Refused alone true
-catching_none segs (caught.Elsewhere row call got) alone = elsewhere_none segs row call got alone (is_failure row got)
-
--- the round is over at once, or its SYNC goes out
-pub data Settles (round : Round) (now : ℕ) (segs : SegsView) (done : Done) : Type 0 where
-  ends : other_members segs ≡ 0 → done ≡ ended round segs → Settles round now segs done
-  waits : done ≡ synced round now (other_members segs) segs → Settles round now segs done
-
-module _ (round : Round) (ended_as : Caught) (now : ℕ) (segs : SegsView) (outcome : Outcome)
-    (found : outcome_of segs.asks round.from round.number ≡ Some outcome) where
-  alone_settles : (which : RoundKind) → is_growth which ≡ false → alone_by round ended_as now segs which ≡ ended round segs
-  alone_settles kind.Growth other = cc
-  alone_settles kind.Rollback other = ap (drop_alone round now segs) found
-  alone_settles kind.Drop other = ap (drop_alone round now segs) found
-
-  told_settles : (alone : Bool) → (other_members segs == 0) ≡ alone → is_growth round.kind ≡ false
-      → Settles round now segs
-      (if alone then alone_by round ended_as now segs round.kind else synced round now (other_members segs) segs)
-  told_settles true none other = ends (eqb-true (other_members segs) 0 none) (alone_settles round.kind other)
-  told_settles false some other = waits refl
-
-  pub mapped_settles : segs.growth ≡ None → is_growth round.kind ≡ false → Settles round now segs (mapped round ended_as now segs)
-  mapped_settles alone other =
-      subst (λ (after : SegsView). Settles round now segs (told round ended_as now after)) (sym (catching_none segs ended_as alone))
-      (told_settles (other_members segs == 0) refl other)
+  pub room : (who : ℕ) → who ≢ 0 → length (mail_of world who) < MAILBOX_FRAMES
 
 module _ (set : Setting) (call : Asked) (sent : ℕ) (holds : Bool) (round : Round) (world : World) (primary : Party) (setting : IsSetting set)
     (declared : asker call < set.count) (begun : IsSettling set call sent holds round world)
@@ -158,6 +118,19 @@ module _ (set : Setting) (call : Asked) (sent : ℕ) (holds : Bool) (round : Rou
     doubled_mid : AreDoubled set at_mid call holds false
     doubled_mid = doubled_follows set world mid primary between there follows call holds false begun.doubled
 
+    gone_mid : mid.segs.retiring ≡ []
+    gone_mid = ap (λ (segs : SegsView). segs.retiring) segs_are ∙ begun.gone
+
+    log_is : length mid.segs.log ≡ length world.shared.segs.log
+    log_is = ap (λ (segs : SegsView). length segs.log) segs_are
+
+    -- participant 0 has taken in all records
+    own_level : number_of_party at_mid 0 ≡ length mid.segs.log
+    own_level = all_taken_in set world round mid primary between next begun.base there setting.some begun.alone has ∙ sym log_is
+
+    member_mid : (who : ℕ) → is_member mid.segs.roster who ≡ true → is_member world.shared.segs.roster who ≡ true
+    member_mid who is = ap (λ (roster : List Bool). is_member roster who) (sym follows.roster) ∙ is
+
     ending : other_members world.shared.segs ≡ 0 → has.done.next.phase ≡ Idle → IsEnding set call holds at_mid
     ending none phase = record {
       base = base_mid;
@@ -174,6 +147,12 @@ module _ (set : Setting) (call : Asked) (sent : ℕ) (holds : Bool) (round : Rou
             | inr isnt ↦ isnt
           ];
       answered = answered_mid;
+      level = record {
+        gone = gone_mid;
+        level = λ nothing who member.
+            let first = primary_alone world.shared.segs.roster who none (member_mid who member) in
+            ap (number_of_party at_mid) first ∙ own_level;
+      };
     }
 
     -- the ask is answered
@@ -202,7 +181,22 @@ module _ (set : Setting) (call : Asked) (sent : ℕ) (holds : Bool) (round : Rou
       its_member member is =
           elim (synced_is set at_mid between base_mid there_mid setting members are round.generation (sync_number round.kind) frame says member is) [
             | inl before ↦ begun.earlier member before
-            | inr its ↦ (its.0, ap (λ (roster : List Bool). is_member roster member) (sym follows.roster) ∙ its.1)
+            | inr its ↦ (its.0, member_mid member its.1)
+          ]
+
+      -- where no message is lost each member follows
+      follows_so : LosesNothing set.plan → (member : ℕ) → is_member mid.segs.roster member ≡ true
+          → (list_any is_sync
+          (slice_index_or
+          (syncs_said set at_mid between base_mid there_mid setting members are round.generation
+          (sync_number round.kind) frame says).later member []) ≡ true)
+          ⊎ (round.generation ≤ number_of_party at_mid member)
+      follows_so nothing member is =
+          elim (cases_eq member 0) [
+            | inl first ↦ inr (omega (arith, begun.generation, log_is, own_level, ap (number_of_party at_mid) first))
+            | inr other ↦
+                inl (member_follows set at_mid between base_mid there_mid setting members are round.generation
+                (sync_number round.kind) frame says nothing member other is (begun.room member other))
           ]
 
       -- the SYNCs are posted
@@ -242,7 +236,9 @@ module _ (set : Setting) (call : Asked) (sent : ℕ) (holds : Bool) (round : Rou
                     | inr copies ↦ inr (subst (All (IsCopy call)) (sym first) copies)
                   ];
                 })
-                (answered_same call at_mid (behind set at_mid said.boxes said.later between party base_mid there_mid posted mailed) refl answered_mid);
+                (answered_same call at_mid (behind set at_mid said.boxes said.later between party base_mid there_mid posted mailed) refl
+                answered_mid)
+                (record { gone = gone_mid; whole = begun.generation ∙ sym log_is; follows = follows_so });
           }
 
     -- the round waits for its members

@@ -1,64 +1,37 @@
 -- What the SYNCs of a round make of a world: each other member has its SYNC in its mailbox, or it was lost.
-use Rattle.std.proofs.Common.{◌≡◌, ◌≢◌, ◌⊎◌, ℕ, zero, suc, ◌+◌, ◌-◌, ◌^◌, ◌<◌, ◌≤◌, Bool, true, false, List, [], ◌∷◌, ◌++◌, length, replicate, Some, inl, inr, refl, sym, ap, subst, ◌∙◌, arith, nat_lt, if◌then◌else◌}
-use Rattle.std.proofs.lemmas.Bool.{and_from, and_parts, cases_Bool, cases_eq, cases_lt, lt-ltb}
-use Rattle.std.specs.List.{All, list_any}
+use Rattle.std.proofs.Common.{◌≡◌, ◌≢◌, ◌⊎◌, ℕ, zero, suc, ◌<◌, ◌≤◌, Bool, true, false, List, [], ◌++◌, length, replicate, Some, inl, inr, refl, sym, ap, subst, ◌∙◌, arith, nat_lt}
+use Rattle.std.proofs.lemmas.Bool.{and_from, and_parts, cases_Bool, cases_eq, lt-ltb, or_right}
+use Rattle.std.proofs.lemmas.List.{length-replicate}
+use Rattle.std.proofs.lemmas.List.Folds.{list_any-append}
+use Rattle.std.specs.List.{list_any}
 use Rattle.std.specs.Prelude.{slice_get, slice_index_or, slice_set}
 use Rattle.hp_base.specs.Plans.{action_of}
-use Rattle.hp_base.specs.declared.limits.TheConstants.{MAX_COUNT}
-use Rattle.hp_base.specs.declared.plan_entry.MsgKind.{MsgKind}
 use Rattle.hp_base.specs.declared.plan_entry.MsgKind.TheVariants as message
 use Rattle.hp_base.specs.declared.plan_entry.PlanEntry.{PlanEntry}
 use Rattle.hp_core.specs.Mapped.{other_members}
 use Rattle.hp_frame.specs.declared.frame.Frame.{Frame}
 use Rattle.hp_frame.specs.declared.message.Body.{Body}
 use Rattle.hp_frame.specs.declared.message.Body.TheVariants.{Sync}
-use Rattle.hp_hall.specs.Mail.{box_of}
+use Rattle.hp_hall.specs.Mail.{box_of, posted_as}
+use Rattle.hp_hall.specs.declared.mailbox.TheConstants.{MAILBOX_FRAMES}
 use Rattle.hp_heap.specs.Choice.{has_bit}
 use Rattle.hp_segs.proofs.QueryLemmas.{get_within}
 use Rattle.hp_segs.specs.SegsView.{is_member}
 use Rattle.hp_proc.specs.Frames.{Says}
 use Rattle.hp_proc.specs.Party.{Party, one_more}
 use Rattle.hp_proc.specs.Posting.{after_syncs, is_told, syncs_after, times_sent}
-use Rattle.hp_reasons.specs.Counting.{is_lost, lost_among}
-use Rattle.hp_reasons.specs.Episode.{AreSaid, IsBase, IsCounted, IsSetting, Setting, World, is_sync, mail_of}
+use Rattle.hp_reasons.specs.Counting.{LosesNothing, is_lost, lost_among}
+use Rattle.hp_reasons.specs.Episode.{IsBase, IsSetting, Setting, World, is_sync, mail_of}
 use Rattle.hp_reasons.specs.Outcomes.{late_outcomes}
 use Rattle.hp_reasons.specs.Servings.{synced}
-use Rattle.hp_reasons.proofs.LostCounts.{beyond_entries, lost_next, lost_rises}
+use Rattle.hp_reasons.proofs.LostCounts.{lost_rises, one_lost}
+use Rattle.hp_reasons.proofs.NothingLost.{not_lost}
 use Rattle.hp_reasons.proofs.RosterBits.{has_bit-roster}
-use Rattle.hp_reasons.proofs.Said.{comes_in, index_unset}
+use Rattle.hp_reasons.proofs.Said.{comes_in, index_unset, said_long}
 use Rattle.hp_reasons.proofs.StartingPosts.{AreMailed, HasPosted}
 use Rattle.hp_reasons.proofs.StartingResults.{none_came}
 use Rattle.hp_reasons.proofs.Synced.{AreSynced, IsOneTold, are_synced, sync_action, sync_copies, syncs_long, syncs_to_others, syncs_to_told}
-
--- WHAT IS LOST
-
--- one more was lost, where the plan loses the next message
-pub one_lost : (plan : List PlanEntry) (kind : MsgKind) (party n : ℕ) → All IsCounted plan
-    → is_lost (action_of plan kind party (one_more n)) ≡ true → lost_among plan kind party n + 1 ≤ lost_among plan kind party (one_more n)
-one_lost plan kind party n counted is =
-    elim (cases_lt n (2 ^ 64 - 1)) [
-      | inl before ↦
-          (let next : one_more n ≡ suc n = omega (arith, before) in
-          let more : lost_among plan kind party (suc n) ≡ lost_among plan kind party n + 1 =
-          lost_next plan kind party n
-          ∙ ap (λ (b : Bool). lost_among plan kind party n + (if b then 1 else 0))
-          (ap (λ (k : ℕ). is_lost (action_of plan kind party k)) (sym next) ∙ is) in
-          omega (arith, more, ap (lost_among plan kind party) next))
-      | inr past ↦
-          absurd (kept (ap is_lost (sym (beyond_entries plan kind party (one_more n) counted (beyond n past))) ∙ is))
-    ]
-  where
-    kept : false ≡ true → ⊥
-    kept same = cc
-
-    beyond : (n : ℕ) → 2 ^ 64 - 1 ≤ n → MAX_COUNT < one_more n
-    beyond n past = omega (arith, past)
-
--- who says nothing has an empty mailbox
-said_nothing : (frames : List Frame) (bodies : List Body) → AreSaid frames bodies → bodies ≡ [] → frames ≡ []
-said_nothing [] bodies said none = refl
-said_nothing (frame ∷ frames) [] said none = absurd said
-said_nothing (frame ∷ frames) (body ∷ bodies) said none = cc
+use Rattle.hp_reasons.proofs.AsksWeights.{two_copies}
 
 -- a SYNC is among so many, where they are some
 any_synced : (n generation round : ℕ) → 1 ≤ n → list_any is_sync (replicate n (Sync generation round)) ≡ true
@@ -182,32 +155,62 @@ module _ (set : Setting) (world : World) (primary : Party) (base : IsBase set wo
           | inr isnt ↦ ap (list_any p) (syncs_said.passes who isnt).0 ∙ before
         ]
 
-    got_or_lost : (who : ℕ) → IsOneTold told 15 who → mail_of world who ≡ [] → (lost : Bool) → is_lost (sync_action primary who) ≡ lost
+    within_mail : (who : ℕ) → IsOneTold told 15 who → who < length world.mail
+    within_mail who one = omega (arith, base.mail, base.declared who (told_member who one).1)
+
+    got_or_lost : (who : ℕ) → IsOneTold told 15 who → length (mail_of world who) < MAILBOX_FRAMES → (lost : Bool)
+        → is_lost (sync_action primary who) ≡ lost
         → (list_any is_sync (slice_index_or syncs_said.later who []) ≡ true)
         ⊎ (late_outcomes who world.shared.segs.asks < lost_among set.plan message.Sync who (times_sent synced_party.sent.syncs who))
-    got_or_lost who one empty false kept =
-        let within : who < length world.mail = omega (arith, base.mail, base.declared who (told_member who one).1) in
-        let box : box_of world.shared.boxes who ≡ [] = said_nothing (box_of world.shared.boxes who) (mail_of world who) (base.said who) empty in
-        let room : length (box_of world.shared.boxes who) ≡ 0 = ap length box in
+    got_or_lost who one room false kept =
+        let long = said_long (box_of world.shared.boxes who) (mail_of world who) (base.said who) in
+        let more = replicate (sync_copies primary world.shared.boxes who) (Sync generation round) in
         let some : 1 ≤ sync_copies primary world.shared.boxes who =
-        comes_in (sync_action primary who) (length (box_of world.shared.boxes who)) kept (omega (arith, room)) in
-        inl (ap (list_any is_sync) (syncs_said.tells who one within
-        ∙ ap (λ (bodies : List Body). bodies ++ replicate (sync_copies primary world.shared.boxes who) (Sync generation round)) empty)
-        ∙ any_synced (sync_copies primary world.shared.boxes who) generation round some)
-    got_or_lost who one empty true gone =
+        comes_in (sync_action primary who) (length (box_of world.shared.boxes who)) kept (omega (arith, room, long)) in
+        inl (ap (list_any is_sync) (syncs_said.tells who one (within_mail who one))
+        ∙ (list_any-append is_sync (mail_of world who) more
+        ∙ or_right (list_any is_sync (mail_of world who)) (list_any is_sync more)
+        (any_synced (sync_copies primary world.shared.boxes who) generation round some)))
+    got_or_lost who one room true gone =
         let sent = times_sent primary.sent.syncs who in
         let next : is_lost (action_of set.plan message.Sync who (one_more sent)) ≡ true =
         ap (λ (plan : List PlanEntry). is_lost (action_of plan message.Sync who (one_more sent))) (sym own_plan) ∙ gone in
-        let more = one_lost set.plan message.Sync who sent setting.counted next in
+        let more = one_lost set.plan message.Sync who setting.counted sent next in
         let now : times_sent synced_party.sent.syncs who ≡ one_more sent =
         syncs_to_told told primary.sent.syncs 15 who one (sent_within who one) in
         let late = late_so_far who (told_member who one).1 in
         inr (subst (λ (n : ℕ). late_outcomes who world.shared.segs.asks < lost_among set.plan message.Sync who n) (sym now)
         (omega (arith, late, more)))
 
-    -- each other member whose mailbox was empty has a SYNC there, or it was lost
-    pub member_synced : (who : ℕ) → who ≢ 0 → is_member world.shared.segs.roster who ≡ true → mail_of world who ≡ []
+    -- each other member in whose mailbox there was room has a SYNC there, or it was lost
+    pub member_synced : (who : ℕ) → who ≢ 0 → is_member world.shared.segs.roster who ≡ true → length (mail_of world who) < MAILBOX_FRAMES
         → (list_any is_sync (slice_index_or syncs_said.later who []) ≡ true)
         ⊎ (late_outcomes who world.shared.segs.asks < lost_among set.plan message.Sync who (times_sent synced_party.sent.syncs who))
-    member_synced who other is empty =
-        got_or_lost who (member_told who other is) empty (is_lost (sync_action primary who)) refl
+    member_synced who other is room =
+        got_or_lost who (member_told who other is) room (is_lost (sync_action primary who)) refl
+
+    -- where no message is lost it has one
+    pub member_follows : LosesNothing set.plan → (who : ℕ) → who ≢ 0 → is_member world.shared.segs.roster who ≡ true
+        → length (mail_of world who) < MAILBOX_FRAMES → list_any is_sync (slice_index_or syncs_said.later who []) ≡ true
+    member_follows nothing who other is room =
+        elim (member_synced who other is room) [
+          | inl told ↦ told
+          | inr lost ↦
+              absurd (not_lost set.plan message.Sync who (times_sent synced_party.sent.syncs who) (late_outcomes who world.shared.segs.asks)
+              nothing lost)
+        ]
+
+    -- there is still room where a mailbox was empty
+    pub room_left : (who : ℕ) → mail_of world who ≡ [] → length (slice_index_or syncs_said.later who []) < MAILBOX_FRAMES
+    room_left who empty =
+        elim (told_or_not who) [
+          | inl one ↦
+              (let n = sync_copies primary world.shared.boxes who in
+              let few : n ≤ 2 = two_copies (posted_as (sync_action primary who) (length (box_of world.shared.boxes who))) in
+              let long : length (slice_index_or syncs_said.later who []) ≡ n =
+              ap length (syncs_said.tells who one (within_mail who one)
+              ∙ ap (λ (bodies : List Body). bodies ++ replicate n (Sync generation round)) empty)
+              ∙ length-replicate n (Sync generation round) in
+              omega (arith, few, long))
+          | inr isnt ↦ omega (arith, ap length ((syncs_said.passes who isnt).0 ∙ empty))
+        ]

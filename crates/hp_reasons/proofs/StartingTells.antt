@@ -1,5 +1,5 @@
 -- A growth that was opened while other members are there: it waits for them, and each has its SYNC in its mailbox, or it was lost.
-use Rattle.std.proofs.Common.{◌≡◌, ◌⊎◌, ℕ, ◌<◌, ◌≤◌, true, false, length, count_by, Some, None, is_some, inl, inr, refl, sym, ap, subst, ◌∙◌, arith}
+use Rattle.std.proofs.Common.{◌≡◌, ◌⊎◌, ℕ, ◌<◌, ◌≤◌, true, false, [], length, count_by, Some, None, is_some, inl, inr, refl, sym, ap, subst, ◌∙◌, arith}
 use Rattle.std.proofs.lemmas.Bool.{cases_eq}
 use Rattle.std.specs.Prelude.{slice_get}
 use Rattle.hp_core.specs.Asks.{asker}
@@ -25,12 +25,12 @@ use Rattle.hp_reasons.specs.Shared.{Shared, with_boxes}
 use Rattle.hp_reasons.specs.Stages.{ComesTo}
 use Rattle.hp_reasons.proofs.StartingAlong.{carries_posts, doubled_follows, posts_syncs, unanswered_follows}
 use Rattle.hp_reasons.proofs.StartingBase.{Follows, base_follows, stays}
-use Rattle.hp_reasons.proofs.StartingGrants.{copies_or, none_syncs}
+use Rattle.hp_reasons.proofs.StartingGrants.{copies_or, none_syncs, others_room}
 use Rattle.hp_reasons.proofs.StartingGrowing.{IsOpening, catching, caught_segs, mid_found, mid_world, noted_call, open_still, whole_number}
 use Rattle.hp_reasons.proofs.StartingMaps.{HasMapped, comes_on, mapped_coordinator, mapped_follows}
 use Rattle.hp_reasons.proofs.StartingOutcomes.{to_do_same}
 use Rattle.hp_reasons.proofs.StartingPosts.{base_behind, behind, coordinates_behind, doubled_behind, found_behind, unanswered_behind}
-use Rattle.hp_reasons.proofs.StartingSyncs.{first_unsynced, member_synced, none_synced, synced_is, synced_party, syncs_mailed, syncs_posted, syncs_said}
+use Rattle.hp_reasons.proofs.StartingSyncs.{first_unsynced, member_synced, none_synced, room_left, synced_is, synced_party, syncs_mailed, syncs_posted, syncs_said}
 
 module _ (set : Setting) (call : Asked) (sent : ℕ) (round : Round) (world : World) (primary : Party) (setting : IsSetting set)
     (declared : asker call < set.count) (begun : IsOpening set call sent round world) (there : slice_get world.parties 0 ≡ Some primary)
@@ -78,6 +78,11 @@ module _ (set : Setting) (call : Asked) (sent : ℕ) (round : Round) (world : Wo
     open_mid =
         ap (λ (segs : SegsView). is_open_for round segs.growth) mid_segs
         ∙ open_still set call sent round world primary setting begun there mid between next has
+
+    gone_mid : mid.segs.retiring ≡ []
+    gone_mid =
+        let noting = catching set call sent round world primary setting begun there mid between next has in
+        ap (λ (segs : SegsView). segs.retiring) mid_segs ∙ (noting.retiring ∙ begun.gone)
 
     -- participant 0 has acknowledged the growth, or its failure is noted
     own_way : (round.generation ≤ number_of_party at_mid 0) ⊎ (is_some (noted_failure mid.segs) ≡ true)
@@ -128,7 +133,7 @@ module _ (set : Setting) (call : Asked) (sent : ℕ) (round : Round) (world : Wo
                       ]
                   | inr other ↦
                       elim (member_synced set at_mid between base_mid there_mid setting members are round.generation (sync_number round.kind) frame says
-                      member other is_in (begun.empty member other)) [
+                      member other is_in (others_room world begun.empty member other)) [
                         | inl told ↦ FollowsGrowth.told (follows.clock ∙ begun.clock) told
                         | inr lost ↦ FollowsGrowth.lost party there_behind lost
                       ]
@@ -141,7 +146,13 @@ module _ (set : Setting) (call : Asked) (sent : ℕ) (round : Round) (world : Wo
                         is_member = its.1;
                         below = omega (arith, follows.others member its.0, begun.below member);
                       }
-                ]);
+                ])
+                (record {
+                  gone = gone_mid;
+                  room = λ who other.
+                      room_left set at_mid between base_mid there_mid setting members are round.generation
+                      (sync_number round.kind) frame says who (begun.empty who other);
+                });
           }
         where
           never : true ≡ false → ⊥

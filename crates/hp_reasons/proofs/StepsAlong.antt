@@ -3,7 +3,7 @@ use Rattle.std.proofs.Common.{◌≡◌, ◌≢◌, ◌∙◌, ℕ, ◌<◌, ◌
 use Rattle.std.specs.Prelude.{⊤, slice_get, slice_index_or, slice_set}
 use Rattle.std.specs.List.{AllByRecursion}
 use Rattle.std.proofs.lemmas.Bool.{cases_eq}
-use Rattle.std.proofs.lemmas.Option.{slice_get_within}
+use Rattle.std.proofs.lemmas.Option.{same_Some, slice_get_within}
 use Rattle.hp_base.specs.declared.limits.TheConstants.{MAX_HEAPS}
 use Rattle.hp_base.specs.declared.plan.Action.{Action}
 use Rattle.hp_frame.specs.declared.frame.Frame.{Frame}
@@ -20,9 +20,6 @@ use Rattle.hp_hall.specs.declared.note.Note.TheVariants.{Acked, Loaded, Paused, 
 use Rattle.hp_hall.specs.declared.posted.Posted.{Posted}
 use Rattle.hp_hall.proofs.Slotted.{slice_get-set_other, slice_get-set_same}
 use Rattle.hp_reasons.specs.Shared.{Makes, MakesAll, Shared, fetched_by, posted_to, with_boxes, with_number, with_segs}
-
-some_same : {X : Type 0} (x y : X) → Some x ≡ Some y → x ≡ y
-some_same x y same = cc
 
 -- the clock stands by a step
 abbrev pub IsStill : MailStep → Type 0
@@ -83,7 +80,7 @@ fits_set values number kept fits within fit other found there =
     ⊎_elim
     (λ (same : other ≡ number).
     let its : kept ≡ found =
-    some_same kept found
+    same_Some kept found
     (sym (slice_get-set_same values number kept within) ∙ ap (slice_get (slice_set values number kept)) (sym same) ∙ there) in
     subst (λ (n : ℕ). Fits n found) (sym same) (subst (Fits number) its fit))
     (λ (apart : other ≢ number). fits other found (sym (slice_get-set_other values number other kept apart) ∙ there))
@@ -159,7 +156,7 @@ module _ (who : ℕ) (boxes : List (List Frame)) (values : List Kept) (meters : 
   take_along number (Segments segs) next there same =
       let its : number ≡ MAX_HEAPS = shown.fits number (Segments segs) there in
       let one : segs ≡ old.segs =
-      segs_same segs old.segs (some_same (Segments segs) (Segments old.segs) (sym there ∙ ap (slice_get values) its ∙ shown.segs)) in
+      segs_same segs old.segs (same_Some (Segments segs) (Segments old.segs) (sym there ∙ ap (slice_get values) its ∙ shown.segs)) in
       record { at = old; made = (one, refl); shown = shown_boxes old.boxes boxes next shown.boxes_are same }
 
   give_along : (number : ℕ) (kept : Kept) (next : Meters) → GivesInto who number kept values → next ≡ meters
@@ -183,7 +180,7 @@ module _ (who : ℕ) (boxes : List (List Frame)) (values : List Kept) (meters : 
       let fit : number ≡ MAX_HEAPS = given_segs who number gives.before segs gives.by (shown.fits number gives.before gives.there) in
       let within = slice_get_within values number gives.before gives.there in
       let was : gives.before ≡ Segments old.segs =
-      some_same gives.before (Segments old.segs) (sym gives.there ∙ ap (slice_get values) fit ∙ shown.segs) in
+      same_Some gives.before (Segments old.segs) (sym gives.there ∙ ap (slice_get values) fit ∙ shown.segs) in
       let by = subst (λ (before : Kept). IsGivenBy who before (Segments segs)) was gives.by in
       let now = shown_boxes old.boxes boxes next shown.boxes_are same in
       record {

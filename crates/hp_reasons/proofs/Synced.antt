@@ -1,5 +1,5 @@
 -- What the SYNCs of a round make of the mailboxes, and of how many were sent to each.
-use Rattle.std.proofs.Common.{◌≡◌, ◌≢◌, ℕ, zero, suc, ◌<◌, ◌≤◌, Bool, true, false, List, [], ◌++◌, length, replicate, inl, inr, refl, sym, ap, subst, ◌∙◌, arith}
+use Rattle.std.proofs.Common.{◌≡◌, ◌≢◌, ℕ, zero, suc, ◌<◌, ◌≤◌, Bool, true, false, List, [], ◌++◌, length, replicate, inl, inr, refl, sym, ap, subst, ◌∙◌, arith, true≢false}
 use Rattle.std.proofs.lemmas.Bool.{cases_Bool, cases_eq}
 use Rattle.std.specs.Prelude.{slice_index_or, slice_set, if◌then◌else◌}
 use Rattle.hp_base.specs.Plans.{action_of}
@@ -82,9 +82,6 @@ module _ (told : ℕ → Bool) (counts : List ℕ) where
               | inr isnt ↦ ap (λ (l : List ℕ). times_sent l who) (after_untold n isnt) ∙ before
             ]
       ]
-
-true_apart : true ≡ false → ⊥
-true_apart same = cc
 
 -- WHAT COMES INTO THE MAILBOXES
 
@@ -190,7 +187,7 @@ module _ (told : ℕ → Bool) (party : Party) (frame : Frame) (body : Body) (sa
     long = before.long;
     wide = before.wide;
     tells = λ who one.
-        let apart : who ≢ suc n = λ same. true_apart (sym one.2 ∙ ap told same ∙ isnt) in
+        let apart : who ≢ suc n = λ same. true≢false (sym one.2 ∙ ap told same ∙ isnt) in
         before.tells who (one.0, omega (arith, one.1, apart), one.2);
     passes = λ who other. before.passes who (λ one. other (one.0, omega (arith, one.1), one.2));
   }

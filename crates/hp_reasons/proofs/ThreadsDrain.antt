@@ -1,107 +1,25 @@
 -- In a quiet world nobody has anything to do: turns of all leave it as it is, and the clock stands.
-use Rattle.std.proofs.Common.{◌≡◌, ◌≢◌, ◌∙◌, ◌&&◌, ℕ, ◌<◌, ⊎_elim, Bool, true, false, true≢false, List, [], ◌∷◌, length, replicate, Option, Some, None, refl, sym, ap, subst, arith}
-use Rattle.std.specs.Prelude.{is_some, slice_get, slice_set}
-use Rattle.std.specs.List.{list_any}
+use Rattle.std.proofs.Common.{◌≡◌, ◌≢◌, ◌∙◌, ℕ, ◌<◌, ⊎_elim, Bool, true, false, true≢false, List, [], length, Option, Some, None, refl, sym, ap, subst, arith}
+use Rattle.std.specs.Prelude.{slice_get, slice_set}
 use Rattle.std.proofs.lemmas.Bool.{cases_eq}
 use Rattle.std.proofs.lemmas.List.{set-get_or}
 use Rattle.std.proofs.lemmas.Option.{get_or_from_slice_get, none-some, slice_get_within}
-use Rattle.hp_core.specs.Core.{Core, due_of, holds_ask, is_idle}
-use Rattle.hp_core.specs.declared.asked.Asked.{Asked}
-use Rattle.hp_core.specs.declared.event.CoreEvent.TheVariants.{Poll}
-use Rattle.hp_core.specs.declared.phase.Phase.{Phase}
-use Rattle.hp_core.specs.declared.phase.Phase.TheVariants.{Idle}
-use Rattle.hp_frame.specs.declared.frame.Frame.{Frame}
-use Rattle.hp_frame.specs.declared.message.Body.{Body}
 use Rattle.hp_hall.specs.Mail.{box_of}
 use Rattle.hp_proc.specs.Coordinating.{IsServed}
-use Rattle.hp_proc.specs.Falling.{HasPassedAt, IsDue}
 use Rattle.hp_proc.specs.Party.{Party, due_in}
 use Rattle.hp_solo.specs.Draining.{Drains}
 use Rattle.hp_solo.specs.Sequence.{ServesOnce, ServesSome, Visit, Visits, going_place}
 use Rattle.hp_solo.specs.Solo.{IsPendingDue, ServerView, SoloView, due_at, has_stopped, party_at, party_in}
-use Rattle.hp_reasons.specs.Episode.{AreSaid, IsQuietWorld, Setting, World, mail_of}
-use Rattle.hp_reasons.specs.Servings.{CoreServes, MemberServes}
+use Rattle.hp_reasons.specs.Episode.{Setting, World, mail_of}
+use Rattle.hp_reasons.specs.Quiet.{IsQuietWorld}
 use Rattle.hp_reasons.specs.Shared.{IsSharedIn, Shared}
 use Rattle.hp_reasons.specs.Threads.{DrainsInQuiet, IsWorldAt}
 use Rattle.hp_reasons.specs.Worlds.{IsInOrder}
 use Rattle.hp_reasons.proofs.ServedAlong.{core_along, member_along}
 use Rattle.hp_reasons.proofs.StepsAlong.{made_by}
 use Rattle.hp_reasons.proofs.ThreadsLine.{all_count}
-
--- A PARTICIPANT THAT HAS NOTHING TO DO
-
--- frames that say nothing are none
-none_said : (box : List Frame) (bodies : List Body) → bodies ≡ [] → AreSaid box bodies → box ≡ []
-none_said [] bodies none said = refl
-none_said (frame ∷ box) bodies none said = absurd (subst (AreSaid (frame ∷ box)) none said)
-
--- a coordinator under which nothing is under way, and which holds nothing
-pub record IsIdleCore (core : Option Core) : Type 0 where
-  pub its : Core
-  pub there : core ≡ Some its
-  pub phase : its.phase ≡ Idle
-  pub held : its.held ≡ replicate 16 None
-
--- has no deadline
-idle_due : (core : Option Core) → IsIdleCore core → due_in core ≡ None
-idle_due core idle = ap due_in idle.there ∙ ap (due_of idle.its.deadline) idle.phase
-
-holds_none : (its : Core) → its.phase ≡ Idle → its.held ≡ replicate 16 None → holds_ask its ≡ false
-holds_none its phase held =
-    ap (λ (held : List (Option Asked)). is_idle its.phase && list_any is_some held) held
-    ∙ ap (λ (phase : Phase). is_idle phase && false) phase
-
-not_passed : (its : Core) (now : ℕ) → its.phase ≡ Idle → HasPassedAt its now → ⊥
-not_passed its now phase passed =
-    none-some passed.due (sym (ap (due_of its.deadline) phase) ∙ passed.its_due)
-
--- and no poll is due to it
-never_due : (core : Option Core) (now : ℕ) → IsIdleCore core → IsDue core (Poll now []) → ⊥
-never_due core now idle due =
-    ⊎_elim
-    (λ (holds : holds_ask idle.its ≡ true). true≢false (sym holds ∙ holds_none idle.its idle.phase idle.held))
-    (not_passed idle.its now idle.phase)
-    (subst (λ (core : Option Core). IsDue core (Poll now [])) idle.there due)
-
--- it rests, and all that is shared is as it was
-pub record Rests (old new : Shared) (party after : Party) (moved : Bool) : Type 0 where
-  pub still : moved ≡ false
-  pub shared : new ≡ old
-  pub after_is : after ≡ party
-
-no_frame : (box more : List Frame) (frame : Frame) → box ≡ [] → box ≡ frame ∷ more → ⊥
-no_frame box more frame none is = let never : [] ≡ frame ∷ more = sym none ∙ is in cc
-
-core_rests : (count : ℕ) (old new : Shared) (party after : Party) (moved : Bool) → box_of old.boxes party.me ≡ [] → IsIdleCore party.core
-    → CoreServes count old new party after moved → Rests old new party after moved
-core_rests count old new party after _ none idle (CoreServes.rests empty holds early same after_is) =
-    record { still = refl; shared = same; after_is = after_is }
-core_rests count old new party after _ none idle (CoreServes.polls empty due polls) = absurd (never_due party.core old.clock idle due)
-core_rests count old new party after _ none idle (CoreServes.drops frame more is says same after_is) =
-    absurd (no_frame (box_of old.boxes party.me) more frame none is)
-core_rests count old new party after _ none idle (CoreServes.asks frame more body event is says ask handles) =
-    absurd (no_frame (box_of old.boxes party.me) more frame none is)
-core_rests count old new party after _ none idle (CoreServes.replied frame more body due is says reply due_is polls) =
-    absurd (no_frame (box_of old.boxes party.me) more frame none is)
-core_rests count old new party after _ none idle (CoreServes.late_reply frame more body is says reply due_is same after_is) =
-    absurd (no_frame (box_of old.boxes party.me) more frame none is)
-core_rests count old new party after _ none idle (CoreServes.hears frame more body is says ask reply same after_is) =
-    absurd (no_frame (box_of old.boxes party.me) more frame none is)
-
-member_rests : (old new : Shared) (party after : Party) (moved : Bool) → box_of old.boxes party.me ≡ []
-    → MemberServes old new party after moved → Rests old new party after moved
-member_rests old new party after _ none (MemberServes.rests empty same after_is) =
-    record { still = refl; shared = same; after_is = after_is }
-member_rests old new party after _ none (MemberServes.drops frame more is says same after_is) =
-    absurd (no_frame (box_of old.boxes party.me) more frame none is)
-member_rests old new party after _ none (MemberServes.hears frame more body is says sync same after_is) =
-    absurd (no_frame (box_of old.boxes party.me) more frame none is)
-member_rests old new party after _ none (MemberServes.is_out frame more body is says sync out same after_is) =
-    absurd (no_frame (box_of old.boxes party.me) more frame none is)
-member_rests old new party after _ none (MemberServes.obeys frame more body is says sync member obeys) =
-    absurd (no_frame (box_of old.boxes party.me) more frame none is)
-
--- ALL TOGETHER
+use Rattle.hp_reasons.proofs.IdleServings.{DidNothing, core_idle, idle_due, member_idle}
+use Rattle.hp_reasons.proofs.Said.{unsaid_none}
 
 module _ (set : Setting) (world : World) (quiet : IsQuietWorld set world) where
   -- a participant has no deadline
@@ -131,7 +49,7 @@ module _ (set : Setting) (world : World) (quiet : IsQuietWorld set world) where
 
     -- its mailbox is empty
     empty : box_of world.shared.boxes party.me ≡ []
-    empty = none_said (box_of world.shared.boxes party.me) (mail_of world party.me) (quiet.empty party.me) (quiet.base.said party.me)
+    empty = unsaid_none (box_of world.shared.boxes party.me) (mail_of world party.me) (quiet.base.said party.me) (quiet.empty party.me)
 
     declared : party.me < length old.plain.owns
     declared =
@@ -153,12 +71,13 @@ module _ (set : Setting) (world : World) (quiet : IsQuietWorld set world) where
       pub order : IsInOrder new.plain
       pub after_is : once.after ≡ party
 
-    came_so : (at : Shared) → IsSharedIn new.plain at → IsInOrder new.plain → Rests world.shared at party once.after moved → ComesToRest
-    came_so at shared order rests = record {
-      still = rests.still;
-      shared = subst (IsSharedIn new.plain) rests.shared shared;
+    came_so : (at : Shared) → IsSharedIn new.plain at → IsInOrder new.plain
+        → DidNothing world.shared at party once.after moved → ComesToRest
+    came_so at shared order did = record {
+      still = did.still;
+      shared = subst (IsSharedIn new.plain) did.same shared;
       order = order;
-      after_is = rests.after_is;
+      after_is = did.stays;
     }
 
     comes : IsServed (length old.plain.owns) party once.after once.steps (Some moved) → ComesToRest
@@ -168,14 +87,14 @@ module _ (set : Setting) (world : World) (quiet : IsQuietWorld set world) where
         served in
         let idle = quiet.idle party (subst (λ (who : ℕ). slice_get world.parties who ≡ Some party) (sym number ∙ primary) there) in
         came_so goes.at goes.shared goes.order
-        (core_rests (length old.plain.owns) world.shared goes.at party once.after moved empty
-        (record { its = idle.0; there = idle.1; phase = idle.3; held = idle.4 }) goes.serves)
+        (core_idle (length old.plain.owns) world.shared goes.at party once.after moved goes.serves empty
+        (record { its = idle.0; there = idle.1; phase = idle.3; held = idle.4 }))
     comes (IsServed.follows other served) =
         let goes =
         member_along old.plain new.plain party once.after once.steps moved once.made.course made declared at.order world.shared at.shared
         served in
         came_so goes.at goes.shared goes.order
-        (member_rests world.shared goes.at party once.after moved empty goes.serves)
+        (member_idle world.shared goes.at party once.after moved goes.serves empty)
 
     rested : ComesToRest
     rested = comes once.serves

@@ -1,5 +1,5 @@
--- A line of a run leads from a quiet world to a quiet one.
-use Rattle.std.proofs.Common.{◌≡◌, ◌≢◌, ◌∙◌, ℕ, ◌<◌, ◌≤◌, ◌^◌, ⊎_elim, List, length, Some, refl, sym, ap, subst, arith}
+-- A line of a run leads from a quiet world to a quiet one, and behind it nothing is owed.
+use Rattle.std.proofs.Common.{◌≡◌, ◌≢◌, ◌∙◌, ℕ, ◌<◌, ◌≤◌, ◌^◌, ⊎_elim, false, List, length, Some, refl, sym, ap, subst, arith}
 use Rattle.std.specs.Prelude.{slice_get, slice_set}
 use Rattle.std.proofs.Math.ListN.{length-set}
 use Rattle.std.proofs.lemmas.Bool.{cases_eq}
@@ -12,8 +12,9 @@ use Rattle.hp_script.specs.declared.answer.Answer.{Answer}
 use Rattle.hp_script.specs.declared.line.Line.{Line}
 use Rattle.hp_proc.specs.Acting.{Acts}
 use Rattle.hp_solo.specs.Solo.{ServerView, SoloView, party_at, party_in}
-use Rattle.hp_reasons.specs.Episode.{IsQuietWorld, IsSetting, Setting, World}
-use Rattle.hp_reasons.specs.Lines.{ActsInQuiet, AreWaitsQuiet, AttachesOnce}
+use Rattle.hp_reasons.specs.Episode.{IsSetting, Setting, World}
+use Rattle.hp_reasons.specs.Quiet.{IsQuietOwing, IsQuietWorld}
+use Rattle.hp_reasons.specs.Lines.{ActsInQuiet, AreWaitsQuiet, AttachesOnce, LinesOweNothing, Owes}
 use Rattle.hp_reasons.specs.Threads.{DoesInTurn, IsWorldAt, filled, vacated}
 use Rattle.hp_reasons.specs.Waits.{LeadsTo}
 use Rattle.hp_reasons.specs.Worlds.{IsWorldOf}
@@ -28,15 +29,15 @@ all_count set hall world at quiet =
     ∙ sym (ap (λ (numbers : List ℕ). length numbers) at.shared.numbers)
     ∙ quiet.base.numbers
 
--- a hall is a quiet world
+-- a hall is a quiet world, and nothing is owed
 pub record IsQuietAt (set : Setting) (hall : SoloView) : Type 0 where
   pub world : World
   pub its : IsWorldAt hall world
-  pub quiet : IsQuietWorld set world
+  pub quiet : IsQuietOwing set false world
 
-module _ (set : Setting) (sets : IsSetting set) (waits : AreWaitsQuiet) (acts : ActsInQuiet) (line : Line) (answer : Answer)
-    (old new : SoloView) (world : World) (at : IsWorldAt old world) (quiet : IsQuietWorld set world) (does : DoesInTurn line answer old new)
-    (early : does.back.plain.clock ≤ 2 ^ 62) where
+module _ (set : Setting) (sets : IsSetting set) (waits : AreWaitsQuiet) (acts : ActsInQuiet) (owing : LinesOweNothing)
+    (line : Line) (answer : Answer) (old new : SoloView) (world : World) (at : IsWorldAt old world) (quiet : IsQuietOwing set false world)
+    (does : DoesInTurn line answer old new) (early : does.back.plain.clock ≤ 2 ^ 62) where
   abbrev me : ℕ
   me = line.participant
 
@@ -68,17 +69,20 @@ module _ (set : Setting) (sets : IsSetting set) (waits : AreWaitsQuiet) (acts : 
   did : Acts set.count does.party does.after does.does.does.trace does.does.does.steps
   did =
       subst (λ (count : ℕ). Acts count does.party does.after does.does.does.trace does.does.does.steps)
-      (sym does.all ∙ ap (λ (hall : HallView). length hall.owns) gone_plain ∙ all_count set old world at quiet) does.does.does.acts
+      (sym does.all ∙ ap (λ (hall : HallView). length hall.owns) gone_plain ∙ all_count set old world at quiet.quiet) does.does.does.acts
 
   looks : AttachesOnce does.party does.does.does.trace
   looks =
       attaches_once line does.does.facts does.does.does.trace _ does.party
       (λ joined. does.does.known.attached ∙ sym does.attached ∙ joined) does.does.does.leads
 
-  leads : LeadsTo (IsQuietWorld set) does.back me does.after
+  owes : Owes false does.does.does.trace false
+  owes = owing line does.does.facts does.does.does.trace answer does.does.does.leads
+
+  leads : LeadsTo (IsQuietOwing set false) does.back me does.after
   leads =
-      acts waits set me does.away does.back does.party does.after does.does.does.trace does.does.does.steps world sets gone quiet early
-      does.sequence looks did
+      acts waits set me false false does.away does.back does.party does.after does.does.does.trace does.does.does.steps world sets gone
+      quiet early does.sequence looks owes did
 
   within : me < length does.back.servers
   within =

@@ -1,4 +1,4 @@
--- Before the first line of a workload its world is quiet.
+-- Before the first line of a workload its world is quiet, and nothing is owed: its log is empty, and nothing was given up.
 use Rattle.std.proofs.Common.{◌≡◌, ◌≢◌, ◌∙◌, ℕ, zero, suc, ◌<◌, ◌≤◌, Bool, true, false, List, [], ◌∷◌, length, map, replicate, Option, Some, None, refl, sym, ap, subst, arith, eq-eqb, ne_eqb, true≢false, ⊎_elim}
 use Rattle.std.specs.Prelude.{slice_get, if◌then◌else◌}
 use Rattle.std.specs.Option.{option_map}
@@ -26,7 +26,8 @@ use Rattle.hp_solo.specs.Solo.{ServerView, SoloView, has_stopped, party_at, part
 use Rattle.hp_joint.specs.EndLaws.{IsFirstParty, IsGiven, first_party}
 use Rattle.hp_joint.specs.SoFar.{AreFirstHeaps, first_hall, first_segs}
 use Rattle.hp_joint.proofs.FirstSegs.{armed_first, member_first, nobody_first, present_declared, sound_first}
-use Rattle.hp_reasons.specs.Episode.{AreSaid, IsBase, IsInPlace, IsQuietWorld, Setting, World, mail_of, number_of_party}
+use Rattle.hp_reasons.specs.Episode.{AreSaid, IsBase, IsInPlace, Setting, World, mail_of, number_of_party}
+use Rattle.hp_reasons.specs.Quiet.{IsQuietOwing, IsQuietWorld}
 use Rattle.hp_reasons.specs.Shared.{IsSharedIn, Shared}
 use Rattle.hp_reasons.specs.Threads.{IsWorldAt, OpensThread, filled, setting_of}
 use Rattle.hp_reasons.specs.Worlds.{IsInOrder}
@@ -133,14 +134,19 @@ module _ (workload : Workload) (given : IsGiven workload) (parties : List Party)
         refl,
       )
 
-  pub quiet_first : IsQuietWorld set world
-  quiet_first = record {
+  -- all have taken in all records: there are none
+  quiet : IsQuietWorld set world
+  quiet = record {
     base = base;
     idle = idle_first;
     growth = refl;
     empty = λ who. all_alike [] workload.participants who;
     doubled = λ who party there. omega arith;
+    level = λ nothing who member. sym (number_none who);
   }
+
+  pub quiet_first : IsQuietOwing set false world
+  quiet_first = record { quiet = quiet; gone = λ nothing owes. refl }
 
 -- THE HALL
 

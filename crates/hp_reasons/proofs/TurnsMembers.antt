@@ -1,5 +1,5 @@
 -- What a serving of a member leaves of mailboxes, of the clock, and of an ask that is over.
-use Rattle.std.proofs.Common.{◌≡◌, ◌≢◌, ◌∙◌, ◌||◌, ◌≤◌, ℕ, Bool, true, false, List, [], ◌∷◌, drop, Some, refl, sym, ap, subst, arith}
+use Rattle.std.proofs.Common.{◌≡◌, ◌≢◌, ◌∙◌, ◌||◌, ◌≤◌, ℕ, Bool, true, false, List, [], ◌∷◌, drop, Some, refl, sym, ap, subst, arith, true≢false}
 use Rattle.std.specs.Prelude.{slice_get}
 use Rattle.std.specs.List.{list_any}
 use Rattle.hp_base.specs.declared.caught.Caught.{Caught}
@@ -17,17 +17,12 @@ use Rattle.hp_hall.specs.Mail.{box_of}
 use Rattle.hp_segs.specs.SegsView.{closed_number}
 use Rattle.hp_proc.specs.Party.{Party}
 use Rattle.hp_proc.specs.Serving as serving
-use Rattle.hp_reasons.specs.Episode.{AreSaid, HasCoordinator, IsBase, IsClosed, IsToDo, Setting, Stage, World, is_sync, mail_of}
+use Rattle.hp_reasons.specs.Episode.{HasCoordinator, IsBase, IsClosed, IsToDo, Setting, Stage, World, is_sync, mail_of}
 use Rattle.hp_reasons.specs.Servings.{MemberServes, numbered}
 use Rattle.hp_reasons.specs.Shared.{Shared, fetched_by}
 use Rattle.hp_reasons.specs.Waits.{is_last}
-use Rattle.hp_reasons.proofs.Said.{first_said, index_unset, none_said}
-
--- where nothing is said there are no frames
-pub unsaid_none : (frames : List Frame) (bodies : List Body) → AreSaid frames bodies → bodies ≡ [] → frames ≡ []
-unsaid_none [] bodies said none = refl
-unsaid_none (frame ∷ frames) [] said none = absurd said
-unsaid_none (frame ∷ frames) (body ∷ bodies) said none = cc
+use Rattle.hp_reasons.proofs.Said.{first_said, index_unset, none_said, unsaid_none}
+use Rattle.hp_reasons.proofs.Sharing.{numbered_clock}
 
 -- a mailbox is empty where it says nothing, and says nothing where it is empty
 pub box_empty : (set : Setting) (world : World) (who : ℕ) → IsBase set world → mail_of world who ≡ [] → box_of world.shared.boxes who ≡ []
@@ -37,11 +32,6 @@ pub mail_empty : (set : Setting) (world : World) (who : ℕ) → IsBase set worl
 mail_empty set world who base none = none_said (box_of world.shared.boxes who) (mail_of world who) (base.said who) none
 
 -- numbers alone change where a participant has caught up
-pub numbered_clock : (who : ℕ) (caught : Caught) (at : Shared) → (numbered who caught at).clock ≡ at.clock
-numbered_clock who caught.Done at = refl
-numbered_clock who (caught.Refused row call) at = refl
-numbered_clock who (caught.Elsewhere row call got) at = refl
-
 pub numbered_boxes : (who : ℕ) (caught : Caught) (at : Shared) → (numbered who caught at).boxes ≡ at.boxes
 numbered_boxes who caught.Done at = refl
 numbered_boxes who (caught.Refused row call) at = refl
@@ -92,21 +82,6 @@ pub record IsMemberRest (old new : Shared) (party after : Party) : Type 0 where
 pub member_rests : (old new : Shared) (party after : Party) → MemberServes old new party after false → IsMemberRest old new party after
 member_rests old new party after (MemberServes.rests none new_is after_is) = record { empty = none; same = new_is; stays = after_is }
 
--- nor is anything where its mailbox is empty
-found_none : (box : List Frame) (frame : Frame) (more : List Frame) → box ≡ frame ∷ more → box ≡ [] → ⊥
-found_none box frame more is none = cc
-
-pub rests_empty : (old new : Shared) (party after : Party) (moved : Bool) → MemberServes old new party after moved → box_of old.boxes party.me ≡ []
-    → new ≡ old
-rests_empty old new party after _ (MemberServes.rests none new_is after_is) empty = new_is
-rests_empty old new party after _ (MemberServes.drops frame more box nothing new_is after_is) empty = absurd (found_none _ frame more box empty)
-rests_empty old new party after _ (MemberServes.hears frame more body box says its new_is after_is) empty =
-    absurd (found_none _ frame more box empty)
-rests_empty old new party after _ (MemberServes.is_out frame more body box says sync out new_is after_is) empty =
-    absurd (found_none _ frame more box empty)
-rests_empty old new party after _ (MemberServes.obeys frame more body box says sync member obeys) empty =
-    absurd (found_none _ frame more box empty)
-
 same_sync : (body : Body) → serving.is_sync body ≡ true → is_sync body ≡ true
 same_sync (Alloc from number heap socket page size align bound flags) is = is
 same_sync (Free from number heap address len) is = is
@@ -116,9 +91,6 @@ same_sync (Answer from number what code) is = is
 sync_first : (bodies : List Body) (body : Body) (rest : List Body) → bodies ≡ body ∷ rest → is_sync body ≡ true → list_any is_sync bodies ≡ true
 sync_first bodies body rest is sync =
     ap (λ (bodies : List Body). list_any is_sync bodies) is ∙ ap (λ (first : Bool). first || list_any is_sync rest) sync
-
-true_is_false : (b : Bool) → b ≡ true → b ≡ false → ⊥
-true_is_false b is other = cc
 
 -- without a SYNC in its mailbox it fills no other
 pub first_stays : (set : Setting) (world : World) (who : ℕ) (at : Shared) (party after : Party) (moved : Bool) → IsBase set world
@@ -137,7 +109,7 @@ first_stays set world who at party after _ base me beside (MemberServes.is_out f
 first_stays set world who at party after _ base me beside (MemberServes.obeys frame more body box says sync member obeys) no_sync =
     let here : box_of world.shared.boxes who ≡ frame ∷ more = ap (box_of world.shared.boxes) (sym me) ∙ box in
     let said = first_said (box_of world.shared.boxes who) (mail_of world who) frame more body (base.said who) here says in
-    absurd (true_is_false (list_any is_sync (mail_of world who)) (sync_first (mail_of world who) body _ said (same_sync body sync)) no_sync)
+    absurd (true≢false (sym (sync_first (mail_of world who) body _ said (same_sync body sync)) ∙ no_sync))
 
 -- AN ASK THAT IS OVER
 
@@ -149,14 +121,15 @@ pub record IsDoneWith (set : Setting) (call : Asked) (world : World) : Type 0 wh
 
 pub done_with : (set : Setting) (call : Asked) (sent : ℕ) (leads : Bool) (world : World) (stage : Stage set call sent leads world)
     → is_last stage ≡ true → IsDoneWith set call world
-done_with set call sent leads world (Stage.fresh clock unanswered coordinator alone to_do copies some empty doubled) last = cc
-done_with set call sent leads world (Stage.lost unanswered coordinator alone to_do none empty doubled back) last = cc
+done_with set call sent leads world (Stage.fresh clock unanswered coordinator alone to_do copies some empty doubled level) last = cc
+done_with set call sent leads world (Stage.lost unanswered coordinator alone to_do none empty doubled back loses) last = cc
 done_with set call sent leads world
-    (Stage.growing round holds kind from number unanswered coordinator its to_do clock bodies doubled follow awaited) last = cc
+    (Stage.growing round holds kind from number unanswered coordinator its to_do clock bodies doubled follow awaited level) last = cc
 done_with set call sent leads world
-    (Stage.settling round since holds kind from number unanswered coordinator alone closed early clock logged bodies doubled waits answered)
+    (Stage.settling round since holds kind from number unanswered coordinator alone closed early clock logged bodies doubled waits
+    answered level)
     last = cc
-done_with set call sent leads world (Stage.over holds coordinator alone closed bodies doubled told answered) last =
+done_with set call sent leads world (Stage.over holds coordinator alone closed bodies doubled told answered level) last =
     record { holds = holds; coordinator = coordinator; closed = closed }
 
 -- participant 0 has one coordinator

@@ -14,7 +14,8 @@ use Rattle.hp_hall.specs.Weights.{pending_at}
 use Rattle.hp_hall.proofs.Pending.{pending_falls}
 use Rattle.hp_proc.specs.Party.{Party, due_in}
 use Rattle.hp_proc.proofs.Scaled.{own_weight_lower}
-use Rattle.hp_reasons.specs.Episode.{AreDoubled, AreOthersEmpty, FollowsGrowth, HasCoordinator, IsAnsweredFor, IsBase, IsQuietWorld, IsToDo, IsUnanswered, MayBeTakenBack, Setting, Stage, World, is_sync, mail_of}
+use Rattle.hp_reasons.specs.Episode.{AreDoubled, AreOthersEmpty, EndsLevel, FollowsGrowth, GrowsLevel, HasCoordinator, IsAnsweredFor, IsBase, IsToDo, IsUnanswered, MayBeTakenBack, SettlesLevel, Setting, Stage, World, is_sync, mail_of}
+use Rattle.hp_reasons.specs.Quiet.{IsQuietOwing, IsQuietWorld}
 use Rattle.hp_reasons.specs.Stages.{IsSent}
 use Rattle.hp_reasons.specs.Waits.{IsAtTurn, core_in, is_last, weight_in}
 use Rattle.hp_reasons.proofs.TurnsMembers.{mail_empty}
@@ -98,7 +99,13 @@ quiet_at set now world quiet = record {
   growth = quiet.growth;
   empty = quiet.empty;
   doubled = quiet.doubled;
+  level = quiet.level;
 }
+
+-- and with what is owed in it
+pub owing_at : (set : Setting) (owes : Bool) (now : ℕ) (world : World) → IsQuietOwing set owes world
+    → IsQuietOwing set owes (at_clock now world)
+owing_at set owes now world owing = record { quiet = quiet_at set now world owing.quiet; gone = owing.gone }
 
 -- when the deadline of the round passes
 due_waiting : (set : Setting) (call : Asked) (world : World) (round : Round) (since : ℕ) (holds : Bool)
@@ -167,31 +174,44 @@ module _ (set : Setting) (call : Asked) (sent now : ℕ) (is_sent : IsSent set c
   back_at (want.Grow ask) back = back
   back_at (want.Shrink from number) back = back
 
+  grows_at : GrowsLevel world → GrowsLevel (at_clock now world)
+  grows_at level = record { gone = level.gone; room = level.room }
+
+  settles_at : (generation : ℕ) → SettlesLevel set world generation → SettlesLevel set (at_clock now world) generation
+  settles_at generation level = record { gone = level.gone; whole = level.whole; follows = level.follows }
+
+  ends_at : EndsLevel set world → EndsLevel set (at_clock now world)
+  ends_at level = record { gone = level.gone; level = level.level }
+
   stands_at : (before : Stage set call sent true world) → StandsAt before
-  stands_at (Stage.fresh clock unanswered coordinator alone to_do copies some empty doubled) = absurd (none_some some)
-  stands_at (Stage.lost unanswered coordinator alone to_do gone empty doubled back) = record {
+  stands_at (Stage.fresh clock unanswered coordinator alone to_do copies some empty doubled level) = absurd (none_some some)
+  stands_at (Stage.lost unanswered coordinator alone to_do gone empty doubled back loses) = record {
     stage = Stage.lost (unanswered_at unanswered) (coordinator_at Idle false coordinator) alone (to_do_at call to_do) gone empty
-        (doubled_at false doubled) (back_at call back);
+        (doubled_at false doubled) (back_at call back) loses;
     last = λ last. last;
   }
-  stands_at (Stage.growing round holds kind from number unanswered coordinator its to_do clock bodies doubled follow awaited) = record {
-    stage = Stage.growing round holds kind from number (unanswered_at unanswered) (coordinator_at (Waiting round sent) holds coordinator) its
-        (to_do_at call to_do) (waits_within round sent holds coordinator (omega arith)) bodies (doubled_at holds doubled)
-        (λ member there. follows_later round.generation sent member (follow member there))
-        (λ leads member some. absurd (no_syncs member some));
-    last = λ last. last;
-  }
+  stands_at (Stage.growing round holds kind from number unanswered coordinator its to_do clock bodies doubled follow awaited level) =
+      record {
+        stage = Stage.growing round holds kind from number (unanswered_at unanswered)
+            (coordinator_at (Waiting round sent) holds coordinator) its (to_do_at call to_do)
+            (waits_within round sent holds coordinator (omega arith)) bodies (doubled_at holds doubled)
+            (λ member there. follows_later round.generation sent member (follow member there))
+            (λ leads member some. absurd (no_syncs member some)) (grows_at level);
+        last = λ last. last;
+      }
   stands_at
-      (Stage.settling round since holds kind from number unanswered coordinator alone closed early clock logged bodies doubled waits answered) =
+      (Stage.settling round since holds kind from number unanswered coordinator alone closed early clock logged bodies doubled waits
+      answered level) =
       record {
         stage = Stage.settling round since holds kind from number (unanswered_at unanswered)
             (coordinator_at (Waiting round since) holds coordinator) alone closed early (waits_within round since holds coordinator early) logged
-            bodies (doubled_at holds doubled) (λ leads member some. absurd (no_syncs member some)) (answered_at call answered);
+            bodies (doubled_at holds doubled) (λ leads member some. absurd (no_syncs member some)) (answered_at call answered)
+            (settles_at round.generation level);
         last = λ last. last;
       }
-  stands_at (Stage.over holds coordinator alone closed bodies doubled told answered) = record {
+  stands_at (Stage.over holds coordinator alone closed bodies doubled told answered level) = record {
     stage = Stage.over holds (coordinator_at Idle holds coordinator) alone closed bodies (doubled_at holds doubled) told
-        (answered_at call answered);
+        (answered_at call answered) (ends_at level);
     last = λ last. last;
   }
 

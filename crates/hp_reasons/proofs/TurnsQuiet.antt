@@ -1,48 +1,23 @@
 -- A turn has ended: the stage of the ask stands for participant 0 again, and once it is over all is quiet; and what a pause leaves of that.
-use Rattle.std.proofs.Common.{◌≡◌, ◌∙◌, ◌||◌, ◌&&◌, ◌<◌, ◌≤◌, ◌⊎◌, ℕ, zero, suc, Bool, true, false, List, [], ◌∷◌, length, replicate, Option, Some, None, is_some, inl, inr, refl, sym, ap, subst, arith}
+use Rattle.std.proofs.Common.{◌≡◌, ◌∙◌, ◌&&◌, ◌<◌, ◌≤◌, ℕ, zero, suc, Bool, true, false, List, [], ◌∷◌, length, replicate, Option, Some, None, is_some, inl, inr, refl, sym, ap, subst, arith, true≢false}
 use Rattle.std.specs.Prelude.{slice_get, slice_set, if◌then◌else◌}
 use Rattle.std.specs.List.{list_any}
-use Rattle.std.proofs.lemmas.Bool.{cases_eq, or_from}
-use Rattle.std.proofs.lemmas.List.Elements.{All-head, All-tail}
+use Rattle.std.proofs.lemmas.Bool.{cases_eq, or_right}
 use Rattle.hp_core.specs.Asks.{asker}
 use Rattle.hp_core.specs.Core.{Core, holds_ask, is_idle}
 use Rattle.hp_core.specs.declared.asked.Asked.{Asked}
-use Rattle.hp_core.specs.declared.asked.Asked.TheVariants as want
 use Rattle.hp_core.specs.declared.phase.Phase.{Phase}
 use Rattle.hp_core.specs.declared.phase.Phase.TheVariants.{Idle}
 use Rattle.hp_frame.specs.declared.message.Body.{Body}
-use Rattle.hp_frame.specs.declared.message.Body.TheVariants.{Alloc, Answer, Free, Sync}
 use Rattle.hp_proc.specs.Coordinating.{core_holds}
 use Rattle.hp_proc.specs.Party.{Party}
-use Rattle.hp_reasons.specs.Episode.{AreAnswersOrCopies, AreDoubled, AreOthersEmpty, HasCoordinator, IsAnsweredFor, IsBase, IsCopy, IsQuietWorld, Setting, Stage, World, doubles, is_answer, is_sync, mail_of}
+use Rattle.hp_reasons.specs.Counting.{LosesNothing}
+use Rattle.hp_reasons.specs.Episode.{AreAnswersOrCopies, AreDoubled, AreLevel, AreOthersEmpty, EndsLevel, HasCoordinator, IsAnsweredFor, IsBase, Setting, Stage, World, doubles, is_sync, mail_of}
+use Rattle.hp_reasons.specs.Quiet.{IsQuietWorld}
 use Rattle.hp_reasons.specs.Outcomes.{stale_outcomes}
 use Rattle.hp_reasons.specs.Stages.{IsSent}
 use Rattle.hp_reasons.specs.Waits.{is_last}
-
-true_is_false : (b : Bool) → b ≡ true → b ≡ false → ⊥
-true_is_false b is other = cc
-
--- NO SYNC LIES AMONG ANSWERS AND COPIES OF AN ASK
-
-answer_no_sync : (body : Body) → is_answer body ≡ true → is_sync body ≡ false
-answer_no_sync (Alloc from number heap socket page size align bound flags) is = refl
-answer_no_sync (Free from number heap address len) is = refl
-answer_no_sync (Sync generation round) is = cc
-answer_no_sync (Answer from number what code) is = refl
-
-copy_no_sync : (call : Asked) (body : Body) → IsCopy call body → is_sync body ≡ false
-copy_no_sync (want.Grow ask) body copy = ap is_sync copy
-copy_no_sync (want.Shrink from number) body copy = ap is_sync copy.3
-
-pub none_syncs : (call : Asked) (bodies : List Body) → AreAnswersOrCopies call bodies → list_any is_sync bodies ≡ false
-none_syncs call [] all = refl
-none_syncs call (body ∷ bodies) all =
-    or_from (is_sync body) (list_any is_sync bodies)
-    (elim (All-head (λ body. (is_answer body ≡ true) ⊎ IsCopy call body) body bodies all) [
-      | inl answer ↦ answer_no_sync body answer
-      | inr copy ↦ copy_no_sync call body copy
-    ])
-    (none_syncs call bodies (All-tail (λ body. (is_answer body ≡ true) ⊎ IsCopy call body) body bodies all))
+use Rattle.hp_reasons.proofs.CopiesBodies.{bodies_unsynced}
 
 empty_no_sync : (bodies : List Body) → bodies ≡ [] → list_any is_sync bodies ≡ false
 empty_no_sync bodies none = ap (list_any is_sync) none
@@ -50,9 +25,9 @@ empty_no_sync bodies none = ap (list_any is_sync) none
 -- where others have nothing, and participant 0 no SYNC, nobody has one
 nobody_syncs : (call : Asked) (world : World) → AreOthersEmpty world → AreAnswersOrCopies call (mail_of world 0) → (member : ℕ)
     → list_any is_sync (mail_of world member) ≡ true → ⊥
-nobody_syncs call world empty bodies zero some = true_is_false _ some (none_syncs call (mail_of world 0) bodies)
+nobody_syncs call world empty bodies zero some = true≢false (sym some ∙ bodies_unsynced call (mail_of world 0) bodies)
 nobody_syncs call world empty bodies (suc member) some =
-    true_is_false _ some (empty_no_sync (mail_of world (suc member)) (empty (suc member) (λ (same : suc member ≡ 0). omega arith)))
+    true≢false (sym some ∙ empty_no_sync (mail_of world (suc member)) (empty (suc member) (λ (same : suc member ≡ 0). omega arith)))
 
 -- THE NEXT TURN
 
@@ -63,25 +38,26 @@ pub record LeadsAgain (set : Setting) (call : Asked) (sent : ℕ) (world : World
 
 pub leads_again : (set : Setting) (call : Asked) (sent : ℕ) (world : World) → AreOthersEmpty world → (before : Stage set call sent false world)
     → LeadsAgain set call sent world before
-leads_again set call sent world nobody (Stage.fresh clock unanswered coordinator alone to_do copies some empty doubled) =
-    record { stage = Stage.fresh clock unanswered coordinator alone to_do copies some empty doubled; last = λ last. last }
-leads_again set call sent world nobody (Stage.lost unanswered coordinator alone to_do none empty doubled back) =
-    record { stage = Stage.lost unanswered coordinator alone to_do none empty doubled back; last = λ last. last }
+leads_again set call sent world nobody (Stage.fresh clock unanswered coordinator alone to_do copies some empty doubled level) =
+    record { stage = Stage.fresh clock unanswered coordinator alone to_do copies some empty doubled level; last = λ last. last }
+leads_again set call sent world nobody (Stage.lost unanswered coordinator alone to_do none empty doubled back loses) =
+    record { stage = Stage.lost unanswered coordinator alone to_do none empty doubled back loses; last = λ last. last }
 leads_again set call sent world nobody
-    (Stage.growing round holds kind from number unanswered coordinator its to_do clock bodies doubled follow awaited) = record {
+    (Stage.growing round holds kind from number unanswered coordinator its to_do clock bodies doubled follow awaited level) = record {
       stage = Stage.growing round holds kind from number unanswered coordinator its to_do clock bodies doubled follow
-          (λ leads member some. absurd (nobody_syncs call world nobody bodies member some));
+          (λ leads member some. absurd (nobody_syncs call world nobody bodies member some)) level;
       last = λ last. last;
     }
 leads_again set call sent world nobody
-    (Stage.settling round since holds kind from number unanswered coordinator alone closed early clock logged bodies doubled waits answered) =
+    (Stage.settling round since holds kind from number unanswered coordinator alone closed early clock logged bodies doubled waits
+    answered level) =
     record {
       stage = Stage.settling round since holds kind from number unanswered coordinator alone closed early clock logged bodies doubled
-          (λ leads member some. absurd (nobody_syncs call world nobody bodies member some)) answered;
+          (λ leads member some. absurd (nobody_syncs call world nobody bodies member some)) answered level;
       last = λ last. last;
     }
-leads_again set call sent world nobody (Stage.over holds coordinator alone closed bodies doubled told answered) =
-    record { stage = Stage.over holds coordinator alone closed bodies doubled told answered; last = λ last. last }
+leads_again set call sent world nobody (Stage.over holds coordinator alone closed bodies doubled told answered level) =
+    record { stage = Stage.over holds coordinator alone closed bodies doubled told answered level; last = λ last. last }
 
 -- ONCE THE ASK IS OVER
 
@@ -89,11 +65,7 @@ held_somewhere : (held : List (Option Asked)) (place : ℕ) (call : Asked) → p
     → list_any is_some (slice_set held place (Some call)) ≡ true
 held_somewhere [] place call within = absurd (omega arith)
 held_somewhere (one ∷ held) zero call within = refl
-held_somewhere (one ∷ held) (suc place) call within = held_or (is_some one) _ (held_somewhere held place call (omega arith))
-  where
-    held_or : (first rest : Bool) → rest ≡ true → (first || rest) ≡ true
-    held_or true rest is = refl
-    held_or false rest is = is
+held_somewhere (one ∷ held) (suc place) call within = or_right (is_some one) _ (held_somewhere held place call (omega arith))
 
 -- a coordinator that rests holds nothing
 holds_nothing : (set : Setting) (call : Asked) (sent : ℕ) (holds : Bool) (core : Core) → IsSent set call sent → holds_ask core ≡ false
@@ -106,7 +78,7 @@ holds_nothing set call sent true core is_sent none idle held =
     ∙ held_somewhere (replicate 16 None) (asker call) call (omega (arith, is_sent.declared, is_sent.setting.few)) in
     let both : holds_ask core ≡ true =
     ap (λ (phase : Phase). is_idle phase && list_any is_some core.held) idle ∙ some in
-    absurd (true_is_false (holds_ask core) both none)
+    absurd (true≢false (sym both ∙ none))
 
 -- what stands then
 pub record IsOver (set : Setting) (call : Asked) (world : World) : Type 0 where
@@ -115,18 +87,20 @@ pub record IsOver (set : Setting) (call : Asked) (world : World) : Type 0 where
   pub alone : world.shared.segs.growth ≡ None
   pub doubled : AreDoubled set world call holds false
   pub answered : IsAnsweredFor call world
+  pub level : EndsLevel set world
 
 pub over_with : (set : Setting) (call : Asked) (sent : ℕ) (leads : Bool) (world : World) (stage : Stage set call sent leads world)
     → is_last stage ≡ true → IsOver set call world
-over_with set call sent leads world (Stage.fresh clock unanswered coordinator alone to_do copies some empty doubled) last = cc
-over_with set call sent leads world (Stage.lost unanswered coordinator alone to_do none empty doubled back) last = cc
+over_with set call sent leads world (Stage.fresh clock unanswered coordinator alone to_do copies some empty doubled level) last = cc
+over_with set call sent leads world (Stage.lost unanswered coordinator alone to_do none empty doubled back loses) last = cc
 over_with set call sent leads world
-    (Stage.growing round holds kind from number unanswered coordinator its to_do clock bodies doubled follow awaited) last = cc
+    (Stage.growing round holds kind from number unanswered coordinator its to_do clock bodies doubled follow awaited level) last = cc
 over_with set call sent leads world
-    (Stage.settling round since holds kind from number unanswered coordinator alone closed early clock logged bodies doubled waits answered)
+    (Stage.settling round since holds kind from number unanswered coordinator alone closed early clock logged bodies doubled waits
+    answered level)
     last = cc
-over_with set call sent leads world (Stage.over holds coordinator alone closed bodies doubled told answered) last =
-    record { holds = holds; coordinator = coordinator; alone = alone; doubled = doubled; answered = answered }
+over_with set call sent leads world (Stage.over holds coordinator alone closed bodies doubled told answered level) last =
+    record { holds = holds; coordinator = coordinator; alone = alone; doubled = doubled; answered = answered; level = level }
 
 -- all is quiet then
 module _ (set : Setting) (call : Asked) (sent : ℕ) (is_sent : IsSent set call sent) (world : World) (base : IsBase set world)
@@ -149,21 +123,22 @@ module _ (set : Setting) (call : Asked) (sent : ℕ) (is_sent : IsSent set call 
       ]
 
   pub quiet_idle : HasCoordinator set world Idle call false → world.shared.segs.growth ≡ None → AreDoubled set world call false false
-      → IsQuietWorld set world
-  quiet_idle coordinator alone doubled = record {
+      → (LosesNothing set.plan → AreLevel world) → IsQuietWorld set world
+  quiet_idle coordinator alone doubled level = record {
     base = base;
     idle = λ primary found.
         (coordinator.is.its, same_party coordinator primary found, coordinator.is.deadline, coordinator.is.phase_is, coordinator.is.held);
     growth = alone;
     empty = none;
     doubled = few_stale doubled;
+    level = level;
   }
 
   quiet_with : (holds : Bool) → HasCoordinator set world Idle call holds → holds ≡ false → world.shared.segs.growth ≡ None
-      → AreDoubled set world call holds false → IsQuietWorld set world
-  quiet_with holds coordinator nothing alone doubled =
+      → AreDoubled set world call holds false → (LosesNothing set.plan → AreLevel world) → IsQuietWorld set world
+  quiet_with holds coordinator nothing alone doubled level =
       quiet_idle (subst (HasCoordinator set world Idle call) nothing coordinator) alone
-      (subst (λ (holds : Bool). AreDoubled set world call holds false) nothing doubled)
+      (subst (λ (holds : Bool). AreDoubled set world call holds false) nothing doubled) level
 
   -- it holds nothing
   nothing_held : (over : IsOver set call world)
@@ -175,4 +150,5 @@ module _ (set : Setting) (call : Asked) (sent : ℕ) (is_sent : IsSent set call 
 
   pub quiet_over : (over : IsOver set call world)
       → ((primary : Party) → slice_get world.parties 0 ≡ Some primary → core_holds primary.core ≡ false) → IsQuietWorld set world
-  quiet_over over rests = quiet_with over.holds over.coordinator (nothing_held over rests) over.alone over.doubled
+  quiet_over over rests =
+      quiet_with over.holds over.coordinator (nothing_held over rests) over.alone over.doubled over.level.level

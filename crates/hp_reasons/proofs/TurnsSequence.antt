@@ -6,15 +6,9 @@ use Rattle.hp_hall.specs.Mail.{MailStep, Notes}
 use Rattle.hp_hall.specs.declared.note.Note.TheVariants.{Paused, Yielded}
 use Rattle.hp_solo.specs.Sequence.{IsCall, IsMadeBy, Makes, Sequence, VisitsBeside}
 use Rattle.hp_solo.specs.Solo.{IsBeside, IsNextDue, IsQuiet, ServerView, SoloView}
-use Rattle.hp_reasons.specs.Shared.{IsSharedIn, MakesAll, Shared}
+use Rattle.hp_reasons.specs.Shared.{IsSharedIn, Shared}
 use Rattle.hp_reasons.specs.Worlds.{AreCalls, CoursesGoAlong, IsInOrder, GoesAlong}
-
--- steps one behind the other
-pub makes_then : (who : ℕ) (first rest : List MailStep) (old mid new : Shared) → MakesAll who first old mid → MakesAll who rest mid new
-    → MakesAll who (first ++ rest) old new
-makes_then who [] rest old mid new begins ends = subst (λ (at : Shared). MakesAll who rest at new) begins ends
-makes_then who (step ∷ first) rest old mid new begins ends =
-    (begins.0, begins.1, makes_then who first rest begins.0 mid new begins.2 ends)
+use Rattle.hp_reasons.proofs.Sharing.{made_then}
 
 -- one alone did this with what is shared, and the others stand as they stood
 pub record IsOwn (me : ℕ) (steps : List MailStep) (old : List ServerView) (new : SoloView) (at : Shared) : Type 0 where
@@ -32,7 +26,7 @@ module _ (known : CoursesGoAlong) (me : ℕ) where
       record {
         along = record {
           at = behind.along.at;
-          made = makes_then me first rest at here.at behind.along.at here.made behind.along.made;
+          made = made_then me first rest at here.at behind.along.at here.made behind.along.made;
           shared = behind.along.shared;
           order = behind.along.order;
         };

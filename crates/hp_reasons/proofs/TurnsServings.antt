@@ -19,7 +19,8 @@ use Rattle.hp_reasons.specs.Stages.{ComesTo, IsSent, world_with}
 use Rattle.hp_reasons.specs.Waits.{AreServingsKnown, core_in, is_last, weight_in}
 use Rattle.hp_reasons.specs.Weighing.{weight_of}
 use Rattle.hp_reasons.proofs.Said.{set_found, set_unfound}
-use Rattle.hp_reasons.proofs.TurnsMembers.{IsDoneWith, box_empty, done_with, first_stays, member_boxes, member_clock, member_rests, never_waits, one_phase, open_closed, rests_empty}
+use Rattle.hp_reasons.proofs.TurnsMembers.{IsDoneWith, box_empty, done_with, first_stays, member_boxes, member_clock, member_rests, never_waits, one_phase, open_closed}
+use Rattle.hp_reasons.proofs.IdleServings.{member_idle}
 
 -- while participant 0 serves
 pub record LeadsAt (set : Setting) (call : Asked) (sent : ℕ) (world : World) : Type 0 where
@@ -73,19 +74,20 @@ core_rests count old new party after (CoreServes.rests none holds to_come new_is
 
 -- others have no turn before it
 to_follow : (set : Setting) (call : Asked) (sent : ℕ) (world : World) → Stage set call sent true world → Stage set call sent false world
-to_follow set call sent world (Stage.fresh clock unanswered coordinator alone to_do copies some empty doubled) =
-    Stage.fresh clock unanswered coordinator alone to_do copies some empty doubled
-to_follow set call sent world (Stage.lost unanswered coordinator alone to_do none empty doubled back) =
-    Stage.lost unanswered coordinator alone to_do none empty doubled back
+to_follow set call sent world (Stage.fresh clock unanswered coordinator alone to_do copies some empty doubled level) =
+    Stage.fresh clock unanswered coordinator alone to_do copies some empty doubled level
+to_follow set call sent world (Stage.lost unanswered coordinator alone to_do none empty doubled back loses) =
+    Stage.lost unanswered coordinator alone to_do none empty doubled back loses
 to_follow set call sent world
-    (Stage.growing round holds kind from number unanswered coordinator its to_do clock bodies doubled follow awaited) =
-    Stage.growing round holds kind from number unanswered coordinator its to_do clock bodies doubled follow (λ leads. cc)
+    (Stage.growing round holds kind from number unanswered coordinator its to_do clock bodies doubled follow awaited level) =
+    Stage.growing round holds kind from number unanswered coordinator its to_do clock bodies doubled follow (λ leads. cc) level
 to_follow set call sent world
-    (Stage.settling round since holds kind from number unanswered coordinator alone closed early clock logged bodies doubled waits answered) =
+    (Stage.settling round since holds kind from number unanswered coordinator alone closed early clock logged bodies doubled waits
+    answered level) =
     Stage.settling round since holds kind from number unanswered coordinator alone closed early clock logged bodies doubled (λ leads. cc)
-    answered
-to_follow set call sent world (Stage.over holds coordinator alone closed bodies doubled told answered) =
-    Stage.over holds coordinator alone closed bodies doubled told answered
+    answered level
+to_follow set call sent world (Stage.over holds coordinator alone closed bodies doubled told answered level) =
+    Stage.over holds coordinator alone closed bodies doubled told answered level
 
 module _ (known : AreServingsKnown) (set : Setting) (call : Asked) (sent : ℕ) (is_sent : IsSent set call sent) (world : World) (at : Shared)
     (party after : Party) where
@@ -155,23 +157,26 @@ module _ (set : Setting) (call : Asked) (sent who : ℕ) (world other : World) (
   -- where its mailbox was empty nothing was closed
   still_open : AreOthersEmpty world → other.shared ≡ world.shared
   still_open empty =
-      shared ∙ rests_empty world.shared at party after moved serves
-      (ap (box_of world.shared.boxes) me ∙ box_empty set world who base (empty who beside))
+      shared
+      ∙ (member_idle world.shared at party after moved serves
+      (ap (box_of world.shared.boxes) me ∙ box_empty set world who base (empty who beside))).same
 
   was_last : (stage : Stage set call sent false world) → IsDoneWith set call other
       → (is_last stage ≡ true) × (list_any is_sync (mail_of world who) ≡ false)
-  was_last (Stage.fresh clock unanswered coordinator alone to_do copies some empty doubled) done =
+  was_last (Stage.fresh clock unanswered coordinator alone to_do copies some empty doubled level) done =
       absurd (open_closed call world other (still_open empty) to_do done.closed)
-  was_last (Stage.lost unanswered coordinator alone to_do none empty doubled back) done =
+  was_last (Stage.lost unanswered coordinator alone to_do none empty doubled back loses) done =
       absurd (open_closed call world other (still_open empty) to_do done.closed)
-  was_last (Stage.growing round holds kind from number unanswered coordinator its to_do clock bodies doubled follow awaited) done =
+  was_last (Stage.growing round holds kind from number unanswered coordinator its to_do clock bodies doubled follow awaited level) done =
       absurd (never_waits round sent
       (one_phase set call world other (Waiting round sent) Idle holds done.holds coordinator done.coordinator same))
-  was_last (Stage.settling round since holds kind from number unanswered coordinator alone closed early clock logged bodies doubled waits answered)
+  was_last
+      (Stage.settling round since holds kind from number unanswered coordinator alone closed early clock logged bodies doubled waits
+      answered level)
       done =
       absurd (never_waits round since
       (one_phase set call world other (Waiting round since) Idle holds done.holds coordinator done.coordinator same))
-  was_last (Stage.over holds coordinator alone closed bodies doubled told answered) done = (refl, told who)
+  was_last (Stage.over holds coordinator alone closed bodies doubled told answered level) done = (refl, told who)
 
 module _ (known : AreServingsKnown) (set : Setting) (call : Asked) (sent : ℕ) (is_sent : IsSent set call sent) (who : ℕ) (world : World)
     (at : Shared) (party after : Party) (moved : Bool) (follows : FollowsAt set call sent who world) (beside : who ≢ 0)

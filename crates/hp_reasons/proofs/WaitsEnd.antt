@@ -1,5 +1,5 @@
 -- A wait for the answer to an ask ends at a turn, and by its answer or its deadline the ask is over, or it was lost.
-use Rattle.std.proofs.Common.{◌≡◌, ◌+◌, ◌<◌, ◌≤◌, ℕ, zero, suc, Bool, true, false, List, [], ◌∷◌, ◌++◌, Some, inl, inr, refl, sym, subst, arith}
+use Rattle.std.proofs.Common.{◌≡◌, ◌+◌, ◌<◌, ◌≤◌, ℕ, zero, suc, Bool, true, List, [], ◌∷◌, ◌++◌, Some, inl, inr, refl, sym, subst, arith, true≢false, ◌∙◌}
 use Rattle.std.specs.Prelude.{slice_get}
 use Rattle.std.proofs.lemmas.Bool.{and_parts}
 use Rattle.std.proofs.lemmas.Option.{none-some}
@@ -41,9 +41,6 @@ module _ (known : AreServingsKnown) (set : Setting) (call : Asked) (sent until m
 
 -- THE END OF A WAIT
 
-not_both : (b : Bool) → b ≡ true → b ≡ false → ⊥
-not_both b is other = cc
-
 -- the wait has ended by an answer, or by three deadlines
 module _ (set : Setting) (call : Asked) (sent now : ℕ) (heeds : Bool) (is_sent : IsSent set call sent) (world : World) (party : Party)
     (own : slice_get world.parties (asker call) ≡ Some party) (now_is : now ≡ world.shared.clock)
@@ -52,7 +49,7 @@ module _ (set : Setting) (call : Asked) (sent now : ℕ) (heeds : Bool) (is_sent
   waits_still : IsUnanswered call world → world.shared.clock < waits_until sent set.deadline → ⊥
   waits_still unanswered early =
       elim waited [
-        | inl over ↦ not_both party.answered (and_parts heeds party.answered over).1 (unanswered.unheard party own)
+        | inl over ↦ true≢false (sym (and_parts heeds party.answered over).1 ∙ unanswered.unheard party own)
         | inr reached ↦ omega (arith, reached, early, now_is)
       ]
 
@@ -61,15 +58,16 @@ module _ (set : Setting) (call : Asked) (sent now : ℕ) (heeds : Bool) (is_sent
   before_end early = omega (arith, early, is_sent.early, is_sent.setting.within, is_sent.setting.waits)
 
   pub ends_stage : (stage : Stage set call sent true world) → is_ended stage ≡ true
-  ends_stage (Stage.fresh clock unanswered coordinator alone to_do copies some empty doubled) =
+  ends_stage (Stage.fresh clock unanswered coordinator alone to_do copies some empty doubled level) =
       absurd (waits_still unanswered (before_end (omega (arith, clock))))
-  ends_stage (Stage.lost unanswered coordinator alone to_do gone empty doubled back) = refl
-  ends_stage (Stage.growing round holds kind from number unanswered coordinator its to_do clock bodies doubled follow awaited) =
+  ends_stage (Stage.lost unanswered coordinator alone to_do gone empty doubled back loses) = refl
+  ends_stage (Stage.growing round holds kind from number unanswered coordinator its to_do clock bodies doubled follow awaited level) =
       absurd (waits_still unanswered (before_end (omega (arith, clock))))
   ends_stage
-      (Stage.settling round since holds kind from number unanswered coordinator alone closed early clock logged bodies doubled waits answered) =
+      (Stage.settling round since holds kind from number unanswered coordinator alone closed early clock logged bodies doubled waits
+      answered level) =
       absurd (waits_still unanswered (before_end (omega (arith, early, clock))))
-  ends_stage (Stage.over holds coordinator alone closed bodies doubled told answered) = refl
+  ends_stage (Stage.over holds coordinator alone closed bodies doubled told answered level) = refl
 
 module _ (known : AreServingsKnown) (set : Setting) (call : Asked) (sent : ℕ) (heeds : Bool) (is_sent : IsSent set call sent) where
   wait_ends : (turns now : ℕ) (old new : SoloView) (party after : Party) (steps first : List MailStep) (world : World)

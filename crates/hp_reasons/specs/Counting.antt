@@ -1,5 +1,5 @@
 -- How often a plan loses messages, or doubles them. The rule "Reasons" of docs/PARTICIPANTS.md.
-use Rattle.std.specs.Prelude.{ℕ, zero, suc, ◌+◌, ◌≤◌, Bool, true, false, ◌&&◌, ◌==◌, List, count_by, if◌then◌else◌}
+use Rattle.std.specs.Prelude.{◌≡◌, ℕ, zero, suc, ◌+◌, ◌≤◌, Bool, true, false, ◌&&◌, ◌==◌, List, count_by, if◌then◌else◌}
 use Rattle.hp_base.specs.Plans.{action_of, kind_place}
 use Rattle.hp_base.specs.declared.plan.Action.{Action}
 use Rattle.hp_base.specs.declared.plan.Action.TheVariants.{Deliver, Lose, Repeat}
@@ -35,6 +35,10 @@ planned_losses plan kind party = count_by (entry_loses kind party) plan
 
 abbrev pub planned_repeats : List PlanEntry → MsgKind → ℕ → ℕ
 planned_repeats plan kind party = count_by (entry_repeats kind party) plan
+
+-- a plan loses no message
+abbrev pub LosesNothing : List PlanEntry → Type 0
+LosesNothing plan = (kind : MsgKind) (party : ℕ) → planned_losses plan kind party ≡ 0
 
 -- how many of the first messages of that kind that concern the party, so many, are lost, and how many of them come twice
 unfoldable pub lost_among : List PlanEntry → MsgKind → ℕ → ℕ → ℕ

@@ -19,6 +19,7 @@ use Rattle.hp_frame.specs.declared.message.Body.{Body}
 use Rattle.hp_frame.specs.declared.message.Body.TheVariants.{Alloc, Answer, Free, Sync}
 use Rattle.hp_hall.specs.Holding.{IsArmed}
 use Rattle.hp_hall.specs.Mail.{box_of}
+use Rattle.hp_hall.specs.declared.mailbox.TheConstants.{MAILBOX_FRAMES}
 use Rattle.hp_maps.specs.MapsView.{calls_of}
 use Rattle.hp_segs.specs.LaterSteps.{has_failed_from, noted_failure}
 use Rattle.hp_segs.specs.SegsView.{closed_number, grants_or_refuses, is_member}
@@ -29,10 +30,9 @@ use Rattle.hp_proc.specs.Asking.{alloc_body}
 use Rattle.hp_proc.specs.Frames.{Says}
 use Rattle.hp_proc.specs.Party.{Party}
 use Rattle.hp_proc.specs.Posting.{times_sent}
-use Rattle.hp_reasons.specs.Counting.{doubled_among, lost_among}
+use Rattle.hp_reasons.specs.Counting.{LosesNothing, doubled_among, lost_among}
 use Rattle.hp_reasons.specs.Outcomes.{late_outcomes, stale_outcomes, withdrawn_outcomes}
 use Rattle.hp_reasons.specs.Failing.{AreGrantsWithin}
-use Rattle.hp_reasons.specs.Servings.{CoreServes, MemberServes}
 use Rattle.hp_reasons.specs.Shared.{Shared}
 
 -- what does not change in a run: how many participants there are, their deadline, and the plan of their messages
@@ -232,16 +232,47 @@ MayBeTakenBack set (want.Grow ask) world = (party : Party) → slice_get world.p
     → withdrawn_outcomes ask.from world.shared.segs.asks < lost_among set.plan message.Alloc ask.from party.sent.allocs
 MayBeTakenBack set (want.Shrink from number) world = ⊤
 
+-- all members have taken in all records
+abbrev pub AreLevel : World → Type 0
+AreLevel world = (who : ℕ) → is_member world.shared.segs.roster who ≡ true → number_of_party world who ≡ length world.shared.segs.log
+
+-- before an ask for pages nothing is left of what was given up
+abbrev pub IsGoneBefore : Asked → World → Type 0
+IsGoneBefore (want.Grow ask) world = world.shared.segs.retiring ≡ []
+IsGoneBefore (want.Shrink from number) world = ⊤
+
+-- where the plan loses no message an ask starts with all members level, and one for pages once nothing is left of what was given up
+abbrev pub StartsLevel : Setting → Asked → World → Type 0
+StartsLevel set call world = LosesNothing set.plan → AreLevel world × IsGoneBefore call world
+
+-- while a growth waits nothing is left of what was given up, and there is room in each mailbox but participant 0's
+pub record GrowsLevel (world : World) : Type 0 where
+  pub gone : world.shared.segs.retiring ≡ []
+  pub room : (who : ℕ) → who ≢ 0 → length (mail_of world who) < MAILBOX_FRAMES
+
+-- a round that settles is for all records there are, and nothing is left of what was given up; where the plan loses no message each member
+-- has its SYNC in its mailbox, or has taken in these records
+pub record SettlesLevel (set : Setting) (world : World) (generation : ℕ) : Type 0 where
+  pub gone : world.shared.segs.retiring ≡ []
+  pub whole : generation ≡ length world.shared.segs.log
+  pub follows : LosesNothing set.plan → (member : ℕ) → is_member world.shared.segs.roster member ≡ true
+      → (list_any is_sync (mail_of world member) ≡ true) ⊎ (generation ≤ number_of_party world member)
+
+-- an ask that is over leaves nothing of what was given up, and where the plan loses no message all members level
+pub record EndsLevel (set : Setting) (world : World) : Type 0 where
+  pub gone : world.shared.segs.retiring ≡ []
+  pub level : LosesNothing set.plan → AreLevel world
+
 -- how far an ask is, which was sent at a reading, while participant 0 may serve, or while only others do before the turn is over
 pub data Stage (set : Setting) (call : Asked) (sent : ℕ) (leads : Bool) (world : World) : Type 0 where
   -- it lies in mailbox 0, and all else is quiet
   fresh : world.shared.clock ≡ sent → IsUnanswered call world → HasCoordinator set world Idle call false
       → world.shared.segs.growth ≡ None → IsToDo call world → All (IsCopy call) (mail_of world 0) → 0 < length (mail_of world 0)
-      → AreOthersEmpty world → AreDoubled set world call false true → Stage set call sent leads world
+      → AreOthersEmpty world → AreDoubled set world call false true → StartsLevel set call world → Stage set call sent leads world
   -- it was lost
   lost : IsUnanswered call world → HasCoordinator set world Idle call false → world.shared.segs.growth ≡ None → IsToDo call world
       → mail_of world 0 ≡ [] → AreOthersEmpty world → AreDoubled set world call false false → MayBeTakenBack set call world
-      → Stage set call sent leads world
+      → (LosesNothing set.plan → ⊥) → Stage set call sent leads world
   -- its growth waits for its members
   growing : (round : Round) (holds : Bool) → round.kind ≡ kind.Growth → round.from ≡ asker call → round.number ≡ number_of call
       → IsUnanswered call world → HasCoordinator set world (Waiting round sent) call holds
@@ -249,7 +280,7 @@ pub data Stage (set : Setting) (call : Asked) (sent : ℕ) (leads : Bool) (world
       → AreAnswersOrCopies call (mail_of world 0) → AreDoubled set world call holds false
       → ((member : ℕ) → is_member world.shared.segs.roster member ≡ true → FollowsGrowth set world round.generation sent member)
       → (leads ≡ true → (member : ℕ) → list_any is_sync (mail_of world member) ≡ true → IsAwaited world round.generation member)
-      → Stage set call sent leads world
+      → GrowsLevel world → Stage set call sent leads world
   -- it is closed, and a rollback or the drops wait for their members
   settling : (round : Round) (since : ℕ) (holds : Bool) → is_growth round.kind ≡ false → round.from ≡ asker call
       → round.number ≡ number_of call → IsUnanswered call world → HasCoordinator set world (Waiting round since) call holds
@@ -257,27 +288,9 @@ pub data Stage (set : Setting) (call : Asked) (sent : ℕ) (leads : Bool) (world
       → round.generation ≤ length world.shared.segs.log → AreAnswersOrCopies call (mail_of world 0)
       → AreDoubled set world call holds false
       → (leads ≡ true → (member : ℕ) → list_any is_sync (mail_of world member) ≡ true → WaitsToSettle call world round.generation since member)
-      → IsAnsweredFor call world → Stage set call sent leads world
+      → IsAnsweredFor call world → SettlesLevel set world round.generation → Stage set call sent leads world
   -- it is closed, and nothing is under way
   over : (holds : Bool) → HasCoordinator set world Idle call holds → world.shared.segs.growth ≡ None → IsClosed call world
       → AreAnswersOrCopies call (mail_of world 0) → AreDoubled set world call holds false
-      → ((member : ℕ) → list_any is_sync (mail_of world member) ≡ false) → IsAnsweredFor call world → Stage set call sent leads world
-
--- between asks and notices all is quiet
-pub record IsQuietWorld (set : Setting) (world : World) : Type 0 where
-  pub base : IsBase set world
-  pub idle : (primary : Party) → slice_get world.parties 0 ≡ Some primary
-      → (core : Core) × (primary.core ≡ Some core) × (core.deadline ≡ set.deadline) × (core.phase ≡ Idle) × (core.held ≡ replicate 16 None)
-  pub growth : world.shared.segs.growth ≡ None
-  pub empty : (who : ℕ) → mail_of world who ≡ []
-  pub doubled : (who : ℕ) (party : Party) → slice_get world.parties who ≡ Some party
-      → stale_outcomes who world.shared.segs.asks ≤ doubles set who party
-
--- one participant served, and nobody else did anything; what the mailboxes say behind it is what their frames say
-pub record ServesIn (set : Setting) (who : ℕ) (moved : Bool) (old new : World) : Type 0 where
-  pub party : Party
-  pub after : Party
-  pub there : slice_get old.parties who ≡ Some party
-  pub now : new.parties ≡ slice_set old.parties who after
-  pub primary : who ≡ 0 → CoreServes set.count old.shared new.shared party after moved
-  pub member : who ≢ 0 → MemberServes old.shared new.shared party after moved
+      → ((member : ℕ) → list_any is_sync (mail_of world member) ≡ false) → IsAnsweredFor call world → EndsLevel set world
+      → Stage set call sent leads world

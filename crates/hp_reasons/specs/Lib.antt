@@ -4,9 +4,11 @@ pub mod Shared
 pub mod Servings
 pub mod Outcomes
 pub mod Episode
+pub mod Quiet
 pub mod Stages
 pub mod Worlds
 pub mod Weighing
 pub mod Waits
 pub mod Lines
 pub mod Threads
+pub mod Nones

@@ -1,24 +1,32 @@
 -- What a line makes of a world. The rule "Reasons" of docs/PARTICIPANTS.md.
-use Rattle.std.specs.Prelude.{◌≡◌, ◌≤◌, ◌^◌, ℕ, Bool, true, false, List, Some, count_by}
+use Rattle.std.specs.Prelude.{◌≡◌, ◌≤◌, ◌^◌, ⊤, ℕ, Bool, true, false, ◌||◌, List, [], ◌∷◌, Some, count_by}
 use Rattle.std.specs.List.{list_any}
 use Rattle.hp_hall.specs.Mail.{MailStep}
+use Rattle.hp_heap.specs.declared.entry.HeapAnswer.{HeapAnswer}
+use Rattle.hp_heap.specs.declared.entry.HeapAnswer.TheVariants as gives
+use Rattle.hp_heap.specs.declared.entry.HeapCall.{HeapCall}
+use Rattle.hp_heap.specs.declared.entry.HeapCall.TheVariants as call
 use Rattle.hp_proc.specs.Acting.{Acts}
-use Rattle.hp_proc.specs.Doing.{Done}
+use Rattle.hp_proc.specs.Doing.{Doing, Done, Leads}
 use Rattle.hp_proc.specs.Doing.Done.{Asked, Called, CaughtUp, GaveUp, Looked}
+use Rattle.hp_proc.specs.Lines.{Facts, doing_of}
 use Rattle.hp_proc.specs.Party.{Party}
 use Rattle.hp_proc.specs.Waiting.{IsTurned}
+use Rattle.hp_script.specs.declared.answer.Answer.{Answer}
+use Rattle.hp_script.specs.declared.line.Line.{Line}
 use Rattle.hp_solo.specs.Sequence.{Sequence}
 use Rattle.hp_solo.specs.Solo.{SoloView}
-use Rattle.hp_reasons.specs.Episode.{IsQuietWorld, IsSetting, Setting, World}
+use Rattle.hp_reasons.specs.Episode.{IsSetting, Setting, World}
+use Rattle.hp_reasons.specs.Quiet.{IsQuietOwing}
 use Rattle.hp_reasons.specs.Waits.{AreServingsKnown, AsksInQuiet, LeadsTo, NotifiesInQuiet}
 use Rattle.hp_reasons.specs.Worlds.{IsWorldOf}
 
 -- a turn of a wait leads from a quiet world to a quiet one: nobody has anything to do
 abbrev pub TurnsInQuiet : Type 0
-TurnsInQuiet = AreServingsKnown → (set : Setting) (until me : ℕ) (old new : SoloView) (party after : Party) (moved : Bool)
-    (steps : List MailStep) (world : World) → IsSetting set → IsWorldOf old me party world → IsQuietWorld set world
+TurnsInQuiet = AreServingsKnown → (set : Setting) (until me : ℕ) (owes : Bool) (old new : SoloView) (party after : Party) (moved : Bool)
+    (steps : List MailStep) (world : World) → IsSetting set → IsWorldOf old me party world → IsQuietOwing set owes world
     → world.shared.clock ≤ 2 ^ 62 → Sequence me old steps new → IsTurned set.count until party after steps (Some moved)
-    → LeadsTo (IsQuietWorld set) new me after
+    → LeadsTo (IsQuietOwing set owes) new me after
 
 -- what waits, asks and notices make of a quiet world
 pub record AreWaitsQuiet : Type 0 where
@@ -40,9 +48,40 @@ pub record AttachesOnce (party : Party) (trace : List Done) : Type 0 where
   pub out : party.joined ≡ true → list_any is_looked trace ≡ false
   pub once : count_by is_looked trace ≤ 1
 
+-- the call is one that cuts pages, and it cut a run
+abbrev pub is_cut : HeapCall → HeapAnswer → Bool
+is_cut (call.Cut address) (gives.Pages run) = true
+is_cut _ _ = false
+
+-- whether a participant owes word of a run that it gave up, behind what it did
+abbrev pub owes_behind : Bool → Done → Bool
+owes_behind owes (Called heap call answer) = owes || is_cut call answer
+owes_behind owes (GaveUp heap run) = false
+owes_behind owes (Asked asked run) = owes
+owes_behind owes (Looked records) = owes
+owes_behind owes (CaughtUp to caught) = owes
+
+-- it may do this: it asks for pages only while it owes nothing
+abbrev pub MayDoOwing : Bool → Done → Type 0
+MayDoOwing owes (Asked asked run) = owes ≡ false
+MayDoOwing owes (Called heap call answer) = ⊤
+MayDoOwing owes (GaveUp heap run) = ⊤
+MayDoOwing owes (Looked records) = ⊤
+MayDoOwing owes (CaughtUp to caught) = ⊤
+
+-- it asks for pages only once word was given behind its last cut; this tells whether it owes word before its trace, and behind it
+unfoldable pub Owes : Bool → List Done → Bool → Type 0
+Owes owes [] left = left ≡ owes
+Owes owes (done ∷ trace) left = MayDoOwing owes done × Owes (owes_behind owes done) trace left
+
+-- so does each line, and behind it nothing is owed
+abbrev pub LinesOweNothing : Type 0
+LinesOweNothing = (line : Line) (facts : Facts) (trace : List Done) (answer : Answer)
+    → Leads (doing_of line line.act facts) trace (Doing.Ended answer) → Owes false trace false
+
 -- what a participant does of its line leads from a quiet world to a quiet one
 abbrev pub ActsInQuiet : Type 0
-ActsInQuiet = AreWaitsQuiet → (set : Setting) (me : ℕ) (old new : SoloView) (party after : Party) (trace : List Done)
-    (steps : List MailStep) (world : World) → IsSetting set → IsWorldOf old me party world → IsQuietWorld set world
-    → new.plain.clock ≤ 2 ^ 62 → Sequence me old steps new → AttachesOnce party trace → Acts set.count party after trace steps
-    → LeadsTo (IsQuietWorld set) new me after
+ActsInQuiet = AreWaitsQuiet → (set : Setting) (me : ℕ) (owes left : Bool) (old new : SoloView) (party after : Party) (trace : List Done)
+    (steps : List MailStep) (world : World) → IsSetting set → IsWorldOf old me party world → IsQuietOwing set owes world
+    → new.plain.clock ≤ 2 ^ 62 → Sequence me old steps new → AttachesOnce party trace → Owes owes trace left
+    → Acts set.count party after trace steps → LeadsTo (IsQuietOwing set left) new me after

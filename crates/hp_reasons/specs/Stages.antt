@@ -8,7 +8,7 @@ use Rattle.hp_core.specs.declared.event.CoreEvent.{CoreEvent}
 use Rattle.hp_core.specs.declared.phase.Phase.TheVariants.{Idle}
 use Rattle.hp_frame.specs.declared.message.Body.{Body}
 use Rattle.hp_proc.specs.Party.{Party}
-use Rattle.hp_reasons.specs.Episode.{AreDoubled, AreOthersEmpty, HasCoordinator, IsBase, IsCopy, IsSetting, IsToDo, IsUnanswered, Setting, Stage, World, copies_left, doubles, is_sync, mail_of, number_of_party}
+use Rattle.hp_reasons.specs.Episode.{AreDoubled, AreOthersEmpty, HasCoordinator, IsBase, IsCopy, IsSetting, IsToDo, IsUnanswered, Setting, Stage, StartsLevel, World, copies_left, doubles, is_sync, mail_of, number_of_party}
 use Rattle.hp_reasons.specs.Outcomes.{stale_outcomes}
 use Rattle.hp_reasons.specs.Servings.{CoreServes, Handles, MemberServes, Polls}
 use Rattle.hp_reasons.specs.Shared.{Shared}
@@ -39,6 +39,7 @@ pub record IsStarting (set : Setting) (call : Asked) (sent : ℕ) (world : World
   pub copies : All (IsCopy call) (mail_of world 0)
   pub empty : AreOthersEmpty world
   pub doubled : AreDoubled set world call false false
+  pub level : StartsLevel set call world
 
 -- participant 0 has fetched one more copy of an ask: there is room for one more that is stale
 abbrev pub HasOneMore : Setting → World → Asked → Bool → Type 0
@@ -55,15 +56,15 @@ StartsFresh = (set : Setting) (call : Asked) (sent : ℕ) (event : CoreEvent) (w
 
 -- a further copy may come: one of a fresh ask is started instead, and of one that was lost there is none
 abbrev pub HasRoomFor : (set : Setting) (call : Asked) (sent : ℕ) (leads : Bool) (world : World) → Stage set call sent leads world → Type 0
-HasRoomFor set call sent leads world (Stage.fresh clock unanswered coordinator alone to_do copies some empty doubled) = ⊥
-HasRoomFor set call sent leads world (Stage.lost unanswered coordinator alone to_do none empty doubled taken_back) = ⊥
+HasRoomFor set call sent leads world (Stage.fresh clock unanswered coordinator alone to_do copies some empty doubled level) = ⊥
+HasRoomFor set call sent leads world (Stage.lost unanswered coordinator alone to_do none empty doubled taken_back loses) = ⊥
 HasRoomFor set call sent leads world
-    (Stage.growing round holds kind from number unanswered coordinator its to_do clock bodies doubled follow awaited) =
+    (Stage.growing round holds kind from number unanswered coordinator its to_do clock bodies doubled follow awaited level) =
     HasOneMore set world call holds
 HasRoomFor set call sent leads world
-    (Stage.settling round since holds kind from number unanswered coordinator alone closed early clock logged bodies doubled waits granted) =
+    (Stage.settling round since holds kind from number unanswered coordinator alone closed early clock logged bodies doubled waits granted level) =
     HasOneMore set world call holds
-HasRoomFor set call sent leads world (Stage.over holds coordinator alone closed bodies doubled told granted) = HasOneMore set world call holds
+HasRoomFor set call sent leads world (Stage.over holds coordinator alone closed bodies doubled told granted level) = HasOneMore set world call holds
 
 -- a further copy comes: it is held, or stale
 abbrev pub TakesACopy : Type 0
@@ -74,14 +75,14 @@ TakesACopy = (set : Setting) (call : Asked) (sent : ℕ) (event : CoreEvent) (wo
 
 -- a poll may come: who has a SYNC of a settling round in its mailbox has not acknowledged the round
 abbrev pub MayPoll : (set : Setting) (call : Asked) (sent : ℕ) (leads : Bool) (world : World) → Stage set call sent leads world → Type 0
-MayPoll set call sent leads world (Stage.fresh clock unanswered coordinator alone to_do copies some empty doubled) = ⊤
-MayPoll set call sent leads world (Stage.lost unanswered coordinator alone to_do none empty doubled taken_back) = ⊤
+MayPoll set call sent leads world (Stage.fresh clock unanswered coordinator alone to_do copies some empty doubled level) = ⊤
+MayPoll set call sent leads world (Stage.lost unanswered coordinator alone to_do none empty doubled taken_back loses) = ⊤
 MayPoll set call sent leads world
-    (Stage.growing round holds kind from number unanswered coordinator its to_do clock bodies doubled follow awaited) = ⊤
+    (Stage.growing round holds kind from number unanswered coordinator its to_do clock bodies doubled follow awaited level) = ⊤
 MayPoll set call sent leads world
-    (Stage.settling round since holds kind from number unanswered coordinator alone closed early clock logged bodies doubled waits granted) =
+    (Stage.settling round since holds kind from number unanswered coordinator alone closed early clock logged bodies doubled waits granted level) =
     (member : ℕ) → list_any is_sync (mail_of world member) ≡ true → number_of_party world member < round.generation
-MayPoll set call sent leads world (Stage.over holds coordinator alone closed bodies doubled told granted) = ⊤
+MayPoll set call sent leads world (Stage.over holds coordinator alone closed bodies doubled told granted level) = ⊤
 
 -- it polls: by a reply while a round is under way, as a deadline has passed, or to start what it holds
 abbrev pub PollsOn : Type 0

@@ -1,5 +1,5 @@
 -- Runs in one thread, line by line, and what can be said of why growths were refused in them. The rule "Reasons" of docs/PARTICIPANTS.md.
-use Rattle.std.specs.Prelude.{◌≡◌, ℕ, ◌+◌, ◌<◌, ◌≤◌, ◌^◌, false, List, [], ◌∷◌, ◌++◌, length, map, Some, None, slice_get, slice_set}
+use Rattle.std.specs.Prelude.{◌≡◌, ℕ, ◌+◌, ◌<◌, ◌≤◌, ◌^◌, true, false, List, [], ◌∷◌, ◌++◌, length, map, Some, None, slice_get, slice_set}
 use Rattle.std.specs.List.{All}
 use Rattle.hp_base.specs.declared.limits.TheConstants.{MAX_HEAPS}
 use Rattle.hp_base.specs.declared.plan_entry.MsgKind.TheVariants as message
@@ -19,9 +19,10 @@ use Rattle.hp_solo.specs.Sequence.{Sequence}
 use Rattle.hp_solo.specs.Solo.{ServerView, SoloView, has_stopped, party_at, server_at}
 use Rattle.hp_joint.specs.EndLaws.{IsFirstParty, IsGiven}
 use Rattle.hp_joint.specs.SoFar.{AreFirstHeaps, SoFar, first_hall}
-use Rattle.hp_reasons.specs.Counting.{planned_losses, planned_repeats}
-use Rattle.hp_reasons.specs.Episode.{IsCounted, IsQuietWorld, IsSetting, Setting, World}
-use Rattle.hp_reasons.specs.Lines.{ActsInQuiet, AreWaitsQuiet}
+use Rattle.hp_reasons.specs.Counting.{LosesNothing, planned_losses, planned_repeats}
+use Rattle.hp_reasons.specs.Episode.{IsCounted, IsSetting, Setting, World}
+use Rattle.hp_reasons.specs.Quiet.{IsQuietWorld}
+use Rattle.hp_reasons.specs.Lines.{ActsInQuiet, AreWaitsQuiet, LinesOweNothing}
 use Rattle.hp_reasons.specs.Outcomes.{late_outcomes, stale_outcomes, withdrawn_outcomes}
 use Rattle.hp_reasons.specs.Shared.{IsSharedIn}
 use Rattle.hp_reasons.specs.Worlds.{IsInOrder}
@@ -70,6 +71,11 @@ pub record HaveReasons (plan : List PlanEntry) (asks : List AskLog) : Type 0 whe
   pub withdrawn : (who : ℕ) → withdrawn_outcomes who asks ≤ planned_losses plan message.Alloc who
   pub stale : (who : ℕ) → stale_outcomes who asks ≤ planned_repeats plan message.Alloc who + planned_repeats plan message.Free who
 
+-- nothing is left to do: nothing of what was given up is left, and who is attached has taken in all records
+pub record IsAllDone (segs : SegsView) (servers : List ServerView) : Type 0 where
+  pub gone : segs.retiring ≡ []
+  pub level : (who : ℕ) (party : Party) → party_at servers who ≡ Some party → party.joined ≡ true → party.maps.number ≡ length segs.log
+
 -- a hall of one thread in which everybody is in its place is such a world; nobody has met a refusal of memory
 pub record IsWorldAt (hall : SoloView) (world : World) : Type 0 where
   pub shared : IsSharedIn hall.plain world.shared
@@ -86,10 +92,11 @@ abbrev pub DrainsInQuiet : Type 0
 DrainsInQuiet = (set : Setting) (old new : SoloView) (world : World) → IsSetting set → IsWorldAt old world → IsQuietWorld set world
     → Drains old new → IsWorldAt new world
 
--- lines lead from quiet worlds to quiet ones, by what waits do, and turns behind them leave them as they are
+-- lines lead from quiet worlds to quiet ones, by what waits do and what lines owe, and turns behind them leave them as they are
 pub record LeadInQuiet : Type 0 where
   pub waits : AreWaitsQuiet
   pub acts : ActsInQuiet
+  pub owing : LinesOweNothing
   pub drains : DrainsInQuiet
 
 -- the hall of a workload before its first line, with all its participants in their places, by its plan
@@ -110,8 +117,14 @@ pub record MayRun (workload : Workload) (courses : List Course) : Type 0 where
   pub few : length courses ≤ 20000
   pub counted : All IsCounted workload.plan.items
 
--- so it is in every run in one thread
+-- in every run in one thread outcomes have these reasons
 abbrev pub ThreadsHaveReasons : Type 0
 ThreadsHaveReasons = (workload : Workload) (first last : SoloView) (courses : List Course) (parties : List Party) (segs : SegsView)
     → MayRun workload courses → OpensThread workload first → OneThread first courses last → SoFar workload courses parties last.plain
     → segs_in (slot_at last.plain MAX_HEAPS) ≡ Some segs → HaveReasons workload.plan.items segs.asks
+
+-- and in every one whose plan loses no message nothing is left to do behind the last line
+abbrev pub ThreadsEndLevel : Type 0
+ThreadsEndLevel = (workload : Workload) (first last : SoloView) (courses : List Course) (parties : List Party) (segs : SegsView)
+    → MayRun workload courses → OpensThread workload first → OneThread first courses last → SoFar workload courses parties last.plain
+    → segs_in (slot_at last.plain MAX_HEAPS) ≡ Some segs → LosesNothing workload.plan.items → IsAllDone segs last.servers

@@ -11,7 +11,8 @@ use Rattle.hp_proc.specs.Waiting.{IsTurned, IsWaited, most_servings}
 use Rattle.hp_proc.specs.declared.pages_asked.PagesAsked.{PagesAsked}
 use Rattle.hp_solo.specs.Sequence.{Sequence}
 use Rattle.hp_solo.specs.Solo.{SoloView}
-use Rattle.hp_reasons.specs.Episode.{AreOthersEmpty, IsBase, IsQuietWorld, IsSetting, Setting, Stage, World}
+use Rattle.hp_reasons.specs.Episode.{AreOthersEmpty, IsBase, IsSetting, Setting, Stage, World}
+use Rattle.hp_reasons.specs.Quiet.{IsQuietOwing, IsQuietWorld}
 use Rattle.hp_reasons.specs.Servings.{CoordinatesSo, MembersServeSo}
 use Rattle.hp_reasons.specs.Stages.{IsSent, MemberServesOnce, PrimaryServes}
 use Rattle.hp_reasons.specs.Weighing.{CoreWeighsLess, MemberWeighsLess, weight_of}
@@ -19,19 +20,19 @@ use Rattle.hp_reasons.specs.Worlds.{CoursesGoAlong, IsWorldOf}
 
 -- the stage is the last one: nothing is under way
 abbrev pub is_last : {set : Setting} {call : Asked} {sent : ℕ} {leads : Bool} {world : World} → Stage set call sent leads world → Bool
-is_last (Stage.fresh _ _ _ _ _ _ _ _ _) = false
-is_last (Stage.lost _ _ _ _ _ _ _ _) = false
-is_last (Stage.growing _ _ _ _ _ _ _ _ _ _ _ _ _ _) = false
-is_last (Stage.settling _ _ _ _ _ _ _ _ _ _ _ _ _ _ _ _ _) = false
-is_last (Stage.over _ _ _ _ _ _ _ _) = true
+is_last (Stage.fresh _ _ _ _ _ _ _ _ _ _) = false
+is_last (Stage.lost _ _ _ _ _ _ _ _ _) = false
+is_last (Stage.growing _ _ _ _ _ _ _ _ _ _ _ _ _ _ _) = false
+is_last (Stage.settling _ _ _ _ _ _ _ _ _ _ _ _ _ _ _ _ _ _) = false
+is_last (Stage.over _ _ _ _ _ _ _ _ _) = true
 
 -- nothing will be under way any more
 abbrev pub is_ended : {set : Setting} {call : Asked} {sent : ℕ} {leads : Bool} {world : World} → Stage set call sent leads world → Bool
-is_ended (Stage.fresh _ _ _ _ _ _ _ _ _) = false
-is_ended (Stage.lost _ _ _ _ _ _ _ _) = true
-is_ended (Stage.growing _ _ _ _ _ _ _ _ _ _ _ _ _ _) = false
-is_ended (Stage.settling _ _ _ _ _ _ _ _ _ _ _ _ _ _ _ _ _) = false
-is_ended (Stage.over _ _ _ _ _ _ _ _) = true
+is_ended (Stage.fresh _ _ _ _ _ _ _ _ _ _) = false
+is_ended (Stage.lost _ _ _ _ _ _ _ _ _) = true
+is_ended (Stage.growing _ _ _ _ _ _ _ _ _ _ _ _ _ _ _) = false
+is_ended (Stage.settling _ _ _ _ _ _ _ _ _ _ _ _ _ _ _ _ _ _) = false
+is_ended (Stage.over _ _ _ _ _ _ _ _ _) = true
 
 -- the coordinator of a participant, where there is one
 abbrev pub core_in : Option Party → Option Core
@@ -90,14 +91,14 @@ WaitsOut = AreServingsKnown → (set : Setting) (call : Asked) (sent now : ℕ) 
     → Sequence (asker call) old steps new → IsWaited set.count (waits_until sent set.deadline) heeds party after steps (Some now)
     → LeadsTo (HasComeOut set call sent now) new (asker call) after
 
--- an ask leads from a quiet world to a quiet one, and so does a notice
+-- an ask leads from a quiet world to a quiet one, while nothing is owed, and so does a notice, behind which nothing is
 abbrev pub AsksInQuiet : Type 0
 AsksInQuiet = AreServingsKnown → (set : Setting) (me : ℕ) (old new : SoloView) (party after : Party) (asked : PagesAsked) (run : Option Run)
-    (steps : List MailStep) (world : World) → IsSetting set → IsWorldOf old me party world → IsQuietWorld set world
+    (steps : List MailStep) (world : World) → IsSetting set → IsWorldOf old me party world → IsQuietOwing set false world
     → world.shared.clock ≤ 2 ^ 62 → Sequence me old steps new → DoesAsk set.count party after asked steps run
-    → LeadsTo (IsQuietWorld set) new me after
+    → LeadsTo (IsQuietOwing set false) new me after
 
 abbrev pub NotifiesInQuiet : Type 0
 NotifiesInQuiet = AreServingsKnown → (set : Setting) (me heap : ℕ) (old new : SoloView) (party after : Party) (run : Run) (steps : List MailStep)
     (world : World) → IsSetting set → IsWorldOf old me party world → IsQuietWorld set world → world.shared.clock ≤ 2 ^ 62
-    → Sequence me old steps new → DoesNotify set.count party after heap run steps → LeadsTo (IsQuietWorld set) new me after
+    → Sequence me old steps new → DoesNotify set.count party after heap run steps → LeadsTo (IsQuietOwing set false) new me after

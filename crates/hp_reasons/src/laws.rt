@@ -2,8 +2,9 @@
 //! code.
 ghost use Rattle.hp_reasons.specs.Counting.{LosesAsPlanned, RepeatsAsPlanned};
 ghost use Rattle.hp_reasons.specs.Failing.{FailsAtTheGrowth, NotesAFailure};
+ghost use Rattle.hp_reasons.specs.Nones.{NonesAreInVain, RefusalsAreForWant};
 ghost use Rattle.hp_reasons.specs.Servings.{CoordinatesSo, MembersServeSo};
-ghost use Rattle.hp_reasons.specs.Threads.{ThreadsHaveReasons};
+ghost use Rattle.hp_reasons.specs.Threads.{ThreadsEndLevel, ThreadsHaveReasons};
 
 /// However many messages of a kind a participant has sent, the plan loses, or doubles, at most as many of them as it has lines that do so.
 /// Own.
@@ -29,4 +30,18 @@ pub fn serving_law()
 /// the plan loses SYNCs to it, loses its asks, or repeats its asks and notices. Own.
 pub fn reasons_law()
     ensures { ThreadsHaveReasons }
+{}
+
+/// In every run in one thread whose plan loses no message, nothing of what was given up is left at the end, and whoever is attached has taken
+/// in all records. Own.
+pub fn level_law()
+    ensures { ThreadsEndLevel }
+{}
+
+/// A line that allocates and is answered that there is no memory found no address in its heaps and was granted no pages; and where late and
+/// taken-back outcomes have their reasons in the plan, the plan loses no message and no mapping failed, asks were refused for want of a list, of
+/// pages, of slots or of a place alone. Own.
+pub fn none_law()
+    ensures vain { NonesAreInVain }
+    ensures want { RefusalsAreForWant }
 {}

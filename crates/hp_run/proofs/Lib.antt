@@ -13,4 +13,6 @@ mod Ending
 mod EndLemmas
 mod FailureLemmas
 mod ReasonLemmas
+mod LevelLemmas
 pub mod FaultLemmas
+pub mod WantLemmas

@@ -147,6 +147,12 @@ pub if_ok : {T E : Type 0} (P Q : T → Type 0) (result : Result T E) → ((valu
 if_ok P Q (Ok value) more holds = more value holds
 if_ok P Q (Err refusal) more holds = tt
 
+-- what two facts say of it holds together
+pub if_both : {T E : Type 0} (P Q : T → Type 0) (result : Result T E) → IfOk result P → IfOk result Q
+    → IfOk result (λ value. P value × Q value)
+if_both P Q (Ok value) one other = (one, other)
+if_both P Q (Err refusal) one other = tt
+
 -- and by three
 pub if_three : {T E : Type 0} (P Q R S : T → Type 0) (result : Result T E) → ((value : T) → P value → Q value → R value → S value)
     → IfOk result P → IfOk result Q → IfOk result R → IfOk result S

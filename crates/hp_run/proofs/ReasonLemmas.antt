@@ -22,7 +22,7 @@ counted_entry : (workload : Workload) (entry : PlanEntry) → IsPlanEntry worklo
 counted_entry workload (Message kind party k twice line) is = is.few
 counted_entry workload (Mapping party call elsewhere line) is = tt
 
-may_run : (workload : Workload) (courses : List Course) → IsRunnable workload
+pub may_run : (workload : Workload) (courses : List Course) → IsRunnable workload
     → map (λ (course : Course). course.line) courses ≡ workload.lines.items → MayRun workload courses
 may_run workload courses runnable lines_are = record {
   given = given_by workload runnable;

@@ -1,17 +1,23 @@
--- What a run has come to: an end of its workload, why mappings failed, what agreement is worth, and why growths were refused. The rules
--- "Together" and "Reasons" of docs/PARTICIPANTS.md.
-use Rattle.std.specs.Prelude.{ℕ, List, Option}
+-- What a run has come to: an end of its workload, why mappings failed, what agreement is worth, why growths were refused, that nothing is
+-- left to do where the plan loses no message, and why allocations found no memory. The rules "Together" and "Reasons" of docs/PARTICIPANTS.md.
+use Rattle.std.specs.Prelude.{◌≡◌, ◌<◌, ℕ, true, false, List, length, Option}
+use Rattle.std.specs.List.{All}
+use Rattle.hp_base.specs.declared.plan_entry.PlanEntry.{PlanEntry}
 use Rattle.hp_heap.specs.History.{HeapView}
 use Rattle.hp_maps.specs.declared.table.Table.{Table}
 use Rattle.hp_script.specs.declared.answer.Answer.{Answer}
 use Rattle.hp_script.specs.declared.workload.Workload.{Workload}
-use Rattle.hp_segs.specs.SegsView.{SegsView}
+use Rattle.hp_segs.specs.SegsView.{SegsView, is_retiring}
+use Rattle.hp_segs.specs.declared.outcome.AskLog.{AskLog}
 use Rattle.hp_proc.specs.Ends.{IsSoloEnd}
+use Rattle.hp_proc.specs.LinesDone.{Course, courses_of}
 use Rattle.hp_agreed.specs.Alike.{PagesAlike, TablesAlike}
 use Rattle.hp_agreed.specs.Restored.{FailuresLeaveNoRow}
 use Rattle.hp_solo.specs.Solo.{ServerView}
+use Rattle.hp_reasons.specs.Counting.{LosesNothing}
+use Rattle.hp_reasons.specs.Nones.{IsNoneInVain, IsRefusedForWant}
 use Rattle.hp_reasons.specs.Threads.{HaveReasons}
-use Rattle.hp_run.specs.Failures.{AreFailuresNamed, AreRefusalsNamed, FailAsMay, FailOnce, RefuseAsMay, RefuseOnce}
+use Rattle.hp_run.specs.Failures.{AreFailuresNamed, AreRefusalsNamed, FailAsMay, FailOnce, IsFailureNamed, RefuseAsMay, RefuseOnce}
 
 -- a mapping failed only at a call that the plan names, or over a mapper that is not steady, and at no call twice: for a growth, and for a
 -- line that attaches
@@ -35,12 +41,34 @@ pub record IsAgreed (heaps : List HeapView) (segs : SegsView) (tables : List Tab
   pub pages : PagesAlike heaps segs tables
   pub restored : FailuresLeaveNoRow segs.log
 
--- an end of a workload whose lines were done one after another, in which mappings failed for such a reason, at which all who are attached
--- agree on the memory in use, and where growths were refused as late, and asks taken back or stale, at most as often as the plan loses or
--- repeats messages
+-- nothing is left to do at the end: all that heaps gave up has gone back, so no segment is Retiring, and each participant that is attached
+-- has taken in all records of the log
+pub record IsLevelEnd (segs : SegsView) (tables : List Table) : Type 0 where
+  pub gone : All (λ segment. is_retiring segment.state ≡ false) segs.segments
+  pub taken_in : All (λ table. table.joined ≡ true → table.number ≡ length segs.log) tables
+
+-- no mapping may fail: the plan names no mapping call, and each mapper that was handed in is steady
+abbrev pub NoMappingMayFail : List PlanEntry → List (Option (List ℕ)) → Type 0
+NoMappingMayFail plan mappers = (participant call : ℕ) → IsFailureNamed plan mappers participant call → ⊥
+
+-- an allocation that is answered that there is no memory found no address in its heaps and was granted nothing (that it tried all of them,
+-- and all page sizes, is in what its line does); and where the plan loses no message and no mapping may fail, asks were refused for want of a
+-- list, of pages, of slots or of a place alone
+pub record HaveWants (workload : Workload) (mappers : List (Option (List ℕ))) (courses : List Course) (asks : List AskLog) : Type 0 where
+  pub vain : (who : ℕ) → who < workload.participants → All IsNoneInVain (courses_of who courses)
+  pub want : LosesNothing workload.plan.items → NoMappingMayFail workload.plan.items mappers → All IsRefusedForWant asks
+
+-- an end of a workload whose lines were done one after another. A mapping failed, for a growth or for a line that attaches, only where the
+-- plan or the mapper is why, and at no call twice; all who are attached map what is in use alike, and a growth that failed left no row; growths
+-- were refused as a participant was late, and asks of one taken back or stale, at most as often as the plan loses SYNCs to it, loses its asks,
+-- or repeats its asks and notices. Where the plan loses no message, no segment is Retiring, and each participant that is attached has taken in
+-- all records of the log. An allocation that is answered that there is no memory found no address in its heaps and was granted nothing; and
+-- where the plan loses no message and no mapping may fail, asks were refused for want of a list, of pages, of slots or of a place alone
 pub record IsRunEnd (workload : Workload) (mappers : List (Option (List ℕ))) (answers : List Answer) (heaps : List HeapView)
     (segs : SegsView) (tables : List Table) : Type 0 where
   pub end : IsSoloEnd workload answers heaps segs tables
   pub named : AreNamed workload mappers answers segs
   pub agreed : IsAgreed heaps segs tables
   pub reasons : HaveReasons workload.plan.items segs.asks
+  pub level : LosesNothing workload.plan.items → IsLevelEnd segs tables
+  pub wants : HaveWants workload mappers end.end.courses segs.asks

@@ -8,9 +8,7 @@ use Rattle.hp_run.specs.declared.reading.TheConstants.{LIMIT}
 use Rattle.hp_run.specs.Reading.{GaveAll, GaveTooMuch}
 use Rattle.hp_report.specs.Writing.{Holds, HoldsFront}
 use Rattle.hp_report.specs.declared.ended.Ended.{Ended}
-use Rattle.hp_proc.specs.Ends.{IsSoloEnd}
-use Rattle.hp_reasons.specs.Threads.{HaveReasons}
-use Rattle.hp_run.specs.Ending.{AreNamed, IsAgreed}
+use Rattle.hp_run.specs.Ending.{IsRunEnd}
 use Rattle.hp_run.specs.Refusals.{refusal_of, refusal_text}
 use Rattle.hp_report.specs.Report.{report as report_of}
 use Rattle.hp_run.specs.declared.refusal.Refusal.{Refusal}
@@ -29,17 +27,11 @@ is_solo (word ∷ other ∷ others) = false
 abbrev pub usage_text : List ℕ
 usage_text = codes "usage: heapsim solo|run|check|generate <start> <lines> [summary]\n"
 
--- what a run left is an end of the workload that the input is, whose lines were done one after another; a mapping failed, for a growth or
--- for a line that attaches, only where the plan or the mapper is why, and at no call twice; all who are attached map what is in use alike,
--- and a growth that failed left no row; and growths were refused as a participant was late, and asks of one taken back or stale, at most as
--- often as the plan loses SYNCs to it, loses its asks, or repeats its asks and notices
+-- the input is a workload that the program does, and what a run left is an end of it
 pub record IsEndFor (mappers : List (Option (List ℕ))) (input : List ℕ) (ended : Ended) : Type 0 where
   pub done : refusal_of input ≡ None
   pub workload : IsReadAs input ended.workload
-  pub end : IsSoloEnd ended.workload ended.answers.items ended.heaps.items ended.segs ended.tables.items
-  pub named : AreNamed ended.workload mappers ended.answers.items ended.segs
-  pub agreed : IsAgreed ended.heaps.items ended.segs ended.tables.items
-  pub reasons : HaveReasons ended.workload.plan.items ended.segs.asks
+  pub end : IsRunEnd ended.workload mappers ended.answers.items ended.heaps.items ended.segs ended.tables.items
 
 -- the text is the report of an end of the workload that the input is
 pub record IsReportFor (mappers : List (Option (List ℕ))) (input text : List ℕ) : Type 0 where

@@ -3,8 +3,9 @@ ghost use Rattle.std.specs.Prelude.{◌≡◌, ◌<◌, ◌≤◌, [], ℕ, IfOk
 ghost use Rattle.std.specs.List.{All};
 ghost use Rattle.hp_segs.specs.Opening.{is_present};
 ghost use Rattle.hp_joint.specs.EndLaws.{said_in};
+ghost use Rattle.hp_reasons.specs.Counting.{LosesNothing};
 ghost use Rattle.hp_reasons.specs.Threads.{HaveReasons};
-ghost use Rattle.hp_run.specs.Ending.{AreAsMay, IsRunEnd};
+ghost use Rattle.hp_run.specs.Ending.{AreAsMay, IsLevelEnd, IsRunEnd};
 ghost use Rattle.hp_run.specs.Mappers.{IsUnused};
 ghost use Rattle.hp_run.specs.Opening.{HaveCome, IsEmptyHall, IsFirstHall, IsPlannedParty};
 ghost use Rattle.hp_run.specs.Running.{HaveDoneLines, IsRunnable, IsSameWorkload};
@@ -19,7 +20,7 @@ use hp_heap::Heap;
 use hp_joint::{end_law, failure_law, line_law, refusal_law};
 use hp_maps::{LocalMaps, Planned, Table};
 use hp_proc::{LineContext, Participant, WorkloadFacts};
-use hp_reasons::reasons_law;
+use hp_reasons::{level_law, none_law, reasons_law};
 use hp_report::Ended;
 use hp_script::{Answer, Workload};
 use hp_segs::Segs;
@@ -114,6 +115,7 @@ fn run_lines<'p, M: Mapper>(
     line_law();
     alike_law();
     restoring_law();
+    none_law();
     run_in(alloc, workload, hall)
 }
 
@@ -214,6 +216,8 @@ fn run_in<'p, M: Mapper>(
         IsSoloEnd workload.now left.answers.items left.heaps.items left.segs left.tables.items) }
     ensures named { IfOk result (λ left. AreAsMay workload.now hall.entry.servers left.answers.items left.segs) }
     ensures reasons { IfOk result (λ left. HaveReasons workload.now.plan.items left.segs.asks) }
+    ensures level { IfOk result (λ left.
+        LosesNothing workload.now.plan.items → IsLevelEnd left.segs left.tables.items) }
 {
     let mut hall = hall;
     let answers = do_lines(alloc, workload, &mut hall)?;
@@ -226,6 +230,7 @@ fn run_in<'p, M: Mapper>(
     failure_law();
     refusal_law();
     reasons_law();
+    level_law();
     Ok(Left {
         answers,
         heaps,

@@ -22,9 +22,10 @@ use std::alloc::{AllocError, Global};
 const USAGE: &[u8] = b"usage: heapsim solo|run|check|generate <start> <lines> [summary]\n";
 
 /// The program: its words, without its name, a workload, where its report goes, and a mapper for each participant that there can be. Where
-/// it reports a workload it reports an end of it, in which each mapping that failed did so by the plan or its mapper, all who are attached
-/// agree on the memory in use, and growths were refused as late, and asks taken back or stale, at most as often as the plan loses or
-/// repeats messages. Own.
+/// it reports a workload it reports an end of it (`IsRunEnd`): mappings failed by the plan or their mapper alone, all who are attached agree
+/// on the memory in use, and growths were refused as late, and asks taken back or stale, at most as often as the plan loses or repeats
+/// messages. Where the plan loses none, all that heaps gave up has gone back, and all who are attached have taken in all records; and where
+/// no mapping may fail either, asks were refused for want of a list, of pages, of slots or of a place alone. Own.
 pub fn top<S: Source, K: Sink, M: Mapper>(
     alloc: Global,
     words: &[String],

@@ -7,6 +7,7 @@ use Rattle.hp_run.specs.Running.{HaveDoneLines}
 use Rattle.hp_run.proofs.Coming.{given_by}
 use Rattle.hp_run.proofs.Ending.{all_in, ends_so, segs_there}
 use Rattle.hp_run.proofs.FailureLemmas.{fail_so}
+use Rattle.hp_run.proofs.LevelLemmas.{level_so}
 use Rattle.hp_run.proofs.ReasonLemmas.{reasons_so}
 use Rattle.hp_run.proofs.Resting.{fail_then}
 use Rattle.hp_run.proofs.running.run_in.Goals as goal
@@ -39,6 +40,7 @@ returns g c =
     let last = c.do_rest.new.hall in
     let left = c.into_parts-heaps.result in
     let heaps = left.heaps.items in
+    let tables = c.in_ok-tables.field-0.tables.items in
     let plain = c.in_ok-tables.ensures.plain in
     let given = given_by workload c.requires.runnable in
     let done : HaveDoneLines workload lines answers last =
@@ -49,12 +51,14 @@ returns g c =
     let alike =
     fail_then workload [] lines [] answers first mid last c.requires.first c.in_ok-answers.ensures.done c.in_ok-answers.ensures.may_fail
     c.in_ok-do_rest.ensures.may_fail in
+    let shown = segs_there workload answers last done heaps left.segs slots in
+    let end =
+    ends_so workload answers last done heaps left.segs slots tables c.end_law.ensures given sound c.in_ok-tables.ensures.tables in
     record {
-      end = ends_so workload answers last done heaps left.segs slots c.in_ok-tables.field-0.tables.items c.end_law.ensures given sound
-          c.in_ok-tables.ensures.tables;
+      end = end;
       named = fail_so workload answers first last left.segs given c.requires.first done alike c.failure_law.ensures.fails
-          c.failure_law.ensures.once c.refusal_law.ensures.fails c.refusal_law.ensures.once
-          (segs_there workload answers last done heaps left.segs slots);
-      reasons = reasons_so workload answers last left.segs c.requires.runnable c.reasons_law.ensures done
-          (segs_there workload answers last done heaps left.segs slots);
+          c.failure_law.ensures.once c.refusal_law.ensures.fails c.refusal_law.ensures.once shown;
+      reasons = reasons_so workload answers last left.segs c.requires.runnable c.reasons_law.ensures done shown;
+      level = level_so workload answers last left.segs c.requires.runnable c.level_law.ensures done shown end.end.segs_sound tables
+          c.in_ok-tables.ensures.tables;
     }

@@ -1,10 +1,12 @@
 use Rattle.std.proofs.Common.{map}
 use Rattle.hp_proc.specs.Ends.{IsSoloEnd}
+use Rattle.hp_reasons.specs.Counting.{LosesNothing}
 use Rattle.hp_reasons.specs.Threads.{HaveReasons}
-use Rattle.hp_run.specs.Ending.{AreAsMay, IsRunEnd}
+use Rattle.hp_run.specs.Ending.{AreAsMay, IsLevelEnd, IsRunEnd}
 use Rattle.hp_run.proofs.Coming.{first_stays, opens_so}
 use Rattle.hp_run.proofs.FailureLemmas.{named_all}
-use Rattle.hp_run.proofs.OpeningLemmas.{if_three}
+use Rattle.hp_run.proofs.OpeningLemmas.{if_both, if_three}
+use Rattle.hp_run.proofs.WantLemmas.{wants_so}
 use Rattle.hp_run.proofs.running.run_lines.Goals as goal
 
 pub run_in-requires-clause-first : goal.run_in-requires-clause-first
@@ -19,16 +21,27 @@ returns g c =
     let workload = c.args.workload.now in
     let mappers = map g.M.Mapper.may_fail c.args.mappers.items in
     let servers = c.come_all.new.hall.servers in
+    let by_plan =
+    if_both (λ left. HaveReasons workload.plan.items left.segs.asks)
+    (λ left. LosesNothing workload.plan.items → IsLevelEnd left.segs left.tables.items) c.run_in.result c.run_in.ensures.reasons
+    c.run_in.ensures.level in
     if_three (λ left. IsSoloEnd workload left.answers.items left.heaps.items left.segs left.tables.items)
-    (λ left. AreAsMay workload servers left.answers.items left.segs) (λ left. HaveReasons workload.plan.items left.segs.asks)
+    (λ left. AreAsMay workload servers left.answers.items left.segs)
+    (λ left. HaveReasons workload.plan.items left.segs.asks
+    × (LosesNothing workload.plan.items → IsLevelEnd left.segs left.tables.items))
     (λ left. IsRunEnd workload mappers left.answers.items left.heaps.items left.segs left.tables.items) c.run_in.result
-    (λ left end named reasons. record {
+    (λ left end named by_plan.
+    let are_named = named_all workload mappers servers left.answers.items left.segs c.in_ok-come_all.ensures.come named in
+    record {
       end = end;
-      named = named_all workload mappers servers left.answers.items left.segs c.in_ok-come_all.ensures.come named;
+      named = are_named;
       agreed = record {
         alike = c.alike_law.ensures.at_end workload left.answers.items left.heaps.items left.segs left.tables.items end;
         pages = c.alike_law.ensures.pages workload left.answers.items left.heaps.items left.segs left.tables.items end;
         restored = c.restoring_law.ensures.tables left.segs end.end.segs_sound;
       };
-      reasons = reasons;
-    }) c.run_in.ensures.end c.run_in.ensures.named c.run_in.ensures.reasons
+      reasons = by_plan.0;
+      level = by_plan.1;
+      wants = wants_so workload mappers left.answers.items left.heaps.items left.segs left.tables.items end are_named by_plan.0
+          c.none_law.ensures.vain c.none_law.ensures.want;
+    }) c.run_in.ensures.end c.run_in.ensures.named by_plan

@@ -8,8 +8,5 @@ pub returns : goal.returns
 returns g c = record {
   done = c.in_ok-workload.ensures.done;
   workload = read_as_same _ _ _ c.in_ok-workload.ensures.read c.in_ok-run.ensures.workload;
-  end = c.in_ok-run.ensures.end.end;
-  named = c.in_ok-run.ensures.end.named;
-  agreed = c.in_ok-run.ensures.end.agreed;
-  reasons = c.in_ok-run.ensures.end.reasons;
+  end = c.in_ok-run.ensures.end;
 }

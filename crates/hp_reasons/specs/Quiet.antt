@@ -1,0 +1,26 @@
+-- That all is quiet between asks and notices. The rule "Reasons" of docs/PARTICIPANTS.md.
+use Rattle.std.specs.Prelude.{◌≡◌, ℕ, ◌≤◌, Bool, false, [], Some, None, replicate, slice_get}
+use Rattle.hp_core.specs.Core.{Core}
+use Rattle.hp_core.specs.declared.phase.Phase.TheVariants.{Idle}
+use Rattle.hp_proc.specs.Party.{Party}
+use Rattle.hp_reasons.specs.Counting.{LosesNothing}
+use Rattle.hp_reasons.specs.Episode.{AreLevel, IsBase, Setting, World, doubles, mail_of}
+use Rattle.hp_reasons.specs.Outcomes.{stale_outcomes}
+
+-- between asks and notices all is quiet
+pub record IsQuietWorld (set : Setting) (world : World) : Type 0 where
+  pub base : IsBase set world
+  pub idle : (primary : Party) → slice_get world.parties 0 ≡ Some primary
+      → (core : Core) × (primary.core ≡ Some core) × (core.deadline ≡ set.deadline) × (core.phase ≡ Idle) × (core.held ≡ replicate 16 None)
+  pub growth : world.shared.segs.growth ≡ None
+  pub empty : (who : ℕ) → mail_of world who ≡ []
+  pub doubled : (who : ℕ) (party : Party) → slice_get world.parties who ≡ Some party
+      → stale_outcomes who world.shared.segs.asks ≤ doubles set who party
+  -- where the plan loses no message all members have taken in all records
+  pub level : LosesNothing set.plan → AreLevel world
+
+-- a participant owes word of a run that it gave up, or not: all is quiet, and where the plan loses no message nothing is left of what was
+-- given up unless it does
+pub record IsQuietOwing (set : Setting) (owes : Bool) (world : World) : Type 0 where
+  pub quiet : IsQuietWorld set world
+  pub gone : LosesNothing set.plan → owes ≡ false → world.shared.segs.retiring ≡ []
