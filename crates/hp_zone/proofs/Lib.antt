@@ -1,0 +1,5 @@
+mod ReplayLemmas
+mod IndexLemmas
+mod SortedLemmas
+mod ZoneLemmas
+mod KeptLemmas
