@@ -7,10 +7,11 @@ use Rattle.hp_heap.specs.declared.heap.Heap.TheInside.{Inside}
 use Rattle.hp_heap.specs.declared.entry.Entry.{Entry}
 use Rattle.hp_heap.specs.PlainHeap.{PlainHeap, opening_heap, end_of, segments_of}
 use Rattle.hp_heap.specs.Tiling.{IsTiled, IsElement}
+use Rattle.hp_heap.specs.Lists.{free_lists}
 use Rattle.hp_heap.specs.Statistics.{total_bytes}
 use Rattle.hp_heap.specs.History.{HeapView, replay, after_entry, IsLegal, IsLegalEntry, IsCall}
 use Rattle.hp_heap.specs.FreeSearch.{HasSpace}
-use Rattle.hp_heap.specs.Headers.{spans_of}
+use Rattle.hp_heap.specs.Headers.{spans_of, exact_lists}
 use Rattle.hp_heap.specs.Joins.{HasRoom, IsJoinable}
 use Rattle.hp_heap.specs.Finding.{IsOfHeap}
 use Rattle.hp_heap.specs.PageLists.{AreNoted}
@@ -29,6 +30,7 @@ pub record IsNext (a b : Inside) (entry : Entry) (next : PlainHeap) : Type 0 whe
   pub history : b.history.items ≡ a.history.items ++ entry ∷ []
   pub ranges : spans_of b.headers.items ≡ next.ranges
   pub apart : AreApart b.headers.items
+  pub exact : b.headers.lists ≡ exact_lists (spans_of b.headers.items)
   pub insertions : b.headers.insertions ≡ next.insertions
   pub name : b.name ≡ next.name
   pub socket : b.socket ≡ next.socket
@@ -60,6 +62,7 @@ module _ (a b : Inside) (entry : Entry) (next : PlainHeap) (heap : IsHeap a) (is
   next_heap = record {
     ranges = is.ranges ∙ ap (λ h. h.ranges) (sym next_plain);
     apart = is.apart;
+    exact = is.exact;
     insertions = is.insertions ∙ ap (λ h. h.insertions) (sym next_plain);
     name = is.name ∙ ap (λ h. h.name) (sym next_plain);
     socket = is.socket ∙ ap (λ h. h.socket) (sym next_plain);
@@ -78,14 +81,14 @@ module _ (a b : Inside) (entry : Entry) (next : PlainHeap) (heap : IsHeap a) (is
 -- what callers see of one more call
 pub next_call : (a b : Inside) (entry : Entry) (next : PlainHeap) → IsHeap a → IsNext a b entry next → (old : HeapView) → view_of a ≡ old → b.spare + 1 ≡ a.spare
     → IsCall entry.caller entry.call entry.answer old (view_of b)
-unfolding after_entry
+unfolding after_entry free_lists
 next_call a b entry next heap is old view spare = subst (λ (o : HeapView). IsCall entry.caller entry.call entry.answer o (view_of b)) view (record {
   heap = next_plain a b entry next heap is ∙ is.step;
   allowed = is.legal.allowed;
   answered = is.legal.answered;
   history = is.history;
   spare = spare;
-  lists = refl;
+  lists = is.exact ∙ ap exact_lists (is.ranges ∙ ap (λ h. h.ranges) (sym (next_plain a b entry next heap is)));
 })
 
 -- the elements of a heap have room, and tile

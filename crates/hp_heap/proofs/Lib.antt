@@ -5,6 +5,7 @@ pub mod NewestLemmas
 pub mod TieLemmas
 pub mod SplitLemmas
 pub mod EditLemmas
+pub mod ExactLemmas
 pub mod FirstFree
 pub mod SpanLemmas
 pub mod WalkLemmas
@@ -25,6 +26,7 @@ pub mod PlaceLemmas
 pub mod AllocKept
 pub mod Limits
 pub mod HeapLaw
+pub mod SoundLemmas
 pub mod Growths
 pub mod CutLaw
 pub mod ListLaw

@@ -33,7 +33,7 @@ put_spans e (o ∷ os) = cond_both (ltb (stamp_of e.value) (stamp_of o.value)) (
     (λ zs. spans_of zs ≡ cond (ltb (stamp_of e.value) (stamp_of o.value)) (o.value ∷ by_falling_stamp e.value (spans_of os)) (e.value ∷ o.value ∷ spans_of os))
     (λ later. rw later (ap (λ zs. o.value ∷ zs) (put_spans e os))) (λ first. rw first refl)
 
-newest_spans : (es : Items) → spans_of (newest es) ≡ newest_first (spans_of es)
+pub newest_spans : (es : Items) → spans_of (newest es) ≡ newest_first (spans_of es)
 newest_spans [] = refl
 newest_spans (e ∷ es) = put_spans e (newest es) ∙ ap (λ zs. by_falling_stamp e.value zs) (newest_spans es)
 
@@ -96,7 +96,7 @@ put_all P e [] here all = (here, tt)
 put_all P e (o ∷ os) here all = cond_both (ltb (stamp_of e.value) (stamp_of o.value)) (o ∷ put_by_stamp e os) (e ∷ o ∷ os) (AllByRecursion P)
     (λ later. (all.0, put_all P e os here all.1)) (λ first. (here, all))
 
-newest_all : (P : Keyed Span → Type 0) (es : Items) → AllByRecursion P es → AllByRecursion P (newest es)
+pub newest_all : (P : Keyed Span → Type 0) (es : Items) → AllByRecursion P es → AllByRecursion P (newest es)
 newest_all P [] all = tt
 newest_all P (e ∷ es) all = put_all P e (newest es) all.0 (newest_all P es all.1)
 

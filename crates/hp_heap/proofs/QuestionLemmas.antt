@@ -11,7 +11,7 @@ use Rattle.hp_elem.specs.Items.{Items, Stands, is_tagged, is_tagged_state}
 use Rattle.hp_heap.specs.declared.heap.Heap.TheInside.{Inside}
 use Rattle.hp_heap.specs.declared.entry.Entry.{Entry}
 use Rattle.hp_heap.specs.Joining.{has_tag, has_tag_state}
-use Rattle.hp_heap.specs.Headers.{spans_of}
+use Rattle.hp_heap.specs.Headers.{spans_of, exact_lists}
 use Rattle.hp_heap.specs.History.{after_entry, IsLegalEntry}
 use Rattle.hp_heap.specs.Inside.{plain_of, IsHeap}
 use Rattle.hp_heap.specs.PageLists.{AreNoted}
@@ -40,6 +40,7 @@ asked a b entry heap is =
       history = is.history;
       ranges = ap (λ h. spans_of h.items) headers ∙ heap.ranges;
       apart = Rattle.std.proofs.Common.subst (λ h. AreApart h.items) (sym headers) heap.apart;
+      exact = ap (λ h. h.lists) headers ∙ heap.exact ∙ ap (λ h. exact_lists (spans_of h.items)) (sym headers);
       insertions = ap (λ h. h.insertions) headers ∙ heap.insertions;
       name = ap (λ v. v.name) is.others ∙ heap.name;
       socket = ap (λ v. v.socket) is.others ∙ heap.socket;

@@ -1,21 +1,28 @@
 -- The elements of a heap under keys, with their free lists, as the calls of a heap edit them. No public clause cites this module.
 use Rattle.std.specs.Prelude.{◌≡◌, ℕ, ◌≤◌, Bool, true, false, List, ◌∷◌, ◌++◌, map, Option, Contains, MatchOption}
+use Rattle.std.specs.List.{range_with_len}
 use Rattle.hp_base.specs.declared.span.Span.{Span}
 use Rattle.hp_chain.specs.Chain.{Keyed}
 use Rattle.hp_elem.specs.Items.{Items, IsInside, Touches}
 use Rattle.hp_heap.specs.PlainHeap.{is_free}
-use Rattle.hp_heap.specs.Lists.{range_class}
+use Rattle.hp_heap.specs.Lists.{free_list, range_class}
 use Rattle.hp_heap.specs.Choice.{precedes}
 
--- the elements in address order, each under its key; how many more there is room for; the insertions into free lists so far
+-- the elements in address order, each under its key; where the elements of each linked list begin, in its order; how many more elements
+-- there is room for; the insertions into free lists so far
 pub record HeadersView : Type 0 where
   pub items : Items
+  pub lists : List (List ℕ)
   pub spare : ℕ
   pub insertions : ℕ
 
 -- the elements without their keys
 abbrev pub spans_of : Items → List Span
 spans_of items = map (λ e. e.value) items
+
+-- the free lists that elements have to have
+abbrev pub exact_lists : List Span → List (List ℕ)
+exact_lists spans = map (free_list spans) (range_with_len 0 13)
 
 -- an element is free, or busy
 abbrev pub IsFree : Span → Type 0

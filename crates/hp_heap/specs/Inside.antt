@@ -4,8 +4,7 @@ use Rattle.hp_chain.specs.Chain.{AreApart}
 use Rattle.hp_heap.specs.declared.heap.Heap.TheInside.{Inside}
 use Rattle.hp_heap.specs.PlainHeap.{PlainHeap, opening_heap}
 use Rattle.hp_heap.specs.Tiling.{IsTiled}
-use Rattle.hp_heap.specs.Lists.{free_lists}
-use Rattle.hp_heap.specs.Headers.{spans_of}
+use Rattle.hp_heap.specs.Headers.{spans_of, exact_lists}
 use Rattle.hp_heap.specs.PageLists.{AreNoted}
 use Rattle.hp_heap.specs.History.{HeapView, replay, IsLegal}
 
@@ -17,13 +16,15 @@ opened a = opening_heap a.index a.serves
 abbrev pub plain_of : Inside → PlainHeap
 plain_of a = replay (opened a) a.history.items
 
+-- what contracts see: that heap, and the free lists as they are kept
 abbrev pub view_of : Inside → HeapView
-view_of a = record { plain = plain_of a; lists = free_lists (plain_of a); history = a.history.items; spare = a.spare }
+view_of a = record { plain = plain_of a; lists = a.headers.lists; history = a.history.items; spare = a.spare }
 
 -- the fields are those of the heap that the history leaves, which is tiled; and there is room for the spare calls
 pub record IsHeap (a : Inside) : Type 0 where
   pub ranges : spans_of a.headers.items ≡ (plain_of a).ranges
   pub apart : AreApart a.headers.items
+  pub exact : a.headers.lists ≡ exact_lists (spans_of a.headers.items)
   pub insertions : a.headers.insertions ≡ (plain_of a).insertions
   pub name : a.name ≡ (plain_of a).name
   pub socket : a.socket ≡ (plain_of a).socket

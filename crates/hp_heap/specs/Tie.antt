@@ -1,9 +1,9 @@
 -- How the free lists of a heap are tied to its elements. No public clause cites this module.
-use Rattle.std.specs.Prelude.{◌≡◌, ℕ, ◌<◌, ◌≤◌, Bool, List, [], ◌∷◌, map, length, nat_lt, nat_le, if◌then◌else◌}
+use Rattle.std.specs.Prelude.{◌≡◌, ℕ, ◌^◌, ◌<◌, ◌≤◌, Bool, List, [], ◌∷◌, Option, Some, None, map, length, nat_lt, nat_le, if◌then◌else◌}
 use Rattle.std.specs.List.{AllByRecursion, filter}
 use Rattle.hp_base.specs.declared.span.Span.{Span}
 use Rattle.hp_chain.specs.Chain.{Keyed, AreApart}
-use Rattle.hp_elem.specs.Items.{Items}
+use Rattle.hp_elem.specs.Items.{Items, at_key}
 use Rattle.hp_elem.specs.Order.{KeysBelow}
 use Rattle.hp_elem.specs.View.{ElemsView}
 use Rattle.hp_freelist.specs.Lists.{FreeLists, list_at}
@@ -35,6 +35,15 @@ links_of items class = map link_of (newest (filter (is_on class) items))
 -- each list has the free elements of its class, the one inserted last at the head
 abbrev pub IsTied : Items → List (List (Keyed ℕ)) → Type 0
 IsTied items lists = (class : ℕ) → class < 13 → list_at lists class ≡ links_of items class
+
+-- where an element begins; without one the end of the addresses, where none does
+abbrev pub start_of : Option Span → ℕ
+start_of None = 2 ^ 64
+start_of (Some span) = span.addr
+
+-- where the elements begin whose keys lists have, in the order of the lists
+abbrev pub starts_of : Items → List (List (Keyed ℕ)) → List (List ℕ)
+starts_of items lists = map (λ list. map (λ e. start_of (at_key e.key items)) list) lists
 
 -- elements and lists are tied, no stamp is above the number of insertions, and each key has its place in the lists
 pub record AreTied (elems : ElemsView) (lists : FreeLists) : Type 0 where

@@ -38,6 +38,7 @@ impl Heap {
             any_chunk: self.serves.is_some(),
         };
         let address = allocate(&mut self.headers, &self.chunks, need, tag);
+        self.headers.sound();
         record(
             &mut self.history,
             caller,

@@ -41,6 +41,7 @@ impl Heap {
             self.serves.is_some(),
             addr,
         );
+        self.headers.sound();
         record(
             &mut self.history,
             caller,

@@ -34,6 +34,7 @@ impl Heap {
         ensures refused { result_err result ≡ free_fault addr self.old.plain }
     {
         let freed = release(&mut self.headers, addr, false);
+        self.headers.sound();
         record(
             &mut self.history,
             caller,
@@ -51,6 +52,7 @@ impl Heap {
         ensures { IsCall caller (HeapCall.Free addr true) HeapAnswer.Done self.old self.new }
     {
         let _ = release(&mut self.headers, addr, true);
+        self.headers.sound();
         record(
             &mut self.history,
             caller,

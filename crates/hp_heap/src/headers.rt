@@ -5,7 +5,7 @@ ghost use Rattle.hp_chain.specs.Edits.{without_key};
 ghost use Rattle.hp_elem.specs.Items.{IsAt, AreAt, Stands, after_split, after_join, after_set, after_add, key_at, first_tagged};
 ghost use Rattle.hp_elem.specs.Order.{FitsBeside, IsRising};
 ghost use Rattle.hp_heap.specs.PlainHeap.{is_free};
-ghost use Rattle.hp_heap.specs.Headers.{IsFree, IsBusy, CanSplit, CanJoin, CanInsert, FindsFirstFree};
+ghost use Rattle.hp_heap.specs.Headers.{spans_of, exact_lists, IsFree, IsBusy, CanSplit, CanJoin, CanInsert, FindsFirstFree};
 
 use hp_base::{Span, Tag};
 use hp_elem::{Elems, Node};
@@ -24,11 +24,11 @@ pub(crate) struct Headers {
 
 impl Model for Headers {
     ghost use Rattle.hp_heap.specs.Headers.{HeadersView};
-    ghost use Rattle.hp_heap.specs.Tie.{AreTied, spare_of};
+    ghost use Rattle.hp_heap.specs.Tie.{AreTied, spare_of, starts_of};
 
     ghost Value = { HeadersView };
 
-    ghost view = { λ h. record { items = h.elems.items; spare = spare_of h.elems h.lists; insertions = h.elems.stamps } };
+    ghost view = { λ h. record { items = h.elems.items; lists = starts_of h.elems.items h.lists.lists; spare = spare_of h.elems h.lists; insertions = h.elems.stamps } };
 
     ghost invariant = { λ h. AreTied h.elems h.lists };
 }
@@ -37,6 +37,7 @@ impl Headers {
     /// No elements, and no room for any. It takes no memory.
     pub(crate) fn new(alloc: Global) -> Headers
         ensures items { result.items ≡ [] }
+        ensures lists { result.lists ≡ exact_lists [] }
         ensures spare { result.spare ≡ 0 }
         ensures insertions { result.insertions ≡ 0 }
     {
@@ -51,10 +52,19 @@ impl Headers {
         ensures room { OnOk result (n ≤ self.new.spare) }
         ensures spare { OnOk result (self.old.spare ≤ self.new.spare) }
         ensures items { self.new.items ≡ self.old.items }
+        ensures lists { self.new.lists ≡ self.old.lists }
         ensures insertions { self.new.insertions ≡ self.old.insertions }
     {
         self.elems.reserve(n)?;
         self.lists.reserve(self.elems.key_end())
+    }
+
+    /// What holds of all headers: the linked lists are exactly the free lists that the elements have to have. It does
+    /// nothing.
+    pub(crate) fn sound(&self)
+        ensures { self.now.lists ≡ exact_lists (spans_of self.now.items) }
+    {
+        let _ = &self.lists;
     }
 
     /// The element of lowest address.

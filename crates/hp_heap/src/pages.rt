@@ -36,6 +36,7 @@ impl Heap {
             },
         };
         insert_new(&mut self.headers, range);
+        self.headers.sound();
         note(&mut self.page_lists, run);
         record(
             &mut self.history,

@@ -35,6 +35,7 @@ impl Heap {
         ensures refused { result ≡ false → self.new.plain ≡ self.old.plain }
     {
         let had = resize_data(&mut self.headers, addr, size);
+        self.headers.sound();
         record(
             &mut self.history,
             caller,

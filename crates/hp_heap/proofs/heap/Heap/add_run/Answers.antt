@@ -58,6 +58,7 @@ is_next c = record {
       ∙ ap (λ (n : ℕ). with_stretch (free_range c.args.run.now.addr (n * c.args.run.now.page) c.args.run.now.list c.args.run.now.page (c.self.inside.headers.insertions + 1)) (spans_of c.self.inside.headers.items)) c.from.ensures
       ∙ grow_ranges c.self.inside c.args.run.now c.self.invariant;
   apart = c.insert_new.ensures.apart;
+  exact = c.sound.ensures;
   insertions = c.insert_new.ensures.insertions ∙ grow_insertions c.self.inside c.args.run.now c.self.invariant;
   name = c.self.invariant.name ∙ (grow-kept (plain_of c.self.inside) c.args.run.now).name;
   socket = c.self.invariant.socket ∙ (grow-kept (plain_of c.self.inside) c.args.run.now).socket;

@@ -40,6 +40,7 @@ is_next c = record {
   history = c.record.ensures.entry ∙ ap (λ answer. c.self.inside.history.items ++ record { caller = c.args.caller; call = Alloc c.args.req.now c.args.tag; answer = answer } ∷ []) c.address_answer.ensures;
   ranges = (done c).ranges;
   apart = c.allocate-address.ensures.apart;
+  exact = c.sound.ensures;
   insertions = (done c).insertions;
   name = c.self.invariant.name ∙ sym (kept c).name;
   socket = c.self.invariant.socket ∙ sym (kept c).socket;

@@ -39,6 +39,7 @@ is_next c = record {
   history = c.record.ensures.entry ∙ ap (λ answer. c.self.inside.history.items ++ record { caller = c.args.caller; call = Cut c.args.addr; answer = answer } ∷ []) c.run_answer.ensures;
   ranges = (done c).ranges;
   apart = c.cut-run.ensures.apart;
+  exact = c.sound.ensures;
   insertions = (done c).insertions;
   name = c.self.invariant.name ∙ (kept c).name;
   socket = c.self.invariant.socket ∙ (kept c).socket;

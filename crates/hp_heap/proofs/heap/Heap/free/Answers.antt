@@ -45,6 +45,7 @@ is_next c = record {
   history = c.record.ensures.entry ∙ ap (λ answer. c.self.inside.history.items ++ record { caller = c.args.caller; call = Free c.args.addr false; answer = answer } ∷ []) c.fault_answer.ensures;
   ranges = c.release-freed.ensures.ranges ∙ freed_ranges (plain_of c.self.inside) c.args.addr false (spans_of c.self.inside.headers.items) c.self.inside.headers.insertions c.self.invariant.ranges c.self.invariant.insertions;
   apart = c.release-freed.ensures.apart;
+  exact = c.sound.ensures;
   insertions = c.release-freed.ensures.insertions ∙ freed_insertions (plain_of c.self.inside) c.args.addr false (spans_of c.self.inside.headers.items) c.self.inside.headers.insertions c.self.invariant.ranges c.self.invariant.insertions;
   name = c.self.invariant.name ∙ (after_free-kept (plain_of c.self.inside) c.args.addr false).name;
   socket = c.self.invariant.socket ∙ (after_free-kept (plain_of c.self.inside) c.args.addr false).socket;

@@ -42,6 +42,7 @@ is_next c = record {
   history = c.record.ensures.entry;
   ranges = c.release.ensures.ranges ∙ freed_ranges (plain_of c.self.inside) c.args.addr true (spans_of c.self.inside.headers.items) c.self.inside.headers.insertions c.self.invariant.ranges c.self.invariant.insertions;
   apart = c.release.ensures.apart;
+  exact = c.sound.ensures;
   insertions = c.release.ensures.insertions ∙ freed_insertions (plain_of c.self.inside) c.args.addr true (spans_of c.self.inside.headers.items) c.self.inside.headers.insertions c.self.invariant.ranges c.self.invariant.insertions;
   name = c.self.invariant.name ∙ (after_free-kept (plain_of c.self.inside) c.args.addr true).name;
   socket = c.self.invariant.socket ∙ (after_free-kept (plain_of c.self.inside) c.args.addr true).socket;

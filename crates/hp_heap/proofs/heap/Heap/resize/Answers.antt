@@ -53,6 +53,7 @@ is_next c = record {
   history = c.record.ensures.entry ∙ ap (λ answer. c.self.inside.history.items ++ record { caller = c.args.caller; call = Resize c.args.addr c.args.size; answer = answer } ∷ []) c.resize_answer.ensures;
   ranges = (done c).ranges_are;
   apart = c.resize_data-had.ensures.apart;
+  exact = c.sound.ensures;
   insertions = (done c).insertions_are;
   name = c.self.invariant.name ∙ sym (resize_same (plain_of c.self.inside) c.args.addr c.args.size).name;
   socket = c.self.invariant.socket ∙ sym (resize_same (plain_of c.self.inside) c.args.addr c.args.size).socket;
