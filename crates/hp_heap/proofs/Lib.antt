@@ -40,6 +40,12 @@ pub mod ResizeTiling
 pub mod CutPages
 pub mod CutTiling
 pub mod ChunkTiling
+pub mod ChunkLaw
+pub mod MarkLemmas
+pub mod ChunkListLemmas
+pub mod WholeChunk
+pub mod WholeElement
+pub mod ChunkCalls
 pub mod UnchunkTiling
 pub mod MarksTiling
 pub mod StepLaw

@@ -8,6 +8,8 @@ pub mod Joining
 pub mod Resizing
 pub mod Cut
 pub mod Chunks
+pub mod ChunkOrder
+pub mod ChunkKeeping
 pub mod Statistics
 pub mod Step
 pub mod Allowed

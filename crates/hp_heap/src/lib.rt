@@ -3,6 +3,8 @@
 
 mod alloc;
 mod choice;
+mod chunk_list;
+mod chunks;
 mod cutting;
 mod elements;
 mod entry;
@@ -13,6 +15,7 @@ mod headers;
 mod heap;
 mod joining;
 mod laws;
+mod naming;
 mod page_list;
 mod pages;
 mod pieces;
