@@ -53,6 +53,7 @@ pub mod InsertLaw
 pub mod FrontsLaw
 pub mod BusyLemmas
 pub mod FreeLaw
+pub mod BusyLaw
 pub mod ResizeLaw
 pub mod ResizedLemmas
 pub mod InPlaceLemmas

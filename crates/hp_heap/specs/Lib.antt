@@ -24,6 +24,7 @@ pub mod Allocating
 pub mod PageLists
 pub mod Inside
 pub mod Laws
+pub mod BusyLaws
 pub mod Freeing
 pub mod Finding
 pub mod PageCutting
