@@ -59,7 +59,7 @@ apart_with_busy : (xs : List Span) (e : Span) (ys : List Span) → is_free e ≡
 apart_with_busy [] e ys busy apart = first_apart e ys busy apart
 apart_with_busy (x ∷ xs) e ys busy apart = apart_from_with x xs e ys busy apart
 
-strictly : (xs : List Span) (at : ℕ) → AllByRecursion (λ x. end_of x ≤ at) xs → HasRoom xs → AllByRecursion (λ x. x.addr < at) xs
+pub strictly : (xs : List Span) (at : ℕ) → AllByRecursion (λ x. end_of x ≤ at) xs → HasRoom xs → AllByRecursion (λ x. x.addr < at) xs
 strictly [] at before room = tt
 strictly (x ∷ xs) at before room = (omega (arith, before.0, room.0.some), strictly xs at before.1 room.1)
 
@@ -116,7 +116,7 @@ module _ (key : ℕ) (range : Span) (old new : Items) (busy : is_free range ≡ 
   added_ranges stamp after ranges = ranges added.front added.back (record { key = key; value = range }) is refl ∙ added_stretch stamp
 
 -- a run comes beside the elements
-keyed_all : (P : Span → Type 0) (items : Items) → AllByRecursion P (spans_of items) → AllByRecursion (λ (e : Keyed Span). P e.value) items
+pub keyed_all : (P : Span → Type 0) (items : Items) → AllByRecursion P (spans_of items) → AllByRecursion (λ (e : Keyed Span). P e.value) items
 keyed_all P [] all = tt
 keyed_all P (e ∷ es) all = (all.0, keyed_all P es all.1)
 

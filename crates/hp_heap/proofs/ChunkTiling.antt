@@ -39,7 +39,7 @@ no_pages (Some socket) pages chunks external none = absurd (some_none external)
     some_none is = cc
 
 -- elements of two lists do not join
-joins_lists : (p x : Span) → (p.list ≡ x.list → ⊥) → joins p x ≡ false
+pub joins_lists : (p x : Span) → (p.list ≡ x.list → ⊥) → joins p x ≡ false
 joins_lists p x other = and_right _ _ (and_left _ _ (ne_eqb p.list x.list other))
 
 apart_insert_from : (p : Span) (xs : List Span) (x : Span) (ys : List Span) → (p.list ≡ x.list → ⊥) → AllByRecursion (λ q. q.list ≡ x.list → ⊥) xs → AllByRecursion (λ q. q.list ≡ x.list → ⊥) ys
@@ -63,7 +63,7 @@ module _ (heap : PlainHeap) (chunk : Chunk) (tiled : IsTiled heap) (can : CanAdd
       let (m, is) = multiple_of_power 64 chunk.page (power_of 64 line_is_power) (power_of chunk.page can.memory.power) (omega (arith, can.memory.least)) in
       ap (λ (n : ℕ). n % 64) is ∙ mul-mod_left m 64
 
-  least_len : 192 ≤ chunk.len
+  pub least_len : 192 ≤ chunk.len
   least_len = by_order (cases_lt chunk.len chunk.page)
     where
       by_order : (chunk.len < chunk.page) ⊎ (chunk.page ≤ chunk.len) → 192 ≤ chunk.len
@@ -75,7 +75,7 @@ module _ (heap : PlainHeap) (chunk : Chunk) (tiled : IsTiled heap) (can : CanAdd
       by_order (inr more) = omega (arith, more, can.memory.least)
 
   -- no chunk begins there
-  elsewhere : (other : Chunk) → Contains heap.chunks other → other.addr ≡ chunk.addr → ⊥
+  pub elsewhere : (other : Chunk) → Contains heap.chunks other → other.addr ≡ chunk.addr → ⊥
   elsewhere other has same =
       let memory = AllByRecursion-contains IsChunk heap.chunks other tiled.laid.each_chunk has in
       let inside : in_segment chunk.addr (chunk_extent other) ≡ true = and_from _ _ (le-leb other.addr chunk.addr (omega (arith, same))) (lt-ltb chunk.addr (other.addr + other.len) (omega (arith, same, memory.some))) in
@@ -170,15 +170,15 @@ module _ (heap : PlainHeap) (chunk : Chunk) (tiled : IsTiled heap) (can : CanAdd
     empty : (byte : ℕ) → chunk.addr ≤ byte → byte < chunk.addr + chunk.len → count_by (in_range byte) xs + count_by (in_range byte) ys ≡ 0
     empty byte from to = omega (arith, tiling_part.once byte, can.fresh byte from to, count_by-append (in_range byte) xs ys)
 
-    low : last_end 0 xs ≤ chunk.addr
+    pub low : last_end 0 xs ≤ chunk.addr
     low = ends_before chunk.addr 0 xs (omega arith) part.below (omega (arith, empty chunk.addr (omega arith) (omega (arith, least_len))))
 
-    high : IsRisingFrom (chunk.addr + chunk.len) ys
+    pub high : IsRisingFrom (chunk.addr + chunk.len) ys
     high =
         let sizes = AllByRecursion-weaker (IsElement heap.insertions) (λ (y : Span). 192 ≤ y.whole) (λ y is. is.size.least) ys (AllByRecursion-back (IsElement heap.insertions) xs ys tiling_part.elements) in
         begins_behind chunk.addr chunk.len (last_end 0 xs) ys part.behind sizes (rising-back 0 xs ys tiling_part.rising) (λ byte from to. omega (arith, empty byte from to))
 
-    others : AllByRecursion (λ q. q.list ≡ chunk.list → ⊥) (xs ++ ys)
+    pub others : AllByRecursion (λ q. q.list ≡ chunk.list → ⊥) (xs ++ ys)
     others = AllByRecursion-each (λ (q : Span). q.list ≡ chunk.list → ⊥) (xs ++ ys) (λ q has. other_lists q (subst (λ zs. Contains zs q) (sym part.ranges) has))
 
     chunk_tiling : IsTiling more (heap.insertions + 1) (xs ++ (x ∷ ys))
@@ -196,7 +196,7 @@ module _ (heap : PlainHeap) (chunk : Chunk) (tiled : IsTiled heap) (can : CanAdd
       apart = apart_insert xs x ys (Rattle.hp_heap.proofs.RangeLemmas.AllByRecursion-front (λ (q : Span). q.list ≡ chunk.list → ⊥) xs ys others) (AllByRecursion-back (λ (q : Span). q.list ≡ chunk.list → ⊥) xs ys others) tiling_part.apart;
     })
 
-    ranges_more : with_range x heap.ranges ≡ xs ++ (x ∷ ys)
+    pub ranges_more : with_range x heap.ranges ≡ xs ++ (x ∷ ys)
     ranges_more =
         let over = behind_run chunk.len chunk.addr ys (omega (arith, least_len)) high in
         ap (λ zs. with_range x zs) part.ranges

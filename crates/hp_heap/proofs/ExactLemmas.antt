@@ -1,5 +1,5 @@
 -- Where each linked list has the free elements of its class, the lists are exact.
-use Rattle.std.proofs.Common.{◌≡◌, ℕ, zero, suc, ◌+◌, ◌<◌, Bool, true, false, cond, List, [], ◌∷◌, ◌++◌, Option, Some, map, nat_eq, length, refl, sym, ap, subst, ◌∙◌, arith}
+use Rattle.std.proofs.Common.{◌≡◌, ℕ, suc, ◌+◌, ◌<◌, Bool, false, cond, List, [], ◌∷◌, Some, map, nat_eq, length, refl, sym, ap, ◌∙◌, arith}
 use Rattle.std.proofs.lemmas.Bool.{cond_both, or_parts, eq-eqb, ne_eqb, eqb-false}
 use Rattle.std.specs.List.{AllByRecursion, filter, range_with_len}
 use Rattle.hp_base.specs.declared.span.Span.{Span}
@@ -12,7 +12,6 @@ use Rattle.hp_heap.specs.Headers.{spans_of, exact_lists}
 use Rattle.hp_heap.specs.Tie.{is_on, newest, link_of, links_of, start_of, starts_of, AreTied}
 use Rattle.hp_heap.proofs.Members.{AllByRecursion-kept}
 use Rattle.hp_heap.proofs.NewestLemmas.{newest_all, newest_spans}
-use Rattle.hp_heap.proofs.RangeLemmas.{AllByRecursion-weaker}
 
 -- an element stands under its key
 abbrev StandsIn : Items → Keyed Span → Type 0

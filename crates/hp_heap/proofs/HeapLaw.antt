@@ -1,5 +1,5 @@
 -- One more call of a heap keeps what holds of it.
-use Rattle.std.proofs.Common.{◌≡◌, ℕ, ◌+◌, ◌*◌, ◌^◌, ◌≤◌, [], ◌∷◌, ◌++◌, refl, sym, ap, subst, ◌∙◌, arith, Option, vec_len, vec_capacity}
+use Rattle.std.proofs.Common.{◌≡◌, ℕ, ◌+◌, ◌*◌, ◌^◌, ◌≤◌, [], ◌∷◌, ◌++◌, sym, ap, subst, ◌∙◌, arith, Option, vec_len, vec_capacity}
 use Rattle.std.specs.List.{AllByRecursion}
 use Rattle.hp_base.specs.declared.span.Span.{Span}
 use Rattle.hp_chain.specs.Chain.{AreApart}
@@ -14,8 +14,10 @@ use Rattle.hp_heap.specs.FreeSearch.{HasSpace}
 use Rattle.hp_heap.specs.Headers.{spans_of, exact_lists}
 use Rattle.hp_heap.specs.Joins.{HasRoom, IsJoinable}
 use Rattle.hp_heap.specs.Finding.{IsOfHeap}
+use Rattle.hp_heap.specs.ChunkOrder.{AreInOrder}
 use Rattle.hp_heap.specs.PageLists.{AreNoted}
 use Rattle.hp_heap.specs.Inside.{opened, plain_of, view_of, IsHeap}
+use Rattle.hp_heap.proofs.ChunkLaw.{after-kept}
 use Rattle.hp_heap.proofs.HistoryLaw.{after-same, replay-push, IsLegal-push}
 use Rattle.hp_heap.proofs.LaidLemmas.{tiled_limits}
 use Rattle.hp_heap.proofs.Limits.{tiled_spaces, total_below}
@@ -41,6 +43,7 @@ pub record IsNext (a b : Inside) (entry : Entry) (next : PlainHeap) : Type 0 whe
   pub room : 2 * b.spare ≤ b.headers.spare
   pub room_history : vec_len b.history + b.spare ≤ vec_capacity b.history
   pub room_lists : vec_len b.page_lists + b.spare ≤ vec_capacity b.page_lists
+  pub room_chunks : vec_len b.chunks + b.spare ≤ vec_capacity b.chunks
 
 module _ (a b : Inside) (entry : Entry) (next : PlainHeap) (heap : IsHeap a) (is : IsNext a b entry next) where
   same_opening : opened b ≡ opened a
@@ -58,6 +61,10 @@ module _ (a b : Inside) (entry : Entry) (next : PlainHeap) (heap : IsHeap a) (is
   unfolding after_entry
   kept = let same = after-same entry.caller.participant entry.call (plain_of a) in (ap (λ h. h.index) is.step ∙ same.index, ap (λ h. h.serves) is.step ∙ same.serves)
 
+  next_kept : AreInOrder next.chunks
+  unfolding after_entry
+  next_kept = subst (λ h. AreInOrder h.chunks) (sym is.step) (after-kept entry.caller.participant entry.call (plain_of a) heap.kept is.legal.allowed)
+
   pub next_heap : IsHeap b
   next_heap = record {
     ranges = is.ranges ∙ ap (λ h. h.ranges) (sym next_plain);
@@ -67,6 +74,7 @@ module _ (a b : Inside) (entry : Entry) (next : PlainHeap) (heap : IsHeap a) (is
     name = is.name ∙ ap (λ h. h.name) (sym next_plain);
     socket = is.socket ∙ ap (λ h. h.socket) (sym next_plain);
     chunks = is.chunks ∙ ap (λ h. h.chunks) (sym next_plain);
+    kept = subst (λ h. AreInOrder h.chunks) (sym next_plain) next_kept;
     lists = subst (λ h. AreNoted h.pages b.page_lists.items) (sym next_plain) is.lists;
     serves = ap (λ h. h.serves) next_plain ∙ kept.1 ∙ heap.serves ∙ sym is.serves;
     index = ap (λ h. h.index) next_plain ∙ kept.0 ∙ heap.index ∙ sym is.index;
@@ -76,6 +84,7 @@ module _ (a b : Inside) (entry : Entry) (next : PlainHeap) (heap : IsHeap a) (is
     room = is.room;
     room_history = is.room_history;
     room_lists = is.room_lists;
+    room_chunks = is.room_chunks;
   }
 
 -- what callers see of one more call

@@ -40,6 +40,12 @@ pub mod ResizeTiling
 pub mod CutPages
 pub mod CutTiling
 pub mod ChunkTiling
+pub mod ChunkLaw
+pub mod MarkLemmas
+pub mod ChunkListLemmas
+pub mod WholeChunk
+pub mod WholeElement
+pub mod ChunkCalls
 pub mod UnchunkTiling
 pub mod MarksTiling
 pub mod StepLaw
@@ -47,6 +53,7 @@ pub mod InsertLaw
 pub mod FrontsLaw
 pub mod BusyLemmas
 pub mod FreeLaw
+pub mod BusyLaw
 pub mod ResizeLaw
 pub mod ResizedLemmas
 pub mod InPlaceLemmas

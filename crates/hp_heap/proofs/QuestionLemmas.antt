@@ -51,6 +51,7 @@ asked a b entry heap is =
       room = omega (arith, ap (λ h. h.spare) headers, heap.room, is.spare);
       room_history = omega (arith, is.len, is.room, is.spare, heap.room_history);
       room_lists = omega (arith, ap (λ ls. vec_len ls) lists, ap (λ ls. vec_capacity ls) lists, is.spare, heap.room_lists);
+      room_chunks = omega (arith, ap (λ v. vec_len v.chunks) is.others, ap (λ v. vec_capacity v.chunks) is.others, is.spare, heap.room_chunks);
     }
 
 -- a search by a test that says the same

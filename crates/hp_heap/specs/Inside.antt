@@ -5,6 +5,7 @@ use Rattle.hp_heap.specs.declared.heap.Heap.TheInside.{Inside}
 use Rattle.hp_heap.specs.PlainHeap.{PlainHeap, opening_heap}
 use Rattle.hp_heap.specs.Tiling.{IsTiled}
 use Rattle.hp_heap.specs.Headers.{spans_of, exact_lists}
+use Rattle.hp_heap.specs.ChunkOrder.{AreInOrder}
 use Rattle.hp_heap.specs.PageLists.{AreNoted}
 use Rattle.hp_heap.specs.History.{HeapView, replay, IsLegal}
 
@@ -29,6 +30,7 @@ pub record IsHeap (a : Inside) : Type 0 where
   pub name : a.name ≡ (plain_of a).name
   pub socket : a.socket ≡ (plain_of a).socket
   pub chunks : a.chunks.items ≡ (plain_of a).chunks
+  pub kept : AreInOrder (plain_of a).chunks
   pub lists : AreNoted (plain_of a).pages a.page_lists.items
   pub serves : (plain_of a).serves ≡ a.serves
   pub index : (plain_of a).index ≡ a.index
@@ -38,3 +40,4 @@ pub record IsHeap (a : Inside) : Type 0 where
   pub room : 2 * a.spare ≤ a.headers.spare
   pub room_history : vec_len a.history + a.spare ≤ vec_capacity a.history
   pub room_lists : vec_len a.page_lists + a.spare ≤ vec_capacity a.page_lists
+  pub room_chunks : vec_len a.chunks + a.spare ≤ vec_capacity a.chunks

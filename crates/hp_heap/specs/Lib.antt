@@ -8,6 +8,8 @@ pub mod Joining
 pub mod Resizing
 pub mod Cut
 pub mod Chunks
+pub mod ChunkOrder
+pub mod ChunkKeeping
 pub mod Statistics
 pub mod Step
 pub mod Allowed
@@ -22,6 +24,7 @@ pub mod Allocating
 pub mod PageLists
 pub mod Inside
 pub mod Laws
+pub mod BusyLaws
 pub mod Freeing
 pub mod Finding
 pub mod PageCutting

@@ -1,5 +1,5 @@
 -- A walk over elements under keys, from the first on. No public clause cites this module.
-use Rattle.std.specs.Prelude.{◌≡◌, ℕ, List, [], ◌∷◌, ◌++◌, Option, Some, None, nat_eq, if◌then◌else◌}
+use Rattle.std.specs.Prelude.{◌≡◌, ℕ, [], ◌∷◌, ◌++◌, Option, Some, None, nat_eq, if◌then◌else◌}
 use Rattle.hp_chain.specs.Chain.{AreApart, first_key}
 use Rattle.hp_elem.specs.Items.{Items}
 

@@ -95,8 +95,8 @@ fn is_usable(list: u32, chunks: &[Chunk], need: &Need) -> bool
     false
 }
 
-// Whether a participant is among those that have attached a chunk.
-fn has_attached(attached: u16, participant: u8) -> bool
+/// Whether a participant is among those that have attached a chunk.
+pub fn has_attached(attached: u16, participant: u8) -> bool
     ensures { result ≡ has_bit attached participant }
 {
     participant < 16 && has_bit(u32::from(attached), u32::from(participant))

@@ -100,6 +100,7 @@ impl Heap {
         };
         self.headers.reserve(elements)?;
         self.page_lists.reserve(calls)?;
+        self.chunks.reserve(calls)?;
         self.history.reserve(calls)?;
         self.spare = calls;
         Ok(())

@@ -1,8 +1,11 @@
 ghost use Rattle.std.specs.Prelude.{ℕ, List, Bool};
+ghost use Rattle.hp_base.specs.declared.request.Request.{Request};
+ghost use Rattle.hp_base.specs.declared.tag.Tag.{Tag};
 ghost use Rattle.hp_base.specs.declared.span.Span.{Span};
 ghost use Rattle.hp_heap.specs.PlainHeap.{PlainHeap};
 ghost use Rattle.hp_heap.specs.Tiling.{IsApart, IsTiled};
 ghost use Rattle.hp_heap.specs.Resizing.{CanAskSize};
+ghost use Rattle.hp_heap.specs.BusyLaws.{AllocatesAlone, LeavesBusy};
 ghost use Rattle.hp_heap.specs.Laws.{AllocatesPlace, CallsKeepSound, ComputesChoice, ComputesCut, CutsPages, FreesAlone, FrontsStand, InsertsAtHead, KeepsTiled, ResizesAlone, SortsByStamp, StandsOn, TakesNeighbours};
 
 /// The computed choice is the choice. This law and the others here are proved of all heaps; their functions have no
@@ -25,6 +28,17 @@ pub fn tiling_law()
 pub fn joining_law()
     ensures { (range : Span) (below above : List Span)
         → IsApart below → IsApart above → TakesNeighbours range below above }
+{}
+
+/// A call that is none of an allocation, a free and a resize leaves every busy element and every zone of a tiled heap.
+pub fn busy_law()
+    ensures { LeavesBusy }
+{}
+
+/// An allocation from a tiled heap leaves every other busy element, and where it is refused the heap.
+pub fn alloc_alone_law()
+    ensures { (participant : ℕ) (request : Request) (tag : Tag) (heap : PlainHeap)
+        → IsTiled heap → AllocatesAlone participant request tag heap }
 {}
 
 /// A free of a tiled heap leaves every other busy element and every other zone as it was.

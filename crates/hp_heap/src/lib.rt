@@ -3,6 +3,8 @@
 
 mod alloc;
 mod choice;
+mod chunk_list;
+mod chunks;
 mod cutting;
 mod elements;
 mod entry;
@@ -13,6 +15,7 @@ mod headers;
 mod heap;
 mod joining;
 mod laws;
+mod naming;
 mod page_list;
 mod pages;
 mod pieces;
@@ -29,6 +32,6 @@ pub use freeing::FreeFault;
 pub use heap::Heap;
 pub use hp_base::{Chunk, Span, SpanState};
 pub use laws::{
-    alloc_law, choice_law, cut_law, free_law, fronts_law, history_law, insertion_law, joining_law,
-    list_law, pages_law, resize_law, sound_law, tiling_law,
+    alloc_alone_law, alloc_law, busy_law, choice_law, cut_law, free_law, fronts_law, history_law,
+    insertion_law, joining_law, list_law, pages_law, resize_law, sound_law, tiling_law,
 };

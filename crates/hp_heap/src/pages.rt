@@ -48,8 +48,8 @@ impl Heap {
     }
 }
 
-// Adds an element, which becomes free as one with the free elements of its list that touch it.
-fn insert_new(headers: &mut Headers, range: Span)
+/// Adds an element, which becomes free as one with the free elements of its list that touch it.
+pub fn insert_new(headers: &mut Headers, range: Span)
     requires busy { IsBusy range }
     requires least { 192 ≤ range.whole }
     requires fits { FitsBeside range headers.old.items }

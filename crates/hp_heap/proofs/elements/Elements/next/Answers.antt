@@ -1,4 +1,4 @@
-use Rattle.std.proofs.Common.{◌≡◌, ◌∷◌, [], ◌++◌, Option, Some, sym, ◌∙◌, rules}
+use Rattle.std.proofs.Common.{◌≡◌, ◌∷◌, [], ◌++◌, Some, sym, ◌∙◌, rules}
 use Rattle.hp_heap.proofs.WalkLemmas.{step_at, spans_step}
 use Rattle.hp_heap.proofs.elements.Elements.next.Goals as goal
 

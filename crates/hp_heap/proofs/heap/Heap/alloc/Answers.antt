@@ -51,6 +51,7 @@ is_next c = record {
   room = omega (arith, c.allocate-address.ensures.spare, c.self.invariant.room, spare_some c);
   room_history = omega (arith, c.record.ensures.len, c.record.ensures.room, c.self.invariant.room_history, spare_some c);
   room_lists = omega (arith, c.self.invariant.room_lists, spare_some c);
+  room_chunks = omega (arith, c.self.invariant.room_chunks, spare_some c);
 }
   where
     spare_some : (c : After-self-1) → 1 ≤ c.self.inside.spare

@@ -61,6 +61,7 @@ is_next c = record {
   room = omega (arith, c.release-freed.ensures.spare, c.self.invariant.room, spare_some c);
   room_history = omega (arith, c.record.ensures.len, c.record.ensures.room, c.self.invariant.room_history, spare_some c);
   room_lists = omega (arith, c.self.invariant.room_lists, spare_some c);
+  room_chunks = omega (arith, c.self.invariant.room_chunks, spare_some c);
 }
 
 pub invariant_of-self : goal.invariant_of-self
