@@ -88,10 +88,11 @@ impl Segs {
     /// A heap gives up a run of its rows: they become Retiring. Own; after malloc_heap_free_pages of rte_malloc.
     pub fn retire(&mut self, heap: u32, run: &Run)
         requires owned { OwnsRun heap run.now self.old }
-        ensures step { self.new ≡ after_retire run.now self.old }
+        ensures step { self.new ≡ after_retire heap run.now self.old }
     {
         self.table.retire(run);
         insert_run(&mut self.retiring, run);
+        self.retired = self.retired.with(heap, run);
     }
 
     /// The number of Retiring runs.

@@ -10,7 +10,7 @@ retire-requires c =
     let s = c.self.inside in
     let owns = rw (← c.self.view_is) at c.requires.owned in
     record {
-      counted = counted_run (view_of s.table s.asks s.retiring.items s.growth s.roster s.armed.value s.ranges.items s.spare) c.self.invariant.sound c.args.heap
+      counted = counted_run (view_of s.table s.asks s.retiring.items s.retired s.growth s.roster s.armed.value s.ranges.items s.spare) c.self.invariant.sound c.args.heap
           c.args.run.now owns;
     }
 
@@ -23,4 +23,4 @@ insert_run-requires c =
 pub invariant_of-self : goal.invariant_of-self
 invariant_of-self c =
     let owns = rw (← c.self.view_is) at c.requires.owned in
-    rw (c.retire.ensures, c.insert_run.ensures.runs) (kept_retired c.args.heap c.args.run.now c.insert_run.ensures.room c.self.invariant owns)
+    rw (c.retire.ensures, c.insert_run.ensures.runs, c.with.ensures) (kept_retired c.args.heap c.args.run.now c.insert_run.ensures.room c.self.invariant owns)
