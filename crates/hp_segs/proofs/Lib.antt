@@ -73,4 +73,5 @@ pub mod ReturnedBySteps
 pub mod RetiredSteps
 pub mod CallCases
 pub mod GivenUpCalls
+pub mod FormCalls
 pub mod SettledLaws

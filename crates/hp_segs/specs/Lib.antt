@@ -15,6 +15,7 @@ pub mod SoundPlaces
 pub mod Sound
 pub mod Moved
 pub mod GivenUp
+pub mod Forms
 pub mod SettledAsks
 pub mod Laws
 pub mod GrowthLaws

@@ -1,6 +1,7 @@
 //! Laws of the segment value, above the definitions that the calls cite.
 ghost use Rattle.hp_segs.specs.Laws.{CallsAppend, CallsKeep, CallsMove, ClaimIsStep, ClaimOwnsAll, DropIsStep, FailedGrowthLeaves, GrantIsStep, MovesAppend, MovesCompose, MovesKeep, MovesStay, MovesWiden, OthersLeave, RetireIsStep, RowsAreGranted};
 ghost use Rattle.hp_segs.specs.GrowthLaws.{CallsLeaveArmed, GrantsHavePlace, OpenHasPlace};
+ghost use Rattle.hp_segs.specs.Forms.{LogFormLeaves, OwnerFormLeaves, RangeFormLeaves, RosterFormLeaves};
 ghost use Rattle.hp_segs.specs.GivenUp.{CallsGiveUp};
 ghost use Rattle.hp_segs.specs.PlaceLaws.{ListsApart, OverlapIsLowest, SlotsApart};
 ghost use Rattle.hp_segs.specs.SettledAsks.{AboveIsUnsettled, ClaimSettles, RefusalSettles, UnclaimedIsUnsettled};
@@ -43,6 +44,16 @@ pub fn growths_law()
 /// Each call leaves what was given up before it, and puts its own run after that, with its heap. Own.
 pub fn retired_law()
     ensures calls { CallsGiveUp }
+{}
+
+/// What each form of a give leaves. Calls that log leave the roster, the segments that heaps have, what these gave up, and external
+/// memory. Beside spare, calls on the roster change that alone, calls on external memory that alone, and calls by which heaps take and give
+/// up rows the rows' states and what was given up. Own.
+pub fn forms_law()
+    ensures logs { LogFormLeaves }
+    ensures enrols { RosterFormLeaves }
+    ensures owns { OwnerFormLeaves }
+    ensures ranges { RangeFormLeaves }
 {}
 
 /// An ask is settled where it has an outcome other than Stale and, where it was granted, the grant is claimed: a refusal and a claim settle
