@@ -74,4 +74,5 @@ pub mod RetiredSteps
 pub mod CallCases
 pub mod GivenUpCalls
 pub mod FormCalls
+pub mod RunPlaces
 pub mod SettledLaws

@@ -14,11 +14,14 @@ retire-requires c =
           c.args.run.now owns;
     }
 
-pub insert_run-requires : goal.insert_run-requires
-insert_run-requires c =
+pub insert_run-requires-clause-room : goal.insert_run-requires-clause-room
+insert_run-requires-clause-room c =
     let owns = rw (← c.self.view_is) at c.requires.owned in
     let room = room_to_retire c.args.heap c.args.run.now c.self.invariant owns in
     omega (arith, room, c.self.inside.retiring.ok)
+
+pub insert_run-requires-clause-rising : goal.insert_run-requires-clause-rising
+insert_run-requires-clause-rising c = c.self.invariant.sound.rows.rising
 
 pub invariant_of-self : goal.invariant_of-self
 invariant_of-self c =
