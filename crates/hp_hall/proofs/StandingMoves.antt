@@ -219,9 +219,9 @@ notes_leave participant call row got segs =
     noted segs (MapFailed participant call row.addr got) (is_noted segs participant call row segs.growth)
 
 -- rows that change hands are no part of the outcomes
-rows_alone : (segs : SegsView) (segments : List Segment) (retiring : List Run) (spare : ℕ)
-    → LeavesAsks segs (record segs { segments = segments; retiring = retiring; spare = spare })
-rows_alone segs segments retiring spare = record {
+rows_alone : (segs : SegsView) (segments : List Segment) (retiring : List Run) (retired : List (ℕ × Run)) (spare : ℕ)
+    → LeavesAsks segs (record segs { segments = segments; retiring = retiring; retired = retired; spare = spare })
+rows_alone segs segments retiring retired spare = record {
   asks = refl;
   growth = refl;
   armed = refl;
@@ -244,12 +244,12 @@ asks_next first second third here there = record {
 
 claimed_leaves : (segs : SegsView) (grant : Option ℕ) → LeavesAsks segs (claimed_grant segs grant)
 claimed_leaves segs None = asks_stay segs
-claimed_leaves segs (Some generation) = rows_alone segs _ segs.retiring segs.spare
+claimed_leaves segs (Some generation) = rows_alone segs _ segs.retiring segs.retired segs.spare
 
 owner_call_leaves : (call : SegsCall) (segs : SegsView) → IsTrue (is_owner_call call) → LeavesAsks segs (after call segs)
-owner_call_leaves (Reserve n) segs is = rows_alone segs segs.segments segs.retiring _
+owner_call_leaves (Reserve n) segs is = rows_alone segs segs.segments segs.retiring segs.retired _
 owner_call_leaves (Claim from number) segs is = claimed_leaves segs (grant_of segs.asks from number)
-owner_call_leaves (Retire heap run) segs is = rows_alone segs _ _ segs.spare
+owner_call_leaves (Retire heap run) segs is = rows_alone segs _ _ _ segs.spare
 owner_call_leaves call segs is = asks_off segs (after call segs) is
 
 owned_by_calls : (calls : List SegsCall) (old new : SegsView) → Leads calls old new → All (λ call. IsTrue (is_owner_call call)) calls

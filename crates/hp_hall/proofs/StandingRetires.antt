@@ -93,9 +93,9 @@ module _ (segs : SegsView) (heap : ℕ) (run : Run) (sound : IsSound segs) (owns
       filter_alike (is_claimed_for other made) (is_claimed_for other segs.segments) segs.asks
       (λ k d within. claimed_alike other segs.segments made (get_or segs.asks k d) (λ generation is. unclaimed_stays generation))
 
-  pub others_left : (other : ℕ) → other ≢ heap → standing_of other (after_retire run segs) ≡ standing_of other segs
+  pub others_left : (other : ℕ) → other ≢ heap → standing_of other (after_retire heap run segs) ≡ standing_of other segs
   others_left other apart =
-      standing_from other segs (after_retire run segs)
+      standing_from other segs (after_retire heap run segs)
       (filter_changed (λ segment. is_owned_by other segment.state) (λ segment. is_owned_by other segment.state)
       (retired_segment run) segs.segments
       (λ k d within.
@@ -105,7 +105,7 @@ module _ (segs : SegsView) (heap : ℕ) (run : Run) (sound : IsSound segs) (owns
       (claimed_stays other)
 
   -- the heap's own rows but those of the run
-  pub owned_left : owned_by heap (after_retire run segs) ≡ filter (λ segment. not (in_run run segment.row)) (owned_by heap segs)
+  pub owned_left : owned_by heap (after_retire heap run segs) ≡ filter (λ segment. not (in_run run segment.row)) (owned_by heap segs)
   owned_left =
       filter_changed (λ segment. is_owned_by heap segment.state)
       (λ segment. is_owned_by heap segment.state && not (in_run run segment.row)) (retired_segment run) segs.segments

@@ -103,18 +103,18 @@ ClaimedCanGrow = (segs : SegsView) (from number : ℕ) (run : Run) (heap : Plain
 -- a run that a heap gives up leaves what the value has for the other heaps
 abbrev pub RetireLeavesOthers : Type 0
 RetireLeavesOthers = (segs : SegsView) (heap : ℕ) (run : Run) → IsSound segs → OwnsRun heap run segs
-    → (other : ℕ) → other ≢ heap → standing_of other (after_retire run segs) ≡ standing_of other segs
+    → (other : ℕ) → other ≢ heap → standing_of other (after_retire heap run segs) ≡ standing_of other segs
 
 -- and takes the run's rows, and no grant, from what it has for that heap
 abbrev pub RetireTakesRows : Type 0
 RetireTakesRows = (segs : SegsView) (heap : ℕ) (run : Run) → IsSound segs → OwnsRun heap run segs
-    → standing_of heap (after_retire run segs)
+    → standing_of heap (after_retire heap run segs)
     ≡ record (standing_of heap segs) { owned = filter (λ segment. not (in_run run segment.row)) (owned_by heap segs) }
 
 -- where a heap has the pages of its segments, a run that it cuts is its own, and it has those of its segments after that is given up
 pub record IsGivenUpWith (address : ℕ) (heap : PlainHeap) (run : Run) (segs : SegsView) : Type 0 where
   pub own : OwnsRun heap.index run segs
-  pub pages : HasPages (after_cut address heap).pages (owned_by heap.index (after_retire run segs))
+  pub pages : HasPages (after_cut address heap).pages (owned_by heap.index (after_retire heap.index run segs))
 
 abbrev pub RetireTakesPages : Type 0
 RetireTakesPages = (segs : SegsView) (address : ℕ) (heap : PlainHeap) (run : Run) → IsSound segs → IsRunCut address heap run

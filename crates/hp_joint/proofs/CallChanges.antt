@@ -41,8 +41,8 @@ module _ (count deadline : ℕ) (may_fail : ℕ → Option (List ℕ)) where
     pub arms : (ask : Ask) → Changes count deadline may_fail segs (after_arm ask segs)
     arms ask = one segs (after_arm ask segs) refl (log.same refl) refl (log.nothing refl refl refl)
 
-    pub retires : (run : Run) → Changes count deadline may_fail segs (after_retire run segs)
-    retires run = one segs (after_retire run segs) refl (log.same refl) refl (log.nothing refl refl refl)
+    pub retires : (heap : ℕ) (run : Run) → Changes count deadline may_fail segs (after_retire heap run segs)
+    retires heap run = one segs (after_retire heap run segs) refl (log.same refl) refl (log.nothing refl refl refl)
 
     pub claims : (from number : ℕ) → Changes count deadline may_fail segs (after_claim from number segs)
     claims from number =

@@ -96,12 +96,12 @@ module _ (seats : List Seat) (old new : SegsView) (was : AreGone seats old) wher
   gone_left left = gone_refused (keeps [] (left.log ∙ sym (append-nil old.log)) left.retiring) (leaves left.asks)
 
 -- a run that is cut is Retiring, and those before it go on
-going_retired : (given run : Run) (segs : SegsView) → IsGoing segs run → IsGoing (after_retire given segs) run
-going_retired given run segs (inl among) = inl (inserted given run segs.retiring (inr among))
-going_retired given run segs (inr gone) = inr gone
+going_retired : (heap : ℕ) (given run : Run) (segs : SegsView) → IsGoing segs run → IsGoing (after_retire heap given segs) run
+going_retired heap given run segs (inl among) = inl (inserted given run segs.retiring (inr among))
+going_retired heap given run segs (inr gone) = inr gone
 
-pub gone_retired : (seats : List Seat) (run : Run) (segs : SegsView) → AreGone seats segs → AreGone seats (after_retire run segs)
-gone_retired seats run segs was = record {
-  going = λ who heap addr its among. going_retired run its segs (was.going who heap addr its among);
+pub gone_retired : (seats : List Seat) (heap : ℕ) (run : Run) (segs : SegsView) → AreGone seats segs → AreGone seats (after_retire heap run segs)
+gone_retired seats heap run segs was = record {
+  going = λ who other addr its among. going_retired heap run its segs (was.going who other addr its among);
   freed = was.freed;
 }

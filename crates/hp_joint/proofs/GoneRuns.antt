@@ -77,7 +77,7 @@ handles_gone seats count who _ _ _ _ (Handles.claims seat segs) there traced cut
 handles_gone seats count who _ _ _ _ (Handles.settles seat segs since now late) there traced cut armed was =
     gone_claim seats who seat there traced cut seat.party.asked (after_withdraw who seat.party.asked since now segs)
     (gone_withdraw seats who seat there traced cut seat.party.asked since now segs was)
-handles_gone seats count who _ _ _ _ (Handles.cuts seat segs heap addr run) there traced cut armed was = gone_retired seats run segs was
+handles_gone seats count who _ _ _ _ (Handles.cuts seat segs heap addr run) there traced cut armed was = gone_retired seats heap run segs was
 handles_gone seats count who _ _ _ _ (Handles.attaches seat segs caught after tried) there traced cut armed was =
     gone_left seats segs _ was (attaching_leaves who caught segs)
 handles_gone seats count who _ _ _ _ (Handles.detaches seat segs secondary) there traced cut armed was =

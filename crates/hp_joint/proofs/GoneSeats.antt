@@ -150,11 +150,11 @@ handles_going (Handles.settles seat segs since now late) = rests seat seat _ ref
 handles_going (Handles.cuts seat segs heap addr run) = record {
   more = Called heap (call.Cut addr) (gives.Pages run) ∷ [];
   trace = refl;
-  going = no_call (Called heap (call.Cut addr) (gives.Pages run)) [] (after_retire run segs)
+  going = no_call (Called heap (call.Cut addr) (gives.Pages run)) [] (after_retire heap run segs)
       (λ its_heap its_addr its same.
       let runs : run ≡ its = cc in
       inl (inserted run its segs.retiring (inl runs)))
-      (none_going (after_retire run segs));
+      (none_going (after_retire heap run segs));
 }
 handles_going {who = who} (Handles.attaches seat segs caught after tried) =
     record {

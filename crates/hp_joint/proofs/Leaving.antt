@@ -54,4 +54,4 @@ withdraw_leaves segs from number since now =
 
 -- places for a step change nothing of what is sound
 pub room_sound : (segs : SegsView) → IsSound segs → IsSound (with_room segs)
-room_sound segs sound = record { rows = sound.rows; asks = sound.asks; places = sound.places }
+room_sound segs sound = record { rows = sound.rows; asks = sound.asks; places = sound.places; returned = sound.returned }

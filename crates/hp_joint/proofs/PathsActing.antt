@@ -30,7 +30,7 @@ module _ (count who : ℕ) where
 
   cuts_acted : (party : Party) (heap addr : ℕ) (run : Run) (taken : SegsView) (seat : Seat)
       → Acted count who party (after_call party) (Called heap (call.Cut addr) (gives.Pages run) ∷ [])
-      (takes_segments taken ∷ gives_segments (after_retire run taken) ∷ []) seat
+      (takes_segments taken ∷ gives_segments (after_retire heap run taken) ∷ []) seat
   cuts_acted party heap addr run taken seat =
       let behind : Seat = record seat { trace = seat.trace ++ Called heap (call.Cut addr) (gives.Pages run) ∷ [] } in
       record {
@@ -38,7 +38,7 @@ module _ (count who : ℕ) where
         me = refl;
         deadline = refl;
         trace = refl;
-        path = path_handle count who (seated party seat) (seated (after_call party) behind) taken (after_retire run taken)
+        path = path_handle count who (seated party seat) (seated (after_call party) behind) taken (after_retire heap run taken)
             (Handles.cuts (seated party seat) taken heap addr run);
       }
 

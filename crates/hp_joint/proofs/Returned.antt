@@ -43,12 +43,12 @@ insert_moves run [] = IsPermutation-refl (run ∷ [])
 insert_moves run (other ∷ runs) = insert_by (nat_lt run.addr other.addr) run other runs (insert_moves run runs)
 
 -- a run that is given up is Retiring
-retire_gone : (run : Run) (segs : SegsView) → IsPermutation (gone_in segs ++ run ∷ []) (gone_in (after_retire run segs))
-retire_gone run segs =
+retire_gone : (heap : ℕ) (run : Run) (segs : SegsView) → IsPermutation (gone_in segs ++ run ∷ []) (gone_in (after_retire heap run segs))
+retire_gone heap run segs =
     let back = returned_runs segs.asks false 1 segs.log in
-    IsPermutation-trans (gone_in segs ++ run ∷ []) (run ∷ gone_in segs) (gone_in (after_retire run segs))
+    IsPermutation-trans (gone_in segs ++ run ∷ []) (run ∷ gone_in segs) (gone_in (after_retire heap run segs))
     (IsPermutation-to_front (gone_in segs) run)
-    (IsPermutation-trans (run ∷ gone_in segs) (back ++ run ∷ segs.retiring) (gone_in (after_retire run segs))
+    (IsPermutation-trans (run ∷ gone_in segs) (back ++ run ∷ segs.retiring) (gone_in (after_retire heap run segs))
     (IsPermutation-sym (back ++ run ∷ segs.retiring) (run ∷ gone_in segs) (IsPermutation-middle back run segs.retiring))
     (IsPermutation-append_right back (run ∷ segs.retiring) (insert_by_address run segs.retiring) (insert_moves run segs.retiring)))
 
@@ -151,7 +151,7 @@ handles_return {who = who} (Handles.settles seat segs since now late) sound =
     nothing_cut seat seat segs (after_claim who seat.party.asked withdrawn) (rests seat seat refl)
     (claim_gone withdrawn who seat.party.asked ∙ withdraw_gone segs sound who seat.party.asked since now)
 handles_return (Handles.cuts seat segs heap addr run) sound =
-    record { cut = run ∷ []; more = record { more = _; trace = refl; cuts = refl }; gone = retire_gone run segs }
+    record { cut = run ∷ []; more = record { more = _; trace = refl; cuts = refl }; gone = retire_gone heap run segs }
 handles_return {who = who} (Handles.attaches seat segs caught after tried) sound =
     nothing_cut seat _ segs _ (record { more = _; trace = refl; cuts = refl }) (left_gone segs _ (attaching_leaves who caught segs))
 handles_return (Handles.detaches seat segs secondary) sound = nothing_cut seat _ segs _ (rests seat _ refl) refl

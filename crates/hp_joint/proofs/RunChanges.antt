@@ -153,7 +153,7 @@ module _ (count deadline : ℕ) (may_fail : ℕ → Option (List ℕ)) (who : �
       (change.withdraws count deadline may_fail segs sound armed who seat.party.asked since now
       (subst (λ deadline. since + 3 * deadline ≤ now) was.its_deadline late))
       (change.claims count deadline may_fail mid who seat.party.asked)
-  handles_changes (Handles.cuts seat segs heap addr run) was sound armed = change.retires count deadline may_fail segs run
+  handles_changes (Handles.cuts seat segs heap addr run) was sound armed = change.retires count deadline may_fail segs heap run
   handles_changes (Handles.attaches seat segs caught after tried) was sound armed =
       change.attaches count deadline may_fail segs who declared caught
   handles_changes (Handles.detaches seat segs secondary) was sound armed = change.detaches count deadline may_fail segs who secondary

@@ -177,13 +177,13 @@ module _ (maps : MapsView) (context : Context) (rows : maps.rows ≡ []) (number
   abbrev cutting : Seat
   cutting = having_done (after_call (seat 1).party) (cut ∷ []) (seat 1)
 
-  cuts_once : Handles 2 1 (seat 1) cutting first.segs (after_retire run first.segs)
+  cuts_once : Handles 2 1 (seat 1) cutting first.segs (after_retire 0 run first.segs)
   cuts_once = Handles.cuts (seat 1) first.segs 0 128 run
 
   all_cut : cuts_by_all (seat 0 ∷ cutting ∷ []) ≡ run ∷ []
   all_cut = refl
 
-  cut_is_retiring : gone_in (after_retire run first.segs) ≡ run ∷ []
+  cut_is_retiring : gone_in (after_retire 0 run first.segs) ≡ run ∷ []
   cut_is_retiring = refl
 
   module _ (asked : PagesAsked) (given : Option Run) (frame : Frame) (says : Says frame (alloc_body (ask_of 1 1 asked))) where

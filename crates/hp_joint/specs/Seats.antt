@@ -142,7 +142,7 @@ pub data Handles (count who : ℕ) : Seat → Seat → SegsView → SegsView →
   -- it cuts a run from the heap in its hand, and gives it up
   cuts : (seat : Seat) (segs : SegsView) (heap addr : ℕ) (run : Run)
       → Handles count who seat (having_done (after_call seat.party) (Called heap (call.Cut addr) (gives.Pages run) ∷ []) seat) segs
-      (after_retire run segs)
+      (after_retire heap run segs)
   -- it attaches, or tries to, and detaches; and notes that
   attaches : (seat : Seat) (segs : SegsView) (caught : Caught) (after : Party) → Attaches seat.party after segs.log caught
       → Handles count who seat

@@ -33,11 +33,11 @@ module _ (who heap : ℕ) (run : Run) (parts : ℕ → HeapPart) (segs : SegsVie
     owns_run = subst (λ index. OwnsRun index run segs) cut.its_index (given_up left cut).own
 
     module _ (leaves : RetireLeavesOthers) where
-      others_stay : (other : ℕ) → other ≢ heap → standing_of other (after_retire run segs) ≡ standing_of other segs
+      others_stay : (other : ℕ) → other ≢ heap → standing_of other (after_retire heap run segs) ≡ standing_of other segs
       others_stay = leaves segs heap run sound owns_run
 
       -- the value without it may be given back by the holder of the heap
-      pub retire_gives : (knows : Knows) → ((other : ℕ) → knows.part other ≡ parts other) → GivesSegments knows segs (after_retire run segs)
+      pub retire_gives : (knows : Knows) → ((other : ℕ) → knows.part other ≡ parts other) → GivesSegments knows segs (after_retire heap run segs)
       retire_gives knows same = record {
         more = [];
         log = sym (append-nil segs.log);
@@ -52,9 +52,9 @@ module _ (who heap : ℕ) (run : Run) (parts : ℕ → HeapPart) (segs : SegsVie
       }
 
       module _ (rows : RetireTakesRows) (now : ℕ → HeapPart)
-          (is : (heap : ℕ) → now heap ≡ part_behind who (after_retire run segs) heap (parts heap)) where
+          (is : (heap : ℕ) → now heap ≡ part_behind who (after_retire heap run segs) heap (parts heap)) where
         abbrev given : SegsView
-        given = after_retire run segs
+        given = after_retire heap run segs
 
         left_is : standing_of heap given ≡ without_run run holding
         left_is = rows segs heap run sound owns_run ∙ ap (without_run run) (sym (standing.held heap holding held))

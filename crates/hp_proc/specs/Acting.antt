@@ -41,7 +41,7 @@ pub data Acts (count : ℕ) : Party → Party → List Done → List MailStep �
   -- it cut a run from the heap in its hand, and gave it up
   cuts_run : (party : Party) (heap addr : ℕ) (run : Run) (taken : SegsView)
       → Acts count party (after_call party) (Called heap (call.Cut addr) (gives.Pages run) ∷ [])
-      (takes_segments taken ∷ gives_segments (after_retire run taken) ∷ [])
+      (takes_segments taken ∷ gives_segments (after_retire heap run taken) ∷ [])
   -- it asked for pages
   asks_pages : (party after : Party) (asked : PagesAsked) (run : Option Run) (steps : List MailStep) → DoesAsk count party after asked steps run
       → Acts count party after (Asked asked run ∷ []) steps

@@ -22,7 +22,7 @@ pub(crate) fn retire_run<H: Hall>(hall: &mut H, me: u8, heap: u32, run: &Run)
     ensures gives_up { GivesUp heap run.now (H.part hall.old me heap) (H.part hall.new me heap) }
     ensures others { (other : ℕ) → other ≢ heap → H.part hall.new me other ≡ H.part hall.old me other }
     ensures did { (taken : SegsView) × H.did hall.old hall.new me
-        (takes_segments taken ∷ gives_segments (after_retire run.now taken) ∷ []) }
+        (takes_segments taken ∷ gives_segments (after_retire heap run.now taken) ∷ []) }
 
     ensures taken { (number : ℕ) → H.taken hall.new number ≡ H.taken hall.old number }
     ensures home_of_all { (number : ℕ) → H.may_take hall.old number → H.may_take hall.new number }

@@ -188,7 +188,7 @@ module _ (quietly : AreWaitsQuiet) (set : Setting) (me : ℕ) (is_set : IsSettin
       left_as left true new after (owes_cut owes left heap addr run pays)
       (cuts set me old new party after world its owes owing own.servers own.along.order
       (record { me = refl; deadline = refl; plan = refl; core = refl; asked = refl; sent = refl; calls = omega arith }) own.along.at
-      own.along.shared run taken own.along.made (record { joined = refl; maps = refl }))
+      own.along.shared heap run taken own.along.made (record { joined = refl; maps = refl }))
   walks party after trace steps (Acts.asks_pages _ _ asked run _ does) old new world its owes left owing early sequence once pays =
       let does_so = owes_once owes left (Asked asked run) pays in
       left_as left false new after (does_so.left_is ∙ does_so.may)

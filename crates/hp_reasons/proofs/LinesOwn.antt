@@ -154,18 +154,18 @@ module _ (set : Setting) (me : ℕ) (old new : SoloView) (party after : Party) (
       (shares_still segs refl refl refl refl quiet.base.sound quiet.base.armed) (known_still segs refl refl refl same) owing.gone
 
   -- it gave up a run, of which it owes word
-  pub cuts : (at : Shared) → IsSharedIn new.plain at → (run : Run) (taken : SegsView)
-      → MakesAll me (takes_segments taken ∷ gives_segments (after_retire run taken) ∷ []) world.shared at → HasSameTable party after
+  pub cuts : (at : Shared) → IsSharedIn new.plain at → (heap : ℕ) (run : Run) (taken : SegsView)
+      → MakesAll me (takes_segments taken ∷ gives_segments (after_retire heap run taken) ∷ []) world.shared at → HasSameTable party after
       → Leads true
-  cuts at shared run taken made same =
-      let segs = after_retire run world.shared.segs in
-      let began = took me taken (gives_segments (after_retire run taken) ∷ []) world.shared at made in
-      let given = gave me (after_retire run taken) [] world.shared at began.1 in
+  cuts at shared heap run taken made same =
+      let segs = after_retire heap run world.shared.segs in
+      let began = took me taken (gives_segments (after_retire heap run taken) ∷ []) world.shared at made in
+      let given = gave me (after_retire heap run taken) [] world.shared at began.1 in
       let is : at ≡ with_segs segs world.shared =
-      given.rest ∙ ap (λ (segs : SegsView). with_segs (after_retire run segs) world.shared) began.0 in
+      given.rest ∙ ap (λ (segs : SegsView). with_segs (after_retire heap run segs) world.shared) began.0 in
       own_leads true (with_segs segs world.shared) (subst (IsSharedIn new.plain) is shared)
-      (shares_still segs refl refl refl refl (subst (λ (segs : SegsView). IsSound (after_retire run segs)) began.0 given.sound)
-      (subst (λ (segs : SegsView). IsArmed (after_retire run segs)) began.0 (given.armed quiet.base.armed)))
+      (shares_still segs refl refl refl refl (subst (λ (segs : SegsView). IsSound (after_retire heap run segs)) began.0 given.sound)
+      (subst (λ (segs : SegsView). IsArmed (after_retire heap run segs)) began.0 (given.armed quiet.base.armed)))
       (known_still segs refl refl refl same) (λ nothing owes_nothing. cc)
 
   -- it left the roster

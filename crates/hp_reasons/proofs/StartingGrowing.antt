@@ -63,7 +63,12 @@ module _ (set : Setting) (call : Asked) (sent : ℕ) (round : Round) (world : Wo
   caught_segs = after_catching 0 has.caught (with_room world.shared.segs)
 
   room_sound : IsSound (with_room world.shared.segs)
-  room_sound = record { rows = begun.base.sound.rows; asks = begun.base.sound.asks; places = begun.base.sound.places }
+  room_sound = record {
+    rows = begun.base.sound.rows;
+    asks = begun.base.sound.asks;
+    places = begun.base.sound.places;
+    returned = begun.base.sound.returned;
+  }
 
   pub catching : MayNote 0 (calls_of has.table) (with_room world.shared.segs) caught_segs
   catching =

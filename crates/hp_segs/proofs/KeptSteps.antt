@@ -22,11 +22,11 @@ use Rattle.hp_segs.proofs.KeptLemmas.{logged_more}
 use Rattle.hp_segs.proofs.RetireLemmas.{retiring_within}
 use Rattle.hp_segs.proofs.SoundSteps.{sound_dropped, sound_opened, sound_retired}
 
-module _ {table : TableView} {asks : AsksView} {retiring : List Run} {growth : Option Growth} {roster : List Bool} {armed : List (Option Ask)} {ranges : List ExternalRange} {spare room : ℕ} where
+module _ {table : TableView} {asks : AsksView} {retiring : List Run} {retired : List (ℕ × Run)} {growth : Option Growth} {roster : List Bool} {armed : List (Option Ask)} {ranges : List ExternalRange} {spare room : ℕ} where
   -- an outcome is logged
-  pub kept_logged : (entry : AskLog) → IsKept table asks retiring growth roster armed ranges spare room
-      → IsSound (view_of table (logged_more asks entry) retiring growth roster armed ranges (spare - 1)) → 0 < spare
-      → IsKept table (logged_more asks entry) retiring growth roster armed ranges (spare - 1) room
+  pub kept_logged : (entry : AskLog) → IsKept table asks retiring retired growth roster armed ranges spare room
+      → IsSound (view_of table (logged_more asks entry) retiring retired growth roster armed ranges (spare - 1)) → 0 < spare
+      → IsKept table (logged_more asks entry) retiring retired growth roster armed ranges (spare - 1) room
   kept_logged entry kept sound some =
       let fewer = aside_push asks.entries entry armed in
       record {
@@ -37,44 +37,44 @@ module _ {table : TableView} {asks : AsksView} {retiring : List Run} {growth : O
       }
 
   -- there is room for more records and outcomes
-  pub kept_rooms : (more records outcomes : ℕ) → IsKept table asks retiring growth roster armed ranges spare room
+  pub kept_rooms : (more records outcomes : ℕ) → IsKept table asks retiring retired growth roster armed ranges spare room
       → more + 32 ≤ records → more + 32 ≤ outcomes
-      → (others : List (Option Ask)) → IsSound (view_of table asks retiring growth roster others ranges more)
-      → IsKept (record table { room = records }) (record asks { room = outcomes }) retiring growth roster others ranges more room
+      → (others : List (Option Ask)) → IsSound (view_of table asks retiring retired growth roster others ranges more)
+      → IsKept (record table { room = records }) (record asks { room = outcomes }) retiring retired growth roster others ranges more room
   kept_rooms more records outcomes kept for_records for_outcomes others sound =
       let few = count_by-le-length (is_unanswered asks.entries) others in
       record {
-        sound = record { rows = sound.rows; asks = sound.asks; places = sound.places };
+        sound = record { rows = sound.rows; asks = sound.asks; places = sound.places; returned = sound.returned };
         records = omega (arith, few, sound.places.armed_places, for_records);
         outcomes = omega (arith, few, sound.places.armed_places, for_outcomes);
         runs = kept.runs;
       }
 
   -- a growth opens
-  pub kept_opened : (ask : Ask) (run : Run) → IsKept table asks retiring growth roster armed ranges spare room
-      → MayOpen ask run (view_of table asks retiring growth roster armed ranges spare)
+  pub kept_opened : (ask : Ask) (run : Run) → IsKept table asks retiring retired growth roster armed ranges spare room
+      → MayOpen ask run (view_of table asks retiring retired growth roster armed ranges spare)
       → IsKept
       (record table {
         log = table.log ++ Add run ask.heap ∷ [];
         segments = table.segments ++ map (segment_of Opened) (rows_of run (length table.log + 1));
         room = table.room - 1;
       })
-      asks retiring (Some (record { generation = length table.log + 1; ask = ask; run = run; noted = None })) roster armed ranges (spare - 1) room
+      asks retiring retired (Some (record { generation = length table.log + 1; ask = ask; run = run; noted = None })) roster armed ranges (spare - 1) room
   kept_opened ask run kept may =
       let some = may.spare in
       record {
-        sound = sound_opened (view_of table asks retiring growth roster armed ranges spare) kept.sound ask run may;
+        sound = sound_opened (view_of table asks retiring retired growth roster armed ranges spare) kept.sound ask run may;
         records = omega (arith, kept.records, some);
         outcomes = omega (arith, kept.outcomes, some);
         runs = kept.runs;
       }
 
   -- the open growth is granted
-  pub kept_granted : (grown : Growth) (entry : AskLog) → IsKept table asks retiring growth roster armed ranges spare room
+  pub kept_granted : (grown : Growth) (entry : AskLog) → IsKept table asks retiring retired growth roster armed ranges spare room
       → IsSound
-      (view_of (record table { segments = map (agreed_segment grown.generation grown.ask.heap) table.segments }) (logged_more asks entry) retiring None
+      (view_of (record table { segments = map (agreed_segment grown.generation grown.ask.heap) table.segments }) (logged_more asks entry) retiring retired None
       roster armed ranges (spare - 1)) → 0 < spare
-      → IsKept (record table { segments = map (agreed_segment grown.generation grown.ask.heap) table.segments }) (logged_more asks entry) retiring None
+      → IsKept (record table { segments = map (agreed_segment grown.generation grown.ask.heap) table.segments }) (logged_more asks entry) retiring retired None
       roster armed ranges (spare - 1) room
   kept_granted grown entry kept sound some =
       let fewer = aside_push asks.entries entry armed in
@@ -86,12 +86,12 @@ module _ {table : TableView} {asks : AsksView} {retiring : List Run} {growth : O
       }
 
   -- the open growth fails
-  pub kept_failed : (run : Run) (entry : AskLog) → IsKept table asks retiring growth roster armed ranges spare room
+  pub kept_failed : (run : Run) (entry : AskLog) → IsKept table asks retiring retired growth roster armed ranges spare room
       → IsSound
       (view_of (record table { log = table.log ++ Drop run ∷ []; segments = without_run run table.segments; room = table.room - 1 })
-      (logged_more asks entry) retiring None roster armed ranges (spare - 2)) → 2 ≤ spare
+      (logged_more asks entry) retiring retired None roster armed ranges (spare - 2)) → 2 ≤ spare
       → IsKept (record table { log = table.log ++ Drop run ∷ []; segments = without_run run table.segments; room = table.room - 1 })
-      (logged_more asks entry) retiring None roster armed ranges (spare - 2) room
+      (logged_more asks entry) retiring retired None roster armed ranges (spare - 2) room
   kept_failed run entry kept sound some =
       let fewer = aside_push asks.entries entry armed in
       record {
@@ -102,66 +102,66 @@ module _ {table : TableView} {asks : AsksView} {retiring : List Run} {growth : O
       }
 
   -- the rows of a grant are claimed
-  pub kept_claimed : (generation : ℕ) → IsKept table asks retiring growth roster armed ranges spare room
-      → IsSound (view_of (record table { segments = map (claimed_segment generation) table.segments }) asks retiring growth roster armed ranges spare)
-      → IsKept (record table { segments = map (claimed_segment generation) table.segments }) asks retiring growth roster armed ranges spare room
+  pub kept_claimed : (generation : ℕ) → IsKept table asks retiring retired growth roster armed ranges spare room
+      → IsSound (view_of (record table { segments = map (claimed_segment generation) table.segments }) asks retiring retired growth roster armed ranges spare)
+      → IsKept (record table { segments = map (claimed_segment generation) table.segments }) asks retiring retired growth roster armed ranges spare room
   kept_claimed generation kept sound = record { sound = sound; records = kept.records; outcomes = kept.outcomes; runs = kept.runs }
 
   -- a run is given up
-  pub kept_retired : {more : ℕ} (heap : ℕ) (run : Run) → room ≤ more → (kept : IsKept table asks retiring growth roster armed ranges spare room)
-      → OwnsRun heap run (view_of table asks retiring growth roster armed ranges spare)
-      → IsKept (record table { segments = map (retired_segment run) table.segments }) asks (insert_by_address run retiring) growth roster armed ranges
+  pub kept_retired : {more : ℕ} (heap : ℕ) (run : Run) → room ≤ more → (kept : IsKept table asks retiring retired growth roster armed ranges spare room)
+      → OwnsRun heap run (view_of table asks retiring retired growth roster armed ranges spare)
+      → IsKept (record table { segments = map (retired_segment run) table.segments }) asks (insert_by_address run retiring) (retired ++ (heap, run) ∷ []) growth roster armed ranges
       spare more
   kept_retired heap run enough kept owns =
       record {
-        sound = sound_retired (view_of table asks retiring growth roster armed ranges spare) kept.sound heap run owns;
+        sound = sound_retired (view_of table asks retiring retired growth roster armed ranges spare) kept.sound heap run owns;
         records = kept.records;
         outcomes = kept.outcomes;
         runs = omega (arith, kept.runs, enough);
       }
 
   -- there is room for one Retiring run more
-  pub room_to_retire : (heap : ℕ) (run : Run) → IsKept table asks retiring growth roster armed ranges spare room
-      → OwnsRun heap run (view_of table asks retiring growth roster armed ranges spare) → length retiring < room
+  pub room_to_retire : (heap : ℕ) (run : Run) → IsKept table asks retiring retired growth roster armed ranges spare room
+      → OwnsRun heap run (view_of table asks retiring retired growth roster armed ranges spare) → length retiring < room
   room_to_retire heap run kept owns =
-      let within = retiring_within (view_of table asks retiring growth roster armed ranges spare) kept.sound heap run owns in
+      let within = retiring_within (view_of table asks retiring retired growth roster armed ranges spare) kept.sound heap run owns in
       omega (arith, within, kept.runs)
 
   -- all Retiring runs go
-  pub kept_dropped : {more : ℕ} → room ≤ more → IsKept table asks retiring growth roster armed ranges spare room
-      → MayDrop (view_of table asks retiring growth roster armed ranges spare)
+  pub kept_dropped : {more : ℕ} → room ≤ more → IsKept table asks retiring retired growth roster armed ranges spare room
+      → MayDrop (view_of table asks retiring retired growth roster armed ranges spare)
       → IsKept
       (record table {
         log = table.log ++ map (λ run. Drop run) retiring;
         segments = filter (λ segment. not (is_retiring segment.state)) table.segments;
         room = table.room - length retiring;
       })
-      asks [] growth roster armed ranges (spare - length retiring) more
+      asks [] retired growth roster armed ranges (spare - length retiring) more
   kept_dropped enough kept may =
       let some = may.spare in
       record {
-        sound = sound_dropped (view_of table asks retiring growth roster armed ranges spare) kept.sound may;
+        sound = sound_dropped (view_of table asks retiring retired growth roster armed ranges spare) kept.sound may;
         records = omega (arith, kept.records, some);
         outcomes = omega (arith, kept.outcomes, some);
         runs = omega (arith, kept.runs, enough);
       }
 
   -- the places of the participants and external memory change, and no armed ask
-  pub kept_places : (members : List Bool) (others : List ExternalRange) → IsKept table asks retiring growth roster armed ranges spare room
-      → IsSound (view_of table asks retiring growth members armed others spare) → IsKept table asks retiring growth members armed others spare room
+  pub kept_places : (members : List Bool) (others : List ExternalRange) → IsKept table asks retiring retired growth roster armed ranges spare room
+      → IsSound (view_of table asks retiring retired growth members armed others spare) → IsKept table asks retiring retired growth members armed others spare room
   kept_places members others kept sound = record { sound = sound; records = kept.records; outcomes = kept.outcomes; runs = kept.runs }
 
   -- what is noted for the open growth changes
-  pub kept_growth : (other : Option Growth) → IsKept table asks retiring growth roster armed ranges spare room
-      → IsSound (view_of table asks retiring other roster armed ranges spare) → IsKept table asks retiring other roster armed ranges spare room
+  pub kept_growth : (other : Option Growth) → IsKept table asks retiring retired growth roster armed ranges spare room
+      → IsSound (view_of table asks retiring retired other roster armed ranges spare) → IsKept table asks retiring retired other roster armed ranges spare room
   kept_growth other kept sound = record { sound = sound; records = kept.records; outcomes = kept.outcomes; runs = kept.runs }
 
   -- an armed ask is answered by the places that are set aside for it, and takes so many records
-  pub kept_answered : (log : TableView) (entry : AskLog) (other : Option Growth) → IsKept table asks retiring growth roster armed ranges spare room
+  pub kept_answered : (log : TableView) (entry : AskLog) (other : Option Growth) → IsKept table asks retiring retired growth roster armed ranges spare room
       → log.pools ≡ table.pools → table.room ≤ log.room + 1
-      → IsSound (view_of log (logged_more asks entry) retiring other roster armed ranges spare)
+      → IsSound (view_of log (logged_more asks entry) retiring retired other roster armed ranges spare)
       → count_by (is_unanswered (asks.entries ++ entry ∷ [])) armed + 1 ≤ count_by (is_unanswered asks.entries) armed
-      → IsKept log (logged_more asks entry) retiring other roster armed ranges spare room
+      → IsKept log (logged_more asks entry) retiring retired other roster armed ranges spare room
   kept_answered log entry other kept pools records sound falls = record {
     sound = sound;
     records = omega (arith, kept.records, falls, records);
@@ -170,8 +170,8 @@ module _ {table : TableView} {asks : AsksView} {retiring : List Run} {growth : O
   }
 
 -- one of two kept values is kept
-pub kept_ranges_by : {table : TableView} {asks : AsksView} {retiring : List Run} {growth : Option Growth} {roster : List Bool} {armed : List (Option Ask)} {more fewer : List ExternalRange} {spare room : ℕ}
-    (b : Bool) → IsKept table asks retiring growth roster armed more spare room → IsKept table asks retiring growth roster armed fewer spare room
-    → IsKept table asks retiring growth roster armed (if b then more else fewer) spare room
+pub kept_ranges_by : {table : TableView} {asks : AsksView} {retiring : List Run} {retired : List (ℕ × Run)} {growth : Option Growth} {roster : List Bool} {armed : List (Option Ask)} {more fewer : List ExternalRange} {spare room : ℕ}
+    (b : Bool) → IsKept table asks retiring retired growth roster armed more spare room → IsKept table asks retiring retired growth roster armed fewer spare room
+    → IsKept table asks retiring retired growth roster armed (if b then more else fewer) spare room
 kept_ranges_by true more fewer = more
 kept_ranges_by false more fewer = fewer

@@ -68,3 +68,11 @@ pub mod NewSound
 pub mod WithdrawSteps
 pub mod WholeGrants
 mod LogPlaceLemmas
+pub mod ReturnedRuns
+pub mod ReturnedBySteps
+pub mod RetiredSteps
+pub mod CallCases
+pub mod GivenUpCalls
+pub mod FormCalls
+pub mod RunPlaces
+pub mod SettledLaws

@@ -1,4 +1,5 @@
 -- The value at the beginning is sound.
+use Rattle.std.proofs.lemmas.List.Sorted.{IsPermutation-refl}
 use Rattle.std.proofs.Common.{◌≡◌, ◌==◌, ◌∙◌, ℕ, zero, suc, ◌≤◌, nat_lt, Bool, true, List, [], Some, None, replicate, refl, sym, subst, arith, sum_by, eq-eqb}
 use Rattle.std.specs.List.{slice_get}
 use Rattle.std.specs.Int.{bit_at}
@@ -77,29 +78,31 @@ sound_new pools participants absent table absence =
           apart = λ byte. omega arith;
         };
       };
+      returned = IsPermutation-refl [];
     }
 
 -- the parts of the value at the beginning
-pub kept_new : (table : TableView) (asks : AsksView) (pools : List PoolLine) (participants absent : ℕ) (retiring : List Run) (roster : List Bool)
+pub kept_new : (table : TableView) (asks : AsksView) (pools : List PoolLine) (participants absent : ℕ) (retiring : List Run) (retired : List (ℕ × Run)) (roster : List Bool)
     (ranges : List ExternalRange) (room : ℕ) → table.pools ≡ pools → table.log ≡ [] → table.segments ≡ []
-    → IsTable table.pools table.log (rows_in table.segments) → asks.entries ≡ [] → retiring ≡ [] → roster ≡ opening_roster participants absent
+    → IsTable table.pools table.log (rows_in table.segments) → asks.entries ≡ [] → retiring ≡ [] → retired ≡ [] → roster ≡ opening_roster participants absent
     → ranges ≡ [] → IsAbsent participants absent → sum_by (λ line. line.slots) pools ≤ room
-    → IsKept table asks retiring None roster (replicate 16 None) ranges 0 room
-kept_new table asks pools participants absent retiring roster ranges room its_pools log segments sound entries none roster_is nothing absence enough =
+    → IsKept table asks retiring retired None roster (replicate 16 None) ranges 0 room
+kept_new table asks pools participants absent retiring retired roster ranges room its_pools log segments sound entries none ungiven roster_is nothing absence enough =
     let first : IsTable table.pools [] [] =
     subst (λ g. IsTable table.pools [] (rows_in g)) segments (subst (λ l. IsTable table.pools l (rows_in table.segments)) log sound) in
     let empty : AsksView = record { entries = []; room = asks.room } in
     let bare : TableView = record { pools = table.pools; log = []; segments = []; room = table.room } in
-    let kept : IsKept bare empty [] None (opening_roster participants absent) (replicate 16 None) [] 0 room =
+    let kept : IsKept bare empty [] [] None (opening_roster participants absent) (replicate 16 None) [] 0 room =
     record {
       sound = sound_new table.pools participants absent first absence;
       records = omega arith;
       outcomes = omega arith;
       runs = subst (λ p. sum_by (λ (line : PoolLine). line.slots) p ≤ room) (sym its_pools) enough;
     } in
-    subst (λ l. IsKept (record { pools = table.pools; log = l; segments = table.segments; room = table.room }) asks retiring None roster (replicate 16 None) ranges 0 room) (sym log)
-    (subst (λ g. IsKept (record { pools = table.pools; log = []; segments = g; room = table.room }) asks retiring None roster (replicate 16 None) ranges 0 room) (sym segments)
-    (subst (λ e. IsKept bare (record { entries = e; room = asks.room }) retiring None roster (replicate 16 None) ranges 0 room) (sym entries)
-    (subst (λ r. IsKept bare empty r None roster (replicate 16 None) ranges 0 room) (sym none)
-    (subst (λ members. IsKept bare empty [] None members (replicate 16 None) ranges 0 room) (sym roster_is)
-    (subst (λ all. IsKept bare empty [] None (opening_roster participants absent) (replicate 16 None) all 0 room) (sym nothing) kept)))))
+    subst (λ l. IsKept (record { pools = table.pools; log = l; segments = table.segments; room = table.room }) asks retiring retired None roster (replicate 16 None) ranges 0 room) (sym log)
+    (subst (λ g. IsKept (record { pools = table.pools; log = []; segments = g; room = table.room }) asks retiring retired None roster (replicate 16 None) ranges 0 room) (sym segments)
+    (subst (λ e. IsKept bare (record { entries = e; room = asks.room }) retiring retired None roster (replicate 16 None) ranges 0 room) (sym entries)
+    (subst (λ r. IsKept bare empty r retired None roster (replicate 16 None) ranges 0 room) (sym none)
+    (subst (λ r. IsKept bare empty [] r None roster (replicate 16 None) ranges 0 room) (sym ungiven)
+    (subst (λ members. IsKept bare empty [] [] None members (replicate 16 None) ranges 0 room) (sym roster_is)
+    (subst (λ all. IsKept bare empty [] [] None (opening_roster participants absent) (replicate 16 None) all 0 room) (sym nothing) kept))))))

@@ -41,6 +41,8 @@ use Rattle.hp_segs.proofs.PlacesSteps.{places_armed, places_beside, places_joine
 use Rattle.hp_segs.proofs.PlannedLemmas.{open_plan}
 use Rattle.hp_segs.proofs.RangeLemmas.{planned_range, ranges_fewer, ranges_more}
 use Rattle.hp_segs.proofs.RetireLemmas.{rows_retired}
+use Rattle.hp_segs.proofs.RetiredSteps.{returned_alike_by, returned_retired}
+use Rattle.hp_segs.proofs.ReturnedBySteps.{close_gone, drop_gone, failure_gone, freed_gone, grant_gone, open_gone, refused_gone, stale_gone}
 use Rattle.hp_segs.proofs.RowsOpen.{rows_opened}
 use Rattle.hp_segs.proofs.RowsSteps.{rows_claimed, rows_dropped, rows_failed, rows_granted, rows_noted}
 use Rattle.hp_segs.proofs.TableSteps.{table_dropped, table_failed, table_opened}
@@ -121,7 +123,7 @@ module _ (segs : SegsView) (sound : IsSound segs) where
   asks_of_growth growth is = subst (AreAsks segs.pools segs.log segs.asks) is sound.asks
 
   pub sound_reserved : (n : ℕ) → IsSound (after_reserve n segs)
-  sound_reserved n = record { rows = sound.rows; asks = sound.asks; places = sound.places }
+  sound_reserved n = record { rows = sound.rows; asks = sound.asks; places = sound.places; returned = sound.returned }
 
   pub sound_opened : (ask : Ask) (run : Run) → MayOpen ask run segs → IsSound (after_open ask run segs)
   sound_opened ask run may =
@@ -134,6 +136,7 @@ module _ (segs : SegsView) (sound : IsSound segs) where
             (table_opened segs.pools segs.log segs.segments run ask.heap plan.planned.listed plan.planned.unused plan.planned.pages sound.rows.table);
         asks = asks_opened growth (asks_of_growth None plan.alone) refl refl (above_unanswered segs.asks ask plan.above);
         places = sound.places;
+        returned = returned_alike_by segs (after_open ask run segs) refl (open_gone segs ask run) sound.returned;
       }
 
   pub sound_closed : (ask : Ask) (cause : Cause) → MayClose ask cause segs → IsSound (after_close ask cause segs)
@@ -149,6 +152,7 @@ module _ (segs : SegsView) (sound : IsSound segs) where
             (once_more segs.asks entry ask refl refl (above_unanswered segs.asks ask may.above) sound.asks.once)
             (subst (HasUnansweredAsk (segs.asks ++ entry ∷ [])) (sym may.alone) tt);
         places = sound.places;
+        returned = returned_alike_by segs (after_close ask cause segs) refl (close_gone segs ask cause) sound.returned;
       }
 
   pub sound_stale : (from number : ℕ) → MayLogStale from number segs → IsSound (after_stale from number segs)
@@ -160,6 +164,7 @@ module _ (segs : SegsView) (sound : IsSound segs) where
         (once_beside segs.asks _ refl sound.asks.once)
         (unanswered_beside segs.asks _ segs.growth refl sound.asks.unanswered);
     places = sound.places;
+    returned = returned_alike_by segs (after_stale from number segs) refl (stale_gone segs from number) sound.returned;
   }
 
   pub sound_freed : (from number : ℕ) → IsSound (after_freed from number segs)
@@ -171,6 +176,7 @@ module _ (segs : SegsView) (sound : IsSound segs) where
         (once_beside segs.asks _ refl sound.asks.once)
         (unanswered_beside segs.asks _ segs.growth refl sound.asks.unanswered);
     places = sound.places;
+    returned = returned_alike_by segs (after_freed from number segs) refl (freed_gone segs from number) sound.returned;
   }
 
   noted_by : (participant call : ℕ) (row : Row) (got : MapAnswer) → IsTrue (is_failure row got) → (growth : Option Growth) → segs.growth ≡ growth
@@ -187,6 +193,7 @@ module _ (segs : SegsView) (sound : IsSound segs) where
             asks_noted growth (MapFailed participant call row.addr got) (asks_of_growth (Some growth) is)
             (failed_row growth row got parts.0 failure, not-true (has_failed_from segs.asks participant call) rest.1);
         places = sound.places;
+        returned = sound.returned;
       }
 
   -- where it is taken, the growth has it
@@ -211,6 +218,7 @@ module _ (segs : SegsView) (sound : IsSound segs) where
             (granted_caused growth rows.logged segs.asks _ rows.table refl refl (record { kept = refl; who = refl; which = refl }))
             refl refl (omega arith);
         places = sound.places;
+        returned = returned_alike_by segs (after_grant growth segs) refl (grant_gone segs sound growth is) sound.returned;
       }
 
   granted_by : (growth : Growth) → segs.growth ≡ Some growth → (member : Option NotAll) → IsSound (granted_unless growth segs member)
@@ -235,6 +243,9 @@ module _ (segs : SegsView) (sound : IsSound segs) where
         rows = rows_failed growth rows (table_failed segs.pools segs.log segs.segments growth.run segs.retiring rows.held rows.table);
         asks = asks_failed growth _ cause (asks_of_growth (Some growth) is) rows.logged refl caused refl refl (omega arith);
         places = sound.places;
+        returned =
+            returned_alike_by segs (after_failure growth cause ask places segs) refl (failure_gone segs sound growth is cause ask places)
+            sound.returned;
       }
 
   cancelled_by : (cause : Cause) (growth : Option Growth) → segs.growth ≡ growth → IsSomeAnd growth (λ growth. IsFailureCause segs cause growth.noted)
@@ -251,13 +262,23 @@ module _ (segs : SegsView) (sound : IsSound segs) where
 
   claimed_by : (grant : Option ℕ) → IsSound (claimed_grant segs grant)
   claimed_by None = sound
-  claimed_by (Some generation) = record { rows = rows_claimed segs.growth generation sound.rows; asks = sound.asks; places = sound.places }
+  claimed_by (Some generation) = record {
+    rows = rows_claimed segs.growth generation sound.rows;
+    asks = sound.asks;
+    places = sound.places;
+    returned = sound.returned;
+  }
 
   pub sound_claimed : (from number : ℕ) → IsSound (after_claim from number segs)
   sound_claimed from number = claimed_by (grant_of segs.asks from number)
 
   pub sound_armed : (ask : Ask) → IsSound (after_arm ask segs)
-  sound_armed ask = record { rows = sound.rows; asks = sound.asks; places = places_armed ask sound.places }
+  sound_armed ask = record {
+    rows = sound.rows;
+    asks = sound.asks;
+    places = places_armed ask sound.places;
+    returned = sound.returned;
+  }
 
   -- the outcome by which an ask is withdrawn
   abbrev withdrawal : ℕ → ℕ → ℕ → ℕ → AskLog
@@ -312,6 +333,9 @@ module _ (segs : SegsView) (sound : IsSound segs) where
         (armed_unanswered segs from number armed none) sound.asks.once)
         unanswered;
     places = sound.places;
+    returned =
+        returned_alike_by segs (record segs { asks = segs.asks ++ withdrawal from number since now ∷ [] }) refl
+        (refused_gone segs from number (Withdrawn since now) (armed_ask segs from)) sound.returned;
   }
 
   withdrawn_by : (from number since now : ℕ) (armed : IsArmed segs from number) → grant_or_refusal_of segs.asks from number ≡ None
@@ -358,8 +382,13 @@ module _ (segs : SegsView) (sound : IsSound segs) where
   pub sound_withdrawn : (from number since now : ℕ) → MayWithdraw from number segs → IsSound (after_withdraw from number since now segs)
   sound_withdrawn from number since now may = standing_by from number since now may (grant_or_refusal_of segs.asks from number) refl
 
-  pub sound_retired : (heap : ℕ) (run : Run) → OwnsRun heap run segs → IsSound (after_retire run segs)
-  sound_retired heap run owns = record { rows = rows_retired segs sound heap run owns; asks = sound.asks; places = sound.places }
+  pub sound_retired : (heap : ℕ) (run : Run) → OwnsRun heap run segs → IsSound (after_retire heap run segs)
+  sound_retired heap run owns = record {
+    rows = rows_retired segs sound heap run owns;
+    asks = sound.asks;
+    places = sound.places;
+    returned = returned_retired heap run segs sound.returned;
+  }
 
   pub sound_dropped : MayDrop segs → IsSound (after_drop segs)
   sound_dropped may =
@@ -373,13 +402,24 @@ module _ (segs : SegsView) (sound : IsSound segs) where
         rows = subst (AreRows segs.pools log (after_drop segs).segments []) (sym may.alone) dropped;
         asks = subst (AreAsks segs.pools log segs.asks) (sym may.alone) logged;
         places = sound.places;
+        returned = returned_alike_by segs (after_drop segs) refl (drop_gone segs sound may.alone) sound.returned;
       }
 
   pub sound_joined : (participant acked : ℕ) → MayJoin participant acked segs → IsSound (after_join participant segs)
-  sound_joined participant acked may = record { rows = sound.rows; asks = sound.asks; places = places_joined participant sound.places }
+  sound_joined participant acked may = record {
+    rows = sound.rows;
+    asks = sound.asks;
+    places = places_joined participant sound.places;
+    returned = sound.returned;
+  }
 
   pub sound_left : (participant : ℕ) → MayLeave participant segs → IsSound (after_leave participant segs)
-  sound_left participant may = record { rows = sound.rows; asks = sound.asks; places = places_left participant may.secondary sound.places }
+  sound_left participant may = record {
+    rows = sound.rows;
+    asks = sound.asks;
+    places = places_left participant may.secondary sound.places;
+    returned = sound.returned;
+  }
 
   pub sound_ranged : (list addr len page socket : ℕ) → range_plan addr len page segs ≡ Ok list → IsSound (after_claim_range list addr len page socket segs)
   sound_ranged list addr len page socket plan = record {
@@ -387,6 +427,7 @@ module _ (segs : SegsView) (sound : IsSound segs) where
     asks = sound.asks;
     places =
         places_beside _ (ranges_more segs addr len page socket list (planned_range segs addr len page list plan) sound.places.external) sound.places;
+    returned = sound.returned;
   }
 
   pub sound_released : (list : ℕ) → IsSound (after_release_range list segs)
@@ -394,4 +435,5 @@ module _ (segs : SegsView) (sound : IsSound segs) where
     rows = sound.rows;
     asks = sound.asks;
     places = places_beside _ (ranges_fewer (λ (range : ExternalRange). not (range.list == list)) segs.ranges sound.places.external) sound.places;
+    returned = sound.returned;
   }

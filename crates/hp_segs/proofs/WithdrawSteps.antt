@@ -8,6 +8,7 @@ use Rattle.hp_segs.specs.Calls.{MayWithdraw}
 use Rattle.hp_segs.specs.LaterSteps.{armed_ask, grows_for, run_for, withdrawn_growth}
 use Rattle.hp_segs.specs.SegsLayout.{IsKept, view_of}
 use Rattle.hp_segs.specs.SegsView.{SegsView, grant_or_refusal_of, is_unanswered}
+use Rattle.hp_segs.specs.Returned.{AreReturned}
 use Rattle.hp_segs.specs.Sound.{IsSound}
 use Rattle.hp_segs.specs.SoundAsks.{AreAsks}
 use Rattle.hp_segs.specs.Steps.{after_failure, without_run}
@@ -84,45 +85,45 @@ withdrawal segs from number since now = record {
   ask = armed_ask segs from;
 }
 
-module _ {table : TableView} {asks : AsksView} {retiring : List Run} {growth : Option Growth} {roster : List Bool} {armed : List (Option Ask)} {ranges : List ExternalRange} {spare room : ℕ} where
-  falls : (from number since now : ℕ) → IsKept table asks retiring growth roster armed ranges spare room
-      → MayWithdraw from number (view_of table asks retiring growth roster armed ranges spare) → grant_or_refusal_of asks.entries from number ≡ None
-      → count_by (is_unanswered (asks.entries ++ withdrawal (view_of table asks retiring growth roster armed ranges spare) from number since now ∷ [])) armed + 1 ≤ count_by (is_unanswered asks.entries) armed
+module _ {table : TableView} {asks : AsksView} {retiring : List Run} {retired : List (ℕ × Run)} {growth : Option Growth} {roster : List Bool} {armed : List (Option Ask)} {ranges : List ExternalRange} {spare room : ℕ} where
+  falls : (from number since now : ℕ) → IsKept table asks retiring retired growth roster armed ranges spare room
+      → MayWithdraw from number (view_of table asks retiring retired growth roster armed ranges spare) → grant_or_refusal_of asks.entries from number ≡ None
+      → count_by (is_unanswered (asks.entries ++ withdrawal (view_of table asks retiring retired growth roster armed ranges spare) from number since now ∷ [])) armed + 1 ≤ count_by (is_unanswered asks.entries) armed
   falls from number since now kept may none =
-      let view : SegsView = view_of table asks retiring growth roster armed ranges spare in
+      let view : SegsView = view_of table asks retiring retired growth roster armed ranges spare in
       let own = armed_with view from number kept.sound may in
-      aside_falls asks.entries (withdrawal (view_of table asks retiring growth roster armed ranges spare) from number since now) armed from own.ask own.here
+      aside_falls asks.entries (withdrawal (view_of table asks retiring retired growth roster armed ranges spare) from number since now) armed from own.ask own.here
       (and_from (from == own.ask.from) _ (eq-eqb from own.ask.from (sym own.who))
       (and_from (number == own.ask.number) true (eq-eqb number own.ask.number (sym own.which)) refl))
       (armed_unanswered view from number own none)
 
   -- two places are there
-  pub has_places : (from number since now : ℕ) → IsKept table asks retiring growth roster armed ranges spare room
-      → MayWithdraw from number (view_of table asks retiring growth roster armed ranges spare) → grant_or_refusal_of asks.entries from number ≡ None
+  pub has_places : (from number since now : ℕ) → IsKept table asks retiring retired growth roster armed ranges spare room
+      → MayWithdraw from number (view_of table asks retiring retired growth roster armed ranges spare) → grant_or_refusal_of asks.entries from number ≡ None
       → (0 < table.room) × (0 < asks.room)
   has_places from number since now kept may none =
       let fewer = falls from number since now kept may none in
       (omega (arith, kept.records, fewer), omega (arith, kept.outcomes, fewer))
 
   -- without an open growth
-  pub kept_withdrawn : (from number since now : ℕ) → IsKept table asks retiring growth roster armed ranges spare room
-      → MayWithdraw from number (view_of table asks retiring growth roster armed ranges spare) → grant_or_refusal_of asks.entries from number ≡ None
+  pub kept_withdrawn : (from number since now : ℕ) → IsKept table asks retiring retired growth roster armed ranges spare room
+      → MayWithdraw from number (view_of table asks retiring retired growth roster armed ranges spare) → grant_or_refusal_of asks.entries from number ≡ None
       → run_for from number growth ≡ None
-      → IsKept table (logged_more asks (withdrawal (view_of table asks retiring growth roster armed ranges spare) from number since now)) retiring growth roster armed ranges spare room
+      → IsKept table (logged_more asks (withdrawal (view_of table asks retiring retired growth roster armed ranges spare) from number since now)) retiring retired growth roster armed ranges spare room
   kept_withdrawn from number since now kept may none off =
-      let view : SegsView = view_of table asks retiring growth roster armed ranges spare in
+      let view : SegsView = view_of table asks retiring retired growth roster armed ranges spare in
       let sound = logged_by from number since now view growth off (sound_refused view kept.sound from number since now may none) in
-      kept_answered table (withdrawal (view_of table asks retiring growth roster armed ranges spare) from number since now) growth kept refl (omega arith)
-      (record { rows = sound.rows; asks = sound.asks; places = sound.places }) (falls from number since now kept may none)
+      kept_answered table (withdrawal (view_of table asks retiring retired growth roster armed ranges spare) from number since now) growth kept refl (omega arith)
+      (record { rows = sound.rows; asks = sound.asks; places = sound.places; returned = sound.returned }) (falls from number since now kept may none)
 
   -- with the growth that is open for it
-  pub kept_undone : (from number since now : ℕ) → IsKept table asks retiring growth roster armed ranges spare room
-      → MayWithdraw from number (view_of table asks retiring growth roster armed ranges spare) → grant_or_refusal_of asks.entries from number ≡ None
+  pub kept_undone : (from number since now : ℕ) → IsKept table asks retiring retired growth roster armed ranges spare room
+      → MayWithdraw from number (view_of table asks retiring retired growth roster armed ranges spare) → grant_or_refusal_of asks.entries from number ≡ None
       → (run : Run) → run_for from number growth ≡ Some run
       → IsKept (record table { log = table.log ++ Drop run ∷ []; segments = without_run run table.segments; room = table.room - 1 })
-      (logged_more asks (withdrawal (view_of table asks retiring growth roster armed ranges spare) from number since now)) retiring None roster armed ranges spare room
+      (logged_more asks (withdrawal (view_of table asks retiring retired growth roster armed ranges spare) from number since now)) retiring retired None roster armed ranges spare room
   kept_undone from number since now kept may none run some =
-      let view : SegsView = view_of table asks retiring growth roster armed ranges spare in
+      let view : SegsView = view_of table asks retiring retired growth roster armed ranges spare in
       let own = own_growth growth from number run some in
       let sound : IsSound (withdrawn_growth from number (Withdrawn since now) view growth) =
       sound_refused view kept.sound from number since now may none in
@@ -132,10 +133,10 @@ module _ {table : TableView} {asks : AsksView} {retiring : List Run} {growth : O
       (subst (λ g. IsSound (withdrawn_growth from number (Withdrawn since now) view g)) own.is sound) in
       subst
       (λ r. IsKept (record table { log = table.log ++ Drop r ∷ []; segments = without_run r table.segments; room = table.room - 1 })
-      (logged_more asks (withdrawal (view_of table asks retiring growth roster armed ranges spare) from number since now)) retiring None roster armed ranges spare room)
+      (logged_more asks (withdrawal (view_of table asks retiring retired growth roster armed ranges spare) from number since now)) retiring retired None roster armed ranges spare room)
       own.its_run
       (kept_answered (record table { log = table.log ++ Drop own.grown.run ∷ []; segments = without_run own.grown.run table.segments; room = table.room - 1 })
-      (withdrawal (view_of table asks retiring growth roster armed ranges spare) from number since now) None kept refl (omega arith)
+      (withdrawal (view_of table asks retiring retired growth roster armed ranges spare) from number since now) None kept refl (omega arith)
       (record {
         rows = undone.rows;
         asks =
@@ -152,4 +153,17 @@ module _ {table : TableView} {asks : AsksView} {retiring : List Run} {growth : O
             None)
             (eqb-true own.grown.ask.from from parts.0) undone.asks);
         places = undone.places;
+        returned =
+            subst
+            (λ n. AreReturned log
+            (asks.entries ++ record { from = from; number = n; outcome = Refused (Withdrawn since now); at = length table.log; ask = armed_ask view from } ∷ [])
+            retiring retired)
+            (eqb-true own.grown.ask.number number parts.1)
+            (subst
+            (λ f. AreReturned log
+            (asks.entries
+            ++ record { from = f; number = own.grown.ask.number; outcome = Refused (Withdrawn since now); at = length table.log; ask = armed_ask view from }
+            ∷ [])
+            retiring retired)
+            (eqb-true own.grown.ask.from from parts.0) undone.returned);
       }) (falls from number since now kept may none))

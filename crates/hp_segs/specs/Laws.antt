@@ -67,7 +67,7 @@ ClaimIsStep = (segs : SegsView) (from number generation : ℕ) → grant_of segs
 
 abbrev pub RetireIsStep : Type 0
 RetireIsStep = (segs : SegsView) (heap : ℕ) (run : Run) → IsSound segs → OwnsRun heap run segs
-    → Retires run (machine_of segs) (machine_of (after_retire run segs))
+    → Retires run (machine_of segs) (machine_of (after_retire heap run segs))
 
 abbrev pub DropIsStep : Type 0
 DropIsStep = (segs : SegsView) → IsSound segs → segs.growth ≡ None → Drops segs.pools (machine_of segs) (machine_of (after_drop segs))

@@ -14,6 +14,9 @@ pub mod SoundAsks
 pub mod SoundPlaces
 pub mod Sound
 pub mod Moved
+pub mod GivenUp
+pub mod Forms
+pub mod SettledAsks
 pub mod Laws
 pub mod GrowthLaws
 pub mod PlaceLaws
@@ -23,5 +26,7 @@ pub mod Masks
 pub mod Slots
 pub mod TableCalls
 pub mod TableLayout
+pub mod Returned
+pub mod RetiredKept
 pub mod SegsLayout
 pub mod LogPlaces

@@ -20,6 +20,7 @@ opening pools participants absent = record {
   log = [];
   segments = [];
   retiring = [];
+  retired = [];
   asks = [];
   growth = None;
   roster = opening_roster participants absent;

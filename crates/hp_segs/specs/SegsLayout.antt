@@ -10,12 +10,13 @@ use Rattle.hp_segs.specs.declared.external_range.ExternalRange.{ExternalRange}
 use Rattle.hp_segs.specs.declared.growth.Growth.{Growth}
 
 -- what is seen of the parts
-abbrev pub view_of : TableView → AsksView → List Run → Option Growth → List Bool → List (Option Ask) → List ExternalRange → ℕ → SegsView
-view_of table asks retiring growth roster armed ranges spare = record {
+abbrev pub view_of : TableView → AsksView → List Run → List (ℕ × Run) → Option Growth → List Bool → List (Option Ask) → List ExternalRange → ℕ → SegsView
+view_of table asks retiring retired growth roster armed ranges spare = record {
   pools = table.pools;
   log = table.log;
   segments = table.segments;
   retiring = retiring;
+  retired = retired;
   asks = asks.entries;
   growth = growth;
   roster = roster;
@@ -26,9 +27,9 @@ view_of table asks retiring growth roster armed ranges spare = record {
 
 -- the parts make a sound value, and there is room for what spare and the places set aside promise, and for a Retiring run at each
 -- slot
-pub record IsKept (table : TableView) (asks : AsksView) (retiring : List Run) (growth : Option Growth) (roster : List Bool)
+pub record IsKept (table : TableView) (asks : AsksView) (retiring : List Run) (retired : List (ℕ × Run)) (growth : Option Growth) (roster : List Bool)
     (armed : List (Option Ask)) (ranges : List ExternalRange) (spare retiring_room : ℕ) : Type 0 where
-  pub sound : IsSound (view_of table asks retiring growth roster armed ranges spare)
-  pub records : spare + set_aside (view_of table asks retiring growth roster armed ranges spare) ≤ table.room
-  pub outcomes : spare + set_aside (view_of table asks retiring growth roster armed ranges spare) ≤ asks.room
+  pub sound : IsSound (view_of table asks retiring retired growth roster armed ranges spare)
+  pub records : spare + set_aside (view_of table asks retiring retired growth roster armed ranges spare) ≤ table.room
+  pub outcomes : spare + set_aside (view_of table asks retiring retired growth roster armed ranges spare) ≤ asks.room
   pub runs : sum_by (λ line. line.slots) table.pools ≤ retiring_room

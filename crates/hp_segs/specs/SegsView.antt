@@ -28,6 +28,8 @@ pub record SegsView : Type 0 where
   pub segments : List Segment
   -- the runs that are given up and not yet dropped, by rising address
   pub retiring : List Run
+  -- all runs that were given up so far, in order, each with the heap that gave it up
+  pub retired : List (ℕ × Run)
   -- the logged outcomes
   pub asks : List AskLog
   -- the growth that is under way

@@ -152,12 +152,13 @@ insert_by_address run [] = run ∷ []
 insert_by_address run (other ∷ runs) =
     if nat_lt run.addr other.addr then run ∷ other ∷ runs else other ∷ insert_by_address run runs
 
--- `retire`: the run is given up
-abbrev pub after_retire : Run → SegsView → SegsView
-after_retire run segs =
+-- `retire`: the heap gives up the run
+abbrev pub after_retire : ℕ → Run → SegsView → SegsView
+after_retire heap run segs =
     record segs {
       segments = map (retired_segment run) segs.segments;
       retiring = insert_by_address run segs.retiring;
+      retired = segs.retired ++ (heap, run) ∷ [];
     }
 
 -- `drop_retiring`: one Drop for each Retiring run, lowest address first, and no row is Retiring

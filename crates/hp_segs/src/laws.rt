@@ -1,7 +1,10 @@
 //! Laws of the segment value, above the definitions that the calls cite.
 ghost use Rattle.hp_segs.specs.Laws.{CallsAppend, CallsKeep, CallsMove, ClaimIsStep, ClaimOwnsAll, DropIsStep, FailedGrowthLeaves, GrantIsStep, MovesAppend, MovesCompose, MovesKeep, MovesStay, MovesWiden, OthersLeave, RetireIsStep, RowsAreGranted};
 ghost use Rattle.hp_segs.specs.GrowthLaws.{CallsLeaveArmed, GrantsHavePlace, OpenHasPlace};
+ghost use Rattle.hp_segs.specs.Forms.{LogFormLeaves, OwnerFormLeaves, RangeFormLeaves, RosterFormLeaves};
+ghost use Rattle.hp_segs.specs.GivenUp.{CallsGiveUp};
 ghost use Rattle.hp_segs.specs.PlaceLaws.{ListsApart, OverlapIsLowest, SlotsApart};
+ghost use Rattle.hp_segs.specs.SettledAsks.{AboveIsUnsettled, ClaimSettles, RefusalSettles, UnclaimedIsUnsettled};
 
 /// A failed growth leaves the table of the log; grants, claims, retirements and drops are steps of the plain machine, and the
 /// other calls leave the machine as it was; a claim takes all rows of its grant, and what no growth has open was granted. Own.
@@ -36,6 +39,30 @@ pub fn growths_law()
     ensures opened { OpenHasPlace }
     ensures grants { GrantsHavePlace }
     ensures armed { CallsLeaveArmed }
+{}
+
+/// Each call leaves what was given up before it, and puts its own run after that, with its heap. Own.
+pub fn retired_law()
+    ensures calls { CallsGiveUp }
+{}
+
+/// What each form of a give leaves. Calls that log leave the roster, the segments that heaps have, what these gave up, and external
+/// memory. Beside spare, calls on the roster change that alone, calls on external memory that alone, and calls by which heaps take and give
+/// up rows the rows' states and what was given up. Own.
+pub fn forms_law()
+    ensures logs { LogFormLeaves }
+    ensures enrols { RosterFormLeaves }
+    ensures owns { OwnerFormLeaves }
+    ensures ranges { RangeFormLeaves }
+{}
+
+/// An ask is settled where it has an outcome other than Stale and, where it was granted, the grant is claimed: a refusal and a claim settle
+/// one, and neither an ask whose grant is not claimed nor one above the closed number of its participant is settled. Own.
+pub fn settling_law()
+    ensures refused { RefusalSettles }
+    ensures claimed { ClaimSettles }
+    ensures unclaimed { UnclaimedIsUnsettled }
+    ensures above { AboveIsUnsettled }
 {}
 
 /// The pools' lists share no byte, rows at different slots have different addresses, and the slot that is named as the overlap

@@ -11,6 +11,7 @@ mod list_info;
 mod log_laws;
 mod outcome;
 mod plan_refusal;
+mod retired_log;
 mod row_state;
 mod segs;
 mod table;
@@ -21,7 +22,9 @@ pub use fault::{Closing, NotAll, RangeFault};
 pub use growth::Growth;
 pub use hp_base::PoolLine;
 pub use hp_log::LogRecord;
-pub use laws::{growths_law, moves_law, places_law, segments_law};
+pub use laws::{
+    forms_law, growths_law, moves_law, places_law, retired_law, segments_law, settling_law,
+};
 pub use list_info::ListInfo;
 pub use log_laws::log_law;
 pub use outcome::{AskLog, Cause, Outcome};

@@ -20,6 +20,7 @@ use crate::ask::Ask;
 use crate::asks::Asks;
 use crate::external_range::ExternalRange;
 use crate::growth::Growth;
+use crate::retired_log::RetiredLog;
 use crate::table::Table;
 use hp_base::{PoolLine, Run};
 use std::alloc::{AllocError, Global};
@@ -37,6 +38,7 @@ pub struct Segs {
     asks: Asks,
     // By rising address, with room for every slot.
     retiring: Vec<Run>,
+    retired: RetiredLog,
     growth: Option<Growth>,
     roster: [bool; 16],
     armed: Box<[Option<Ask>; 16]>,
@@ -52,9 +54,9 @@ impl Model for Segs {
 
     ghost use Rattle.hp_segs.specs.SegsLayout.{IsKept, view_of};
 
-    ghost view = { λ s. view_of s.table s.asks s.retiring.items s.growth s.roster s.armed.value s.ranges.items s.spare };
+    ghost view = { λ s. view_of s.table s.asks s.retiring.items s.retired s.growth s.roster s.armed.value s.ranges.items s.spare };
 
-    ghost invariant = { λ s. IsKept s.table s.asks s.retiring.items s.growth s.roster s.armed.value
+    ghost invariant = { λ s. IsKept s.table s.asks s.retiring.items s.retired s.growth s.roster s.armed.value
         s.ranges.items s.spare (vec_capacity s.retiring) };
 }
 
@@ -78,11 +80,13 @@ impl Segs {
         }
         let asks = Asks::new(alloc)?;
         let retiring = Vec::with_capacity(alloc, slots)?;
+        let retired = RetiredLog::new();
         let armed = Box::new(alloc, [None; 16])?;
         Ok(Segs {
             table,
             asks,
             retiring,
+            retired,
             growth: None,
             roster: roster::opening(participants, absent),
             armed,

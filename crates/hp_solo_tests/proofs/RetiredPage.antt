@@ -70,7 +70,7 @@ module _ (old : SegsView) (ask : Ask) (run : Run) (bare : old.segments ≡ []) (
   granted = after_granted (after_reserve 3 old) ask run
 
   abbrev retired : SegsView
-  retired = after_retire run (claimed_grant granted (Some (length old.log + 1)))
+  retired = after_retire ask.heap run (claimed_grant granted (Some (length old.log + 1)))
 
   -- the outcome that is logged for the ask
   abbrev logged : AskLog
@@ -96,10 +96,10 @@ module _ (old : SegsView) (ask : Ask) (run : Run) (bare : old.segments ≡ []) (
   ]
 
   pub given_up_is : (mid claimed new : SegsView) → mid ≡ granted → grant_of mid.asks ask.from ask.number ≡ Some (length old.log + 1)
-      → claimed ≡ after_claim ask.from ask.number mid → new ≡ after_retire run claimed → IsGivenUp old new ask
+      → claimed ≡ after_claim ask.from ask.number mid → new ≡ after_retire ask.heap run claimed → IsGivenUp old new ask
   given_up_is mid claimed new is_granted its_grant is_claimed is_retired =
       let is : new ≡ retired =
-      is_retired ∙ ap (after_retire run) (is_claimed ∙ ap (claimed_grant mid) its_grant
+      is_retired ∙ ap (after_retire ask.heap run) (is_claimed ∙ ap (claimed_grant mid) its_grant
       ∙ ap (λ (s : SegsView). claimed_grant s (Some (length old.log + 1))) is_granted) in
       record {
         unowned = λ heap. ap (owned_by heap) is ∙ retired_unowned heap;

@@ -38,7 +38,7 @@ impl<'p, M: Mapper> Participant<'p, M> {
         ensures gives_up { GivesUp heap run.now (H.part hall.old self.now.me heap) (H.part hall.new self.now.me heap) }
         ensures others { (other : ℕ) → other ≢ heap → H.part hall.new self.now.me other ≡ H.part hall.old self.now.me other }
         ensures did { (taken : SegsView) × H.did hall.old hall.new self.now.me
-            (takes_segments taken ∷ gives_segments (after_retire run.now taken) ∷ []) }
+            (takes_segments taken ∷ gives_segments (after_retire heap run.now taken) ∷ []) }
 
         ensures taken { (number : ℕ) → H.taken hall.new number ≡ H.taken hall.old number }
         ensures home_of_all { (number : ℕ) → H.may_take hall.old number → H.may_take hall.new number }

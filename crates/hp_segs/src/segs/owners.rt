@@ -1,6 +1,7 @@
 //! Memory that a heap takes, and memory that it gives up.
 ghost use Rattle.std.specs.Prelude.{◌≡◌, ◌<◌, ◌≤◌, Some, length, insert, vec_capacity, vec_len};
 ghost use Rattle.hp_base.specs.declared.row.Run.{Run};
+ghost use Rattle.std.specs.List.Sorted.{IsNonDecreasingBy};
 ghost use Rattle.std.specs.Option.{option_and_then};
 ghost use Rattle.hp_segs.specs.SegsView.{added_run, granted_by};
 ghost use Rattle.hp_segs.specs.Calls.{IsUnclaimedGrant, OwnsRun};
@@ -14,21 +15,18 @@ use hp_log::LogRecord;
 
 // How many of the runs stand before a run of that address.
 fn runs_before(runs: &[Run], addr: u64) -> usize
+    requires rising { IsNonDecreasingBy (λ run. run.addr) runs.now }
     ensures place { (run : Run) → run.addr ≡ addr
         → insert_by_address run runs.now ≡ insert runs.now result run }
     ensures within { result ≤ length runs.now }
 {
-    for (place, run) in runs.iter().enumerate() {
-        if addr < run.addr {
-            return place;
-        }
-    }
-    runs.len()
+    runs.partition_point(|run| run.addr <= addr)
 }
 
 // The run comes among the others by rising address.
 fn insert_run(runs: &mut Vec<Run>, run: &Run)
-    requires { vec_len runs.old < vec_capacity runs.old }
+    requires room { vec_len runs.old < vec_capacity runs.old }
+    requires rising { IsNonDecreasingBy (λ run. run.addr) runs.old.items }
     ensures runs { runs.new.items ≡ insert_by_address run.now runs.old.items }
     ensures room { vec_capacity runs.old ≤ vec_capacity runs.new }
 {
@@ -88,10 +86,11 @@ impl Segs {
     /// A heap gives up a run of its rows: they become Retiring. Own; after malloc_heap_free_pages of rte_malloc.
     pub fn retire(&mut self, heap: u32, run: &Run)
         requires owned { OwnsRun heap run.now self.old }
-        ensures step { self.new ≡ after_retire run.now self.old }
+        ensures step { self.new ≡ after_retire heap run.now self.old }
     {
         self.table.retire(run);
         insert_run(&mut self.retiring, run);
+        self.retired = self.retired.with(heap, run);
     }
 
     /// The number of Retiring runs.

@@ -133,9 +133,10 @@ returns-in-Some-clause-does g c =
     (in_hand cut (moment_of after part seen heard)) (in_hand cut (moment_of after later (g.H.Hall.seen new me) (g.H.Hall.heard new me)))
     (λ first second. g.met.H.Hall.did_then old new new me first second)
     (does_acted party part seen heard (call.Cut c.args.addr) (gives.Pages run) heap cut c.in-Some.ensures.step count
-    (g.H.Hall.did old new me) (giving_up place.index) after (takes_segments did.0 ∷ gives_segments (after_retire run did.0) ∷ [])
+    (g.H.Hall.did old new me) (giving_up place.index) after (takes_segments did.0 ∷ gives_segments (after_retire heap.plain.index run did.0) ∷ [])
     c.cut_in.ensures.counted
-    (subst (λ (who : ℕ). g.H.Hall.did old new who (takes_segments did.0 ∷ gives_segments (after_retire run did.0) ∷ [])) is_me did.1)
+    (subst (λ (index : ℕ). g.H.Hall.did old new me (takes_segments did.0 ∷ gives_segments (after_retire index run did.0) ∷ [])) c.requires.its
+    (subst (λ (who : ℕ). g.H.Hall.did old new who (takes_segments did.0 ∷ gives_segments (after_retire place.index run did.0) ∷ [])) is_me did.1))
     (Acts.cuts_run party heap.plain.index c.args.addr run did.0))
     (does_still count (g.H.Hall.did new new me) left (in_hand cut (moment_of after part seen heard))
     (in_hand cut (moment_of after later (g.H.Hall.seen new me) (g.H.Hall.heard new me))) [] (g.met.H.Hall.did_same new me)

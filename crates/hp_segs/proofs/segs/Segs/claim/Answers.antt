@@ -47,7 +47,7 @@ unreachable-requires-in_default-added_run c =
 pub claim-requires : goal.claim-requires
 claim-requires c =
     let s = c.self.inside in
-    let segs = view_of s.table s.asks s.retiring.items s.growth s.roster s.armed.value s.ranges.items s.spare in
+    let segs = view_of s.table s.asks s.retiring.items s.retired s.growth s.roster s.armed.value s.ranges.items s.spare in
     let grant = ap (option_and_then granted_by) (sym c.grant_or_refusal.ensures) ∙ (sym c.granted_by.ensures ∙ c.in-Some.is) in
     let granted = grant_is s.table.log s.asks.entries c.args.from c.args.number c.in-Some.generation c.self.invariant.sound.asks.granted grant in
     let within = record_within s.table.log c.in-Some.generation granted.1.0 granted.1.1 in
@@ -73,7 +73,7 @@ returns-clause-run c =
 pub invariant_of-self : goal.invariant_of-self
 invariant_of-self c =
     let s = c.self.inside in
-    let segs = view_of s.table s.asks s.retiring.items s.growth s.roster s.armed.value s.ranges.items s.spare in
+    let segs = view_of s.table s.asks s.retiring.items s.retired s.growth s.roster s.armed.value s.ranges.items s.spare in
     let grant = ap (option_and_then granted_by) (sym c.grant_or_refusal.ensures) ∙ (sym c.granted_by.ensures ∙ c.in-Some.is) in
     let sound : IsSound (claimed_grant segs (grant_of s.asks.entries c.args.from c.args.number)) =
     sound_claimed segs c.self.invariant.sound c.args.from c.args.number in

@@ -11,7 +11,7 @@ add-requires c =
     let may = rw (← c.self.view_is) at c.requires.may in
     let plan =
     open_plan
-    (view_of s.table s.asks s.retiring.items s.growth s.roster s.armed.value s.ranges.items s.spare)
+    (view_of s.table s.asks s.retiring.items s.retired s.growth s.roster s.armed.value s.ranges.items s.spare)
     c.args.ask.now
     c.args.run.now
     c.self.invariant.sound.rows.table.limits

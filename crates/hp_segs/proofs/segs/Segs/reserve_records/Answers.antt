@@ -13,4 +13,4 @@ invariant_of-self-2 c =
     (omega (arith, c.in_ok-reserve.ensures.room))
     (omega (arith, c.in_ok-reserve-2.ensures.room))
     s.armed.value
-    (record { rows = sound.rows; asks = sound.asks; places = sound.places }))
+    (record { rows = sound.rows; asks = sound.asks; places = sound.places; returned = sound.returned }))
