@@ -7,7 +7,7 @@ ghost use Rattle.hp_zone.specs.Directory.{
 };
 
 use crate::heap_name::{HeapName, HeapRange};
-use crate::heaps::{lowest_unnamed, place_of_range, place_of_heap};
+use crate::heaps::{lowest_unnamed, place_of_heap, take_range};
 use crate::limits::FIRST_EXTERNAL_SOCKET;
 use crate::name_change::NameChange;
 use crate::opening::opening_heaps;
@@ -70,8 +70,13 @@ impl Directory {
         ensures found { IfSome result (λ heap. IsFoundAt self.now.plain name.now heap.0 heap.1) }
         ensures none { IfNone result (IsNotFound self.now.plain name.now) }
     {
-        let index = place_of_heap(&self.heaps, name)?;
-        self.heaps[index].map(|heap| (index as u32, heap.socket))
+        let Some(index) = place_of_heap(&self.heaps, name) else {
+            return None;
+        };
+        let Some(heap) = self.heaps[index] else {
+            unreachable!()
+        };
+        Some((index as u32, heap.socket))
     }
 
     /// The name and the socket number of the heap of that index, where it has a name. Own.
@@ -164,9 +169,7 @@ impl Directory {
         requires { HasRange self.old.plain index addr }
         ensures { self.new ≡ with_change self.old (RangeGone index addr) }
     {
-        if let Some(place) = place_of_range(&self.ranges, index, addr) {
-            let _range = self.ranges.remove(place);
-        }
+        take_range(&mut self.ranges, index, addr);
         self.log.push_reserved(NameChange::RangeGone { index, addr });
     }
 
