@@ -2,8 +2,21 @@
 ghost use Rattle.std.specs.Prelude.{◌≡◌, ◌+◌, ◌<◌, ◌≤◌, ◌↔◌, ◌^◌, IsTrue, Some, IfOk, IfSome, IfNone, OnOk, OnErr, length, vec_len, vec_capacity};
 ghost use Rattle.hp_zone.specs.declared.name_change.NameChange.TheVariants.{Unnamed, Range, RangeGone};
 ghost use Rattle.hp_zone.specs.Directory.{
-  GivesName, HasPlace, HasRange, IsDirectory, IsFoundAt, IsNotFound, MayAdd, MayInsert, MayOpen, MayRemove, heap_at, opened,
-  with_change, with_more, with_room,
+  GivesName,
+  HasPlace,
+  HasRange,
+  IsDirectory,
+  IsFoundAt,
+  IsNotFound,
+  MayAdd,
+  MayInsert,
+  MayOpen,
+  MayRemove,
+  heap_at,
+  opened,
+  with_change,
+  with_more,
+  with_room,
 };
 
 use crate::heap_name::{HeapName, HeapRange};
@@ -170,7 +183,8 @@ impl Directory {
         ensures { self.new ≡ with_change self.old (RangeGone index addr) }
     {
         take_range(&mut self.ranges, index, addr);
-        self.log.push_reserved(NameChange::RangeGone { index, addr });
+        self.log
+            .push_reserved(NameChange::RangeGone { index, addr });
     }
 
     /// The ranges of all heaps, in the order in which they came. Own.

@@ -48,7 +48,10 @@ fn socket_heaps(alloc: Global, sockets: &[u32]) -> Result<Vec<Option<HeapName>>,
 }
 
 // The names of the heaps of sockets, and then none, for all indexes.
-pub(crate) fn opening_heaps(alloc: Global, sockets: &[u32]) -> Result<Vec<Option<HeapName>>, AllocError>
+pub(crate) fn opening_heaps(
+    alloc: Global,
+    sockets: &[u32],
+) -> Result<Vec<Option<HeapName>>, AllocError>
     requires { length sockets.now ≤ MAX_HEAPS }
     ensures { IfOk result (λ heaps. heaps.items ≡ (opening sockets.now).heaps) }
 {
