@@ -7,6 +7,7 @@ use hp_zone::{Directory, Names};
 use std::alloc::Global;
 
 /// One thing that is done with the directory, and what it must give.
+#[derive(Clone, Copy)]
 pub enum HeapStep {
     /// A name is found, with that index and socket number.
     Find(&'static str, u32, u32),

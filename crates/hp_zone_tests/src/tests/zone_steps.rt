@@ -5,6 +5,7 @@ use hp_zone::{Zone, ZoneChange, ZoneFault, Zones};
 use std::alloc::Global;
 
 /// One thing that is done with memzones, and what it must give.
+#[derive(Clone, Copy)]
 pub enum ZoneStep {
     /// A reservation by name, length, alignment and bound is accepted.
     Check(&'static str, u64, u64, u64),
