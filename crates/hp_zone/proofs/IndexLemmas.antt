@@ -63,8 +63,8 @@ module _ (xs ys : List ℕ) (same : AreSame xs ys) where
 pub All-same_indexes : (P : ℕ → Type 0) (xs ys : List ℕ) → AreSame xs ys → All P xs → All P ys
 All-same_indexes P xs ys same all =
     All-from_get_or P ys 0 (λ i within.
-        All-contains P xs (get_or ys i 0) all
-        (contains_same ys xs (λ index. sym (same index)) (get_or ys i 0) (Contains-get_or ys i 0 within)))
+    All-contains P xs (get_or ys i 0) all
+    (contains_same ys xs (λ index. sym (same index)) (get_or ys i 0) (Contains-get_or ys i 0 within)))
 
 -- a list that is mapped without an element
 pub map-remove : {X Y : Type 0} (f : X → Y) (xs : List X) (i : ℕ) → map f (remove xs i) ≡ remove (map f xs) i

@@ -53,9 +53,9 @@ module _ (order by_name : List ℕ) (log : List ZoneChange) (spare order_room by
   unknown_names text fresh =
       All-same_indexes (λ index. name_at log index ≢ text) order by_name kept.indexes.same
       (All-from_get_or (λ index. name_at log index ≢ text) order 0 (λ i within.
-          let other : (get_or (map (zone_at log) order) i (zone_at log 0)).name ≢ text
-          = All-get_or (λ zone. zone.name ≢ text) (map (zone_at log) order) i (zone_at log 0) (rw (length-map order (zone_at log)) within) fresh in
-          λ same. other (ap (λ (zone : Zone). zone.name) (get_or-map (zone_at log) order i 0 (zone_at log 0) within) ∙ same)))
+      let other : (get_or (map (zone_at log) order) i (zone_at log 0)).name ≢ text
+      = All-get_or (λ zone. zone.name ≢ text) (map (zone_at log) order) i (zone_at log 0) (rw (length-map order (zone_at log)) within) fresh in
+      λ same. other (ap (λ (zone : Zone). zone.name) (get_or-map (zone_at log) order i 0 (zone_at log 0) within) ∙ same)))
 
   pub not_found_in_gap : (text : List ℕ) (at : ℕ) → IsGap log by_name text at → IsNotFound (map (zone_at log) order) text
   not_found_in_gap text at gap =

@@ -3,3 +3,4 @@ mod IndexLemmas
 mod SortedLemmas
 mod ZoneLemmas
 mod KeptLemmas
+mod DirectoryLemmas

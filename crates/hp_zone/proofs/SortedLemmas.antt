@@ -56,10 +56,10 @@ module _ (log : List ZoneChange) (by_name : List ℕ) (text : List ℕ) where
   pub unknown_in_gap : (at : ℕ) → IsGap log by_name text at → IsUnknown log by_name text
   unknown_in_gap at gap =
       All-from_get_or (λ index. name_at log index ≢ text) by_name 0 (λ k within.
-          elim (cases_lt k at) [
-            | inl lower ↦ lower_texts (name_at log (get_or by_name k 0)) text (gap.before k 0 lower)
-            | inr from ↦ higher_texts (name_at log (get_or by_name k 0)) text (gap.after k 0 from within)
-          ])
+      elim (cases_lt k at) [
+        | inl lower ↦ lower_texts (name_at log (get_or by_name k 0)) text (gap.before k 0 lower)
+        | inr from ↦ higher_texts (name_at log (get_or by_name k 0)) text (gap.after k 0 from within)
+      ])
 
   -- a name at a place is not unknown
   pub known_at : (at : ℕ) → IsAt log by_name text at → IsUnknown log by_name text → ⊥

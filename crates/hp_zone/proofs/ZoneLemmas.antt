@@ -69,13 +69,13 @@ remove_is_without zones at text d within apart named =
     = λ j in_j other. ap not (has_no_other (get_or zones j d) text (λ same. other (apart j at d in_j within (same ∙ sym named)))) in
     let front : filter (λ zone. not (has_name text zone)) (take at zones) ≡ take at zones
     = filter_all (λ zone. not (has_name text zone)) (take at zones) (All-from_get_or (λ zone. not (has_name text zone) ≡ true) (take at zones) d (λ j in_j.
-        let short : length (take at zones) ≡ at = length-take-le at zones (omega arith) in
-        let lower : j < at = omega (arith, short, in_j) in
-        rw (get_or-take at zones j d lower) (passes j (omega arith) (λ same. omega arith)))) in
+    let short : length (take at zones) ≡ at = length-take-le at zones (omega arith) in
+    let lower : j < at = omega (arith, short, in_j) in
+    rw (get_or-take at zones j d lower) (passes j (omega arith) (λ same. omega arith)))) in
     let back : filter (λ zone. not (has_name text zone)) (drop (at + 1) zones) ≡ drop (at + 1) zones
     = filter_all (λ zone. not (has_name text zone)) (drop (at + 1) zones) (All-from_get_or (λ zone. not (has_name text zone) ≡ true) (drop (at + 1) zones) d (λ j in_j.
-        let short : length (drop (at + 1) zones) ≡ length zones - (at + 1) = length-drop (at + 1) zones in
-        rw (get_or-drop (at + 1) zones j d) (passes (at + 1 + j) (omega (arith, short, in_j)) (λ same. omega arith)))) in
+    let short : length (drop (at + 1) zones) ≡ length zones - (at + 1) = length-drop (at + 1) zones in
+    rw (get_or-drop (at + 1) zones j d) (passes (at + 1 + j) (omega (arith, short, in_j)) (λ same. omega arith)))) in
     let here : has_name text (get_or zones at d) ≡ true = has_its_name (get_or zones at d) text named in
     let parts : take at zones ++ (get_or zones at d ∷ drop (at + 1) zones) ≡ zones
     = ap (λ rest. take at zones ++ rest) (sym (drop_more zones at d within)) ∙ take-append-drop at zones in

@@ -1,5 +1,5 @@
 -- What stands against the reservation of a memzone, and which of it is named: the rule "Memzones" of docs/HEAP.md.
-use Rattle.std.specs.Prelude.{◌≡◌, ℕ, ◌<◌, ◌≤◌, false, List, length}
+use Rattle.std.specs.Prelude.{◌≡◌, ℕ, ◌<◌, ◌≤◌, true, false, List, length}
 use Rattle.hp_base.specs.Requests.{is_align, is_bound, rounded_size}
 use Rattle.hp_zone.specs.Zones.{IsNotFound, IsZoneName}
 use Rattle.hp_zone.specs.declared.fault.ZoneFault.{ZoneFault}
@@ -36,5 +36,9 @@ pub record IsFirstFault (zones : List Zone) (asked : Reservation) (fault : ZoneF
   pub first : (earlier : ZoneFault) → turn_of earlier < turn_of fault → ¬ StandsAgainst zones asked earlier
 
 -- nothing stands against the reservation
-abbrev pub IsAcceptable : List Zone → Reservation → Type 0
-IsAcceptable zones asked = (fault : ZoneFault) → ¬ StandsAgainst zones asked fault
+pub record IsAcceptable (zones : List Zone) (asked : Reservation) : Type 0 where
+  pub name : IsZoneName asked.name
+  pub fresh : IsNotFound zones asked.name
+  pub place : length zones < MAX_ZONES
+  pub aligned : is_align asked.align ≡ true
+  pub bounded : is_bound (rounded_size asked.len) asked.bound ≡ true

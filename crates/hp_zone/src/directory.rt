@@ -2,12 +2,25 @@
 ghost use Rattle.std.specs.Prelude.{◌≡◌, ◌+◌, ◌<◌, ◌≤◌, ◌↔◌, ◌^◌, IsTrue, Some, IfOk, IfSome, IfNone, OnOk, OnErr, length, vec_len, vec_capacity};
 ghost use Rattle.hp_zone.specs.declared.name_change.NameChange.TheVariants.{Unnamed, Range, RangeGone};
 ghost use Rattle.hp_zone.specs.Directory.{
-  GivesName, HasPlace, HasRange, IsDirectory, IsFoundAt, IsNotFound, MayAdd, MayInsert, MayOpen, MayRemove, heap_at, opened,
-  with_change, with_more, with_room,
+  GivesName,
+  HasPlace,
+  HasRange,
+  IsDirectory,
+  IsFoundAt,
+  IsNotFound,
+  MayAdd,
+  MayInsert,
+  MayOpen,
+  MayRemove,
+  heap_at,
+  opened,
+  with_change,
+  with_more,
+  with_room,
 };
 
 use crate::heap_name::{HeapName, HeapRange};
-use crate::heaps::{lowest_unnamed, place_of_range, place_of_heap};
+use crate::heaps::{lowest_unnamed, place_of_heap, take_range};
 use crate::limits::FIRST_EXTERNAL_SOCKET;
 use crate::name_change::NameChange;
 use crate::opening::opening_heaps;
@@ -70,8 +83,13 @@ impl Directory {
         ensures found { IfSome result (λ heap. IsFoundAt self.now.plain name.now heap.0 heap.1) }
         ensures none { IfNone result (IsNotFound self.now.plain name.now) }
     {
-        let index = place_of_heap(&self.heaps, name)?;
-        self.heaps[index].map(|heap| (index as u32, heap.socket))
+        let Some(index) = place_of_heap(&self.heaps, name) else {
+            return None;
+        };
+        let Some(heap) = self.heaps[index] else {
+            unreachable!()
+        };
+        Some((index as u32, heap.socket))
     }
 
     /// The name and the socket number of the heap of that index, where it has a name. Own.
@@ -164,10 +182,9 @@ impl Directory {
         requires { HasRange self.old.plain index addr }
         ensures { self.new ≡ with_change self.old (RangeGone index addr) }
     {
-        if let Some(place) = place_of_range(&self.ranges, index, addr) {
-            let _range = self.ranges.remove(place);
-        }
-        self.log.push_reserved(NameChange::RangeGone { index, addr });
+        take_range(&mut self.ranges, index, addr);
+        self.log
+            .push_reserved(NameChange::RangeGone { index, addr });
     }
 
     /// The ranges of all heaps, in the order in which they came. Own.

@@ -1,7 +1,8 @@
 //! Where something stands among the heaps and ranges of a directory.
-ghost use Rattle.std.specs.Prelude.{◌≡◌, IfSome, IfNone, position};
+ghost use Rattle.std.specs.Prelude.{◌≡◌, ◌+◌, ◌<◌, length, position, vec_len, vec_capacity};
 ghost use Rattle.hp_zone.specs.Heaps.{is_named, is_unnamed};
-ghost use Rattle.hp_zone.specs.Directory.{is_range};
+ghost use Rattle.std.specs.List.{position_or_len};
+ghost use Rattle.hp_zone.specs.Directory.{is_range, without_range};
 
 use crate::heap_name::{HeapName, HeapRange};
 
@@ -30,10 +31,23 @@ fn has_name(heap: &Option<HeapName>, name: &[u8]) -> bool
 }
 
 // Where the range of a heap at an address stands.
-pub(crate) fn place_of_range(ranges: &[HeapRange], index: u32, addr: u64) -> Option<usize>
+fn place_of_range(ranges: &[HeapRange], index: u32, addr: u64) -> Option<usize>
     ensures { result ≡ position (is_range index addr) ranges.now }
 {
     ranges
         .iter()
         .position(|range| range.index == index && range.addr == addr)
+}
+
+// Takes the first range of a heap at an address out.
+pub(crate) fn take_range(ranges: &mut Vec<HeapRange>, index: u32, addr: u64)
+    requires { position_or_len (is_range index addr) ranges.old.items < length ranges.old.items }
+    ensures items { ranges.new.items ≡ without_range index addr ranges.old.items }
+    ensures len { vec_len ranges.new + 1 ≡ vec_len ranges.old }
+    ensures capacity { vec_capacity ranges.new ≡ vec_capacity ranges.old }
+{
+    let Some(place) = place_of_range(ranges, index, addr) else {
+        unreachable!()
+    };
+    let _range = ranges.remove(place);
 }

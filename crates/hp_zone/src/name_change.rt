@@ -4,9 +4,15 @@ use hp_base::Name;
 #[derive(Clone, Copy, PartialEq, Eq)]
 pub enum NameChange {
     /// The heap of that index got the name and the socket number.
-    Named { index: u32, socket: u32, name: Name },
+    Named {
+        index: u32,
+        socket: u32,
+        name: Name,
+    },
     /// The heap of that index lost its name.
-    Unnamed { index: u32 },
+    Unnamed {
+        index: u32,
+    },
     /// Memory came to the heap of that index: `len` bytes from `addr` on, in pages of `page` bytes.
     Range {
         index: u32,
@@ -15,5 +21,8 @@ pub enum NameChange {
         page: u64,
     },
     /// The range of that heap that begins at `addr` went.
-    RangeGone { index: u32, addr: u64 },
+    RangeGone {
+        index: u32,
+        addr: u64,
+    },
 }

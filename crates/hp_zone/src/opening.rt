@@ -1,6 +1,5 @@
 //! The opening directory: the names of the heaps of sockets.
-ghost use Rattle.std.specs.Prelude.{◌≡◌, ◌+◌, ◌≤◌, ◌<◌, ◌++◌, length, take, OnOk, IfOk, vec_len, vec_capacity};
-ghost use Rattle.hp_base.specs.declared.limits.TheConstants.{MAX_HEAPS};
+ghost use Rattle.std.specs.Prelude.{◌≡◌, ◌+◌, ◌≤◌, ◌++◌, length, map, take, IfOk, vec_len};
 ghost use Rattle.hp_zone.specs.Directory.{opening, socket_heap, socket_name};
 
 use crate::heap_name::HeapName;
@@ -33,19 +32,30 @@ fn put_both(text: &mut [u8], first: &[u8], second: &[u8]) -> usize
     first.len() + second.len()
 }
 
+// The names of the heaps of sockets.
+fn socket_heaps(alloc: Global, sockets: &[u32]) -> Result<Vec<Option<HeapName>>, AllocError>
+    ensures items { IfOk result (λ heaps. heaps.items ≡ map socket_heap sockets.now) }
+    ensures len { IfOk result (λ heaps. vec_len heaps ≡ length sockets.now) }
+{
+    let mut heaps = Vec::new(alloc);
+    for socket in sockets {
+        heaps.push(Some(HeapName {
+            name: socket_name(*socket),
+            socket: *socket,
+        }))?;
+    }
+    Ok(heaps)
+}
+
 // The names of the heaps of sockets, and then none, for all indexes.
-pub(crate) fn opening_heaps(alloc: Global, sockets: &[u32]) -> Result<Vec<Option<HeapName>>, AllocError>
+pub(crate) fn opening_heaps(
+    alloc: Global,
+    sockets: &[u32],
+) -> Result<Vec<Option<HeapName>>, AllocError>
     requires { length sockets.now ≤ MAX_HEAPS }
     ensures { IfOk result (λ heaps. heaps.items ≡ (opening sockets.now).heaps) }
 {
-    let mut heaps = Vec::new(alloc);
-    heaps.reserve(MAX_HEAPS)?;
-    for socket in sockets {
-        heaps.push_reserved(Some(HeapName {
-            name: socket_name(*socket),
-            socket: *socket,
-        }));
-    }
+    let mut heaps = socket_heaps(alloc, sockets)?;
     heaps.resize(MAX_HEAPS, None)?;
     Ok(heaps)
 }

@@ -11,7 +11,7 @@ file-requires-clause-fresh c =
     let may : MayReserve (view_of kept.order.items kept.log.items kept.spare) c.args.zone = rw (← c.self.view_is) at c.requires in
     rw (c.deref.ensures.value, c.as_bytes.ensures.text)
     (unknown_names kept.order.items kept.by_name.items kept.log.items kept.spare (vec_capacity kept.order) (vec_capacity kept.by_name) (vec_capacity kept.log)
-        c.self.invariant c.args.zone.name may.fresh)
+    c.self.invariant c.args.zone.name may.fresh)
 
 pub invariant_of-self : goal.invariant_of-self
 invariant_of-self c =
@@ -23,7 +23,7 @@ invariant_of-self c =
     = rw (c.deref.ensures.value, c.as_bytes.ensures.text, index_is) at c.file.ensures.filed in
     rw (c.push_reserved.ensures.items, c.push_reserved-2.ensures.items, index_is, c.push_reserved.ensures.capacity, c.push_reserved-2.ensures.capacity, c.file.ensures.capacity)
     (kept_put kept.order.items kept.by_name.items kept.log.items kept.spare (vec_capacity kept.order) (vec_capacity kept.by_name) (vec_capacity kept.log)
-        c.self.invariant c.args.zone may c.file.new.by_name.items files)
+    c.self.invariant c.args.zone may c.file.new.by_name.items files)
 
 pub returns : goal.returns
 returns c =
@@ -35,4 +35,4 @@ returns c =
     = rw (c.deref.ensures.value, c.as_bytes.ensures.text, index_is) at c.file.ensures.filed in
     rw (← c.self.view_is, c.push_reserved.ensures.items, c.push_reserved-2.ensures.items, index_is)
     (reserves kept.order.items kept.by_name.items kept.log.items kept.spare (vec_capacity kept.order) (vec_capacity kept.by_name) (vec_capacity kept.log)
-        c.self.invariant c.args.zone may c.file.new.by_name.items files)
+    c.self.invariant c.args.zone may c.file.new.by_name.items files)
