@@ -7,7 +7,7 @@ use std::fmt;
 
 /// What a participant line is answered. Addresses and lengths are bytes. Own; after the error codes of rte_malloc,
 /// rte_memzone and rte_memory.
-#[derive(Clone, Copy, Debug, PartialEq, Eq)]
+#[derive(Clone, Copy, PartialEq, Eq)]
 pub enum Answer {
     /// It is done, and there is nothing more to say.
     Done,

@@ -2,7 +2,7 @@ use crate::options::Options;
 use crate::token::Token;
 
 /// A participant line of a workload: its number in the text, from 1, who makes the call, and which call. Own.
-#[derive(Debug, Drop)]
+#[derive(Drop)]
 pub struct Line<'a> {
     pub line: u32,
     pub participant: u8,
@@ -11,7 +11,7 @@ pub struct Line<'a> {
 
 /// What a participant line asks for: one variant for each verb. Sizes, lengths, addresses, pages and limits are
 /// bytes. Own; the calls are those of rte_malloc, rte_memzone and rte_memory.
-#[derive(Debug, Drop)]
+#[derive(Drop)]
 pub enum Act<'a> {
     /// Allocate; the label names the allocation in the whole text.
     Alloc {

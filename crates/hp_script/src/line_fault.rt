@@ -4,7 +4,7 @@ use crate::bad_kind::BadKind;
 use std::alloc::{AllocError, AllocFailed};
 
 /// Why a line is not read.
-#[derive(Debug, Drop)]
+#[derive(Drop)]
 pub enum LineFault {
     Bad { kind: BadKind },
     OutOfMemory,

@@ -1,7 +1,7 @@
 use crate::token::Token;
 
 /// The socket that an allocation or a memzone asks for. After the socket argument of rte_malloc_socket.
-#[derive(Clone, Copy, Debug, PartialEq, Eq)]
+#[derive(Clone, Copy, PartialEq, Eq)]
 pub enum SocketChoice {
     /// Any socket, which is the default. After SOCKET_ID_ANY.
     Any,
@@ -11,7 +11,7 @@ pub enum SocketChoice {
 
 /// The options of an allocation or of a memzone; what is not given has its default. After rte_malloc_socket and
 /// rte_memzone_reserve_bounded.
-#[derive(Debug, Drop)]
+#[derive(Drop)]
 pub struct Options<'a> {
     /// The socket; by default any.
     pub socket: SocketChoice,

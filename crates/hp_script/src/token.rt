@@ -3,7 +3,7 @@ use std::marker::Model;
 
 /// A field of a workload, as it stands there: a slice of the text, and its place in bytes from the begin. It has 1 to 255
 /// bytes, all of them printable ASCII and none of them a space. Own.
-#[derive(Debug, Drop)]
+#[derive(Drop)]
 pub struct Token<'a> {
     start: usize,
     text: &'a [u8],

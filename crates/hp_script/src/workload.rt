@@ -2,7 +2,7 @@ use crate::line::Line;
 use hp_base::{PlanEntry, PoolLine};
 
 /// A workload: who takes part, the pools, the planned disturbances, and the lines of the participants. Own.
-#[derive(Debug, Drop)]
+#[derive(Drop)]
 pub struct Workload<'a> {
     /// The number of participants, 1 to 16.
     pub participants: u8,
