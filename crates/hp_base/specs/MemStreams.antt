@@ -1,5 +1,5 @@
 -- Sources and sinks in memory, as contracts see them, and what one call of them does.
-use Rattle.std.specs.Prelude.{◌≡◌, ℕ, ◌+◌, ◌-◌, ◌^◌, ◌<◌, ◌≤◌, ◌==◌, min, false, List, ◌++◌, length, take, drop, if◌then◌else◌}
+use Rattle.std.specs.Prelude.{◌≡◌, ℕ, ◌+◌, ◌-◌, ◌^◌, ◌<◌, ◌≤◌, ◌==◌, ◌⊎◌, min, false, true, List, ◌++◌, length, take, drop, if◌then◌else◌}
 use Rattle.hp_base.specs.Streams.{got_failed, put_failed, list_has}
 use Rattle.hp_base.specs.declared.source.Got.{Got}
 use Rattle.hp_base.specs.declared.source.Got.TheVariants as got
@@ -23,13 +23,20 @@ pub record IsSource (len at piece : ℕ) : Type 0 where
   pub within : at ≤ len
   pub some : 0 < piece
 
--- what it holds, the greatest piece, the calls that fail, the calls made and the faults so far
+-- what it holds, how many bytes it has room for without taking memory, the greatest piece, the calls that fail, the calls made and the
+-- faults so far
 pub record SinkState : Type 0 where
   pub held : List ℕ
+  pub room : ℕ
   pub piece : ℕ
   pub fails : List ℕ
   pub calls : ℕ
   pub faults : ℕ
+
+-- a piece has some bytes, and the room was set aside
+pub record IsSink (piece room capacity : ℕ) : Type 0 where
+  pub some : 0 < piece
+  pub aside : room ≤ capacity
 
 -- a count one more, which stands still at the end of 64 bits
 abbrev pub counted : ℕ → ℕ
@@ -58,11 +65,13 @@ after_read source answer = record {
   faults = if got_failed answer then counted source.faults else source.faults;
 }
 
--- a write takes the first bytes, a piece at most, only where the call is not to fail; it may fail there too
+-- a write takes the first bytes, a piece at most, only where the call is not to fail; and it fails only where the call is to, or where the
+-- room that is set aside does not hold the piece
 abbrev pub MayAnswer : SinkState → List ℕ → Put → Type 0
 MayAnswer sink bytes (put.Took n) =
     (list_has (counted sink.calls) sink.fails ≡ false) × (n ≡ min (length bytes) sink.piece)
-MayAnswer sink bytes put.Failed = Unit {0}
+MayAnswer sink bytes put.Failed =
+    (list_has (counted sink.calls) sink.fails ≡ true) ⊎ (sink.room < length sink.held + min (length bytes) sink.piece)
 
 -- what is held after an answer to a write of bytes
 abbrev pub held_after : List ℕ → List ℕ → Put → List ℕ
@@ -73,6 +82,7 @@ held_after held bytes put.Failed = held
 abbrev pub after_write : SinkState → List ℕ → Put → SinkState
 after_write sink bytes answer = record {
   held = held_after sink.held bytes answer;
+  room = sink.room;
   piece = sink.piece;
   fails = sink.fails;
   calls = counted sink.calls;

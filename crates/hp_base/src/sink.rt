@@ -1,8 +1,8 @@
-ghost use Rattle.std.specs.Prelude.{◌≡◌, ◌<◌, ℕ, List, [], Option, Some, length};
+ghost use Rattle.std.specs.Prelude.{◌≡◌, ◌<◌, ◌≤◌, ℕ, List, [], IfOk, Option, Some, length, vec_capacity};
 ghost use Rattle.hp_base.specs.Streams.{Takes, CountsFault, put_failed};
 
 use crate::failing_calls::FailingCalls;
-use std::alloc::Global;
+use std::alloc::{AllocError, Global};
 use std::marker::Model;
 
 /// What a write takes.
@@ -29,42 +29,74 @@ pub trait Sink {
         ensures cause { CountsFault (faults self.old) (faults self.new) (put_failed result) };
 }
 
-/// A sink that keeps its bytes, takes at most `piece` of them at a time and fails at the calls that it is told,
-/// and where its memory ends.
+/// A sink that keeps its bytes, takes at most `piece` of them at a time and fails at the calls that it is told, and where its memory ends,
+/// which is not before the room that is set aside for it is full.
 #[derive(Debug, Drop)]
 pub struct MemSink {
     bytes: Vec<u8>,
+    // So many bytes are held without taking memory.
+    room: usize,
     piece: usize,
     failing: FailingCalls,
 }
 
 impl Model for MemSink {
-    ghost use Rattle.hp_base.specs.MemStreams.{SinkState};
-    ghost use Rattle.std.specs.Prelude.{◌<◌};
+    ghost use Rattle.hp_base.specs.MemStreams.{IsSink, SinkState};
+    ghost use Rattle.std.specs.Prelude.{vec_capacity};
 
     ghost Value = { SinkState };
 
     ghost view = { λ a. record {
       held = a.bytes.items;
+      room = a.room;
       piece = a.piece;
       fails = a.failing.fails.items;
       calls = a.failing.calls;
       faults = a.failing.faults;
     } };
 
-    ghost invariant = { λ a. 0 < a.piece };
+    ghost invariant = { λ a. IsSink a.piece a.room (vec_capacity a.bytes) };
 }
 
 impl MemSink {
     ghost use Rattle.hp_base.specs.MemStreams.{SinkState};
 
-    /// A sink that holds nothing yet.
+    /// A sink that holds nothing yet, and has no room set aside.
     pub fn new(alloc: Global, piece: usize, fails: Vec<u64>) -> MemSink
         requires { 0 < piece }
-        ensures { result ≡ record { held = []; piece = piece; fails = fails.items; calls = 0; faults = 0 } }
+        ensures { result ≡ record { held = []; room = 0; piece = piece; fails = fails.items; calls = 0; faults = 0 } }
+    {
+        MemSink::over(Vec::new(alloc), 0, piece, fails)
+    }
+
+    /// A sink that holds nothing yet, with room for so many bytes.
+    pub fn with_room(
+        alloc: Global,
+        room: usize,
+        piece: usize,
+        fails: Vec<u64>,
+    ) -> Result<MemSink, AllocError>
+        requires { 0 < piece }
+        ensures { IfOk result
+            (λ sink. sink ≡ record { held = []; room = room; piece = piece; fails = fails.items; calls = 0; faults = 0 }) }
+    {
+        Ok(MemSink::over(
+            Vec::with_capacity(alloc, room)?,
+            room,
+            piece,
+            fails,
+        ))
+    }
+
+    // Over bytes that have the room.
+    fn over(bytes: Vec<u8>, room: usize, piece: usize, fails: Vec<u64>) -> MemSink
+        requires some { 0 < piece }
+        requires room { room ≤ vec_capacity bytes }
+        ensures { result ≡ record { held = bytes.items; room = room; piece = piece; fails = fails.items; calls = 0; faults = 0 } }
     {
         MemSink {
-            bytes: Vec::new(alloc),
+            bytes,
+            room,
             piece,
             failing: FailingCalls {
                 fails,
@@ -94,7 +126,7 @@ impl Sink for MemSink {
         ensures bytes { Takes (Some self.old.held) (Some self.new.held) bytes.now result }
         ensures cause { CountsFault self.old.faults self.new.faults (put_failed result) }
 
-        // Which answers there are, and the sink after each. It may also fail where its memory ends.
+        // Which answers there are, and the sink after each. It fails at a call that is to fail, or where its room does not hold the piece.
         ensures answer { MayAnswer self.old bytes.now result }
         ensures after { self.new ≡ after_write self.old bytes.now result }
     {

@@ -177,7 +177,7 @@ fn a_source_gives_pieces_and_fails_where_told(rt: HostRuntime) -> Result<(), Fai
 #[test]
 fn a_sink_takes_pieces_and_fails_where_told(rt: HostRuntime) -> Result<(), Fail> {
     let fails = Vec::from_slice(rt.alloc(), &[2])?;
-    let mut sink = MemSink::new(rt.alloc(), 3, fails);
+    let mut sink = MemSink::with_room(rt.alloc(), 5, 3, fails)?;
     assert_eq!(rt; sink.write(b"abcde"), Put::Took(3));
     assert_eq!(rt; sink.write(b"de"), Put::Failed);
     assert_eq!(rt; sink.write(b"de"), Put::Took(2));

@@ -5,6 +5,7 @@ use std::alloc::{AllocError, Global};
 use std::test::Fail;
 
 mod members;
+mod messages;
 mod rows;
 
 const EXAMPLE: &str = "pool 0 2M 4\n0 alloc a 1000\n";

@@ -50,9 +50,9 @@ SameShape (Does party deed) (Does who other) = (who ≡ party) × SameAct deed o
 SameShape (Awaits party k n) (Awaits who j m) = (who ≡ party) × (j ≡ k) × (m ≡ n)
 SameShape _ _ = ⊥
 
--- nothing is asked of two options but that both are there: whether an act is built does not depend on them
-abbrev pub AnyOptions : Options → Options → Type 0
-AnyOptions options other = ⊤
+-- two options both name an external heap, or neither does: whether an act is built depends on no more of them
+abbrev pub AlikeOptions : Options → Options → Type 0
+AlikeOptions options other = is_some other.heap ≡ is_some options.heap
 
 pub record SameGiven (given other : Given) : Type 0 where
   pub socket : other.socket ≡ given.socket

@@ -1,6 +1,6 @@
 -- An accepted text without a line that is to be built later describes a workload that is built.
 use Rattle.std.proofs.Common.{◌≡◌, ℕ, Bool, true, false, List, [], ◌∷◌, refl, cond}
-use Rattle.std.specs.Prelude.{Some, None, All, not}
+use Rattle.std.specs.Prelude.{Some, None, All, is_some, not}
 use Rattle.std.specs.Option.{option_map}
 use Rattle.std.specs.List.{find}
 use Rattle.std.proofs.lemmas.List.Elements.{All-nil, All-cons, All-head, All-tail}
@@ -17,7 +17,12 @@ use Rattle.hp_script.proofs.FactLemmas.{reading_facts}
 
 -- an act that is built
 built_act : (party : ℕ) (deed : Act) → IsActOf party deed → is_built_act deed ≡ true → IsBuiltAct deed
-built_act party (act.Alloc label size options) is built = is.1.socket
+built_act party (act.Alloc label size options) is built =
+    record { socket = is.1.socket; no_heap = none_there (is_some options.heap) built }
+  where
+    none_there : (some : Bool) → not some ≡ true → some ≡ false
+    none_there true is = cc
+    none_there false is = refl
 built_act party (act.Free label) is built = tt
 built_act party (act.Resize label size) is built = tt
 built_act party act.Attach is built = tt

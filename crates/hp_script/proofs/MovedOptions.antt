@@ -7,7 +7,7 @@ use Rattle.hp_script.specs.Options.{socket_choice, number_given, with_socket, wi
 use Rattle.hp_script.specs.declared.bad_kind.BadKind.TheVariants as bad
 use Rattle.hp_script.specs.declared.given.Given.{Given}
 use Rattle.hp_script.specs.declared.options.Options.{Options}
-use Rattle.hp_script.proofs.AlikeLemmas.{Alike, Both, AnyOptions, SameGiven, choose, moved}
+use Rattle.hp_script.proofs.AlikeLemmas.{Alike, Both, AlikeOptions, SameGiven, choose, moved}
 
 module _ (base : ℕ × ℕ) where
   socket_moved : (given other : Given) (value : Part) → SameGiven given other → Both SameGiven (with_socket given value) (with_socket other (moved base value))
@@ -75,21 +75,21 @@ module _ (base : ℕ × ℕ) where
       further (Some x) None alike rest = absurd alike
       further (Some x) (Some y) alike rest = rest x y alike
 
-  options_moved : (words : List Part) → Both AnyOptions (options_of words) (options_of (map (moved base) words))
+  options_moved : (words : List Part) → Both AlikeOptions (options_of words) (options_of (map (moved base) words))
   unfolding options_of
   options_moved words = settle (given_by nothing_given words) (given_by nothing_given (map (moved base) words)) (given_moved words nothing_given nothing_given (record { socket = refl; heap = refl; align = refl; bound = refl; flags = refl }))
     where
-      settle : (one two : Option Given) → Both SameGiven one two → Both AnyOptions (option_map settled one) (option_map settled two)
+      settle : (one two : Option Given) → Both SameGiven one two → Both AlikeOptions (option_map settled one) (option_map settled two)
       settle None None alike = tt
       settle None (Some y) alike = absurd alike
       settle (Some x) None alike = absurd alike
-      settle (Some x) (Some y) alike = tt
+      settle (Some x) (Some y) alike = alike.heap
 
   pub given_options : (words : List Part)
-      → Alike AnyOptions (ok_or (options_of words) bad.Option) (ok_or (options_of (map (moved base) words)) bad.Option)
+      → Alike AlikeOptions (ok_or (options_of words) bad.Option) (ok_or (options_of (map (moved base) words)) bad.Option)
   given_options words = chosen (options_of words) (options_of (map (moved base) words)) (options_moved words)
     where
-      chosen : (one two : Option Options) → Both AnyOptions one two → Alike AnyOptions (ok_or one bad.Option) (ok_or two bad.Option)
+      chosen : (one two : Option Options) → Both AlikeOptions one two → Alike AlikeOptions (ok_or one bad.Option) (ok_or two bad.Option)
       chosen None None alike = refl
       chosen None (Some y) alike = absurd alike
       chosen (Some x) None alike = absurd alike

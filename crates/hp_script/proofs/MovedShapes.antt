@@ -1,5 +1,5 @@
 -- The fields of a line say the same wherever it stands.
-use Rattle.std.proofs.Common.{◌≡◌, ℕ, Bool, List, [], ◌∷◌, length, map, refl, arith}
+use Rattle.std.proofs.Common.{◌≡◌, ℕ, Bool, List, [], ◌∷◌, length, map, refl, ap, arith}
 use Rattle.std.specs.Prelude.{nat_lt, not}
 use Rattle.std.specs.Option.{option_map, ok_or}
 use Rattle.hp_script.specs.Part.{Part}
@@ -24,7 +24,7 @@ use Rattle.hp_script.specs.declared.verb.NameCall.TheVariants as name_call
 use Rattle.hp_script.specs.declared.verb.RangeCall.{RangeCall}
 use Rattle.hp_script.specs.declared.verb.RangeCall.TheVariants as range_call
 use Rattle.hp_script.specs.declared.verb.MemberCall.{MemberCall}
-use Rattle.hp_script.proofs.AlikeLemmas.{Alike, after, follow, SameAct, SameShape, AnyOptions, either, moved}
+use Rattle.hp_script.proofs.AlikeLemmas.{Alike, after, follow, SameAct, SameShape, AlikeOptions, either, moved}
 use Rattle.hp_script.proofs.MovedOptions.{given_options}
 
 module _ (base : ℕ × ℕ) where
@@ -39,9 +39,9 @@ module _ (base : ℕ × ℕ) where
   alloc_moved p (label ∷ n ∷ words) =
       after SameShape (party_field p) _ _ (λ party.
       after SameShape (number_field n) _ _ (λ size.
-      follow AnyOptions SameShape (ok_or (options_of words) bad.Option) (ok_or (options_of (map (moved base) words)) bad.Option) _ _
+      follow AlikeOptions SameShape (ok_or (options_of words) bad.Option) (ok_or (options_of (map (moved base) words)) bad.Option) _ _
       (given_options base words) (λ options other alike.
-      (refl, record { made = refl; used = refl; built = refl }))))
+      (refl, record { made = refl; used = refl; built = ap not alike }))))
 
   zone_moved : (p : Part) (arguments : List Part) → Alike SameShape (zone_line p arguments) (zone_line (moved base p) (map (moved base) arguments))
   unfolding zone_line
@@ -51,7 +51,7 @@ module _ (base : ℕ × ℕ) where
       after SameShape (party_field p) _ _ (λ party.
       after SameShape (number_field n) _ _ (λ len.
       after SameShape (refuse (nat_lt len 1) bad.Range) _ _ (λ some.
-      follow AnyOptions SameShape (ok_or (options_of words) bad.Option) (ok_or (options_of (map (moved base) words)) bad.Option) _ _
+      follow AlikeOptions SameShape (ok_or (options_of words) bad.Option) (ok_or (options_of (map (moved base) words)) bad.Option) _ _
       (given_options base words) (λ options other alike.
       (refl, record { made = refl; used = refl; built = refl })))))
 

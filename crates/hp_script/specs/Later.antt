@@ -1,15 +1,15 @@
 -- What the program does so far, and the first line of a workload that it does not do.
-use Rattle.std.specs.Prelude.{ℕ, Bool, true, false, not, List, Option}
+use Rattle.std.specs.Prelude.{ℕ, Bool, true, false, not, is_some, List, Option}
 use Rattle.std.specs.Option.{option_map}
 use Rattle.std.specs.List.{find}
 use Rattle.hp_script.specs.declared.line.Act.{Act}
 use Rattle.hp_script.specs.declared.line.Act.TheVariants as act
 use Rattle.hp_script.specs.declared.line.Line.{Line}
 
--- of the acts the program does allocations with all their options, frees, resizes, attaching and detaching, and the statistics under the
--- lock; it does all setup lines
+-- of the acts the program does allocations, but not from an external heap, frees, resizes, attaching and detaching, and the statistics under
+-- the lock; it does all setup lines
 abbrev pub is_built_act : Act → Bool
-is_built_act (act.Alloc label size options) = true
+is_built_act (act.Alloc label size options) = not (is_some options.heap)
 is_built_act (act.Free label) = true
 is_built_act (act.Resize label size) = true
 is_built_act act.Attach = true

@@ -10,7 +10,7 @@ use crate::line::Act;
 use crate::workload::Workload;
 
 /// The number of the first line of a workload, from 1, that is not built yet. Built are all setup lines, and of every
-/// participant `alloc` with all its options, `free`, `resize`, `attach`, `detach` and `dump`. Own.
+/// participant `alloc` with all its options but `heap`, `free`, `resize`, `attach`, `detach` and `dump`. Own.
 pub fn first_later(workload: &Workload) -> Option<u32>
     ensures { result ≡ later_line workload.now.lines.items }
 {
@@ -32,7 +32,8 @@ fn is_built_act(act: &Act) -> bool
     ensures { result ≡ is_built_act act.now }
 {
     match act {
-        Act::Alloc { .. } | Act::Free { .. } | Act::Resize { .. } => true,
+        Act::Alloc { options, .. } => options.heap.is_none(),
+        Act::Free { .. } | Act::Resize { .. } => true,
         Act::Attach | Act::Detach | Act::Dump { .. } => true,
         _ => false,
     }

@@ -24,7 +24,7 @@ const CALLS: &str = "0 alloc a 1000
 01 alloc b 0x10 socket=1
  3\tattach\r
 2 alloc free 2M socket=any
-0 alloc c 10 heap=ext align=64 bound=4K flags=1
+0 alloc c 10 socket=any align=64 bound=4K flags=1
 3 free a
 1 resize free 3M
 00 dump\tsocket_0
@@ -37,7 +37,7 @@ const FURTHER: &str = "0 stats socket_0
 ";
 
 // Texts that are built to their end.
-const ALL_BUILT: [&str; 26] = [
+const ALL_BUILT: [&str; 25] = [
     "",
     "\n\r\n \t\n# 0 zone a 1",
     "pool 0 2M 4\n",
@@ -49,7 +49,6 @@ const ALL_BUILT: [&str; 26] = [
     "0 dump nothing",
     "0 alloc c 10 align=3 socket=31",
     "0 alloc c 10 bound=5",
-    "0 alloc c 10 heap=ext",
     "participants 1",
     "refuse 0 1\n\tparticipants  0x01\r\nsocket 0 3\n0 alloc a 1\n0 free a",
     "participants 2",
@@ -67,7 +66,9 @@ const ALL_BUILT: [&str; 26] = [
 ];
 
 // Participant lines that are not built.
-const CALL_LINES: [&str; 23] = [
+const CALL_LINES: [&str; 25] = [
+    "0 alloc d 10 heap=ext",
+    "1 alloc d 10 align=64 heap=ext flags=1",
     "0 zone z 100",
     "0 zone z 100 socket=0",
     "0 zone z 100 align=64",
