@@ -1,5 +1,5 @@
 -- Catching up, by what contracts see of a table.
-use Rattle.std.proofs.Common.{◌≡◌, ◌≤◌, ◌<◌, ◌^◌, ℕ, ◌+◌, ◌-◌, Bool, true, false, not, ◌&&◌, List, [], ◌∷◌, ◌++◌, length, take, drop, refl, ap, ◌∙◌, sym, subst, arith, inl, inr, length-append, length-take, count_by}
+use Rattle.std.proofs.Common.{◌≡◌, ◌≤◌, ◌<◌, ◌^◌, ℕ, zero, suc, ◌+◌, ◌-◌, Bool, true, false, not, ◌&&◌, List, [], ◌∷◌, ◌++◌, length, take, drop, refl, ap, ◌∙◌, sym, subst, arith, inl, inr, length-append, length-take, count_by}
 use Rattle.std.specs.List.{All}
 use Rattle.std.proofs.lemmas.Bool.{cases_Bool, lt-ltb}
 use Rattle.std.proofs.lemmas.List.Elements.{All-append, All-drop, All-filter, All-take, All-weaker, filter-append}
@@ -51,10 +51,29 @@ chunks_kept records rows =
     (every _ (λ row. of_chunk_kept (is_of_log row) (is_dropped records row)) rows)
 
 -- records that are no Drop leave all rows
-none_dropped : (records : List LogRecord) (row : Row) → has_drop records ≡ false → is_dropped records row ≡ false
+pub none_dropped : (records : List LogRecord) (row : Row) → has_drop records ≡ false → is_dropped records row ≡ false
 none_dropped [] row none = refl
 none_dropped (Add run heap ∷ records) row none = none_dropped records row none
 none_dropped (Drop run ∷ records) row none = cc
+
+-- nor do those behind some of them
+pub none_behind : (k : ℕ) (records : List LogRecord) → has_drop records ≡ false → has_drop (drop k records) ≡ false
+none_behind zero records none = none
+none_behind (suc k) [] none = refl
+none_behind (suc k) (Add run heap ∷ records) none = none_behind k records none
+none_behind (suc k) (Drop run ∷ records) none = cc
+
+-- nor do the first of them
+pub none_before : (k : ℕ) (records : List LogRecord) → has_drop records ≡ false → has_drop (take k records) ≡ false
+none_before zero records none = refl
+none_before (suc k) [] none = refl
+none_before (suc k) (Add run heap ∷ records) none = none_before k records none
+none_before (suc k) (Drop run ∷ records) none = cc
+
+pub all_undropped : (later : List LogRecord) (rows : List Row) → has_drop later ≡ false → undropped [] rows ≡ undropped later rows
+all_undropped later rows none =
+    filter_agree (λ row. not (is_dropped [] row)) (λ row. not (is_dropped later row)) rows
+    (every _ (λ row. ap not (sym (none_dropped later row none))) rows)
 
 pub all_kept : (records : List LogRecord) (rows : List Row) → has_drop records ≡ false → kept records rows ≡ rows
 all_kept records rows none =

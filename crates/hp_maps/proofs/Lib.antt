@@ -1,6 +1,7 @@
 mod ListFacts
 mod HeldLemmas
 mod MapLemmas
+mod DropLemmas
 pub mod PlannedLemmas
 mod NewRows
 mod TableLaw
