@@ -1,4 +1,5 @@
 mod ListFacts
+mod ApartLemmas
 mod HeldLemmas
 mod MapLemmas
 mod DropLemmas

@@ -7,7 +7,7 @@ use Rattle.hp_base.specs.Mapping.{owned}
 use Rattle.hp_base.specs.declared.event.EventKind.TheVariants.{Free}
 use Rattle.hp_base.specs.declared.row.Row.{Row}
 use Rattle.hp_maps.specs.Events.{IsToldByAddress, all_told, events_of}
-use Rattle.hp_maps.specs.MapsView.{MapsView}
+use Rattle.hp_maps.specs.MapsView.{AreApart, MapsView}
 use Rattle.hp_maps.specs.Unmapping.{IsWithin, without_rows}
 use Rattle.hp_maps.proofs.LeaveLemmas.{all_unmapped, events_length}
 use Rattle.hp_maps.proofs.local_maps.LocalMaps.unmap_all.Goals as goal
@@ -40,6 +40,7 @@ invariant_of-self g c = record {
   room = omega (arith, c.self.invariant.room, c.unmap_rows.ensures.capacity);
   holds = omega (arith, ap length c.clear.ensures.items);
   near = subst (All IsWithin) (sym c.clear.ensures.items) (All-nil IsWithin);
+  apart = subst AreApart (sym c.clear.ensures.items) (λ addr. omega arith);
 }
 
 pub returns-clause-mapped : goal.returns-clause-mapped
