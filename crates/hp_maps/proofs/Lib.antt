@@ -19,3 +19,6 @@ mod LeaveLemmas
 mod StayLemmas
 mod BesideLemmas
 pub mod ReadyLemmas
+mod ByteLemmas
+mod FreedCounts
+pub mod BytesLaw

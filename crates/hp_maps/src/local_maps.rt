@@ -155,10 +155,17 @@ impl<M: Mapper> LocalMaps<M> {
             (newer records.now self.old.number to) result) }
     {
         let newer = &records[self.number as usize..to as usize];
-        tell_dropped(tell, self.rows.as_slice(), newer);
+        tell_dropped(tell, &self.mapper, self.rows.as_slice(), newer);
         let before = self.calls;
         let caught = self.take_in_log(records, to);
-        tell_caught(tell, &caught, self.rows.as_slice(), before, self.calls);
+        tell_caught(
+            tell,
+            &self.mapper,
+            &caught,
+            self.rows.as_slice(),
+            before,
+            self.calls,
+        );
         caught
     }
 
