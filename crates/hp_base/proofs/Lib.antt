@@ -10,3 +10,4 @@ pub mod StreamLemmas
 mod PlanLemmas
 pub mod PlannedMapping
 mod MappingLemmas
+pub mod HeldRowLemmas

@@ -9,6 +9,7 @@ pub mod Names
 pub mod Streams
 pub mod MemStreams
 pub mod Mapping
+pub mod HeldRows
 pub mod MemMapping
 pub mod Answered
 pub mod Plans

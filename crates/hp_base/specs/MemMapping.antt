@@ -1,5 +1,6 @@
 -- A mapper in memory, as contracts see it, and what one call of it does.
 use Rattle.std.specs.Prelude.{◌≡◌, ℕ, ◌+◌, ◌≤◌, not, List, [], ◌∷◌, ◌++◌, length, filter, if◌then◌else◌}
+use Rattle.hp_base.specs.HeldRows.{AreOnce}
 use Rattle.hp_base.specs.Mapping.{own_place, is_refused, is_row}
 use Rattle.hp_base.specs.MemStreams.{counted}
 use Rattle.hp_base.specs.Streams.{list_has}
@@ -44,8 +45,9 @@ after_unmap mapper row = record {
   faults = mapper.faults;
 }
 
--- the mapping calls are counted, and there is memory for as many rows as the mapper may hold
-pub record IsMapper (rows capacity room calls : ℕ) (answers : List MapAnswer) : Type 0 where
+-- the mapping calls are counted, no row is held twice, and there is memory for as many rows as the mapper may hold
+pub record IsMapper (rows : List Row) (capacity room calls : ℕ) (answers : List MapAnswer) : Type 0 where
   pub counts : calls ≡ length answers
-  pub holds : rows ≤ capacity
+  pub once : AreOnce rows
+  pub holds : length rows ≤ capacity
   pub fits : capacity ≤ room

@@ -9,6 +9,7 @@ mod clock;
 mod data_place;
 mod event;
 mod failing_calls;
+mod held_rows;
 mod judge;
 mod laws;
 mod limits;

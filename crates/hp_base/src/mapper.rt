@@ -1,10 +1,12 @@
 ghost use Rattle.std.specs.Prelude.{◌≡◌, ◌+◌, ◌≤◌, ◌∷◌, ◌++◌, [], ℕ, List, Option, Some, false, filter, length, not, vec_capacity, vec_len};
+ghost use Rattle.std.specs.List.{list_any};
 ghost use Rattle.hp_base.specs.Mapping.{Held, CanMap, held_after, is_refused, is_row, may_fail_at, own_place, without_row};
 ghost use Rattle.hp_base.specs.Streams.{CountsFault};
 ghost use Rattle.hp_base.specs.declared.map_answer.MapAnswer.{MapAnswer};
 
 use crate::answers::Answers;
 use crate::failing_calls::FailingCalls;
+use crate::held_rows::{has_row, push_row, take_row};
 use crate::map_answer::MapAnswer;
 use crate::row::Row;
 use std::alloc::{AllocError, Global};
@@ -54,7 +56,10 @@ pub trait Mapper: Drop {
 /// A mapper that keeps its rows, each at its own place, and refuses at the calls that it is told.
 #[derive(Drop)]
 pub struct MemMapper {
-    rows: Vec<Row>,
+    // The rows in the order of mapping, with a gap where one was unmapped.
+    places: Vec<Option<Row>>,
+    // Where a row was unmapped last: the next one is looked for from there on.
+    last: usize,
     capacity: usize,
     answers: Answers,
     failing: FailingCalls,
@@ -62,19 +67,20 @@ pub struct MemMapper {
 
 impl Model for MemMapper {
     ghost use Rattle.std.specs.Prelude.{vec_len, vec_capacity};
+    ghost use Rattle.hp_base.specs.HeldRows.{rows_in};
     ghost use Rattle.hp_base.specs.MemMapping.{MapperState, IsMapper};
 
     ghost Value = { MapperState };
 
     ghost view = { λ a. record {
-      rows = a.rows.items;
+      rows = rows_in a.places.items;
       capacity = a.capacity;
       fails = a.failing.fails.items;
       answers = a.answers;
       faults = a.failing.faults;
     } };
 
-    ghost invariant = { λ a. IsMapper (vec_len a.rows) a.capacity (vec_capacity a.rows) a.failing.calls a.answers };
+    ghost invariant = { λ a. IsMapper (rows_in a.places.items) a.capacity (vec_capacity a.places) a.failing.calls a.answers };
 }
 
 impl MemMapper {
@@ -87,7 +93,8 @@ impl MemMapper {
             ≡ record { rows = []; capacity = capacity; fails = []; answers = []; faults = 0 }) }
     {
         Ok(MemMapper {
-            rows: Vec::with_capacity(alloc, capacity)?,
+            places: Vec::with_capacity(alloc, capacity)?,
+            last: 0,
             capacity,
             answers: Answers::new(),
             failing: FailingCalls {
@@ -106,11 +113,11 @@ impl MemMapper {
         self.failing.fails = calls;
     }
 
-    /// The rows that it holds.
-    pub fn rows(&self) -> &[Row]
-        ensures { result.now ≡ self.now.rows }
+    /// Whether it holds a row. Rows are compared in all fields.
+    pub fn holds(&self, row: &Row) -> bool
+        ensures { result ≡ list_any (is_row row.now) self.now.rows }
     {
-        self.rows.as_slice()
+        has_row(self.places.as_slice(), row)
     }
 }
 
@@ -147,7 +154,7 @@ impl Mapper for MemMapper {
             return MapAnswer::Refused;
         }
         let answer = own_place(row);
-        self.rows.push(*row).unwrap();
+        push_row(&mut self.places, *row);
         self.answers = self.answers.with(answer);
         answer
     }
@@ -162,17 +169,8 @@ impl Mapper for MemMapper {
         // The mapper without it.
         ensures after { self.new ≡ after_unmap self.old row.now }
     {
-        without_row(&mut self.rows, row);
+        self.last = take_row(&mut self.places, self.last.saturating_sub(1), row);
     }
-}
-
-// Takes a row out of rows.
-fn without_row(rows: &mut Vec<Row>, row: &Row)
-    ensures rows { rows.new.items ≡ filter (λ other. not (is_row row.now other)) rows.old.items }
-    ensures len { vec_len rows.new ≤ vec_len rows.old }
-    ensures capacity { vec_capacity rows.new ≡ vec_capacity rows.old }
-{
-    rows.retain(|other: &Row| !is_row(row, other));
 }
 
 fn own_place(row: &Row) -> MapAnswer
@@ -183,15 +181,4 @@ fn own_place(row: &Row) -> MapAnswer
         page: row.page,
         socket: row.socket,
     }
-}
-
-fn is_row(row: &Row, other: &Row) -> bool
-    ensures { result ≡ is_row row.now other.now }
-{
-    other.addr == row.addr
-        && other.page == row.page
-        && other.socket == row.socket
-        && other.list == row.list
-        && other.slot == row.slot
-        && other.generation == row.generation
 }

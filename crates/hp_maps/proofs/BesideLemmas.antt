@@ -28,7 +28,7 @@ other_addr addr row differs =
     ]
 
 -- the rows of a run have addresses of their own
-run_apart : (run : Run) (generation n : ℕ) → 0 < run.page → AreApart (rows_below run generation n)
+pub run_apart : (run : Run) (generation n : ℕ) → 0 < run.page → AreApart (rows_below run generation n)
 run_apart run generation zero some addr = omega arith
 run_apart run generation (suc n) some addr =
     let rest = run_apart run generation n some addr in

@@ -1,5 +1,5 @@
 -- Catching up, by what contracts see of a table.
-use Rattle.std.proofs.Common.{◌≡◌, ◌≤◌, ◌<◌, ◌^◌, ℕ, ◌+◌, ◌-◌, Bool, true, false, not, ◌&&◌, List, [], ◌∷◌, ◌++◌, length, take, drop, refl, ap, ◌∙◌, sym, subst, arith, inl, inr, length-append, length-take, count_by}
+use Rattle.std.proofs.Common.{◌≡◌, ◌≤◌, ◌<◌, ◌^◌, ℕ, zero, suc, ◌+◌, ◌-◌, Bool, true, false, not, ◌&&◌, List, [], ◌∷◌, ◌++◌, length, take, drop, refl, ap, ◌∙◌, sym, subst, arith, inl, inr, length-append, length-take, count_by}
 use Rattle.std.specs.List.{All}
 use Rattle.std.proofs.lemmas.Bool.{cases_Bool, lt-ltb}
 use Rattle.std.proofs.lemmas.List.Elements.{All-append, All-drop, All-filter, All-take, All-weaker, filter-append}
@@ -14,6 +14,7 @@ use Rattle.hp_log.proofs.Counts.{count_append, count_filter, count_split}
 use Rattle.hp_maps.specs.Catching.{CanCatchUp, IsMappableRun, Lags, goes, is_dropped, kept, new_rows, newer, number_after, rows_after, undropped}
 use Rattle.hp_maps.specs.MapsView.{AreApart, MapsView, calls_of, chunk_rows, is_of_log, table_in}
 use Rattle.hp_maps.specs.Unmapping.{CanTakeIn, IsWithin, has_drop}
+use Rattle.hp_maps.proofs.ApartLemmas.{apart_both, apart_filter}
 use Rattle.hp_maps.proofs.ListFacts.{filter_agree, filter_drops, filter_keeps, filter_twice}
 use Rattle.hp_maps.proofs.TableLaw.{table_law, undropped_lag, undropped_none}
 use Rattle.hp_maps.proofs.TakeLemmas.{all_new_rows, new_within}
@@ -51,10 +52,29 @@ chunks_kept records rows =
     (every _ (λ row. of_chunk_kept (is_of_log row) (is_dropped records row)) rows)
 
 -- records that are no Drop leave all rows
-none_dropped : (records : List LogRecord) (row : Row) → has_drop records ≡ false → is_dropped records row ≡ false
+pub none_dropped : (records : List LogRecord) (row : Row) → has_drop records ≡ false → is_dropped records row ≡ false
 none_dropped [] row none = refl
 none_dropped (Add run heap ∷ records) row none = none_dropped records row none
 none_dropped (Drop run ∷ records) row none = cc
+
+-- nor do those behind some of them
+pub none_behind : (k : ℕ) (records : List LogRecord) → has_drop records ≡ false → has_drop (drop k records) ≡ false
+none_behind zero records none = none
+none_behind (suc k) [] none = refl
+none_behind (suc k) (Add run heap ∷ records) none = none_behind k records none
+none_behind (suc k) (Drop run ∷ records) none = cc
+
+-- nor do the first of them
+pub none_before : (k : ℕ) (records : List LogRecord) → has_drop records ≡ false → has_drop (take k records) ≡ false
+none_before zero records none = refl
+none_before (suc k) [] none = refl
+none_before (suc k) (Add run heap ∷ records) none = none_before k records none
+none_before (suc k) (Drop run ∷ records) none = cc
+
+pub all_undropped : (later : List LogRecord) (rows : List Row) → has_drop later ≡ false → undropped [] rows ≡ undropped later rows
+all_undropped later rows none =
+    filter_agree (λ row. not (is_dropped [] row)) (λ row. not (is_dropped later row)) rows
+    (every _ (λ row. ap not (sym (none_dropped later row none))) rows)
 
 pub all_kept : (records : List LogRecord) (rows : List Row) → has_drop records ≡ false → kept records rows ≡ rows
 all_kept records rows none =
@@ -92,19 +112,48 @@ length_parts (row ∷ rows) =
     ]
 
 -- what is left of the table is what is left of the table of the log
-pub kept_table : (maps : MapsView) (records : List LogRecord) (to : ℕ) → CanCatchUp maps records to
+lag_kept : (maps : MapsView) (records : List LogRecord) (to : ℕ) → Lags records maps.number to (table_in maps.rows)
     → table_in (kept (newer records maps.number to) maps.rows) ≡ undropped (newer records maps.number to) (table_at records maps.number)
-kept_table maps records to can =
+lag_kept maps records to lags =
     table_kept (newer records maps.number to) maps.rows
-    ∙ (ap (undropped (newer records maps.number to)) can.lags.left
-    ∙ undropped_lag records maps.number can.lags.reached to (table_at records maps.number) can.lags.from can.lags.up_to)
+    ∙ (ap (undropped (newer records maps.number to)) lags.left
+    ∙ undropped_lag records maps.number lags.reached to (table_at records maps.number) lags.from lags.up_to)
 
 -- with the new rows it is the table at the end
+pub lag_caught : (maps : MapsView) (records : List LogRecord) (to : ℕ) → maps.number ≤ to → to ≤ length records
+    → Lags records maps.number to (table_in maps.rows)
+    → table_at records to ≡ table_in (kept (newer records maps.number to) maps.rows) ++ new_rows maps.number (newer records maps.number to)
+lag_caught maps records to from within lags =
+    table_law records maps.number to from within
+    ∙ ap (λ l. l ++ new_rows maps.number (newer records maps.number to)) (sym (lag_kept maps records to lags))
+
+pub kept_table : (maps : MapsView) (records : List LogRecord) (to : ℕ) → CanCatchUp maps records to
+    → table_in (kept (newer records maps.number to) maps.rows) ≡ undropped (newer records maps.number to) (table_at records maps.number)
+kept_table maps records to can = lag_kept maps records to can.lags
+
 pub caught_table : (maps : MapsView) (records : List LogRecord) (to : ℕ) → CanCatchUp maps records to
     → table_at records to ≡ table_in (kept (newer records maps.number to) maps.rows) ++ new_rows maps.number (newer records maps.number to)
-caught_table maps records to can =
-    table_law records maps.number to can.from can.within
-    ∙ ap (λ l. l ++ new_rows maps.number (newer records maps.number to)) (sym (kept_table maps records to can))
+caught_table maps records to can = lag_caught maps records to can.from can.within can.lags
+
+-- where the table at the end and the rows of chunks have addresses of their own, so have what stays and what comes
+pub kept_apart : (maps : MapsView) (records : List LogRecord) (to : ℕ) → maps.number ≤ to → to ≤ length records
+    → Lags records maps.number to (table_in maps.rows) → AreApart (chunk_rows maps.rows ++ table_at records to)
+    → AreApart (kept (newer records maps.number to) maps.rows ++ new_rows maps.number (newer records maps.number to))
+kept_apart maps records to from within lags apart addr =
+    let stay = kept (newer records maps.number to) maps.rows in
+    let fresh = new_rows maps.number (newer records maps.number to) in
+    let p = has_addr addr in
+    let once = apart addr in
+    omega (
+      arith,
+      once,
+      count_append p (chunk_rows maps.rows) (table_at records to),
+      count_append p stay fresh,
+      count_parts p stay,
+      ap (count_by p) (chunks_kept (newer records maps.number to) maps.rows),
+      ap (count_by p) (lag_caught maps records to from within lags),
+      count_append p (table_in stay) fresh,
+    )
 
 pub room_kept : (maps : MapsView) (records : List LogRecord) (to : ℕ) → CanCatchUp maps records to
     → length (kept (newer records maps.number to) maps.rows) + length (new_rows maps.number (newer records maps.number to)) ≤ maps.capacity
@@ -120,34 +169,35 @@ room_kept maps records to can =
       length-append (table_in stay) fresh,
     )
 
-apart_kept : (maps : MapsView) (records : List LogRecord) (to : ℕ) → CanCatchUp maps records to
+-- what stays and what comes have addresses of their own
+apart_kept : (maps : MapsView) (records : List LogRecord) (to : ℕ) → CanCatchUp maps records to → AreApart maps.rows
     → AreApart (kept (newer records maps.number to) maps.rows ++ new_rows maps.number (newer records maps.number to))
-apart_kept maps records to can addr =
-    let stay = kept (newer records maps.number to) maps.rows in
-    let fresh = new_rows maps.number (newer records maps.number to) in
-    let p = has_addr addr in
-    omega (
-      arith,
-      can.apart addr,
-      count_append p (chunk_rows maps.rows) (table_at records to),
-      count_append p stay fresh,
-      count_parts p stay,
-      ap (count_by p) (chunks_kept (newer records maps.number to) maps.rows),
-      ap (count_by p) (caught_table maps records to can),
-      count_append p (table_in stay) fresh,
-    )
+apart_kept maps records to can apart =
+    apart_both (kept (newer records maps.number to) maps.rows) (new_rows maps.number (newer records maps.number to))
+    (apart_filter (λ row. not (goes (newer records maps.number to) row)) maps.rows apart) can.apart can.clear
+
+pub apart_after : (maps : MapsView) (records : List LogRecord) (to : ℕ) (caught : Caught) (rows : List Row) → CanCatchUp maps records to
+    → AreApart maps.rows
+    → rows ≡ rows_after (kept (newer records maps.number to) maps.rows) (new_rows maps.number (newer records maps.number to)) caught
+    → AreApart rows
+apart_after maps records to caught.Done rows can apart is_rows = subst AreApart (sym is_rows) (apart_kept maps records to can apart)
+apart_after maps records to (caught.Refused row call) rows can apart is_rows =
+    subst AreApart (sym is_rows) (apart_filter (λ row. not (goes (newer records maps.number to) row)) maps.rows apart)
+apart_after maps records to (caught.Elsewhere row call got) rows can apart is_rows =
+    subst AreApart (sym is_rows) (apart_filter (λ row. not (goes (newer records maps.number to) row)) maps.rows apart)
 
 -- the newer records may be taken in
-pub can_take_in : (maps : MapsView) (records : List LogRecord) (to room memory calls : ℕ) → CanCatchUp maps records to → to < 2 ^ 64
+pub can_take_in : (maps : MapsView) (records : List LogRecord) (to room memory calls : ℕ) → CanCatchUp maps records to → AreApart maps.rows
+    → to < 2 ^ 64
     → maps.capacity ≤ room → maps.capacity ≤ memory → calls ≡ calls_of maps
     → CanTakeIn maps.rows maps.number (newer records maps.number to) room memory calls
-can_take_in maps records to room memory calls can fits in_mapper in_memory counted =
+can_take_in maps records to room memory calls can apart fits in_mapper in_memory counted =
     let kept_room = room_kept maps records to can in
     record {
       mappable = All-take (λ entry. IsMappableRun (run_in entry)) (to - maps.number) (drop maps.number records)
           (All-drop (λ entry. IsMappableRun (run_in entry)) maps.number records can.mappable);
       few = omega (arith, can.from, fits, length-take (to - maps.number) (drop maps.number records));
-      apart = apart_kept maps records to can;
+      apart = apart_kept maps records to can apart;
       room = omega (arith, kept_room, in_mapper);
       memory_room = omega (arith, kept_room, in_memory);
       calls_fit = omega (arith, counted, can.calls);

@@ -16,6 +16,8 @@ use Rattle.hp_maps.specs.Catching.{rows_after, undropped}
 use Rattle.hp_maps.specs.Chunks.{CanAttach, rows_of_chunk, run_of_chunk}
 use Rattle.hp_maps.specs.MapsView.{AreApart, MapsView, calls_of}
 use Rattle.hp_maps.specs.Unmapping.{CanMapRows, IsWithin, rows_mapped}
+use Rattle.hp_maps.proofs.ApartLemmas.{apart_both}
+use Rattle.hp_maps.proofs.BesideLemmas.{run_apart}
 use Rattle.hp_maps.proofs.TableLaw.{undropped_none}
 
 -- the rows that come are those of the chunk
@@ -35,12 +37,24 @@ chunk_near maps chunk can =
     let below : (k + 1) * page ≤ count * page = mul-le-mul_right page (omega arith) in
     omega (arith, below, whole, can.memory.end, can.memory.greatest))
 
+-- with them the rows still have addresses of their own
+chunk_apart : (maps : MapsView) (chunk : Chunk) → CanAttach maps chunk → AreApart maps.rows → AreApart (maps.rows ++ rows_of_chunk chunk)
+chunk_apart maps chunk can apart =
+    let least = can.memory.least in
+    apart_both maps.rows (rows_of_chunk chunk) apart (run_apart (run_of_chunk chunk) 0 (chunk.len / chunk.page) (omega (arith, least))) can.clear
+
+pub chunk_apart_after : (maps : MapsView) (chunk : Chunk) (rows : List Row) (caught : Caught) → CanAttach maps chunk → AreApart maps.rows
+    → rows ≡ rows_after maps.rows (rows_of_chunk chunk) caught → AreApart rows
+chunk_apart_after maps chunk rows caught.Done can apart is_rows = subst AreApart (sym is_rows) (chunk_apart maps chunk can apart)
+chunk_apart_after maps chunk rows (caught.Refused row call) can apart is_rows = subst AreApart (sym is_rows) apart
+chunk_apart_after maps chunk rows (caught.Elsewhere row call got) can apart is_rows = subst AreApart (sym is_rows) apart
+
 -- they may be mapped behind the others
 pub chunk_can_map : (maps : MapsView) (chunk : Chunk) (run : Run) (now : List Row) (start : ℕ) (held : List Held) (capacity calls : ℕ)
-    → CanAttach maps chunk → run ≡ run_of_chunk chunk → now ≡ maps.rows ++ undropped [] (rows_of run 0) → start ≡ length maps.rows
-    → held ≡ owned maps.rows → maps.capacity ≤ capacity → calls ≡ calls_of maps → length now < 2 ^ 63
+    → CanAttach maps chunk → AreApart maps.rows → run ≡ run_of_chunk chunk → now ≡ maps.rows ++ undropped [] (rows_of run 0)
+    → start ≡ length maps.rows → held ≡ owned maps.rows → maps.capacity ≤ capacity → calls ≡ calls_of maps → length now < 2 ^ 63
     → CanMapRows now start held capacity calls
-chunk_can_map maps chunk run now start held capacity calls can is_run is_now is_start is_held in_mapper counted small =
+chunk_can_map maps chunk run now start held capacity calls can own is_run is_now is_start is_held in_mapper counted small =
     let fresh = rows_of_chunk chunk in
     let parts : now ≡ maps.rows ++ fresh = is_now ∙ ap (λ l. maps.rows ++ l) (chunk_fresh chunk run is_run) in
     let front : take start now ≡ maps.rows =
@@ -51,7 +65,7 @@ chunk_can_map maps chunk run now start held capacity calls can is_run is_now is_
     record {
       within = omega (arith, long, is_start);
       holds = is_held ∙ ap owned (sym front);
-      apart = subst AreApart (sym parts) can.apart;
+      apart = subst AreApart (sym parts) (chunk_apart maps chunk can own);
       room = omega (arith, long, chunk_length chunk, can.room, in_mapper);
       few = omega (arith, small, counted, can.calls);
       near = subst (All IsWithin) (sym back) (chunk_near maps chunk can);

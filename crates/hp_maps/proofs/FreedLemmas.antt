@@ -40,11 +40,11 @@ run_ends_once run generation (suc (suc n)) =
     )
 
 -- of a run, the n slots from place k on
-abbrev part : Run → ℕ → ℕ → Run
+abbrev pub part : Run → ℕ → ℕ → Run
 part run k n = record run { first = run.first + k; count = n }
 
 -- a row at the first of these slots is at none of the others
-part_row : (run : Run) (k n : ℕ) (row : Row)
+pub part_row : (run : Run) (k n : ℕ) (row : Row)
     → one_if (at_slot run.list (run.first + k) row) + one_if (in_run (part run (k + 1) n) row) ≤ one_if (in_run (part run k (suc n)) row)
 part_row run k n row =
     elim (cases_Bool (in_run (part run (k + 1) n) row)) [

@@ -12,7 +12,7 @@ use Rattle.hp_base.specs.declared.map_answer.MapAnswer.TheVariants.{At, Refused}
 use Rattle.hp_base.specs.declared.row.Row.{Row}
 use Rattle.hp_log.proofs.Counts.{count_append, count_cons}
 use Rattle.hp_maps.specs.MapsView.{AreApart}
-use Rattle.hp_maps.specs.Unmapping.{held_own, is_own, without_rows}
+use Rattle.hp_maps.specs.Unmapping.{AreHeld, held_own, is_own, without_rows}
 use Rattle.hp_maps.proofs.ListFacts.{filter_keeps, filter_drops, filter_agree, filter_twice, uncounted}
 
 -- the row is among these
@@ -155,6 +155,16 @@ without_behind xs ys apart =
 pub all_placed : (rows : List Row) → ArePlaced (owned rows)
 all_placed [] = All-nil (λ one. one.got ≡ own_place one.row)
 all_placed (row ∷ rows) = All-cons (λ (one : Held). one.got ≡ own_place one.row) (at_own_place row) (owned rows) refl (all_placed rows)
+
+-- each of the rows is held, where they are what is held
+any_held : (row : Row) (rows : List Row) → list_any (λ (one : Held). is_row one.row row) (owned rows) ≡ has_row rows row
+any_held row [] = refl
+any_held row (other ∷ rows) = ap (λ b. is_row other row || b) (any_held row rows)
+
+pub all_held : (rows : List Row) (held : List Held) → held ≡ owned rows → AreHeld held rows
+all_held rows held is_held =
+    All-weaker (λ row. has_row rows row ≡ true) (λ row. list_any (λ (one : Held). is_row one.row row) held ≡ true)
+    (λ row there. ap (λ (h : List Held). list_any (λ (one : Held). is_row one.row row) h) is_held ∙ (any_held row rows ∙ there)) rows (all_there rows)
 
 -- what is held of rows has an address where the rows have it
 pub held_addr : (addr : ℕ) (rows : List Row) → list_any (λ (one : Held). has_addr addr one.row) (owned rows) ≡ list_any (has_addr addr) rows

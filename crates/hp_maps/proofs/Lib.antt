@@ -1,6 +1,8 @@
 mod ListFacts
+mod ApartLemmas
 mod HeldLemmas
 mod MapLemmas
+mod DropLemmas
 pub mod PlannedLemmas
 mod NewRows
 mod TableLaw
@@ -17,3 +19,6 @@ mod LeaveLemmas
 mod StayLemmas
 mod BesideLemmas
 pub mod ReadyLemmas
+mod ByteLemmas
+mod FreedCounts
+pub mod BytesLaw

@@ -17,13 +17,14 @@ use Rattle.hp_log.specs.Rows.{at_slot}
 use Rattle.hp_log.specs.declared.log_record.LogRecord.{LogRecord}
 use Rattle.hp_log.proofs.Counts.{count_append, count_cons, count_none, count_split}
 use Rattle.hp_log.proofs.PlaceLemmas.{at_list, one_place, placed_at, within_place}
-use Rattle.hp_maps.specs.Catching.{IsMappableRun, Lags, is_dropped, newer, number_after, undropped}
+use Rattle.hp_maps.specs.Catching.{IsMappableRun, Lags, is_dropped, kept, new_rows, newer, number_after, undropped}
 use Rattle.hp_maps.specs.Chunks.{rows_of_chunk}
 use Rattle.hp_maps.specs.Laws.{AreAtOneSlot}
 use Rattle.hp_maps.specs.MapsView.{AreApart, chunk_rows, table_in}
 use Rattle.hp_maps.specs.Ready.{AreBeside, IsReadyToAttach, IsReadyToCatchUp, NewIsReady, StaysReady, TellsOneARecord}
+use Rattle.hp_maps.proofs.ApartLemmas.{apart_behind, clear_of}
 use Rattle.hp_maps.proofs.BesideLemmas.{beside_both}
-use Rattle.hp_maps.proofs.CatchLemmas.{count_parts, length_parts}
+use Rattle.hp_maps.proofs.CatchLemmas.{count_parts, kept_apart, length_parts}
 use Rattle.hp_maps.proofs.FewEvents.{caught_few, lag_placed}
 use Rattle.hp_maps.proofs.LawLemmas.{log_apart}
 
@@ -139,6 +140,16 @@ pub ready_to_catch_up : IsReadyToCatchUp
 ready_to_catch_up lists maps records to ready =
     let log = ready.log in
     let fits = log.fits to in
+    let apart = kept_apart maps records to ready.from ready.within ready.lags
+    (λ addr.
+    omega (
+      arith,
+      both_once lists (table_at records to) (chunk_rows maps.rows) log.small (placed_at lists records to log.runs)
+          (table_apart lists records to log) ready.chunks addr,
+      count_append (has_addr addr) (chunk_rows maps.rows) (table_at records to),
+    )) in
+    let stay = kept (newer records maps.number to) maps.rows in
+    let fresh = new_rows maps.number (newer records maps.number to) in
     record {
       from = ready.from;
       within = ready.within;
@@ -147,13 +158,8 @@ ready_to_catch_up lists maps records to ready =
           (λ entry at. run_mappable lists (run_in entry) log.small at) records log.runs;
       lags = ready.lags;
       room = omega (arith, ready.room, fits);
-      apart = λ addr.
-          omega (
-            arith,
-            both_once lists (table_at records to) (chunk_rows maps.rows) log.small (placed_at lists records to log.runs)
-                (table_apart lists records to log) ready.chunks addr,
-            count_append (has_addr addr) (chunk_rows maps.rows) (table_at records to),
-          );
+      clear = clear_of stay fresh apart;
+      apart = apart_behind stay fresh apart;
       calls = ready.calls;
     }
 
@@ -194,7 +200,8 @@ ready_to_attach lists maps records to chunk ready clear pages room =
     record {
       memory = clear.memory;
       pages = pages;
-      apart = λ addr.
+      clear = clear_of maps.rows (rows_of_chunk chunk)
+          (λ addr.
           omega (
             arith,
             both_once lists table (chunk_rows maps.rows ++ rows_of_chunk chunk) log.small placed
@@ -202,7 +209,7 @@ ready_to_attach lists maps records to chunk ready clear pages room =
             count_append (has_addr addr) (chunk_rows maps.rows) (rows_of_chunk chunk),
             count_append (has_addr addr) maps.rows (rows_of_chunk chunk),
             count_parts (has_addr addr) maps.rows,
-          );
+          ));
       room = omega (arith, room, lag_fits lists records maps.number to table log ready.lags, length_parts maps.rows);
       calls = ready.calls;
     }

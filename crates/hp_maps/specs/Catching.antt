@@ -12,7 +12,7 @@ use Rattle.hp_log.specs.Log.{run_in, table_at}
 use Rattle.hp_log.specs.Rows.{rows_of, in_run, IsSmallRun}
 use Rattle.hp_log.specs.declared.log_record.LogRecord.{LogRecord}
 use Rattle.hp_log.specs.declared.log_record.LogRecord.TheVariants.{Add, Drop}
-use Rattle.hp_maps.specs.MapsView.{MapsView, AreApart, calls_of, chunk_rows, is_of_log, table_in}
+use Rattle.hp_maps.specs.MapsView.{MapsView, AreApart, AreClearOf, calls_of, chunk_rows, is_of_log, table_in}
 
 -- the records behind the first n, up to record `to`
 abbrev pub newer : List LogRecord → ℕ → ℕ → List LogRecord
@@ -113,6 +113,7 @@ pub record CanCatchUp (maps : MapsView) (records : List LogRecord) (to : ℕ) : 
   pub lags : Lags records maps.number to (table_in maps.rows)
   -- there is room for the table at `to` beside the rows of chunks
   pub room : length (chunk_rows maps.rows) + length (table_at records to) ≤ maps.capacity
-  -- no two of these rows have one address
-  pub apart : AreApart (chunk_rows maps.rows ++ table_at records to)
+  -- no row that stays has the address of a new one, nor has another new one
+  pub clear : AreClearOf (kept (newer records maps.number to) maps.rows) (new_rows maps.number (newer records maps.number to))
+  pub apart : AreApart (new_rows maps.number (newer records maps.number to))
   pub calls : calls_of maps ≤ 2 ^ 63

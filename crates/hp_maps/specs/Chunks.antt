@@ -1,11 +1,11 @@
 -- The rows of a chunk of external memory, and when it may be attached: the rule "Chunks" of docs/TABLES.md.
-use Rattle.std.specs.Prelude.{◌+◌, ◌/◌, ◌^◌, ◌<◌, ◌≤◌, Bool, not, ◌&&◌, ◌==◌, List, ◌++◌, length, filter}
+use Rattle.std.specs.Prelude.{◌+◌, ◌/◌, ◌^◌, ◌<◌, ◌≤◌, Bool, not, ◌&&◌, ◌==◌, List, length, filter}
 use Rattle.hp_base.specs.ExternalMemory.{IsExternalMemory}
 use Rattle.hp_base.specs.declared.chunk.Chunk.{Chunk}
 use Rattle.hp_base.specs.declared.row.Row.{Row}
 use Rattle.hp_base.specs.declared.row.Run.{Run}
 use Rattle.hp_log.specs.Rows.{rows_of}
-use Rattle.hp_maps.specs.MapsView.{MapsView, AreApart, calls_of}
+use Rattle.hp_maps.specs.MapsView.{MapsView, AreClearOf, calls_of}
 
 -- all slots of a chunk's list
 abbrev pub run_of_chunk : Chunk → Run
@@ -35,6 +35,6 @@ pub record CanAttach (maps : MapsView) (chunk : Chunk) : Type 0 where
   pub memory : IsExternalMemory chunk.addr chunk.len chunk.page
   pub pages : chunk.len / chunk.page < 2 ^ 32
   -- no row has the address of one of its rows
-  pub apart : AreApart (maps.rows ++ rows_of_chunk chunk)
+  pub clear : AreClearOf maps.rows (rows_of_chunk chunk)
   pub room : length maps.rows + chunk.len / chunk.page ≤ maps.capacity
   pub calls : calls_of maps ≤ 2 ^ 63

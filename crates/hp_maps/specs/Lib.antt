@@ -9,3 +9,4 @@ pub mod PlannedLayout
 pub mod Unmapping
 pub mod MapsLayout
 pub mod TellingInTurn
+pub mod Bytes

@@ -1,5 +1,6 @@
 -- What contracts see of a participant's table, and which of its rows are the log's: the rule "What stands in a table" of docs/TABLES.md.
-use Rattle.std.specs.Prelude.{◌≡◌, ℕ, ◌≤◌, Bool, not, nat_lt, List, Option, filter, length, count_by}
+use Rattle.std.specs.Prelude.{◌≡◌, ℕ, ◌≤◌, Bool, false, not, nat_lt, List, Option, filter, length, count_by}
+use Rattle.std.specs.List.{All, list_any}
 use Rattle.hp_base.specs.Mapping.{Held, has_addr, owned}
 use Rattle.hp_base.specs.declared.map_answer.MapAnswer.{MapAnswer}
 use Rattle.hp_base.specs.declared.row.Row.{Row}
@@ -43,3 +44,7 @@ chunk_rows rows = filter (λ row. not (is_of_log row)) rows
 -- no two of the rows have one address
 abbrev pub AreApart : List Row → Type 0
 AreApart rows = (addr : ℕ) → count_by (has_addr addr) rows ≤ 1
+
+-- no row has the address of one of those that come
+abbrev pub AreClearOf : List Row → List Row → Type 0
+AreClearOf rows fresh = All (λ row. list_any (has_addr row.addr) rows ≡ false) fresh

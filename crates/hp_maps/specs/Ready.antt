@@ -2,15 +2,18 @@
 -- these calls.
 use Rattle.std.specs.Prelude.{◌≡◌, ◌⊎◌, ℕ, ◌+◌, ◌-◌, ◌/◌, ◌^◌, ◌<◌, ◌≤◌, List, Option, [], ◌++◌, length}
 use Rattle.std.specs.List.{All}
+use Rattle.std.specs.List.Sorted.{IsPermutation}
 use Rattle.hp_base.specs.ExternalMemory.{IsExternalMemory}
 use Rattle.hp_base.specs.declared.caught.Caught.{Caught}
 use Rattle.hp_base.specs.declared.chunk.Chunk.{Chunk}
+use Rattle.hp_base.specs.declared.event.EventKind.TheVariants as kind
 use Rattle.hp_base.specs.declared.row.Row.{Row}
 use Rattle.hp_log.specs.Places.{IsLogOf, IsOutside, ListPlace, slots_in}
 use Rattle.hp_log.specs.declared.log_record.LogRecord.{LogRecord}
-use Rattle.hp_maps.specs.Catching.{CanCatchUp, Lags, newer, number_after}
+use Rattle.hp_maps.specs.Bytes.{AreTold}
+use Rattle.hp_maps.specs.Catching.{CanCatchUp, Lags, kept, new_rows, newer, number_after, rows_after}
 use Rattle.hp_maps.specs.Chunks.{CanAttach, rows_beside, rows_of_chunk}
-use Rattle.hp_maps.specs.Events.{caught_events}
+use Rattle.hp_maps.specs.Events.{caught_events, events_of}
 use Rattle.hp_maps.specs.MapsView.{MapsView, AreApart, calls_of, chunk_rows, table_in}
 
 -- the rows of chunks lie outside of the lists and have addresses of their own
@@ -53,6 +56,18 @@ IsReadyToCatchUp = (lists : List ListPlace) (maps : MapsView) (records : List Lo
 abbrev pub TellsOneARecord : Type 0
 TellsOneARecord = (lists : List ListPlace) (maps : MapsView) (records : List LogRecord) (to : ℕ) (ended : Caught)
     → IsReady lists maps records to → length (caught_events maps.rows maps.number (newer records maps.number to) ended) ≤ to - maps.number
+
+-- its events turn the bytes of the log's rows before it into those after it, however it ended
+abbrev pub TellsBytes : Type 0
+TellsBytes = (lists : List ListPlace) (maps : MapsView) (records : List LogRecord) (to : ℕ) (ended : Caught) (rows : List Row)
+    → IsReady lists maps records to
+    → rows ≡ rows_after (kept (newer records maps.number to) maps.rows) (new_rows maps.number (newer records maps.number to)) ended
+    → AreTold (caught_events maps.rows maps.number (newer records maps.number to) ended) (table_in maps.rows) (table_in rows)
+
+-- and those of the end leave none of them
+abbrev pub TellsTheEnd : Type 0
+TellsTheEnd = (lists : List ListPlace) (maps : MapsView) (records : List LogRecord) (to : ℕ) (rising : List Row) → IsReady lists maps records to
+    → IsPermutation maps.rows rising → chunk_rows maps.rows ≡ [] → AreTold (events_of kind.Free rising) (table_in maps.rows) []
 
 -- a chunk lies outside of the lists, and no row of other chunks begins in its bytes
 pub record IsClear (lists : List ListPlace) (chunks : List Row) (chunk : Chunk) : Type 0 where

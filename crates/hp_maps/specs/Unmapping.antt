@@ -1,7 +1,7 @@
 -- What is held as rows are mapped and unmapped, one after the other. No public clause cites this module.
 use Rattle.std.specs.Prelude.{◌≡◌, ℕ, ◌+◌, ◌*◌, ◌^◌, ◌<◌, ◌≤◌, Bool, true, false, ◌&&◌, ◌==◌, List, [], ◌∷◌, ◌++◌, length, take, drop, if◌then◌else◌}
 use Rattle.std.specs.List.{All, list_any}
-use Rattle.hp_base.specs.Mapping.{Held, at_own_place, owned, without_row}
+use Rattle.hp_base.specs.Mapping.{Held, at_own_place, is_row, owned, without_row}
 use Rattle.hp_base.specs.declared.caught.Caught.{Caught}
 use Rattle.hp_base.specs.declared.caught.Caught.TheVariants as caught
 use Rattle.hp_base.specs.declared.map_answer.MapAnswer.{MapAnswer}
@@ -35,6 +35,10 @@ is_own row Refused = false
 -- what is held after an answer, where a misplaced row is unmapped at once
 abbrev pub held_own : Row → MapAnswer → List Held → List Held
 held_own row got held = if is_own row got then held ++ at_own_place row ∷ [] else held
+
+-- each of the rows is held
+abbrev pub AreHeld : List Held → List Row → Type 0
+AreHeld held rows = All (λ row. list_any (λ one. is_row one.row row) held ≡ true) rows
 
 -- the row could come out one page further on
 abbrev pub IsWithin : Row → Type 0

@@ -15,7 +15,9 @@ ghost use Rattle.hp_maps.specs.Ready.{
   IsReadyToCatchUp,
   NewIsReady,
   StaysReady,
+  TellsBytes,
   TellsOneARecord,
+  TellsTheEnd,
 };
 ghost use Rattle.hp_maps.specs.Laws.{
   BringsNothing,
@@ -68,6 +70,14 @@ pub fn apart_law()
 /// Rows are told by their greatest stretches: none is left out or told twice, and no two events touch that could be one.
 pub fn stretch_law()
     ensures { (kind : EventKind) (rows : List Row) → FallIntoStretches (joins_by kind) rows }
+{}
+
+/// What is told to a listener is what becomes of the bytes of the log's rows, where a table is ready: the events of a catch-up,
+/// however it ended, and those of the end turn the bytes before into the bytes after, one event after the other. Nothing is
+/// freed that is not there, and nothing comes that is there already.
+pub fn bytes_law()
+    ensures catch_up { TellsBytes }
+    ensures end { TellsTheEnd }
 {}
 
 /// What a participant knows gives the conditions of its calls, where the log is one of segment lists that lie apart. It knows

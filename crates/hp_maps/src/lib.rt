@@ -12,7 +12,7 @@ mod table;
 mod telling;
 
 pub use laws::{
-    apart_law, failed_growth_law, few_events_law, planned_law, ready_law, slot_law,
+    apart_law, bytes_law, failed_growth_law, few_events_law, planned_law, ready_law, slot_law,
     stays_mapped_law, stretch_law, table_law,
 };
 pub use local_maps::LocalMaps;

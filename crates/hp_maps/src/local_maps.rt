@@ -3,7 +3,7 @@ ghost use Rattle.std.specs.List.{list_any};
 ghost use Rattle.hp_base.specs.Mapping.{is_done, is_row};
 ghost use Rattle.hp_base.specs.Streams.{CountsFault};
 ghost use Rattle.hp_log.specs.Log.{table_at};
-ghost use Rattle.hp_maps.specs.MapsView.{IsMapped, calls_of, chunk_rows, table_in};
+ghost use Rattle.hp_maps.specs.MapsView.{AreApart, IsMapped, calls_of, chunk_rows, table_in};
 
 use crate::catching::{number_after, take_in};
 use crate::rows::is_row;
@@ -109,6 +109,7 @@ impl<M: Mapper> LocalMaps<M> {
     pub fn rows(&self) -> &[Row]
         ensures rows { result.now ≡ self.now.rows }
         ensures mapped { IsMapped self.now }
+        ensures apart { AreApart self.now.rows }
         ensures room { length self.now.rows ≤ self.now.capacity }
     {
         self.rows.as_slice()
@@ -154,10 +155,17 @@ impl<M: Mapper> LocalMaps<M> {
             (newer records.now self.old.number to) result) }
     {
         let newer = &records[self.number as usize..to as usize];
-        tell_dropped(tell, self.rows.as_slice(), newer);
+        tell_dropped(tell, &self.mapper, self.rows.as_slice(), newer);
         let before = self.calls;
         let caught = self.take_in_log(records, to);
-        tell_caught(tell, &caught, self.rows.as_slice(), before, self.calls);
+        tell_caught(
+            tell,
+            &self.mapper,
+            &caught,
+            self.rows.as_slice(),
+            before,
+            self.calls,
+        );
         caught
     }
 

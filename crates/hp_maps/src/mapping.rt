@@ -23,7 +23,7 @@ pub fn unmap_rows<M: Mapper>(mapper: &mut M, rows: &[Row])
 }
 
 /// Unmaps those of the rows that records drop, and takes them out. Where none of the records is a Drop, the rows aren't
-/// gone over.
+/// gone over, and else once.
 pub fn drop_rows<M: Mapper>(mapper: &mut M, rows: &mut Vec<Row>, records: &[LogRecord])
     requires { M.held mapper.old ≡ owned rows.old.items }
     ensures rows { rows.new.items ≡ kept records.now rows.old.items }
@@ -35,31 +35,32 @@ pub fn drop_rows<M: Mapper>(mapper: &mut M, rows: &mut Vec<Row>, records: &[LogR
     ensures may_fail { M.may_fail mapper.new ≡ M.may_fail mapper.old }
 {
     if has_drop(records) {
-        unmap_dropped(mapper, rows.as_slice(), records);
-        retain_kept(rows, records);
+        let stay = unmap_dropped(mapper, rows.as_mut_slice(), records);
+        rows.truncate(stay);
     }
 }
 
-fn unmap_dropped<M: Mapper>(mapper: &mut M, rows: &[Row], records: &[LogRecord])
-    requires { M.held mapper.old ≡ owned rows.now }
-    ensures held { M.held mapper.new ≡ owned (kept records.now rows.now) }
+// Unmaps those of the rows that records drop, and moves the others to the front. How many these are.
+fn unmap_dropped<M: Mapper>(mapper: &mut M, rows: &mut [Row], records: &[LogRecord]) -> usize
+    requires { M.held mapper.old ≡ owned rows.old }
+    ensures rows { take result rows.new ≡ kept records.now rows.old }
+    ensures held { M.held mapper.new ≡ owned (kept records.now rows.old) }
     ensures capacity { M.capacity mapper.new ≡ M.capacity mapper.old }
     ensures answers { M.answers mapper.new ≡ M.answers mapper.old }
     ensures faults { M.faults mapper.new ≡ M.faults mapper.old }
     ensures may_fail { M.may_fail mapper.new ≡ M.may_fail mapper.old }
 {
-    for row in rows {
-        if goes(records, row) {
-            mapper.unmap(row);
+    let mut stay = 0;
+    for at in 0..rows.len() {
+        let row = rows[at];
+        if goes(records, &row) {
+            mapper.unmap(&row);
+        } else {
+            rows[stay] = row;
+            stay += 1;
         }
     }
-}
-
-fn retain_kept(rows: &mut Vec<Row>, records: &[LogRecord])
-    ensures rows { rows.new.items ≡ kept records.now rows.old.items }
-    ensures memory { vec_capacity rows.new ≡ vec_capacity rows.old }
-{
-    rows.retain(|row: &Row| !goes(records, row));
+    stay
 }
 
 /// Maps the rows from `start` on, one after the other. Where one is refused or comes out at another place, all of them

@@ -1,5 +1,5 @@
 //! Which rows records drop, and which they bring.
-ghost use Rattle.std.specs.Prelude.{◌≡◌, ◌+◌, ◌*◌, ◌^◌, ◌<◌, ◌≤◌, ◌++◌, ◌∷◌, [], length, vec_len, vec_capacity};
+ghost use Rattle.std.specs.Prelude.{◌≡◌, ◌+◌, ◌*◌, ◌^◌, ◌<◌, ◌≤◌, ◌++◌, ◌∷◌, [], false, length, vec_len, vec_capacity};
 ghost use Rattle.std.specs.List.{All};
 ghost use Rattle.hp_base.specs.Mapping.{is_row};
 ghost use Rattle.hp_log.specs.Log.{run_in};
@@ -71,6 +71,7 @@ pub fn goes(records: &[LogRecord], row: &Row) -> bool
 }
 
 /// Adds what records bring behind the first `n`, where there is room for it.
+#[tactic(auto, using(crate::proofs::CatchLemmas::none_behind))]
 pub fn push_new_rows(rows: &mut Vec<Row>, n: u64, records: &[LogRecord])
     requires small { All (λ entry. IsSmallRun (run_in entry)) records.now }
     requires few { n + length records.now < 2 ^ 64 }
@@ -78,10 +79,28 @@ pub fn push_new_rows(rows: &mut Vec<Row>, n: u64, records: &[LogRecord])
     ensures items { rows.new.items ≡ rows.old.items ++ new_rows n records.now }
     ensures capacity { vec_capacity rows.old ≤ vec_capacity rows.new }
 {
+    let dropping = has_drop(records);
     for (at, entry) in records.iter().enumerate() {
         if let LogRecord::Add { run, .. } = entry {
-            push_undropped(rows, n + at as u64 + 1, run, &records[at + 1..]);
+            push_of(rows, n + at as u64 + 1, run, &records[at + 1..], dropping);
         }
+    }
+}
+
+// Adds the rows of a run that none of the records drops. Where none of them is a Drop, they aren't gone over.
+#[tactic(auto, using(crate::proofs::CatchLemmas::all_undropped))]
+fn push_of(rows: &mut Vec<Row>, generation: u64, run: &Run, later: &[LogRecord], dropping: bool)
+    requires small { IsSmallRun run.now }
+    requires dropping { dropping ≡ false → has_drop later.now ≡ false }
+    requires room { vec_len rows.old + length (undropped later.now (rows_of run.now generation))
+        ≤ vec_capacity rows.old }
+    ensures items { rows.new.items ≡ rows.old.items ++ undropped later.now (rows_of run.now generation) }
+    ensures capacity { vec_capacity rows.old ≤ vec_capacity rows.new }
+{
+    if dropping {
+        push_undropped(rows, generation, run, later);
+    } else {
+        push_undropped(rows, generation, run, &[]);
     }
 }
 

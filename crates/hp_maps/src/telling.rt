@@ -7,10 +7,10 @@ ghost use Rattle.hp_log.specs.Log.{run_in};
 ghost use Rattle.hp_log.specs.Rows.{IsSmallRun};
 ghost use Rattle.hp_maps.specs.Events.{all_told, dropped_events, events_of, freed_by, stands_at};
 ghost use Rattle.hp_maps.specs.TellingInTurn.{mapped_events};
-ghost use Rattle.hp_maps.specs.Unmapping.{IsWithin};
+ghost use Rattle.hp_maps.specs.Unmapping.{AreHeld, IsWithin};
 
 use crate::rows::{is_dropped, is_of_log};
-use hp_base::{Caught, Event, EventKind, Row, Tell};
+use hp_base::{Caught, Event, EventKind, Mapper, Row, Tell};
 use hp_log::LogRecord;
 
 /// Adjacent rows that are told together: their event so far, and the last of them.
@@ -24,8 +24,10 @@ mod in_turn;
 
 pub use in_turn::{tell_found, tell_last};
 
-/// Tells rows that come, or that go.
-pub fn tell_rows<T: Tell>(tell: &mut T, kind: EventKind, rows: &[Row])
+/// Tells rows that come, or that go. The mapper holds them: what comes is told once it is mapped, and what goes before it is
+/// unmapped.
+pub fn tell_rows<M: Mapper, T: Tell>(tell: &mut T, mapper: &M, kind: EventKind, rows: &[Row])
+    requires held { AreHeld (M.held mapper.now) rows.now }
     requires near { All IsWithin rows.now }
     requires spare { length (events_of kind rows.now) ≤ T.spare tell.old }
     ensures told { T.told tell.new ≡ all_told (events_of kind rows.now) (T.told tell.old) }
@@ -40,7 +42,15 @@ pub fn tell_rows<T: Tell>(tell: &mut T, kind: EventKind, rows: &[Row])
 
 /// Tells the new rows of a catch-up, where all of them are mapped. `before` and `calls` are the mapping calls before it
 /// and after it.
-pub fn tell_caught<T: Tell>(tell: &mut T, caught: &Caught, rows: &[Row], before: u64, calls: u64)
+pub fn tell_caught<M: Mapper, T: Tell>(
+    tell: &mut T,
+    mapper: &M,
+    caught: &Caught,
+    rows: &[Row],
+    before: u64,
+    calls: u64,
+)
+    requires held { AreHeld (M.held mapper.now) rows.now }
     requires near { All IsWithin rows.now }
     requires rose { is_done caught.now ≡ true → before ≤ calls }
     requires new { is_done caught.now ≡ true → calls ≤ before + length rows.now }
@@ -53,14 +63,20 @@ pub fn tell_caught<T: Tell>(tell: &mut T, caught: &Caught, rows: &[Row], before:
     match caught {
         Caught::Done => {
             let fresh = (calls - before) as usize;
-            tell_rows(tell, EventKind::Alloc, &rows[rows.len() - fresh..]);
+            tell_rows(tell, mapper, EventKind::Alloc, &rows[rows.len() - fresh..]);
         }
         Caught::Refused { .. } | Caught::Elsewhere { .. } => {}
     }
 }
 
-/// Tells the rows of the log that records are about to unmap.
-pub fn tell_dropped<T: Tell>(tell: &mut T, rows: &[Row], records: &[LogRecord])
+/// Tells the rows of the log that records are about to unmap. The mapper still holds them.
+pub fn tell_dropped<M: Mapper, T: Tell>(
+    tell: &mut T,
+    mapper: &M,
+    rows: &[Row],
+    records: &[LogRecord],
+)
+    requires held { AreHeld (M.held mapper.now) rows.now }
     requires near { All IsWithin rows.now }
     requires small { All (λ entry. IsSmallRun (run_in entry)) records.now }
     requires spare { length (dropped_events rows.now [] records.now) ≤ T.spare tell.old }

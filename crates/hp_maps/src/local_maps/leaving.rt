@@ -27,7 +27,7 @@ impl<M: Mapper> LocalMaps<M> {
         ensures spare { T.spare tell.old ≤ T.spare tell.new + length self.old.rows }
     {
         sort_by_address(&mut self.rows);
-        tell_rows(tell, EventKind::Free, self.rows.as_slice());
+        tell_rows(tell, &self.mapper, EventKind::Free, self.rows.as_slice());
         unmap_rows(&mut self.mapper, self.rows.as_slice());
         self.rows.clear();
         self.number = 0;

@@ -4,7 +4,7 @@ use Rattle.hp_base.specs.declared.row.Row.{Row}
 use Rattle.hp_maps.specs.Catching.{HasAnswered, rows_after}
 use Rattle.hp_maps.specs.Chunks.{CanAttach, rows_of_chunk}
 use Rattle.hp_maps.specs.MapsView.{MapsView}
-use Rattle.hp_maps.proofs.ChunkLemmas.{chunk_back, chunk_can_map, chunk_fresh, chunk_length, chunk_near_after, chunk_room_after, chunk_rows_after}
+use Rattle.hp_maps.proofs.ChunkLemmas.{chunk_apart_after, chunk_back, chunk_can_map, chunk_fresh, chunk_length, chunk_near_after, chunk_room_after, chunk_rows_after}
 use Rattle.hp_maps.proofs.local_maps.LocalMaps.attach_chunk.Goals as goal
 
 pub push_undropped-requires-clause-room : goal.push_undropped-requires-clause-room
@@ -23,7 +23,7 @@ pub map_behind-requires-clause-can : goal.map_behind-requires-clause-can
 map_behind-requires-clause-can g c =
     let can = subst (λ (maps : MapsView). CanAttach maps c.args.chunk.now) (sym c.self.view_is) c.requires in
     chunk_can_map _ c.args.chunk.now c.run_of_chunk-run.result c.push_undropped.new.rows.items c.len-start.result _ _ c.self.inside.calls can
-    c.run_of_chunk-run.ensures c.push_undropped.ensures.items (omega (arith, c.len-start.ensures, c.self.inside.rows.ok.0))
+    c.self.invariant.apart c.run_of_chunk-run.ensures c.push_undropped.ensures.items (omega (arith, c.len-start.ensures, c.self.inside.rows.ok.0))
     c.self.invariant.mapped c.self.invariant.room c.self.invariant.counted
     (omega (arith, c.push_undropped.new.rows.small, c.push_undropped.new.rows.ok.0, c.push_undropped.new.rows.ok.1))
 
@@ -40,6 +40,7 @@ invariant_of-self g c =
       room = omega (arith, c.self.invariant.room, c.map_behind.ensures.capacity);
       holds = chunk_room_after _ c.args.chunk.now _ c.map_behind.result can rows;
       near = chunk_near_after _ c.args.chunk.now _ c.map_behind.result can c.self.invariant.near rows;
+      apart = chunk_apart_after _ c.args.chunk.now _ c.map_behind.result can c.self.invariant.apart rows;
     }
 
 pub returns-clause-rows : goal.returns-clause-rows

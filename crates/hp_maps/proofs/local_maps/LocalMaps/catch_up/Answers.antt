@@ -1,9 +1,22 @@
 -- What goes is told, and then what came.
-use Rattle.std.proofs.Common.{◌∙◌, ap}
+use Rattle.std.proofs.Common.{◌∙◌, List, ap, subst, sym}
+use Rattle.hp_base.specs.declared.row.Row.{Row}
 use Rattle.hp_maps.specs.Catching.{newer}
 use Rattle.hp_maps.specs.MapsView.{MapsView, calls_of}
+use Rattle.hp_maps.specs.Unmapping.{AreHeld}
+use Rattle.hp_maps.proofs.HeldLemmas.{all_held}
 use Rattle.hp_maps.proofs.TellLemmas.{caught_spare, caught_told}
 use Rattle.hp_maps.proofs.local_maps.LocalMaps.catch_up.Goals as goal
+
+pub tell_dropped-requires-clause-held : goal.tell_dropped-requires-clause-held
+tell_dropped-requires-clause-held g c =
+    subst (λ (rows : List Row). AreHeld (g.M.Mapper.held c.self.inside.mapper) rows) (sym c.as_slice.ensures.value)
+    (all_held c.self.inside.rows.items (g.M.Mapper.held c.self.inside.mapper) c.self.invariant.mapped)
+
+pub tell_caught-requires-clause-held : goal.tell_caught-requires-clause-held
+tell_caught-requires-clause-held g c =
+    subst (λ (rows : List Row). AreHeld (g.M.Mapper.held c.self-2.inside.mapper) rows) (sym c.as_slice-2.ensures.value)
+    (all_held c.self-2.inside.rows.items (g.M.Mapper.held c.self-2.inside.mapper) c.self-2.invariant.mapped)
 
 pub returns-clause-told : goal.returns-clause-told
 returns-clause-told g c =

@@ -5,7 +5,9 @@ use Rattle.std.proofs.lemmas.List.Elements.{All-filter}
 use Rattle.std.proofs.lemmas.List.Sums.{length-filter, count_by-le-length}
 use Rattle.hp_base.specs.declared.row.Row.{Row}
 use Rattle.hp_maps.specs.Chunks.{is_of_chunk}
+use Rattle.hp_maps.specs.MapsView.{AreApart}
 use Rattle.hp_maps.specs.Unmapping.{IsWithin}
+use Rattle.hp_maps.proofs.ApartLemmas.{apart_filter}
 use Rattle.hp_maps.proofs.local_maps.LocalMaps.detach_chunk.Goals as goal
 
 pub invariant_of-self : goal.invariant_of-self
@@ -19,4 +21,5 @@ invariant_of-self g c =
       room = omega (arith, c.self.invariant.room, c.drop_chunk.ensures.capacity);
       holds = omega (arith, c.self.invariant.holds, ap length c.drop_chunk.ensures.rows, length-filter p rows, count_by-le-length p rows);
       near = subst (All IsWithin) (sym c.drop_chunk.ensures.rows) (All-filter p IsWithin rows c.self.invariant.near);
+      apart = subst AreApart (sym c.drop_chunk.ensures.rows) (apart_filter p rows c.self.invariant.apart);
     }

@@ -1,16 +1,24 @@
 -- All rows are told by rising address and unmapped.
-use Rattle.std.proofs.Common.{◌∙◌, List, ap, arith, length, subst, sym}
-use Rattle.std.specs.List.{All}
+use Rattle.std.proofs.Common.{◌≡◌, ◌∙◌, true, List, ap, arith, length, subst, sym}
+use Rattle.std.specs.List.{All, list_any}
 use Rattle.std.proofs.lemmas.List.Elements.{All-nil}
 use Rattle.std.proofs.lemmas.List.Sorted.{All-permutation, length_permutation}
-use Rattle.hp_base.specs.Mapping.{owned}
+use Rattle.hp_base.specs.Mapping.{Held, is_row, owned}
 use Rattle.hp_base.specs.declared.event.EventKind.TheVariants.{Free}
 use Rattle.hp_base.specs.declared.row.Row.{Row}
 use Rattle.hp_maps.specs.Events.{IsToldByAddress, all_told, events_of}
-use Rattle.hp_maps.specs.MapsView.{MapsView}
-use Rattle.hp_maps.specs.Unmapping.{IsWithin, without_rows}
+use Rattle.hp_maps.specs.MapsView.{AreApart, MapsView}
+use Rattle.hp_maps.specs.Unmapping.{AreHeld, IsWithin, without_rows}
+use Rattle.hp_maps.proofs.HeldLemmas.{all_held}
 use Rattle.hp_maps.proofs.LeaveLemmas.{all_unmapped, events_length}
 use Rattle.hp_maps.proofs.local_maps.LocalMaps.unmap_all.Goals as goal
+
+pub tell_rows-requires-clause-held : goal.tell_rows-requires-clause-held
+tell_rows-requires-clause-held g c =
+    let held = g.M.Mapper.held c.self.inside.mapper in
+    subst (λ (rows : List Row). AreHeld held rows) (sym c.as_slice.ensures.value)
+    (All-permutation (λ row. list_any (λ (one : Held). is_row one.row row) held ≡ true) c.self.inside.rows.items _ c.sort_by_address.ensures.same
+    (all_held c.self.inside.rows.items held c.self.invariant.mapped))
 
 pub tell_rows-requires-clause-near : goal.tell_rows-requires-clause-near
 tell_rows-requires-clause-near g c =
@@ -40,6 +48,7 @@ invariant_of-self g c = record {
   room = omega (arith, c.self.invariant.room, c.unmap_rows.ensures.capacity);
   holds = omega (arith, ap length c.clear.ensures.items);
   near = subst (All IsWithin) (sym c.clear.ensures.items) (All-nil IsWithin);
+  apart = subst AreApart (sym c.clear.ensures.items) (λ addr. omega arith);
 }
 
 pub returns-clause-mapped : goal.returns-clause-mapped
