@@ -32,8 +32,6 @@ mod stats;
 mod status;
 mod tag;
 mod tell;
-#[cfg(test)]
-mod tests;
 
 pub use answers::Answers;
 pub use caught::Caught;

@@ -13,8 +13,6 @@ mod node;
 mod search;
 mod starts;
 mod tags;
-#[cfg(test)]
-mod tests;
 
 pub use elems::Elems;
 pub use laws::split_law;

@@ -5,8 +5,6 @@ mod free_run;
 mod mask;
 mod places;
 mod runs;
-#[cfg(test)]
-mod tests;
 mod word;
 
 pub use free_run::FreeRun;

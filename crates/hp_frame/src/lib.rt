@@ -22,6 +22,3 @@ pub use message::{Body, Message};
 pub use reading::read;
 pub use view::FrameView;
 pub use writing::write;
-
-#[cfg(test)]
-mod tests;

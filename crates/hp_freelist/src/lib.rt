@@ -7,8 +7,6 @@ mod link;
 mod linked;
 mod lists;
 mod search;
-#[cfg(test)]
-mod tests;
 
 pub use laws::search_law;
 pub use lists::Lists;

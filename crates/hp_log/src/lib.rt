@@ -4,8 +4,6 @@
 mod log_record;
 mod rows;
 mod table;
-#[cfg(test)]
-mod tests;
 
 pub use log_record::LogRecord;
 pub use rows::{contains, row_of};

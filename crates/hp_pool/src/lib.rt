@@ -4,8 +4,6 @@
 mod fault;
 mod pool;
 mod pools;
-#[cfg(test)]
-mod tests;
 
 pub use fault::{PoolAddFault, TakeFault};
 pub use pool::Pool;
