@@ -1,0 +1,10 @@
+//! Worked values of the low crates' calls, a file or two for each crate.
+mod base;
+mod elem;
+mod fbarray;
+mod frame;
+mod freelist;
+mod log;
+mod memory;
+mod pool;
+mod words;
