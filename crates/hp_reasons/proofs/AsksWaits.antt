@@ -71,7 +71,7 @@ module _ (known : AreServingsKnown) (waits_out : WaitsOut) (set : Setting) (ask 
             owing.gone ask.number since now back
             (λ none.
             let lost = lost_out set ask since now world out none in
-            (omega (arith, lost.asked party its.own), lost.room party its.own));
+            record { asked = lost.asked party its.own; room = lost.room party its.own; misses = lost.misses party its.own });
       }
 
   late_quiet : (old new : SoloView) (party after : Party) (steps : List MailStep) (world : World) → IsWorldOf old ask.from party world
