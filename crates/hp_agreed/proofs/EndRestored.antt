@@ -1,5 +1,5 @@
 -- Growths that failed among calls that lead on from a sound value, and the tables of an end.
-use Rattle.std.proofs.Common.{◌≡◌, ℕ, ◌+◌, Bool, true, List, [], ◌∷◌, length, sym, subst}
+use Rattle.std.proofs.Common.{ℕ, Bool, List, [], ◌∷◌, length, sym, subst}
 use Rattle.hp_maps.specs.Catching.{Lags}
 use Rattle.hp_maps.specs.MapsView.{table_in}
 use Rattle.hp_proc.specs.Ends.{IsMembersTable, IsTableOf}

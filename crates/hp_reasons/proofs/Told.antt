@@ -1,8 +1,7 @@
 -- Asks and notices without an outcome, as outcomes are logged: those of all participants stay no more than were lost.
-use Rattle.std.proofs.Common.{◌≡◌, ◌≢◌, ◌∙◌, ◌⊎◌, ℕ, zero, suc, ◌+◌, ◌-◌, ◌<◌, ◌≤◌, Bool, true, false, not, ◌&&◌, ◌||◌, ◌==◌, max, cond, List, [], ◌∷◌, ◌++◌, Some, inl, inr, refl, sym, ap, subst, arith, eq-eqb, if◌then◌else◌}
-use Rattle.std.specs.Prelude.{slice_get}
+use Rattle.std.proofs.Common.{◌≡◌, ◌≢◌, ◌∙◌, ◌⊎◌, ℕ, zero, suc, ◌+◌, ◌-◌, ◌<◌, ◌≤◌, Bool, true, false, not, ◌&&◌, ◌||◌, ◌==◌, max, cond, List, [], ◌∷◌, ◌++◌, inl, inr, refl, sym, ap, arith, eq-eqb, if◌then◌else◌}
 use Rattle.std.specs.List.{fold, list_any}
-use Rattle.std.proofs.lemmas.Bool.{and_from, and_parts, cases_Bool, cases_eq, cases_lt, eqb-true, ne_eqb, or_right}
+use Rattle.std.proofs.lemmas.Bool.{and_from, and_parts, cases_eq, cases_lt, ne_eqb, or_right}
 use Rattle.std.proofs.lemmas.List.Folds.{list_any-append}
 use Rattle.hp_base.specs.declared.plan_entry.MsgKind.TheVariants as message
 use Rattle.hp_core.specs.Asks.{asker, number_of}
@@ -11,7 +10,7 @@ use Rattle.hp_segs.specs.SegsView.{closed_number, is_outcome_for, is_stale}
 use Rattle.hp_segs.specs.declared.outcome.AskLog.{AskLog}
 use Rattle.hp_proc.specs.Party.{Party}
 use Rattle.hp_reasons.specs.Counting.{lost_among}
-use Rattle.hp_reasons.specs.Episode.{IsToldBefore, Setting, World, losses, made_before, missed_among}
+use Rattle.hp_reasons.specs.Episode.{IsToldBefore, Setting, losses, made_before, missed_among}
 use Rattle.hp_reasons.specs.Outcomes.{unanswered_among, withdrawn_outcomes}
 
 -- later outcomes: what had an outcome has one, and no more was taken back
