@@ -36,4 +36,4 @@ tables_alike workload answers heaps segs tables end who table segment at joined 
     (subst (λ (joined : Bool). IsTableOf segs who records joined table) joined (end.mapped who table at).1) among in_use
 
 pub ends_alike : EndsAlike
-ends_alike workload answers heaps segs tables is = tables_alike workload answers heaps segs tables is.end
+ends_alike = tables_alike

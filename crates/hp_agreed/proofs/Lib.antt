@@ -1,5 +1,6 @@
 pub mod AttachedAlike
 pub mod EndAlike
+pub mod EndRestored
 pub mod FailedCourses
 pub mod FailedSteps
 pub mod FailedTables

@@ -190,4 +190,4 @@ module _ (workload : Workload) (answers : List Answer) (heaps : List HeapView) (
 
 pub end_pages_alike : EndPagesAlike
 end_pages_alike workload answers heaps segs tables is index heap page at among =
-    mapped_alike workload answers heaps segs tables is.end index heap page at among
+    mapped_alike workload answers heaps segs tables is index heap page at among

@@ -12,7 +12,7 @@ use Rattle.hp_script.specs.declared.answer.Answer.{Answer}
 use Rattle.hp_script.specs.declared.workload.Workload.{Workload}
 use Rattle.hp_segs.specs.SegsView.{SegsView, is_opened}
 use Rattle.hp_segs.specs.declared.row_state.Segment.{Segment}
-use Rattle.hp_proc.specs.Ends.{IsSoloEnd}
+use Rattle.hp_proc.specs.Ends.{IsEnd}
 use Rattle.hp_proc.specs.LinesDone.{Course}
 use Rattle.hp_proc.specs.Party.{Party}
 use Rattle.hp_joint.specs.EndLaws.{IsGiven}
@@ -45,7 +45,7 @@ TablesAlike segs tables = (who : ℕ) (table : Table) (segment : Segment) → sl
 -- so it is at the end of a run
 abbrev pub EndsAlike : Type 0
 EndsAlike = (workload : Workload) (answers : List Answer) (heaps : List HeapView) (segs : SegsView) (tables : List Table)
-    → IsSoloEnd workload answers heaps segs tables → TablesAlike segs tables
+    → IsEnd workload answers heaps segs tables → TablesAlike segs tables
 
 -- a page of a heap is mapped alike: it is that of one of the heap's own segments, by list and slot, address, page size and socket, and all
 -- who are attached have this one segment
@@ -79,4 +79,4 @@ PagesAlike heaps segs tables = (index : ℕ) (heap : HeapView) (page : HeapPage)
 
 abbrev pub EndPagesAlike : Type 0
 EndPagesAlike = (workload : Workload) (answers : List Answer) (heaps : List HeapView) (segs : SegsView) (tables : List Table)
-    → IsSoloEnd workload answers heaps segs tables → PagesAlike heaps segs tables
+    → IsEnd workload answers heaps segs tables → PagesAlike heaps segs tables

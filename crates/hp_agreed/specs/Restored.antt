@@ -1,12 +1,18 @@
 -- A growth that fails leaves two records and its refusal, and nothing else. The rule "What agreement is worth" of docs/GROWTH.md.
-use Rattle.std.specs.Prelude.{◌≡◌, ℕ, ◌+◌, ◌-◌, ◌<◌, ◌≤◌, false, List, [], ◌∷◌, ◌++◌, length, map, Option, Some, None, slice_get}
+use Rattle.std.specs.Prelude.{◌≡◌, ℕ, ◌+◌, ◌-◌, ◌<◌, ◌≤◌, false, true, List, [], ◌∷◌, ◌++◌, length, map, Option, Some, None, slice_get}
 use Rattle.hp_base.specs.declared.row.Row.{Row}
 use Rattle.hp_base.specs.declared.row.Run.{Run}
 use Rattle.hp_log.specs.Log.{table_at}
 use Rattle.hp_log.specs.Rows.{slots_of}
 use Rattle.hp_log.specs.declared.log_record.LogRecord.{LogRecord}
 use Rattle.hp_log.specs.declared.log_record.LogRecord.TheVariants.{Add, Drop}
+use Rattle.hp_heap.specs.History.{HeapView}
 use Rattle.hp_maps.specs.Catching.{Lags, newer, undropped}
+use Rattle.hp_maps.specs.MapsView.{table_in}
+use Rattle.hp_maps.specs.declared.table.Table.{Table}
+use Rattle.hp_proc.specs.Ends.{IsEnd}
+use Rattle.hp_script.specs.declared.answer.Answer.{Answer}
+use Rattle.hp_script.specs.declared.workload.Workload.{Workload}
 use Rattle.hp_segs.specs.Machine.{Machine, machine_of}
 use Rattle.hp_segs.specs.Moved.{SegsCall, Claim, Leads, OpenRun, Retire, after}
 use Rattle.hp_segs.specs.SegsView.{SegsView, grant_of, pages_left, rows_in}
@@ -110,3 +116,24 @@ pub record IsAsWithout (calls : List SegsCall) (old new : SegsView) : Type 0 whe
 -- so it is behind each growth that failed
 abbrev pub FailedCoursesRestore : Type 0
 FailedCoursesRestore = (calls : List SegsCall) (old new : SegsView) → IsSound old → IsFailedCourse calls old new → IsAsWithout calls old new
+
+-- wherever among calls that lead on from a first value a growth was opened and failed, the value behind it is as the other calls meanwhile
+-- would have left it
+abbrev pub GrowthsRestore : List SegsCall → SegsView → Type 0
+GrowthsRestore calls first = (before during behind : List SegsCall) (old new : SegsView) → calls ≡ before ++ (during ++ behind)
+    → Leads before first old → IsFailedCourse during old new → IsAsWithout during old new
+
+-- so it is of all calls that lead on from a sound value
+abbrev pub CoursesRestore : Type 0
+CoursesRestore = (calls : List SegsCall) (first : SegsView) → IsSound first → GrowthsRestore calls first
+
+-- a participant's table whose number is at the Drop of a growth that failed is the one from before it, but for rows that later records drop
+abbrev pub TablesRestore : List LogRecord → List Table → Type 0
+TablesRestore log tables = (who generation heap : ℕ) (run : Run) (table : Table) → slice_get tables who ≡ Some table → table.joined ≡ true
+    → HasFailedGrowth log generation run heap → table.number ≡ generation + 1
+    → IsTableBefore log generation (length log) (table_in table.rows.items)
+
+-- so it is at the end of a run
+abbrev pub EndTablesRestore : Type 0
+EndTablesRestore = (workload : Workload) (answers : List Answer) (heaps : List HeapView) (segs : SegsView) (tables : List Table)
+    → IsEnd workload answers heaps segs tables → TablesRestore segs.log tables

@@ -1,5 +1,5 @@
 -- The end of a workload of several participants, from how far it was run behind its last line.
-use Rattle.std.proofs.Common.{◌∙◌, ℕ, List, length, subst}
+use Rattle.std.proofs.Common.{◌≡◌, ◌∙◌, ℕ, List, length, refl, subst}
 use Rattle.std.specs.List.{All}
 use Rattle.hp_hall.specs.HallView.{HallView}
 use Rattle.hp_heap.specs.History.{HeapView}
@@ -73,7 +73,8 @@ module _ (workload : Workload) (courses : List Course) (answers : List Answer) (
   }
 
   -- that is an end, with the segment value that its hall keeps
-  pub ends_by : IsSoloEnd workload answers heaps segs tables
+  pub ends_by : (end : IsSoloEnd workload answers heaps segs tables) × (end.end.courses ≡ courses)
+  unfolding joint_end
   ends_by =
-      subst (λ (segs : SegsView). IsSoloEnd workload answers heaps segs tables)
-      (segs_same workload courses parties hall so heaps segs is.slots) joint_end
+      subst (λ (segs : SegsView). (end : IsSoloEnd workload answers heaps segs tables) × (end.end.courses ≡ courses))
+      (segs_same workload courses parties hall so heaps segs is.slots) (joint_end, refl)

@@ -134,11 +134,12 @@ pub record IsAtEnd (workload : Workload) (courses : List Course) (answers : List
   pub tables_are : (who : ℕ) (party : Party) (table : Table) → slice_get parties who ≡ Some party → slice_get tables who ≡ Some table
       → LeavesTable party table
 
--- behind the last line that is an end of the workload
+-- behind the last line that is an end of the workload, of these lines as they were done
 abbrev pub EndsSo : Type 0
 EndsSo = (workload : Workload) (courses : List Course) (answers : List Answer) (parties : List Party) (hall : HallView)
     (heaps : List HeapView) (segs : SegsView) (tables : List Table) → IsGiven workload → SoFar workload courses parties hall
-    → IsAtEnd workload courses answers parties hall heaps segs tables → IsSoloEnd workload answers heaps segs tables
+    → IsAtEnd workload courses answers parties hall heaps segs tables
+    → (end : IsSoloEnd workload answers heaps segs tables) × (end.end.courses ≡ courses)
 
 -- an outcome says that a mapping of that participant failed, at that call of its mapper
 pub record IsFailedMapping (participant call : ℕ) (entry : AskLog) : Type 0 where

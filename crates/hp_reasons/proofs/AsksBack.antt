@@ -1,15 +1,16 @@
 -- A quiet world stays quiet where states of rows alone change, and where an ask that was lost is taken back; nothing more is owed then.
-use Rattle.std.proofs.Common.{◌≡◌, ◌∙◌, ℕ, ◌+◌, ◌<◌, ◌≤◌, ◌==◌, Bool, true, false, ◌&&◌, max, List, [], ◌∷◌, ◌++◌, length, Option, Some, None, inl, inr, refl, sym, ap, subst, arith}
+use Rattle.std.proofs.Common.{◌≡◌, ◌≢◌, ◌∙◌, ℕ, ◌+◌, ◌-◌, ◌<◌, ◌≤◌, ◌==◌, Bool, true, false, ◌&&◌, ◌||◌, eq-eqb, max, List, [], ◌∷◌, ◌++◌, length, Option, Some, None, inl, inr, refl, sym, ap, subst, arith}
 use Rattle.std.specs.Prelude.{slice_get}
 use Rattle.std.specs.List.{list_any}
 use Rattle.std.specs.Option.{option_and_then}
-use Rattle.std.proofs.lemmas.Bool.{and_parts, cond_both, eqb-true, or_from}
+use Rattle.std.proofs.lemmas.Bool.{and_from, and_parts, cases_eq, cond_both, eqb-true, ne_eqb, or_from, or_right}
+use Rattle.std.proofs.lemmas.List.Folds.{list_any-append}
 use Rattle.std.proofs.lemmas.List.Elements.{Contains-push_cases}
 use Rattle.hp_base.specs.declared.plan_entry.MsgKind.TheVariants as message
 use Rattle.hp_hall.specs.Holding.{IsArmed}
 use Rattle.hp_maps.specs.MapsView.{calls_of}
 use Rattle.hp_segs.specs.LaterSteps.{has_failed_from}
-use Rattle.hp_segs.specs.SegsView.{SegsView, closed_number, granted_by, grants_or_refuses, is_member}
+use Rattle.hp_segs.specs.SegsView.{SegsView, closed_number, granted_by, grants_or_refuses, is_member, is_outcome_for}
 use Rattle.hp_segs.specs.Sound.{IsSound}
 use Rattle.hp_segs.specs.declared.growth.Growth.{Growth}
 use Rattle.hp_segs.specs.declared.outcome.AskLog.{AskLog}
@@ -17,10 +18,10 @@ use Rattle.hp_segs.specs.declared.outcome.Cause.{Cause}
 use Rattle.hp_segs.proofs.ClosedLemmas.{and_false, closed_push}
 use Rattle.hp_proc.specs.Party.{Party}
 use Rattle.hp_reasons.specs.Counting.{LosesNothing, lost_among}
-use Rattle.hp_reasons.specs.Episode.{AreLevel, IsBase, IsExcused, IsInPlace, Setting, World, number_of_party}
+use Rattle.hp_reasons.specs.Episode.{AreLevel, IsBase, IsExcused, IsInPlace, Setting, World, losses, missed_among, number_of_party}
 use Rattle.hp_reasons.specs.Quiet.{IsQuietOwing, IsQuietWorld}
 use Rattle.hp_reasons.specs.Failing.{AreGrantsWithin}
-use Rattle.hp_reasons.specs.Outcomes.{late_outcomes, stale_outcomes, withdrawn_outcomes}
+use Rattle.hp_reasons.specs.Outcomes.{late_outcomes, stale_outcomes, unanswered_among, withdrawn_outcomes}
 use Rattle.hp_reasons.specs.Shared.{with_segs}
 use Rattle.hp_reasons.specs.Stages.{world_with}
 use Rattle.hp_reasons.proofs.AsksClaims.{HasOutcomes, IsBackIn, taken_back}
@@ -28,6 +29,7 @@ use Rattle.hp_reasons.proofs.LinesQuiet.{quiet_stays}
 use Rattle.hp_reasons.proofs.OutcomesMore.{failed_push, late_push, stale_push, withdrawn_push}
 use Rattle.hp_reasons.proofs.Said.{set_long, set_same}
 use Rattle.hp_reasons.proofs.CountingLemmas.{one_if}
+use Rattle.hp_reasons.proofs.Told.{unanswered_heard, unanswered_more}
 
 module _ (set : Setting) (me : ℕ) (world : World) (segs : SegsView) (party : Party) (quiet : IsQuietWorld set world)
     (there : slice_get world.parties me ≡ Some party) (sound : IsSound segs) (armed : IsArmed segs) where
@@ -71,7 +73,8 @@ module _ (set : Setting) (me : ℕ) (world : World) (segs : SegsView) (party : P
   module _ (number since now : ℕ) (log : segs.log ≡ world.shared.segs.log) (growth : segs.growth ≡ world.shared.segs.growth)
       (roster : segs.roster ≡ world.shared.segs.roster)
       (asks : segs.asks ≡ world.shared.segs.asks ++ taken_back me number since now world.shared.segs ∷ []) (sent : number ≤ party.asked)
-      (room : withdrawn_outcomes me world.shared.segs.asks < lost_among set.plan message.Alloc me party.sent.allocs) where
+      (room : withdrawn_outcomes me world.shared.segs.asks < lost_among set.plan message.Alloc me party.sent.allocs)
+      (asked : party.asked ≡ number) (misses : missed_among world.shared.segs.asks me (number - 1) < losses set me party) where
     abbrev before : List AskLog
     before = world.shared.segs.asks
 
@@ -159,6 +162,52 @@ module _ (set : Setting) (me : ℕ) (world : World) (segs : SegsView) (party : P
         omega (arith, more, same))
         (λ other. omega (arith, was)))
 
+    -- what had an outcome has one
+    keeps_still : (who n : ℕ) → unanswered_among segs.asks who n ≤ unanswered_among before who n
+    keeps_still who n =
+        subst (λ (asks : List AskLog). unanswered_among asks who n ≤ unanswered_among before who n) (sym asks)
+        (unanswered_more who before (entry ∷ []) n)
+
+    its_outcome : list_any (is_outcome_for me number) (entry ∷ []) ≡ true
+    its_outcome =
+        ap (λ (b : Bool). b || false)
+        (and_from (me == me) _ (eq-eqb me me refl) (and_from (number == number) true (eq-eqb number number refl) refl))
+
+    is_heard : list_any (is_outcome_for me number) segs.asks ≡ true
+    is_heard =
+        ap (list_any (is_outcome_for me number)) asks
+        ∙ list_any-append (is_outcome_for me number) before (entry ∷ [])
+        ∙ or_right (list_any (is_outcome_for me number) before) _ its_outcome
+
+    withdrawn_more : withdrawn_outcomes me segs.asks ≤ withdrawn_outcomes me before + 1
+    withdrawn_more =
+        subst (λ (n : ℕ). n ≤ withdrawn_outcomes me before + 1)
+        (sym (ap (withdrawn_outcomes me) asks ∙ withdrawn_push before entry me))
+        (cond_both ((me == me) && true) 1 0 (λ (n : ℕ). withdrawn_outcomes me before + n ≤ withdrawn_outcomes me before + 1)
+        (λ counts. omega arith) (λ other. omega arith))
+
+    own_told : missed_among segs.asks me number ≤ losses set me party
+    own_told = omega (arith, misses, keeps_still me (number - 1), unanswered_heard segs.asks me number is_heard, withdrawn_more)
+
+    other_same : (who : ℕ) → who ≢ me → withdrawn_outcomes who segs.asks ≡ withdrawn_outcomes who before
+    other_same who other =
+        let none : one_if ((me == who) && true) ≡ one_if false =
+        ap (λ (b : Bool). one_if (b && true)) (ne_eqb me who (λ same. other (sym same))) in
+        omega (arith, ap (withdrawn_outcomes who) asks, withdrawn_push before entry who, none)
+
+    told_still : (who : ℕ) (one : Party) → slice_get later.parties who ≡ Some one
+        → missed_among segs.asks who one.asked ≤ losses set who one
+    told_still who one found =
+        elim (cases_eq who me) [
+          | inl own ↦
+              let its = own_party who one (was_there who one found) (sym own) in
+              subst (λ (one : Party). missed_among segs.asks who one.asked ≤ losses set who one) (sym its)
+              (subst (λ (n : ℕ). missed_among segs.asks n party.asked ≤ losses set n party) (sym own)
+              (subst (λ (n : ℕ). missed_among segs.asks me n ≤ losses set me party) (sym asked) own_told))
+          | inr other ↦
+              omega (arith, quiet.told who one (was_there who one found), keeps_still who one.asked, other_same who other)
+        ]
+
     excused_still : (who : ℕ) (first one : Party) → slice_get later.parties 0 ≡ Some first → slice_get later.parties who ≡ Some one
         → IsExcused set later who first one
     excused_still who first one top found =
@@ -195,17 +244,23 @@ module _ (set : Setting) (me : ℕ) (world : World) (segs : SegsView) (party : P
       growth = growth ∙ quiet.growth;
       empty = quiet.empty;
       doubled = λ who one found. omega (arith, quiet.doubled who one (was_there who one found), stale_still who);
+      told = told_still;
       level = level_kept log roster;
     }
 
+  -- its last ask was lost: there is room for one more that is taken back, and for one more without an outcome
+  pub record WasMissed (number : ℕ) : Type 0 where
+    pub asked : party.asked ≡ number
+    pub room : withdrawn_outcomes me world.shared.segs.asks < lost_among set.plan message.Alloc me party.sent.allocs
+    pub misses : missed_among world.shared.segs.asks me (number - 1) < losses set me party
+
   -- so it is whether there was an answer or not
   pub quiet_settled : (number since now : ℕ) → IsBackIn me number since now world.shared.segs segs
-      → (list_any (grants_or_refuses me number) world.shared.segs.asks ≡ false
-      → (number ≤ party.asked) × (withdrawn_outcomes me world.shared.segs.asks < lost_among set.plan message.Alloc me party.sent.allocs))
-      → IsQuietWorld set later
+      → (list_any (grants_or_refuses me number) world.shared.segs.asks ≡ false → WasMissed number) → IsQuietWorld set later
   quiet_settled number since now (IsBackIn.answered same) lost = quiet_claimed same
   quiet_settled number since now (IsBackIn.back none log growth roster asks retiring) lost =
-      quiet_back number since now log growth roster asks (lost none).0 (lost none).1
+      let was = lost none in
+      quiet_back number since now log growth roster asks (omega (arith, was.asked)) was.room was.asked was.misses
 
   -- nothing that is given up comes or goes, whether there was an answer or not
   retiring_settled : (number since now : ℕ) → IsBackIn me number since now world.shared.segs segs
@@ -219,9 +274,7 @@ module _ (set : Setting) (me : ℕ) (world : World) (segs : SegsView) (party : P
     owing_claimed same = record { quiet = quiet_claimed same; gone = λ loses none. same.retiring ∙ gone loses none }
 
     pub owing_settled : (number since now : ℕ) → IsBackIn me number since now world.shared.segs segs
-        → (list_any (grants_or_refuses me number) world.shared.segs.asks ≡ false
-        → (number ≤ party.asked) × (withdrawn_outcomes me world.shared.segs.asks < lost_among set.plan message.Alloc me party.sent.allocs))
-        → IsQuietOwing set owes later
+        → (list_any (grants_or_refuses me number) world.shared.segs.asks ≡ false → WasMissed number) → IsQuietOwing set owes later
     owing_settled number since now ends lost = record {
       quiet = quiet_settled number since now ends lost;
       gone = λ loses none. retiring_settled number since now ends ∙ gone loses none;

@@ -26,6 +26,7 @@ pub record HasSent (set : Setting) (who number : ℕ) (old new : Party) : Type 0
   pub asked : new.asked ≡ number
   pub answered : new.answered ≡ false
   pub lost : lost_among set.plan message.Alloc who old.sent.allocs ≤ lost_among set.plan message.Alloc who new.sent.allocs
+  pub freed : lost_among set.plan message.Free who old.sent.frees ≤ lost_among set.plan message.Free who new.sent.frees
 
 -- who was there before, who has the same table and coordinator
 record WasThere (set : Setting) (world : World) (who : ℕ) (party : Party) : Type 0 where

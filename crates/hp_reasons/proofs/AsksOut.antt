@@ -3,6 +3,7 @@ use Rattle.std.proofs.Common.{◌≡◌, ℕ, zero, suc, true, false, ◌⊎◌,
 use Rattle.std.specs.Prelude.{slice_get}
 use Rattle.std.specs.List.{list_any}
 use Rattle.std.proofs.lemmas.Bool.{false≢true}
+use Rattle.hp_core.specs.Asks.{asker, number_of}
 use Rattle.hp_core.specs.declared.asked.Asked.{Asked}
 use Rattle.hp_core.specs.declared.asked.Asked.TheVariants as want
 use Rattle.hp_core.specs.declared.phase.Phase.TheVariants.{Idle}
@@ -10,7 +11,7 @@ use Rattle.hp_segs.specs.SegsView.{grants_or_refuses}
 use Rattle.hp_segs.specs.declared.ask.Ask.{Ask}
 use Rattle.hp_proc.specs.Party.{Party}
 use Rattle.hp_reasons.specs.Counting.{LosesNothing}
-use Rattle.hp_reasons.specs.Episode.{AreDoubled, AreOthersEmpty, EndsLevel, HasCoordinator, IsAnsweredFor, IsUnanswered, MayBeTakenBack, Setting, Stage, World, mail_of}
+use Rattle.hp_reasons.specs.Episode.{AreDoubled, AreOthersEmpty, EndsLevel, HasCoordinator, HasRoomBack, IsAnsweredFor, IsUnanswered, MayBeTakenBack, MayMissOne, Setting, Stage, World, mail_of}
 use Rattle.hp_reasons.specs.Quiet.{IsQuietOwing, IsQuietWorld}
 use Rattle.hp_reasons.specs.Stages.{IsSent}
 use Rattle.hp_reasons.specs.Waits.{HasComeOut, is_ended, is_last}
@@ -55,6 +56,12 @@ ended_as set call sent world
 ended_as set call sent world (Stage.over holds coordinator alone closed bodies doubled told answered level) ended =
     inl (refl, answered, level)
 
+-- what was lost has no outcome
+misses_one : (set : Setting) (call : Asked) (world : World) → MayBeTakenBack set call world
+    → MayMissOne set (asker call) (number_of call) world
+misses_one set (want.Grow ask) world back = back.1
+misses_one set (want.Shrink from number) world back = back
+
 -- all is quiet at the end of a wait
 pub quiet_out : (set : Setting) (call : Asked) (sent now : ℕ) (world : World) → IsSent set call sent → HasComeOut set call sent now world
     → IsQuietWorld set world
@@ -63,7 +70,7 @@ quiet_out set call sent now world is_sent out =
       | inl last ↦ out.at_turn.ended last.0
       | inr lost ↦
           quiet_idle set call sent is_sent world out.at_turn.base (all_empty world lost.gone out.at_turn.empty) lost.coordinator lost.alone
-          lost.doubled (λ none. absurd (lost.loses none))
+          lost.doubled (inr (misses_one set call world lost.back)) (λ none. absurd (lost.loses none))
     ]
 
 -- and where no message is lost nothing is left of what was given up
@@ -80,7 +87,8 @@ owing_out set call sent now world is_sent out = record {
 -- an ask may be taken back
 pub record IsLostAsk (set : Setting) (ask : Ask) (world : World) : Type 0 where
   pub asked : (party : Party) → slice_get world.parties ask.from ≡ Some party → party.asked ≡ ask.number
-  pub room : MayBeTakenBack set (want.Grow ask) world
+  pub room : HasRoomBack set ask.from world
+  pub misses : MayMissOne set ask.from ask.number world
 
 -- where it has no answer at the end
 pub lost_out : (set : Setting) (ask : Ask) (sent now : ℕ) (world : World) → HasComeOut set (want.Grow ask) sent now world
@@ -88,7 +96,7 @@ pub lost_out : (set : Setting) (ask : Ask) (sent now : ℕ) (world : World) → 
 lost_out set ask sent now world out none =
     elim (ended_as set (want.Grow ask) sent world out.at_turn.stage out.ended) [
       | inl last ↦ absurd (true≢false (sym last.1 ∙ none))
-      | inr lost ↦ record { asked = lost.unanswered.asked; room = lost.back }
+      | inr lost ↦ record { asked = lost.unanswered.asked; room = lost.back.0; misses = lost.back.1 }
     ]
 
 -- and then some message is lost

@@ -1,5 +1,5 @@
 -- An ask or a notice was just sent from a quiet world: it lies in mailbox 0 once or twice, or it was lost.
-use Rattle.std.proofs.Common.{◌≡◌, ◌∙◌, ℕ, zero, suc, ◌+◌, ◌<◌, ◌≤◌, ◌⊎◌, Bool, true, false, List, [], ◌++◌, length, replicate, count_by, Option, Some, inl, inr, refl, sym, ap, subst, arith, if◌then◌else◌}
+use Rattle.std.proofs.Common.{◌≡◌, ◌∙◌, ℕ, zero, suc, ◌+◌, ◌-◌, ◌<◌, ◌≤◌, ◌⊎◌, Bool, true, false, List, [], ◌++◌, length, replicate, count_by, Option, Some, inl, inr, refl, sym, ap, subst, arith, if◌then◌else◌}
 use Rattle.std.specs.Prelude.{slice_get, slice_index_or, slice_set}
 use Rattle.std.specs.List.{All, list_any}
 use Rattle.std.proofs.lemmas.Bool.{cases_eq, or_from}
@@ -24,7 +24,7 @@ use Rattle.hp_proc.specs.Frames.{Says}
 use Rattle.hp_proc.specs.Party.{Party}
 use Rattle.hp_proc.specs.Waiting.{most_servings}
 use Rattle.hp_reasons.specs.Counting.{LosesNothing, is_doubled, is_lost}
-use Rattle.hp_reasons.specs.Episode.{AreDoubled, AreOthersEmpty, HasCoordinator, IsBase, IsCopy, IsGoneBefore, IsToDo, IsUnanswered, MayBeTakenBack, Setting, Stage, StartsLevel, World, doubles, is_call, is_result_of, mail_of}
+use Rattle.hp_reasons.specs.Episode.{AreDoubled, AreOthersEmpty, HasCoordinator, IsBase, IsCopy, IsGoneBefore, IsToDo, IsToldBefore, IsUnanswered, MayBeTakenBack, MayMissOne, Setting, Stage, StartsLevel, World, doubles, is_call, is_result_of, losses, made_before, mail_of, missed_among}
 use Rattle.hp_reasons.specs.Quiet.{IsQuietWorld}
 use Rattle.hp_reasons.specs.Shared.{posted_to}
 use Rattle.hp_reasons.specs.Stages.{IsSent, world_with}
@@ -36,6 +36,7 @@ use Rattle.hp_reasons.proofs.CopiesBodies.{copy_is_call}
 use Rattle.hp_reasons.proofs.Said.{index_set, index_unset, mail_posted, said_posted, set_found, set_long, set_unfound}
 use Rattle.hp_reasons.proofs.TurnsMembers.{box_empty}
 use Rattle.hp_reasons.proofs.CountingLemmas.{one_if}
+use Rattle.hp_reasons.proofs.Told.{made_other, made_own}
 
 -- a copy of an ask is no answer
 copy_is_no_result : (call : Asked) (body : Body) → IsCopy call body → is_result_of call body ≡ false
@@ -83,7 +84,7 @@ world_posted who world frame body after action =
 module _ (set : Setting) (call : Asked) (sent : ℕ) (world : World) (frame : Frame) (body : Body) (party after : Party)
     (is_sent : IsSent set call sent) (quiet : IsQuietWorld set world) (there : slice_get world.parties (asker call) ≡ Some party)
     (sends : HasSent set (asker call) (number_of call) party after) (clock : world.shared.clock ≡ sent) (to_do : IsToDo call world)
-    (above : closed_number world.shared.segs.asks (asker call) < number_of call) (says : Says frame body) (copy : IsCopy call body)
+    (above : closed_number world.shared.segs.asks (asker call) < number_of call) (next : number_of call ≡ party.asked + 1) (says : Says frame body) (copy : IsCopy call body)
     (gone : LosesNothing set.plan → IsGoneBefore call world) where
   abbrev posts : Action → Posted
   posts action = posted_as action (length (box_of world.shared.boxes 0))
@@ -166,6 +167,54 @@ module _ (set : Setting) (call : Asked) (sent : ℕ) (world : World) (frame : Fr
             }
       ]
 
+  -- all but this one have their outcomes, or were lost
+  own_told : IsToldBefore set world.shared.segs.asks call (asker call) after
+  own_told =
+      let before : made_before call (asker call) after ≡ party.asked =
+      made_own call (asker call) after refl ∙ ap (λ (n : ℕ). n - 1) next ∙ one_less party.asked in
+      record {
+        answered = omega (
+          arith,
+          quiet.told (asker call) party there,
+          ap (missed_among world.shared.segs.asks (asker call)) before,
+          sends.lost,
+          sends.freed,
+        );
+        last = λ same. sends.asked;
+      }
+    where
+      one_less : (n : ℕ) → n + 1 - 1 ≡ n
+      one_less n = omega arith
+
+  told_sent : (who : ℕ) (one : Party) → slice_get (slice_set world.parties (asker call) after) who ≡ Some one
+      → IsToldBefore set world.shared.segs.asks call who one
+  told_sent who one found =
+      elim (cases_eq who (asker call)) [
+        | inl own ↦
+            let its = asker_after one (ap (slice_get (slice_set world.parties (asker call) after)) (sym own) ∙ found) in
+            subst (λ (n : ℕ). IsToldBefore set world.shared.segs.asks call n one) (sym own)
+            (subst (λ (one : Party). IsToldBefore set world.shared.segs.asks call (asker call) one) (sym its) own_told)
+        | inr other ↦
+            let was = quiet.told who one (sym (set_unfound world.parties (asker call) who after other) ∙ found) in
+            record {
+              answered =
+                  omega (arith, was, ap (missed_among world.shared.segs.asks who) (made_other call who one other));
+              last = λ own. absurd (other own);
+            }
+      ]
+
+  -- where it was lost there is room for one more without an outcome
+  pub may_miss : losses set (asker call) party + 1 ≤ losses set (asker call) after → (action : Action)
+      → MayMissOne set (asker call) (number_of call) (behind action)
+  may_miss room action one found =
+      let before : number_of call - 1 ≡ party.asked = ap (λ (n : ℕ). n - 1) next ∙ one_less party.asked in
+      let its = asker_after one found in
+      subst (λ (one : Party). missed_among world.shared.segs.asks (asker call) (number_of call - 1) < losses set (asker call) one) (sym its)
+      (omega (arith, room, quiet.told (asker call) party there, ap (missed_among world.shared.segs.asks (asker call)) before))
+    where
+      one_less : (n : ℕ) → n + 1 - 1 ≡ n
+      one_less n = omega arith
+
   doubled : (action : Action) (n : ℕ) (fresh : Bool) → copies (posted_as action 0) ≡ n
       → n + doubles set (asker call) party ≤ doubles set (asker call) after + (if fresh then 1 else 0)
       → AreDoubled set (behind action) call false fresh
@@ -176,6 +225,7 @@ module _ (set : Setting) (call : Asked) (sent : ℕ) (world : World) (frame : Fr
         let same : doubles set (asker call) one ≡ doubles set (asker call) after = ap (doubles set (asker call)) (asker_after one found) in
         omega (arith, all, same, room, quiet.doubled (asker call) party there));
     others = λ who one other found. quiet.doubled who one (sym (set_unfound world.parties (asker call) who after other) ∙ found);
+    told = told_sent;
   }
 
   -- all are level

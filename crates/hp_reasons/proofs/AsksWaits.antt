@@ -1,5 +1,5 @@
 -- Waits of asks, from the turn at which one was sent to a quiet world in which nothing is owed.
-use Rattle.std.proofs.Common.{◌≡◌, ◌∙◌, ℕ, Bool, true, false, List, [], ◌∷◌, ◌++◌, Option, Some, refl, ap, subst, arith}
+use Rattle.std.proofs.Common.{◌≡◌, ◌∙◌, ℕ, Bool, true, false, List, [], ◌∷◌, ◌++◌, Option, Some, refl, ap, subst}
 use Rattle.hp_base.specs.declared.row.Run.{Run}
 use Rattle.hp_core.specs.declared.asked.Asked.TheVariants as want
 use Rattle.hp_hall.specs.Mail.{MailStep}
@@ -71,7 +71,7 @@ module _ (known : AreServingsKnown) (waits_out : WaitsOut) (set : Setting) (ask 
             owing.gone ask.number since now back
             (λ none.
             let lost = lost_out set ask since now world out none in
-            (omega (arith, lost.asked party its.own), lost.room party its.own));
+            record { asked = lost.asked party its.own; room = lost.room party its.own; misses = lost.misses party its.own });
       }
 
   late_quiet : (old new : SoloView) (party after : Party) (steps : List MailStep) (world : World) → IsWorldOf old ask.from party world

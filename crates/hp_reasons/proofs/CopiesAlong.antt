@@ -7,6 +7,7 @@ use Rattle.std.proofs.lemmas.Bool.{cases_eq}
 use Rattle.std.proofs.lemmas.List.Elements.{All-drop}
 use Rattle.std.proofs.lemmas.List.Folds.{list_any_none}
 use Rattle.hp_base.specs.declared.plan_entry.MsgKind.TheVariants as message
+use Rattle.hp_core.specs.declared.asked.Asked.{Asked}
 use Rattle.hp_frame.specs.declared.message.Body.{Body}
 use Rattle.hp_hall.specs.Holding.{IsArmed}
 use Rattle.hp_hall.specs.Mail.{box_of}
@@ -22,9 +23,10 @@ use Rattle.hp_proc.specs.Party.{Party}
 use Rattle.hp_proc.specs.Posting.{times_sent}
 use Rattle.hp_proc.specs.declared.sent.Sent.{Sent}
 use Rattle.hp_reasons.specs.Counting.{lost_among}
-use Rattle.hp_reasons.specs.Episode.{AreSaid, IsBase, IsExcused, IsInPlace, IsNotedCall, Setting, World, mail_of, number_of_party}
+use Rattle.hp_reasons.specs.Episode.{AreSaid, IsBase, IsExcused, IsInPlace, IsNotedCall, IsToldBefore, Setting, World, mail_of, number_of_party}
 use Rattle.hp_reasons.specs.Failing.{AreGrantsWithin}
 use Rattle.hp_reasons.specs.Outcomes.{late_outcomes, withdrawn_outcomes}
+use Rattle.hp_reasons.proofs.Told.{IsHeardOn, told_on}
 
 -- what is left of a segment value where at most a stale outcome is logged, and no growth opens or closes
 pub record IsLike (old new : SegsView) : Type 0 where
@@ -36,6 +38,7 @@ pub record IsLike (old new : SegsView) : Type 0 where
   pub closed : (who : ℕ) → closed_number new.asks who ≡ closed_number old.asks who
   pub late : (who : ℕ) → late_outcomes who new.asks ≡ late_outcomes who old.asks
   pub withdrawn : (who : ℕ) → withdrawn_outcomes who new.asks ≡ withdrawn_outcomes who old.asks
+  pub heard : (who : ℕ) → IsHeardOn who old.asks new.asks
   pub failed : (who call : ℕ) → has_failed_from new.asks who call ≡ has_failed_from old.asks who call
   pub granted : (number : ℕ) → AreGrantsWithin number old.asks → AreGrantsWithin number new.asks
   pub answered : (from number : ℕ) → list_any (grants_or_refuses from number) old.asks ≡ true
@@ -103,6 +106,15 @@ module _ (set : Setting) (old new : World) (along : IsAlong old new) where
             subst (λ (n : ℕ). list_any test (mail_of new n) ≡ false) (sym primary) (none_first test (none 0))
         | inr apart ↦ ap (list_any test) (along.others who apart) ∙ none who
       ]
+
+  -- all but one ask have their outcomes, or were lost, as before
+  pub told_along : (call : Asked) → ((who : ℕ) (party : Party) → slice_get old.parties who ≡ Some party
+      → IsToldBefore set old.shared.segs.asks call who party)
+      → (who : ℕ) (party : Party) → slice_get new.parties who ≡ Some party → IsToldBefore set new.shared.segs.asks call who party
+  told_along call told who party found =
+      let came = along.before who party found in
+      told_on set old.shared.segs.asks new.shared.segs.asks call who came.its party (along.segs.heard who) came.same.asked
+      (ap (λ (sent : Sent). sent.allocs) came.same.sent) (ap (λ (sent : Sent). sent.frees) came.same.sent) (told who came.its came.there)
 
   -- each one is in its place, a failure is noted of a call that was made, and what was refused has its reasons
   place_along : (who : ℕ) (party : Party) (came : CameOf old who party) → IsInPlace set old who came.its → IsInPlace set new who party

@@ -14,7 +14,7 @@ use Rattle.hp_log.proofs.Counts.{count_cons}
 use Rattle.hp_proc.specs.Party.{Party}
 use Rattle.hp_reasons.specs.Episode.{AreAnswersOrCopies, AreDoubled, HasCoordinator, IsBase, IsCopy, IsUnanswered, Setting, Stage, WaitsToSettle, World, is_answer, is_call, is_sync, mail_of, number_of_party}
 use Rattle.hp_reasons.specs.Stages.{HasOneMore, HasRoomFor, IsSent, IsStarting, MayPoll}
-use Rattle.hp_reasons.proofs.CopiesAlong.{IsAlong, IsSameBut, all_first}
+use Rattle.hp_reasons.proofs.CopiesAlong.{IsAlong, IsSameBut, all_first, told_along}
 use Rattle.hp_reasons.proofs.CopiesBodies.{answer_is_no_copy, copy_is_call}
 use Rattle.hp_reasons.proofs.CopiesCarried.{IsUnheard, answered_along, growing_along, over_along, settling_along, synced_before, to_do_along, unanswered_along}
 use Rattle.hp_reasons.proofs.CopiesLevel.{starts_along}
@@ -97,6 +97,7 @@ module _ (set : Setting) (call : Asked) (sent : ℕ) (world : World) (primary af
           let sends = doubles_same set who came.its party came.same.sent in
           let before = doubled.others who came.its apart came.there in
           omega (arith, sends, before));
+      told = told_along set world (fetched after world) along_fetched call doubled.told;
     }
 
     -- one of a fresh ask is the first of it
@@ -113,6 +114,7 @@ module _ (set : Setting) (call : Asked) (sent : ℕ) (world : World) (primary af
           let sends = doubles_same set who came.its party came.same.sent in
           let before = doubled.others who came.its apart came.there in
           omega (arith, sends, before));
+      told = told_along set world (fetched after world) along_fetched call doubled.told;
     }
 
     -- and of another there is room for one more that is stale

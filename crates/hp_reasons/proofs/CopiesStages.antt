@@ -19,7 +19,7 @@ use Rattle.hp_reasons.specs.Counting.{doubled_among}
 use Rattle.hp_reasons.specs.Episode.{AreDoubled, HasCoordinator, IsBase, Setting, Stage, World, doubles, is_call, mail_of}
 use Rattle.hp_reasons.specs.Shared.{Shared, with_segs}
 use Rattle.hp_reasons.specs.Stages.{ComesTo, HasOneMore, TakesACopy}
-use Rattle.hp_reasons.proofs.CopiesAlong.{IsAlong, IsLike, IsSameBut}
+use Rattle.hp_reasons.proofs.CopiesAlong.{IsAlong, IsLike, IsSameBut, told_along}
 use Rattle.hp_reasons.proofs.CopiesCarried.{IsUnheard, answered_along, growing_along, over_along, settling_along, to_do_along}
 use Rattle.hp_reasons.proofs.CopiesSet.{along_set, base_set, set_twice, unheard_set, world_set}
 use Rattle.hp_reasons.proofs.CopiesTaken.{IsTaken, handled_so, held_growing, held_settling, like_room, like_stale, rested, stale_more, stale_step}
@@ -123,6 +123,8 @@ module _ (set : Setting) (call : Asked) (sent : ℕ) (world : World) (primary : 
         let sends = doubles_same set who came.its party came.same.sent in
         let before = doubled.others who came.its apart came.there in
         omega (arith, sends, before));
+    told = told_along set world (behind (with_room world.shared.segs) core)
+        (along_behind (with_room world.shared.segs) core (like_room world.shared.segs)) call doubled.told;
   }
 
   -- the segment value behind a stale outcome
@@ -146,6 +148,8 @@ module _ (set : Setting) (call : Asked) (sent : ℕ) (world : World) (primary : 
         let rises = stale_more world.shared.segs (asker call) (number_of call) who in
         let none : one_if (asker call == who) ≡ 0 = ap one_if (unlike (asker call) who (asker call == who) refl apart) in
         omega (arith, sends, before, rises, none));
+    told = told_along set world (behind staled core)
+        (along_behind staled core (like_stale world.shared.segs (asker call) (number_of call))) call doubled.told;
   }
 
   -- so it comes to the stage that stands behind the step

@@ -33,6 +33,7 @@ use Rattle.hp_reasons.specs.Shared.{Shared, with_segs}
 use Rattle.hp_reasons.proofs.CopiesAlong.{IsLike}
 use Rattle.hp_reasons.proofs.CopiesStale.{answered_stays, closed_stays, failed_stays, granted_before, late_stays, stale_rises, withdrawn_stays}
 use Rattle.hp_reasons.proofs.CountingLemmas.{one_if}
+use Rattle.hp_reasons.proofs.Told.{heard_more, heard_same}
 
 -- where the outcomes are the same, and nothing else changes that counts
 like_by : (old new : SegsView) → new.log ≡ old.log → new.roster ≡ old.roster → new.growth ≡ old.growth → new.armed ≡ old.armed
@@ -46,6 +47,7 @@ like_by old new log roster growth armed retiring same = record {
   closed = λ who. ap (λ (asks : List AskLog). closed_number asks who) same;
   late = λ who. ap (late_outcomes who) same;
   withdrawn = λ who. ap (withdrawn_outcomes who) same;
+  heard = λ who. heard_same who old.asks new.asks same;
   failed = λ who call. ap (λ (asks : List AskLog). has_failed_from asks who call) same;
   granted = λ number are. subst (AreGrantsWithin number) (sym same) are;
   answered = λ from number is. ap (list_any (grants_or_refuses from number)) same ∙ is;
@@ -68,6 +70,9 @@ like_stale segs from number = record {
   closed = closed_stays segs.asks from number (closed_number segs.asks from) (length segs.log);
   late = late_stays segs.asks from number (closed_number segs.asks from) (length segs.log);
   withdrawn = withdrawn_stays segs.asks from number (closed_number segs.asks from) (length segs.log);
+  heard = λ who.
+      heard_more who segs.asks (after_stale from number (with_room segs)).asks _ refl
+      (withdrawn_stays segs.asks from number (closed_number segs.asks from) (length segs.log) who);
   failed = failed_stays segs.asks from number (closed_number segs.asks from) (length segs.log);
   granted = λ bound are entry generation there grants.
       are entry generation

@@ -41,6 +41,7 @@ pub mod MemberServings
 pub mod MemberStages
 pub mod MemberWorlds
 pub mod NothingLost
+pub mod NoticesHeard
 pub mod NonesForWant
 pub mod NonesInVain
 pub mod Notices
@@ -92,9 +93,11 @@ pub mod ThreadsLevel
 pub mod ThreadsLine
 pub mod ThreadsLooks
 pub mod ThreadsNames
+pub mod ThreadsNotices
 pub mod ThreadsOpen
 pub mod ThreadsPlaces
 pub mod ThreadsReasons
+pub mod Told
 pub mod TurnsAll
 pub mod TurnsCalls
 pub mod TurnsIdle

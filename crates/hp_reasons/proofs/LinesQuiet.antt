@@ -21,7 +21,7 @@ use Rattle.hp_proc.specs.Party.{Party}
 use Rattle.hp_proc.specs.Posting.{times_sent}
 use Rattle.hp_proc.specs.declared.sent.Sent.{Sent}
 use Rattle.hp_reasons.specs.Counting.{LosesNothing, doubled_among, lost_among}
-use Rattle.hp_reasons.specs.Episode.{AreLevel, AreSaid, IsBase, IsExcused, IsInPlace, IsNotedCall, Setting, World, doubles, mail_of, number_of_party}
+use Rattle.hp_reasons.specs.Episode.{AreLevel, AreSaid, IsBase, IsExcused, IsInPlace, IsNotedCall, Setting, World, doubles, mail_of, missed_among, number_of_party}
 use Rattle.hp_reasons.specs.Quiet.{IsQuietWorld}
 use Rattle.hp_reasons.specs.Failing.{AreGrantsWithin}
 use Rattle.hp_reasons.specs.Outcomes.{late_outcomes, stale_outcomes, withdrawn_outcomes}
@@ -29,6 +29,7 @@ use Rattle.hp_reasons.specs.Shared.{Shared}
 use Rattle.hp_reasons.specs.Stages.{world_with}
 use Rattle.hp_reasons.proofs.CaughtUp.{none_later}
 use Rattle.hp_reasons.proofs.Said.{get_set, set_long}
+use Rattle.hp_reasons.proofs.Told.{losses_same}
 
 -- a participant goes on as it was, but for its table, whether it has one, and what it knows
 pub record IsAsBefore (old new : Party) : Type 0 where
@@ -67,6 +68,7 @@ record WasThere (world : World) (who : ℕ) (party : Party) : Type 0 where
   there : slice_get world.parties who ≡ Some old
   sent : party.sent ≡ old.sent
   core : party.core ≡ old.core
+  asked : party.asked ≡ old.asked
 
 no_noted : (growth : Option Growth) (cause : Cause) → growth ≡ None → option_and_then (λ growth. growth.noted) growth ≡ Some cause → ⊥
 no_noted None cause none is = cc
@@ -87,8 +89,9 @@ module _ (set : Setting) (me : ℕ) (world : World) (shared : Shared) (party aft
               there = ap (slice_get world.parties) own.0 ∙ there;
               sent = ap (λ (one : Party). one.sent) own.1 ∙ goes.sent;
               core = ap (λ (one : Party). one.core) own.1 ∙ goes.core;
+              asked = ap (λ (one : Party). one.asked) own.1 ∙ goes.asked;
             }
-        | inr other ↦ record { old = one; there = other.1; sent = refl; core = refl }
+        | inr other ↦ record { old = one; there = other.1; sent = refl; core = refl; asked = refl }
       ]
 
   own_place : IsInPlace set later me after
@@ -218,5 +221,11 @@ module _ (set : Setting) (me : ℕ) (world : World) (shared : Shared) (party aft
         subst (λ (asks : List AskLog). stale_outcomes who asks ≤ doubles set who one) (sym shares.asks)
         (subst (λ (sent : Sent). stale_outcomes who world.shared.segs.asks ≤ doubled_of who sent) (sym its.sent)
         (quiet.doubled who its.old its.there)));
+    told = λ who one found.
+        (let its = was_there who one found in
+        let lost = losses_same set who its.old one (ap (λ (sent : Sent). sent.allocs) its.sent) (ap (λ (sent : Sent). sent.frees) its.sent) in
+        let missed : missed_among shared.segs.asks who one.asked ≡ missed_among world.shared.segs.asks who its.old.asked =
+        ap (λ (asks : List AskLog). missed_among asks who one.asked) shares.asks ∙ ap (missed_among world.shared.segs.asks who) its.asked in
+        omega (arith, lost, missed, quiet.told who its.old its.there));
     level = level_here;
   }

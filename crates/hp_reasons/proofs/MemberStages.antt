@@ -23,7 +23,7 @@ use Rattle.hp_segs.specs.declared.outcome.AskLog.{AskLog}
 use Rattle.hp_proc.specs.Party.{Party}
 use Rattle.hp_proc.specs.Posting.{times_sent}
 use Rattle.hp_reasons.specs.Counting.{doubled_among, lost_among}
-use Rattle.hp_reasons.specs.Episode.{AreAnswersOrCopies, AreDoubled, AreOthersEmpty, FollowsGrowth, IsAnsweredFor, HasCoordinator, IsClosed, IsCopy, IsToDo, IsUnanswered, Setting, Stage, World, copies_left, doubles, fails, fresh, growing, has, is_answer, is_call, is_result_of, is_sync, lost, mail_of, over, settling, told}
+use Rattle.hp_reasons.specs.Episode.{AreAnswersOrCopies, AreDoubled, AreOthersEmpty, FollowsGrowth, HasCoordinator, IsAnsweredFor, IsClosed, IsCopy, IsToDo, IsToldBefore, IsUnanswered, Setting, Stage, World, copies_left, doubles, fails, fresh, growing, has, is_answer, is_call, is_result_of, is_sync, lost, mail_of, over, settling, told}
 use Rattle.hp_reasons.specs.Outcomes.{late_outcomes, stale_outcomes}
 use Rattle.hp_reasons.specs.Shared.{Shared}
 use Rattle.hp_reasons.specs.Stages.{world_with}
@@ -31,6 +31,7 @@ use Rattle.hp_reasons.proofs.MemberLevels.{ends_with, grows_with, settles_with, 
 use Rattle.hp_reasons.proofs.MemberMail.{Heeds, TakesMail, any_behind, any_stays, catches, cons_not_nil, count_more, is_out, none_stays, notes, passes}
 use Rattle.hp_reasons.proofs.MemberWorlds.{ServesAlone}
 use Rattle.hp_reasons.proofs.Said.{get_set}
+use Rattle.hp_reasons.proofs.Told.{heard_same, told_on}
 
 -- the generation of a growth's round is that of the last record
 opens_by : (segs : SegsView) (round : Round) (growth : Option Growth) → IsSound segs → segs.growth ≡ growth
@@ -140,6 +141,16 @@ module _ (set : Setting) (world : World) (who : ℕ) (party after : Party) (shar
                 stale_same other,
               )
           | inr apart ↦ omega (arith, are.others other its others apart.1, stale_same other)
+        ];
+    told = λ other its found.
+        let on = heard_same other world.shared.segs.asks shared.segs.asks serves.segs.asks in
+        elim (get_set world.parties who other after its found) [
+          | inl both ↦
+              subst (λ (one : Party). IsToldBefore set shared.segs.asks call other one) (sym both.1)
+              (told_on set world.shared.segs.asks shared.segs.asks call other party after on serves.still.asked serves.still.allocs
+              serves.still.frees (are.told other party (ap (slice_get world.parties) both.0 ∙ there)))
+          | inr apart ↦
+              told_on set world.shared.segs.asks shared.segs.asks call other its its on refl refl refl (are.told other its apart.1)
         ];
   }
 

@@ -22,7 +22,7 @@ use Rattle.hp_proc.specs.Party.{Party, after_free, one_more}
 use Rattle.hp_proc.specs.Waiting.{IsWaited}
 use Rattle.hp_solo.specs.Sequence.{Sequence}
 use Rattle.hp_solo.specs.Solo.{SoloView}
-use Rattle.hp_reasons.specs.Counting.{LosesNothing, is_doubled, is_lost}
+use Rattle.hp_reasons.specs.Counting.{LosesNothing, is_doubled, is_lost, lost_among}
 use Rattle.hp_reasons.specs.Episode.{IsInPlace, IsSetting, Setting, World, doubles}
 use Rattle.hp_reasons.specs.Quiet.{IsQuietOwing, IsQuietWorld}
 use Rattle.hp_reasons.specs.Shared.{IsSharedIn, Shared}
@@ -32,12 +32,12 @@ use Rattle.hp_reasons.specs.Worlds.{IsWorldOf}
 use Rattle.hp_reasons.proofs.AsksBase.{HasSent}
 use Rattle.hp_reasons.proofs.AsksOut.{owing_out}
 use Rattle.hp_reasons.proofs.AsksOwn.{world_own}
-use Rattle.hp_reasons.proofs.AsksStage.{just_sent, world_posted}
+use Rattle.hp_reasons.proofs.AsksStage.{just_sent, may_miss, world_posted}
 use Rattle.hp_reasons.proofs.Said.{set_found, set_unfound}
 use Rattle.hp_reasons.proofs.Sharing.{read_clock}
 use Rattle.hp_reasons.proofs.TurnsSequence.{calls_own, cut_in}
 use Rattle.hp_reasons.proofs.CountingLemmas.{one_if}
-use Rattle.hp_reasons.proofs.LostCounts.{doubled_more, never_lost}
+use Rattle.hp_reasons.proofs.LostCounts.{doubled_more, lost_rises, never_lost, one_lost}
 
 module _ (set : Setting) (party : Party) (heap : ℕ) (run : Run) (since : ℕ) (world : World) (setting : IsSetting set)
     (quiet : IsQuietWorld set world) (own : slice_get world.parties party.me ≡ Some party) (early : since ≤ 2 ^ 62)
@@ -75,6 +75,7 @@ module _ (set : Setting) (party : Party) (heap : ℕ) (run : Run) (since : ℕ) 
     asked = refl;
     answered = refl;
     lost = omega arith;
+    freed = lost_rises set.plan message.Free party.me setting.counted party.sent.frees;
   }
 
   to_do : closed_number world.shared.segs.asks party.me < party.asked + 1
@@ -87,6 +88,12 @@ module _ (set : Setting) (party : Party) (heap : ℕ) (run : Run) (since : ℕ) 
       ap (λ (plan : List PlanEntry). one_if (is_doubled (action_of plan message.Free party.me (one_more party.sent.frees)))) place.plan in
       omega (arith, more, same)
 
+  one_more_lost : is_lost action ≡ true
+      → lost_among set.plan message.Free party.me party.sent.frees + 1 ≤ lost_among set.plan message.Free party.me after.sent.frees
+  one_more_lost lost =
+      one_lost set.plan message.Free party.me setting.counted party.sent.frees
+      (sym (ap (λ (plan : List PlanEntry). is_lost (action_of plan message.Free party.me (one_more party.sent.frees))) place.plan) ∙ lost)
+
   never : LosesNothing set.plan → is_lost action ≡ true → ⊥
   never nothing lost =
       never_lost set.plan message.Free party.me setting.counted party.sent.frees nothing
@@ -95,8 +102,11 @@ module _ (set : Setting) (party : Party) (heap : ℕ) (run : Run) (since : ℕ) 
   -- it was just sent, in a frame that says so
   tells_at_turn : (frame : Frame) → Says frame body → IsAtTurn set call since (world_posted party.me world frame body after action)
   tells_at_turn frame says =
-      just_sent set call since world frame body party after is_sent quiet own sends (sym since_is) to_do to_do says
-      (heap, run.addr, min (run_bytes run) (2 ^ 64 - 1), refl) (λ nothing. tt) action grows (λ lost. tt) never
+      just_sent set call since world frame body party after is_sent quiet own sends (sym since_is) to_do to_do refl says
+      (heap, run.addr, min (run_bytes run) (2 ^ 64 - 1), refl) (λ nothing. tt) action grows
+      (λ lost.
+      may_miss set call since world frame body party after is_sent quiet own sends (sym since_is) to_do to_do refl says
+      (heap, run.addr, min (run_bytes run) (2 ^ 64 - 1), refl) (λ nothing. tt) (omega (arith, one_more_lost lost)) action) never
 
 module _ (known : AreServingsKnown) (waits_out : WaitsOut) where
   own_quiet : (set : Setting) (heap : ℕ) (old new : SoloView) (party after : Party) (run : Run) (steps : List MailStep) (world : World)

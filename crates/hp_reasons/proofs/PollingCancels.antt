@@ -45,7 +45,8 @@ use Rattle.hp_reasons.proofs.PollingWays.{has_passed_at}
 use Rattle.hp_reasons.proofs.StartingMaps.{comes_on}
 use Rattle.hp_reasons.proofs.StartingOutcomes.{answered_behind, closed_behind}
 use Rattle.hp_reasons.proofs.StartingSettles.{IsSettling, settles}
-use Rattle.hp_reasons.proofs.OutcomesMore.{stale_same}
+use Rattle.hp_reasons.proofs.OutcomesMore.{stale_same, withdrawn_same}
+use Rattle.hp_reasons.proofs.Told.{heard_more}
 
 -- WHO IS BELOW
 
@@ -223,7 +224,9 @@ module _ (set : Setting) (call : Asked) (sent : ℕ) (world : World) (primary : 
           copies = grows.bodies;
           doubled = goes_doubled world primary mapping (segs cause) there set call holds holds false
               (omega (arith, stale_same world.shared.segs.asks (refusal cause) (asker call) refl))
-              (λ who apart. stale_same world.shared.segs.asks (refusal cause) who refl) grows.doubled;
+              (λ who apart. stale_same world.shared.segs.asks (refusal cause) who refl)
+              (λ who. heard_more who world.shared.segs.asks (segs cause).asks (refusal cause ∷ []) refl
+              (withdrawn_same world.shared.segs.asks (refusal cause) who one.stands)) grows.doubled;
           earlier = λ member lies. (
             λ first. clash (sym lies ∙ (ap (λ (n : ℕ). list_any is_sync (mail_of world n)) first
                 ∙ bodies_unsynced call (mail_of world 0) grows.bodies)),

@@ -9,6 +9,7 @@ use Rattle.hp_core.specs.declared.phase.Phase.{Phase}
 use Rattle.hp_segs.specs.SegsView.{SegsView}
 use Rattle.hp_proc.specs.Coordinating.{with_core}
 use Rattle.hp_proc.specs.Party.{Party}
+use Rattle.hp_proc.specs.declared.sent.Sent.{Sent}
 use Rattle.hp_reasons.specs.Episode.{AreDoubled, HasCoordinator, IsCoordinator, IsUnanswered, Setting, World}
 use Rattle.hp_reasons.specs.Outcomes.{stale_outcomes}
 use Rattle.hp_reasons.specs.Shared.{with_segs}
@@ -18,6 +19,7 @@ use Rattle.hp_reasons.proofs.CopiesCarried.{IsUnheard}
 use Rattle.hp_reasons.proofs.CopiesSet.{came_from}
 use Rattle.hp_reasons.proofs.CopiesStages.{doubles_same}
 use Rattle.hp_reasons.proofs.Said.{get_set, set_found}
+use Rattle.hp_reasons.proofs.Told.{IsHeardOn, told_on}
 
 -- the world behind such a step
 abbrev pub goes : World → Party → Core → SegsView → World
@@ -78,8 +80,9 @@ module _ (world : World) (primary : Party) (next : Core) (segs : SegsView) (ther
         → stale_outcomes (asker call) segs.asks + (if later then 1 else 0)
         ≤ stale_outcomes (asker call) world.shared.segs.asks + (if holds then 1 else 0)
         → ((who : ℕ) → who ≢ asker call → stale_outcomes who segs.asks ≡ stale_outcomes who world.shared.segs.asks)
+        → ((who : ℕ) → IsHeardOn who world.shared.segs.asks segs.asks)
         → AreDoubled set world call holds fresh → AreDoubled set (goes world primary next segs) call later fresh
-    goes_doubled holds later fresh own others doubled = record {
+    goes_doubled holds later fresh own others heard doubled = record {
       asker_is = λ party found.
           let came = came_of (asker call) party found in
           omega (arith, own, doubled.asker_is came.its came.there, doubles_same set (asker call) came.its party came.same.sent);
@@ -92,4 +95,9 @@ module _ (world : World) (primary : Party) (next : Core) (segs : SegsView) (ther
             doubles_same set who came.its party
                 came.same.sent,
           );
+      told = λ who party found.
+          let came = came_of who party found in
+          told_on set world.shared.segs.asks segs.asks call who came.its party (heard who) came.same.asked
+          (ap (λ (sent : Sent). sent.allocs) came.same.sent) (ap (λ (sent : Sent). sent.frees) came.same.sent)
+          (doubled.told who came.its came.there);
     }

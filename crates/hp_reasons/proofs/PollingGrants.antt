@@ -1,5 +1,5 @@
 -- A growth that all members have acknowledged is granted, and its ask is over.
-use Rattle.std.proofs.Common.{◌≡◌, ◌∙◌, ℕ, ◌+◌, ◌<◌, ◌≤◌, Bool, true, false, List, length, Some, None, inl, inr, refl, sym, ap, subst, arith}
+use Rattle.std.proofs.Common.{◌≡◌, ◌∙◌, ℕ, ◌+◌, ◌<◌, ◌≤◌, Bool, true, false, List, length, Some, None, inl, inr, refl, sym, ap, subst, arith, ◌∷◌, []}
 use Rattle.std.proofs.lemmas.Bool.{cases_Bool}
 use Rattle.std.proofs.lemmas.Option.{same_Some}
 use Rattle.std.specs.List.{list_any}
@@ -30,7 +30,8 @@ use Rattle.hp_reasons.proofs.PollingSteps.{MakesStep}
 use Rattle.hp_reasons.proofs.StartingMaps.{comes_on}
 use Rattle.hp_reasons.proofs.StartingOutcomes.{answered_behind, closed_behind}
 use Rattle.hp_reasons.proofs.StartingResults.{IsEnding}
-use Rattle.hp_reasons.proofs.OutcomesMore.{stale_same}
+use Rattle.hp_reasons.proofs.OutcomesMore.{stale_same, withdrawn_same}
+use Rattle.hp_reasons.proofs.Told.{heard_more}
 
 -- the growth of an ask waits for its members, while participant 0 may serve
 pub record IsGrowing (set : Setting) (call : Asked) (sent : ℕ) (world : World) (round : Round) (holds : Bool) : Type 0 where
@@ -141,7 +142,9 @@ module _ (set : Setting) (call : Asked) (sent : ℕ) (world : World) (primary : 
       copies = grows.bodies;
       doubled = goes_doubled world primary resting segs there set call holds holds false
           (omega (arith, stale_same world.shared.segs.asks entry (asker call) refl))
-          (λ who apart. stale_same world.shared.segs.asks entry who refl) grows.doubled;
+          (λ who apart. stale_same world.shared.segs.asks entry who refl)
+          (λ who. heard_more who world.shared.segs.asks segs.asks (entry ∷ []) refl
+          (withdrawn_same world.shared.segs.asks entry who entry_fits.stands)) grows.doubled;
       no_sync = unsynced;
       answered = answered_behind call ending world.shared.segs.asks entry refl its_from its_number refl;
       level = record { gone = grows.level.gone; level = λ loses. all_level };

@@ -1,5 +1,5 @@
 -- A step that logs at most a stale outcome: what holds at every moment stays, and where it is taken a stage is come to.
-use Rattle.std.proofs.Common.{◌≡◌, ℕ, true, Some, inl, refl, sym, ap, subst, arith}
+use Rattle.std.proofs.Common.{◌≡◌, ℕ, ◌-◌, true, Some, inl, refl, sym, ap, subst, arith}
 use Rattle.std.specs.Prelude.{slice_get}
 use Rattle.hp_base.specs.declared.plan_entry.MsgKind.TheVariants as message
 use Rattle.hp_core.specs.Core.{Core}
@@ -13,13 +13,14 @@ use Rattle.hp_proc.specs.Coordinating.{with_core}
 use Rattle.hp_proc.specs.Party.{Party}
 use Rattle.hp_proc.specs.declared.sent.Sent.{Sent}
 use Rattle.hp_reasons.specs.Counting.{lost_among}
-use Rattle.hp_reasons.specs.Episode.{IsBase, MayBeTakenBack, Setting, Stage, World}
+use Rattle.hp_reasons.specs.Episode.{HasRoomBack, IsBase, MayBeTakenBack, MayMissOne, Setting, Stage, World}
 use Rattle.hp_reasons.specs.Shared.{Shared, with_segs}
 use Rattle.hp_reasons.specs.Stages.{ComesTo}
 use Rattle.hp_reasons.proofs.CopiesAlong.{IsAlong, IsLike}
 use Rattle.hp_reasons.proofs.CopiesSet.{along_set, base_set}
 use Rattle.hp_reasons.proofs.CopiesTaken.{IsTaken}
 use Rattle.hp_reasons.proofs.PollingGoes.{came_of, goes, with_core_same}
+use Rattle.hp_reasons.proofs.Told.{losses_same, missed_fewer}
 
 module _ (set : Setting) (world : World) (primary : Party) (next : Core) (segs : SegsView) (base : IsBase set world)
     (there : slice_get world.parties 0 ≡ Some primary) (like : IsLike world.shared.segs segs) where
@@ -34,7 +35,7 @@ module _ (set : Setting) (world : World) (primary : Party) (next : Core) (segs :
       (with_core_same next primary) like goes_along
       base refl refl base.said sound (armed base.armed)
 
-  back_grown : (ask : Ask) → MayBeTakenBack set (want.Grow ask) world → MayBeTakenBack set (want.Grow ask) (goes world primary next segs)
+  back_grown : (ask : Ask) → HasRoomBack set ask.from world → HasRoomBack set ask.from (goes world primary next segs)
   back_grown ask may party found =
       let came = came_of world primary next segs there ask.from party found in
       let same : lost_among set.plan message.Alloc ask.from party.sent.allocs ≡ lost_among set.plan message.Alloc ask.from
@@ -42,10 +43,18 @@ module _ (set : Setting) (world : World) (primary : Party) (next : Core) (segs :
       ap (λ (sent : Sent). lost_among set.plan message.Alloc ask.from sent.allocs) came.same.sent in
       omega (arith, like.withdrawn ask.from, may came.its came.there, same)
 
+  -- there is still room for one more without an outcome
+  misses_still : (who number : ℕ) → MayMissOne set who number world → MayMissOne set who number (goes world primary next segs)
+  misses_still who number may party found =
+      let came = came_of world primary next segs there who party found in
+      let lost =
+      losses_same set who came.its party (ap (λ (sent : Sent). sent.allocs) came.same.sent) (ap (λ (sent : Sent). sent.frees) came.same.sent) in
+      omega (arith, may came.its came.there, missed_fewer who world.shared.segs.asks segs.asks (like.heard who) (number - 1), lost)
+
   -- an ask that was lost may still be taken back
   pub goes_back : (call : Asked) → MayBeTakenBack set call world → MayBeTakenBack set call (goes world primary next segs)
-  goes_back (want.Grow ask) may = back_grown ask may
-  goes_back (want.Shrink from number) may = tt
+  goes_back (want.Grow ask) may = (back_grown ask may.0, misses_still ask.from ask.number may.1)
+  goes_back (want.Shrink from number) may = misses_still from number may
 
   -- where the step is taken, it comes to that stage
   pub comes_taken : (call : Asked) (sent : ℕ) (shared : Shared) (after : Party) → IsTaken segs next world.shared shared primary after

@@ -1,6 +1,7 @@
 -- In one thread growths are refused, and asks taken back or stale, for reasons that the plan names, and where no message is lost nothing is
 -- left to do at the end: all parts together.
 use Rattle.hp_reasons.specs.Lines.{AreWaitsQuiet}
+use Rattle.hp_reasons.specs.Notices.{ThreadsHearNotices}
 use Rattle.hp_reasons.specs.Threads.{LeadInQuiet, ThreadsEndLevel, ThreadsHaveReasons}
 use Rattle.hp_reasons.specs.Waits.{AreServingsKnown}
 use Rattle.hp_reasons.proofs.Asks.{asks_in_quiet}
@@ -16,6 +17,7 @@ use Rattle.hp_reasons.proofs.SharedAlong.{courses_go_along}
 use Rattle.hp_reasons.proofs.StartingFresh.{starts_fresh}
 use Rattle.hp_reasons.proofs.ThreadsBetween.{leads_by}
 use Rattle.hp_reasons.proofs.ThreadsLevel.{threads_end_level}
+use Rattle.hp_reasons.proofs.ThreadsNotices.{threads_hear_notices}
 use Rattle.hp_reasons.proofs.ThreadsReasons.{threads_have_reasons}
 use Rattle.hp_reasons.proofs.TurnsIdle.{turns_in_quiet}
 use Rattle.hp_reasons.proofs.WaitsEnd.{waits_out}
@@ -51,3 +53,6 @@ threads_reasons = threads_have_reasons lead
 
 pub threads_level : ThreadsEndLevel
 threads_level = threads_end_level lead
+
+pub threads_notices : ThreadsHearNotices
+threads_notices = threads_hear_notices lead

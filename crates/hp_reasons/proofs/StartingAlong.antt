@@ -16,7 +16,8 @@ use Rattle.hp_reasons.specs.Outcomes.{stale_outcomes}
 use Rattle.hp_reasons.specs.Servings.{CarriesOut, MapsItself, PostsFor, answers, maps, nobody, nothing, posts, synced, syncs}
 use Rattle.hp_reasons.specs.Shared.{Shared}
 use Rattle.hp_reasons.specs.Stages.{world_with}
-use Rattle.hp_reasons.proofs.StartingBase.{Follows, doubles_on, stale_logged, was_there}
+use Rattle.hp_reasons.proofs.StartingBase.{Follows, doubles_on, heard_logged, stale_logged, was_there}
+use Rattle.hp_reasons.proofs.Told.{told_on}
 
 module _ (set : Setting) (world : World) (shared : Shared) (primary after : Party) (there : slice_get world.parties 0 ≡ Some primary)
     (follows : Follows set world shared primary after) where
@@ -50,6 +51,11 @@ module _ (set : Setting) (world : World) (shared : Shared) (primary after : Part
         subst (λ (n : ℕ). stale_outcomes who shared.segs.asks ≤ n) (sym (doubles_on set who was.before party was.on))
         (subst (λ (n : ℕ). n ≤ doubles set who was.before)
         (sym (stale_logged next world.shared.segs.asks shared.segs.asks who follows.asks)) (doubled.others who was.before apart was.there));
+    told = λ who party found.
+        let was = was_there shared world primary after there follows.on who party found in
+        told_on set world.shared.segs.asks shared.segs.asks call who was.before party
+        (heard_logged next world.shared.segs.asks shared.segs.asks who follows.asks) was.on.asked was.on.allocs was.on.frees
+        (doubled.told who was.before was.there);
   }
 
 -- WHAT IS CARRIED OUT

@@ -24,6 +24,7 @@ use Rattle.hp_reasons.specs.Stages.{world_with}
 use Rattle.hp_reasons.proofs.CaughtUp.{none_later}
 use Rattle.hp_reasons.proofs.OutcomesMore.{closed_within, failed_same, granted_within, late_same, stale_same, withdrawn_same}
 use Rattle.hp_reasons.proofs.Said.{get_set, set_found, set_long}
+use Rattle.hp_reasons.proofs.Told.{IsHeardOn, heard_more, heard_same}
 
 -- a participant goes on as it was, but for its coordinator, its table, and what it has sent as a coordinator
 pub record GoesOn (old new : Party) : Type 0 where
@@ -106,6 +107,11 @@ pub stale_logged : (world : World) (old new : List AskLog) (who : ℕ) → LogsO
 stale_logged world old new who (stays same) = ap (stale_outcomes who) same
 stale_logged world old new who (logs entry more orderly) =
     ap (stale_outcomes who) more ∙ stale_same old entry who orderly.fresh
+
+pub heard_logged : (world : World) (old new : List AskLog) (who : ℕ) → LogsOne world old new → IsHeardOn who old new
+heard_logged world old new who (stays same) = heard_same who old new same
+heard_logged world old new who (logs entry more orderly) =
+    heard_more who old new (entry ∷ []) more (withdrawn_logged world old new who (logs entry more orderly))
 
 -- what was granted is within the numbers
 granted_logged : (world : World) (old new : List AskLog) (who : ℕ) → LogsOne world old new → is_member world.shared.segs.roster who ≡ true

@@ -21,6 +21,7 @@ use Rattle.hp_reasons.specs.Shared.{with_boxes}
 use Rattle.hp_reasons.specs.Stages.{world_with}
 use Rattle.hp_reasons.proofs.Said.{AreAllSaid, get_set, set_found, set_long}
 use Rattle.hp_reasons.proofs.StartingBase.{GoesOn, WasThere, doubles_on, was_there}
+use Rattle.hp_reasons.proofs.Told.{heard_same, told_on}
 
 -- a participant has posted something as a coordinator: its counts of SYNCs and RESULTs alone may have changed
 pub record HasPosted (set : Setting) (old new : Party) : Type 0 where
@@ -179,6 +180,11 @@ module _ (set : Setting) (world : World) (boxes : List (List Frame)) (mail : Lis
         let was = was_behind who party found in
         subst (λ (n : ℕ). stale_outcomes who world.shared.segs.asks ≤ n) (sym (doubles_on set who was.before party was.on))
         (doubled.others who was.before apart was.there);
+    told = λ who party found.
+        let was = was_behind who party found in
+        told_on set world.shared.segs.asks world.shared.segs.asks call who was.before party
+        (heard_same who world.shared.segs.asks world.shared.segs.asks refl) was.on.asked was.on.allocs was.on.frees
+        (doubled.told who was.before was.there);
   }
 
   -- its asker has not heard of its answer, where that is in no mailbox

@@ -99,6 +99,7 @@ quiet_at set now world quiet = record {
   growth = quiet.growth;
   empty = quiet.empty;
   doubled = quiet.doubled;
+  told = quiet.told;
   level = quiet.level;
 }
 
@@ -160,7 +161,7 @@ module _ (set : Setting) (call : Asked) (sent now : ℕ) (is_sent : IsSent set c
   unanswered_at unanswered = record { asked = unanswered.asked; unheard = unanswered.unheard; nowhere = unanswered.nowhere }
 
   doubled_at : (holds : Bool) → AreDoubled set world call holds false → AreDoubled set (at_clock now world) call holds false
-  doubled_at holds doubled = record { asker_is = doubled.asker_is; others = doubled.others }
+  doubled_at holds doubled = record { asker_is = doubled.asker_is; others = doubled.others; told = doubled.told }
 
   to_do_at : (those : Asked) → IsToDo those world → IsToDo those (at_clock now world)
   to_do_at (want.Grow ask) to_do = to_do

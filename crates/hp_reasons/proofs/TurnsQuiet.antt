@@ -1,23 +1,25 @@
 -- A turn has ended: the stage of the ask stands for participant 0 again, and once it is over all is quiet; and what a pause leaves of that.
-use Rattle.std.proofs.Common.{◌≡◌, ◌∙◌, ◌&&◌, ◌<◌, ◌≤◌, ℕ, zero, suc, Bool, true, false, List, [], ◌∷◌, length, replicate, Option, Some, None, is_some, inl, inr, refl, sym, ap, subst, arith, true≢false}
+use Rattle.std.proofs.Common.{◌≡◌, ◌∙◌, ◌&&◌, ◌⊎◌, ◌-◌, ◌<◌, ◌≤◌, ℕ, zero, suc, Bool, true, false, List, [], ◌∷◌, length, replicate, Option, Some, None, is_some, inl, inr, refl, sym, ap, subst, arith, true≢false}
 use Rattle.std.specs.Prelude.{slice_get, slice_set, if◌then◌else◌}
 use Rattle.std.specs.List.{list_any}
 use Rattle.std.proofs.lemmas.Bool.{cases_eq, or_right}
-use Rattle.hp_core.specs.Asks.{asker}
+use Rattle.hp_core.specs.Asks.{asker, number_of}
 use Rattle.hp_core.specs.Core.{Core, holds_ask, is_idle}
 use Rattle.hp_core.specs.declared.asked.Asked.{Asked}
 use Rattle.hp_core.specs.declared.phase.Phase.{Phase}
 use Rattle.hp_core.specs.declared.phase.Phase.TheVariants.{Idle}
 use Rattle.hp_frame.specs.declared.message.Body.{Body}
+use Rattle.hp_segs.specs.SegsView.{closed_number}
 use Rattle.hp_proc.specs.Coordinating.{core_holds}
 use Rattle.hp_proc.specs.Party.{Party}
 use Rattle.hp_reasons.specs.Counting.{LosesNothing}
-use Rattle.hp_reasons.specs.Episode.{AreAnswersOrCopies, AreDoubled, AreLevel, AreOthersEmpty, EndsLevel, HasCoordinator, IsAnsweredFor, IsBase, Setting, Stage, World, doubles, is_sync, mail_of}
+use Rattle.hp_reasons.specs.Episode.{AreAnswersOrCopies, AreDoubled, AreLevel, AreOthersEmpty, EndsLevel, HasCoordinator, IsAnsweredFor, IsBase, IsClosed, MayMissOne, Setting, Stage, World, doubles, is_sync, losses, mail_of, missed_among}
 use Rattle.hp_reasons.specs.Quiet.{IsQuietWorld}
 use Rattle.hp_reasons.specs.Outcomes.{stale_outcomes}
 use Rattle.hp_reasons.specs.Stages.{IsSent}
 use Rattle.hp_reasons.specs.Waits.{is_last}
 use Rattle.hp_reasons.proofs.CopiesBodies.{bodies_unsynced}
+use Rattle.hp_reasons.proofs.Told.{told_then}
 
 empty_no_sync : (bodies : List Body) → bodies ≡ [] → list_any is_sync bodies ≡ false
 empty_no_sync bodies none = ap (list_any is_sync) none
@@ -85,6 +87,7 @@ pub record IsOver (set : Setting) (call : Asked) (world : World) : Type 0 where
   pub holds : Bool
   pub coordinator : HasCoordinator set world Idle call holds
   pub alone : world.shared.segs.growth ≡ None
+  pub closed : IsClosed call world
   pub doubled : AreDoubled set world call holds false
   pub answered : IsAnsweredFor call world
   pub level : EndsLevel set world
@@ -100,7 +103,15 @@ over_with set call sent leads world
     answered level)
     last = cc
 over_with set call sent leads world (Stage.over holds coordinator alone closed bodies doubled told answered level) last =
-    record { holds = holds; coordinator = coordinator; alone = alone; doubled = doubled; answered = answered; level = level }
+    record {
+      holds = holds;
+      coordinator = coordinator;
+      alone = alone;
+      closed = closed;
+      doubled = doubled;
+      answered = answered;
+      level = level;
+    }
 
 -- all is quiet then
 module _ (set : Setting) (call : Asked) (sent : ℕ) (is_sent : IsSent set call sent) (world : World) (base : IsBase set world)
@@ -122,23 +133,41 @@ module _ (set : Setting) (call : Asked) (sent : ℕ) (is_sent : IsSent set call 
         | inr apart ↦ doubled.others who party apart found
       ]
 
+  -- this one is closed, or there is room for one more without an outcome
+  abbrev pub IsClosedOrMissed : Type 0
+  IsClosedOrMissed = IsClosed call world ⊎ MayMissOne set (asker call) (number_of call) world
+
+  all_told : (holds : Bool) → AreDoubled set world call holds false → IsClosedOrMissed → (who : ℕ) (party : Party)
+      → slice_get world.parties who ≡ Some party → missed_among world.shared.segs.asks who party.asked ≤ losses set who party
+  all_told holds doubled ends who party found =
+      told_then set world.shared.segs.asks call who party (doubled.told who party found) (base.places who party found).closed
+      (λ own.
+      elim ends [
+        | inl closed ↦ inl (subst (λ (n : ℕ). number_of call ≤ closed_number world.shared.segs.asks n) (sym own) closed)
+        | inr room ↦
+            inr
+            (subst (λ (n : ℕ). missed_among world.shared.segs.asks n (number_of call - 1) < losses set n party) (sym own)
+            (room party (ap (slice_get world.parties) (sym own) ∙ found)))
+      ])
+
   pub quiet_idle : HasCoordinator set world Idle call false → world.shared.segs.growth ≡ None → AreDoubled set world call false false
-      → (LosesNothing set.plan → AreLevel world) → IsQuietWorld set world
-  quiet_idle coordinator alone doubled level = record {
+      → IsClosedOrMissed → (LosesNothing set.plan → AreLevel world) → IsQuietWorld set world
+  quiet_idle coordinator alone doubled ends level = record {
     base = base;
     idle = λ primary found.
         (coordinator.is.its, same_party coordinator primary found, coordinator.is.deadline, coordinator.is.phase_is, coordinator.is.held);
     growth = alone;
     empty = none;
     doubled = few_stale doubled;
+    told = all_told false doubled ends;
     level = level;
   }
 
   quiet_with : (holds : Bool) → HasCoordinator set world Idle call holds → holds ≡ false → world.shared.segs.growth ≡ None
-      → AreDoubled set world call holds false → (LosesNothing set.plan → AreLevel world) → IsQuietWorld set world
-  quiet_with holds coordinator nothing alone doubled level =
+      → AreDoubled set world call holds false → IsClosed call world → (LosesNothing set.plan → AreLevel world) → IsQuietWorld set world
+  quiet_with holds coordinator nothing alone doubled closed level =
       quiet_idle (subst (HasCoordinator set world Idle call) nothing coordinator) alone
-      (subst (λ (holds : Bool). AreDoubled set world call holds false) nothing doubled) level
+      (subst (λ (holds : Bool). AreDoubled set world call holds false) nothing doubled) (inl closed) level
 
   -- it holds nothing
   nothing_held : (over : IsOver set call world)
@@ -151,4 +180,4 @@ module _ (set : Setting) (call : Asked) (sent : ℕ) (is_sent : IsSent set call 
   pub quiet_over : (over : IsOver set call world)
       → ((primary : Party) → slice_get world.parties 0 ≡ Some primary → core_holds primary.core ≡ false) → IsQuietWorld set world
   quiet_over over rests =
-      quiet_with over.holds over.coordinator (nothing_held over rests) over.alone over.doubled over.level.level
+      quiet_with over.holds over.coordinator (nothing_held over rests) over.alone over.doubled over.closed over.level.level

@@ -1,5 +1,5 @@
 -- What stands while participants of one thread wait for the answer to an ask or a notice. The rule "Reasons" of docs/PARTICIPANTS.md.
-use Rattle.std.specs.Prelude.{◌≡◌, ◌≢◌, ℕ, ◌+◌, ◌<◌, ◌≤◌, ◌⊎◌, ⊤, Bool, true, false, ◌&&◌, ◌||◌, ◌==◌, List, [], ◌∷◌, length, replicate, count_by, Option, Some, None, is_some, if◌then◌else◌, slice_get, slice_index_or, slice_set}
+use Rattle.std.specs.Prelude.{◌≡◌, ◌≢◌, ℕ, ◌+◌, ◌-◌, ◌<◌, ◌≤◌, ◌⊎◌, ⊤, Bool, true, false, ◌&&◌, ◌||◌, ◌==◌, List, [], ◌∷◌, length, replicate, count_by, Option, Some, None, is_some, if◌then◌else◌, slice_get, slice_index_or, slice_set}
 use Rattle.std.specs.List.{All, list_any}
 use Rattle.hp_base.specs.declared.limits.TheConstants.{MAX_COUNT, MAX_DEADLINE}
 use Rattle.hp_base.specs.declared.map_answer.MapAnswer.{MapAnswer}
@@ -24,6 +24,7 @@ use Rattle.hp_maps.specs.MapsView.{calls_of}
 use Rattle.hp_segs.specs.LaterSteps.{has_failed_from, noted_failure}
 use Rattle.hp_segs.specs.SegsView.{closed_number, grants_or_refuses, is_member}
 use Rattle.hp_segs.specs.Sound.{IsSound}
+use Rattle.hp_segs.specs.declared.outcome.AskLog.{AskLog}
 use Rattle.hp_segs.specs.declared.outcome.Cause.{Cause}
 use Rattle.hp_segs.specs.declared.outcome.Cause.TheVariants.{MapFailed}
 use Rattle.hp_proc.specs.Asking.{alloc_body}
@@ -31,7 +32,7 @@ use Rattle.hp_proc.specs.Frames.{Says}
 use Rattle.hp_proc.specs.Party.{Party}
 use Rattle.hp_proc.specs.Posting.{times_sent}
 use Rattle.hp_reasons.specs.Counting.{LosesNothing, doubled_among, lost_among}
-use Rattle.hp_reasons.specs.Outcomes.{late_outcomes, stale_outcomes, withdrawn_outcomes}
+use Rattle.hp_reasons.specs.Outcomes.{late_outcomes, stale_outcomes, unanswered_among, withdrawn_outcomes}
 use Rattle.hp_reasons.specs.Failing.{AreGrantsWithin}
 use Rattle.hp_reasons.specs.Shared.{Shared}
 
@@ -176,12 +177,33 @@ IsToDo (want.Shrink from number) world = closed_number world.shared.segs.asks fr
 abbrev pub copies_left : World → Bool → ℕ
 copies_left world holds = count_by is_call (mail_of world 0) + (if holds then 1 else 0)
 
--- each ask that was stale so far came twice; those of the asker that are still to come are counted in, but for the first one of a fresh ask
+-- how many of a participant's first asks and notices, so many, have no outcome, or were taken back
+abbrev pub missed_among : List AskLog → ℕ → ℕ → ℕ
+missed_among asks who n = unanswered_among asks who n + withdrawn_outcomes who asks
+
+-- how many of a participant's asks and notices were lost so far
+abbrev pub losses : Setting → ℕ → Party → ℕ
+losses set who party =
+    lost_among set.plan message.Alloc who party.sent.allocs + lost_among set.plan message.Free who party.sent.frees
+
+-- how many asks and notices a participant made, but for this one, where it is its own
+abbrev pub made_before : Asked → ℕ → Party → ℕ
+made_before call who party = if asker call == who then number_of call - 1 else party.asked
+
+-- each ask and notice that a participant made, but for this one, has an outcome, or was lost
+pub record IsToldBefore (set : Setting) (asks : List AskLog) (call : Asked) (who : ℕ) (party : Party) : Type 0 where
+  pub answered : missed_among asks who (made_before call who party) ≤ losses set who party
+  pub last : who ≡ asker call → party.asked ≡ number_of call
+
+-- each ask that was stale so far came twice; those of the asker that are still to come are counted in, but for the first one of a fresh ask.
+-- All others were answered, or lost
 pub record AreDoubled (set : Setting) (world : World) (call : Asked) (holds fresh : Bool) : Type 0 where
   pub asker_is : (party : Party) → slice_get world.parties (asker call) ≡ Some party
       → stale_outcomes (asker call) world.shared.segs.asks + copies_left world holds ≤ doubles set (asker call) party + (if fresh then 1 else 0)
   pub others : (who : ℕ) (party : Party) → who ≢ asker call → slice_get world.parties who ≡ Some party
       → stale_outcomes who world.shared.segs.asks ≤ doubles set who party
+  pub told : (who : ℕ) (party : Party) → slice_get world.parties who ≡ Some party
+      → IsToldBefore set world.shared.segs.asks call who party
 
 -- no mailbox but that of participant 0 has anything
 abbrev pub AreOthersEmpty : World → Type 0
@@ -226,11 +248,20 @@ abbrev pub IsAnsweredFor : Asked → World → Type 0
 IsAnsweredFor (want.Grow ask) world = list_any (grants_or_refuses ask.from ask.number) world.shared.segs.asks ≡ true
 IsAnsweredFor (want.Shrink from number) world = ⊤
 
+-- there is room for one more without an outcome: this one
+abbrev pub MayMissOne : Setting → ℕ → ℕ → World → Type 0
+MayMissOne set who number world = (party : Party) → slice_get world.parties who ≡ Some party
+    → missed_among world.shared.segs.asks who (number - 1) < losses set who party
+
 -- where a growth's ask was lost there is room for one more that is taken back
+abbrev pub HasRoomBack : Setting → ℕ → World → Type 0
+HasRoomBack set who world = (party : Party) → slice_get world.parties who ≡ Some party
+    → withdrawn_outcomes who world.shared.segs.asks < lost_among set.plan message.Alloc who party.sent.allocs
+
+-- what was lost has no outcome, and may be taken back where it is a growth's ask
 abbrev pub MayBeTakenBack : Setting → Asked → World → Type 0
-MayBeTakenBack set (want.Grow ask) world = (party : Party) → slice_get world.parties ask.from ≡ Some party
-    → withdrawn_outcomes ask.from world.shared.segs.asks < lost_among set.plan message.Alloc ask.from party.sent.allocs
-MayBeTakenBack set (want.Shrink from number) world = ⊤
+MayBeTakenBack set (want.Grow ask) world = HasRoomBack set ask.from world × MayMissOne set ask.from ask.number world
+MayBeTakenBack set (want.Shrink from number) world = MayMissOne set from number world
 
 -- all members have taken in all records
 abbrev pub AreLevel : World → Type 0

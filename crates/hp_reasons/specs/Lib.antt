@@ -12,3 +12,4 @@ pub mod Waits
 pub mod Lines
 pub mod Threads
 pub mod Nones
+pub mod Notices

@@ -1,6 +1,8 @@
--- How often growths were refused as late, and how often asks were taken back or stale. The rule "Reasons" of docs/PARTICIPANTS.md.
-use Rattle.std.specs.Prelude.{ℕ, Bool, true, false, ◌&&◌, ◌==◌, List, count_by}
-use Rattle.hp_segs.specs.SegsView.{is_stale}
+-- How often growths were refused as late, how often asks were taken back or stale, and how many asks and notices have no outcome. The rule
+-- "Reasons" of docs/PARTICIPANTS.md.
+use Rattle.std.specs.Prelude.{ℕ, zero, suc, ◌+◌, Bool, true, false, ◌&&◌, ◌==◌, List, count_by, if◌then◌else◌}
+use Rattle.std.specs.List.{list_any}
+use Rattle.hp_segs.specs.SegsView.{is_outcome_for, is_stale}
 use Rattle.hp_segs.specs.declared.outcome.AskLog.{AskLog}
 use Rattle.hp_segs.specs.declared.outcome.Cause.{Cause}
 use Rattle.hp_segs.specs.declared.outcome.Cause.TheVariants.{CannotHold, Denied, Late, ListFull, MapFailed, NoList, TooFew, Withdrawn}
@@ -43,3 +45,8 @@ withdrawn_outcomes who asks = count_by (λ entry. (entry.from == who) && refuses
 
 abbrev pub stale_outcomes : ℕ → List AskLog → ℕ
 stale_outcomes who asks = count_by (λ entry. (entry.from == who) && is_stale entry.outcome) asks
+
+-- how many of the first asks and notices of that participant, so many, have no outcome but stale ones
+unfoldable pub unanswered_among : List AskLog → ℕ → ℕ → ℕ
+unanswered_among asks who zero = 0
+unanswered_among asks who (suc n) = unanswered_among asks who n + (if list_any (is_outcome_for who (suc n)) asks then 0 else 1)

@@ -4,7 +4,7 @@ use Rattle.hp_core.specs.Core.{Core}
 use Rattle.hp_core.specs.declared.phase.Phase.TheVariants.{Idle}
 use Rattle.hp_proc.specs.Party.{Party}
 use Rattle.hp_reasons.specs.Counting.{LosesNothing}
-use Rattle.hp_reasons.specs.Episode.{AreLevel, IsBase, Setting, World, doubles, mail_of}
+use Rattle.hp_reasons.specs.Episode.{AreLevel, IsBase, Setting, World, doubles, losses, mail_of, missed_among}
 use Rattle.hp_reasons.specs.Outcomes.{stale_outcomes}
 
 -- between asks and notices all is quiet
@@ -16,6 +16,9 @@ pub record IsQuietWorld (set : Setting) (world : World) : Type 0 where
   pub empty : (who : ℕ) → mail_of world who ≡ []
   pub doubled : (who : ℕ) (party : Party) → slice_get world.parties who ≡ Some party
       → stale_outcomes who world.shared.segs.asks ≤ doubles set who party
+  -- asks and notices without an outcome, and asks that were taken back, are no more than were lost
+  pub told : (who : ℕ) (party : Party) → slice_get world.parties who ≡ Some party
+      → missed_among world.shared.segs.asks who party.asked ≤ losses set who party
   -- where the plan loses no message all members have taken in all records
   pub level : LosesNothing set.plan → AreLevel world
 

@@ -3,6 +3,7 @@
 ghost use Rattle.hp_reasons.specs.Counting.{LosesAsPlanned, RepeatsAsPlanned};
 ghost use Rattle.hp_reasons.specs.Failing.{FailsAtTheGrowth, NotesAFailure};
 ghost use Rattle.hp_reasons.specs.Nones.{NonesAreInVain, RefusalsAreForWant};
+ghost use Rattle.hp_reasons.specs.Notices.{ThreadsHearNotices};
 ghost use Rattle.hp_reasons.specs.Servings.{CoordinatesSo, MembersServeSo};
 ghost use Rattle.hp_reasons.specs.Threads.{ThreadsEndLevel, ThreadsHaveReasons};
 
@@ -36,6 +37,12 @@ pub fn reasons_law()
 /// in all records. Own.
 pub fn level_law()
     ensures { ThreadsEndLevel }
+{}
+
+/// In every run in one thread a participant's notices of runs that it gave up have their outcome, which says that the run has gone back:
+/// those without one, and its asks that were taken back, are together at most the lines of the plan that lose its asks or notices. Own.
+pub fn notices_law()
+    ensures { ThreadsHearNotices }
 {}
 
 /// A line that allocates and is answered that there is no memory found no address in its heaps and was granted no pages; and where late and

@@ -3,4 +3,6 @@
 
 mod laws;
 
-pub use laws::{counting_law, failing_law, level_law, none_law, reasons_law, serving_law};
+pub use laws::{
+    counting_law, failing_law, level_law, none_law, notices_law, reasons_law, serving_law,
+};

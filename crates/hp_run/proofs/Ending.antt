@@ -2,17 +2,20 @@
 use Rattle.std.proofs.Common.{◌≡◌, ◌∙◌, ℕ, zero, suc, ◌+◌, ◌≤◌, List, [], ◌∷◌, length, Option, Some, None, refl, sym, ap, subst, arith}
 use Rattle.std.specs.List.{slice_get}
 use Rattle.std.specs.Option.{IsSome}
-use Rattle.std.proofs.lemmas.Option.{slice_get_past, slice_get_within}
+use Rattle.std.proofs.lemmas.Option.{same_Some, slice_get_past, slice_get_within}
 use Rattle.hp_base.specs.declared.limits.TheConstants.{MAX_HEAPS}
-use Rattle.hp_hall.specs.Course.{IsCourse, IsLater}
+use Rattle.hp_hall.specs.Course.{IsCourse, IsLater, IsLaterKept, IsLaterSegs}
 use Rattle.hp_hall.specs.HallSteps.{slots_of}
-use Rattle.hp_hall.specs.HallView.{HallView, IsHall, SlotView, segs_in, slot_at}
+use Rattle.hp_hall.specs.HallView.{HallView, IsHall, SlotView, segs_in, segs_of, slot_at}
+use Rattle.hp_hall.specs.declared.kept.Kept.{Kept}
+use Rattle.hp_hall.specs.declared.kept.Kept.TheVariants.{Heap, Segments}
 use Rattle.hp_hall.proofs.Opened.{opened_length, opened_segs}
 use Rattle.hp_heap.specs.History.{HeapView}
 use Rattle.hp_maps.specs.declared.table.Table.{Table}
 use Rattle.hp_script.specs.declared.answer.Answer.{Answer}
 use Rattle.hp_script.specs.declared.workload.Workload.{Workload}
 use Rattle.hp_segs.specs.SegsView.{SegsView}
+use Rattle.hp_segs.specs.Sound.{IsSound}
 use Rattle.hp_proc.specs.Ending.{LeavesTable}
 use Rattle.hp_proc.specs.Ends.{IsSoloEnd}
 use Rattle.hp_proc.specs.Party.{Party}
@@ -57,6 +60,21 @@ slots_long (heap ∷ heaps) segs =
     let rest = slots_long heaps segs in
     omega (arith, rest)
 
+kept_segs : (old new : Kept) (first last : SegsView) → IsLaterKept old new → segs_of old ≡ Some first → segs_of new ≡ Some last
+    → IsLaterSegs first last
+kept_segs (Heap old) new first last later is_first is_last = cc
+kept_segs (Segments old) (Heap new) first last later is_first is_last = elim later [ ]
+kept_segs (Segments old) (Segments new) first last later is_first is_last =
+    subst (λ (first : SegsView). IsLaterSegs first last) (same_Some old first is_first)
+    (subst (λ (last : SegsView). IsLaterSegs old last) (same_Some new last is_last) later)
+
+-- a segment value in its slot later on
+later_segs : (old new : Option SlotView) (first last : SegsView) → IsLater old new → segs_in old ≡ Some first → segs_in new ≡ Some last
+    → IsLaterSegs first last
+later_segs None new first last later is_first is_last = cc
+later_segs (Some old) None first last later is_first is_last = elim later [ ]
+later_segs (Some old) (Some new) first last later is_first is_last = kept_segs old.kept new.kept first last later is_first is_last
+
 leaves_one : (party : Option Party) (one : Party) (table : Table) → LeavesThere party table → party ≡ Some one → LeavesTable one table
 leaves_one party one table leaves is = subst (λ (party : Option Party). LeavesThere party table) is leaves
 
@@ -67,6 +85,10 @@ module _ (workload : Workload) (answers : List Answer) (hall : SoloView) (done :
     all_in who below =
         let there = there_below done.parties who (omega (arith, below, as_many hall.servers done.parties done.are)) in
         subst IsSome (sym (party_there hall.servers done.parties done.are who ∙ there.1)) refl
+
+    -- the first segment value is sound
+    pub first_sound : IsSound (first_segs workload)
+    first_sound = subst IsSound done.so_far.is_first.segs done.so_far.is_first.sound
 
     module _ (heaps : List HeapView) (segs : SegsView) (slots : hall.plain.slots ≡ slots_of heaps segs) where
       heaps_many : length heaps ≡ MAX_HEAPS
@@ -80,8 +102,15 @@ module _ (workload : Workload) (answers : List Answer) (hall : SoloView) (done :
       segs_there =
           ap (λ (slots : List SlotView). segs_in (slice_get slots MAX_HEAPS)) slots ∙ opened_segs heaps segs MAX_HEAPS heaps_many
 
+      -- the segment value came about by calls from the first one
+      pub came_by : IsLaterSegs (first_segs workload) segs
+      came_by =
+          let so = done.so_far in
+          later_segs (slot_at (first_hall workload so.heaps) MAX_HEAPS) (slot_at hall.plain MAX_HEAPS) (first_segs workload) segs
+          (so.course.slots MAX_HEAPS) (opened_segs so.heaps (first_segs workload) MAX_HEAPS so.first_heaps.in_order.count) segs_there
+
       pub ends_so : (tables : List Table) → EndsSo → IsGiven workload → IsHall hall.plain → LeaveTables hall.servers tables
-          → IsSoloEnd workload answers heaps segs tables
+          → (end : IsSoloEnd workload answers heaps segs tables) × (end.end.courses ≡ done.courses)
       ends_so tables law given sound leave =
           law workload done.courses answers done.parties hall.plain heaps segs tables given done.so_far
           (record {

@@ -14,6 +14,7 @@ use Rattle.hp_segs.specs.SegsView.{SegsView}
 use Rattle.hp_proc.specs.LinesDone.{Course}
 use Rattle.hp_solo.specs.Solo.{SoloView}
 use Rattle.hp_reasons.specs.Episode.{IsCounted}
+use Rattle.hp_reasons.specs.Notices.{NoticesAreHeard, ThreadsHearNotices}
 use Rattle.hp_reasons.specs.Threads.{HaveReasons, MayRun, ThreadsHaveReasons}
 use Rattle.hp_run.specs.Running.{HaveDoneLines, IsRunnable}
 use Rattle.hp_run.proofs.Coming.{given_by}
@@ -43,3 +44,10 @@ pub reasons_so : (workload : Workload) (answers : List Answer) (last : SoloView)
 reasons_so workload answers last segs runnable law done shown =
     law workload done.thread.first last done.courses done.parties segs (may_run workload done.courses runnable done.lines_are)
     done.thread.opens done.thread.thread done.so_far shown
+
+pub notices_so : (workload : Workload) (answers : List Answer) (last : SoloView) (segs : SegsView) → IsRunnable workload
+    → ThreadsHearNotices → (done : HaveDoneLines workload workload.lines.items answers last)
+    → segs_in (slot_at last.plain MAX_HEAPS) ≡ Some segs → NoticesAreHeard workload.plan.items done.courses segs.asks
+notices_so workload answers last segs runnable law done shown =
+    law workload done.thread.first last done.courses done.parties segs (may_run workload done.courses runnable done.lines_are)
+    done.thread.opens done.thread.thread done.so_far done.are shown

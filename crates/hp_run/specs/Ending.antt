@@ -7,15 +7,19 @@ use Rattle.hp_heap.specs.History.{HeapView}
 use Rattle.hp_maps.specs.declared.table.Table.{Table}
 use Rattle.hp_script.specs.declared.answer.Answer.{Answer}
 use Rattle.hp_script.specs.declared.workload.Workload.{Workload}
+use Rattle.hp_segs.specs.Moved.{Leads, SegsCall}
 use Rattle.hp_segs.specs.SegsView.{SegsView, is_retiring}
+use Rattle.hp_segs.specs.Sound.{IsSound}
 use Rattle.hp_segs.specs.declared.outcome.AskLog.{AskLog}
 use Rattle.hp_proc.specs.Ends.{IsSoloEnd}
 use Rattle.hp_proc.specs.LinesDone.{Course, courses_of}
+use Rattle.hp_joint.specs.SoFar.{first_segs}
 use Rattle.hp_agreed.specs.Alike.{PagesAlike, TablesAlike}
-use Rattle.hp_agreed.specs.Restored.{FailuresLeaveNoRow}
+use Rattle.hp_agreed.specs.Restored.{FailuresLeaveNoRow, GrowthsRestore, TablesRestore}
 use Rattle.hp_solo.specs.Solo.{ServerView}
 use Rattle.hp_reasons.specs.Counting.{LosesNothing}
 use Rattle.hp_reasons.specs.Nones.{IsNoneInVain, IsRefusedForWant}
+use Rattle.hp_reasons.specs.Notices.{NoticesAreHeard}
 use Rattle.hp_reasons.specs.Threads.{HaveReasons}
 use Rattle.hp_run.specs.Failures.{AreFailuresNamed, AreRefusalsNamed, FailAsMay, FailOnce, IsFailureNamed, RefuseAsMay, RefuseOnce}
 
@@ -58,12 +62,33 @@ pub record HaveWants (workload : Workload) (mappers : List (Option (List ℕ))) 
   pub vain : (who : ℕ) → who < workload.participants → All IsNoneInVain (courses_of who courses)
   pub want : LosesNothing workload.plan.items → NoMappingMayFail workload.plan.items mappers → All IsRefusedForWant asks
 
+-- an end of a workload whose lines were done one after another, which of their notices have an outcome in it, and the calls by which the
+-- segment value came about from the first one, which is sound
+pub record IsHeardEnd (workload : Workload) (answers : List Answer) (heaps : List HeapView) (segs : SegsView) (tables : List Table)
+    : Type 0 where
+  pub end : IsSoloEnd workload answers heaps segs tables
+  pub notices : NoticesAreHeard workload.plan.items end.end.courses segs.asks
+  pub calls : List SegsCall
+  pub leads : Leads calls (first_segs workload) segs
+  pub opens : IsSound (first_segs workload)
+
+-- a growth that failed restores: the segment value came about by calls, each under its condition, and wherever among them a growth was opened
+-- and failed, pools, free slots and pages, the states of the other rows and what is given up are as the other calls meanwhile would have
+-- left them; and the table of a participant whose number is at the growth's Drop is the one from before it
+pub record HasRestored (workload : Workload) (segs : SegsView) (tables : List Table) : Type 0 where
+  pub calls : List SegsCall
+  pub leads : Leads calls (first_segs workload) segs
+  pub growths : GrowthsRestore calls (first_segs workload)
+  pub answering : TablesRestore segs.log tables
+
 -- an end of a workload whose lines were done one after another. A mapping failed, for a growth or for a line that attaches, only where the
 -- plan or the mapper is why, and at no call twice; all who are attached map what is in use alike, and a growth that failed left no row; growths
 -- were refused as a participant was late, and asks of one taken back or stale, at most as often as the plan loses SYNCs to it, loses its asks,
 -- or repeats its asks and notices. Where the plan loses no message, no segment is Retiring, and each participant that is attached has taken in
 -- all records of the log. An allocation that is answered that there is no memory found no address in its heaps and was granted nothing; and
--- where the plan loses no message and no mapping may fail, asks were refused for want of a list, of pages, of slots or of a place alone
+-- where the plan loses no message and no mapping may fail, asks were refused for want of a list, of pages, of slots or of a place alone.
+-- Each run that was given up has gone back, as its notice's outcome says, but for as many as the plan loses of its participant's messages; and
+-- a growth that failed left all else as the other calls meanwhile would have left it
 pub record IsRunEnd (workload : Workload) (mappers : List (Option (List ℕ))) (answers : List Answer) (heaps : List HeapView)
     (segs : SegsView) (tables : List Table) : Type 0 where
   pub end : IsSoloEnd workload answers heaps segs tables
@@ -72,3 +97,5 @@ pub record IsRunEnd (workload : Workload) (mappers : List (Option (List ℕ))) (
   pub reasons : HaveReasons workload.plan.items segs.asks
   pub level : LosesNothing workload.plan.items → IsLevelEnd segs tables
   pub wants : HaveWants workload mappers end.end.courses segs.asks
+  pub notices : NoticesAreHeard workload.plan.items end.end.courses segs.asks
+  pub restored : HasRestored workload segs tables

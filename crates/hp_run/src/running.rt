@@ -5,11 +5,10 @@ ghost use Rattle.hp_segs.specs.Opening.{is_present};
 ghost use Rattle.hp_joint.specs.EndLaws.{said_in};
 ghost use Rattle.hp_reasons.specs.Counting.{LosesNothing};
 ghost use Rattle.hp_reasons.specs.Threads.{HaveReasons};
-ghost use Rattle.hp_run.specs.Ending.{AreAsMay, IsLevelEnd, IsRunEnd};
+ghost use Rattle.hp_run.specs.Ending.{AreAsMay, IsHeardEnd, IsLevelEnd, IsRunEnd};
 ghost use Rattle.hp_run.specs.Mappers.{IsUnused};
 ghost use Rattle.hp_run.specs.Opening.{HaveCome, IsEmptyHall, IsFirstHall, IsPlannedParty};
 ghost use Rattle.hp_run.specs.Running.{HaveDoneLines, IsRunnable, IsSameWorkload};
-ghost use Rattle.hp_proc.specs.Ends.{IsSoloEnd};
 
 use crate::doing::{do_lines, do_rest};
 use crate::opening::{first_heaps, plan_of};
@@ -20,7 +19,7 @@ use hp_heap::Heap;
 use hp_joint::{end_law, failure_law, line_law, refusal_law};
 use hp_maps::{LocalMaps, Planned, Table};
 use hp_proc::{LineContext, Participant, WorkloadFacts};
-use hp_reasons::{level_law, none_law, reasons_law};
+use hp_reasons::{level_law, none_law, notices_law, reasons_law};
 use hp_report::Ended;
 use hp_script::{Answer, Workload};
 use hp_segs::Segs;
@@ -213,7 +212,7 @@ fn run_in<'p, M: Mapper>(
     requires runnable { IsRunnable workload.now }
     requires first { HaveDoneLines workload.now [] [] hall }
     ensures end { IfOk result (λ left.
-        IsSoloEnd workload.now left.answers.items left.heaps.items left.segs left.tables.items) }
+        IsHeardEnd workload.now left.answers.items left.heaps.items left.segs left.tables.items) }
     ensures named { IfOk result (λ left. AreAsMay workload.now hall.entry.servers left.answers.items left.segs) }
     ensures reasons { IfOk result (λ left. HaveReasons workload.now.plan.items left.segs.asks) }
     ensures level { IfOk result (λ left.
@@ -231,6 +230,7 @@ fn run_in<'p, M: Mapper>(
     refusal_law();
     reasons_law();
     level_law();
+    notices_law();
     Ok(Left {
         answers,
         heaps,

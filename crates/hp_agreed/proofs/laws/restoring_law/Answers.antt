@@ -1,4 +1,5 @@
 -- The laws are lemmas.
+use Rattle.hp_agreed.proofs.EndRestored.{courses_restore, end_tables_restore}
 use Rattle.hp_agreed.proofs.FailedCourses.{failed_courses_restore}
 use Rattle.hp_agreed.proofs.FailedTables.{answering_restore, sound_logs_restore}
 use Rattle.hp_agreed.proofs.laws.restoring_law.Goals as goal
@@ -8,4 +9,6 @@ returns c = record {
   tables = sound_logs_restore;
   answering = answering_restore;
   states = failed_courses_restore;
+  along = courses_restore;
+  at_end = end_tables_restore;
 }

@@ -1,14 +1,16 @@
 -- The end, from what the lines and the servings behind them leave.
-use Rattle.std.proofs.Common.{◌≡◌, ◌∙◌, [], ap, sym, subst}
+use Rattle.std.proofs.Common.{◌≡◌, ◌∙◌, List, [], ap, sym, subst}
 use Rattle.hp_hall.specs.HallSteps.{slots_of}
 use Rattle.hp_hall.specs.HallView.{HallView, IsHall}
 use Rattle.hp_hall.specs.Opening.{AreHome}
+use Rattle.hp_proc.specs.LinesDone.{Course}
+use Rattle.hp_reasons.specs.Notices.{NoticesAreHeard}
 use Rattle.hp_run.specs.Running.{HaveDoneLines}
 use Rattle.hp_run.proofs.Coming.{given_by}
-use Rattle.hp_run.proofs.Ending.{all_in, ends_so, segs_there}
+use Rattle.hp_run.proofs.Ending.{all_in, came_by, ends_so, first_sound, segs_there}
 use Rattle.hp_run.proofs.FailureLemmas.{fail_so}
 use Rattle.hp_run.proofs.LevelLemmas.{level_so}
-use Rattle.hp_run.proofs.ReasonLemmas.{reasons_so}
+use Rattle.hp_run.proofs.ReasonLemmas.{notices_so, reasons_so}
 use Rattle.hp_run.proofs.Resting.{fail_then}
 use Rattle.hp_run.proofs.running.run_in.Goals as goal
 
@@ -52,13 +54,21 @@ returns g c =
     fail_then workload [] lines [] answers first mid last c.requires.first c.in_ok-answers.ensures.done c.in_ok-answers.ensures.may_fail
     c.in_ok-do_rest.ensures.may_fail in
     let shown = segs_there workload answers last done heaps left.segs slots in
-    let end =
+    let came = came_by workload answers last done heaps left.segs slots in
+    let ended =
     ends_so workload answers last done heaps left.segs slots tables c.end_law.ensures given sound c.in_ok-tables.ensures.tables in
     record {
-      end = end;
+      end = record {
+        end = ended.0;
+        notices = subst (λ (courses : List Course). NoticesAreHeard workload.plan.items courses left.segs.asks) (sym ended.1)
+            (notices_so workload answers last left.segs c.requires.runnable c.notices_law.ensures done shown);
+        calls = came.calls;
+        leads = came.leads;
+        opens = first_sound workload answers last done;
+      };
       named = fail_so workload answers first last left.segs given c.requires.first done alike c.failure_law.ensures.fails
           c.failure_law.ensures.once c.refusal_law.ensures.fails c.refusal_law.ensures.once shown;
       reasons = reasons_so workload answers last left.segs c.requires.runnable c.reasons_law.ensures done shown;
-      level = level_so workload answers last left.segs c.requires.runnable c.level_law.ensures done shown end.end.segs_sound tables
+      level = level_so workload answers last left.segs c.requires.runnable c.level_law.ensures done shown ended.0.end.segs_sound tables
           c.in_ok-tables.ensures.tables;
     }

@@ -1,0 +1,222 @@
+-- Asks and notices without an outcome, as outcomes are logged: those of all participants stay no more than were lost.
+use Rattle.std.proofs.Common.{◌≡◌, ◌≢◌, ◌∙◌, ◌⊎◌, ℕ, zero, suc, ◌+◌, ◌-◌, ◌<◌, ◌≤◌, Bool, true, false, not, ◌&&◌, ◌||◌, ◌==◌, max, cond, List, [], ◌∷◌, ◌++◌, inl, inr, refl, sym, ap, arith, eq-eqb, if◌then◌else◌}
+use Rattle.std.specs.List.{fold, list_any}
+use Rattle.std.proofs.lemmas.Bool.{and_from, and_parts, cases_eq, cases_lt, ne_eqb, or_right}
+use Rattle.std.proofs.lemmas.List.Folds.{list_any-append}
+use Rattle.hp_base.specs.declared.plan_entry.MsgKind.TheVariants as message
+use Rattle.hp_core.specs.Asks.{asker, number_of}
+use Rattle.hp_core.specs.declared.asked.Asked.{Asked}
+use Rattle.hp_segs.specs.SegsView.{closed_number, is_outcome_for, is_stale}
+use Rattle.hp_segs.specs.declared.outcome.AskLog.{AskLog}
+use Rattle.hp_proc.specs.Party.{Party}
+use Rattle.hp_reasons.specs.Counting.{lost_among}
+use Rattle.hp_reasons.specs.Episode.{IsToldBefore, Setting, losses, made_before, missed_among}
+use Rattle.hp_reasons.specs.Outcomes.{unanswered_among, withdrawn_outcomes}
+
+-- later outcomes: what had an outcome has one, and no more was taken back
+pub record IsHeardOn (who : ℕ) (old new : List AskLog) : Type 0 where
+  pub keeps : (number : ℕ) → list_any (is_outcome_for who number) old ≡ true → list_any (is_outcome_for who number) new ≡ true
+  pub withdrawn : withdrawn_outcomes who new ≡ withdrawn_outcomes who old
+
+pub heard_same : (who : ℕ) (old new : List AskLog) → new ≡ old → IsHeardOn who old new
+heard_same who old new same = record {
+  keeps = λ number is. ap (list_any (is_outcome_for who number)) same ∙ is;
+  withdrawn = ap (withdrawn_outcomes who) same;
+}
+
+pub outcome_stays : (who number : ℕ) (old more : List AskLog) → list_any (is_outcome_for who number) old ≡ true
+    → list_any (is_outcome_for who number) (old ++ more) ≡ true
+outcome_stays who number old more is =
+    list_any-append (is_outcome_for who number) old more
+    ∙ ap (λ (any : Bool). any || list_any (is_outcome_for who number) more) is
+
+pub heard_more : (who : ℕ) (old new more : List AskLog) → new ≡ old ++ more
+    → withdrawn_outcomes who new ≡ withdrawn_outcomes who old → IsHeardOn who old new
+heard_more who old new more is same = record {
+  keeps = λ number there. ap (list_any (is_outcome_for who number)) is ∙ outcome_stays who number old more there;
+  withdrawn = same;
+}
+
+fewer_by : (old new : Bool) → (old ≡ true → new ≡ true) → cond new 0 1 ≤ cond old 0 1
+fewer_by true new stays =
+    let is : new ≡ true = stays refl in
+    let none : ◌≡◌ {A = ℕ} (cond new 0 1) 0 = ap (λ (b : Bool). cond b 0 1) is in
+    omega (arith, none)
+fewer_by false true stays = omega arith
+fewer_by false false stays = omega arith
+
+pub unanswered_zero : (asks : List AskLog) (who : ℕ) → unanswered_among asks who 0 ≡ 0
+unfolding unanswered_among
+unanswered_zero asks who = refl
+
+pub unanswered_next : (asks : List AskLog) (who n : ℕ)
+    → unanswered_among asks who (suc n) ≡ unanswered_among asks who n + cond (list_any (is_outcome_for who (suc n)) asks) 0 1
+unfolding unanswered_among
+unanswered_next asks who n = refl
+
+pub none_missed : (who : ℕ) → missed_among [] who 0 ≡ 0
+none_missed who = omega (arith, unanswered_zero [] who)
+
+-- no more are without an outcome
+pub unanswered_fewer : (who : ℕ) (old new : List AskLog) → IsHeardOn who old new → (n : ℕ)
+    → unanswered_among new who n ≤ unanswered_among old who n
+unanswered_fewer who old new on zero = omega (arith, unanswered_zero new who)
+unanswered_fewer who old new on (suc n) =
+    omega (
+      arith,
+      unanswered_fewer who old new on n,
+      fewer_by (list_any (is_outcome_for who (suc n)) old) (list_any (is_outcome_for who (suc n)) new) (on.keeps (suc n)),
+      unanswered_next old who n,
+      unanswered_next new who n,
+    )
+
+-- so it is whatever is logged
+pub unanswered_more : (who : ℕ) (old more : List AskLog) (n : ℕ) → unanswered_among (old ++ more) who n ≤ unanswered_among old who n
+unanswered_more who old more zero = omega (arith, unanswered_zero (old ++ more) who)
+unanswered_more who old more (suc n) =
+    omega (
+      arith,
+      unanswered_more who old more n,
+      fewer_by (list_any (is_outcome_for who (suc n)) old) (list_any (is_outcome_for who (suc n)) (old ++ more))
+          (outcome_stays who (suc n) old more),
+      unanswered_next old who n,
+      unanswered_next (old ++ more) who n,
+    )
+
+pub missed_fewer : (who : ℕ) (old new : List AskLog) → IsHeardOn who old new → (n : ℕ) → missed_among new who n ≤ missed_among old who n
+missed_fewer who old new on n = omega (arith, unanswered_fewer who old new on n, on.withdrawn)
+
+-- one more, whether it has an outcome or not
+one_at_most : (b : Bool) → cond b 0 1 ≤ 1
+one_at_most true = omega arith
+one_at_most false = omega arith
+
+unanswered_last : (asks : List AskLog) (who n : ℕ) → unanswered_among asks who n ≤ unanswered_among asks who (n - 1) + 1
+unanswered_last asks who zero = omega (arith, unanswered_zero asks who)
+unanswered_last asks who (suc n) =
+    let same : unanswered_among asks who n ≡ unanswered_among asks who (suc n - 1) = ap (unanswered_among asks who) (before n) in
+    omega (arith, unanswered_next asks who n, one_at_most (list_any (is_outcome_for who (suc n)) asks), same)
+  where
+    before : (n : ℕ) → n ≡ suc n - 1
+    before n = omega arith
+
+pub missed_last : (asks : List AskLog) (who n : ℕ) → missed_among asks who n ≤ missed_among asks who (n - 1) + 1
+missed_last asks who n = omega (arith, unanswered_last asks who n)
+
+-- one more that has an outcome
+pub unanswered_heard : (asks : List AskLog) (who n : ℕ) → list_any (is_outcome_for who n) asks ≡ true
+    → unanswered_among asks who n ≤ unanswered_among asks who (n - 1)
+unanswered_heard asks who zero is = omega (arith, unanswered_zero asks who)
+unanswered_heard asks who (suc n) is =
+    let same : unanswered_among asks who n ≡ unanswered_among asks who (suc n - 1) = ap (unanswered_among asks who) (before n) in
+    let none : ◌≡◌ {A = ℕ} (cond (list_any (is_outcome_for who (suc n)) asks) 0 1) 0 = ap (λ (b : Bool). cond b 0 1) is in
+    omega (arith, unanswered_next asks who n, none, same)
+  where
+    before : (n : ℕ) → n ≡ suc n - 1
+    before n = omega arith
+
+-- THE CLOSED NUMBER
+
+abbrev counts_for : ℕ → AskLog → Bool
+counts_for who entry = (entry.from == who) && not (is_stale entry.outcome)
+
+-- the greatest number of an outcome so far
+abbrev greatest : ℕ → ℕ → AskLog → ℕ
+greatest who done entry = if counts_for who entry then max done entry.number else done
+
+its_number : (who done m : ℕ) (entry : AskLog) (counts : Bool) → counts_for who entry ≡ counts
+    → m ≡ (if counts then max done entry.number else done) → (m ≡ done) ⊎ (is_outcome_for who m entry ≡ true)
+its_number who done m entry false is same = inl same
+its_number who done m entry true is same =
+    let both = and_parts (entry.from == who) (not (is_stale entry.outcome)) is in
+    elim (cases_lt done entry.number) [
+      | inl below ↦
+          let its : entry.number ≡ m = omega (arith, same, below) in
+          inr
+          (and_from (entry.from == who) _ both.0 (and_from (entry.number == m) _ (eq-eqb entry.number m its) both.1))
+      | inr above ↦ inl (omega (arith, same, above))
+    ]
+
+closed_from : (who : ℕ) (asks : List AskLog) (done m : ℕ) → m ≡ fold (greatest who) done asks
+    → (m ≡ done) ⊎ (list_any (is_outcome_for who m) asks ≡ true)
+closed_from who [] done m is = inl is
+closed_from who (entry ∷ asks) done m is =
+    elim (closed_from who asks (greatest who done entry) m is) [
+      | inr among ↦ inr (or_right (is_outcome_for who m entry) _ among)
+      | inl same ↦ elim (its_number who done m entry (counts_for who entry) refl same) [
+        | inl done_is ↦ inl done_is
+        | inr first ↦ inr (ap (λ (b : Bool). b || list_any (is_outcome_for who m) asks) first)
+      ]
+    ]
+
+-- the closed number is that of an outcome, or 0
+pub closed_heard : (asks : List AskLog) (who n : ℕ) → closed_number asks who ≡ n → (n ≡ 0) ⊎ (list_any (is_outcome_for who n) asks ≡ true)
+closed_heard asks who n is = closed_from who asks 0 n (sym is)
+
+pub unanswered_closed : (asks : List AskLog) (who n : ℕ) → closed_number asks who ≡ n
+    → unanswered_among asks who n ≤ unanswered_among asks who (n - 1)
+unanswered_closed asks who n is =
+    elim (closed_heard asks who n is) [
+      | inl none ↦
+          let zero_is : unanswered_among asks who n ≡ 0 = ap (unanswered_among asks who) none ∙ unanswered_zero asks who in
+          omega (arith, zero_is)
+      | inr heard ↦ unanswered_heard asks who n heard
+    ]
+
+-- WHAT IS SAID OF PARTICIPANTS
+
+pub losses_same : (set : Setting) (who : ℕ) (old new : Party) → new.sent.allocs ≡ old.sent.allocs → new.sent.frees ≡ old.sent.frees
+    → losses set who new ≡ losses set who old
+losses_same set who old new allocs frees =
+    ap (λ (n : ℕ). lost_among set.plan message.Alloc who n + lost_among set.plan message.Free who new.sent.frees) allocs
+    ∙ ap (λ (n : ℕ). lost_among set.plan message.Alloc who old.sent.allocs + lost_among set.plan message.Free who n) frees
+
+made_same : (call : Asked) (who : ℕ) (old new : Party) → new.asked ≡ old.asked → made_before call who new ≡ made_before call who old
+made_same call who old new same = ap (λ (n : ℕ). if asker call == who then number_of call - 1 else n) same
+
+-- a participant that sent no more has what it had where later outcomes are heard
+pub told_on : (set : Setting) (old new : List AskLog) (call : Asked) (who : ℕ) (party after : Party) → IsHeardOn who old new
+    → after.asked ≡ party.asked → after.sent.allocs ≡ party.sent.allocs → after.sent.frees ≡ party.sent.frees
+    → IsToldBefore set old call who party → IsToldBefore set new call who after
+told_on set old new call who party after on asked allocs frees told = record {
+  answered =
+      let fewer = missed_fewer who old new on (made_before call who party) in
+      let made : missed_among new who (made_before call who after) ≡ missed_among new who (made_before call who party) =
+      ap (missed_among new who) (made_same call who party after asked) in
+      omega (arith, told.answered, fewer, made, losses_same set who party after allocs frees);
+  last = λ own. asked ∙ told.last own;
+}
+
+pub made_own : (call : Asked) (who : ℕ) (party : Party) → who ≡ asker call → made_before call who party ≡ number_of call - 1
+made_own call who party own =
+    ap (λ (b : Bool). if b then number_of call - 1 else party.asked) (eq-eqb (asker call) who (sym own))
+
+pub made_other : (call : Asked) (who : ℕ) (party : Party) → who ≢ asker call → made_before call who party ≡ party.asked
+made_other call who party other =
+    ap (λ (b : Bool). if b then number_of call - 1 else party.asked) (ne_eqb (asker call) who (λ same. other (sym same)))
+
+-- who is told of all but this one, and this one is closed, or there is room for one more without an outcome
+pub told_then : (set : Setting) (asks : List AskLog) (call : Asked) (who : ℕ) (party : Party) → IsToldBefore set asks call who party
+    → closed_number asks who ≤ party.asked
+    → (who ≡ asker call → (number_of call ≤ closed_number asks who) ⊎ (missed_among asks who (number_of call - 1) < losses set who party))
+    → missed_among asks who party.asked ≤ losses set who party
+told_then set asks call who party told closed ends =
+    elim (cases_eq who (asker call)) [
+      | inr other ↦
+          let made : missed_among asks who (made_before call who party) ≡ missed_among asks who party.asked =
+          ap (missed_among asks who) (made_other call who party other) in
+          omega (arith, told.answered, made)
+      | inl own ↦
+          let asked : party.asked ≡ number_of call = told.last own in
+          let made : missed_among asks who (made_before call who party) ≡ missed_among asks who (party.asked - 1) =
+          ap (missed_among asks who) (made_own call who party own ∙ ap (λ (n : ℕ). n - 1) (sym asked)) in
+          elim (ends own) [
+            | inl done ↦
+                let is : closed_number asks who ≡ party.asked = omega (arith, done, asked, closed) in
+                omega (arith, told.answered, made, unanswered_closed asks who party.asked is)
+            | inr room ↦
+                let before : missed_among asks who (number_of call - 1) ≡ missed_among asks who (party.asked - 1) =
+                ap (λ (n : ℕ). missed_among asks who (n - 1)) (sym asked) in
+                omega (arith, missed_last asks who party.asked, room, before)
+          ]
+    ]
