@@ -7,7 +7,9 @@ use directory_steps::HeapStep::{self, Add, At, Changes, Find, Give, HasPlace, Mi
 use hp_zone::ZoneFault;
 use std::alloc::Global;
 use std::test::Fail;
-use zone_steps::ZoneStep::{self, Check, Count, Free, Long, Lost, Put, Refuse, Reverse, See, Zeros};
+use zone_steps::ZoneStep::{
+    self, Check, Count, Free, Long, Lost, Put, Refuse, Reverse, See, Zeros,
+};
 
 // A name of 31 letters z, and one of 32.
 const LONGEST: &str = "zzzzzzzzzzzzzzzzzzzzzzzzzzzzzzz";
@@ -135,5 +137,8 @@ fn gives_the_lowest_index_and_a_new_socket(rt: HostRuntime) -> Result<(), Fail> 
 // The heap of index 2 gets a name and a range, and loses both; the next heap with its name gets a new socket number.
 #[test]
 fn gives_no_socket_number_again(rt: HostRuntime) {
-    assert_eq!(rt; directory_steps::given_again(rt.alloc()), Some(((2, 256), (2, 257))));
+    assert_eq!(rt;
+        directory_steps::given_again(rt.alloc()),
+        Some(((2, 256), (2, 257)))
+    );
 }
