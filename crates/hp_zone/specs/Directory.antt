@@ -42,7 +42,7 @@ opening sockets = record {
   next = FIRST_EXTERNAL_SOCKET;
 }
 
--- a directory that was just opened with these sockets: no change and no memory
+-- a directory that was just opened with these sockets: there was no change, and no memory is set aside
 abbrev pub opened : List ℕ → DirectoryView
 opened sockets = record { sockets = sockets; plain = opening sockets; log = []; room = 0 }
 

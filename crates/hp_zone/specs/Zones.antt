@@ -14,7 +14,7 @@ pub record ZonesView : Type 0 where
   pub log : List ZoneChange
   pub room : ℕ
 
--- no zone and no change, and no memory
+-- no zone and no change, and no memory is set aside
 abbrev pub no_zones : ZonesView
 no_zones = record { zones = []; log = []; room = 0 }
 

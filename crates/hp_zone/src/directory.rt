@@ -1,5 +1,5 @@
 //! The directory of heaps and its calls.
-ghost use Rattle.std.specs.Prelude.{◌≡◌, ◌+◌, ◌<◌, ◌≤◌, ◌↔◌, ◌^◌, IsTrue, Some, IfOk, IfSome, IfNone, OnOk, OnErr, length, vec_len, vec_capacity};
+ghost use Rattle.std.specs.Prelude.{◌≡◌, ◌+◌, ◌<◌, ◌≤◌, ◌↔◌, ◌^◌, IsTrue, IfOk, IfSome, IfNone, OnOk, OnErr, length, vec_len, vec_capacity};
 ghost use Rattle.hp_zone.specs.declared.name_change.NameChange.TheVariants.{Unnamed, Range, RangeGone};
 ghost use Rattle.hp_zone.specs.Directory.{
   GivesName,
@@ -7,6 +7,7 @@ ghost use Rattle.hp_zone.specs.Directory.{
   HasRange,
   IsDirectory,
   IsFoundAt,
+  IsNamed,
   IsNotFound,
   MayAdd,
   MayInsert,
@@ -94,7 +95,7 @@ impl Directory {
 
     /// The name and the socket number of the heap of that index, where it has a name. Own.
     pub fn at(&self, index: u32) -> Option<(&Name, u32)>
-        ensures named { IfSome result (λ heap. heap_at self.now.plain index ≡ Some (record { name = heap.0.now; socket = heap.1 })) }
+        ensures named { IfSome result (λ heap. IsNamed self.now.plain index (record { name = heap.0.now; socket = heap.1 })) }
         ensures none { IfNone result (heap_at self.now.plain index ≡ None) }
     {
         match self.heaps.get(index as usize) {

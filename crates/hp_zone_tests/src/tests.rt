@@ -3,11 +3,15 @@
 mod directory_steps;
 mod zone_steps;
 
-use directory_steps::HeapStep::{self, Add, At, Changes, Find, Give, HasPlace, Missing};
+use directory_steps::HeapStep::{
+    self, Add, At, Changes, Find, Give, HasPlace, LoseName, LoseRange, Missing,
+};
 use hp_zone::ZoneFault;
 use std::alloc::Global;
 use std::test::Fail;
-use zone_steps::ZoneStep::{self, Check, Count, Free, Long, Lost, Put, Refuse, Reverse, See, Zeros};
+use zone_steps::ZoneStep::{
+    self, Check, Count, Free, Long, Lost, Put, Refuse, Reverse, See, Zeros,
+};
 
 // A name of 31 letters z, and one of 32.
 const LONGEST: &str = "zzzzzzzzzzzzzzzzzzzzzzzzzzzzzzz";
@@ -134,6 +138,16 @@ fn gives_the_lowest_index_and_a_new_socket(rt: HostRuntime) -> Result<(), Fail> 
 
 // The heap of index 2 gets a name and a range, and loses both; the next heap with its name gets a new socket number.
 #[test]
-fn gives_no_socket_number_again(rt: HostRuntime) {
-    assert_eq!(rt; directory_steps::given_again(rt.alloc()), Some(((2, 256), (2, 257))));
+fn gives_no_socket_number_again(rt: HostRuntime) -> Result<(), Fail> {
+    let steps = [
+        Give("ext", 2, 256),
+        Add(2, 0x70_0000_0000, 1),
+        LoseRange(2, 0x70_0000_0000),
+        LoseName(2),
+        Missing("ext"),
+        Give("ext", 2, 257),
+        At(2, "ext", 257),
+    ];
+    assert_eq!(rt; play_heaps(rt.alloc(), steps.as_slice()), Some(5));
+    Ok(())
 }

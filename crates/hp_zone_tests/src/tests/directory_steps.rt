@@ -1,9 +1,7 @@
 //! Steps of the directory of heaps.
-ghost use Rattle.std.specs.Prelude.{◌≡◌, ◌∷◌, [], IfSome};
-ghost use Rattle.hp_zone.specs.Directory.{opened};
 
 use hp_base::Name;
-use hp_zone::{Directory, Names};
+use hp_zone::{Directory, FIRST_EXTERNAL_SOCKET, Names};
 use std::alloc::Global;
 
 /// One thing that is done with the directory, and what it must give.
@@ -19,6 +17,10 @@ pub enum HeapStep {
     Give(&'static str, u32, u32),
     /// A range of 4 MB at an address comes to the heap of an index, and there are so many then.
     Add(u32, u64, usize),
+    /// The range of a heap at an address goes.
+    LoseRange(u32, u64),
+    /// The name of a heap goes, and no heap has a range.
+    LoseName(u32),
     /// There were so many changes.
     Changes(usize),
     /// Whether there is a place for another name.
@@ -37,10 +39,34 @@ fn give(heaps: &mut Directory, text: &[u8]) -> Option<(u32, u32)> {
 
 // A range comes to the heap of an index, which has a name.
 fn add(heaps: &mut Directory, index: u32, addr: u64) -> Option<usize> {
-    let (_name, _socket) = heaps.at(index)?;
     heaps.reserve().ok()?;
+    let (_name, _socket) = heaps.at(index)?;
     heaps.add_range(index, addr, 0x40_0000, 0x20_0000);
     Some(heaps.ranges().len())
+}
+
+// The first range goes, which is that of a heap at an address.
+fn lose_range(heaps: &mut Directory, index: u32, addr: u64) -> bool {
+    let Some(range) = heaps.ranges().first() else {
+        return false;
+    };
+    if range.index != index || range.addr != addr {
+        return false;
+    }
+    heaps.remove_range(index, addr);
+    true
+}
+
+// The name of an external heap goes, where no heap has a range.
+fn lose_name(heaps: &mut Directory, index: u32) -> bool {
+    let Some((_name, socket)) = heaps.at(index) else {
+        return false;
+    };
+    if socket < FIRST_EXTERNAL_SOCKET || !heaps.ranges().is_empty() {
+        return false;
+    }
+    heaps.remove(index);
+    true
 }
 
 fn do_step(heaps: &mut Directory, step: &HeapStep) -> bool {
@@ -57,6 +83,8 @@ fn do_step(heaps: &mut Directory, step: &HeapStep) -> bool {
             give(heaps, text.as_bytes()) == Some((*index, *socket))
         }
         HeapStep::Add(index, addr, count) => add(heaps, *index, *addr) == Some(*count),
+        HeapStep::LoseRange(index, addr) => lose_range(heaps, *index, *addr),
+        HeapStep::LoseName(index) => lose_name(heaps, *index),
         HeapStep::Changes(count) => heaps.log().len() == *count,
         HeapStep::HasPlace(has) => heaps.has_place() == *has,
     }
@@ -71,43 +99,11 @@ fn do_steps(heaps: &mut Directory, steps: &[HeapStep]) -> bool {
     true
 }
 
-// The names of the heaps of sockets 0 and 3.
-fn opened_names(alloc: Global) -> Option<Names>
-    ensures { IfSome result (λ names. names.heaps ≡ opened (0 ∷ 3 ∷ [])) }
-{
-    Names::new(alloc, &[0, 3]).ok()
-}
-
 /// How many changes there are after all steps, if each gave what it must, in the directory of sockets 0 and 3.
 pub fn play(alloc: Global, steps: &[HeapStep]) -> Option<usize> {
-    let mut names = opened_names(alloc)?;
+    let mut names = Names::new(alloc, &[0, 3]).ok()?;
     if !do_steps(&mut names.heaps, steps) {
         return None;
     }
     Some(names.heaps.log().len())
-}
-
-/// The index and the socket number of a heap that has a range and loses both, and those of the next heap of the same name.
-pub fn given_again(alloc: Global) -> Option<((u32, u32), (u32, u32))> {
-    let mut names = opened_names(alloc)?;
-    let first = named_once(&mut names.heaps)?;
-    let second = give(&mut names.heaps, b"ext")?;
-    Some((first, second))
-}
-
-// A heap gets a name and a range, and loses both.
-fn named_once(heaps: &mut Directory) -> Option<(u32, u32)>
-    requires { heaps.old ≡ opened (0 ∷ 3 ∷ []) }
-{
-    let name = Name::new(b"ext")?;
-    if heaps.lookup(name.as_bytes()).is_some() || !heaps.has_place() {
-        return None;
-    }
-    heaps.reserve().ok()?;
-    let (index, socket) = heaps.insert(name);
-    heaps.reserve().ok()?;
-    heaps.add_range(index, 0x70_0000_0000, 0x40_0000, 0x20_0000);
-    heaps.remove_range(index, 0x70_0000_0000);
-    heaps.remove(index);
-    Some((index, socket))
 }

@@ -1,4 +1,5 @@
 //! Steps of memzones.
+ghost use Rattle.std.specs.Prelude.{◌≡◌};
 
 use hp_base::Name;
 use hp_zone::{Zone, ZoneChange, ZoneFault, Zones};
@@ -32,7 +33,9 @@ pub enum ZoneStep {
 }
 
 // The zone of a name at an address.
-fn zone(name: Name, addr: u64) -> Zone {
+fn zone(name: Name, addr: u64) -> Zone
+    ensures { result.name ≡ name }
+{
     Zone {
         name,
         addr,
@@ -47,7 +50,7 @@ fn put(zones: &mut Zones, text: &[u8], addr: u64) -> bool {
     let Ok(name) = zones.check(text, 100, 0, 0) else {
         return false;
     };
-    if zones.reserve().is_err() || zones.room() == 0 {
+    if zones.reserve().is_err() {
         return false;
     }
     zones.insert(zone(name, addr));
