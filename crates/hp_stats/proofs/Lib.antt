@@ -1,0 +1,3 @@
+pub mod PairLemmas
+mod CellSteps
+mod Readings

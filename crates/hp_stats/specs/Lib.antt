@@ -1,0 +1,9 @@
+pub mod Pairs
+pub mod PairWords
+pub mod Views
+pub mod CellRule
+pub mod StatViews
+pub mod CellInside
+pub mod PenInside
+pub mod ReaderInside
+pub mod PassInside
