@@ -1,7 +1,7 @@
 -- What is found in a directory, and how it is kept after each change.
-use Rattle.std.proofs.Common.{◌≡◌, ◌≢◌, ℕ, zero, suc, ◌+◌, ◌-◌, ◌*◌, ◌^◌, ◌<◌, ◌≤◌, Bool, true, false, cond, is_some, List, [], ◌∷◌, ◌++◌, length, map, take, replicate, get_or, set, Option, Some, None, sym, ap, ◌∙◌, subst, refl, inl, inr, arith}
-use Rattle.std.specs.Prelude.{slice_get, slice_set, count_by, IsTrue}
-use Rattle.std.specs.List.{All, Contains, remove, position, position_or_len, range_with_len, filter_map, sum_by}
+use Rattle.std.proofs.Common.{◌≡◌, ℕ, zero, suc, ◌+◌, ◌-◌, ◌^◌, ◌<◌, ◌≤◌, Bool, true, false, cond, is_some, List, [], ◌∷◌, ◌++◌, length, get_or, set, Option, Some, None, sym, ap, ◌∙◌, refl, inl, inr, arith}
+use Rattle.std.specs.Prelude.{count_by, IsTrue}
+use Rattle.std.specs.List.{Contains, position, position_or_len, range_with_len, filter_map}
 use Rattle.std.specs.Str.{bytes_eq}
 use Rattle.std.proofs.lemmas.Bool.{cases_lt, lt-ltb, false≢true}
 use Rattle.std.proofs.lemmas.Bool.Decides.{nat_tests}
@@ -14,11 +14,10 @@ use Rattle.std.proofs.lemmas.Option.{get_or_from_slice_get, slice_get-get_or, sl
 use Rattle.std.proofs.lemmas.Slice.Eq.{bytes_eq-Decides}
 use Rattle.hp_zone.specs.declared.limits.TheConstants.{FIRST_EXTERNAL_SOCKET}
 use Rattle.hp_zone.specs.declared.heap_name.HeapName.{HeapName}
-use Rattle.hp_zone.specs.declared.heap_name.HeapRange.{HeapRange}
 use Rattle.hp_zone.specs.declared.name_change.NameChange.{NameChange}
 use Rattle.hp_zone.specs.declared.name_change.NameChange.TheVariants.{Named, Unnamed, Range, RangeGone}
-use Rattle.hp_zone.specs.Directory.{DirectoryView, GivesName, HasPlace, HasRange, IsDirectory, IsFoundAt, IsLowestUnnamed, IsNamed, IsNotFound, IsNotFoundBelow, IsUnnamed, MayInsert, MayRemove, PlainDirectory, after_change, directory_after, is_range, opening, socket_given, with_change, with_more, without_range}
-use Rattle.hp_zone.specs.Heaps.{HasRoom, IsKept, is_heap, is_named, is_unnamed}
+use Rattle.hp_zone.specs.Directory.{DirectoryView, HasPlace, HasRange, IsFoundAt, IsLowestUnnamed, IsNamed, IsNotFound, MayRemove, PlainDirectory, after_change, directory_after, is_range, opening, socket_given, with_change, with_more}
+use Rattle.hp_zone.specs.Heaps.{IsKept, is_heap, is_named, is_unnamed}
 use Rattle.hp_zone.proofs.ReplayLemmas.{directory_after-append}
 
 -- where no place is found, nothing passes

@@ -1,7 +1,7 @@
 -- Lists of indexes that have the same, and lists that are mapped or filtered.
 use Rattle.std.proofs.Common.{◌≡◌, ℕ, ◌+◌, ◌<◌, ◌≤◌, Bool, true, false, cond, None, Some, List, [], ◌∷◌, ◌++◌, length, map, take, drop, suc, get_or, sym, ap, ◌∙◌, subst, refl, inl, inr, arith}
 use Rattle.std.specs.Prelude.{◌==◌, count_by}
-use Rattle.std.specs.List.{All, Contains, filter, insert, remove, sum_by, position, position_or_len}
+use Rattle.std.specs.List.{All, Contains, filter, insert, remove, position, position_or_len}
 use Rattle.std.proofs.lemmas.Bool.{cases_lt, lt-ltb}
 use Rattle.std.proofs.lemmas.Bool.Decides.{Decides-eqb, eqb_tells, nat_tests}
 use Rattle.std.proofs.lemmas.List.{map-append, take-map, drop-map}

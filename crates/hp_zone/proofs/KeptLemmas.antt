@@ -1,13 +1,11 @@
 -- How memzones are kept after a reservation and after a removal.
-use Rattle.std.proofs.Common.{◌≡◌, ◌≢◌, ℕ, ◌+◌, ◌-◌, ◌*◌, ◌<◌, ◌≤◌, true, not, List, [], ◌∷◌, ◌++◌, length, get_or, map, sym, ap, ◌∙◌, subst, refl, arith}
-use Rattle.std.specs.List.{All, Contains, insert, remove}
-use Rattle.std.specs.Prelude.{slice_get, Some}
-use Rattle.std.proofs.lemmas.List.{get_or_default, get_or_append_left, get_or_push, length_push, length-append, length-map, get_or-map, map_push, map-append}
+use Rattle.std.proofs.Common.{◌≡◌, ◌≢◌, ℕ, ◌+◌, ◌-◌, ◌<◌, not, List, [], ◌∷◌, ◌++◌, length, get_or, map, sym, ap, ◌∙◌, refl, arith}
+use Rattle.std.specs.List.{All, Contains, remove}
+use Rattle.std.proofs.lemmas.List.{get_or_default, get_or_append_left, get_or_push, length_push, length-append, length-map, get_or-map, map_push}
 use Rattle.std.proofs.lemmas.List.Edits.{length-insert, length-remove}
 use Rattle.std.proofs.lemmas.List.Elements.{All-get_or, All-from_get_or, All-push, All-map, All-filter, Contains-get_or}
-use Rattle.std.proofs.lemmas.Option.{slice_get-get_or}
-use Rattle.hp_zone.specs.Places.{AreIndexes, AreKept, AreSame, Files, HasRoom, IsAt, IsByName, IsGap, IsPut, IsUnknown, TakesOut, is_put, name_at, view_of, zone_at, zone_put}
-use Rattle.hp_zone.specs.Zones.{Frees, IsFound, IsNotFound, IsZones, IsZoneName, MayReserve, Reserves, after_change, has_name, without, zones_after}
+use Rattle.hp_zone.specs.Places.{AreIndexes, AreKept, Files, IsAt, IsGap, IsPut, IsUnknown, TakesOut, is_put, name_at, view_of, zone_at, zone_put}
+use Rattle.hp_zone.specs.Zones.{Frees, IsFound, IsNotFound, IsZones, IsZoneName, MayReserve, Reserves, has_name, without}
 use Rattle.hp_zone.specs.declared.zone.Zone.{Zone}
 use Rattle.hp_zone.specs.declared.zone.ZoneChange.{ZoneChange}
 use Rattle.hp_zone.specs.declared.zone.ZoneChange.TheVariants.{Put, Gone}

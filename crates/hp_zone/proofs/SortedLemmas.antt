@@ -1,18 +1,17 @@
 -- Indexes in the order of names: what a search finds there, and that edits at that place keep the order.
-use Rattle.std.proofs.Common.{◌≡◌, ◌≢◌, ℕ, ◌+◌, ◌-◌, ◌<◌, ◌≤◌, Bool, true, false, List, length, get_or, Result, Ok, Err, IfOk, IfErr, sym, ap, ◌∙◌, subst, refl, inl, inr, arith}
+use Rattle.std.proofs.Common.{◌≡◌, ◌≢◌, ℕ, ◌+◌, ◌-◌, ◌<◌, ◌≤◌, false, List, length, get_or, Result, Ok, Err, IfOk, IfErr, sym, ap, ◌∙◌, subst, refl, inl, inr, arith}
 use Rattle.std.specs.Cmp.Lexicographic.{lists_ties, slice_cmp, bytes_decides}
 use Rattle.std.specs.Cmp.{unsigned_ties}
 use Rattle.std.specs.List.{All, insert, remove}
 use Rattle.std.specs.List.Sorted.{IsBinarySearchResult, IsSearchInRange, IsSortedByKey}
 use Rattle.std.specs.Ordering.{is_eq, is_lt, nat_cmp}
-use Rattle.std.specs.declared.cmp.Ordering.{Ordering}
 use Rattle.std.specs.declared.cmp.Ordering.TheVariants.{Less, Equal, Greater}
 use Rattle.std.proofs.lemmas.Bool.{cases_lt}
 use Rattle.std.proofs.lemmas.Cmp.{nat_list_cmp_total, tied_itself}
 use Rattle.std.proofs.lemmas.List.Edits.{length-insert, get_or-insert_below, get_or-insert_at, get_or-insert_above, length-remove, get_or-remove_below, get_or-remove_above}
 use Rattle.std.proofs.lemmas.List.Elements.{All-get_or, All-from_get_or}
 use Rattle.std.proofs.lemmas.List.Sorted.{ranks_by, searchable_from_sorted, sorted_far}
-use Rattle.hp_zone.specs.Places.{IsAt, IsByName, IsGap, IsUnknown, compare, name_at}
+use Rattle.hp_zone.specs.Places.{IsAt, IsByName, IsGap, IsUnknown, name_at}
 use Rattle.hp_zone.specs.declared.zone.ZoneChange.{ZoneChange}
 
 -- texts that compare as equal are the same

@@ -1,8 +1,8 @@
 -- Memzones that are found, and what reserving and freeing leave of them.
-use Rattle.std.proofs.Common.{◌≡◌, ◌≢◌, ℕ, ◌+◌, ◌-◌, ◌<◌, ◌≤◌, Bool, true, false, not, List, [], ◌∷◌, ◌++◌, length, suc, get_or, take, drop, map, sym, ap, ◌∙◌, subst, refl, inl, inr, arith}
-use Rattle.std.specs.List.{All, Contains, filter, remove}
+use Rattle.std.proofs.Common.{◌≡◌, ◌≢◌, ℕ, ◌+◌, ◌-◌, ◌<◌, ◌≤◌, Bool, true, false, not, List, [], ◌∷◌, ◌++◌, length, suc, get_or, take, drop, sym, ap, ◌∙◌, subst, refl, inl, inr, arith}
+use Rattle.std.specs.List.{filter, remove}
 use Rattle.std.specs.Str.{bytes_eq}
-use Rattle.std.proofs.lemmas.Bool.{cases_lt, false≢true}
+use Rattle.std.proofs.lemmas.Bool.{cases_lt}
 use Rattle.std.proofs.lemmas.List.{get_or_append_left, get_or_push, length_push, get_or-take, get_or-drop, drop_more, length-take-le, length-drop, take-append-drop}
 use Rattle.std.proofs.lemmas.List.Edits.{length-remove, get_or-remove_below, get_or-remove_above}
 use Rattle.std.proofs.lemmas.List.Elements.{All-get_or, All-from_get_or, filter-append}

@@ -1,5 +1,5 @@
 -- How a directory is kept. No public clause cites this module.
-use Rattle.std.specs.Prelude.{◌≡◌, ℕ, ◌+◌, ◌*◌, ◌≤◌, Bool, true, false, List, length, Option, Some, None, count_by}
+use Rattle.std.specs.Prelude.{ℕ, ◌+◌, ◌*◌, ◌≤◌, Bool, true, false, List, length, Option, Some, None, count_by}
 use Rattle.std.specs.Str.{bytes_eq}
 use Rattle.hp_zone.specs.Directory.{DirectoryView, IsDirectory}
 use Rattle.hp_zone.specs.declared.heap_name.HeapName.{HeapName}

@@ -1,5 +1,6 @@
 //! Memzones and their calls.
-ghost use Rattle.std.specs.Prelude.{◌≡◌, ◌+◌, ◌<◌, ◌≤◌, length, slice_get, Some, IfOk, IfErr, IfSome, IfNone, OnOk, OnErr, vec_len, vec_capacity};
+ghost use Rattle.std.specs.Prelude.{◌≡◌, ◌+◌, ◌<◌, ◌≤◌, length, slice_get, Some, IfOk, IfErr, IfSome, IfNone, OnOk, OnErr};
+ghost use Rattle.std.specs.Prelude.{vec_len, vec_capacity};
 ghost use Rattle.hp_zone.specs.Zones.{Frees, IsFound, IsNotFound, IsZones, MayReserve, Reserves, no_zones, with_room};
 ghost use Rattle.hp_zone.specs.Checking.{IsAcceptable, IsFirstFault};
 

@@ -1,7 +1,5 @@
-use Rattle.std.proofs.Common.{◌≡◌}
-use Rattle.std.specs.List.{position_or_len}
 use Rattle.hp_zone.specs.Directory.{is_range}
-use Rattle.hp_zone.proofs.DirectoryLemmas.{not_missing_there, place_is}
+use Rattle.hp_zone.proofs.DirectoryLemmas.{not_missing_there}
 use Rattle.hp_zone.proofs.heaps.take_range.Goals as goal
 
 pub unreachable-requires : goal.unreachable-requires

@@ -1,6 +1,6 @@
 use Rattle.std.specs.Prelude.{vec_capacity}
 use Rattle.hp_zone.specs.Heaps.{directory_of}
-use Rattle.std.proofs.Common.{ℕ, ◌<◌}
+use Rattle.std.proofs.Common.{◌<◌}
 use Rattle.hp_zone.proofs.DirectoryLemmas.{kept_range}
 use Rattle.hp_zone.proofs.directory.Directory.add_range.Goals as goal
 

@@ -1,5 +1,3 @@
-use Rattle.std.proofs.Common.{◌≡◌, rules}
-use Rattle.hp_zone.specs.Heaps.{directory_of}
 use Rattle.hp_zone.proofs.DirectoryLemmas.{place_iff}
 use Rattle.hp_zone.proofs.directory.Directory.has_place.Goals as goal
 

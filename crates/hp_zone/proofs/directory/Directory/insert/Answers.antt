@@ -1,9 +1,9 @@
 use Rattle.std.specs.Prelude.{vec_capacity}
 use Rattle.hp_zone.specs.Heaps.{directory_of}
-use Rattle.std.proofs.Common.{◌≡◌, ℕ, ◌<◌, ◌^◌, Some, refl}
+use Rattle.std.proofs.Common.{◌≡◌, Some, refl}
 use Rattle.std.specs.List.{position}
 use Rattle.hp_zone.specs.Heaps.{is_unnamed}
-use Rattle.hp_zone.specs.Directory.{HasPlace, MayInsert}
+use Rattle.hp_zone.specs.Directory.{MayInsert}
 use Rattle.hp_zone.proofs.DirectoryLemmas.{kept_named, lowest_here, no_place}
 use Rattle.hp_zone.proofs.directory.Directory.insert.Goals as goal
 

@@ -1,4 +1,4 @@
-use Rattle.std.proofs.Common.{◌≡◌, ◌∙◌, Some, None, get_or, sym, rules}
+use Rattle.std.proofs.Common.{◌≡◌, ◌∙◌, Some, None, get_or}
 use Rattle.std.specs.List.{position}
 use Rattle.hp_zone.specs.Heaps.{is_named}
 use Rattle.hp_zone.proofs.DirectoryLemmas.{heap_found, heap_there, no_heap, read_here}

@@ -1,6 +1,5 @@
 use Rattle.std.specs.Prelude.{vec_capacity}
 use Rattle.hp_zone.specs.Heaps.{directory_of}
-use Rattle.std.proofs.Common.{◌<◌, length, arith}
 use Rattle.hp_zone.specs.Directory.{HasRange}
 use Rattle.hp_zone.proofs.DirectoryLemmas.{kept_range_gone, range_there}
 use Rattle.hp_zone.proofs.directory.Directory.remove_range.Goals as goal
