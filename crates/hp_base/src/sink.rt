@@ -80,12 +80,7 @@ impl MemSink {
         ensures { IfOk result
             (λ sink. sink ≡ record { held = []; room = room; piece = piece; fails = fails.items; calls = 0; faults = 0 }) }
     {
-        Ok(MemSink::over(
-            Vec::with_capacity(alloc, room)?,
-            room,
-            piece,
-            fails,
-        ))
+        Ok(MemSink::over(Vec::with_capacity(alloc, room)?, room, piece, fails))
     }
 
     // Over bytes that have the room.

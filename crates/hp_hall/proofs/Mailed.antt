@@ -8,8 +8,8 @@ use Rattle.hp_base.specs.declared.plan.Action.{Action}
 use Rattle.hp_base.specs.declared.plan.Action.TheVariants.{Lose, Repeat, Deliver}
 use Rattle.hp_base.specs.Streams.{HasRisen}
 use Rattle.hp_frame.specs.declared.frame.Frame.{Frame}
-use Rattle.hp_hall.specs.declared.posted.Posted.{Posted}
-use Rattle.hp_hall.specs.declared.posted.Posted.TheVariants.{Sent, Twice, Lost, Full}
+use Rattle.hp_mail.specs.declared.posted.Posted.{Posted}
+use Rattle.hp_mail.specs.declared.posted.Posted.TheVariants.{Sent, Twice, Lost, Full}
 use Rattle.hp_hall.specs.Course.{IsCourse, slot_same}
 use Rattle.hp_hall.specs.HallSteps.{fulls_after, with_mail}
 use Rattle.hp_hall.specs.HallView.{HallView, HasDone, slot_at}

@@ -8,8 +8,8 @@ use Rattle.hp_hall.specs.declared.kept.Kept.{Kept}
 use Rattle.hp_hall.specs.declared.kept.Kept.TheVariants.{Heap, Segments}
 use Rattle.hp_hall.specs.declared.note.Note.{Note}
 use Rattle.hp_hall.specs.declared.note.Note.TheVariants.{Acked, Paused}
-use Rattle.hp_hall.specs.declared.posted.Posted.{Posted}
-use Rattle.hp_hall.specs.declared.posted.Posted.TheVariants.{Sent, Twice, Lost, Full}
+use Rattle.hp_mail.specs.declared.posted.Posted.{Posted}
+use Rattle.hp_mail.specs.declared.posted.Posted.TheVariants.{Sent, Twice, Lost, Full}
 use Rattle.hp_hall.specs.HallView.{HallView, SlotView}
 use Rattle.hp_hall.specs.Mail.{MailStep, Posts, Takes, Gives, Notes, after_step}
 use Rattle.hp_hall.specs.Own.{Own, after_ack}

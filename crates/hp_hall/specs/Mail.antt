@@ -6,8 +6,8 @@ use Rattle.hp_frame.specs.declared.frame.Frame.{Frame}
 use Rattle.hp_hall.specs.declared.kept.Kept.{Kept}
 use Rattle.hp_hall.specs.declared.mailbox.TheConstants.{MAILBOX_FRAMES}
 use Rattle.hp_hall.specs.declared.note.Note.{Note}
-use Rattle.hp_hall.specs.declared.posted.Posted.{Posted}
-use Rattle.hp_hall.specs.declared.posted.Posted.TheVariants.{Sent, Twice, Lost, Full}
+use Rattle.hp_mail.specs.declared.posted.Posted.{Posted}
+use Rattle.hp_mail.specs.declared.posted.Posted.TheVariants.{Sent, Twice, Lost, Full}
 
 -- what becomes of a message, by its plan and by how many frames the mailbox has
 abbrev pub posted_as : Action → ℕ → Posted

@@ -14,10 +14,10 @@ ghost use Rattle.hp_hall.specs.Weights.{fetched_weight, frame_weight};
 
 use crate::busy::Busy;
 use crate::kept::Kept;
-use crate::posted::Posted;
 use crate::slot::Slot;
 use hp_base::Action;
 use hp_frame::Frame;
+use hp_mail::Posted;
 
 /// Where a participant does its lines and serves: the values that all share, the mailboxes, and its clock. Each call is one of the
 /// participant `me`. The methods take no handle, so that a hall of threads is an instance too. Own.

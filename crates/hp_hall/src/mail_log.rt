@@ -3,9 +3,9 @@ ghost use Rattle.hp_hall.specs.Mail.{Fetches, Gives, Notes, Posts, Takes};
 
 use crate::kept::Kept;
 use crate::note::Note;
-use crate::posted::Posted;
 use hp_base::Action;
 use hp_frame::Frame;
+use hp_mail::Posted;
 use std::marker::Model;
 use std::snapshot::Snapshot;
 

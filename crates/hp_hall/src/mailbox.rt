@@ -1,9 +1,9 @@
 ghost use Rattle.std.specs.Prelude.{◌≡◌, [], IfOk, drop, length, slice_get};
 ghost use Rattle.hp_hall.specs.Mail.{box_after, posted_as};
 
-use crate::posted::Posted;
 use hp_base::Action;
 use hp_frame::Frame;
+use hp_mail::Posted;
 use std::alloc::{AllocError, Global};
 use std::marker::Model;
 

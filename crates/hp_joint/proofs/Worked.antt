@@ -10,7 +10,7 @@ use Rattle.hp_base.specs.declared.tag.Tag.{Tag}
 use Rattle.hp_frame.specs.declared.frame.Frame.{Frame}
 use Rattle.hp_hall.specs.Mail.{Fetches, MailStep, Notes, Posts}
 use Rattle.hp_hall.specs.declared.note.Note.TheVariants.{Acked, Read}
-use Rattle.hp_hall.specs.declared.posted.Posted.TheVariants.{Lost, Sent}
+use Rattle.hp_mail.specs.declared.posted.Posted.TheVariants.{Lost, Sent}
 use Rattle.hp_heap.specs.declared.entry.HeapAnswer.TheVariants as gives
 use Rattle.hp_heap.specs.declared.entry.HeapCall.TheVariants as call
 use Rattle.hp_log.specs.declared.log_record.LogRecord.{LogRecord}

@@ -12,7 +12,7 @@ use Rattle.hp_frame.specs.declared.message.Body.{Body}
 use Rattle.hp_frame.specs.declared.message.Body.TheVariants.{Alloc, Free, Sync, Answer}
 use Rattle.hp_hall.specs.Mail.{Posts}
 use Rattle.hp_hall.specs.Weights.{frame_weight}
-use Rattle.hp_hall.specs.declared.posted.Posted.{Posted}
+use Rattle.hp_mail.specs.declared.posted.Posted.{Posted}
 use Rattle.hp_maps.specs.MapsView.{MapsView}
 use Rattle.hp_segs.specs.SegsView.{SegsView, is_member}
 use Rattle.hp_proc.proofs.Weighs.{answer_weighs, some_weight, sync_weighs}

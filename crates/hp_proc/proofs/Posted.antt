@@ -10,7 +10,7 @@ use Rattle.hp_core.specs.declared.out.Out.TheVariants as out
 use Rattle.hp_frame.specs.declared.frame.Frame.{Frame}
 use Rattle.hp_frame.specs.declared.message.Body.TheVariants.{Sync}
 use Rattle.hp_hall.specs.Mail.{MailStep, Posts}
-use Rattle.hp_hall.specs.declared.posted.Posted.{Posted}
+use Rattle.hp_mail.specs.declared.posted.Posted.{Posted}
 use Rattle.hp_proc.specs.Frames.{Says}
 use Rattle.hp_proc.specs.Party.{Party, one_more, with_table}
 use Rattle.hp_proc.specs.Posting.{AreTold, IsPosted, is_asker, is_told, result_body, sent_once_more, syncs_after, times_sent}

@@ -6,7 +6,7 @@ use Rattle.hp_base.specs.declared.row.Run.{Run}
 use Rattle.hp_frame.specs.declared.frame.Frame.{Frame}
 use Rattle.hp_hall.specs.Mail.{MailStep, Notes, Posts}
 use Rattle.hp_hall.specs.declared.note.Note.TheVariants.{Read}
-use Rattle.hp_hall.specs.declared.posted.Posted.{Posted}
+use Rattle.hp_mail.specs.declared.posted.Posted.{Posted}
 use Rattle.hp_segs.specs.LaterSteps.{after_arm}
 use Rattle.hp_segs.specs.SegsView.{SegsView}
 use Rattle.hp_segs.specs.declared.ask.Ask.{Ask}

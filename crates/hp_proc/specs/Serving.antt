@@ -13,7 +13,7 @@ use Rattle.hp_frame.specs.declared.message.Body.TheVariants.{Sync, Answer}
 use Rattle.hp_hall.specs.Mail.{MailStep, Fetches, Gives, Notes, Posts, Takes}
 use Rattle.hp_hall.specs.declared.kept.Kept.TheVariants.{Segments}
 use Rattle.hp_hall.specs.declared.note.Note.TheVariants.{Acked}
-use Rattle.hp_hall.specs.declared.posted.Posted.{Posted}
+use Rattle.hp_mail.specs.declared.posted.Posted.{Posted}
 use Rattle.hp_log.specs.declared.log_record.LogRecord.{LogRecord}
 use Rattle.hp_maps.specs.Catching.{HasAnswered, HasReason, new_rows, newer, number_after}
 use Rattle.hp_maps.specs.MapsView.{MapsView, calls_of}

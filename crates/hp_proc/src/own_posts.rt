@@ -4,7 +4,7 @@ ghost use Rattle.hp_base.specs.Plans.{action_of};
 ghost use Rattle.hp_frame.specs.Spelling.{HasFieldValues};
 ghost use Rattle.hp_frame.specs.declared.frame.Frame.{Frame};
 ghost use Rattle.hp_hall.specs.Mail.{Posts};
-ghost use Rattle.hp_hall.specs.declared.posted.Posted.{Posted};
+ghost use Rattle.hp_mail.specs.declared.posted.Posted.{Posted};
 ghost use Rattle.hp_proc.specs.Asking.{alloc_body, free_body};
 ghost use Rattle.hp_proc.specs.Frames.{Says};
 

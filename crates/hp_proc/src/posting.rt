@@ -5,7 +5,7 @@ ghost use Rattle.hp_frame.specs.Spelling.{HasFieldValues};
 ghost use Rattle.hp_frame.specs.declared.frame.Frame.{Frame};
 ghost use Rattle.hp_hall.specs.Mail.{MailStep, Posts};
 ghost use Rattle.hp_hall.specs.Weights.{frame_weight};
-ghost use Rattle.hp_hall.specs.declared.posted.Posted.{Posted};
+ghost use Rattle.hp_mail.specs.declared.posted.Posted.{Posted};
 ghost use Rattle.hp_heap.specs.Choice.{has_bit};
 ghost use Rattle.hp_log.specs.declared.log_record.LogRecord.{LogRecord};
 ghost use Rattle.hp_proc.specs.Frames.{Says};

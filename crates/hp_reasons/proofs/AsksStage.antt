@@ -16,7 +16,7 @@ use Rattle.hp_frame.specs.declared.frame.Frame.{Frame}
 use Rattle.hp_frame.specs.declared.message.Body.{Body}
 use Rattle.hp_hall.specs.Mail.{box_after, box_of, copies, posted_as}
 use Rattle.hp_hall.specs.Weights.{box_weight, boxes_weight, pending_at}
-use Rattle.hp_hall.specs.declared.posted.Posted.{Posted}
+use Rattle.hp_mail.specs.declared.posted.Posted.{Posted}
 use Rattle.hp_log.proofs.Counts.{count_cons}
 use Rattle.hp_segs.specs.SegsView.{SegsView, closed_number}
 use Rattle.hp_proc.specs.Falling.{own_weight}

@@ -9,8 +9,8 @@ use Rattle.hp_core.specs.declared.phase.Phase.TheVariants.{Idle}
 use Rattle.hp_frame.specs.declared.frame.Frame.{Frame}
 use Rattle.hp_hall.specs.Mail.{box_of, copies}
 use Rattle.hp_hall.specs.Weights.{box_weight, boxes_weight, counted, frame_weight}
-use Rattle.hp_hall.specs.declared.posted.Posted.{Posted}
-use Rattle.hp_hall.specs.declared.posted.Posted.TheVariants.{Full, Lost, Sent, Twice}
+use Rattle.hp_mail.specs.declared.posted.Posted.{Posted}
+use Rattle.hp_mail.specs.declared.posted.Posted.TheVariants.{Full, Lost, Sent, Twice}
 use Rattle.hp_proc.specs.Falling.{held_sum, least_weight, own_weight}
 
 kind_most : (first second : Bool) → (if first then 188 else (if second then 3 else 1)) ≤ 188

@@ -11,7 +11,7 @@ use Rattle.hp_hall.specs.Mail.{Gives, MailStep, Notes, Posts, Takes}
 use Rattle.hp_hall.specs.declared.kept.Kept.TheVariants.{Heap}
 use Rattle.hp_hall.specs.declared.note.Note.{Note}
 use Rattle.hp_hall.specs.declared.note.Note.TheVariants.{Acked, Loaded, Paused, Read, Yielded}
-use Rattle.hp_hall.specs.declared.posted.Posted.{Posted}
+use Rattle.hp_mail.specs.declared.posted.Posted.{Posted}
 use Rattle.hp_heap.specs.History.{HeapView}
 use Rattle.hp_segs.specs.LaterSteps.{after_leave, after_withdraw, grows_for, withdrawn_growth, withdrawn_unless}
 use Rattle.hp_segs.specs.SegsView.{SegsView, grant_of, grant_or_refusal_of}

@@ -9,7 +9,7 @@ use Rattle.hp_frame.specs.declared.frame.Frame.{Frame}
 use Rattle.hp_hall.specs.Holding.{IsArmed}
 use Rattle.hp_hall.specs.Mail.{Fetches, MailStep, Notes, Posts, box_of}
 use Rattle.hp_hall.specs.declared.note.Note.TheVariants.{Loaded, Read}
-use Rattle.hp_hall.specs.declared.posted.Posted.{Posted}
+use Rattle.hp_mail.specs.declared.posted.Posted.{Posted}
 use Rattle.hp_segs.specs.SegsView.{SegsView}
 use Rattle.hp_segs.specs.Sound.{IsSound}
 use Rattle.hp_proc.specs.Serving.{acks_behind, gives_segments, takes_segments}

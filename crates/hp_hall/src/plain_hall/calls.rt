@@ -2,10 +2,10 @@ use super::PlainHall;
 use crate::busy::Busy;
 use crate::hall::Hall;
 use crate::kept::Kept;
-use crate::posted::Posted;
 use crate::slot::Slot;
 use hp_base::Action;
 use hp_frame::Frame;
+use hp_mail::Posted;
 
 impl Hall for PlainHall {
     ghost use Rattle.std.specs.Prelude.{◌<◌, length};

@@ -4,9 +4,9 @@ ghost use Rattle.hp_hall.specs.Mail.{Fetches, box_of, posted_as};
 
 use super::PlainHall;
 use crate::mailbox::Mailbox;
-use crate::posted::Posted;
 use hp_base::Action;
 use hp_frame::Frame;
+use hp_mail::Posted;
 use std::alloc::{AllocError, Global};
 
 // An empty mailbox for each participant.

@@ -6,7 +6,7 @@ ghost use Rattle.hp_base.specs.declared.plan_entry.MsgKind.{MsgKind};
 ghost use Rattle.hp_frame.specs.declared.frame.Frame.{Frame};
 ghost use Rattle.hp_hall.specs.Mail.{MailStep, Notes, Posts};
 ghost use Rattle.hp_hall.specs.declared.note.Note.{Note};
-ghost use Rattle.hp_hall.specs.declared.posted.Posted.{Posted};
+ghost use Rattle.hp_mail.specs.declared.posted.Posted.{Posted};
 ghost use Rattle.hp_proc.specs.Asking.{GrowsHeld, IsAsked, IsAwaiting, IsHeldAsBefore, HasSettledAsks, Settles, alloc_body};
 ghost use Rattle.hp_proc.specs.AskSteps.{DoesAsk, IsAwaitedBy, IsSettledLate, latest, waits_until};
 ghost use Rattle.hp_proc.specs.Clocks.{RisesWithin, longest_wait};

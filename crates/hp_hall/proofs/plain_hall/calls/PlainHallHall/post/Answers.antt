@@ -1,8 +1,8 @@
 use Rattle.std.proofs.Common.{◌≡◌, ◌<◌, ◌≤◌, ◌↔◌, ℕ, length, refl, ap, subst, sym, arith}
 use Rattle.hp_base.specs.declared.plan.Action.TheVariants.{Lose}
 use Rattle.hp_base.specs.Streams.{HasRisen}
-use Rattle.hp_hall.specs.declared.posted.Posted.{Posted}
-use Rattle.hp_hall.specs.declared.posted.Posted.TheVariants.{Lost}
+use Rattle.hp_mail.specs.declared.posted.Posted.{Posted}
+use Rattle.hp_mail.specs.declared.posted.Posted.TheVariants.{Lost}
 use Rattle.hp_hall.specs.HallSteps.{fulls_after}
 use Rattle.hp_hall.specs.HallView.{HallView}
 use Rattle.hp_hall.specs.Mail.{Posts}
