@@ -5,9 +5,11 @@ ghost use Rattle.hp_hall.specs.HallView.{own_at, part_in, seen_in};
 ghost use Rattle.hp_hall.specs.Holding.{IsArmed, owned_by};
 ghost use Rattle.hp_hall.specs.Opening.{AreHome, AreInOrder, AreUnused};
 
+mod cases;
+mod ends;
 mod messages;
 mod notes;
-mod slots;
+mod steps;
 mod values;
 
 use hp_base::{MAX_HEAPS, PoolLine, Request};
@@ -38,13 +40,6 @@ fn grown_segs(alloc: Global) -> Result<Segs, Fail>
     ensures unowned { IfOk result (λ segs. (heap : ℕ) → owned_by heap segs ≡ []) }
     ensures one { IfOk result (λ segs. length segs.log ≡ 1) }
 {
-    let pool = PoolLine {
-        socket: 0,
-        page: PAGE,
-        pages: 4,
-        slots: 4,
-    };
-    let mut segs = Segs::new(alloc, [pool].as_slice(), 2, 0)?;
     let request = Request::new(1000, 0, 0, 0).ok().ok_or("a good request")?;
     let ask = Ask {
         from: 0,
@@ -54,6 +49,13 @@ fn grown_segs(alloc: Global) -> Result<Segs, Fail>
         page: PAGE,
         request,
     };
+    let pool = PoolLine {
+        socket: 0,
+        page: PAGE,
+        pages: 4,
+        slots: 4,
+    };
+    let mut segs = Segs::new(alloc, [pool].as_slice(), 2, 0)?;
     segs.arm(&ask)?;
     segs.reserve_records(1)?;
     let Ok(run) = segs.plan_run(&ask) else {

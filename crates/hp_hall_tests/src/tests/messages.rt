@@ -1,11 +1,10 @@
 //! Messages as they are planned, through the trait.
 ghost use Rattle.std.specs.Prelude.{◌≡◌, ◌<◌, length};
+ghost use Rattle.hp_hall.specs.Opening.{AreHome};
 
-use super::hall_of_two;
 use hp_base::Action;
 use hp_frame::Frame;
 use hp_hall::{Hall, PlainHall, Posted};
-use std::test::Fail;
 
 // A frame whose first byte is that.
 fn frame(kind: u8) -> Frame {
@@ -18,23 +17,42 @@ fn frame(kind: u8) -> Frame {
 fn post(hall: &mut PlainHall, me: u8, to: u8, kind: u8, action: Action) -> Posted
     requires me { me < length hall.old.owns }
     requires to { to < length hall.old.owns }
-    ensures { length hall.new.owns ≡ length hall.old.owns }
+    requires home { AreHome hall.old }
+    ensures count { length hall.new.owns ≡ length hall.old.owns }
+    ensures home { AreHome hall.new }
 {
     hall.post(me, to, frame(kind), action)
 }
 
 // Fetches through the trait.
 fn fetch(hall: &mut PlainHall, me: u8) -> Option<Frame>
-    requires { me < length hall.old.owns }
-    ensures { length hall.new.owns ≡ length hall.old.owns }
+    requires me { me < length hall.old.owns }
+    requires home { AreHome hall.old }
+    ensures count { length hall.new.owns ≡ length hall.old.owns }
+    ensures home { AreHome hall.new }
 {
     hall.fetch(me)
 }
 
+/// One of the two posts a frame with that first byte to one of them. `None` where there is none of such a number.
+pub fn say(hall: &mut PlainHall, me: u8, to: u8, kind: u8, action: Action) -> Option<Posted>
+    requires two { length hall.old.owns ≡ 2 }
+    requires home { AreHome hall.old }
+    ensures two { length hall.new.owns ≡ 2 }
+    ensures home { AreHome hall.new }
+{
+    if me >= 2 || to >= 2 {
+        return None;
+    }
+    Some(post(hall, me, to, kind, action))
+}
+
 // How many frames a participant fetches, of at most a hundred, and the first bytes of the first and the last one.
 fn fetch_all(hall: &mut PlainHall, me: u8) -> (usize, u8, u8)
-    requires { me < length hall.old.owns }
-    ensures { length hall.new.owns ≡ length hall.old.owns }
+    requires me { me < length hall.old.owns }
+    requires home { AreHome hall.old }
+    ensures count { length hall.new.owns ≡ length hall.old.owns }
+    ensures home { AreHome hall.new }
 {
     let mut seen = (0, 0, 0);
     for place in 0..100 {
@@ -50,21 +68,15 @@ fn fetch_all(hall: &mut PlainHall, me: u8) -> (usize, u8, u8)
     seen
 }
 
-#[test]
-fn posts_as_planned(rt: HostRuntime) -> Result<(), Fail> {
-    let mut hall = hall_of_two(rt.alloc())?;
-    assert_eq!(rt; post(&mut hall, 0, 1, 1, Action::Deliver), Posted::Sent);
-    assert_eq!(rt;
-        post(&mut hall, 0, 1, 2, Action::Lose { line: 7 }),
-        Posted::Lost { line: 7 }
-    );
-    assert_eq!(rt;
-        post(&mut hall, 1, 1, 3, Action::Repeat { line: 8 }),
-        Posted::Twice
-    );
-    assert_eq!(rt; fetch_all(&mut hall, 0), (0, 0, 0));
-    assert_eq!(rt; fetch_all(&mut hall, 1), (3, 1, 3));
-    assert!(rt; fetch(&mut hall, 1).is_none());
-    assert_eq!(rt; hall.fulls(), 0);
-    Ok(())
+/// What one of the two fetches. `None` where there is none of such a number.
+pub fn fetched(hall: &mut PlainHall, me: u8) -> Option<(usize, u8, u8)>
+    requires two { length hall.old.owns ≡ 2 }
+    requires home { AreHome hall.old }
+    ensures two { length hall.new.owns ≡ 2 }
+    ensures home { AreHome hall.new }
+{
+    if me >= 2 {
+        return None;
+    }
+    Some(fetch_all(hall, me))
 }

@@ -1,19 +1,18 @@
 //! Values that are taken and given back, and numbers that are told, through the trait.
-ghost use Rattle.std.specs.Prelude.{◌≡◌, ◌≢◌, ◌<◌, ℕ, [], OnOk, length};
+ghost use Rattle.std.specs.Prelude.{◌≡◌, ◌≢◌, ◌<◌, ℕ, [], ◌∷◌, OnOk, length};
 ghost use Rattle.hp_base.specs.declared.limits.TheConstants.{MAX_HEAPS};
 ghost use Rattle.hp_hall.specs.Giving.{GivesSegments, Knows};
-ghost use Rattle.hp_hall.specs.HallView.{IsHome, own_at, part_in, slot_at, taken_from};
+ghost use Rattle.hp_hall.specs.HallView.{HasDone, IsHome, own_at, part_in, slot_at, taken_from};
+ghost use Rattle.hp_hall.specs.Mail.{Notes, steps_of};
 ghost use Rattle.hp_hall.specs.Opening.{AreHome};
 
-use super::hall_of_two;
-use hp_base::{Caller, MAX_HEAPS};
-use hp_hall::{Busy, Hall, Kept, PlainHall, Slot};
+use hp_base::Caller;
+use hp_hall::{Busy, Hall, Kept, Note, PlainHall, Slot};
 use hp_segs::Segs;
 use std::alloc::AllocError;
-use std::test::Fail;
 
-// A participant takes the heap of an index, asks for its statistics as the first of its calls, and gives it back.
-fn call_first(hall: &mut PlainHall, me: u8, index: u32) -> Result<(), AllocError>
+/// A participant takes the heap of an index, asks for its statistics as the first of its calls, and gives it back.
+pub fn call_first(hall: &mut PlainHall, me: u8, index: u32) -> Result<(), AllocError>
     requires me { me < length hall.old.owns }
     requires index { index < MAX_HEAPS }
     requires home { AreHome hall.old }
@@ -56,8 +55,8 @@ fn join(segs: &mut Segs, me: u8, records: u64)
     segs.join_roster(me, records);
 }
 
-// A participant takes the segment value, leaves the roster, and gives the value back.
-fn take_and_leave(hall: &mut PlainHall, me: u8)
+/// A participant takes the segment value, leaves the roster, and gives the value back.
+pub fn take_and_leave(hall: &mut PlainHall, me: u8)
     requires me { me < length hall.old.owns }
     requires secondary { 0 < me }
     requires there { IsHome (slot_at hall.old MAX_HEAPS) }
@@ -74,9 +73,9 @@ fn take_and_leave(hall: &mut PlainHall, me: u8)
     hall.give(me, Slot::Segments, Kept::Segments(segs));
 }
 
-// A participant takes the heap of an index; while it holds that, another takes the segment value, leaves the roster and gives the value
-// back; then the first asks for the heap's statistics as the first of its calls, and gives it back.
-fn call_across(hall: &mut PlainHall, me: u8, other: u8, index: u32) -> Result<(), AllocError>
+/// A participant takes the heap of an index; while it holds that, another takes the segment value, leaves the roster and gives the value
+/// back; then the first asks for the heap's statistics as the first of its calls, and gives it back.
+pub fn call_across(hall: &mut PlainHall, me: u8, other: u8, index: u32) -> Result<(), AllocError>
     requires me { me < length hall.old.owns }
     requires other { other < length hall.old.owns }
     requires apart { me ≢ other }
@@ -115,8 +114,8 @@ fn take_in_and_join(hall: &mut PlainHall, me: u8)
     hall.give(me, Slot::Segments, Kept::Segments(segs));
 }
 
-// A participant tries the segment value, looks whether one is in the roster, and gives the value back as it was.
-fn try_roster(hall: &mut PlainHall, me: u8, who: u8) -> Result<bool, Busy>
+/// A participant tries the segment value, looks whether one is in the roster, and gives the value back as it was.
+pub fn try_roster(hall: &mut PlainHall, me: u8, who: u8) -> Result<bool, Busy>
     requires me { me < length hall.old.owns }
     requires who { who < 16 }
     requires home { AreHome hall.old }
@@ -130,64 +129,50 @@ fn try_roster(hall: &mut PlainHall, me: u8, who: u8) -> Result<bool, Busy>
     Ok(is_member)
 }
 
-// What a participant knows of the number of another.
-fn number_of(hall: &mut PlainHall, me: u8, other: u8) -> u64
+/// What a participant knows of the number of another, or of its own.
+pub fn number_of(hall: &mut PlainHall, me: u8, other: u8) -> u64
     requires me { me < length hall.old.owns }
     requires other { other < length hall.old.owns }
     requires home { AreHome hall.old }
     ensures home { AreHome hall.new }
     ensures count { length hall.new.owns ≡ length hall.old.owns }
+    ensures number { (own_at hall.new other).number ≡ result }
+    ensures clock { hall.new.clock ≡ hall.old.clock }
+    ensures did { (who : ℕ) → HasDone hall.old hall.new who (steps_of who ((me, Notes (Note.Loaded other result)) ∷ [])) }
 {
     hall.load_ack(me, other)
 }
 
-#[test]
-fn tells_the_calls_of_a_heap(rt: HostRuntime) -> Result<(), Fail> {
-    let mut hall = hall_of_two(rt.alloc())?;
-    call_first(&mut hall, 1, 3)?;
-    call_first(&mut hall, 0, 3)?;
-    let parts = hall.into_parts();
-    assert_eq!(rt; parts.heaps.len(), MAX_HEAPS);
-    let history = parts.heaps[3].history();
-    assert_eq!(rt; history.len(), 2);
-    assert_eq!(rt;
-        (history[0].caller.participant, history[1].caller.participant),
-        (1, 0)
-    );
-    assert_eq!(rt; parts.heaps[2].history().len(), 0);
-    Ok(())
+/// What participant 0 knows of the number of 1, and 1 of that of 0.
+pub fn numbers(hall: &mut PlainHall) -> (u64, u64)
+    requires two { length hall.old.owns ≡ 2 }
+    requires home { AreHome hall.old }
+    ensures two { length hall.new.owns ≡ 2 }
+    ensures home { AreHome hall.new }
+{
+    (number_of(hall, 0, 1), number_of(hall, 1, 0))
 }
 
-#[test]
-fn holds_a_heap_while_another_gives(rt: HostRuntime) -> Result<(), Fail> {
-    let mut hall = hall_of_two(rt.alloc())?;
-    call_across(&mut hall, 0, 1, 3)?;
-    let parts = hall.into_parts();
-    assert_eq!(rt; parts.segs.roster(), 1);
-    assert_eq!(rt; parts.heaps.len(), MAX_HEAPS);
-    assert_eq!(rt; parts.heaps[3].history().len(), 1);
-    Ok(())
+/// Participant 1 takes in all records and joins the roster, where it has acknowledged none: whether it had none.
+pub fn join_first(hall: &mut PlainHall) -> bool
+    requires two { length hall.old.owns ≡ 2 }
+    requires home { AreHome hall.old }
+    ensures two { length hall.new.owns ≡ 2 }
+    ensures home { AreHome hall.new }
+{
+    if number_of(hall, 1, 1) != 0 {
+        return false;
+    }
+    take_in_and_join(hall, 1);
+    true
 }
 
-#[test]
-fn leaves_the_roster_and_joins_again(rt: HostRuntime) -> Result<(), Fail> {
-    let mut hall = hall_of_two(rt.alloc())?;
-    take_and_leave(&mut hall, 1);
-    assert_eq!(rt; try_roster(&mut hall, 0, 1)?, false);
-    take_in_and_join(&mut hall, 1);
-    let parts = hall.into_parts();
-    assert_eq!(rt; parts.segs.roster(), 3);
-    Ok(())
-}
-
-#[test]
-fn tells_what_was_acknowledged(rt: HostRuntime) -> Result<(), Fail> {
-    let mut hall = hall_of_two(rt.alloc())?;
-    take_in_and_join(&mut hall, 1);
-    hall.partial(0);
-    assert_eq!(rt;
-        (number_of(&mut hall, 0, 1), number_of(&mut hall, 1, 0)),
-        (1, 0)
-    );
-    Ok(())
+/// A participant tells that its table has lost what the records behind its number drop.
+pub fn partial(hall: &mut PlainHall, me: u8)
+    requires me { me < length hall.old.owns }
+    requires home { AreHome hall.old }
+    ensures count { length hall.new.owns ≡ length hall.old.owns }
+    ensures home { AreHome hall.new }
+{
+    hall.partial(me);
 }

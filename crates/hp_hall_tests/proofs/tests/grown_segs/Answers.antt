@@ -19,8 +19,8 @@ use Rattle.hp_hall.specs.Holding.{IsArmed, owned_by}
 use Rattle.hp_hall.proofs.Gives.{has_nothing}
 use Rattle.hp_hall_tests.proofs.tests.grown_segs.Goals as goal
 
-pub new-requires-clause-pools : goal.new-requires-clause-pools
-new-requires-clause-pools c =
+pub new-requires-2-clause-pools : goal.new-requires-2-clause-pools
+new-requires-2-clause-pools c =
     rw c.as_slice.ensures
     (one_pool _ (record { socket = omega arith; page = refl; pages = omega arith; some = omega arith; slots = omega arith }))
 
