@@ -1,5 +1,5 @@
 -- What is known of a table stays known as it catches up, attaches the chunk, detaches it and leaves.
-use Rattle.std.proofs.Common.{◌≡◌, ◌≤◌, ◌<◌, ◌⊎◌, ◌^◌, ℕ, zero, suc, ◌+◌, ◌==◌, Bool, true, false, not, ◌&&◌, List, [], ◌∷◌, ◌++◌, nat_lt, filter, length, count_by, get_or, Some, Option, refl, ap, ◌∙◌, sym, subst, arith, absurd, inl, inr, append-nil}
+use Rattle.std.proofs.Common.{◌≡◌, ◌≤◌, ◌<◌, ◌⊎◌, ◌^◌, ℕ, zero, suc, ◌+◌, ◌==◌, Bool, true, false, not, ◌&&◌, List, [], ◌∷◌, ◌++◌, nat_lt, filter, length, count_by, get_or, Some, Option, refl, ap, ◌∙◌, sym, subst, arith, inl, inr, append-nil}
 use Rattle.std.specs.List.{All, list_any}
 use Rattle.std.proofs.lemmas.List.Elements.{All-cons, All-nil, All-weaker}
 use Rattle.std.proofs.lemmas.List.Sums.{length-filter}

@@ -1,5 +1,5 @@
 -- Worked values: the logs of two pages, in a list of two pages of 2 MiB from the address 2^32 on.
-use Rattle.std.proofs.Common.{◌≤◌, ◌<◌, ◌≡◌, ◌+◌, ℕ, zero, suc, List, [], ◌∷◌, length, refl, sym, subst, arith, absurd}
+use Rattle.std.proofs.Common.{◌≤◌, ◌<◌, ◌≡◌, ◌+◌, ℕ, zero, suc, List, [], ◌∷◌, length, refl, sym, subst, arith}
 use Rattle.std.specs.List.{All}
 use Rattle.std.proofs.lemmas.List.Elements.{All-cons, All-nil}
 use Rattle.hp_base.specs.declared.row.Row.{Row}
@@ -65,27 +65,29 @@ few_one : (n : ℕ) → length (table_at one_at_a_time n) ≤ slots_in worked_li
 few_one zero = omega arith
 few_one (suc zero) = omega arith
 few_one (suc (suc zero)) = omega arith
-few_one (suc (suc (suc n))) = omega arith
+few_one (suc (suc (suc zero))) = omega arith
+few_one (suc (suc (suc (suc n)))) = omega arith
 
 few_both : (n : ℕ) → length (table_at both n) ≤ slots_in worked_lists
 few_both zero = omega arith
 few_both (suc zero) = omega arith
 few_both (suc (suc zero)) = omega arith
-few_both (suc (suc (suc n))) = omega arith
+few_both (suc (suc (suc zero))) = omega arith
+few_both (suc (suc (suc (suc n)))) = omega arith
 
 few_falling : (n : ℕ) → length (table_at falling n) ≤ slots_in worked_lists
 few_falling zero = omega arith
 few_falling (suc zero) = omega arith
 few_falling (suc (suc zero)) = omega arith
-few_falling (suc (suc (suc n))) = omega arith
+few_falling (suc (suc (suc zero))) = omega arith
+few_falling (suc (suc (suc (suc n)))) = omega arith
 
 pub log_one_at_a_time : IsLogOf worked_lists one_at_a_time
 log_one_at_a_time = record {
   formed = (
     unused_one (table_at one_at_a_time 0) first_run refl refl,
-    used_one (table_at one_at_a_time 1) first_run refl refl,
-    unused_one (table_at one_at_a_time 2) second_run refl refl,
-    tt,
+    (used_one (table_at one_at_a_time 1) first_run refl refl,
+    (unused_one (table_at one_at_a_time 2) second_run refl refl, tt))
   );
   runs = three_at (Add first_run 0) (Drop first_run) (Add second_run 0) first_at first_at second_at;
   small = small;
@@ -97,9 +99,8 @@ pub log_both : IsLogOf worked_lists both
 log_both = record {
   formed = (
     unused_one (table_at both 0) first_run refl refl,
-    unused_one (table_at both 1) second_run refl refl,
-    used_one (table_at both 2) first_run refl refl,
-    tt,
+    (unused_one (table_at both 1) second_run refl refl,
+    (used_one (table_at both 2) first_run refl refl, tt))
   );
   runs = three_at (Add first_run 0) (Add second_run 0) (Drop first_run) first_at second_at first_at;
   small = small;
@@ -111,9 +112,8 @@ pub log_falling : IsLogOf worked_lists falling
 log_falling = record {
   formed = (
     unused_one (table_at falling 0) second_run refl refl,
-    unused_one (table_at falling 1) first_run refl refl,
-    used_one (table_at falling 2) first_run refl refl,
-    tt,
+    (unused_one (table_at falling 1) first_run refl refl,
+    (used_one (table_at falling 2) first_run refl refl, tt))
   );
   runs = three_at (Add second_run 0) (Add first_run 0) (Drop first_run) second_at first_at first_at;
   small = small;
