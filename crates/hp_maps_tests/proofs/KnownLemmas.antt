@@ -1,6 +1,6 @@
 -- What is known of a table stays known as it catches up, attaches the chunk, detaches it and leaves.
-use Rattle.std.proofs.Common.{◌≡◌, ◌≤◌, ◌<◌, ◌⊎◌, ◌^◌, ℕ, zero, suc, ◌+◌, ◌==◌, Bool, true, false, not, ◌&&◌, List, [], ◌∷◌, ◌++◌, nat_lt, filter, length, count_by, get_or, Some, Option, refl, ap, ◌∙◌, sym, subst, arith, inl, inr, append-nil}
-use Rattle.std.specs.List.{All, list_any}
+use Rattle.std.proofs.Common.{◌≡◌, ◌≤◌, ◌<◌, ◌⊎◌, ◌^◌, ℕ, ◌+◌, ◌==◌, Bool, true, false, not, ◌&&◌, List, [], ◌∷◌, nat_lt, length, get_or, Option, refl, ap, ◌∙◌, sym, subst, arith, inl, inr, append-nil}
+use Rattle.std.specs.List.{list_any}
 use Rattle.std.proofs.lemmas.List.Elements.{All-cons, All-nil, All-weaker}
 use Rattle.std.proofs.lemmas.List.Sums.{length-filter}
 use Rattle.std.proofs.lemmas.Bool.{cases_Bool, eqb-true}
@@ -14,7 +14,7 @@ use Rattle.hp_log.specs.declared.log_record.LogRecord.{LogRecord}
 use Rattle.hp_log.proofs.Counts.{count_split}
 use Rattle.hp_maps.specs.Catching.{Lags, number_after, rows_after}
 use Rattle.hp_maps.specs.Chunks.{CanAttach, is_of_chunk, rows_beside, rows_of_chunk}
-use Rattle.hp_maps.specs.MapsView.{AreApart, MapsView, calls_of, chunk_rows, is_of_log, table_in}
+use Rattle.hp_maps.specs.MapsView.{MapsView, calls_of, chunk_rows, is_of_log, table_in}
 use Rattle.hp_maps.specs.Ready.{AreBeside, AttachedBeside, DetachedBeside, IsClear, IsReady}
 use Rattle.hp_maps.proofs.ReadyLemmas.{new_is_ready, ready_to_attach, stays_ready}
 use Rattle.hp_maps_tests.proofs.Filters.{any_none, filter_agree, filter_drops, filter_twice}

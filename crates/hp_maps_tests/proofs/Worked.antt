@@ -86,8 +86,10 @@ pub log_one_at_a_time : IsLogOf worked_lists one_at_a_time
 log_one_at_a_time = record {
   formed = (
     unused_one (table_at one_at_a_time 0) first_run refl refl,
-    (used_one (table_at one_at_a_time 1) first_run refl refl,
-    (unused_one (table_at one_at_a_time 2) second_run refl refl, tt))
+    (
+      used_one (table_at one_at_a_time 1) first_run refl refl,
+      (unused_one (table_at one_at_a_time 2) second_run refl refl, tt),
+    ),
   );
   runs = three_at (Add first_run 0) (Drop first_run) (Add second_run 0) first_at first_at second_at;
   small = small;
@@ -99,8 +101,10 @@ pub log_both : IsLogOf worked_lists both
 log_both = record {
   formed = (
     unused_one (table_at both 0) first_run refl refl,
-    (unused_one (table_at both 1) second_run refl refl,
-    (used_one (table_at both 2) first_run refl refl, tt))
+    (
+      unused_one (table_at both 1) second_run refl refl,
+      (used_one (table_at both 2) first_run refl refl, tt),
+    ),
   );
   runs = three_at (Add first_run 0) (Add second_run 0) (Drop first_run) first_at second_at first_at;
   small = small;
@@ -112,8 +116,10 @@ pub log_falling : IsLogOf worked_lists falling
 log_falling = record {
   formed = (
     unused_one (table_at falling 0) second_run refl refl,
-    (unused_one (table_at falling 1) first_run refl refl,
-    (used_one (table_at falling 2) first_run refl refl, tt))
+    (
+      unused_one (table_at falling 1) first_run refl refl,
+      (used_one (table_at falling 2) first_run refl refl, tt),
+    ),
   );
   runs = three_at (Add second_run 0) (Add first_run 0) (Drop first_run) second_at first_at first_at;
   small = small;

@@ -39,5 +39,11 @@ fn keeps_a_chunk_beside_the_table(rt: HostRuntime) -> Result<(), Fail> {
         See(Calls(3)),
     ];
     let told = [comes(BASE, 1), goes(BASE, 1)];
-    play(rt.alloc(), Log::OneAtATime, None, steps.as_slice(), told.as_slice())
+    play(
+        rt.alloc(),
+        Log::OneAtATime,
+        None,
+        steps.as_slice(),
+        told.as_slice(),
+    )
 }

@@ -28,7 +28,13 @@ fn is_refused_by_the_plan_and_goes_on(rt: HostRuntime) -> Result<(), Fail> {
         See(Number(2)),
         See(Calls(1)),
     ];
-    play(rt.alloc(), Log::OneAtATime, Some(failure), steps.as_slice(), [].as_slice())
+    play(
+        rt.alloc(),
+        Log::OneAtATime,
+        Some(failure),
+        steps.as_slice(),
+        [].as_slice(),
+    )
 }
 
 #[test]
@@ -55,7 +61,13 @@ fn undoes_a_misplaced_page(rt: HostRuntime) -> Result<(), Fail> {
         See(Calls(1)),
         See(Empty),
     ];
-    play(rt.alloc(), Log::OneAtATime, Some(failure), steps.as_slice(), [].as_slice())
+    play(
+        rt.alloc(),
+        Log::OneAtATime,
+        Some(failure),
+        steps.as_slice(),
+        [].as_slice(),
+    )
 }
 
 // Two pages, of which the second is refused at the first try: participant 1 stays out, and joins at the second.
@@ -82,5 +94,11 @@ fn takes_back_what_came_before_a_refusal(rt: HostRuntime) -> Result<(), Fail> {
         See(Number(0)),
     ];
     let told = [comes(BASE, 1), comes(BASE + PAGE, 1), goes(BASE, 2)];
-    play(rt.alloc(), Log::Both, Some(failure), steps.as_slice(), told.as_slice())
+    play(
+        rt.alloc(),
+        Log::Both,
+        Some(failure),
+        steps.as_slice(),
+        told.as_slice(),
+    )
 }

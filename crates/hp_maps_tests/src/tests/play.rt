@@ -7,7 +7,7 @@ ghost use Rattle.hp_maps_tests.specs.Known.{IsKnown, worked_lists};
 use super::heard::{Heard, listening};
 use super::steps::{Step, perform};
 use super::{ADD, ADD_SECOND, DROP};
-use hp_base::{Event, MemMapper, Mapper, Plan, PlanEntry};
+use hp_base::{Event, Mapper, MemMapper, Plan, PlanEntry};
 use hp_log::LogRecord;
 use hp_maps::{LocalMaps, Planned};
 use std::alloc::{AllocError, Global};
@@ -36,7 +36,11 @@ struct Otherwise {
 }
 
 // A table of up to four rows over memory.
-fn empty_table(alloc: Global, plan: &Plan, party: u8) -> Result<LocalMaps<Planned<'_, MemMapper>>, AllocError>
+fn empty_table(
+    alloc: Global,
+    plan: &Plan,
+    party: u8,
+) -> Result<LocalMaps<Planned<'_, MemMapper>>, AllocError>
     ensures { IfOk result (λ maps. maps ≡ record {
       rows = [];
       number = 0;
