@@ -1,1 +1,3 @@
+mod Filters
+mod KnownLemmas
 mod Worked

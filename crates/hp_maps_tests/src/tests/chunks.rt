@@ -1,17 +1,15 @@
-use super::{ADD, DROP, FIRST_ROW, empty_table};
-use hp_base::{Caught, Chunk, Row, Silent};
+//! External memory beside the table.
+
+use super::heard::{comes, goes};
+use super::looks::Look::{Calls, Empty, Three, Two};
+use super::play::{Log, play};
+use super::steps::Step::{Attach, Detach, Follow, See};
+use super::{BASE, FIRST_ROW};
+use hp_base::Caught::Done;
+use hp_base::Row;
 use std::test::Fail;
 
-// Two pages of 4,096 bytes.
-const CHUNK: Chunk = Chunk {
-    list: 1,
-    addr: 0x70_0000_0000,
-    len: 0x2000,
-    page: 0x1000,
-    socket: 256,
-    attached: 0,
-};
-
+// The rows of the chunk.
 const CHUNK_ROW: Row = Row {
     addr: 0x70_0000_0000,
     page: 0x1000,
@@ -21,24 +19,31 @@ const CHUNK_ROW: Row = Row {
     generation: 0,
 };
 
+const NEXT_ROW: Row = Row {
+    addr: 0x70_0000_1000,
+    slot: 1,
+    ..CHUNK_ROW
+};
+
 #[test]
 fn keeps_a_chunk_beside_the_table(rt: HostRuntime) -> Result<(), Fail> {
-    let mut maps = empty_table(rt.alloc())?;
-    let second = Row {
-        addr: 0x70_0000_1000,
-        slot: 1,
-        ..CHUNK_ROW
-    };
-    assert_eq!(rt; maps.attach_chunk(&CHUNK), Caught::Done);
-    assert_eq!(rt; maps.rows(), [CHUNK_ROW, second].as_slice());
-    let caught = maps.catch_up([ADD].as_slice(), 1, &mut Silent);
-    assert_eq!(rt; caught, Caught::Done);
-    assert_eq!(rt; maps.rows(), [CHUNK_ROW, second, FIRST_ROW].as_slice());
-    let caught = maps.catch_up([ADD, DROP].as_slice(), 2, &mut Silent);
-    assert_eq!(rt; caught, Caught::Done);
-    assert_eq!(rt; maps.rows(), [CHUNK_ROW, second].as_slice());
-    maps.detach_chunk(&CHUNK);
-    assert!(rt; maps.rows().is_empty());
-    assert_eq!(rt; maps.calls(), 3);
-    Ok(())
+    let steps = [
+        Attach(Done),
+        See(Two(CHUNK_ROW, NEXT_ROW)),
+        Follow(1, Done),
+        See(Three(CHUNK_ROW, NEXT_ROW, FIRST_ROW)),
+        Follow(2, Done),
+        See(Two(CHUNK_ROW, NEXT_ROW)),
+        Detach,
+        See(Empty),
+        See(Calls(3)),
+    ];
+    let told = [comes(BASE, 1), goes(BASE, 1)];
+    play(
+        rt.alloc(),
+        Log::OneAtATime,
+        None,
+        steps.as_slice(),
+        told.as_slice(),
+    )
 }
