@@ -1,20 +1,16 @@
 -- Two participants and their hall, as tests have them: all values are there and both are tied when the hall opens, after a call of it,
 -- and after a serving of one of the two.
-use Rattle.std.proofs.Common.{◌≡◌, ◌≢◌, ℕ, ◌<◌, List, length, sym, ap, subst, ◌∙◌, arith}
-use Rattle.std.proofs.lemmas.List.{length-replicate}
-use Rattle.hp_base.specs.declared.limits.TheConstants.{MAX_HEAPS}
-use Rattle.hp_heap.specs.History.{HeapView}
+use Rattle.std.proofs.Common.{◌≡◌, ◌≢◌, ℕ, ◌<◌, List, length, sym, subst, ◌∙◌, arith}
 use Rattle.hp_log.specs.declared.log_record.LogRecord.{LogRecord}
 use Rattle.hp_segs.specs.SegsView.{SegsView}
-use Rattle.hp_hall.proofs.Opened.{opened_home}
 use Rattle.hp_hall.specs.Course.{IsCourse}
-use Rattle.hp_hall.specs.HallSteps.{opening_hall}
 use Rattle.hp_hall.specs.HallView.{HallView, IsHome, own_at, seen_in, slot_at}
 use Rattle.hp_hall.specs.Opening.{AreHome}
-use Rattle.hp_hall.specs.Own.{Own, after_ack}
+use Rattle.hp_hall.specs.Own.{Own}
 use Rattle.hp_proc.specs.Party.{Party}
 use Rattle.hp_proc.specs.Tied.{IsTied, nothing_yet}
 use Rattle.hp_solo.specs.Solo.{IsPartyServed, IsTiedAt}
+use Rattle.hp_solo.specs.SoloAsks.{IsOpening}
 use Rattle.hp_solo.proofs.SoloTies.{tied_on}
 
 -- what holds of the stage: all values are there, and each participant's table is tied to what the hall knows of it
@@ -40,15 +36,14 @@ opened_tied hall who party own number tied = record {
 }
 
 -- when the hall opens
-pub staged_new : (hall : HallView) (heaps : List HeapView) (segs : SegsView) (primary secondary : Party) → hall ≡ opening_hall 2 heaps segs
-    → length heaps ≡ MAX_HEAPS → primary.me ≡ 0 → secondary.me ≡ 1
+pub staged_new : (hall : HallView) (segs : SegsView) (primary secondary : Party) → IsOpening segs hall → primary.me ≡ 0 → secondary.me ≡ 1
     → ((log : List LogRecord) → IsTied log nothing_yet primary.joined primary.maps)
     → ((log : List LogRecord) → IsTied log nothing_yet secondary.joined secondary.maps) → IsStaged hall primary secondary
-staged_new hall heaps segs primary secondary opened count first second tied_first tied_second = (
-  ap (λ (h : HallView). length h.owns) opened ∙ length-replicate 2 (after_ack 0),
-  subst AreHome (sym opened) (opened_home 2 heaps segs count),
-  opened_tied hall 0 primary (ap (λ (h : HallView). own_at h 0) opened) first tied_first,
-  opened_tied hall 1 secondary (ap (λ (h : HallView). own_at h 1) opened) second tied_second,
+staged_new hall segs primary secondary opening first second tied_first tied_second = (
+  opening.two,
+  opening.home,
+  opened_tied hall 0 primary (opening.nothing_yet 0) first tied_first,
+  opened_tied hall 1 secondary (opening.nothing_yet 1) second tied_second,
 )
 
 -- later on, where the own parts are as they were

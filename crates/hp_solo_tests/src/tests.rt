@@ -7,6 +7,7 @@ ghost use Rattle.hp_heap.specs.History.{HeapView};
 ghost use Rattle.hp_log.specs.declared.log_record.LogRecord.{LogRecord};
 ghost use Rattle.hp_segs.specs.Opening.{opening};
 ghost use Rattle.hp_proc.specs.Tied.{IsTied, nothing_yet};
+ghost use Rattle.hp_solo.specs.SoloAsks.{IsOpening};
 
 mod acts;
 mod asks;
@@ -15,17 +16,17 @@ mod ends;
 mod frames;
 mod growths;
 mod pages;
+mod playing;
 pub(crate) mod shown;
 mod stage;
 
-use acts::Act;
 use hp_base::{MAX_HEAPS, MAX_SEGMENTS, MemMapper, MsgKind, Plan, PlanEntry, PoolLine, Request};
+use hp_hall::PlainHall;
 use hp_heap::Heap;
 use hp_maps::{LocalMaps, Planned};
 use hp_proc::{LineContext, Participant};
 use hp_segs::{Ask, Segs};
 use pages::retire_page;
-use stage::Stage;
 use std::alloc::{AllocError, Global};
 use std::test::Fail;
 
@@ -115,19 +116,35 @@ fn retired_segs(alloc: Global) -> Result<Segs, Fail>
     Ok(segs)
 }
 
-// A plan of what becomes of a first message of participant 1, or for it.
-pub(crate) fn add_message(plan: &mut Plan, kind: MsgKind, twice: bool) -> Result<(), Fail> {
-    if !plan.entries().is_empty() {
-        return Err("an empty plan".into());
-    }
-    plan.add(PlanEntry::Message {
+// That the first message of a kind that concerns participant 1 is lost.
+pub(crate) const fn lost(kind: MsgKind) -> PlanEntry {
+    PlanEntry::Message {
         kind,
         party: 1,
         k: 1,
-        twice,
+        twice: false,
         line: 5,
-    })?;
-    Ok(())
+    }
+}
+
+// A plan of one entry, or of none.
+pub(crate) fn plan_of(alloc: Global, planned: Option<PlanEntry>) -> Result<Plan, AllocError> {
+    let mut plan = Plan::new(alloc);
+    if let Some(entry) = planned {
+        plan.add(entry)?;
+    }
+    Ok(plan)
+}
+
+// The plain values of a hall of the two.
+pub(crate) fn plain_hall(alloc: Global, segs: Segs) -> Result<PlainHall, AllocError>
+    requires armed { IsArmed segs }
+    requires unowned { (heap : ℕ) → owned_by heap segs ≡ [] }
+    ensures opening { IfOk result (IsOpening segs) }
+{
+    let heaps = empty_heaps(alloc)?;
+    let hall = PlainHall::new(alloc, 2, heaps, segs)?;
+    Ok(hall)
 }
 
 // A participant that is attached and has taken in nothing, with a table over memory.

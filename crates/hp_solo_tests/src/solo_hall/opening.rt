@@ -6,24 +6,12 @@ ghost use Rattle.hp_hall.specs.Holding.{IsArmed, owned_by};
 ghost use Rattle.hp_proc.specs.Tied.{nothing_yet};
 ghost use Rattle.hp_solo.specs.SoloAsks.{IsOpening, MayBeginToAsk};
 
-use crate::tests::{armed_segs, empty_heaps, member, opening_segs};
+use crate::tests::{armed_segs, member, opening_segs, plain_hall};
 use hp_base::{MemMapper, Plan};
-use hp_hall::PlainHall;
 use hp_segs::Segs;
 use hp_solo::SoloHall;
 use std::alloc::{AllocError, Global};
 use std::test::Fail;
-
-// Their plain values.
-fn plain_hall(alloc: Global, segs: Segs) -> Result<PlainHall, AllocError>
-    requires armed { IsArmed segs }
-    requires unowned { (heap : ℕ) → owned_by heap segs ≡ [] }
-    ensures opening { IfOk result (IsOpening segs) }
-{
-    let heaps = empty_heaps(alloc)?;
-    let hall = PlainHall::new(alloc, 2, heaps, segs)?;
-    Ok(hall)
-}
 
 // The one of a number comes.
 fn come<'p>(

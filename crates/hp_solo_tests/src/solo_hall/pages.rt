@@ -9,8 +9,8 @@ use super::asking::{ask_for_page, cut_granted, notify, retire, take_heap};
 use super::opening::hall_for_asks;
 use super::steps::{look, read};
 use crate::tests::shown::{End, SegsShown};
-use crate::tests::{BASE, PAGE, add_message, first_ask};
-use hp_base::{MemMapper, MsgKind, Plan, Request, Run};
+use crate::tests::{BASE, PAGE, first_ask, lost, plan_of};
+use hp_base::{MemMapper, MsgKind, Plan, PlanEntry, Request, Run};
 use hp_proc::Participant;
 use hp_segs::RowState;
 use hp_solo::SoloHall;
@@ -38,7 +38,7 @@ const fn granted(from: u8) -> SegsShown {
     }
 }
 
-// And where the first ask of participant 1 was refused so, behind so many records.
+// And where the first ask of participant 1 was refused so, after so many records.
 const fn refused(records: usize, end: End) -> SegsShown {
     SegsShown {
         records,
@@ -50,7 +50,7 @@ const fn refused(records: usize, end: End) -> SegsShown {
 }
 
 // What came of a line: a run, what the segment value shows afterwards, and a reading of the clock.
-#[derive(Clone, Copy, Debug, PartialEq, Eq)]
+#[derive(Clone, Copy, PartialEq, Eq)]
 struct Came {
     run: Option<Run>,
     shown: SegsShown,
@@ -184,73 +184,85 @@ fn what_comes(alloc: Global, plan: &Plan, me: u8, line: Line) -> Result<Option<C
     Ok(go_and_come(&mut hall, me, ask.request, line))
 }
 
-// What comes of an ask of participant 1 where the first message of a kind that concerns it is lost.
-fn what_comes_without(alloc: Global, kind: MsgKind) -> Result<Option<Came>, Fail> {
-    let mut plan = Plan::new(alloc);
-    add_message(&mut plan, kind, false)?;
-    what_comes(alloc, &plan, 1, Line::Ask)
+// Something else has come of a line.
+#[derive(Debug, Drop)]
+struct Otherwise;
+
+// That comes of its line, where that is planned.
+fn comes(
+    alloc: Global,
+    planned: Option<PlanEntry>,
+    me: u8,
+    line: Line,
+    wanted: Came,
+) -> Result<(), Fail>
+    requires { me < 2 }
+{
+    let plan = plan_of(alloc, planned)?;
+    if what_comes(alloc, &plan, me, line)? != Some(wanted) {
+        return Err(Otherwise.into());
+    }
+    Ok(())
+}
+
+// One that asks is granted the page, and claims it.
+fn claims(alloc: Global, me: u8) -> Result<(), Fail>
+    requires { me < 2 }
+{
+    let wanted = Came {
+        run: Some(FIRST_PAGE),
+        shown: granted(me),
+        reading: 0,
+    };
+    comes(alloc, None, me, Line::Ask, wanted)
 }
 
 // Each of the two asks, and claims the page.
 #[test]
 fn claims_what_is_granted(rt: HostRuntime) -> Result<(), Fail> {
-    let plan = Plan::new(rt.alloc());
-    for me in 0..2 {
-        let came = what_comes(rt.alloc(), &plan, me, Line::Ask)?;
-        let wanted = Came {
-            run: Some(FIRST_PAGE),
-            shown: granted(me),
-            reading: 0,
-        };
-        assert_eq!(rt; came, Some(wanted));
-    }
-    Ok(())
+    claims(rt.alloc(), 0)?;
+    claims(rt.alloc(), 1)
 }
 
 // The ALLOC is lost: the ask is taken back when three deadlines have passed, and nothing was logged or mapped.
 #[test]
 fn takes_back_an_ask_that_is_lost(rt: HostRuntime) -> Result<(), Fail> {
-    let came = what_comes_without(rt.alloc(), MsgKind::Alloc)?;
     let wanted = Came {
         run: None,
         shown: refused(0, End::Withdrawn(0, 600)),
         reading: 600,
     };
-    assert_eq!(rt; came, Some(wanted));
-    Ok(())
+    let planned = Some(lost(MsgKind::Alloc));
+    comes(rt.alloc(), planned, 1, Line::Ask, wanted)
 }
 
 // The RESULT is lost: the grant is found when three deadlines have passed.
 #[test]
 fn finds_a_grant_whose_result_is_lost(rt: HostRuntime) -> Result<(), Fail> {
-    let came = what_comes_without(rt.alloc(), MsgKind::Answer)?;
     let wanted = Came {
         run: Some(FIRST_PAGE),
         shown: granted(1),
         reading: 600,
     };
-    assert_eq!(rt; came, Some(wanted));
-    Ok(())
+    let planned = Some(lost(MsgKind::Answer));
+    comes(rt.alloc(), planned, 1, Line::Ask, wanted)
 }
 
 // The first SYNC is lost: the asker itself is late at 200, and the growth is rolled back by a second record.
 #[test]
 fn is_refused_where_its_sync_is_lost(rt: HostRuntime) -> Result<(), Fail> {
-    let came = what_comes_without(rt.alloc(), MsgKind::Sync)?;
     let wanted = Came {
         run: None,
         shown: refused(2, End::Late(1, 0, 200)),
         reading: 200,
     };
-    assert_eq!(rt; came, Some(wanted));
-    Ok(())
+    let planned = Some(lost(MsgKind::Sync));
+    comes(rt.alloc(), planned, 1, Line::Ask, wanted)
 }
 
 // The page that was granted is cut from the heap again: it is Retiring, and not the pool's yet.
 #[test]
 fn retires_what_was_cut(rt: HostRuntime) -> Result<(), Fail> {
-    let plan = Plan::new(rt.alloc());
-    let came = what_comes(rt.alloc(), &plan, 1, Line::Retire)?;
     let wanted = Came {
         run: Some(FIRST_PAGE),
         shown: SegsShown {
@@ -259,15 +271,12 @@ fn retires_what_was_cut(rt: HostRuntime) -> Result<(), Fail> {
         },
         reading: 0,
     };
-    assert_eq!(rt; came, Some(wanted));
-    Ok(())
+    comes(rt.alloc(), None, 1, Line::Retire, wanted)
 }
 
 // Once it has told so, a second record has dropped the page, the notice has an outcome, and the pool has the page again.
 #[test]
 fn gives_a_page_back_to_its_pool(rt: HostRuntime) -> Result<(), Fail> {
-    let plan = Plan::new(rt.alloc());
-    let came = what_comes(rt.alloc(), &plan, 1, Line::GiveUp)?;
     let wanted = Came {
         run: Some(FIRST_PAGE),
         shown: SegsShown {
@@ -279,6 +288,5 @@ fn gives_a_page_back_to_its_pool(rt: HostRuntime) -> Result<(), Fail> {
         },
         reading: 0,
     };
-    assert_eq!(rt; came, Some(wanted));
-    Ok(())
+    comes(rt.alloc(), None, 1, Line::GiveUp, wanted)
 }

@@ -7,7 +7,6 @@ use hp_frame::{Body, Frame, Message};
 use hp_hall::Posted;
 use hp_script::Answer;
 use std::alloc::AllocError;
-use std::test::Fail;
 
 // One act, with what has to come of it.
 #[derive(Clone, Copy)]
@@ -19,10 +18,16 @@ pub(super) enum Act {
     // Participant 1 posts its ALLOC of that number, as the plan has it, and its FREE.
     Alloc(u64, Posted),
     Free(u64),
+    // Participant 1 posts the ALLOC of a participant and of a number, whoever asks by it.
+    Claim(u8, u64),
     // One of the two posts a message to the other's handler of growths, one to another handler, and a frame that does not read.
     Say(u8, Body),
     Elsewhere(u8, Body),
     Stray(u8, Posted),
+    // Participant 0 posts so many frames that do not read, and each goes into the mailbox. Participant 1 serves so often, and did
+    // something each time.
+    Strays(usize),
+    Serves(usize),
     // The clock jumps to that reading.
     Jump(u64),
     // Participant 1 does a line by which it attaches, or one by which it detaches, and answers so.
@@ -40,14 +45,8 @@ pub(super) enum Act {
     Shows(Shown),
 }
 
-// The act at that place, counted from 0, came out otherwise.
-#[derive(Debug, Drop)]
-struct Otherwise {
-    place: usize,
-}
-
 // What participant 1 asks for: a page of 2M for heap 0.
-pub(super) fn alloc_of(from: u8, number: u64) -> Body {
+fn alloc_of(from: u8, number: u64) -> Body {
     Body::Alloc {
         from,
         number,
@@ -121,6 +120,26 @@ fn post_stray(stage: &mut Stage<'_>, from: u8, posted: Posted) -> bool {
     stage.post(from, stray(), Action::Deliver) == posted
 }
 
+// Participant 0 posts so many frames that do not read, and whether each went into the mailbox.
+fn post_strays(stage: &mut Stage<'_>, times: usize) -> bool {
+    for _ in 0..times {
+        if !post_stray(stage, 0, Posted::Sent) {
+            return false;
+        }
+    }
+    true
+}
+
+// Participant 1 serves so often, and whether it did something each time.
+fn serve_often(stage: &mut Stage<'_>, times: usize) -> Result<bool, AllocError> {
+    for _ in 0..times {
+        if !stage.serve_secondary()? {
+            return Ok(false);
+        }
+    }
+    Ok(true)
+}
+
 // Participant 1 posts its ALLOC of that number, as the plan has it, and whether that came out so.
 fn ask(stage: &mut Stage<'_>, number: u64, posted: Posted) -> bool {
     let action = stage.plan().message(MsgKind::Alloc, 1, number);
@@ -135,15 +154,23 @@ fn ask(stage: &mut Stage<'_>, number: u64, posted: Posted) -> bool {
 }
 
 // Whether an act came out as it stands.
-fn perform(stage: &mut Stage<'_>, act: Act) -> Result<bool, AllocError> {
+pub(super) fn perform(stage: &mut Stage<'_>, act: Act) -> Result<bool, AllocError> {
     match act {
         Act::Primary(did) => Ok(stage.serve_primary()? == did),
         Act::Secondary(did) => Ok(stage.serve_secondary()? == did),
         Act::Alloc(number, posted) => Ok(ask(stage, number, posted)),
         Act::Free(number) => Ok(tell(stage, 1, b"malloc".as_slice(), free_of(number))),
+        Act::Claim(from, number) => Ok(tell(
+            stage,
+            1,
+            b"malloc".as_slice(),
+            alloc_of(from, number),
+        )),
         Act::Say(from, body) => Ok(tell(stage, from, b"malloc".as_slice(), body)),
         Act::Elsewhere(from, body) => Ok(tell(stage, from, b"other".as_slice(), body)),
         Act::Stray(from, posted) => Ok(post_stray(stage, from, posted)),
+        Act::Strays(times) => Ok(post_strays(stage, times)),
+        Act::Serves(times) => serve_often(stage, times),
         Act::Jump(reading) => {
             stage.jump(reading);
             Ok(true)
@@ -156,24 +183,4 @@ fn perform(stage: &mut Stage<'_>, act: Act) -> Result<bool, AllocError> {
         Act::Fulls(fulls) => Ok(stage.fulls() == fulls),
         Act::Shows(shown) => Ok(stage.shown()? == shown),
     }
-}
-
-// Each act comes out as it stands.
-pub(super) fn play(stage: &mut Stage<'_>, acts: &[Act]) -> Result<(), Fail> {
-    for place in 0..acts.len() {
-        if !perform(stage, acts[place])? {
-            return Err(Otherwise { place }.into());
-        }
-    }
-    Ok(())
-}
-
-// The same act comes out so again and again.
-pub(super) fn play_again(stage: &mut Stage<'_>, act: Act, times: usize) -> Result<(), Fail> {
-    for place in 0..times {
-        if !perform(stage, act)? {
-            return Err(Otherwise { place }.into());
-        }
-    }
-    Ok(())
 }

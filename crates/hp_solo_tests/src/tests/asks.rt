@@ -1,165 +1,154 @@
 //! Asks that come twice or are lost, and notices.
 
-use super::acts::{Act, play};
+use super::acts::Act;
+use super::growths::{GRANTED, LATE};
+use super::lost;
+use super::playing::{play, play_with_retired_page};
 use super::shown::End;
-use super::stage::{Shown, Stage};
-use super::{BASE, PAGE, add_message};
+use super::stage::Shown;
 use Act::*;
-use hp_base::{MsgKind, Plan, Row};
+use hp_base::{MsgKind, PlanEntry};
 use hp_hall::Posted;
 use std::test::Fail;
 
-// The page is mapped by both.
-const MAPPED: Row = Row {
-    addr: BASE,
-    page: PAGE,
-    socket: 0,
-    list: 0,
-    slot: 0,
-    generation: 1,
+// The first ALLOC of participant 1 comes twice.
+const DOUBLED: PlanEntry = PlanEntry::Message {
+    kind: MsgKind::Alloc,
+    party: 1,
+    k: 1,
+    twice: true,
+    line: 5,
+};
+
+// The second one is found to be stale.
+const THEN_STALE: Shown = Shown {
+    outcomes: 2,
+    last: Some((1, 1, End::Stale(1))),
+    ..GRANTED
 };
 
 // The ALLOC comes twice: the second one is held while the round of the first is under way, and found to be stale.
+const ASKED_TWICE: &[Act] = &[
+    Alloc(1, Posted::Twice),
+    Primary(true),
+    Primary(true),
+    Primary(false),
+    Secondary(true),
+    Primary(true),
+    Shows(GRANTED),
+    Primary(true),
+    Shows(THEN_STALE),
+    Primary(false),
+    Secondary(true),
+    Secondary(false),
+];
+
 #[test]
 fn answers_a_doubled_ask_once(rt: HostRuntime) -> Result<(), Fail> {
-    let mut plan = Plan::new(rt.alloc());
-    add_message(&mut plan, MsgKind::Alloc, true)?;
-    let mut stage = Stage::new(rt.alloc(), &plan)?;
-    let granted = Shown {
-        records: 1,
-        numbers: (1, 1),
-        left: 3,
-        rows: (Some(MAPPED), Some(MAPPED)),
-        outcomes: 1,
-        last: Some((1, 1, End::Granted(1))),
-    };
-    let stale = Shown {
-        outcomes: 2,
-        last: Some((1, 1, End::Stale(1))),
-        ..granted
-    };
-    let acts = [
-        Alloc(1, Posted::Twice),
-        Primary(true),
-        Primary(true),
-        Primary(false),
-        Secondary(true),
-        Primary(true),
-        Shows(granted),
-        Primary(true),
-        Shows(stale),
-        Primary(false),
-        Secondary(true),
-        Secondary(false),
-    ];
-    play(&mut stage, acts.as_slice())
+    play(rt.alloc(), Some(DOUBLED), ASKED_TWICE)
 }
 
 // The first SYNC is lost, so that participant 1 has nothing to serve until the rollback's comes.
+const SYNC_LOST: &[Act] = &[
+    Alloc(1, Posted::Sent),
+    Primary(true),
+    Secondary(false),
+    Jump(200),
+    Primary(true),
+    Secondary(true),
+    Secondary(false),
+    Primary(true),
+    Due(None),
+    Secondary(true),
+    Secondary(false),
+    Shows(LATE),
+];
+
 #[test]
 fn rolls_back_where_a_sync_is_lost(rt: HostRuntime) -> Result<(), Fail> {
-    let mut plan = Plan::new(rt.alloc());
-    add_message(&mut plan, MsgKind::Sync, false)?;
-    let mut stage = Stage::new(rt.alloc(), &plan)?;
-    let late = Shown {
-        records: 2,
-        numbers: (2, 2),
-        left: 4,
-        rows: (None, None),
-        outcomes: 1,
-        last: Some((1, 1, End::Late(1, 0, 200))),
-    };
-    let acts = [
-        Alloc(1, Posted::Sent),
-        Primary(true),
-        Secondary(false),
-        Jump(200),
-        Primary(true),
-        Secondary(true),
-        Secondary(false),
-        Primary(true),
-        Due(None),
-        Secondary(true),
-        Secondary(false),
-        Shows(late),
-    ];
-    play(&mut stage, acts.as_slice())
+    play(rt.alloc(), Some(lost(MsgKind::Sync)), SYNC_LOST)
 }
+
+// The notice is logged.
+const FREED: Shown = Shown {
+    records: 0,
+    numbers: (0, 0),
+    left: 4,
+    rows: (None, None),
+    outcomes: 1,
+    last: Some((1, 1, End::Freed(0))),
+};
+
+// Its repetition is stale.
+const FREED_BEFORE: Shown = Shown {
+    outcomes: 2,
+    last: Some((1, 1, End::Stale(1))),
+    ..FREED
+};
 
 // A notice is logged at once, and answered when participant 1 has replied. Its repetition is stale.
+const NOTICED_TWICE: &[Act] = &[
+    Free(1),
+    Primary(true),
+    Due(Some(200)),
+    Shows(FREED),
+    Secondary(true),
+    Primary(true),
+    Due(None),
+    Secondary(true),
+    Secondary(false),
+    Free(1),
+    Primary(true),
+    Shows(FREED_BEFORE),
+    Primary(false),
+    Secondary(false),
+];
+
 #[test]
 fn answers_a_notice(rt: HostRuntime) -> Result<(), Fail> {
-    let plan = Plan::new(rt.alloc());
-    let mut stage = Stage::new(rt.alloc(), &plan)?;
-    let freed = Shown {
-        records: 0,
-        numbers: (0, 0),
-        left: 4,
-        rows: (None, None),
-        outcomes: 1,
-        last: Some((1, 1, End::Freed(0))),
-    };
-    let stale = Shown {
-        outcomes: 2,
-        last: Some((1, 1, End::Stale(1))),
-        ..freed
-    };
-    let acts = [
-        Free(1),
-        Primary(true),
-        Due(Some(200)),
-        Shows(freed),
-        Secondary(true),
-        Primary(true),
-        Due(None),
-        Secondary(true),
-        Secondary(false),
-        Free(1),
-        Primary(true),
-        Shows(stale),
-        Primary(false),
-        Secondary(false),
-    ];
-    play(&mut stage, acts.as_slice())
+    play(rt.alloc(), None, NOTICED_TWICE)
 }
 
+// The page was given up before.
+const RETIRED: Shown = Shown {
+    records: 1,
+    numbers: (0, 0),
+    left: 3,
+    rows: (None, None),
+    outcomes: 1,
+    last: Some((0, 1, End::Granted(1))),
+};
+
+// Its Drop is logged, and participant 0 has taken it in.
+const DROPPED: Shown = Shown {
+    records: 2,
+    numbers: (2, 0),
+    left: 4,
+    outcomes: 2,
+    last: Some((1, 1, End::Freed(2))),
+    ..RETIRED
+};
+
 // A page that a heap gave up goes back with a notice: the Drop is logged, and both take it in.
+const GIVEN_UP: &[Act] = &[
+    Shows(RETIRED),
+    Free(1),
+    Primary(true),
+    Due(Some(200)),
+    Shows(DROPPED),
+    Secondary(true),
+    Primary(true),
+    Due(None),
+    Secondary(true),
+    Secondary(false),
+    Primary(false),
+    Shows(Shown {
+        numbers: (2, 2),
+        ..DROPPED
+    }),
+];
+
 #[test]
 fn drops_what_was_given_up(rt: HostRuntime) -> Result<(), Fail> {
-    let plan = Plan::new(rt.alloc());
-    let mut stage = Stage::with_retired_page(rt.alloc(), &plan)?;
-    let retired = Shown {
-        records: 1,
-        numbers: (0, 0),
-        left: 3,
-        rows: (None, None),
-        outcomes: 1,
-        last: Some((0, 1, End::Granted(1))),
-    };
-    let dropped = Shown {
-        records: 2,
-        numbers: (2, 0),
-        left: 4,
-        outcomes: 2,
-        last: Some((1, 1, End::Freed(2))),
-        ..retired
-    };
-    let acts = [
-        Shows(retired),
-        Free(1),
-        Primary(true),
-        Due(Some(200)),
-        Shows(dropped),
-        Secondary(true),
-        Primary(true),
-        Due(None),
-        Secondary(true),
-        Secondary(false),
-        Primary(false),
-        Shows(Shown {
-            numbers: (2, 2),
-            ..dropped
-        }),
-    ];
-    play(&mut stage, acts.as_slice())
+    play_with_retired_page(rt.alloc(), GIVEN_UP)
 }

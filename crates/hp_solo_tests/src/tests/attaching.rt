@@ -1,12 +1,14 @@
 //! Participant 1 detaches and attaches again, where the log has records.
 
-use super::acts::{Act, play};
+use super::acts::Act;
 use super::growths::{FIRST_ROW, GRANTED};
-use super::stage::{Shown, Stage};
+use super::playing::play;
+use super::stage::Shown;
 use Act::*;
-use hp_base::{Plan, PlanEntry};
+use hp_base::PlanEntry;
 use hp_hall::Posted;
 use hp_script::Answer;
+use std::alloc::Global;
 use std::test::Fail;
 
 // Both are in the roster.
@@ -24,107 +26,92 @@ const OUT: Shown = Shown {
     ..GRANTED
 };
 
-// A page is granted to participant 1, and both have mapped it.
-fn grant(stage: &mut Stage<'_>) -> Result<(), Fail> {
-    let acts = [
-        Alloc(1, Posted::Sent),
-        Primary(true),
-        Secondary(true),
-        Primary(true),
-        Secondary(true),
-        Shows(GRANTED),
-    ];
-    play(stage, acts.as_slice())
-}
+// A page is granted first.
+const OUT_AND_IN: &[Act] = &[
+    Alloc(1, Posted::Sent),
+    Primary(true),
+    Secondary(true),
+    Primary(true),
+    Secondary(true),
+    Shows(GRANTED),
+    Attach(Answer::Already),
+    Roster(BOTH),
+    Shows(GRANTED),
+    Detach(Answer::Done),
+    Roster(ALONE),
+    Shows(OUT),
+    Detach(Answer::Detached),
+    Roster(ALONE),
+    Shows(OUT),
+    Attach(ONE_RECORD),
+    Roster(BOTH),
+    Shows(GRANTED),
+];
 
 #[test]
 fn attaches_again_with_the_whole_log(rt: HostRuntime) -> Result<(), Fail> {
-    let plan = Plan::new(rt.alloc());
-    let mut stage = Stage::new(rt.alloc(), &plan)?;
-    grant(&mut stage)?;
-    let acts = [
-        Attach(Answer::Already),
-        Roster(BOTH),
-        Shows(GRANTED),
-        Detach(Answer::Done),
-        Roster(ALONE),
-        Shows(OUT),
-        Detach(Answer::Detached),
-        Roster(ALONE),
-        Shows(OUT),
-        Attach(ONE_RECORD),
-        Roster(BOTH),
-        Shows(GRANTED),
-    ];
-    play(&mut stage, acts.as_slice())
+    play(rt.alloc(), None, OUT_AND_IN)
 }
+
+// And it has acknowledged no record.
+const MISSED: Shown = Shown {
+    numbers: (1, 0),
+    ..OUT
+};
 
 // A page is granted while it is out: participant 0 alone maps it. It takes in what it has missed once it attaches.
+const OUT_FIRST: &[Act] = &[
+    Detach(Answer::Done),
+    Roster(ALONE),
+    Alloc(1, Posted::Sent),
+    Primary(true),
+    Primary(false),
+    Shows(MISSED),
+    Detach(Answer::Detached),
+    Roster(ALONE),
+    Attach(ONE_RECORD),
+    Roster(BOTH),
+    Shows(GRANTED),
+];
+
 #[test]
 fn takes_in_what_it_has_missed(rt: HostRuntime) -> Result<(), Fail> {
-    let plan = Plan::new(rt.alloc());
-    let mut stage = Stage::new(rt.alloc(), &plan)?;
-    let missed = Shown {
-        numbers: (1, 0),
-        ..OUT
-    };
-    let acts = [
-        Detach(Answer::Done),
-        Roster(ALONE),
-        Alloc(1, Posted::Sent),
-        Primary(true),
-        Primary(false),
-        Shows(missed),
-        Detach(Answer::Detached),
-        Roster(ALONE),
-        Attach(ONE_RECORD),
-        Roster(BOTH),
-        Shows(GRANTED),
-    ];
-    play(&mut stage, acts.as_slice())
+    play(rt.alloc(), None, OUT_FIRST)
 }
 
-// A plan by which the second mapping call of participant 1 is refused or misplaced.
-fn add_second_mapping(plan: &mut Plan, elsewhere: bool) -> Result<(), Fail> {
-    if !plan.entries().is_empty() {
-        return Err("an empty plan".into());
-    }
-    plan.add(PlanEntry::Mapping {
+// Its second mapping call is refused, or misplaced: it is refused, is out as before, and attaches by its next call.
+const REFUSED_ONCE: &[Act] = &[
+    Alloc(1, Posted::Sent),
+    Primary(true),
+    Secondary(true),
+    Primary(true),
+    Secondary(true),
+    Shows(GRANTED),
+    Detach(Answer::Done),
+    Attach(Answer::Refused { call: 2 }),
+    Roster(ALONE),
+    Shows(OUT),
+    Attach(ONE_RECORD),
+    Roster(BOTH),
+    Shows(GRANTED),
+];
+
+fn is_refused_once(alloc: Global, elsewhere: bool) -> Result<(), Fail> {
+    let planned = PlanEntry::Mapping {
         party: 1,
         call: 2,
         elsewhere,
         line: 2,
-    })?;
-    Ok(())
-}
-
-// Its second mapping call fails: it is refused, is out as before, and attaches by its next call.
-fn is_refused_once(stage: &mut Stage<'_>) -> Result<(), Fail> {
-    grant(stage)?;
-    let acts = [
-        Detach(Answer::Done),
-        Attach(Answer::Refused { call: 2 }),
-        Roster(ALONE),
-        Shows(OUT),
-        Attach(ONE_RECORD),
-        Roster(BOTH),
-        Shows(GRANTED),
-    ];
-    play(stage, acts.as_slice())
+    };
+    play(alloc, Some(planned), REFUSED_ONCE)
 }
 
 #[test]
 fn attaches_by_the_call_after_one_that_is_refused(rt: HostRuntime) -> Result<(), Fail> {
-    let mut plan = Plan::new(rt.alloc());
-    add_second_mapping(&mut plan, false)?;
-    let mut stage = Stage::new(rt.alloc(), &plan)?;
-    is_refused_once(&mut stage)
+    is_refused_once(rt.alloc(), false)
 }
 
 #[test]
 fn attaches_by_the_call_after_one_that_is_misplaced(rt: HostRuntime) -> Result<(), Fail> {
-    let mut plan = Plan::new(rt.alloc());
-    add_second_mapping(&mut plan, true)?;
-    let mut stage = Stage::new(rt.alloc(), &plan)?;
-    is_refused_once(&mut stage)
+    is_refused_once(rt.alloc(), true)
 }

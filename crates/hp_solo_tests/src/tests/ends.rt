@@ -1,14 +1,15 @@
 //! What participants leave at the end of a run.
 
-use super::acts::{Act, play};
+use super::acts::Act;
 use super::growths::FIRST_ROW;
-use super::stage::Stage;
+use super::playing::play_to_end;
+use super::stage::{Left, left_by};
 use super::{DEADLINE, member};
 use Act::*;
 use hp_base::{MAX_SEGMENTS, MemMapper, Plan};
 use hp_hall::Posted;
 use hp_maps::{LocalMaps, Planned};
-use hp_proc::{End, LineContext, Participant};
+use hp_proc::{LineContext, Participant};
 use std::alloc::{AllocError, Global};
 use std::test::Fail;
 
@@ -21,40 +22,53 @@ fn outsider(alloc: Global, plan: &Plan) -> Result<Participant<'_, MemMapper>, Al
     Ok(Participant::new(2, 0, false, maps, plan, DEADLINE, context))
 }
 
-// Whether it was attached, how many records it had taken in, and how many rows it had.
-fn shown(end: &End) -> (bool, u64, usize) {
-    (end.table.joined, end.table.number, end.table.rows.len())
-}
-
 // Both have mapped the page that was granted.
+const BOTH_MAP: &[Act] = &[
+    Alloc(1, Posted::Sent),
+    Primary(true),
+    Secondary(true),
+    Primary(true),
+];
+
+const ONE_ROW: Left = Left {
+    joined: true,
+    number: 1,
+    rows: 1,
+    first: Some(FIRST_ROW),
+};
+
 #[test]
 fn leaves_a_row(rt: HostRuntime) -> Result<(), Fail> {
-    let plan = Plan::new(rt.alloc());
-    let mut stage = Stage::new(rt.alloc(), &plan)?;
-    let acts = [
-        Alloc(1, Posted::Sent),
-        Primary(true),
-        Secondary(true),
-        Primary(true),
-    ];
-    play(&mut stage, acts.as_slice())?;
-    let (first, second) = stage.end(rt.alloc())?;
-    assert_eq!(rt;
-        (shown(&first), shown(&second)),
-        ((true, 1, 1), (true, 1, 1))
-    );
-    assert_eq!(rt; first.table.rows.as_slice(), [FIRST_ROW].as_slice());
-    assert_eq!(rt; second.table.rows.as_slice(), [FIRST_ROW].as_slice());
+    let left = play_to_end(rt.alloc(), None, BOTH_MAP)?;
+    assert!(rt; left == (ONE_ROW, ONE_ROW));
     Ok(())
+}
+
+// Of one that has taken nothing in yet.
+const fn nothing(joined: bool) -> Left {
+    Left {
+        joined,
+        number: 0,
+        rows: 0,
+        first: None,
+    }
+}
+
+// Whether one that has taken nothing in, and is attached or not, leaves just that.
+fn leaves_nothing(alloc: Global, joined: bool) -> Result<bool, AllocError> {
+    let plan = Plan::new(alloc);
+    let party = if joined {
+        member(alloc, 1, &plan)?
+    } else {
+        outsider(alloc, &plan)?
+    };
+    Ok(left_by(party, alloc)? == nothing(joined))
 }
 
 // One that is attached has taken nothing in yet, and one is not.
 #[test]
 fn leaves_no_row(rt: HostRuntime) -> Result<(), Fail> {
-    let plan = Plan::new(rt.alloc());
-    let attached = member(rt.alloc(), 1, &plan)?.end(rt.alloc())?;
-    let out = outsider(rt.alloc(), &plan)?.end(rt.alloc())?;
-    assert_eq!(rt; shown(&attached), (true, 0, 0));
-    assert_eq!(rt; shown(&out), (false, 0, 0));
+    assert!(rt; leaves_nothing(rt.alloc(), true)?);
+    assert!(rt; leaves_nothing(rt.alloc(), false)?);
     Ok(())
 }

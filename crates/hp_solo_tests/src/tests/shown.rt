@@ -4,7 +4,7 @@ use hp_base::MapAnswer;
 use hp_segs::{AskLog, Cause, Outcome, RowState, Segs};
 
 /// How an ask ended.
-#[derive(Clone, Copy, Debug, PartialEq, Eq)]
+#[derive(Clone, Copy, PartialEq, Eq)]
 pub(crate) enum End {
     Granted(u64),
     Freed(u64),
@@ -19,7 +19,7 @@ pub(crate) enum End {
 }
 
 /// What a segment value shows.
-#[derive(Clone, Copy, Debug, PartialEq, Eq)]
+#[derive(Clone, Copy, PartialEq, Eq)]
 pub(crate) struct SegsShown {
     // How many records the log has.
     pub records: usize,

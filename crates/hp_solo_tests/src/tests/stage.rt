@@ -3,7 +3,7 @@ ghost use Rattle.std.specs.Prelude.{◌≡◌, ◌<◌, ℕ, []};
 ghost use Rattle.hp_hall.specs.Holding.{IsArmed, owned_by};
 
 use super::shown::{End, SegsShown, shown_in};
-use super::{armed_segs, empty_heaps, member, retired_segs};
+use super::{member, plain_hall};
 use hp_base::{Action, MemMapper, Plan, Row};
 use hp_frame::Frame;
 use hp_hall::{Hall, PlainHall, Posted};
@@ -12,7 +12,6 @@ use hp_script::{Act, Answer, Line};
 use hp_segs::Segs;
 use std::alloc::{AllocError, Global};
 use std::marker::Model;
-use std::test::Fail;
 
 // A hall of plain values, and its two participants.
 #[derive(Drop)]
@@ -39,7 +38,7 @@ impl<'p> Model for Stage<'p> {
 }
 
 // What the segment value and the tables show.
-#[derive(Clone, Copy, Debug, PartialEq, Eq)]
+#[derive(Clone, Copy, PartialEq, Eq)]
 pub(super) struct Shown {
     // How many records the log has, and how many each participant has acknowledged.
     pub records: usize,
@@ -53,16 +52,38 @@ pub(super) struct Shown {
     pub last: Option<(u8, u64, End)>,
 }
 
+// What a participant leaves: whether it was attached, how many records it had taken in, how many rows it had, and the first of them.
+#[derive(Clone, Copy, PartialEq, Eq)]
+pub(super) struct Left {
+    pub joined: bool,
+    pub number: u64,
+    pub rows: usize,
+    pub first: Option<Row>,
+}
+
+// A participant ends: what it leaves.
+pub(super) fn left_by(
+    participant: Participant<'_, MemMapper>,
+    alloc: Global,
+) -> Result<Left, AllocError> {
+    let end = participant.end(alloc)?;
+    Ok(Left {
+        joined: end.table.joined,
+        number: end.table.number,
+        rows: end.table.rows.len(),
+        first: end.table.rows.first().copied(),
+    })
+}
+
 impl<'p> Stage<'p> {
     // Two participants that have taken in nothing, in a hall of that segment value.
-    fn over(alloc: Global, plan: &'p Plan, segs: Segs) -> Result<Stage<'p>, AllocError>
+    pub(super) fn new(alloc: Global, plan: &'p Plan, segs: Segs) -> Result<Stage<'p>, AllocError>
         requires armed { IsArmed segs }
         requires unowned { (heap : ℕ) → owned_by heap segs ≡ [] }
     {
+        let hall = plain_hall(alloc, segs)?;
         let primary = member(alloc, 0, plan)?;
         let secondary = member(alloc, 1, plan)?;
-        let heaps = empty_heaps(alloc)?;
-        let hall = PlainHall::new(alloc, 2, heaps, segs)?;
         Ok(Stage {
             hall,
             primary,
@@ -70,18 +91,6 @@ impl<'p> Stage<'p> {
             plan,
             alloc,
         })
-    }
-
-    // Participant 1 is armed with its first ask.
-    pub(super) fn new(alloc: Global, plan: &'p Plan) -> Result<Stage<'p>, Fail> {
-        let segs = armed_segs(alloc, 1)?;
-        Ok(Stage::over(alloc, plan, segs)?)
-    }
-
-    // Heap 0 has given a page up besides.
-    pub(super) fn with_retired_page(alloc: Global, plan: &'p Plan) -> Result<Stage<'p>, Fail> {
-        let segs = retired_segs(alloc)?;
-        Ok(Stage::over(alloc, plan, segs)?)
     }
 
     // What becomes of the messages and mapping calls.
@@ -134,7 +143,7 @@ impl<'p> Stage<'p> {
         self.hall.post(from, 1 - from, frame, action)
     }
 
-    // The clock jumps in a pause of participant 0, where that reading is not behind it.
+    // The clock jumps in a pause of participant 0, where that reading is not before its own.
     pub(super) fn jump(&mut self, reading: u64) {
         if self.hall.clock() <= reading {
             self.hall.pause(0, false, None, reading);
@@ -170,14 +179,14 @@ impl<'p> Stage<'p> {
         self.hall.load_ack(1 - who, who)
     }
 
-    // Both end.
-    pub(super) fn end(self, alloc: Global) -> Result<(hp_proc::End, hp_proc::End), AllocError> {
+    // Both end: what they leave.
+    pub(super) fn end(self, alloc: Global) -> Result<(Left, Left), AllocError> {
         let Stage {
             primary,
             secondary,
             ..
         } = self;
-        Ok((primary.end(alloc)?, secondary.end(alloc)?))
+        Ok((left_by(primary, alloc)?, left_by(secondary, alloc)?))
     }
 
     // What the segment value shows.

@@ -1,7 +1,7 @@
 -- Every value is there, and nobody has acknowledged a record.
 use Rattle.hp_hall.proofs.Gives.{bare_pages}
 use Rattle.hp_solo_tests.proofs.SoloOpened.{opens}
-use Rattle.hp_solo_tests.proofs.solo_hall.opening.plain_hall.Goals as goal
+use Rattle.hp_solo_tests.proofs.tests.plain_hall.Goals as goal
 
 pub new-requires-clause-pages : goal.new-requires-clause-pages
 new-requires-clause-pages c = λ number heap there.

@@ -6,10 +6,10 @@ use Rattle.hp_hall.specs.HallView.{HallView, IsHome, slot_at}
 use Rattle.hp_proc.specs.Party.{Party}
 use Rattle.hp_solo.specs.Solo.{IsTiedAt}
 use Rattle.hp_solo.proofs.SoloWaits.{waits_first}
-use Rattle.hp_solo_tests.proofs.solo_hall.go_and_come.Goals as goal
+use Rattle.hp_solo_tests.proofs.solo_hall.playing.go_and_come.Goals as goal
 
-pub do_line-requires : goal.do_line-requires
-do_line-requires c =
+pub do_steps-done-requires : goal.do_steps-done-requires
+do_steps-done-requires c =
     let hall = c.away.new.self in
     let party = c.in-Some.party in
     let at : IsTiedAt hall.plain c.args.me party =
