@@ -50,6 +50,7 @@ sound_first pools count absent are some present =
         own = alone.places.own;
         external = alone.places.external;
       };
+      returned = alone.returned;
     }
 
 pub armed_first : (pools : List PoolLine) (count absent : ℕ) → IsArmed (opening pools count absent)
