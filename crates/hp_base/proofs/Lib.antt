@@ -3,6 +3,7 @@ pub mod Powers
 pub mod ClassLemmas
 pub mod Places
 pub mod PageLemmas
+mod FlagLemmas
 pub mod MemoryLemmas
 pub mod NameLemmas
 pub mod RequestLemmas

@@ -3,10 +3,12 @@ use Rattle.std.specs.Prelude.{◌≡◌, ◌↔◌, ℕ, ◌%◌, ◌^◌, ◌�
 use Rattle.hp_base.specs.Class.{IsClassOf, class_number}
 use Rattle.hp_base.specs.Round.{floor_of, ceil_of}
 use Rattle.hp_base.specs.Place.{IsPlace, HasNoPlace, place_of}
+use Rattle.hp_base.specs.Flags.{page_flags}
 use Rattle.hp_base.specs.ExternalMemory.{IsExternalMemory, is_bad_range}
 use Rattle.hp_base.specs.Pages.{page_sizes}
 use Rattle.hp_base.specs.Plans.{map_action_of, planned_calls, plans_mapping}
 use Rattle.hp_base.specs.Streams.{list_has}
+use Rattle.hp_base.specs.declared.flags.TheConstants.{HINT, HINT_BIT, PAGE_FLAGS}
 use Rattle.hp_base.specs.declared.limits.TheConstants.{MAX_PARTICIPANTS, MAX_HEAPS, MAX_SOCKETS, MAX_LISTS, MAX_LIST_SEGMENTS, MAX_SEGMENTS, MAX_LINES, MAX_WORKLOAD_BYTES, MAX_COUNT, MAX_DEADLINE}
 use Rattle.hp_base.specs.declared.page_size.TheConstants.{GREATEST_PAGE, PAGE_SIZES}
 use Rattle.hp_base.specs.declared.plan.MapAction.TheVariants.{Ask}
@@ -15,12 +17,15 @@ use Rattle.hp_base.specs.declared.plan_entry.PlanEntry.TheVariants.{Mapping}
 use Rattle.hp_base.specs.declared.request.Request.{Request}
 use Rattle.hp_base.specs.declared.round.TheConstants.{HEADER, LINE}
 
--- the constants of the code are the numbers of the rules ("Requests", "Pages asked")
+-- the constants of the code are the numbers of the rules ("Requests", "Pages asked", "Search")
 pub record HasNumbers : Type 0 where
   pub line : LINE ≡ 64
   pub header : HEADER ≡ 128
   pub sizes : PAGE_SIZES ≡ page_sizes
   pub greatest : GREATEST_PAGE ≡ 2 ^ 34
+  pub flags : PAGE_FLAGS ≡ page_flags
+  pub hint : HINT_BIT ≡ 2
+  pub hint_counts : HINT ≡ 2 ^ HINT_BIT
 
 -- the limits of the code are those of the rules ("Limits" of docs/OUTSIDE.md)
 pub record HasLimits : Type 0 where

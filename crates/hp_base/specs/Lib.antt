@@ -3,6 +3,7 @@ pub mod Class
 pub mod Requests
 pub mod Place
 pub mod Pages
+pub mod Flags
 pub mod PoolLines
 pub mod ExternalMemory
 pub mod Names

@@ -5,16 +5,22 @@ use crate::name::Name;
 /// Who may deny a growth of a socket's memory. After the allocation validators of rte_memory
 /// (rte_mem_alloc_validator_register).
 pub trait Judge {
-    /// For a socket and the bytes that it would have: the name and the limit of the validator that denies them, if one
-    /// does.
-    ghost denial: { Self → ℕ → ℕ → Option (List ℕ × ℕ) };
+    /// When the judge may be asked.
+    ghost may_ask: { Self → Type 0 };
+
+    /// Which answers the judge may give for a socket and the bytes that it would have: the name and the limit of the
+    /// validator that denies them, or that none does. It may have several, since a validator need not answer the same
+    /// each time.
+    ghost denies: { Self → ℕ → ℕ → Option (List ℕ × ℕ) → Type 0 };
 
     /// Whether a total of bytes on a socket is denied: the name and the limit of the validator that does.
     fn ask(&self, socket: u32, total: u64) -> Option<(Name, u64)>
-        ensures { result ≡ denial self.now socket total };
+        requires may_ask { may_ask self.now }
+        ensures { denies self.now socket total result };
 
     /// A validator denies only what is above its limit.
-    ghost limits: { (judge : Self) (socket total : ℕ) → IfSome (denial judge socket total) (λ denied. denied.1 < total) };
+    ghost limits: { (judge : Self) (socket total : ℕ) (answer : Option (List ℕ × ℕ)) → denies judge socket total answer
+        → IfSome answer (λ denied. denied.1 < total) };
 }
 
 /// It denies nothing. Own.
@@ -23,10 +29,14 @@ pub struct NoLimits;
 
 impl Judge for NoLimits {
     ghost use Rattle.std.specs.Prelude.{None};
+    ghost use Rattle.std.proofs.Common.{subst, sym};
 
-    ghost denial = { λ _ _ _. None };
+    ghost may_ask = { λ _. Unit {0} };
 
-    ghost limits = { λ _ _ _. tt };
+    ghost denies = { λ _ _ _ answer. answer ≡ None };
+
+    ghost limits = { λ _ _ total answer is.
+        subst (λ (given : Option (List ℕ × ℕ)). IfSome given (λ denied. denied.1 < total)) (sym is) tt };
 
     fn ask(&self, _socket: u32, _total: u64) -> Option<(Name, u64)> {
         None

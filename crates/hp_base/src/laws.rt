@@ -33,8 +33,8 @@ pub fn memory_law()
     ensures { JudgesMemory }
 {}
 
-/// The constants are the numbers of the rules: a cache line of 64 bytes, a header of 128, the eight page sizes, and the
-/// greatest of them.
+/// The constants are the numbers of the rules: a cache line of 64 bytes, a header of 128, the eight page sizes, the
+/// greatest of them, the bits of flags that name them, and the bit of a hint.
 pub fn numbers_law()
     ensures { HasNumbers }
 {}

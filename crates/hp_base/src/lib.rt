@@ -9,6 +9,7 @@ mod clock;
 mod data_place;
 mod event;
 mod failing_calls;
+mod flags;
 mod held_rows;
 mod judge;
 mod laws;
@@ -40,6 +41,9 @@ pub use class::class_of;
 pub use clock::{Clock, StepClock};
 pub use data_place::place;
 pub use event::{Event, EventKind};
+pub use flags::{
+    HINT, HINT_BIT, PAGE_FLAGS, has_bit, is_fitting_page, is_hint, names_page, names_pages,
+};
 pub use judge::{Judge, NoLimits};
 pub use laws::{class_law, limits_law, memory_law, numbers_law, place_law, plan_law, rounding_law};
 pub use limits::{
