@@ -9,7 +9,7 @@ use Rattle.hp_base.specs.Pages.{page_sizes}
 use Rattle.hp_base.specs.Plans.{map_action_of, planned_calls, plans_mapping}
 use Rattle.hp_base.specs.Streams.{list_has}
 use Rattle.hp_base.specs.declared.flags.TheConstants.{HINT, HINT_BIT, PAGE_FLAGS}
-use Rattle.hp_base.specs.declared.limits.TheConstants.{MAX_PARTICIPANTS, MAX_HEAPS, MAX_SOCKETS, MAX_LISTS, MAX_LIST_SEGMENTS, MAX_SEGMENTS, MAX_LINES, MAX_WORKLOAD_BYTES, MAX_COUNT, MAX_DEADLINE}
+use Rattle.hp_base.specs.declared.limits.TheConstants.{MAX_PARTICIPANTS, MAX_HEAPS, MAX_SOCKETS, MAX_LISTS, MAX_LIST_SEGMENTS, MAX_SEGMENTS, MAX_LINES, MAX_WORKLOAD_BYTES, MAX_COUNT, MAX_DEADLINE, MAX_READING}
 use Rattle.hp_base.specs.declared.page_size.TheConstants.{GREATEST_PAGE, PAGE_SIZES}
 use Rattle.hp_base.specs.declared.plan.MapAction.TheVariants.{Ask}
 use Rattle.hp_base.specs.declared.plan_entry.PlanEntry.{PlanEntry}
@@ -39,6 +39,7 @@ pub record HasLimits : Type 0 where
   pub bytes : MAX_WORKLOAD_BYTES ≡ 2 ^ 20
   pub count : MAX_COUNT ≡ 1000000
   pub deadline : MAX_DEADLINE ≡ 3600000
+  pub reading : MAX_READING ≡ 2 ^ 63
 
 -- the computed class of a size is its class, and its only one ("Size classes")
 abbrev pub ComputesClass : Type 0

@@ -1,5 +1,6 @@
 ghost use Rattle.std.specs.Prelude.{◌≡◌, ◌≤◌, ◌^◌, ℕ};
 
+use crate::limits::MAX_READING;
 use std::marker::Model;
 
 /// A clock in milliseconds, whose readings never fall. They have no other meaning. Own; after rte_get_timer_cycles.
@@ -63,7 +64,7 @@ impl Clock for StepClock {
     {
         let reading = self.next;
         self.last = reading;
-        self.next = reading.saturating_add(self.step).min(1 << 63);
+        self.next = reading.saturating_add(self.step).min(MAX_READING);
         reading
     }
 }

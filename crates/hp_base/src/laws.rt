@@ -40,7 +40,7 @@ pub fn numbers_law()
 {}
 
 /// The limits are the numbers of the rules: participants, heaps, sockets, lists, their segments, lines, bytes, counts of
-/// a plan, and the deadline.
+/// a plan, the deadline, and the readings of clocks.
 pub fn limits_law()
     ensures { HasLimits }
 {}

@@ -48,7 +48,7 @@ pub use judge::{Judge, NoLimits};
 pub use laws::{class_law, limits_law, memory_law, numbers_law, place_law, plan_law, rounding_law};
 pub use limits::{
     MAX_COUNT, MAX_DEADLINE, MAX_HEAPS, MAX_LINES, MAX_LIST_SEGMENTS, MAX_LISTS, MAX_PARTICIPANTS,
-    MAX_SEGMENTS, MAX_SOCKETS, MAX_WORKLOAD_BYTES,
+    MAX_READING, MAX_SEGMENTS, MAX_SOCKETS, MAX_WORKLOAD_BYTES,
 };
 pub use map_answer::MapAnswer;
 pub use mapper::{Mapper, MemMapper};

@@ -28,3 +28,6 @@ pub const MAX_COUNT: u64 = 1_000_000;
 
 /// The longest deadline of a growth, in milliseconds: an hour. Own.
 pub const MAX_DEADLINE: u64 = 3_600_000;
+
+/// The latest reading of a clock, in milliseconds. Own.
+pub const MAX_READING: u64 = 1 << 63;
