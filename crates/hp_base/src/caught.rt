@@ -3,7 +3,7 @@ use crate::row::Row;
 
 /// How catching up with the log of segments, or attaching a chunk, ended. `call` is the mapper's number of the mapping
 /// call that failed, from 1. Own; after the synchronisation of memory maps between processes in Multi-process Support.
-#[derive(Clone, Copy, Debug, PartialEq, Eq)]
+#[derive(Clone, Copy, PartialEq, Eq)]
 pub enum Caught {
     /// All rows are mapped.
     Done,

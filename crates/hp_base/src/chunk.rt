@@ -1,6 +1,6 @@
 /// A piece of external memory, as rte_malloc_heap_memory_add brings it: a segment list of its own, outside the
 /// log of segments. `addr`, `len` and `page` are bytes.
-#[derive(Clone, Copy, Debug, PartialEq, Eq)]
+#[derive(Clone, Copy)]
 pub struct Chunk {
     pub list: u32,
     pub addr: u64,

@@ -16,7 +16,7 @@ pub trait Clock: Drop {
 }
 
 /// A clock whose first reading is 0, and whose later ones are a step of milliseconds more each, at most 2^63. Own.
-#[derive(Debug, Drop)]
+#[derive(Drop)]
 pub struct StepClock {
     step: u64,
     last: u64,

@@ -1,5 +1,5 @@
 /// Whether memory comes or goes. After rte_mem_event.
-#[derive(Clone, Copy, Debug, PartialEq, Eq)]
+#[derive(Clone, Copy, PartialEq, Eq)]
 pub enum EventKind {
     /// It was mapped.
     Alloc,
@@ -8,7 +8,7 @@ pub enum EventKind {
 }
 
 /// Memory that comes or goes: `len` bytes from `addr` on. After the memory event callbacks of rte_memory.
-#[derive(Clone, Copy, Debug, PartialEq, Eq)]
+#[derive(Clone, Copy, PartialEq, Eq)]
 pub struct Event {
     pub kind: EventKind,
     pub addr: u64,

@@ -2,7 +2,7 @@ ghost use Rattle.std.specs.Prelude.{◌≡◌, ◌+◌, ◌-◌, ◌^◌, min, i
 ghost use Rattle.hp_base.specs.Streams.{list_has};
 
 /// Which calls of a source, a sink or a mapper in memory fail, by their number from 1, and how many calls there were.
-#[derive(Debug, Drop)]
+#[derive(Drop)]
 pub struct FailingCalls {
     pub fails: Vec<u64>,
     pub calls: u64,

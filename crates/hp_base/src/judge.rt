@@ -24,7 +24,7 @@ pub trait Judge {
 }
 
 /// It denies nothing. Own.
-#[derive(Clone, Copy, Debug, PartialEq, Eq)]
+#[derive(Clone, Copy)]
 pub struct NoLimits;
 
 impl Judge for NoLimits {

@@ -1,6 +1,6 @@
 /// What a mapper answers to the mapping of one page. `addr` and `page` are bytes. Own; it stands for what mmap
 /// answers in EAL memory management.
-#[derive(Clone, Copy, Debug, PartialEq, Eq)]
+#[derive(Clone, Copy, PartialEq, Eq)]
 pub enum MapAnswer {
     /// The page is mapped, at this place.
     At { addr: u64, page: u64, socket: u32 },

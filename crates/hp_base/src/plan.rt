@@ -8,7 +8,7 @@ use std::collections::HashMap;
 use std::marker::Model;
 
 /// What becomes of a message. `line` is the line of the workload that plans it. Own.
-#[derive(Clone, Copy, Debug, PartialEq, Eq)]
+#[derive(Clone, Copy, PartialEq, Eq)]
 pub enum Action {
     /// It is lost.
     Lose { line: u32 },
@@ -19,7 +19,7 @@ pub enum Action {
 }
 
 /// What becomes of a mapping call. `line` is the line of the workload that plans it. Own.
-#[derive(Clone, Copy, Debug, PartialEq, Eq)]
+#[derive(Clone, Copy, PartialEq, Eq)]
 pub enum MapAction {
     /// It is refused.
     Refuse { line: u32 },

@@ -1,6 +1,6 @@
 /// The kinds of message between the primary process and its secondaries. Own; after the requests and replies
 /// of Multi-process Support.
-#[derive(Clone, Copy, Debug, PartialEq, Eq)]
+#[derive(Clone, Copy, PartialEq, Eq)]
 pub enum MsgKind {
     /// A request for memory.
     Alloc,
@@ -16,7 +16,7 @@ pub enum MsgKind {
 
 /// One planned disturbance of a run. Messages and mapping calls are counted from 1, `line` is the line of the
 /// workload that plans it. Own.
-#[derive(Clone, Copy, Debug, PartialEq, Eq)]
+#[derive(Clone, Copy, PartialEq, Eq)]
 pub enum PlanEntry {
     /// The k-th message of the kind that concerns the party is lost, or comes twice.
     Message {

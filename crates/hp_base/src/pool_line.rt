@@ -1,6 +1,6 @@
 /// The hugepages of one size on one socket, and the slots of their segment list. `page` is bytes, `pages` and
 /// `slots` are counts. After the memory segment lists of EAL memory management.
-#[derive(Clone, Copy, Debug, PartialEq, Eq)]
+#[derive(Clone, Copy, PartialEq, Eq)]
 pub struct PoolLine {
     pub socket: u32,
     pub page: u64,

@@ -8,7 +8,7 @@ use crate::page_size::GREATEST_PAGE;
 use crate::round::{HEADER, LINE, align_ceil, round_up, round64};
 
 /// Why a request is refused, in the order in which it is judged.
-#[derive(Clone, Copy, Debug, PartialEq, Eq)]
+#[derive(Clone, Copy, PartialEq, Eq)]
 pub enum BadRequest {
     /// The size is 0.
     Zero,
@@ -23,7 +23,7 @@ pub enum BadRequest {
 /// An accepted request for memory: `size` is whole cache lines, `align` a power of two of at least one, both in
 /// bytes; the data lie in one block of `bound` bytes, where that is not 0. `flags` name page sizes. After
 /// rte_malloc_socket, and the bounds and flags of rte_memzone_reserve_bounded.
-#[derive(Clone, Copy, Debug, PartialEq, Eq)]
+#[derive(Clone, Copy, PartialEq, Eq)]
 pub struct Request {
     pub size: u64,
     pub align: u64,

@@ -2,7 +2,7 @@ ghost use Rattle.std.specs.Prelude.{◌≡◌, ◌^◌, ◌<◌};
 
 /// A mapped segment: a slot of a segment list with the generation of the record that mapped it (0 for external
 /// memory). `addr` and `page` are bytes. After rte_memseg.
-#[derive(Clone, Copy, Debug, PartialEq, Eq)]
+#[derive(Clone, Copy, PartialEq, Eq)]
 pub struct Row {
     pub addr: u64,
     pub page: u64,
@@ -14,7 +14,7 @@ pub struct Row {
 
 /// Adjacent slots of one segment list: `count` pages of `page` bytes each, from `addr` and slot `first` on.
 /// After the runs of segments that rte_malloc maps and unmaps as one.
-#[derive(Clone, Copy, Debug, PartialEq, Eq)]
+#[derive(Clone, Copy, PartialEq, Eq)]
 pub struct Run {
     pub list: u32,
     pub first: u32,

@@ -6,7 +6,7 @@ use std::alloc::{AllocError, Global};
 use std::marker::Model;
 
 /// What a write takes.
-#[derive(Clone, Copy, Debug, PartialEq, Eq)]
+#[derive(Clone, Copy, PartialEq, Eq)]
 pub enum Put {
     /// The first bytes, so many.
     Took(usize),
@@ -31,7 +31,7 @@ pub trait Sink {
 
 /// A sink that keeps its bytes, takes at most `piece` of them at a time and fails at the calls that it is told, and where its memory ends,
 /// which is not before the room that is set aside for it is full.
-#[derive(Debug, Drop)]
+#[derive(Drop)]
 pub struct MemSink {
     bytes: Vec<u8>,
     // So many bytes are held without taking memory.

@@ -5,7 +5,7 @@ use crate::failing_calls::FailingCalls;
 use std::marker::Model;
 
 /// What a read gives.
-#[derive(Clone, Copy, Debug, PartialEq, Eq)]
+#[derive(Clone, Copy, PartialEq, Eq)]
 pub enum Got {
     /// The next bytes, so many, stand at the front of the buffer.
     Bytes(usize),
@@ -31,7 +31,7 @@ pub trait Source {
 }
 
 /// A source over bytes in memory, which gives pieces of at most `piece` bytes and fails at the calls that it is told.
-#[derive(Debug, Drop)]
+#[derive(Drop)]
 pub struct MemSource {
     bytes: Vec<u8>,
     at: usize,

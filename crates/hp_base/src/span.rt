@@ -4,7 +4,7 @@ use crate::tag::Tag;
 
 /// An element of a heap: a header of 128 bytes and what follows it, `whole` bytes from `addr` on, in a segment
 /// list with pages of `page` bytes. After malloc_elem of rte_malloc.
-#[derive(Clone, Copy, Debug, PartialEq, Eq)]
+#[derive(Clone, Copy, PartialEq, Eq)]
 pub struct Span {
     pub addr: u64,
     pub whole: u64,
@@ -14,7 +14,7 @@ pub struct Span {
 }
 
 /// Whether an element is free or busy.
-#[derive(Clone, Copy, Debug, PartialEq, Eq)]
+#[derive(Clone, Copy, PartialEq, Eq)]
 pub enum SpanState {
     /// Free. The stamp counts the heap's insertions into its free lists, from 1.
     Free { stamp: u64 },

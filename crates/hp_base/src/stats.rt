@@ -1,6 +1,6 @@
 /// The statistics of a heap: bytes in all, free, used and of the greatest free element, and the numbers of busy
 /// and of free elements. Headers count. After rte_malloc_get_socket_stats.
-#[derive(Clone, Copy, Debug, PartialEq, Eq)]
+#[derive(Clone, Copy, PartialEq, Eq)]
 pub struct Stats {
     pub total: u64,
     pub free: u64,

@@ -1,6 +1,6 @@
 /// Who asked for an element, and by which line of the workload. Own; it stands for the name that rte_malloc
 /// takes.
-#[derive(Clone, Copy, Debug, PartialEq, Eq)]
+#[derive(Clone, Copy, PartialEq, Eq)]
 pub struct Tag {
     /// The participant whose line makes the call.
     pub who: u8,
@@ -11,7 +11,7 @@ pub struct Tag {
 }
 
 /// The participant that makes a call of a heap, and the number of that call among its own, from 1. Own.
-#[derive(Clone, Copy, Debug, PartialEq, Eq)]
+#[derive(Clone, Copy)]
 pub struct Caller {
     pub participant: u8,
     pub number: u64,

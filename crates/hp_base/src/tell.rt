@@ -21,7 +21,7 @@ pub trait Tell {
 }
 
 /// It has no list, and keeps nothing. Own.
-#[derive(Clone, Copy, Debug, PartialEq, Eq)]
+#[derive(Clone, Copy)]
 pub struct Silent;
 
 impl Tell for Silent {

@@ -7,7 +7,7 @@ use hp_base::MAX_HEAPS;
 pub const SLOTS: usize = MAX_HEAPS;
 
 /// A slot of the board, which has a lock word of its own. Own; it stands for the lock of malloc_heap in rte_malloc.
-#[derive(Clone, Copy, Debug, PartialEq, Eq)]
+#[derive(Clone, Copy)]
 pub enum Slot {
     /// The heap with this index, which is below 32.
     Heap(u32),

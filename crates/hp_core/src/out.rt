@@ -1,6 +1,6 @@
 /// What participant 0 has to do behind a step of the coordinator. After the messages of rte_malloc under Multi-process
 /// Support.
-#[derive(Clone, Copy, Debug, PartialEq, Eq)]
+#[derive(Clone, Copy, PartialEq, Eq)]
 pub enum Out {
     /// Nothing.
     Nothing,

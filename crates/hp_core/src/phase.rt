@@ -1,7 +1,7 @@
 use crate::out::Out;
 
 /// What a round of SYNC is for. Own.
-#[derive(Clone, Copy, Debug, PartialEq, Eq)]
+#[derive(Clone, Copy)]
 pub enum RoundKind {
     /// A growth that is open.
     Growth,
@@ -13,7 +13,7 @@ pub enum RoundKind {
 
 /// A round: what it is for, the generation that the members are to acknowledge, and the participant and number of its ask.
 /// Own.
-#[derive(Clone, Copy, Debug, PartialEq, Eq)]
+#[derive(Clone, Copy)]
 pub struct Round {
     pub kind: RoundKind,
     pub generation: u64,
@@ -22,7 +22,7 @@ pub struct Round {
 }
 
 /// What the coordinator has under way. Own.
-#[derive(Clone, Copy, Debug, PartialEq, Eq)]
+#[derive(Clone, Copy)]
 pub enum Phase {
     /// Nothing.
     Idle,

@@ -1,7 +1,7 @@
 //! What a search for a run of clear places gives.
 
 /// The answer of [`Mask::find_run`](crate::Mask::find_run).
-#[derive(Clone, Copy, Debug, PartialEq, Eq)]
+#[derive(Clone, Copy, PartialEq, Eq)]
 pub enum FreeRun {
     /// The least start of a run of enough clear places.
     Found { start: usize },

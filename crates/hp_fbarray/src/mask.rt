@@ -17,7 +17,7 @@ pub const MAX_PLACES: usize = 16_384;
 ///
 /// Places are counted from 0. Contracts see a mask as the list of its places, `true` where a place
 /// is used and `false` where it is clear. No call but `new` takes memory.
-#[derive(Debug, Drop)]
+#[derive(Drop)]
 pub struct Mask {
     places: Places,
     // The number of places where none is clear. No search looks at a place below it.

@@ -14,7 +14,7 @@ const WORD: usize = 64;
 /// Places that are used or clear.
 ///
 /// Contracts see the list of the places, `true` where one is used.
-#[derive(Debug, Drop)]
+#[derive(Drop)]
 pub(crate) struct Places {
     words: Vec<u64>,
     len: usize,

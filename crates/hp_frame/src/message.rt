@@ -25,7 +25,7 @@ impl Message {
 
 /// What a message says; own. `from` is a participant, at most 15, and `number` counts its asks. Addresses,
 /// lengths, sizes and page sizes are in bytes.
-#[derive(Clone, Copy, Debug, PartialEq, Eq)]
+#[derive(Clone, Copy, PartialEq, Eq)]
 pub enum Body {
     /// Asks the coordinator to let a heap grow so that the request has a place.
     Alloc {

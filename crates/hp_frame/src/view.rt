@@ -11,7 +11,7 @@ use std::marker::Model;
 
 /// A frame that was read. Its name and its parameter are lent: they are parts of the bytes that were read,
 /// and nothing of them is copied.
-#[derive(Debug, Drop)]
+#[derive(Drop)]
 pub struct FrameView<'a> {
     bytes: &'a [u8],
     name_len: usize,

@@ -1,5 +1,5 @@
 /// A slot was held when it was tried. Own.
-#[derive(Clone, Copy, Debug, PartialEq, Eq)]
+#[derive(Clone, Copy)]
 pub struct Busy {
     /// The lock word that was found: the holder's number plus 1.
     pub word: u64,

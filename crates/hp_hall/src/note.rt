@@ -1,5 +1,5 @@
 /// What a participant did in a hall that changes no slot and no mailbox, as it is noted. Readings and deadlines are in milliseconds. Own.
-#[derive(Clone, Copy, Debug, PartialEq, Eq)]
+#[derive(Clone, Copy)]
 pub enum Note {
     /// It read its clock.
     Read { now: u64 },

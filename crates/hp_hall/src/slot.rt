@@ -8,7 +8,7 @@ pub const SLOTS: usize = MAX_HEAPS + 1;
 
 /// A slot, which keeps a value that one participant at a time may take. Own; it stands for the lock of malloc_heap in rte_malloc,
 /// and for the lock of the memory map (rte_mcfg_mem_write_lock).
-#[derive(Clone, Copy, Debug, PartialEq, Eq)]
+#[derive(Clone, Copy)]
 pub enum Slot {
     /// The heap with this index, which is below 32.
     Heap(u32),

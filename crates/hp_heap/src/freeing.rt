@@ -17,7 +17,7 @@ use crate::joining::insert_joined;
 use hp_base::{Caller, Span, SpanState, Tag};
 
 /// Why nothing was freed. Own; rte_free writes a line to the log.
-#[derive(Clone, Copy, Debug, PartialEq, Eq)]
+#[derive(Clone, Copy, PartialEq, Eq)]
 pub enum FreeFault {
     /// No busy element has its data at this address.
     NotAnElement { addr: u64 },

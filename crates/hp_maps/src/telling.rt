@@ -14,7 +14,7 @@ use hp_base::{Caught, Event, EventKind, Mapper, Row, Tell};
 use hp_log::LogRecord;
 
 /// Adjacent rows that are told together: their event so far, and the last of them.
-#[derive(Clone, Copy, Debug, PartialEq, Eq)]
+#[derive(Clone, Copy)]
 pub struct Stretch {
     pub event: Event,
     pub last: Row,

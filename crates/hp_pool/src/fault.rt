@@ -5,7 +5,7 @@ ghost use Rattle.hp_pool.specs.declared.fault.PoolAddFault.TheVariants.{OutOfMem
 use std::alloc::AllocFailed;
 
 /// Why a pool is not added (own).
-#[derive(Clone, Copy, Debug, PartialEq, Eq)]
+#[derive(Clone, Copy, PartialEq, Eq)]
 pub enum PoolAddFault {
     /// There is a pool of that socket and page size already.
     Exists,
@@ -22,7 +22,7 @@ impl<T: Drop> From<AllocFailed<T>> for PoolAddFault {
 }
 
 /// Why no pages are taken from a pool (own).
-#[derive(Clone, Copy, Debug, PartialEq, Eq)]
+#[derive(Clone, Copy, PartialEq, Eq)]
 pub enum TakeFault {
     /// There is no pool of that socket and page size.
     NoPool,

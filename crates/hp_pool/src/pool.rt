@@ -1,7 +1,7 @@
 //! One pool as plain data.
 
 /// The hugepages of one socket and page size, as contracts see them (own).
-#[derive(Clone, Copy, Debug, PartialEq, Eq)]
+#[derive(Clone, Copy)]
 pub struct Pool {
     /// The NUMA socket.
     pub socket: u32,

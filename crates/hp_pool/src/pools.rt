@@ -12,7 +12,7 @@ use std::marker::Model;
 /// A page that is taken is out until it is given back. Contracts see a list of pools, and speak of it
 /// by the pool of a socket and page size. The counts are after what the EAL of DPDK keeps of each
 /// hugepage size and socket (`hugepage_info`). No call but `add` takes memory.
-#[derive(Debug, Drop)]
+#[derive(Drop)]
 pub struct Pools {
     pools: Vec<Pool>,
 }

@@ -1,7 +1,7 @@
 use hp_maps::Table;
 
 /// What a participant leaves at the end of a run. Own.
-#[derive(Debug, Drop)]
+#[derive(Drop)]
 pub struct End {
     /// Its table as it stands.
     pub table: Table,

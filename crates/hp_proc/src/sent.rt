@@ -2,7 +2,7 @@ ghost use Rattle.std.specs.Prelude.{◌≡◌};
 ghost use Rattle.hp_proc.specs.Party.{one_more};
 
 /// How many messages a participant has sent of each kind: by these counts a plan names them. Own.
-#[derive(Clone, Copy, Debug, PartialEq, Eq)]
+#[derive(Clone, Copy)]
 pub struct Sent {
     /// ALLOCs.
     pub allocs: u64,

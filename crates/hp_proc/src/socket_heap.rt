@@ -1,5 +1,5 @@
 /// The heap of a socket: its index among the heaps, and the number of the socket. After the heaps of malloc_heap.
-#[derive(Clone, Copy, Debug, PartialEq, Eq)]
+#[derive(Clone, Copy)]
 pub struct SocketHeap {
     pub index: u32,
     pub socket: u32,

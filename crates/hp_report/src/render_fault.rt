@@ -2,7 +2,7 @@ use crate::writing::WriteFault;
 use std::alloc::AllocError;
 
 /// Why a report was not written whole. Own.
-#[derive(Clone, Copy, Debug, PartialEq, Eq)]
+#[derive(Clone, Copy, PartialEq, Eq)]
 pub enum RenderFault {
     /// The sink failed.
     WriteFault,

@@ -6,7 +6,7 @@ ghost use Rattle.hp_report.specs.Writing.{Holds, HoldsFront};
 use hp_base::{Put, Sink};
 
 /// Writing failed before all bytes were taken. Own.
-#[derive(Clone, Copy, Debug, PartialEq, Eq)]
+#[derive(Clone, Copy, PartialEq, Eq)]
 pub struct WriteFault;
 
 /// Writes all of the bytes. After a fault the sink has taken some of them, from the first on. Own.

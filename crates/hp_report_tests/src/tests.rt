@@ -111,8 +111,8 @@ fn assert_writes(
     held: &[u8],
 ) -> Result<(), Fail> {
     let result = write_report(alloc, ended, sink)?;
-    assert_eq!(rt; result, ends);
-    assert_eq!(rt; sink.bytes(), held);
+    assert!(rt; result == ends);
+    assert!(rt; sink.bytes() == held);
     Ok(())
 }
 

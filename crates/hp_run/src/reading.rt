@@ -13,7 +13,7 @@ pub const LIMIT: usize = 1_048_576;
 const PIECE: usize = 65_536;
 
 /// Why a source could not be read to its end.
-#[derive(Clone, Copy, Debug, PartialEq, Eq)]
+#[derive(Clone, Copy)]
 pub enum ReadFault {
     /// Reading failed.
     Failed,

@@ -5,7 +5,7 @@ use std::alloc::AllocError;
 use std::fmt;
 
 /// Why a workload is not run: its first bad line, or its first line that the program does not yet do. Lines are counted from 1.
-#[derive(Clone, Copy, Debug, PartialEq, Eq)]
+#[derive(Clone, Copy)]
 pub enum Refusal {
     /// The language refuses the line, by this kind.
     Bad { line: u32, kind: BadKind },
@@ -29,7 +29,7 @@ impl fmt::Display for Refusal {
 }
 
 /// Why a workload has no report.
-#[derive(Debug, Drop)]
+#[derive(Drop)]
 pub enum RunFault {
     /// The text is refused.
     Refused { refusal: Refusal },

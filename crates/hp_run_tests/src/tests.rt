@@ -46,10 +46,10 @@ fn reports_a_run_whole(rt: HostRuntime) -> Result<(), Fail> {
         (EXAMPLE, EXAMPLE_FRONT),
     ] {
         let (status, source, sink) = ran(rt.alloc(), &["solo"], input, &NO_CALL, &NO_CALL)?;
-        assert_eq!(rt; status, Status::Ok);
+        assert!(rt; status == Status::Ok);
         assert!(rt; sink.bytes().starts_with(front.as_bytes()));
         assert!(rt; sink.bytes().ends_with(b"\nend\n"));
-        assert_eq!(rt; source.left().len(), 0);
+        assert!(rt; source.left().len() == 0);
     }
     Ok(())
 }
@@ -62,9 +62,9 @@ fn refuses_words_that_it_does_not_take(rt: HostRuntime) -> Result<(), Fail> {
         ["Solo"].as_slice(),
     ] {
         let (status, source, sink) = ran(rt.alloc(), words, EXAMPLE, &NO_CALL, &NO_CALL)?;
-        assert_eq!(rt; status, Status::Usage);
-        assert_eq!(rt; sink.bytes(), USAGE.as_bytes());
-        assert_eq!(rt; source.left().len(), EXAMPLE.len());
+        assert!(rt; status == Status::Usage);
+        assert!(rt; sink.bytes() == USAGE.as_bytes());
+        assert!(rt; source.left().len() == EXAMPLE.len());
     }
     Ok(())
 }
@@ -100,9 +100,9 @@ fn refuses_the_first_bad_line_or_the_first_that_is_not_built(rt: HostRuntime) ->
         ),
     ] {
         let (status, source, sink) = ran(rt.alloc(), &["solo"], input, &NO_CALL, &NO_CALL)?;
-        assert_eq!(rt; status, Status::BadWorkload, "{input}");
-        assert_eq!(rt; sink.bytes(), refused.as_bytes(), "{input}");
-        assert_eq!(rt; source.left().len(), 0);
+        assert!(rt; status == Status::BadWorkload, "{input}");
+        assert!(rt; sink.bytes() == refused.as_bytes(), "{input}");
+        assert!(rt; source.left().len() == 0);
     }
     Ok(())
 }
@@ -110,22 +110,22 @@ fn refuses_the_first_bad_line_or_the_first_that_is_not_built(rt: HostRuntime) ->
 #[test]
 fn ends_where_reading_or_writing_fails(rt: HostRuntime) -> Result<(), Fail> {
     let (status, source, sink) = ran(rt.alloc(), &["solo"], EXAMPLE, &[1], &NO_CALL)?;
-    assert_eq!(rt; status, Status::ReadFault);
-    assert_eq!(rt; source.left().len(), EXAMPLE.len());
-    assert_eq!(rt; sink.bytes().len(), 0);
+    assert!(rt; status == Status::ReadFault);
+    assert!(rt; source.left().len() == EXAMPLE.len());
+    assert!(rt; sink.bytes().len() == 0);
     let (status, _source, sink) = ran(rt.alloc(), &["solo"], EXAMPLE, &[2], &NO_CALL)?;
-    assert_eq!(rt; status, Status::ReadFault);
-    assert_eq!(rt; sink.bytes().len(), 0);
+    assert!(rt; status == Status::ReadFault);
+    assert!(rt; sink.bytes().len() == 0);
     for (fails, written) in [(1u64, 0usize), (2, 100)] {
         let (status, _source, sink) = ran(rt.alloc(), &["solo"], EXAMPLE, &NO_CALL, &[fails])?;
-        assert_eq!(rt; status, Status::WriteFault);
-        assert_eq!(rt; sink.bytes().len(), written);
+        assert!(rt; status == Status::WriteFault);
+        assert!(rt; sink.bytes().len() == written);
         assert!(rt; EXAMPLE_FRONT.as_bytes().starts_with(sink.bytes()));
     }
     for words in [["solo"].as_slice(), ["run", "now"].as_slice()] {
         let (status, _source, sink) = ran(rt.alloc(), words, "no workload", &NO_CALL, &[1])?;
-        assert_eq!(rt; status, Status::WriteFault);
-        assert_eq!(rt; sink.bytes().len(), 0);
+        assert!(rt; status == Status::WriteFault);
+        assert!(rt; sink.bytes().len() == 0);
     }
     Ok(())
 }
@@ -145,9 +145,9 @@ fn leaves_a_source_that_gives_too_much(rt: HostRuntime) -> Result<(), Fail> {
             &mut sink,
             mappers,
         );
-        assert_eq!(rt; status, Status::TooLong);
-        assert_eq!(rt; source.left().len(), left);
-        assert_eq!(rt; sink.bytes().len(), 0);
+        assert!(rt; status == Status::TooLong);
+        assert!(rt; source.left().len() == left);
+        assert!(rt; sink.bytes().len() == 0);
     }
     Ok(())
 }
@@ -161,7 +161,7 @@ fn serves_twenty_thousand_lines_over_two_sockets(rt: HostRuntime) -> Result<(), 
         write!(input, "0 alloc l{i} {size} socket={socket}\n")?;
     }
     let (status, _source, sink) = ran(rt.alloc(), &["solo"], input.as_str(), &NO_CALL, &NO_CALL)?;
-    assert_eq!(rt; status, Status::Ok);
+    assert!(rt; status == Status::Ok);
     assert!(rt; sink.bytes().ends_with(b"\nend\n"));
     Ok(())
 }

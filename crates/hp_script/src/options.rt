@@ -1,7 +1,7 @@
 use crate::token::Token;
 
 /// The socket that an allocation or a memzone asks for. After the socket argument of rte_malloc_socket.
-#[derive(Clone, Copy, PartialEq, Eq)]
+#[derive(Clone, Copy)]
 pub enum SocketChoice {
     /// Any socket, which is the default. After SOCKET_ID_ANY.
     Any,

@@ -95,26 +95,26 @@ const PLAN: [PlanEntry; 5] = [
 #[test]
 fn reads_every_setup_line(rt: HostRuntime) -> Result<(), Fail> {
     let read = parse(rt.alloc(), SETUP)?;
-    assert_eq!(rt; read.participants, 4);
-    assert_eq!(rt; read.absent, 10);
+    assert!(rt; read.participants == 4);
+    assert!(rt; read.absent == 10);
     let sockets = [0, 0, 31, 0, 0, 0, 0, 0, 0, 0, 0, 0, 0, 0, 0, 0];
-    assert_eq!(rt; read.sockets.as_slice(), sockets.as_slice());
-    assert_eq!(rt; read.deadline, 16);
-    assert_eq!(rt; read.pools.as_slice(), POOLS.as_slice());
-    assert_eq!(rt; read.plan.as_slice(), PLAN.as_slice());
-    assert_eq!(rt; read.lines.len(), 0);
+    assert!(rt; read.sockets.as_slice() == sockets.as_slice());
+    assert!(rt; read.deadline == 16);
+    assert!(rt; read.pools.as_slice() == POOLS.as_slice());
+    assert!(rt; read.plan.as_slice() == PLAN.as_slice());
+    assert!(rt; read.lines.len() == 0);
     Ok(())
 }
 
 #[test]
 fn what_is_not_said_has_its_default(rt: HostRuntime) -> Result<(), Fail> {
     let read = parse(rt.alloc(), b"")?;
-    assert_eq!(rt; read.participants, 1);
-    assert_eq!(rt; read.absent, 0);
-    assert_eq!(rt; read.deadline, 5000);
-    assert_eq!(rt; read.pools.len(), 0);
-    assert_eq!(rt; read.plan.len(), 0);
-    assert_eq!(rt; read.lines.len(), 0);
+    assert!(rt; read.participants == 1);
+    assert!(rt; read.absent == 0);
+    assert!(rt; read.deadline == 5000);
+    assert!(rt; read.pools.len() == 0);
+    assert!(rt; read.plan.len() == 0);
+    assert!(rt; read.lines.len() == 0);
     Ok(())
 }
 
@@ -131,7 +131,7 @@ pool 1 2M 1024
 2 await 0 2
 2 alloc flow_table 1M align=4K
 ";
-    assert_eq!(rt; outcome(rt.alloc(), text)?, 6);
+    assert!(rt; outcome(rt.alloc(), text)? == 6);
     Ok(())
 }
 
@@ -199,7 +199,7 @@ const ANSWERS: [(Answer, &str); 20] = [
 #[test]
 fn answers_are_written_as_the_report_has_them(rt: HostRuntime) -> Result<(), Fail> {
     for (answer, want) in ANSWERS {
-        assert_eq!(rt; answer.to_string(rt.alloc())?.as_str(), want);
+        assert!(rt; answer.to_string(rt.alloc())?.as_str() == want);
     }
     Ok(())
 }
@@ -223,16 +223,13 @@ const KINDS: [(BadKind, &str); 12] = [
 fn kinds_and_faults_have_texts(rt: HostRuntime) -> Result<(), Fail> {
     let alloc = rt.alloc();
     for (kind, want) in KINDS {
-        assert_eq!(rt; kind.to_string(alloc)?.as_str(), want);
+        assert!(rt; kind.to_string(alloc)?.as_str() == want);
     }
     let bad = ParseFault::Bad {
         line: 7,
         kind: BadKind::Ahead,
     };
-    assert_eq!(rt; bad.to_string(alloc)?.as_str(), "line 7 is refused: Ahead");
-    assert_eq!(rt;
-        ParseFault::OutOfMemory.to_string(alloc)?.as_str(),
-        "out of memory"
-    );
+    assert!(rt; bad.to_string(alloc)?.as_str() == "line 7 is refused: Ahead");
+    assert!(rt; ParseFault::OutOfMemory.to_string(alloc)?.as_str() == "out of memory");
     Ok(())
 }

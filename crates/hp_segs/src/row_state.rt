@@ -1,7 +1,7 @@
 use hp_base::Row;
 
 /// What a mapped segment is to the heaps. Own.
-#[derive(Clone, Copy, Debug, PartialEq, Eq)]
+#[derive(Clone, Copy, PartialEq, Eq)]
 pub enum RowState {
     /// It belongs to a growth that is under way.
     Opened,
@@ -14,7 +14,7 @@ pub enum RowState {
 }
 
 /// A mapped segment with its state. After rte_memseg.
-#[derive(Clone, Copy, Debug, PartialEq, Eq)]
+#[derive(Clone, Copy)]
 pub struct Segment {
     pub row: Row,
     pub state: RowState,

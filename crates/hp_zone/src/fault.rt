@@ -1,7 +1,7 @@
 //! Why a call on memzones is refused.
 
 /// Why a memzone is not reserved, in the order in which it is judged. After the errors of rte_memzone_reserve_bounded; the order is own.
-#[derive(Clone, Copy, Debug, PartialEq, Eq)]
+#[derive(Clone, Copy, PartialEq, Eq)]
 pub enum ZoneFault {
     /// The name has no byte (own) or more than 31 (ENAMETOOLONG).
     NameLong,
@@ -19,5 +19,5 @@ pub enum ZoneFault {
 }
 
 /// No memzone has the name. After the null pointer of rte_memzone_lookup.
-#[derive(Clone, Copy, Debug, PartialEq, Eq)]
+#[derive(Clone, Copy)]
 pub struct NotFound;

@@ -1,7 +1,7 @@
 use hp_base::Name;
 
 /// A change of the directory of heaps, of which its log has one for each call that changed it. Own.
-#[derive(Clone, Copy, PartialEq, Eq)]
+#[derive(Clone, Copy)]
 pub enum NameChange {
     /// The heap of that index got the name and the socket number.
     Named {

@@ -12,7 +12,7 @@ pub struct Zone {
 }
 
 /// A change of the memzones, of which their log has one for each call that changed them. Own.
-#[derive(Clone, Copy, PartialEq, Eq)]
+#[derive(Clone, Copy)]
 pub enum ZoneChange {
     /// The zone was reserved.
     Put { zone: Zone },

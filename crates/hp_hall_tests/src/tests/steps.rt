@@ -127,9 +127,9 @@ fn do_steps(hall: &mut PlainHall, steps: &[Step]) -> Result<(), Fail>
     ensures home { OnOk result (AreHome hall.new) }
 {
     for place in 0..steps.len() {
-        if !do_step(hall, steps[place])? {
+        let Ok(true) = do_step(hall, steps[place]) else {
             return Err(Otherwise { place }.into());
-        }
+        };
     }
     Ok(())
 }

@@ -23,7 +23,7 @@ pub enum Look {
 }
 
 /// What a call answered.
-#[derive(Clone, Copy, Debug, PartialEq, Eq)]
+#[derive(Clone, Copy, PartialEq, Eq)]
 pub enum Said {
     Address(u64),
     Pages(Run),

@@ -51,15 +51,15 @@ fn cuts_an_element_and_joins_it_again(rt: HostRuntime) -> Result<(), Fail> {
     elems.reserve(2)?;
     let key = elems.add(free(0x1000, 0x400));
     let second = elems.split(key, 0x1100);
-    assert_eq!(rt; elems.get(key).span, free(0x1000, 0x100));
-    assert_eq!(rt; elems.get(second).span, free(0x1100, 0x300));
-    assert_eq!(rt; elems.get(key).next, Some(second));
-    assert_eq!(rt; elems.at(0x13ff), Some(second));
+    assert!(rt; elems.get(key).span == free(0x1000, 0x100));
+    assert!(rt; elems.get(second).span == free(0x1100, 0x300));
+    assert!(rt; elems.get(key).next == Some(second));
+    assert!(rt; elems.at(0x13ff) == Some(second));
     elems.join_next(key);
-    assert_eq!(rt; elems.get(key).span, free(0x1000, 0x400));
-    assert_eq!(rt; elems.first(), Some(key));
-    assert_eq!(rt; elems.at(0x13ff), Some(key));
-    assert_eq!(rt; elems.at(0x1400), None);
+    assert!(rt; elems.get(key).span == free(0x1000, 0x400));
+    assert!(rt; elems.first() == Some(key));
+    assert!(rt; elems.at(0x13ff) == Some(key));
+    assert!(rt; elems.at(0x1400) == None);
     Ok(())
 }
 
@@ -70,14 +70,14 @@ fn keeps_elements_by_address(rt: HostRuntime) -> Result<(), Fail> {
     let high = elems.add(free(0x3000, 0x1000));
     let low = elems.add(free(0x1000, 0x1000));
     let middle = elems.add(free(0x2000, 0x1000));
-    assert_eq!(rt; elems.first(), Some(low));
-    assert_eq!(rt; elems.at(0x2080), Some(middle));
-    assert_eq!(rt; elems.at(0x3fff), Some(high));
+    assert!(rt; elems.first() == Some(low));
+    assert!(rt; elems.at(0x2080) == Some(middle));
+    assert!(rt; elems.at(0x3fff) == Some(high));
     elems.hide(middle);
-    assert_eq!(rt; elems.at(0x2000), None);
-    assert_eq!(rt; elems.at(0x2fff), None);
-    assert_eq!(rt; elems.at(0x3000), Some(high));
-    assert_eq!(rt; elems.key_end() >= 3, true);
+    assert!(rt; elems.at(0x2000) == None);
+    assert!(rt; elems.at(0x2fff) == None);
+    assert!(rt; elems.at(0x3000) == Some(high));
+    assert!(rt; elems.key_end() >= 3);
     Ok(())
 }
 
@@ -97,17 +97,17 @@ fn finds_the_lowest_with_a_tag(rt: HostRuntime) -> Result<(), Fail> {
     elems.reserve(2)?;
     let low = elems.add(free(0x1000, 0x1000));
     let high = elems.add(free(0x4000, 0x1000));
-    assert_eq!(rt; elems.find_tag(tag), None);
+    assert!(rt; elems.find_tag(tag) == None);
     elems.set_busy(high, 64, 0x100, tag);
-    assert_eq!(rt; elems.find_tag(other), Some(high));
-    assert_eq!(rt; elems.at(0x40c0), Some(high));
+    assert!(rt; elems.find_tag(other) == Some(high));
+    assert!(rt; elems.at(0x40c0) == Some(high));
     elems.set_busy(low, 0, 0x100, other);
-    assert_eq!(rt; elems.find_tag(tag), Some(low));
+    assert!(rt; elems.find_tag(tag) == Some(low));
     elems.set_free(low);
-    assert_eq!(rt; elems.get(low).span.state, SpanState::Free { stamp: 1 });
+    assert!(rt; elems.get(low).span.state == SpanState::Free { stamp: 1 });
     elems.set_free(high);
-    assert_eq!(rt; elems.get(high).span.state, SpanState::Free { stamp: 2 });
-    assert_eq!(rt; elems.find_tag(tag), None);
+    assert!(rt; elems.get(high).span.state == SpanState::Free { stamp: 2 });
+    assert!(rt; elems.find_tag(tag) == None);
     Ok(())
 }
 
@@ -118,16 +118,16 @@ fn finds_tags_after_a_reserve(rt: HostRuntime) -> Result<(), Fail> {
     let high = elems.add(free(0x4000, 0x1000));
     elems.set_busy(high, 0, 0x100, tag(7));
     elems.reserve(9)?;
-    assert_eq!(rt; elems.find_tag(tag(7)), Some(high));
+    assert!(rt; elems.find_tag(tag(7)) == Some(high));
     let low = elems.add(busy(0x1000, 0x1000, tag(7)));
-    assert_eq!(rt; elems.find_tag(tag(7)), Some(low));
+    assert!(rt; elems.find_tag(tag(7)) == Some(low));
     elems.set_free(low);
-    assert_eq!(rt; elems.find_tag(tag(7)), Some(high));
+    assert!(rt; elems.find_tag(tag(7)) == Some(high));
     elems.set_busy(low, 0, 0x100, tag(7));
-    assert_eq!(rt; elems.find_tag(tag(7)), Some(low));
+    assert!(rt; elems.find_tag(tag(7)) == Some(low));
     elems.set_busy(low, 0, 0x100, tag(1007));
-    assert_eq!(rt; elems.find_tag(tag(7)), Some(high));
-    assert_eq!(rt; elems.find_tag(tag(1007)), Some(low));
+    assert!(rt; elems.find_tag(tag(7)) == Some(high));
+    assert!(rt; elems.find_tag(tag(1007)) == Some(low));
     Ok(())
 }
 
@@ -137,10 +137,10 @@ fn finds_each_part_of_a_busy_element(rt: HostRuntime) -> Result<(), Fail> {
     elems.reserve(2)?;
     let key = elems.add(busy(0x1000, 0x400, tag(7)));
     let second = elems.split(key, 0x1100);
-    assert_eq!(rt; elems.find_tag(tag(7)), Some(key));
+    assert!(rt; elems.find_tag(tag(7)) == Some(key));
     elems.set_free(key);
-    assert_eq!(rt; elems.find_tag(tag(7)), Some(second));
+    assert!(rt; elems.find_tag(tag(7)) == Some(second));
     elems.hide(second);
-    assert_eq!(rt; elems.find_tag(tag(7)), None);
+    assert!(rt; elems.find_tag(tag(7)) == None);
     Ok(())
 }

@@ -48,10 +48,13 @@ fn mask_of(rt: &HostRuntime, letters: &[u8; 10]) -> Result<Mask, AllocError> {
 fn answers_as_a_plain_search_does(rt: HostRuntime) -> Result<(), Fail> {
     for (letters, from, n, first, next, used, longest) in ROWS {
         let mask = mask_of(&rt, letters)?;
-        assert_eq!(rt; mask.find_n_free(from, n), first, "from {from}, {n} places");
-        assert_eq!(rt; mask.find_next_used(from), next, "from {from}");
-        assert_eq!(rt; mask.count_used(), used);
-        assert_eq!(rt; mask.longest_free(), longest);
+        assert!(rt;
+            mask.find_n_free(from, n) == first,
+            "from {from}, {n} places"
+        );
+        assert!(rt; mask.find_next_used(from) == next, "from {from}");
+        assert!(rt; mask.count_used() == used);
+        assert!(rt; mask.longest_free() == longest);
     }
     Ok(())
 }
@@ -61,20 +64,20 @@ fn finds_two_clear_places_behind_a_used_one(rt: HostRuntime) -> Result<(), Fail>
     let mut mask = Mask::new(rt.alloc(), 4)?;
     mask.set(1);
     assert!(rt; mask.is_set(1));
-    assert_eq!(rt; mask.find_n_free(0, 2), Some(2));
-    assert_eq!(rt; mask.find_n_free(0, 3), None);
+    assert!(rt; mask.find_n_free(0, 2) == Some(2));
+    assert!(rt; mask.find_n_free(0, 3) == None);
     mask.clear(1);
     assert!(rt; !mask.is_set(1));
-    assert_eq!(rt; mask.find_n_free(0, 3), Some(0));
+    assert!(rt; mask.find_n_free(0, 3) == Some(0));
     Ok(())
 }
 
 #[test]
 fn has_no_place_at_all(rt: HostRuntime) -> Result<(), Fail> {
     let mask = Mask::new(rt.alloc(), 0)?;
-    assert_eq!(rt; mask.find_n_free(0, 0), Some(0));
-    assert_eq!(rt; mask.find_n_free(0, 1), None);
-    assert_eq!(rt; mask.find_next_used(0), None);
-    assert_eq!(rt; mask.longest_free(), 0);
+    assert!(rt; mask.find_n_free(0, 0) == Some(0));
+    assert!(rt; mask.find_n_free(0, 1) == None);
+    assert!(rt; mask.find_next_used(0) == None);
+    assert!(rt; mask.longest_free() == 0);
     Ok(())
 }

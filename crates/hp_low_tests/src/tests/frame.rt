@@ -22,14 +22,14 @@ fn sync_with(place: usize, byte: u8) -> [u8; 19] {
 #[test]
 fn reads_the_example(rt: HostRuntime) -> Result<(), Fail> {
     let view = read(&SYNC).ok().ok_or("the example is a frame")?;
-    assert_eq!(rt; view.name(), b"malloc".as_slice());
-    assert_eq!(rt; view.param(), &SYNC[10..19]);
-    assert_eq!(rt;
-        view.body(),
-        Body::Sync {
-            generation: 1,
-            round: 1
-        }
+    assert!(rt; view.name() == b"malloc".as_slice());
+    assert!(rt; view.param() == &SYNC[10..19]);
+    assert!(rt;
+        view.body()
+            == Body::Sync {
+                generation: 1,
+                round: 1
+            }
     );
     Ok(())
 }
@@ -37,15 +37,12 @@ fn reads_the_example(rt: HostRuntime) -> Result<(), Fail> {
 #[test]
 fn names_the_faults_of_the_example(rt: HostRuntime) {
     let short = Fault::Short { have: 18, need: 19 };
-    assert_eq!(rt; read(&SYNC[..18]).err(), Some(short));
-    assert_eq!(rt;
-        read(&SYNC[..3]).err(),
-        Some(Fault::Short { have: 3, need: 4 })
-    );
-    assert_eq!(rt; read(&[]).err(), Some(Fault::Short { have: 0, need: 4 }));
+    assert!(rt; read(&SYNC[..18]).err() == Some(short));
+    assert!(rt; read(&SYNC[..3]).err() == Some(Fault::Short { have: 3, need: 4 }));
+    assert!(rt; read(&[]).err() == Some(Fault::Short { have: 0, need: 4 }));
     let mut longer = [0; 20];
     longer[..19].copy_from_slice(&SYNC);
-    assert_eq!(rt; read(&longer).err(), Some(Fault::Extra { rest: 1 }));
+    assert!(rt; read(&longer).err() == Some(Fault::Extra { rest: 1 }));
     let changed = [
         (0, 9, Fault::Kind { byte: 9 }),
         (18, 3, Fault::Field { place: 18 }),
@@ -54,9 +51,8 @@ fn names_the_faults_of_the_example(rt: HostRuntime) {
         (4, 0x20, Fault::Field { place: 4 }),
     ];
     for (place, byte, fault) in changed {
-        assert_eq!(rt;
-            read(&sync_with(place, byte)).err(),
-            Some(fault),
+        assert!(rt;
+            read(&sync_with(place, byte)).err() == Some(fault),
             "place {place}"
         );
     }
@@ -91,7 +87,10 @@ fn names_the_fault_of_a_byte_of_255_at_each_place(rt: HostRuntime) {
         field(18),
     ];
     for (place, fault) in faults.iter().enumerate() {
-        assert_eq!(rt; read(&sync_with(place, 255)).err(), *fault, "place {place}");
+        assert!(rt;
+            read(&sync_with(place, 255)).err() == *fault,
+            "place {place}"
+        );
     }
 }
 
@@ -101,18 +100,18 @@ fn names_the_first_bad_place(rt: HostRuntime) {
     let mut longer = [0; 21];
     longer[..19].copy_from_slice(&SYNC);
     longer[2] = 11;
-    assert_eq!(rt; read(&longer).err(), Some(Fault::Field { place: 2 }));
+    assert!(rt; read(&longer).err() == Some(Fault::Field { place: 2 }));
     longer[4] = 0x20;
-    assert_eq!(rt; read(&longer).err(), Some(Fault::Field { place: 2 }));
+    assert!(rt; read(&longer).err() == Some(Fault::Field { place: 2 }));
     let mut two = sync_with(9, 0x7f);
     two[18] = 3;
-    assert_eq!(rt; read(&two).err(), Some(Fault::Field { place: 9 }));
+    assert!(rt; read(&two).err() == Some(Fault::Field { place: 9 }));
 
     let mut alloc = [0; 58];
     alloc[..5].copy_from_slice(&[1, 1, 53, 0, b'a']);
-    assert_eq!(rt; read(&alloc).err(), None);
+    assert!(rt; read(&alloc).err() == None);
     alloc[5] = 16;
-    assert_eq!(rt; read(&alloc).err(), Some(Fault::Field { place: 5 }));
+    assert!(rt; read(&alloc).err() == Some(Fault::Field { place: 5 }));
 
     // from, what and code of a RESULT whose name is one letter.
     let results = [
@@ -124,7 +123,7 @@ fn names_the_first_bad_place(rt: HostRuntime) {
     ];
     for (from, what, code, fault) in results {
         let bytes = [4, 1, 11, 0, b'a', from, 0, 0, 0, 0, 0, 0, 0, 0, what, code];
-        assert_eq!(rt; read(&bytes).err(), fault, "{from} {what} {code}");
+        assert!(rt; read(&bytes).err() == fault, "{from} {what} {code}");
     }
 }
 
@@ -181,11 +180,11 @@ fn reads_what_it_wrote(rt: HostRuntime) -> Result<(), Fail> {
         assert!(rt; msg.is_valid());
         let mut out = [7; 384];
         let n = write(&msg, &mut out);
-        assert_eq!(rt; n, len);
-        assert_eq!(rt; out[len], 7);
+        assert!(rt; n == len);
+        assert!(rt; out[len] == 7);
         let view = read(&out[..len]).ok().ok_or("what is written is a frame")?;
-        assert_eq!(rt; view.name(), longest.as_slice());
-        assert_eq!(rt; view.body(), body);
+        assert!(rt; view.name() == longest.as_slice());
+        assert!(rt; view.body() == body);
     }
     Ok(())
 }
@@ -224,10 +223,7 @@ fn writes_each_field_in_its_place(rt: HostRuntime) -> Result<(), Fail> {
     let mut out = [0; 384];
     let name = Name::new(b"a").ok_or("one byte is a name")?;
     let n = write(&Message { name, body: answer }, &mut out);
-    assert_eq!(rt;
-        &out[..n],
-        [4, 1, 11, 0, b'a', 1, 2, 0, 0, 0, 0, 0, 0, 0, 3, 1].as_slice()
-    );
+    assert!(rt; &out[..n] == [4, 1, 11, 0, b'a', 1, 2, 0, 0, 0, 0, 0, 0, 0, 3, 1].as_slice());
     Ok(())
 }
 
@@ -252,8 +248,8 @@ fn writes_in_places(
         }
     }
     let mut out = [0; 384];
-    assert_eq!(rt; write(&msg, &mut out), len);
-    assert_eq!(rt; out.as_slice(), wanted.as_slice());
+    assert!(rt; write(&msg, &mut out) == len);
+    assert!(rt; out.as_slice() == wanted.as_slice());
     Ok(())
 }
 
@@ -265,7 +261,7 @@ fn writes_the_example(rt: HostRuntime) -> Result<(), Fail> {
         round: 1,
     };
     let frame = Frame::new(&Message { name, body });
-    assert_eq!(rt; frame.as_bytes(), SYNC.as_slice());
+    assert!(rt; frame.as_bytes() == SYNC.as_slice());
     spellings_differ();
     frames_have_no_fault();
     Ok(())

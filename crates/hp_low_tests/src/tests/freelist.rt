@@ -24,22 +24,22 @@ fn four_keys(rt: &HostRuntime) -> Result<Lists, Fail>
 #[test]
 fn finds_the_last_inserted_of_the_least_class(rt: HostRuntime) -> Result<(), Fail> {
     let lists = four_keys(&rt)?;
-    assert_eq!(rt; lists.first_from(0, |_key| true), Some(3));
-    assert_eq!(rt; lists.first_from(0, |key| key < 3), Some(2));
-    assert_eq!(rt; lists.first_from(0, |key| key == 1), Some(1));
-    assert_eq!(rt; lists.first_from(1, |_key| true), Some(1));
-    assert_eq!(rt; lists.first_from(1, |key| key == 3), None);
-    assert_eq!(rt; lists.first_from(2, |_key| true), None);
+    assert!(rt; lists.first_from(0, |_key| true) == Some(3));
+    assert!(rt; lists.first_from(0, |key| key < 3) == Some(2));
+    assert!(rt; lists.first_from(0, |key| key == 1) == Some(1));
+    assert!(rt; lists.first_from(1, |_key| true) == Some(1));
+    assert!(rt; lists.first_from(1, |key| key == 3) == None);
+    assert!(rt; lists.first_from(2, |_key| true) == None);
     Ok(())
 }
 
 #[test]
 fn gives_the_greatest_and_of_several_the_first(rt: HostRuntime) -> Result<(), Fail> {
     let empty = Lists::new(rt.alloc());
-    assert_eq!(rt; empty.greatest(), None);
-    assert_eq!(rt; empty.first_from(12, |_key| true), None);
+    assert!(rt; empty.greatest() == None);
+    assert!(rt; empty.first_from(12, |_key| true) == None);
     let lists = four_keys(&rt)?;
-    assert_eq!(rt; lists.greatest(), Some(1));
+    assert!(rt; lists.greatest() == Some(1));
     Ok(())
 }
 
@@ -47,14 +47,14 @@ fn gives_the_greatest_and_of_several_the_first(rt: HostRuntime) -> Result<(), Fa
 fn forgets_a_key_that_was_removed(rt: HostRuntime) -> Result<(), Fail> {
     let mut lists = four_keys(&rt)?;
     lists.remove(1);
-    assert_eq!(rt; lists.greatest(), Some(3));
+    assert!(rt; lists.greatest() == Some(3));
     lists.remove(2);
-    assert_eq!(rt; lists.first_from(0, |key| key != 3), Some(0));
+    assert!(rt; lists.first_from(0, |key| key != 3) == Some(0));
     lists.remove(3);
-    assert_eq!(rt; lists.first_from(0, |_key| true), Some(0));
+    assert!(rt; lists.first_from(0, |_key| true) == Some(0));
     lists.remove(0);
-    assert_eq!(rt; lists.first_from(0, |_key| true), None);
+    assert!(rt; lists.first_from(0, |_key| true) == None);
     lists.insert_head(0, 1 << 40);
-    assert_eq!(rt; lists.first_from(12, |_key| true), Some(0));
+    assert!(rt; lists.first_from(12, |_key| true) == Some(0));
     Ok(())
 }

@@ -42,9 +42,9 @@ fn place_of(slot: u32) -> MapAnswer
 fn a_mapper_refuses_its_second_call(rt: HostRuntime) -> Result<(), Fail> {
     let mut mapper = MemMapper::new(rt.alloc(), 3)?;
     mapper.fail_at(Vec::from_slice(rt.alloc(), &[2])?);
-    assert_eq!(rt; mapper.map(&row(0)), place_of(0));
-    assert_eq!(rt; mapper.map(&row(1)), MapAnswer::Refused);
-    assert_eq!(rt; mapper.map(&row(1)), place_of(1));
+    assert!(rt; mapper.map(&row(0)) == place_of(0));
+    assert!(rt; mapper.map(&row(1)) == MapAnswer::Refused);
+    assert!(rt; mapper.map(&row(1)) == place_of(1));
     assert!(rt; mapper.holds(&row(0)) && mapper.holds(&row(1)));
     mapper.unmap(&row(0));
     assert!(rt; !mapper.holds(&row(0)) && mapper.holds(&row(1)));
@@ -79,8 +79,8 @@ fn a_mapper_may_fail_where_it_is_told(rt: HostRuntime) -> Result<(), Fail> {
 #[test]
 fn a_mapper_takes_its_last_row(rt: HostRuntime) -> Result<(), Fail> {
     let mut mapper = MemMapper::new(rt.alloc(), 2)?;
-    assert_eq!(rt; mapper.map(&row(7)), place_of(7));
-    assert_eq!(rt; mapper.map(&row(5)), place_of(5));
+    assert!(rt; mapper.map(&row(7)) == place_of(7));
+    assert!(rt; mapper.map(&row(5)) == place_of(5));
     let other = Row {
         generation: 2,
         ..row(7)
@@ -97,7 +97,7 @@ fn a_plan_says_what_becomes_of_messages_and_mappings(rt: HostRuntime) -> Result<
     plan.add(message(MsgKind::Alloc, true, 4))?;
     plan.add(mapping(1, false, 5))?;
     plan.add(mapping(2, true, 6))?;
-    assert_eq!(rt; plan.entries().len(), 4);
+    assert!(rt; plan.entries().len() == 4);
     for (kind, party, k, action) in [
         (MsgKind::Sync, 1, 1, Action::Lose { line: 3 }),
         (MsgKind::Alloc, 1, 1, Action::Repeat { line: 4 }),
@@ -105,7 +105,7 @@ fn a_plan_says_what_becomes_of_messages_and_mappings(rt: HostRuntime) -> Result<
         (MsgKind::Sync, 2, 1, Action::Deliver),
         (MsgKind::Sync, 1, 2, Action::Deliver),
     ] {
-        assert_eq!(rt; plan.message(kind, party, k), action);
+        assert!(rt; plan.message(kind, party, k) == action);
     }
     for (party, call, action) in [
         (1, 1, MapAction::Refuse { line: 5 }),
@@ -113,7 +113,7 @@ fn a_plan_says_what_becomes_of_messages_and_mappings(rt: HostRuntime) -> Result<
         (1, 3, MapAction::Ask),
         (2, 1, MapAction::Ask),
     ] {
-        assert_eq!(rt; plan.mapping(party, call), action);
+        assert!(rt; plan.mapping(party, call) == action);
     }
     Ok(())
 }
@@ -145,20 +145,20 @@ fn mapping(call: u64, elsewhere: bool, line: u32) -> PlanEntry
 fn a_clock_goes_by_steps_and_stands_at_its_end(rt: HostRuntime) {
     let mut clock = StepClock::new(1 << 62);
     for reading in [0, 1 << 62, 1 << 63, 1 << 63] {
-        assert_eq!(rt; clock.now(), reading);
+        assert!(rt; clock.now() == reading);
     }
 }
 
 #[test]
 fn nobody_denies_and_nobody_listens(rt: HostRuntime) {
-    assert_eq!(rt; NoLimits.ask(0, u64::MAX), None);
+    assert!(rt; NoLimits.ask(0, u64::MAX) == None);
     let mut silent = Silent;
     silent.tell(Event {
         kind: EventKind::Alloc,
         addr: 0x1_0000_0000,
         len: PAGE,
     });
-    assert_eq!(rt; silent, Silent);
+    assert!(rt; matches!(silent, Silent));
 }
 
 #[test]
@@ -170,7 +170,7 @@ fn elements_runs_and_slots_lie_where_they_do(rt: HostRuntime) {
         page: PAGE,
         state: SpanState::Free { stamp: 1 },
     };
-    assert_eq!(rt; free.end(), 0x1_001f_fb80);
+    assert!(rt; free.end() == 0x1_001f_fb80);
     let run = Run {
         list: 0,
         first: 1,
@@ -179,9 +179,9 @@ fn elements_runs_and_slots_lie_where_they_do(rt: HostRuntime) {
         page: PAGE,
         socket: 0,
     };
-    assert_eq!(rt; run.bytes(), 4_194_304);
-    assert_eq!(rt; run.end(), 0x1_0060_0000);
-    assert_eq!(rt; slot_address(0x1_0000_0000, PAGE, 3), 0x1_0060_0000);
+    assert!(rt; run.bytes() == 4_194_304);
+    assert!(rt; run.end() == 0x1_0060_0000);
+    assert!(rt; slot_address(0x1_0000_0000, PAGE, 3) == 0x1_0060_0000);
 }
 
 #[test]
@@ -197,10 +197,10 @@ fn a_source_gives_pieces_and_fails_where_told(rt: HostRuntime) -> Result<(), Fai
         (Got::Bytes(1), 0),
         (Got::End, 0),
     ] {
-        assert_eq!(rt; source.read(&mut buf), got);
-        assert_eq!(rt; source.left().len(), left);
+        assert!(rt; source.read(&mut buf) == got);
+        assert!(rt; source.left().len() == left);
     }
-    assert_eq!(rt; &buf[..2], b"ed".as_slice());
+    assert!(rt; &buf[..2] == b"ed".as_slice());
     Ok(())
 }
 
@@ -213,8 +213,8 @@ fn a_sink_takes_pieces_and_fails_where_told(rt: HostRuntime) -> Result<(), Fail>
         (b"de".as_slice(), Put::Failed),
         (b"de".as_slice(), Put::Took(2)),
     ] {
-        assert_eq!(rt; sink.write(bytes), put);
+        assert!(rt; sink.write(bytes) == put);
     }
-    assert_eq!(rt; sink.bytes(), b"abcde".as_slice());
+    assert!(rt; sink.bytes() == b"abcde".as_slice());
     Ok(())
 }

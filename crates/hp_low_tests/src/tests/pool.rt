@@ -18,24 +18,21 @@ fn three_pools(rt: &HostRuntime) -> Result<Pools, Fail> {
 #[test]
 fn refuses_one_pool_twice(rt: HostRuntime) -> Result<(), Fail> {
     let mut pools = three_pools(&rt)?;
-    assert_eq!(rt; pools.add(0, SMALL, 9), Err(PoolAddFault::Exists));
-    assert_eq!(rt; pools.have(0, SMALL), Some(4));
-    assert_eq!(rt; pools.add(1, LARGE, 9), Ok(()));
-    assert_eq!(rt; pools.have(1, LARGE), Some(9));
+    assert!(rt; pools.add(0, SMALL, 9) == Err(PoolAddFault::Exists));
+    assert!(rt; pools.have(0, SMALL) == Some(4));
+    assert!(rt; pools.add(1, LARGE, 9) == Ok(()));
+    assert!(rt; pools.have(1, LARGE) == Some(9));
     Ok(())
 }
 
 #[test]
 fn refuses_more_pages_than_there_are(rt: HostRuntime) -> Result<(), Fail> {
     let mut pools = three_pools(&rt)?;
-    assert_eq!(rt;
-        pools.take(0, SMALL, 5),
-        Err(TakeFault::TooFew { have: 4, need: 5 })
-    );
-    assert_eq!(rt; pools.have(0, SMALL), Some(4));
-    assert_eq!(rt; pools.take(2, SMALL, 0), Err(TakeFault::NoPool));
-    assert_eq!(rt; pools.take(1, LARGE, 1), Err(TakeFault::NoPool));
-    assert_eq!(rt; pools.have(1, LARGE), None);
+    assert!(rt; pools.take(0, SMALL, 5) == Err(TakeFault::TooFew { have: 4, need: 5 }));
+    assert!(rt; pools.have(0, SMALL) == Some(4));
+    assert!(rt; pools.take(2, SMALL, 0) == Err(TakeFault::NoPool));
+    assert!(rt; pools.take(1, LARGE, 1) == Err(TakeFault::NoPool));
+    assert!(rt; pools.have(1, LARGE) == None);
     Ok(())
 }
 
@@ -44,17 +41,14 @@ fn counts_what_is_taken_and_given_back(rt: HostRuntime) -> Result<(), Fail> {
     let mut pools = Pools::new(rt.alloc());
     pools.add(1, SMALL, 3)?;
     pools.add(0, SMALL, 4)?;
-    assert_eq!(rt; pools.take(0, SMALL, 3), Ok(()));
-    assert_eq!(rt;
-        pools.take(0, SMALL, 2),
-        Err(TakeFault::TooFew { have: 1, need: 2 })
-    );
-    assert_eq!(rt; pools.have(0, SMALL), Some(1));
-    assert_eq!(rt; pools.have(1, SMALL), Some(3));
+    assert!(rt; pools.take(0, SMALL, 3) == Ok(()));
+    assert!(rt; pools.take(0, SMALL, 2) == Err(TakeFault::TooFew { have: 1, need: 2 }));
+    assert!(rt; pools.have(0, SMALL) == Some(1));
+    assert!(rt; pools.have(1, SMALL) == Some(3));
     pools.give(0, SMALL, 2);
-    assert_eq!(rt; pools.have(0, SMALL), Some(3));
-    assert_eq!(rt; pools.have(1, SMALL), Some(3));
-    assert_eq!(rt; pools.take(0, SMALL, 3), Ok(()));
-    assert_eq!(rt; pools.have(0, SMALL), Some(0));
+    assert!(rt; pools.have(0, SMALL) == Some(3));
+    assert!(rt; pools.have(1, SMALL) == Some(3));
+    assert!(rt; pools.take(0, SMALL, 3) == Ok(()));
+    assert!(rt; pools.have(0, SMALL) == Some(0));
     Ok(())
 }

@@ -60,13 +60,12 @@ fn mask_of(
 fn answers_by_words_as_by_places(rt: HostRuntime) -> Result<(), Fail> {
     for (places, front, start, end, n, first, used, longest) in ROWS {
         let mask = mask_of(&rt, places.min(MAX_PLACES), front, start, end)?;
-        assert_eq!(rt;
-            mask.find_n_free(0, n),
-            first,
+        assert!(rt;
+            mask.find_n_free(0, n) == first,
             "{places} places, {n} places"
         );
-        assert_eq!(rt; mask.count_used(), used, "{places} places");
-        assert_eq!(rt; mask.longest_free(), longest, "{places} places");
+        assert!(rt; mask.count_used() == used, "{places} places");
+        assert!(rt; mask.longest_free() == longest, "{places} places");
     }
     Ok(())
 }
@@ -74,15 +73,15 @@ fn answers_by_words_as_by_places(rt: HostRuntime) -> Result<(), Fail> {
 #[test]
 fn finds_a_place_that_is_clear_again(rt: HostRuntime) -> Result<(), Fail> {
     let mut mask = mask_of(&rt, 130, 130, 0, 0)?;
-    assert_eq!(rt; mask.find_n_free(0, 1), None);
+    assert!(rt; mask.find_n_free(0, 1) == None);
     mask.clear(127);
     mask.clear(3);
-    assert_eq!(rt; mask.find_n_free(0, 1), Some(3));
+    assert!(rt; mask.find_n_free(0, 1) == Some(3));
     mask.set(3);
-    assert_eq!(rt; mask.find_n_free(0, 1), Some(127));
+    assert!(rt; mask.find_n_free(0, 1) == Some(127));
     mask.clear(128);
-    assert_eq!(rt; mask.find_next_used(127), Some(129));
-    assert_eq!(rt; mask.find_run(2), FreeRun::Found { start: 127 });
-    assert_eq!(rt; mask.find_run(3), FreeRun::TooShort { longest: 2 });
+    assert!(rt; mask.find_next_used(127) == Some(129));
+    assert!(rt; mask.find_run(2) == FreeRun::Found { start: 127 });
+    assert!(rt; mask.find_run(3) == FreeRun::TooShort { longest: 2 });
     Ok(())
 }

@@ -32,7 +32,7 @@ fn send<R: Wait>(rt: &R, mailbox: &Mailbox, pass: Pass, sender: u8, count: u32) 
 }
 
 // What is fetched of two senders: how many frames of each, and whether each is the next one of its sender.
-#[derive(Clone, Copy, Debug, PartialEq, Eq)]
+#[derive(Clone, Copy, PartialEq, Eq)]
 struct Fetched {
     first: u32,
     second: u32,
@@ -159,6 +159,6 @@ fn what_comes_of_each_sender_is_in_order_and_whole(rt: HostRuntime) -> Result<()
         second: 10_000,
         in_order: true,
     };
-    assert_eq!(rt; exchanged(&rt, rt.alloc(), 10_000)?, whole);
+    assert!(rt; exchanged(&rt, rt.alloc(), 10_000)? == whole);
     Ok(())
 }

@@ -282,13 +282,16 @@ fn do_turn(segs: &mut Segs, from: u8, number: u64, asked: &Asked, turn: Turn) ->
     if from >= 16 {
         return Err("a participant".into());
     }
+    let Ok(request) = Request::new(asked.size, asked.align, 0, 0) else {
+        return Err("a request".into());
+    };
     let ask = Ask {
         from,
         number,
         heap: asked.heap,
         socket: asked.socket,
         page: asked.page,
-        request: Request::new(asked.size, asked.align, 0, 0)?,
+        request,
     };
     become_of(segs, &ask, turn)
 }

@@ -74,7 +74,9 @@ fn tag_of(caller: Caller, zone: bool, line: u32) -> Tag
 fn allocate(heap: &mut Heap, caller: Caller, wanted: &Wanted) -> Result<(), Fail>
     ensures grown { OnOk result ((run : Run) → IsGrownTo run heap.old.plain → IsGrownTo run heap.new.plain) }
 {
-    let request = Request::new(wanted.size, wanted.align, wanted.bound, wanted.flags)?;
+    let Ok(request) = Request::new(wanted.size, wanted.align, wanted.bound, wanted.flags) else {
+        return Err("a request".into());
+    };
     heap.reserve(1)?;
     heap.alloc(caller, &request, tag_of(caller, wanted.zone, wanted.line));
     Ok(())

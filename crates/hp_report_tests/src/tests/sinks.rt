@@ -116,8 +116,8 @@ fn assert_text(
     held: &[u8],
 ) -> Result<(), Fail> {
     let result = write_whole(sink, TEXT.as_bytes());
-    assert_eq!(rt; result, ends);
-    assert_eq!(rt; sink.bytes(), held);
+    assert!(rt; result == ends);
+    assert!(rt; sink.bytes() == held);
     Ok(())
 }
 

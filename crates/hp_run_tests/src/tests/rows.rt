@@ -177,7 +177,7 @@ fn has_line(text: &[u8], line: &str) -> bool {
 pub(super) fn report(rt: &impl Abort, alloc: Global, rows: &[Row]) -> Result<(), Fail> {
     for (input, lines) in rows {
         let (status, _source, sink) = ran(alloc, &["solo"], *input, &NO_CALL, &NO_CALL)?;
-        assert_eq!(rt; status, Status::Ok, "{input}");
+        assert!(rt; status == Status::Ok, "{input}");
         for line in lines.iter() {
             assert!(rt; has_line(sink.bytes(), line), "{input}: {line}");
         }

@@ -189,9 +189,9 @@ fn maker(lines: &[Line], name: &[u8]) -> (u32, u8) {
 #[test]
 fn the_maker_of_a_name_is_the_first_line_that_makes_it(rt: HostRuntime) -> Result<(), Fail> {
     let read = parse(rt.alloc(), MAKERS)?;
-    assert_eq!(rt; maker(&read.lines, b"a"), (7, 1));
-    assert_eq!(rt; maker(&read.lines, b"z"), (5, 1));
-    assert_eq!(rt; maker(&read.lines, b"b"), (0, 0));
+    assert!(rt; maker(&read.lines, b"a") == (7, 1));
+    assert!(rt; maker(&read.lines, b"z") == (5, 1));
+    assert!(rt; maker(&read.lines, b"b") == (0, 0));
     Ok(())
 }
 
@@ -228,10 +228,10 @@ const EACH: &[u8] = b"participants 2
 #[test]
 fn an_act_has_the_word_of_its_verb(rt: HostRuntime) -> Result<(), Fail> {
     let read = parse(rt.alloc(), EACH)?;
-    assert_eq!(rt; read.lines.len(), VERBS.len());
+    assert!(rt; read.lines.len() == VERBS.len());
     for (i, want) in VERBS.iter().enumerate() {
         let word = read.lines.get(i).map(|line| line.act.verb());
-        assert_eq!(rt; word.unwrap_or(""), *want);
+        assert!(rt; word.unwrap_or("") == *want);
     }
     Ok(())
 }

@@ -27,11 +27,11 @@ const NAMES: &[u8] = b"participants 3
 fn an_index_finds_the_first_line_that_makes_a_name(rt: HostRuntime) -> Result<(), Fail> {
     let read = parse(rt.alloc(), NAMES)?;
     let index = MakerIndex::of(rt.alloc(), &read.lines)?;
-    assert_eq!(rt; place(index.maker_of(b"a")), (9, 1));
-    assert_eq!(rt; place(index.maker_of(b"ab")), (4, 0));
-    assert_eq!(rt; place(index.maker_of(b"z")), (7, 1));
-    assert_eq!(rt; place(index.maker_of(b"b")), (0, 0));
-    assert_eq!(rt; place(index.maker_of(b"")), (0, 0));
+    assert!(rt; place(index.maker_of(b"a")) == (9, 1));
+    assert!(rt; place(index.maker_of(b"ab")) == (4, 0));
+    assert!(rt; place(index.maker_of(b"z")) == (7, 1));
+    assert!(rt; place(index.maker_of(b"b")) == (0, 0));
+    assert!(rt; place(index.maker_of(b"")) == (0, 0));
     Ok(())
 }
 
@@ -59,6 +59,6 @@ fn found(alloc: Global) -> Result<u32, ParseFault> {
 // Every look-up goes to one line: 20,000 of 20,000 lines take milliseconds.
 #[test]
 fn an_index_finds_each_of_many_names(rt: HostRuntime) -> Result<(), Fail> {
-    assert_eq!(rt; found(rt.alloc())?, 20_000);
+    assert!(rt; found(rt.alloc())? == 20_000);
     Ok(())
 }

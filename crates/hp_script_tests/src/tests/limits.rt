@@ -36,7 +36,7 @@ fn is_refused(got: Result<usize, ParseFault>, number: u32, expected: BadKind) ->
 #[test]
 fn lists_segments_and_lines_have_limits(rt: HostRuntime) -> Result<(), Fail> {
     let alloc = rt.alloc();
-    assert_eq!(rt; outcome(alloc, pools(alloc, 128, 1)?.as_bytes())?, 0);
+    assert!(rt; outcome(alloc, pools(alloc, 128, 1)?.as_bytes())? == 0);
     assert!(rt;
         is_refused(
             outcome(alloc, pools(alloc, 129, 1)?.as_bytes()),
@@ -44,7 +44,7 @@ fn lists_segments_and_lines_have_limits(rt: HostRuntime) -> Result<(), Fail> {
             BadKind::Limit
         )
     );
-    assert_eq!(rt; outcome(alloc, pools(alloc, 2, 8192)?.as_bytes())?, 0);
+    assert!(rt; outcome(alloc, pools(alloc, 2, 8192)?.as_bytes())? == 0);
     assert!(rt;
         is_refused(
             outcome(alloc, pools(alloc, 3, 8192)?.as_bytes()),
@@ -52,10 +52,7 @@ fn lists_segments_and_lines_have_limits(rt: HostRuntime) -> Result<(), Fail> {
             BadKind::Limit
         )
     );
-    assert_eq!(rt;
-        outcome(alloc, repeated(alloc, "0 dump x\n", 20_000)?.as_bytes())?,
-        20_000
-    );
+    assert!(rt; outcome(alloc, repeated(alloc, "0 dump x\n", 20_000)?.as_bytes())? == 20_000);
     assert!(rt;
         is_refused(
             outcome(alloc, repeated(alloc, "0 dump x\n", 20_001)?.as_bytes()),

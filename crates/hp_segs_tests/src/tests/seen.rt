@@ -4,7 +4,7 @@ use hp_base::MapAnswer;
 use hp_segs::{Cause, Outcome, RowState, Segs};
 
 /// What is seen of the first slot, the first pool and the logs.
-#[derive(Clone, Copy, Debug, PartialEq, Eq)]
+#[derive(Clone, Copy, PartialEq, Eq)]
 pub struct Seen {
     pub state: Option<RowState>,
     pub pages_left: u64,
@@ -45,7 +45,7 @@ fn pages_left(segs: &Segs) -> u64 {
 }
 
 /// How an ask ended.
-#[derive(Clone, Copy, Debug, PartialEq, Eq)]
+#[derive(Clone, Copy, PartialEq, Eq)]
 pub enum End {
     Granted(u64),
     Freed(u64),
