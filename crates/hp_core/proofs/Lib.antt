@@ -8,6 +8,7 @@ pub mod TieSteps
 pub mod GivingLemmas
 pub mod GivingSteps
 pub mod SameAsk
+pub mod JudgedLemmas
 pub mod StepWalk
 pub mod ArmedSteps
 pub mod AnsweredSteps

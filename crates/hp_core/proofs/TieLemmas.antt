@@ -4,6 +4,7 @@ use Rattle.std.specs.Prelude.{nat_le}
 use Rattle.std.specs.List.{find}
 use Rattle.std.specs.Option.{option_map}
 use Rattle.std.proofs.lemmas.Bool.{cond_both}
+use Rattle.std.proofs.lemmas.Option.{same_Some}
 use Rattle.hp_base.specs.declared.row.Run.{Run}
 use Rattle.hp_segs.specs.LaterSteps.{armed_ask, grows_for, withdrawn_growth, withdrawn_unless}
 use Rattle.hp_segs.specs.Moved.{SegsCall, Reserve, OpenRun, CloseAsk, LogStale, NoteFailed, Agree, Cancel, Claim, Arm, Withdraw, Retire, DropRetiring, LogFreed, JoinRoster, LeaveRoster, ClaimRange, ReleaseRange, Leads, May, after}
@@ -54,13 +55,10 @@ ended_by : (round : Round) (growth : Growth) (asks : List AskLog) (entry : AskLo
     → (outcome : Outcome) × (outcome_of (asks ++ entry ∷ []) round.from round.number ≡ Some outcome)
 ended_by round growth asks entry opened from number fresh =
     let of = growth_of round (Some growth) opened in
-    let same : growth ≡ of.growth = some_same growth of.growth of.its_growth in
+    let same : growth ≡ of.growth = same_Some growth of.growth of.its_growth in
     let its_from : entry.from ≡ round.from = from ∙ (ap (λ growth. growth.ask.from) same ∙ of.from) in
     let its_number : entry.number ≡ round.number = number ∙ (ap (λ growth. growth.ask.number) same ∙ of.number) in
     has_outcome asks entry round.from round.number (is_its_outcome entry round.from round.number its_from its_number fresh)
-  where
-    some_same : (a b : Growth) → Some a ≡ Some b → a ≡ b
-    some_same a b same = cc
 
 module _ (round : Round) where
   -- other outcomes are logged

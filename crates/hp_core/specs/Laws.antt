@@ -1,5 +1,5 @@
 -- Laws of the coordinator: its moves are moves of the segment value and of the plain machine, and where an Add comes.
-use Rattle.std.specs.Prelude.{◌≡◌, ◌↔◌, ℕ, false, true, List, [], ◌∷◌, ◌++◌, Option, Some, None, Ok, IsSomeAnd}
+use Rattle.std.specs.Prelude.{◌≡◌, ◌↔◌, ℕ, false, true, List, [], ◌∷◌, ◌++◌, Option, Some, None, Ok, IfSome, IsSomeAnd}
 use Rattle.hp_base.specs.declared.row.Run.{Run}
 use Rattle.hp_log.specs.declared.log_record.LogRecord.TheVariants.{Add}
 use Rattle.hp_segs.specs.Machine.{Drops, Grows, machine_of}
@@ -13,9 +13,14 @@ use Rattle.hp_segs.specs.declared.outcome.AskLog.{AskLog}
 use Rattle.hp_segs.specs.declared.outcome.Cause.TheVariants.{Denied, Late}
 use Rattle.hp_segs.specs.declared.outcome.Outcome.TheVariants.{Refused}
 use Rattle.hp_core.specs.Asks.{is_armed, is_closed}
+use Rattle.hp_core.specs.Core.{Core, is_foreign, is_idle}
+use Rattle.hp_core.specs.Judging.{judged_at}
 use Rattle.hp_core.specs.Moves.{IsCoreMove, IsLate, IsTimely}
+use Rattle.hp_core.specs.Outs.{IsTaken}
 use Rattle.hp_core.specs.Starting.{started, total_with}
 use Rattle.hp_core.specs.declared.asked.Asked.TheVariants.{Grow}
+use Rattle.hp_core.specs.declared.event.CoreEvent.{CoreEvent}
+use Rattle.hp_core.specs.declared.event.CoreEvent.TheVariants as event
 use Rattle.hp_core.specs.declared.times.Times.{Times}
 
 -- a move of the plain machine: none, the drops, or the growth of the open growth's ask
@@ -66,3 +71,24 @@ abbrev pub DenialsAreJudged : Type 0
 DenialsAreJudged = (denial : ℕ → ℕ → Option (List ℕ × ℕ)) (ask : Ask) (segs : SegsView) (entry : AskLog) (validator : List ℕ) (limit total : ℕ)
     → IsStarted ask segs → (started denial (Grow ask) segs).segs.asks ≡ (after_drop segs).asks ++ entry ∷ []
     → entry.outcome ≡ Refused (Denied validator limit total) → IsJudged denial ask (after_drop segs) validator limit total
+
+-- the judge is asked of a run: the one that is planned behind the drops for the ask that the step starts, whose socket and bytes those are
+pub record IsJudgedAt (event : CoreEvent) (core : Core) (segs : SegsView) (judged : ℕ × ℕ) : Type 0 where
+  pub ask : Ask
+  pub run : Run
+  pub taken : IsTaken event core (Grow ask)
+  pub idle : is_idle core.phase ≡ true
+  pub alone : is_foreign core.phase segs.growth ≡ false
+  pub started : IsStarted ask segs
+  pub plan : plan_of ask (after_drop segs) ≡ Ok run
+  pub judged_is : judged ≡ (ask.socket, total_with ask run (after_drop segs))
+
+-- of nothing else is it asked
+abbrev pub JudgedOfPlans : Type 0
+JudgedOfPlans = (event : CoreEvent) (core : Core) (segs : SegsView) → IfSome (judged_at event core segs) (IsJudgedAt event core segs)
+
+-- and it is asked of each such run of an ask that comes
+abbrev pub PlansAreJudged : Type 0
+PlansAreJudged = (ask : Ask) (core : Core) (segs : SegsView) (run : Run) → is_idle core.phase ≡ true
+    → is_foreign core.phase segs.growth ≡ false → IsStarted ask segs → plan_of ask (after_drop segs) ≡ Ok run
+    → judged_at (event.Grow ask) core segs ≡ Some (ask.socket, total_with ask run (after_drop segs))

@@ -4,6 +4,7 @@ pub mod Rounds
 pub mod Starting
 pub mod Mapped
 pub mod Stepping
+pub mod Judging
 pub mod Following
 pub mod Conditions
 pub mod Moves

@@ -4,6 +4,7 @@ ghost use Rattle.std.specs.List.{list_any};
 ghost use Rattle.hp_core.specs.Asks.{asker};
 ghost use Rattle.hp_core.specs.Conditions.{HasSpare, MayStep};
 ghost use Rattle.hp_core.specs.Core.{IsStepped, due_of, holds_ask, is_foreign, is_idle};
+ghost use Rattle.hp_core.specs.Judging.{IsSteppedBy, ask_judged, held_judged, judged_at, poll_judged};
 ghost use Rattle.hp_core.specs.Moves.{IsCoreMove, IsStart, acks_of, times_at, times_of};
 ghost use Rattle.hp_core.specs.Outs.{IsOut};
 ghost use Rattle.hp_core.specs.Stepping.{came, caught_in, lowest_held, polled_in, served, stepped};
@@ -113,7 +114,11 @@ impl Coordinator {
     /// takes no memory. After the handling of requests and replies by the primary in rte_malloc.
     pub fn step<J: Judge>(&mut self, segs: &mut Segs, event: CoreEvent, judge: &J) -> Out
         requires may { MayStep event segs.old }
-        ensures step { IsStepped self.new segs.new result (stepped (J.denial judge.now) event self.old segs.old) }
+        requires may_ask { J.may_ask judge.now }
+
+        // It is the step for some answer that the judge may give of what it is asked.
+        ensures step { IsSteppedBy (J.denies judge.now) (judged_at event self.old segs.old) self.new segs.new result
+            (λ denial. stepped denial event self.old segs.old) }
 
         // It is a move by calls of the segment value under their conditions.
         ensures moves { IsCoreMove (times_of self.old.deadline self.old.phase event) (acks_of event)
@@ -129,7 +134,9 @@ impl Coordinator {
     // Takes one event.
     fn take<J: Judge>(&mut self, segs: &mut Segs, event: CoreEvent, judge: &J) -> Out
         requires may { MayStep event segs.old }
-        ensures step { IsStepped self.new segs.new result (stepped (J.denial judge.now) event self.old segs.old) }
+        requires may_ask { J.may_ask judge.now }
+        ensures step { IsSteppedBy (J.denies judge.now) (judged_at event self.old segs.old) self.new segs.new result
+            (λ denial. stepped denial event self.old segs.old) }
         ensures moves { IsCoreMove (times_of self.old.deadline self.old.phase event) (acks_of event)
             segs.old segs.new }
     {
@@ -156,7 +163,9 @@ impl Coordinator {
     fn come<J: Judge>(&mut self, segs: &mut Segs, asked: &Asked, judge: &J) -> Out
         requires participant { asker asked.now < 16 }
         requires spare { HasSpare segs.old }
-        ensures step { IsStepped self.new segs.new result (came (J.denial judge.now) asked.now self.old segs.old) }
+        requires may_ask { J.may_ask judge.now }
+        ensures step { IsSteppedBy (J.denies judge.now) (ask_judged asked.now self.old segs.old) self.new segs.new result
+            (λ denial. came denial asked.now self.old segs.old) }
         ensures moves { IsStart segs.old segs.new }
     {
         if is_foreign(&self.phase, segs.growth()) {
@@ -175,8 +184,9 @@ impl Coordinator {
     // The held ask of the lowest participant is started.
     fn serve<J: Judge>(&mut self, segs: &mut Segs, judge: &J) -> Out
         requires spare { HasSpare segs.old }
-        ensures step { IsStepped self.new segs.new result
-            (served (J.denial judge.now) self.old segs.old (lowest_held self.old.held)) }
+        requires may_ask { J.may_ask judge.now }
+        ensures step { IsSteppedBy (J.denies judge.now) (held_judged self.old segs.old (lowest_held self.old.held))
+            self.new segs.new result (λ denial. served denial self.old segs.old (lowest_held self.old.held)) }
         ensures moves { IsStart segs.old segs.new }
     {
         let Some(place) = lowest_held(&self.held) else {
@@ -210,8 +220,9 @@ impl Coordinator {
     // A poll.
     fn poll<J: Judge>(&mut self, segs: &mut Segs, now: u64, acks: &[u64; 16], judge: &J) -> Out
         requires spare { HasSpare segs.old }
-        ensures step { IsStepped self.new segs.new result
-            (polled_in (J.denial judge.now) self.old segs.old now acks.now self.old.phase) }
+        requires may_ask { J.may_ask judge.now }
+        ensures step { IsSteppedBy (J.denies judge.now) (poll_judged self.old segs.old self.old.phase) self.new segs.new result
+            (λ denial. polled_in denial self.old segs.old now acks.now self.old.phase) }
         ensures moves { IsCoreMove (times_at self.old.deadline self.old.phase now) acks.now segs.old segs.new }
     {
         match self.phase {

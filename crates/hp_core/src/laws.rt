@@ -1,19 +1,21 @@
 //! Laws of the coordinator's moves, above the definitions that its step cites.
 ghost use Rattle.hp_core.specs.Giving.{CatchesNote, StepsAnswerArmed, StepsGive, StepsLeaveArmed};
-ghost use Rattle.hp_core.specs.Laws.{AddsExactly, DenialsAreJudged, LatesAreLate, MovesAreMoved, MovesAreSteps};
+ghost use Rattle.hp_core.specs.Laws.{AddsExactly, DenialsAreJudged, JudgedOfPlans, LatesAreLate, MovesAreMoved, MovesAreSteps, PlansAreJudged};
 ghost use Rattle.hp_core.specs.Tied.{MovesTie, NoneIsGone, StepsTie};
 
 /// Each move of the coordinator takes the plain machine of a sound segment value to itself, through the drops, or through
 /// one growth, which is that of the open growth's ask; and it is by calls that log, at most one of which opens or grants a
 /// growth. A growth that is cancelled as Late has a late member and no noted failure. A started ask gets an Add exactly
 /// where a run is planned behind the drops and no validator denies it; it is refused as Denied only by the validator that
-/// the judge names. Own.
+/// the judge names. The judge is asked of each such run, and of nothing else. Own.
 pub fn core_law()
     ensures steps { MovesAreSteps }
     ensures moved { MovesAreMoved }
     ensures late { LatesAreLate }
     ensures adds { AddsExactly }
     ensures denied { DenialsAreJudged }
+    ensures judged { JudgedOfPlans }
+    ensures asked { PlansAreJudged }
 {}
 
 /// The ask of a round under way is that of the open growth, or has an outcome: each step keeps this tie of the coordinator

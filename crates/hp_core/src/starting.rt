@@ -1,11 +1,12 @@
 //! How an ask is started.
-ghost use Rattle.std.specs.Prelude.{◌≡◌, ◌*◌, ◌^◌, ◌<◌, ◌≤◌, false, true};
+ghost use Rattle.std.specs.Prelude.{◌≡◌, ℕ, ◌*◌, ◌^◌, ◌<◌, ◌≤◌, List, Option, false, true};
 ghost use Rattle.hp_segs.specs.LaterSteps.{after_stale};
 ghost use Rattle.hp_segs.specs.Calls.{MayClose, MayOpen};
 ghost use Rattle.hp_segs.specs.Steps.{after_drop, after_freed, after_open};
 ghost use Rattle.hp_core.specs.Asks.{asker, is_armed, is_closed, is_same_ask, is_unarmed, number_of};
 ghost use Rattle.hp_core.specs.Conditions.{IsBehind, MayStart};
 ghost use Rattle.hp_core.specs.Core.{IsDone, idle};
+ghost use Rattle.hp_core.specs.Judging.{IsDoneBy, fresh_judged, grow_judged, start_judged};
 ghost use Rattle.hp_core.specs.Moves.{IsGrowStart, IsStart};
 ghost use Rattle.hp_core.specs.Starting.{IsOfLists, cause_of, grown, judged, opened_round, refused, started, started_by, total_with};
 
@@ -139,8 +140,10 @@ fn judge_run<J: Judge>(segs: &mut Segs, ask: &Ask, run: &Run, judge: &J) -> Next
     requires may { MayOpen ask.now run.now segs.old }
     requires fits { run.now.count * run.now.page ≤ 2 ^ 47 }
     requires behind { IsBehind ask.now segs.old }
-    ensures done { IsDone segs.new result (judged ask.now run.now segs.old
-        (J.denial judge.now ask.now.socket (total_with ask.now run.now segs.old))) }
+    requires may_ask { J.may_ask judge.now }
+    ensures done { (answer : Option (List ℕ × ℕ))
+        × J.denies judge.now ask.now.socket (total_with ask.now run.now segs.old) answer
+        × IsDone segs.new result (judged ask.now run.now segs.old answer) }
     ensures moves { IsGrowStart segs.old segs.new }
 {
     let total = segs.total_of(ask.socket) + run.bytes();
@@ -160,7 +163,9 @@ fn judge_run<J: Judge>(segs: &mut Segs, ask: &Ask, run: &Run, judge: &J) -> Next
 // A growth for the ask, behind the drops.
 fn grow<J: Judge>(segs: &mut Segs, ask: &Ask, judge: &J) -> Next
     requires behind { IsBehind ask.now segs.old }
-    ensures done { IsDone segs.new result (grown (J.denial judge.now) ask.now segs.old) }
+    requires may_ask { J.may_ask judge.now }
+    ensures done { IsDoneBy (J.denies judge.now) (grow_judged ask.now segs.old) segs.new result
+        (λ denial. grown denial ask.now segs.old) }
     ensures moves { IsGrowStart segs.old segs.new }
 {
     match segs.plan_run(ask) {
@@ -173,7 +178,9 @@ fn grow<J: Judge>(segs: &mut Segs, ask: &Ask, judge: &J) -> Next
 fn start_grow<J: Judge>(segs: &mut Segs, ask: &Ask, judge: &J) -> Next
     requires may { MayStart (Asked.Grow ask.now) segs.old }
     requires above { is_closed (Asked.Grow ask.now) segs.old ≡ false }
-    ensures done { IsDone segs.new result (started_by (J.denial judge.now) segs.old (Asked.Grow ask.now)) }
+    requires may_ask { J.may_ask judge.now }
+    ensures done { IsDoneBy (J.denies judge.now) (fresh_judged segs.old (Asked.Grow ask.now)) segs.new result
+        (λ denial. started_by denial segs.old (Asked.Grow ask.now)) }
     ensures moves { IsStart segs.old segs.new }
 {
     if !is_armed(segs, ask) {
@@ -211,7 +218,9 @@ fn pass_over(segs: &mut Segs, asked: &Asked) -> Next
 // An ask is started, while nothing is under way.
 pub(crate) fn start<J: Judge>(segs: &mut Segs, asked: &Asked, judge: &J) -> Next
     requires may { MayStart asked.now segs.old }
-    ensures done { IsDone segs.new result (started (J.denial judge.now) asked.now segs.old) }
+    requires may_ask { J.may_ask judge.now }
+    ensures done { IsDoneBy (J.denies judge.now) (start_judged asked.now segs.old) segs.new result
+        (λ denial. started denial asked.now segs.old) }
     ensures moves { IsStart segs.old segs.new }
 {
     if is_closed(segs, asked) {

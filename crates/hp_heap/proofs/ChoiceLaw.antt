@@ -6,7 +6,8 @@ use Rattle.hp_base.specs.declared.span.Span.{Span}
 use Rattle.hp_base.specs.declared.request.Request.{Request}
 use Rattle.hp_heap.specs.PlainHeap.{PlainHeap, stamp_of}
 use Rattle.hp_heap.specs.Lists.{range_class}
-use Rattle.hp_heap.specs.Choice.{is_hint, is_fitting_page, is_candidate, candidates, of_fitting_pages, fitting_or_hinted, eligible, IsChoice, HasNoChoice, precedes, sooner, chosen}
+use Rattle.hp_base.specs.Flags.{is_hint, is_fitting_page}
+use Rattle.hp_heap.specs.Choice.{is_candidate, candidates, of_fitting_pages, fitting_or_hinted, eligible, IsChoice, HasNoChoice, precedes, sooner, chosen}
 
 module _ {X : Type 0} where
   pub Contains-here : (x : X) (xs : List X) → Contains (x ∷ xs) x

@@ -1,5 +1,5 @@
 -- The search for a request, with its flags and its chunks.
-use Rattle.std.proofs.Common.{◌≡◌, ℕ, suc, ◌+◌, ◌<◌, ◌≤◌, ◌^◌, Bool, true, false, not, ◌&&◌, ◌||◌, List, [], ◌∷◌, ◌++◌, length, get_or, drop, drop-cons, add-one, eqb, refl, sym, ap, subst, ◌∙◌, arith, Option, Some, None, Contains}
+use Rattle.std.proofs.Common.{◌≡◌, ℕ, suc, ◌<◌, ◌≤◌, ◌^◌, Bool, true, false, ◌||◌, List, [], ◌∷◌, ◌++◌, length, get_or, drop, drop-cons, eqb, refl, sym, ap, subst, arith, Option, Some, None, Contains}
 use Rattle.std.proofs.lemmas.Bool.{and_parts, false_from_ne_true, both_ways}
 use Rattle.std.proofs.lemmas.Nat.Bits.{bit_at_above}
 use Rattle.std.specs.List.{list_any}
@@ -10,7 +10,7 @@ use Rattle.hp_chain.specs.Chain.{Keyed, AreApart}
 use Rattle.hp_elem.specs.Items.{Items, IsAt}
 use Rattle.hp_heap.specs.declared.choice.Need.{Need}
 use Rattle.hp_heap.specs.Lists.{range_class}
-use Rattle.hp_heap.specs.Choice.{has_bit, page_flags, is_fitting_page}
+use Rattle.hp_base.specs.Flags.{has_bit}
 use Rattle.hp_heap.specs.Headers.{FindsFirstFree}
 use Rattle.hp_heap.specs.FreeSearch.{is_suitable, FindsFirstBy}
 use Rattle.hp_heap.proofs.ChoiceLaw.{Contains-here, Contains-there, Contains-parts}
@@ -56,54 +56,3 @@ module _ (chunks : List Chunk) (need : Need) (items : Items) (apart : AreApart i
       between : (xs : Items) (e : Keyed Span) (ys : Items) → Contains (xs ++ e ∷ ys) e
       between [] e ys = Contains-here e ys
       between (x ∷ xs) e ys = Contains-there x e (xs ++ e ∷ ys) (between xs e ys)
-
--- the flags, from one of their names on
-abbrev pub names_from : ℕ → List (ℕ × ℕ) → Bool
-names_from flags names = list_any (λ (entry : ℕ × ℕ). has_bit flags entry.1) names
-
-abbrev pub names_own : ℕ → ℕ → List (ℕ × ℕ) → Bool
-names_own flags page names = list_any (λ (entry : ℕ × ℕ). eqb entry.0 page && has_bit flags entry.1) names
-
-abbrev pub fits_from : Bool → ℕ → ℕ → List (ℕ × ℕ) → Bool
-fits_from named flags page names = not (named || names_from flags names) || names_own flags page names
-
-pub fits_all : (flags page : ℕ) → fits_from false flags page page_flags ≡ is_fitting_page flags page
-unfolding is_fitting_page
-fits_all flags page = refl
-
-true_always : (b : Bool) → (b || true) ≡ true
-true_always true = refl
-true_always false = refl
-
--- a name that is not set is passed
-pub fits_past : (named : Bool) (flags page : ℕ) (entry : ℕ × ℕ) (names : List (ℕ × ℕ)) → has_bit flags entry.1 ≡ false → fits_from named flags page (entry ∷ names) ≡ fits_from named flags page names
-fits_past named flags page entry names clear = rw clear (ap (λ (b : Bool). not (named || names_from flags names) || (b || names_own flags page names)) (none (eqb entry.0 page)))
-  where
-    none : (b : Bool) → (b && false) ≡ false
-    none true = refl
-    none false = refl
-
--- a name of another page that is set counts as one
-pub fits_other : (named : Bool) (flags page : ℕ) (entry : ℕ × ℕ) (names : List (ℕ × ℕ)) → has_bit flags entry.1 ≡ true → eqb entry.0 page ≡ false
-    → fits_from named flags page (entry ∷ names) ≡ fits_from true flags page names
-fits_other named flags page entry names set differs = rw (set, differs) (ap (λ (b : Bool). not b || names_own flags page names) (true_always named))
-
--- the page's own name that is set
-pub fits_own : (named : Bool) (flags page : ℕ) (entry : ℕ × ℕ) (names : List (ℕ × ℕ)) → has_bit flags entry.1 ≡ true → eqb entry.0 page ≡ true → fits_from named flags page (entry ∷ names) ≡ true
-fits_own named flags page entry names set same = rw (set, same) (true_always (not (named || true)))
-
--- behind the last name
-pub fits_end : (named : Bool) (flags page : ℕ) → fits_from named flags page [] ≡ not named
-fits_end true flags page = refl
-fits_end false flags page = refl
-
--- the same, of the name at a place
-module _ (named : Bool) (flags page i : ℕ) (d : ℕ × ℕ) (within : i < length page_flags) where
-  here : drop i page_flags ≡ get_or page_flags i d ∷ drop (i + 1) page_flags
-  here = drop-cons page_flags i d within ∙ ap (λ (n : ℕ). get_or page_flags i d ∷ drop n page_flags) (sym (add-one i))
-
-  pub past_here : has_bit flags (get_or page_flags i d).1 ≡ false → fits_from named flags page (drop i page_flags) ≡ fits_from named flags page (drop (i + 1) page_flags)
-  past_here clear = ap (λ names. fits_from named flags page names) here ∙ fits_past named flags page (get_or page_flags i d) (drop (i + 1) page_flags) clear
-
-  pub other_here : has_bit flags (get_or page_flags i d).1 ≡ true → eqb (get_or page_flags i d).0 page ≡ false → fits_from named flags page (drop i page_flags) ≡ fits_from true flags page (drop (i + 1) page_flags)
-  other_here set differs = ap (λ names. fits_from named flags page names) here ∙ fits_other named flags page (get_or page_flags i d) (drop (i + 1) page_flags) set differs

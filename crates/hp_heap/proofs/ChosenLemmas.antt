@@ -14,7 +14,8 @@ use Rattle.hp_heap.specs.declared.choice.Need.{Need}
 use Rattle.hp_heap.specs.PlainHeap.{PlainHeap, is_free, stamp_of}
 use Rattle.hp_heap.specs.Lists.{range_class}
 use Rattle.hp_heap.specs.Tiling.{IsTiled, has_stamp}
-use Rattle.hp_heap.specs.Choice.{is_hint, is_fitting_page, is_attached, is_candidate, candidates, of_fitting_pages, fitting_or_hinted, eligible, precedes, sooner, chosen}
+use Rattle.hp_base.specs.Flags.{is_hint, is_fitting_page}
+use Rattle.hp_heap.specs.Choice.{is_attached, is_candidate, candidates, of_fitting_pages, fitting_or_hinted, eligible, precedes, sooner, chosen}
 use Rattle.hp_heap.specs.Placing.{place_in, pieces_of, insertions_of, replaced, placed, after_choice, after_alloc, allocated}
 use Rattle.hp_heap.specs.Headers.{HeadersView, spans_of}
 use Rattle.hp_heap.specs.FreeSearch.{has_place, is_usable, is_suitable, HasNoneBy, IsFirstBy, FindsFirstSuitable, FindsChoice}

@@ -11,7 +11,7 @@ use Rattle.hp_base.specs.declared.chunk.Chunk.{Chunk}
 use Rattle.hp_heap.specs.declared.entry.HeapCall.{HeapCall}
 use Rattle.hp_heap.specs.declared.entry.HeapCall.TheVariants as call
 use Rattle.hp_heap.specs.PlainHeap.{PlainHeap}
-use Rattle.hp_heap.specs.Choice.{has_bit}
+use Rattle.hp_base.specs.Flags.{has_bit}
 use Rattle.hp_heap.specs.Cut.{PageCut, cut_at, after_cut_of, after_cut}
 use Rattle.hp_heap.specs.Chunks.{with_chunk, is_chunk_at, chunk_at, without_chunk, with_mark, without_mark, with_marks, after_chunk, after_unchunk, after_share, after_unshare}
 use Rattle.hp_heap.specs.ChunkOrder.{AreRisingFrom, AreInOrder}

@@ -4,7 +4,7 @@ use Rattle.std.proofs.lemmas.Bool.{cases_lt, cond-true, cond-false, false≢true
 use Rattle.std.proofs.lemmas.Nat.{one_shl}
 use Rattle.std.proofs.lemmas.Nat.Bits.{bit_at_above}
 use Rattle.std.specs.Int.Bits.{bit_or}
-use Rattle.hp_heap.specs.Choice.{has_bit}
+use Rattle.hp_base.specs.Flags.{has_bit}
 use Rattle.hp_heap.specs.Chunks.{with_mark, without_mark}
 use Rattle.hp_heap.proofs.ChunkLaw.{mark_is}
 

@@ -15,7 +15,8 @@ use Rattle.hp_heap.specs.declared.entry.HeapAnswer.TheVariants as answer
 use Rattle.hp_heap.specs.PlainHeap.{PlainHeap, opening_heap, socket_name, free_range, busy_range}
 use Rattle.hp_heap.specs.Tiling.{range_at}
 use Rattle.hp_heap.specs.Lists.{free_list}
-use Rattle.hp_heap.specs.Choice.{is_fitting_page, is_hint, is_attached, eligible, precedes, chosen}
+use Rattle.hp_base.specs.Flags.{is_fitting_page, is_hint}
+use Rattle.hp_heap.specs.Choice.{is_attached, eligible, precedes, chosen}
 use Rattle.hp_heap.specs.Placing.{pieces_of, insertions_of, placed, allocated, after_alloc}
 use Rattle.hp_heap.specs.Joining.{with_stretch, after_insertion, busy_at, after_free}
 use Rattle.hp_heap.specs.Resizing.{after_resize, can_resize}

@@ -14,7 +14,8 @@ use Rattle.hp_heap.specs.declared.entry.HeapAnswer.TheVariants as answer
 use Rattle.hp_heap.specs.PlainHeap.{PlainHeap, HeapPage, opening_heap, free_range, busy_range}
 use Rattle.hp_heap.specs.Tiling.{IsTiled, range_at}
 use Rattle.hp_heap.specs.Lists.{free_list}
-use Rattle.hp_heap.specs.Choice.{is_fitting_page, is_hint, is_attached, eligible, precedes, chosen}
+use Rattle.hp_base.specs.Flags.{is_fitting_page, is_hint}
+use Rattle.hp_heap.specs.Choice.{is_attached, eligible, precedes, chosen}
 use Rattle.hp_heap.specs.Placing.{pieces_of, insertions_of, placed, after_alloc}
 use Rattle.hp_heap.specs.Joining.{with_stretch, after_insertion, busy_at, after_free, tag_at, busy_ranges, zone_ranges}
 use Rattle.hp_heap.specs.Tagged.{HasTaggedAt}

@@ -1,37 +1,12 @@
 -- Which free element a request takes: the rule "Search" of docs/HEAP.md.
-use Rattle.std.specs.Prelude.{◌≡◌, ℕ, ◌^◌, ◌≤◌, Bool, not, ◌&&◌, ◌||◌, ◌==◌, nat_lt, List, [], ◌∷◌, Option, is_some, Contains, if◌then◌else◌}
+use Rattle.std.specs.Prelude.{◌≡◌, ℕ, ◌≤◌, Bool, ◌&&◌, ◌||◌, ◌==◌, nat_lt, List, [], ◌∷◌, Option, is_some, Contains, if◌then◌else◌}
 use Rattle.std.specs.List.{filter, list_any, reduce}
-use Rattle.std.specs.Int.{bit_at}
+use Rattle.hp_base.specs.Flags.{has_bit, is_fitting_page, is_hint}
 use Rattle.hp_base.specs.Place.{place_of}
 use Rattle.hp_base.specs.declared.span.Span.{Span}
 use Rattle.hp_base.specs.declared.request.Request.{Request}
 use Rattle.hp_heap.specs.PlainHeap.{PlainHeap, end_of, is_free, stamp_of}
 use Rattle.hp_heap.specs.Lists.{range_class}
-
--- whether a bit of a number is set
-abbrev pub has_bit : ℕ → ℕ → Bool
-has_bit bits bit = bit_at bits bit == 1
-
--- each hugepage size with the bit of the flags that names it
-abbrev pub page_flags : List (ℕ × ℕ)
-page_flags =
-    (2 ^ 21, 0) ∷ (2 ^ 30, 1) ∷ (2 ^ 24, 8) ∷ (2 ^ 34, 9)
-    ∷ (2 ^ 18, 16) ∷ (2 ^ 28, 17) ∷ (2 ^ 29, 18) ∷ (2 ^ 32, 19) ∷ []
-
--- whether flags name some page size, and whether they name this one
-abbrev pub names_pages : ℕ → Bool
-names_pages flags = list_any (λ entry. has_bit flags entry.1) page_flags
-
-abbrev pub names_page : ℕ → ℕ → Bool
-names_page flags page = list_any (λ entry. (entry.0 == page) && has_bit flags entry.1) page_flags
-
--- whether a page fits flags: they name no page size, or its own
-unfoldable pub is_fitting_page : ℕ → ℕ → Bool
-is_fitting_page flags page = not (names_pages flags) || names_page flags page
-
--- whether the page sizes of flags are a hint alone
-unfoldable pub is_hint : ℕ → Bool
-is_hint flags = has_bit flags 2
 
 -- whether a participant may use an element: in an external heap only one of a chunk that it has attached
 unfoldable pub is_attached : ℕ → PlainHeap → Span → Bool

@@ -6,7 +6,7 @@ use Rattle.hp_base.specs.declared.chunk.Chunk.{Chunk}
 use Rattle.hp_heap.specs.PlainHeap.{PlainHeap, free_range, is_free, segments_of}
 use Rattle.hp_heap.specs.LaidOut.{IsChunk}
 use Rattle.hp_heap.specs.Tiling.{in_segment}
-use Rattle.hp_heap.specs.Choice.{has_bit}
+use Rattle.hp_base.specs.Flags.{has_bit}
 use Rattle.hp_heap.specs.Joining.{below, above}
 
 -- elements with one more at its address

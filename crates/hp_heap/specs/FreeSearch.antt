@@ -9,7 +9,8 @@ use Rattle.hp_chain.specs.Chain.{Keyed}
 use Rattle.hp_elem.specs.Items.{Items}
 use Rattle.hp_heap.specs.declared.choice.Need.{Need}
 use Rattle.hp_heap.specs.PlainHeap.{end_of, is_free}
-use Rattle.hp_heap.specs.Choice.{has_bit, is_fitting_page, is_hint, precedes}
+use Rattle.hp_base.specs.Flags.{has_bit, is_fitting_page, is_hint}
+use Rattle.hp_heap.specs.Choice.{precedes}
 
 -- an element has bytes, below the end of the addresses
 pub record HasSpace (range : Span) : Type 0 where

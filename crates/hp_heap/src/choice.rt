@@ -1,14 +1,13 @@
 ghost use Rattle.std.specs.Prelude.{◌≡◌, true};
-ghost use Rattle.hp_heap.specs.Choice.{has_bit};
+ghost use Rattle.hp_base.specs.Flags.{has_bit};
 ghost use Rattle.hp_chain.specs.Chain.{has_key, AreApart};
 ghost use Rattle.hp_elem.specs.Items.{IsAt};
 ghost use Rattle.hp_heap.specs.Headers.{spans_of};
 ghost use Rattle.hp_heap.specs.Joins.{HasRoom};
 ghost use Rattle.hp_heap.specs.FreeSearch.{HasSpace, has_place, is_usable, is_suitable, FindsFirstSuitable, FindsChoice};
 
-use crate::flags::{has_bit, is_fitting_page, is_hint};
 use crate::headers::Headers;
-use hp_base::{Chunk, Request, Span, class_of, place};
+use hp_base::{Chunk, Request, Span, class_of, has_bit, is_fitting_page, is_hint, place};
 
 /// What a free element must have for a request: a place, a page that fits its flags but where any page does, and, in an
 /// external heap, a chunk that the participant has attached.

@@ -9,7 +9,6 @@ mod cutting;
 mod elements;
 mod entry;
 mod finding;
-mod flags;
 mod freeing;
 mod headers;
 mod heap;

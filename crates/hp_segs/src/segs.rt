@@ -22,12 +22,12 @@ use crate::external_range::ExternalRange;
 use crate::growth::Growth;
 use crate::retired_log::RetiredLog;
 use crate::table::Table;
-use hp_base::{PoolLine, Run};
+use hp_base::{MAX_PARTICIPANTS, PoolLine, Run};
 use std::alloc::{AllocError, Global};
 use std::marker::Model;
 
 /// The number of participants that there can be.
-pub const PARTICIPANTS: usize = 16;
+pub const PARTICIPANTS: usize = MAX_PARTICIPANTS as usize;
 
 /// The segment lists of the pools, the log of what was mapped and unmapped, and the state of each mapped segment.
 /// Contracts see it as a `SegsView`. After the memory segment lists of EAL memory management, and the growth of

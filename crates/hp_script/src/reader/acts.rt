@@ -12,6 +12,7 @@ use crate::line_fault::LineFault;
 use crate::makers::KnownMakers;
 use crate::reader::Reader;
 use crate::token::Token;
+use hp_base::MAX_LINES;
 
 impl<'a> Reader<'a> {
     ghost use Rattle.hp_script.specs.Acts.{add_act, add_await, add_line};
@@ -60,7 +61,7 @@ impl<'a> Reader<'a> {
         requires { party < 16 }
         ensures { Steps result self.new (add_line self.old number party act.entry) }
     {
-        refuse(self.lines.len() >= 20000, BadKind::Limit)?;
+        refuse(self.lines.len() >= MAX_LINES, BadKind::Limit)?;
         self.lines.push(Line {
             line: number,
             participant: party as u8,

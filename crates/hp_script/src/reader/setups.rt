@@ -10,7 +10,7 @@ use crate::line_fault::LineFault;
 use crate::marks::{is_marked, with_mark};
 use crate::party_count::PartyCount;
 use crate::reader::Reader;
-use hp_base::{MsgKind, PlanEntry, PoolLine};
+use hp_base::{MAX_LISTS, MAX_SEGMENTS, MsgKind, PlanEntry, PoolLine};
 
 impl<'a> Reader<'a> {
     ghost use Rattle.hp_script.specs.Setups.{set_participants, set_absent, set_socket, set_deadline, add_pool, add_message, add_mapping};
@@ -61,9 +61,9 @@ impl<'a> Reader<'a> {
         ensures { Steps result self.new (add_pool self.old pool) }
     {
         refuse(self.pools.has(pool), BadKind::Duplicate)?;
-        refuse(self.pools.len() >= 128, BadKind::Limit)?;
+        refuse(self.pools.len() >= MAX_LISTS, BadKind::Limit)?;
         refuse(
-            self.pools.segments() + u64::from(pool.slots) > 16384,
+            self.pools.segments() + u64::from(pool.slots) > MAX_SEGMENTS,
             BadKind::Limit,
         )?;
         self.pools.push(pool)?;

@@ -10,7 +10,7 @@ use crate::party_count::PartyCount;
 use crate::shape::Setup;
 use crate::token::Token;
 use crate::verb::kind_named;
-use hp_base::{PoolLine, is_page_size};
+use hp_base::{MAX_COUNT, MAX_DEADLINE, MAX_LIST_SEGMENTS, PoolLine, is_page_size};
 
 #[tactic(auto, unfolding(crate::specs::ShapesSetup::participants_line))]
 pub fn participants_line(arguments: &[Token]) -> Result<Setup, BadKind>
@@ -61,7 +61,7 @@ pub fn deadline_line(arguments: &[Token]) -> Result<Setup, BadKind>
         return Err(BadKind::Fields);
     };
     let ms = number_field(ms)?;
-    refuse(!is_within(1, 3_600_000, ms), BadKind::Range)?;
+    refuse(!is_within(1, MAX_DEADLINE, ms), BadKind::Range)?;
     let deadline = Deadline::new(ms);
     Ok(Setup::Deadline { deadline })
 }
@@ -90,8 +90,8 @@ pub fn pool_line(arguments: &[Token]) -> Result<Setup, BadKind>
     let slots = slots_field(words, pages)?;
     refuse(socket > 31, BadKind::Range)?;
     refuse(!is_page_size(page), BadKind::Range)?;
-    refuse(pages > 8192, BadKind::Range)?;
-    refuse(!is_within(1, 8192, slots), BadKind::Range)?;
+    refuse(pages > MAX_LIST_SEGMENTS, BadKind::Range)?;
+    refuse(!is_within(1, MAX_LIST_SEGMENTS, slots), BadKind::Range)?;
     let pool = PoolLine {
         socket: socket as u32,
         page,
@@ -140,6 +140,6 @@ fn counted_line(arguments: &[Token]) -> Result<(u64, u64), BadKind>
     };
     let party = party_field(party)?;
     let k = number_field(k)?;
-    refuse(!is_within(1, 1_000_000, k), BadKind::Range)?;
+    refuse(!is_within(1, MAX_COUNT, k), BadKind::Range)?;
     Ok((party, k))
 }

@@ -14,16 +14,7 @@ use crate::fault::RangeFault;
 use crate::list_info::ListInfo;
 use crate::segs::Segs;
 use crate::table::Table;
-use hp_base::Row;
-
-/// The number of segment lists that there can be.
-const MAX_LISTS: u32 = 128;
-
-/// The number of segments that a list can have.
-const MAX_LIST_SEGMENTS: u64 = 8192;
-
-/// The number of segments that all lists together can have.
-const MAX_SEGMENTS: u64 = 16_384;
+use hp_base::{GREATEST_PAGE, MAX_LIST_SEGMENTS, MAX_LISTS, MAX_SEGMENTS, Row};
 
 /// The greatest address behind external memory.
 const END: u64 = 1 << 63;
@@ -33,7 +24,7 @@ fn is_bad_range(addr: u64, len: u64, page: u64) -> bool
     ensures { result ≡ is_bad_range addr len page }
 {
     !page.is_power_of_two()
-        || !(0x1000..=0x4_0000_0000).contains(&page)
+        || !(0x1000..=GREATEST_PAGE).contains(&page)
         || addr % page != 0
         || len % page != 0
         || len == 0
@@ -219,7 +210,7 @@ fn is_free_number(pools: usize, ranges: &[ExternalRange], list: u32) -> bool
 fn free_list(pools: usize, ranges: &[ExternalRange]) -> Option<u32>
     ensures { result ≡ free_number pools ranges.now }
 {
-    for list in 0..MAX_LISTS {
+    for list in 0..MAX_LISTS as u32 {
         if is_free_number(pools, ranges, list) {
             return Some(list);
         }

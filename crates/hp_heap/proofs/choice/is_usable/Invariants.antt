@@ -1,7 +1,7 @@
 use Rattle.std.proofs.Common.{◌≡◌, ◌&&◌, drop, eqb}
 use Rattle.std.specs.List.{list_any}
 use Rattle.hp_base.specs.declared.chunk.Chunk.{Chunk}
-use Rattle.hp_heap.specs.Choice.{has_bit}
+use Rattle.hp_base.specs.Flags.{has_bit}
 use Rattle.hp_heap.proofs.choice.is_usable.Given as goal
 
 abbrev pub invariant-loop-chunk : goal.invariant-loop-chunk
