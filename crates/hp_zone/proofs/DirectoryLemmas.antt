@@ -18,6 +18,7 @@ use Rattle.hp_zone.specs.declared.name_change.NameChange.{NameChange}
 use Rattle.hp_zone.specs.declared.name_change.NameChange.TheVariants.{Named, Unnamed, Range, RangeGone}
 use Rattle.hp_zone.specs.Directory.{DirectoryView, HasPlace, HasRange, IsFoundAt, IsLowestUnnamed, IsNamed, IsNotFound, MayRemove, PlainDirectory, after_change, directory_after, is_range, opening, socket_given, with_change, with_more}
 use Rattle.hp_zone.specs.Heaps.{IsKept, is_heap, is_named, is_unnamed}
+use Rattle.hp_zone.proofs.NameLemmas.{AreApart-named, AreApart-unnamed}
 use Rattle.hp_zone.proofs.ReplayLemmas.{directory_after-append}
 
 -- where no place is found, nothing passes
@@ -169,6 +170,7 @@ module _ (view : DirectoryView) (ranges_room log_room : ℕ) (kept : IsKept view
           next = sound.next;
           last = sound.last;
           indexes = sound.indexes;
+          apart = sound.apart;
         };
         room = record {
           one = omega (arith, room.one);
@@ -191,6 +193,7 @@ module _ (view : DirectoryView) (ranges_room log_room : ℕ) (kept : IsKept view
           next = sound.next;
           last = sound.last;
           indexes = sound.indexes;
+          apart = sound.apart;
         };
         room = record {
           one = room.one;
@@ -230,6 +233,7 @@ module _ (view : DirectoryView) (ranges_room log_room : ℕ) (kept : IsKept view
           next = sound.next;
           last = sound.last;
           indexes = length-set view.plain.heaps index None ∙ sound.indexes;
+          apart = AreApart-unnamed view.plain.heaps index sound.apart;
         };
         room = record {
           one = room.one;
@@ -239,8 +243,8 @@ module _ (view : DirectoryView) (ranges_room log_room : ℕ) (kept : IsKept view
       }
 
   pub kept_named : (index : ℕ) (name : List ℕ) → Some index ≡ position is_unnamed view.plain.heaps → view.plain.next < 2 ^ 32 → 0 < view.room
-      → IsKept (with_more view (Named index view.plain.next name)) ranges_room log_room
-  kept_named index name is fits some =
+      → IsNotFound view.plain name → IsKept (with_more view (Named index view.plain.next name)) ranges_room log_room
+  kept_named index name is fits some fresh =
       let sound = kept.sound in
       let room = kept.room in
       let found = position-Some is_unnamed view.plain.heaps index None (sym is) in
@@ -261,6 +265,7 @@ module _ (view : DirectoryView) (ranges_room log_room : ℕ) (kept : IsKept view
           next = omega (arith, sound.next);
           last = omega (arith, fits);
           indexes = length-set view.plain.heaps index (Some (record { name = name; socket = view.plain.next })) ∙ sound.indexes;
+          apart = AreApart-named view.plain.heaps index (record { name = name; socket = view.plain.next }) fresh sound.apart;
         };
         room = record {
           one = omega (arith, room.one);

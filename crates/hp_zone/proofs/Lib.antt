@@ -3,4 +3,5 @@ mod IndexLemmas
 mod SortedLemmas
 mod ZoneLemmas
 mod KeptLemmas
+mod NameLemmas
 mod DirectoryLemmas

@@ -110,6 +110,11 @@ pub record IsFoundAt (plain : PlainDirectory) (text : List ℕ) (index socket : 
 abbrev pub IsNotFound : PlainDirectory → List ℕ → Type 0
 IsNotFound plain text = (index : ℕ) (heap : HeapName) → IsNamed plain index heap → heap.name ≢ text
 
+-- a name is that of one heap at most: of two heaps with one name the index is the same
+abbrev pub AreApart : List (Option HeapName) → Type 0
+AreApart heaps = (i k : ℕ) (one other : HeapName) → slice_get heaps i ≡ Some (Some one) → slice_get heaps k ≡ Some (Some other)
+    → one.name ≡ other.name → i ≡ k
+
 -- the lowest index without a name
 pub record IsLowestUnnamed (plain : PlainDirectory) (index : ℕ) : Type 0 where
   pub unnamed : IsUnnamed plain index
@@ -181,3 +186,4 @@ pub record IsDirectory (view : DirectoryView) : Type 0 where
   pub next : FIRST_EXTERNAL_SOCKET ≤ view.plain.next
   pub last : view.plain.next ≤ 2 ^ 32
   pub indexes : length view.plain.heaps ≡ MAX_HEAPS
+  pub apart : AreApart view.plain.heaps

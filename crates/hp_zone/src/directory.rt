@@ -78,8 +78,7 @@ impl Directory {
         })
     }
 
-    /// The index and the socket number of the heap of that name; the lowest index, if several had it. After
-    /// rte_malloc_heap_get_socket.
+    /// The index and the socket number of the heap of that name. After rte_malloc_heap_get_socket.
     pub fn lookup(&self, name: &[u8]) -> Option<(u32, u32)>
         ensures found { IfSome result (λ heap. IsFoundAt self.now.plain name.now heap.0 heap.1) }
         ensures none { IfNone result (IsNotFound self.now.plain name.now) }

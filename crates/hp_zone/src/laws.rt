@@ -1,5 +1,5 @@
 ghost use Rattle.std.specs.Prelude.{ℕ, List};
-ghost use Rattle.hp_zone.specs.Laws.{DirectoryReplays, HasNumbers, ZonesReplay};
+ghost use Rattle.hp_zone.specs.Laws.{DirectoryReplays, HasNumbers, NamesStayShort, ZonesReplay};
 ghost use Rattle.hp_zone.specs.declared.name_change.NameChange.{NameChange};
 ghost use Rattle.hp_zone.specs.declared.zone.ZoneChange.{ZoneChange};
 
@@ -14,4 +14,9 @@ pub fn names_law()
 pub fn replay_law()
     ensures zones { (log more : List ZoneChange) → ZonesReplay log more }
     ensures directory { (sockets : List ℕ) (log more : List NameChange) → DirectoryReplays sockets log more }
+{}
+
+/// Where each name that was inserted has 1 to 31 bytes, each heap of a directory has such a name: those of sockets are shorter.
+pub fn short_names_law()
+    ensures { (sockets : List ℕ) (log : List NameChange) → NamesStayShort sockets log }
 {}

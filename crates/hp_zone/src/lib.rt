@@ -18,7 +18,7 @@ mod zones;
 pub use directory::Directory;
 pub use fault::{NotFound, ZoneFault};
 pub use heap_name::{HeapName, HeapRange};
-pub use laws::{names_law, replay_law};
+pub use laws::{names_law, replay_law, short_names_law};
 pub use limits::{FIRST_EXTERNAL_SOCKET, MAX_ZONE_NAME, MAX_ZONES};
 pub use name_change::NameChange;
 pub use names::Names;

@@ -19,7 +19,7 @@ invariant_of-self c =
     let may : MayInsert (directory_of kept.sockets.items kept.heaps.items kept.ranges.items kept.next kept.log.items kept.spare) c.args.name = rw (← c.self.view_is) at c.requires in
     let place_is : Some c.in-Some.place ≡ position is_unnamed kept.heaps.items = rw c.deref.ensures.value at c.in-Some.ensures in
     rw (c.push_reserved.ensures.items, c.push_reserved.ensures.capacity)
-    (kept_named (directory_of kept.sockets.items kept.heaps.items kept.ranges.items kept.next kept.log.items kept.spare) (vec_capacity kept.ranges) (vec_capacity kept.log) c.self.invariant c.in-Some.place c.args.name place_is may.place.socket may.memory)
+    (kept_named (directory_of kept.sockets.items kept.heaps.items kept.ranges.items kept.next kept.log.items kept.spare) (vec_capacity kept.ranges) (vec_capacity kept.log) c.self.invariant c.in-Some.place c.args.name place_is may.place.socket may.memory may.fresh)
 
 pub returns : goal.returns
 returns c =

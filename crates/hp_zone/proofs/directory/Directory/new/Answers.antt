@@ -1,0 +1,20 @@
+use Rattle.std.proofs.Common.{arith, rules}
+use Rattle.std.proofs.lemmas.Grind.{common_steps}
+use Rattle.hp_zone.specs.Directory.{AreApart}
+use Rattle.hp_zone.proofs.NameLemmas.{opening_is_apart}
+use Rattle.hp_zone.proofs.directory.Directory.new.Goals as goal
+
+pub invariant_of-result : goal.invariant_of-result
+invariant_of-result c =
+    let apart : AreApart c.in_ok-heaps.heaps.items = rw c.in_ok-heaps.ensures (opening_is_apart c.args.sockets.now c.requires) in
+    record {
+      sound = record {
+        replayed = search rules;
+        given = search rules;
+        next = search rules;
+        last = search rules;
+        indexes = grind (arith, common_steps);
+        apart = apart;
+      };
+      room = grind (arith, common_steps);
+    }
