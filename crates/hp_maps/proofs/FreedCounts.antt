@@ -20,7 +20,7 @@ use Rattle.hp_maps.proofs.LawLemmas.{count_fewer}
 use Rattle.hp_maps.proofs.ListFacts.{filter_agree, filter_drops}
 use Rattle.hp_maps.proofs.TableLaw.{every}
 
-abbrev one_if : Bool → ℕ
+abbrev pub one_if : Bool → ℕ
 one_if b = cond b 1 0
 
 add_both : (q r s p : Bool) → one_if q + one_if r ≡ one_if s → one_if (q && p) + one_if (r && p) ≡ one_if (s && p)
@@ -33,7 +33,7 @@ add_both false true false p both = absurd (omega (arith, both))
 add_both false false true p both = absurd (omega (arith, both))
 add_both false false false p both = omega arith
 
-count_and : (p q r s : Row → Bool) → ((row : Row) → one_if (q row) + one_if (r row) ≡ one_if (s row)) → (rows : List Row)
+pub count_and : (p q r s : Row → Bool) → ((row : Row) → one_if (q row) + one_if (r row) ≡ one_if (s row)) → (rows : List Row)
     → count_by (λ row. q row && p row) rows + count_by (λ row. r row && p row) rows ≡ count_by (λ row. s row && p row) rows
 count_and p q r s each [] = omega arith
 count_and p q r s each (row ∷ rows) =
@@ -107,7 +107,7 @@ part_either run k n row inside =
           omega (arith, one)
     ]
 
-part_exact : (run : Run) (k n : ℕ) (row : Row)
+pub part_exact : (run : Run) (k n : ℕ) (row : Row)
     → one_if (at_slot run.list (run.first + k) row) + one_if (in_run (part run (k + 1) n) row) ≡ one_if (in_run (part run k (suc n)) row)
 part_exact run k n row =
     let most = part_row run k n row in
@@ -120,7 +120,7 @@ part_exact run k n row =
           omega (arith, most, none)
     ]
 
-nobody : (run : Run) (k : ℕ) (row : Row) → in_run (part run k 0) row ≡ false
+pub nobody : (run : Run) (k : ℕ) (row : Row) → in_run (part run k 0) row ≡ false
 nobody run k row =
     elim (cases_Bool (in_run (part run k 0) row)) [
       | inr outside ↦ outside

@@ -1,4 +1,5 @@
 mod ListFacts
+mod GapLemmas
 mod ApartLemmas
 mod HeldLemmas
 mod MapLemmas
@@ -21,4 +22,5 @@ mod BesideLemmas
 pub mod ReadyLemmas
 mod ByteLemmas
 mod FreedCounts
+mod SlotLemmas
 pub mod BytesLaw

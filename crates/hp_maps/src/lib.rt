@@ -7,6 +7,7 @@ mod laws;
 mod local_maps;
 mod mapping;
 mod planned;
+mod row_list;
 mod rows;
 mod table;
 mod telling;

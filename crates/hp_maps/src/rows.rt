@@ -1,13 +1,14 @@
 //! Which rows records drop, and which they bring.
-ghost use Rattle.std.specs.Prelude.{◌≡◌, ◌+◌, ◌*◌, ◌^◌, ◌<◌, ◌≤◌, ◌++◌, ◌∷◌, [], false, length, vec_len, vec_capacity};
+ghost use Rattle.std.specs.Prelude.{◌≡◌, ◌+◌, ◌*◌, ◌^◌, ◌<◌, ◌≤◌, ◌++◌, ◌∷◌, [], false, length};
 ghost use Rattle.std.specs.List.{All};
 ghost use Rattle.hp_base.specs.Mapping.{is_row};
 ghost use Rattle.hp_log.specs.Log.{run_in};
 ghost use Rattle.hp_log.specs.Rows.{rows_of, IsSmallRun};
-ghost use Rattle.hp_maps.specs.Catching.{brought, drops, goes, is_dropped, new_rows, undropped};
+ghost use Rattle.hp_maps.specs.Catching.{brought, drops, is_dropped, new_rows, undropped};
 ghost use Rattle.hp_maps.specs.MapsView.{is_of_log};
 ghost use Rattle.hp_maps.specs.Unmapping.{has_drop, is_drop};
 
+use crate::row_list::RowList;
 use hp_base::{Row, Run};
 use hp_log::{LogRecord, contains, row_of};
 
@@ -63,21 +64,14 @@ fn is_drop(entry: &LogRecord) -> bool
     }
 }
 
-/// Whether a row is of the log, and one of the records drops it.
-pub fn goes(records: &[LogRecord], row: &Row) -> bool
-    ensures { result ≡ goes records.now row.now }
-{
-    is_of_log(row) && is_dropped(records, row)
-}
-
 /// Adds what records bring behind the first `n`, where there is room for it.
 #[tactic(auto, using(crate::proofs::CatchLemmas::none_behind))]
-pub fn push_new_rows(rows: &mut Vec<Row>, n: u64, records: &[LogRecord])
+pub fn push_new_rows(rows: &mut RowList, n: u64, records: &[LogRecord])
     requires small { All (λ entry. IsSmallRun (run_in entry)) records.now }
     requires few { n + length records.now < 2 ^ 64 }
-    requires room { vec_len rows.old + length (new_rows n records.now) ≤ vec_capacity rows.old }
+    requires room { length rows.old.items + length (new_rows n records.now) ≤ rows.old.memory }
     ensures items { rows.new.items ≡ rows.old.items ++ new_rows n records.now }
-    ensures capacity { vec_capacity rows.old ≤ vec_capacity rows.new }
+    ensures capacity { rows.old.memory ≤ rows.new.memory }
 {
     let dropping = has_drop(records);
     for (at, entry) in records.iter().enumerate() {
@@ -89,13 +83,13 @@ pub fn push_new_rows(rows: &mut Vec<Row>, n: u64, records: &[LogRecord])
 
 // Adds the rows of a run that none of the records drops. Where none of them is a Drop, they aren't gone over.
 #[tactic(auto, using(crate::proofs::CatchLemmas::all_undropped))]
-fn push_of(rows: &mut Vec<Row>, generation: u64, run: &Run, later: &[LogRecord], dropping: bool)
+fn push_of(rows: &mut RowList, generation: u64, run: &Run, later: &[LogRecord], dropping: bool)
     requires small { IsSmallRun run.now }
     requires dropping { dropping ≡ false → has_drop later.now ≡ false }
-    requires room { vec_len rows.old + length (undropped later.now (rows_of run.now generation))
-        ≤ vec_capacity rows.old }
+    requires room { length rows.old.items + length (undropped later.now (rows_of run.now generation))
+        ≤ rows.old.memory }
     ensures items { rows.new.items ≡ rows.old.items ++ undropped later.now (rows_of run.now generation) }
-    ensures capacity { vec_capacity rows.old ≤ vec_capacity rows.new }
+    ensures capacity { rows.old.memory ≤ rows.new.memory }
 {
     if dropping {
         push_undropped(rows, generation, run, later);
@@ -105,12 +99,12 @@ fn push_of(rows: &mut Vec<Row>, generation: u64, run: &Run, later: &[LogRecord],
 }
 
 /// Adds the rows of a run that none of the records drops, where there is room for them.
-pub fn push_undropped(rows: &mut Vec<Row>, generation: u64, run: &Run, later: &[LogRecord])
+pub fn push_undropped(rows: &mut RowList, generation: u64, run: &Run, later: &[LogRecord])
     requires small { IsSmallRun run.now }
-    requires room { vec_len rows.old + length (undropped later.now (rows_of run.now generation))
-        ≤ vec_capacity rows.old }
+    requires room { length rows.old.items + length (undropped later.now (rows_of run.now generation))
+        ≤ rows.old.memory }
     ensures items { rows.new.items ≡ rows.old.items ++ undropped later.now (rows_of run.now generation) }
-    ensures capacity { vec_capacity rows.old ≤ vec_capacity rows.new }
+    ensures capacity { rows.old.memory ≤ rows.new.memory }
 {
     for n in 0..run.count {
         push_if_undropped(rows, row_of(run, generation, n), later);
@@ -118,12 +112,12 @@ pub fn push_undropped(rows: &mut Vec<Row>, generation: u64, run: &Run, later: &[
 }
 
 // Adds a row, where none of the records drops it.
-fn push_if_undropped(rows: &mut Vec<Row>, row: Row, later: &[LogRecord])
-    requires room { vec_len rows.old + length (undropped later.now (row ∷ [])) ≤ vec_capacity rows.old }
+fn push_if_undropped(rows: &mut RowList, row: Row, later: &[LogRecord])
+    requires room { length rows.old.items + length (undropped later.now (row ∷ [])) ≤ rows.old.memory }
     ensures items { rows.new.items ≡ rows.old.items ++ undropped later.now (row ∷ []) }
-    ensures capacity { vec_capacity rows.old ≤ vec_capacity rows.new }
+    ensures capacity { rows.old.memory ≤ rows.new.memory }
 {
     if !is_dropped(later, &row) {
-        let _ = rows.push(row);
+        rows.push(row);
     }
 }

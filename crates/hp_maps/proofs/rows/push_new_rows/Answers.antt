@@ -1,5 +1,5 @@
 -- What a record brings has room.
-use Rattle.std.proofs.Common.{arith, vec_capacity, ◌+◌, ◌-◌, ◌∙◌, drop, length, sym}
+use Rattle.std.proofs.Common.{arith, ◌+◌, ◌-◌, ◌∙◌, drop, length, sym}
 use Rattle.hp_maps.proofs.NewRows.{added_fits}
 use Rattle.hp_maps.proofs.CatchLemmas.{none_before, none_behind}
 use Rattle.hp_maps.proofs.rows.push_new_rows.Goals as goal
@@ -7,8 +7,8 @@ use Rattle.hp_maps.proofs.rows.push_new_rows.Goals as goal
 pub push_of-requires-clause-room : goal.push_of-requires-clause-room
 push_of-requires-clause-room c =
     let fits = added_fits c.args.n c.loop-at.at c.args.records.now _ c.in-Add.run' c.in-Add.heap c.loop-at.rows.items c.args.rows.now.items
-    (vec_capacity c.args.rows.now) (omega arith) c.in-Add.is c.loop-at.invariant.items (omega (arith, c.requires.room, c.args.rows.now.ok)) in
-    omega (arith, fits, c.loop-at.rows.ok, c.loop-at.invariant.capacity)
+    c.args.rows.now.memory (omega arith) c.in-Add.is c.loop-at.invariant.items c.requires.room in
+    omega (arith, fits, c.loop-at.invariant.capacity)
 
 pub push_of-requires-clause-dropping : goal.push_of-requires-clause-dropping
 push_of-requires-clause-dropping c none =

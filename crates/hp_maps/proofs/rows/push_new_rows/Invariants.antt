@@ -1,10 +1,10 @@
 -- With what the records that are left bring, all is there.
-use Rattle.std.proofs.Common.{◌≡◌, ◌++◌, ◌+◌, ◌≤◌, drop, vec_capacity}
+use Rattle.std.proofs.Common.{◌≡◌, ◌++◌, ◌+◌, ◌≤◌, drop}
 use Rattle.hp_maps.specs.Catching.{new_rows}
 use Rattle.hp_maps.proofs.rows.push_new_rows.Given as goal
 
 abbrev pub invariant-loop-at : goal.invariant-loop-at
 invariant-loop-at l = record {
   items : l.rows.items ++ new_rows (l.n + l.at) (drop l.at l.records) ≡ l.initial.rows.items ++ new_rows l.n l.records;
-  capacity : vec_capacity l.initial.rows ≤ vec_capacity l.rows;
+  capacity : l.initial.rows.memory ≤ l.rows.memory;
 }

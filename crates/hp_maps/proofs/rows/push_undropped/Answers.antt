@@ -12,7 +12,7 @@ push_if_undropped-requires c = record {
       let fits = undropped_fits c.args.later.now c.args.run.now c.args.generation c.loop-n.n c.args.run.now.count (omega arith) in
       let here = ap (λ (row : Row). length (undropped c.args.later.now (row ∷ []))) c.row_of.ensures in
       let all = length-append c.args.rows.now.items (undropped c.args.later.now (rows_below c.args.run.now c.args.generation c.loop-n.n)) in
-      omega (arith, fits, here, all, ap length c.loop-n.invariant.items, c.loop-n.invariant.capacity, c.requires.room, c.loop-n.rows.ok, c.args.rows.now.ok);
+      omega (arith, fits, here, all, ap length c.loop-n.invariant.items, c.loop-n.invariant.capacity, c.requires.room);
 }
 
 pub loop-n-preserved : goal.loop-n-preserved
