@@ -14,6 +14,7 @@ use Rattle.hp_log.proofs.RowLemmas.{in_run_from, place_in_run}
 use Rattle.hp_maps.specs.Catching.{drops, is_dropped}
 use Rattle.hp_maps.specs.Events.{rows_from, stands_at}
 use Rattle.hp_maps.specs.MapsView.{is_of_log}
+use Rattle.hp_maps.specs.RowsView.{HaveOwnSlots}
 use Rattle.hp_maps.proofs.ByteLemmas.{all_freed}
 use Rattle.hp_maps.proofs.FreedLemmas.{part, part_row}
 use Rattle.hp_maps.proofs.LawLemmas.{count_fewer}
@@ -183,6 +184,24 @@ split_four true false false r = omega arith
 split_four false b true r = refl
 split_four false b false r = refl
 
+both : (a b c : Bool) → (a && (b && c)) ≡ true → (a && b) ≡ true
+both true true c is = refl
+both true false c is = cc
+both false b c is = cc
+
+-- one row at most stands at a slot
+pub stands_once : (rows : List Row) (before : List LogRecord) (list slot : ℕ) → HaveOwnSlots rows
+    → count_by (stands_at before list slot) rows ≤ 1
+stands_once rows before list slot once =
+    let one = once list slot in
+    omega (
+      arith,
+      one,
+      count_fewer (stands_at before list slot) (λ row. at_slot list slot row && is_of_log row) rows
+          (every (λ row. stands_at before list slot row ≡ true → (at_slot list slot row && is_of_log row) ≡ true)
+          (λ row is. both (at_slot list slot row) (is_of_log row) (not (is_dropped before row)) is) rows),
+    )
+
 -- the rows that records unmap: each row of the log that one of them drops, once, where no slot has two
 pub freed_count : (p : Row → Bool) (rows : List Row) → ((list slot : ℕ) → count_by (λ row. at_slot list slot row && is_of_log row) rows ≤ 1)
     → (before records : List LogRecord) → count_by p (all_freed rows before records) ≡ count_by p (filter (going before records) rows)
@@ -199,7 +218,7 @@ freed_count p rows once before (Drop run ∷ records) =
     let gone = rows_from rows before run 0 run.count in
     let more = all_freed rows (before ++ Drop run ∷ []) records in
     let here : count_by p gone ≡ count_by p (filter (λ row. in_run run row && still before row) rows) =
-    from_count p rows before run (λ slot. fewer slot) run.count 0
+    from_count p rows before run (λ slot. stands_once rows before run.list slot once) run.count 0
     ∙ ap (λ (f : ℕ). count_by p (filter (λ row. in_run (record run { first = f; count = run.count }) row && still before row) rows)) (add-zero run.first) in
     omega (
       arith,
@@ -211,19 +230,3 @@ freed_count p rows once before (Drop run ∷ records) =
           (dropped_more before (Drop run) row)
           ∙ split_four (is_of_log row) (is_dropped before row) (in_run run row) (is_dropped records row)) rows,
     )
-  where
-    both : (a b c : Bool) → (a && (b && c)) ≡ true → (a && b) ≡ true
-    both true true c is = refl
-    both true false c is = cc
-    both false b c is = cc
-
-    fewer : (slot : ℕ) → count_by (stands_at before run.list slot) rows ≤ 1
-    fewer slot =
-        let one = once run.list slot in
-        omega (
-          arith,
-          one,
-          count_fewer (stands_at before run.list slot) (λ row. at_slot run.list slot row && is_of_log row) rows
-              (every (λ row. stands_at before run.list slot row ≡ true → (at_slot run.list slot row && is_of_log row) ≡ true)
-              (λ row is. both (at_slot run.list slot row) (is_of_log row) (not (is_dropped before row)) is) rows),
-        )

@@ -1,5 +1,6 @@
 mod ListFacts
 mod GapLemmas
+mod FindLemmas
 mod ApartLemmas
 mod HeldLemmas
 mod MapLemmas

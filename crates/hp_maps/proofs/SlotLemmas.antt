@@ -133,7 +133,7 @@ middle_passes p front middle back all few =
 
 in_three : {X : Type 0} (xs : List X) (at n : ℕ) → take at xs ++ (take n (drop at xs) ++ drop (at + n) xs) ≡ xs
 in_three xs at n =
-    ap (λ l. take at xs ++ (take n (drop at xs) ++ l)) (sym (drop-drop n at xs) )
+    ap (λ l. take at xs ++ (take n (drop at xs) ++ l)) (sym (drop-drop n at xs))
     ∙ (ap (λ l. take at xs ++ l) (take-append-drop n (drop at xs)) ∙ take-append-drop at xs)
 
 module _ (run : Run) (rows : List Row) (at : ℕ) (together : StandTogether run rows at) (once : HaveOwnSlots rows) where

@@ -1,5 +1,5 @@
 -- What contracts see of the rows of a table, and when no slot of theirs has two. No public clause cites this module.
-use Rattle.std.specs.Prelude.{◌≡◌, ℕ, ◌+◌, ◌≤◌, Bool, true, ◌&&◌, List, [], length, take, drop, count_by}
+use Rattle.std.specs.Prelude.{◌≡◌, ℕ, ◌+◌, ◌<◌, ◌≤◌, Bool, true, false, ◌&&◌, List, [], length, take, drop, get_or, count_by}
 use Rattle.std.specs.List.{All}
 use Rattle.hp_base.specs.declared.row.Row.{Row}
 use Rattle.hp_base.specs.declared.row.Run.{Run}
@@ -27,3 +27,12 @@ HaveOwnSlots rows = (list slot : ℕ) → count_by (λ row. at_slot list slot ro
 pub record StandTogether (run : Run) (rows : List Row) (at : ℕ) : Type 0 where
   pub within : at + run.count ≤ length rows
   pub all : All (λ row. goes_with run row ≡ true) (take run.count (drop at rows))
+
+-- a row that passes stands at that place
+pub record IsOneAt (passes : Row → Bool) (rows : List Row) (at : ℕ) : Type 0 where
+  pub within : at < length rows
+  pub there : (d : Row) → passes (get_or rows at d) ≡ true
+
+-- no row passes at the places from one on up to another
+abbrev pub IsNoneBetween : (Row → Bool) → List Row → ℕ → ℕ → Type 0
+IsNoneBetween passes rows from to = (at : ℕ) → from ≤ at → at < to → (d : Row) → passes (get_or rows at d) ≡ false

@@ -1,9 +1,11 @@
 -- What goes is told, and then what came.
 use Rattle.std.proofs.Common.{◌∙◌, List, ap, subst, sym}
 use Rattle.hp_base.specs.declared.row.Row.{Row}
-use Rattle.hp_maps.specs.Catching.{newer}
+use Rattle.hp_maps.specs.Catching.{CanCatchUp, newer}
 use Rattle.hp_maps.specs.MapsView.{MapsView, calls_of}
+use Rattle.hp_maps.specs.RowsView.{HaveOwnSlots}
 use Rattle.hp_maps.specs.Unmapping.{AreHeld}
+use Rattle.hp_maps.proofs.SlotLemmas.{own_slots}
 use Rattle.hp_maps.proofs.HeldLemmas.{all_held}
 use Rattle.hp_maps.proofs.TellLemmas.{caught_spare, caught_told}
 use Rattle.hp_maps.proofs.local_maps.LocalMaps.catch_up.Goals as goal
@@ -12,6 +14,12 @@ pub tell_dropped-requires-clause-held : goal.tell_dropped-requires-clause-held
 tell_dropped-requires-clause-held g c =
     subst (λ (rows : List Row). AreHeld (g.M.Mapper.held c.self.inside.mapper) rows) (sym c.as_slice.ensures)
     (all_held c.self.inside.rows.items (g.M.Mapper.held c.self.inside.mapper) c.self.invariant.mapped)
+
+pub tell_dropped-requires-clause-once : goal.tell_dropped-requires-clause-once
+tell_dropped-requires-clause-once g c =
+    let can = subst (λ (maps : MapsView). CanCatchUp maps c.args.records.now c.args.to) (sym c.self.view_is) c.requires.can in
+    subst HaveOwnSlots (sym c.as_slice.ensures)
+    (own_slots c.args.records.now _ c.args.to c.self.inside.rows.items can.formed can.lags)
 
 pub tell_caught-requires-clause-held : goal.tell_caught-requires-clause-held
 tell_caught-requires-clause-held g c =
