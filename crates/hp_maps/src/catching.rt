@@ -6,8 +6,8 @@ ghost use Rattle.hp_maps.specs.Catching.{HasAnswered, HasReason, kept, new_rows,
 ghost use Rattle.hp_maps.specs.Unmapping.{CanMapRows, CanTakeIn, calls_after, rows_mapped};
 
 use crate::mapping::map_rows;
+use crate::new_rows::push_new_rows;
 use crate::row_list::{RowList, drop_rows};
-use crate::rows::push_new_rows;
 use hp_base::{Caught, Mapper};
 use hp_log::LogRecord;
 

@@ -6,6 +6,7 @@ mod chunks;
 mod laws;
 mod local_maps;
 mod mapping;
+mod new_rows;
 mod planned;
 mod row_list;
 mod rows;

@@ -155,7 +155,13 @@ impl<M: Mapper> LocalMaps<M> {
             (newer records.now self.old.number to) result) }
     {
         let newer = &records[self.number as usize..to as usize];
-        tell_dropped(tell, &self.mapper, self.rows.as_slice(), self.rows.next(), newer);
+        tell_dropped(
+            tell,
+            &self.mapper,
+            self.rows.as_slice(),
+            self.rows.next(),
+            newer,
+        );
         let before = self.calls;
         let caught = self.take_in_log(records, to);
         tell_caught(

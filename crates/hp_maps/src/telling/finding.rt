@@ -32,13 +32,7 @@ pub fn found_at(rows: &[Row], from: usize, before: &[LogRecord], list: u32, slot
     }
 }
 
-fn place_of(
-    rows: &[Row],
-    from: usize,
-    before: &[LogRecord],
-    list: u32,
-    slot: u32,
-) -> Option<usize>
+fn place_of(rows: &[Row], from: usize, before: &[LogRecord], list: u32, slot: u32) -> Option<usize>
     ensures some { IfSome result (IsOneAt (stands_at before.now list slot) rows.now) }
     ensures none { IfNone result (IsNoneBetween (stands_at before.now list slot) rows.now 0 (length rows.now)) }
 {

@@ -2,7 +2,7 @@
 use Rattle.std.proofs.Common.{◌≡◌, ◌++◌, ◌≤◌}
 use Rattle.hp_log.specs.Rows.{rows_below}
 use Rattle.hp_maps.specs.Catching.{undropped}
-use Rattle.hp_maps.proofs.rows.push_undropped.Given as goal
+use Rattle.hp_maps.proofs.new_rows.push_undropped.Given as goal
 
 abbrev pub invariant-loop-n : goal.invariant-loop-n
 invariant-loop-n l = record {
