@@ -22,6 +22,7 @@ use Rattle.hp_maps.specs.MapsView.{MapsView, chunk_rows, is_of_log, table_in}
 use Rattle.hp_maps.specs.Ready.{IsReady, TellsBytes, TellsTheEnd}
 use Rattle.hp_maps.proofs.ByteLemmas.{Allocs, Frees, after_append, all_freed, alloc_rows, any_append, dropped_frees, fit_append, free_rows, from_row, once_back}
 use Rattle.hp_maps.proofs.CatchLemmas.{lag_caught, table_kept, table_new}
+use Rattle.hp_maps.proofs.SlotLemmas.{lag_few, own_slots}
 use Rattle.hp_maps.proofs.FreedCounts.{count_both, freed_count, going}
 use Rattle.hp_maps.proofs.LawLemmas.{count_fewer, one_row_a_slot}
 use Rattle.hp_maps.proofs.ListFacts.{filter_twice, uncounted}
@@ -117,33 +118,6 @@ log_bytes lists records n log byte =
     let once = one_row_a_slot records log.formed n at.0 at.1 in
     omega (arith, count_fewer (in_row byte) (at_slot at.0 at.1) (table_at records n) at.2, once)
 
--- nor do those of a table that lags, and none of its slots has two rows
-lag_few : (p : Row → Bool) (records : List LogRecord) (n to : ℕ) (table : List Row) → Lags records n to table
-    → count_by p table ≤ count_by p (table_at records n)
-lag_few p records n to table lag =
-    let gone = newer records n lag.reached in
-    omega (arith, ap (count_by p) lag.left, count_split p (λ row. not (is_dropped gone row)) (table_at records n))
-
-swapped : (a b : Bool) → (a && b) ≡ (b && a)
-swapped true true = refl
-swapped true false = refl
-swapped false true = refl
-swapped false false = refl
-
-once_slots : (records : List LogRecord) (n to : ℕ) (rows : List Row) (lists : List ListPlace) → IsLogOf lists records
-    → Lags records n to (table_in rows) → (list slot : ℕ) → count_by (λ row. at_slot list slot row && is_of_log row) rows ≤ 1
-once_slots records n to rows lists log lag list slot =
-    let once = one_row_a_slot records log.formed n list slot in
-    omega (
-      arith,
-      once,
-      lag_few (at_slot list slot) records n to (table_in rows) lag,
-      count_filter (at_slot list slot) is_of_log rows,
-      count_agree (λ row. at_slot list slot row && is_of_log row) (λ row. is_of_log row && at_slot list slot row) rows
-          (every (λ row. (at_slot list slot row && is_of_log row) ≡ (is_of_log row && at_slot list slot row))
-          (λ row. swapped (at_slot list slot row) (is_of_log row)) rows),
-    )
-
 one_of : (l d : Bool) → one_if (l && d) + one_if (l && not d) ≡ one_if l
 one_of true true = refl
 one_of true false = refl
@@ -227,7 +201,7 @@ module _ (lists : List ListPlace) (maps : MapsView) (records : List LogRecord) (
 
   parts : (byte : ℕ) → count_by (in_row byte) gone + count_by (in_row byte) left ≡ count_by (in_row byte) table
   parts byte =
-      gone_and_left (in_row byte) maps.rows more (once_slots records maps.number to maps.rows lists ready.log ready.lags)
+      gone_and_left (in_row byte) maps.rows more (own_slots records maps.number to maps.rows ready.log.formed ready.lags)
 
   dropped : Frees (dropped_events maps.rows [] more) (has_byte table) gone
   dropped =

@@ -13,6 +13,7 @@ use Rattle.hp_log.specs.declared.log_record.LogRecord.TheVariants.{Add, Drop}
 use Rattle.hp_log.proofs.Counts.{count_append, count_filter, count_split}
 use Rattle.hp_maps.specs.Catching.{CanCatchUp, IsMappableRun, Lags, goes, is_dropped, kept, new_rows, newer, number_after, rows_after, undropped}
 use Rattle.hp_maps.specs.MapsView.{AreApart, MapsView, calls_of, chunk_rows, is_of_log, table_in}
+use Rattle.hp_maps.specs.RowsView.{HaveOwnSlots}
 use Rattle.hp_maps.specs.Unmapping.{CanTakeIn, IsWithin, has_drop}
 use Rattle.hp_maps.proofs.ApartLemmas.{apart_both, apart_filter}
 use Rattle.hp_maps.proofs.ListFacts.{filter_agree, filter_drops, filter_keeps, filter_twice}
@@ -189,14 +190,15 @@ apart_after maps records to (caught.Elsewhere row call got) rows can apart is_ro
 -- the newer records may be taken in
 pub can_take_in : (maps : MapsView) (records : List LogRecord) (to room memory calls : ℕ) → CanCatchUp maps records to → AreApart maps.rows
     → to < 2 ^ 64
-    → maps.capacity ≤ room → maps.capacity ≤ memory → calls ≡ calls_of maps
+    → maps.capacity ≤ room → maps.capacity ≤ memory → calls ≡ calls_of maps → HaveOwnSlots maps.rows
     → CanTakeIn maps.rows maps.number (newer records maps.number to) room memory calls
-can_take_in maps records to room memory calls can apart fits in_mapper in_memory counted =
+can_take_in maps records to room memory calls can apart fits in_mapper in_memory counted once =
     let kept_room = room_kept maps records to can in
     record {
       mappable = All-take (λ entry. IsMappableRun (run_in entry)) (to - maps.number) (drop maps.number records)
           (All-drop (λ entry. IsMappableRun (run_in entry)) maps.number records can.mappable);
       few = omega (arith, can.from, fits, length-take (to - maps.number) (drop maps.number records));
+      once = once;
       apart = apart_kept maps records to can apart;
       room = omega (arith, kept_room, in_mapper);
       memory_room = omega (arith, kept_room, in_memory);

@@ -14,13 +14,14 @@ use Rattle.hp_log.proofs.RowLemmas.{in_run_from, place_in_run}
 use Rattle.hp_maps.specs.Catching.{drops, is_dropped}
 use Rattle.hp_maps.specs.Events.{rows_from, stands_at}
 use Rattle.hp_maps.specs.MapsView.{is_of_log}
+use Rattle.hp_maps.specs.RowsView.{HaveOwnSlots}
 use Rattle.hp_maps.proofs.ByteLemmas.{all_freed}
 use Rattle.hp_maps.proofs.FreedLemmas.{part, part_row}
 use Rattle.hp_maps.proofs.LawLemmas.{count_fewer}
 use Rattle.hp_maps.proofs.ListFacts.{filter_agree, filter_drops}
 use Rattle.hp_maps.proofs.TableLaw.{every}
 
-abbrev one_if : Bool → ℕ
+abbrev pub one_if : Bool → ℕ
 one_if b = cond b 1 0
 
 add_both : (q r s p : Bool) → one_if q + one_if r ≡ one_if s → one_if (q && p) + one_if (r && p) ≡ one_if (s && p)
@@ -33,7 +34,7 @@ add_both false true false p both = absurd (omega (arith, both))
 add_both false false true p both = absurd (omega (arith, both))
 add_both false false false p both = omega arith
 
-count_and : (p q r s : Row → Bool) → ((row : Row) → one_if (q row) + one_if (r row) ≡ one_if (s row)) → (rows : List Row)
+pub count_and : (p q r s : Row → Bool) → ((row : Row) → one_if (q row) + one_if (r row) ≡ one_if (s row)) → (rows : List Row)
     → count_by (λ row. q row && p row) rows + count_by (λ row. r row && p row) rows ≡ count_by (λ row. s row && p row) rows
 count_and p q r s each [] = omega arith
 count_and p q r s each (row ∷ rows) =
@@ -107,7 +108,7 @@ part_either run k n row inside =
           omega (arith, one)
     ]
 
-part_exact : (run : Run) (k n : ℕ) (row : Row)
+pub part_exact : (run : Run) (k n : ℕ) (row : Row)
     → one_if (at_slot run.list (run.first + k) row) + one_if (in_run (part run (k + 1) n) row) ≡ one_if (in_run (part run k (suc n)) row)
 part_exact run k n row =
     let most = part_row run k n row in
@@ -120,7 +121,7 @@ part_exact run k n row =
           omega (arith, most, none)
     ]
 
-nobody : (run : Run) (k : ℕ) (row : Row) → in_run (part run k 0) row ≡ false
+pub nobody : (run : Run) (k : ℕ) (row : Row) → in_run (part run k 0) row ≡ false
 nobody run k row =
     elim (cases_Bool (in_run (part run k 0) row)) [
       | inr outside ↦ outside
@@ -183,6 +184,24 @@ split_four true false false r = omega arith
 split_four false b true r = refl
 split_four false b false r = refl
 
+both : (a b c : Bool) → (a && (b && c)) ≡ true → (a && b) ≡ true
+both true true c is = refl
+both true false c is = cc
+both false b c is = cc
+
+-- one row at most stands at a slot
+pub stands_once : (rows : List Row) (before : List LogRecord) (list slot : ℕ) → HaveOwnSlots rows
+    → count_by (stands_at before list slot) rows ≤ 1
+stands_once rows before list slot once =
+    let one = once list slot in
+    omega (
+      arith,
+      one,
+      count_fewer (stands_at before list slot) (λ row. at_slot list slot row && is_of_log row) rows
+          (every (λ row. stands_at before list slot row ≡ true → (at_slot list slot row && is_of_log row) ≡ true)
+          (λ row is. both (at_slot list slot row) (is_of_log row) (not (is_dropped before row)) is) rows),
+    )
+
 -- the rows that records unmap: each row of the log that one of them drops, once, where no slot has two
 pub freed_count : (p : Row → Bool) (rows : List Row) → ((list slot : ℕ) → count_by (λ row. at_slot list slot row && is_of_log row) rows ≤ 1)
     → (before records : List LogRecord) → count_by p (all_freed rows before records) ≡ count_by p (filter (going before records) rows)
@@ -199,7 +218,7 @@ freed_count p rows once before (Drop run ∷ records) =
     let gone = rows_from rows before run 0 run.count in
     let more = all_freed rows (before ++ Drop run ∷ []) records in
     let here : count_by p gone ≡ count_by p (filter (λ row. in_run run row && still before row) rows) =
-    from_count p rows before run (λ slot. fewer slot) run.count 0
+    from_count p rows before run (λ slot. stands_once rows before run.list slot once) run.count 0
     ∙ ap (λ (f : ℕ). count_by p (filter (λ row. in_run (record run { first = f; count = run.count }) row && still before row) rows)) (add-zero run.first) in
     omega (
       arith,
@@ -211,19 +230,3 @@ freed_count p rows once before (Drop run ∷ records) =
           (dropped_more before (Drop run) row)
           ∙ split_four (is_of_log row) (is_dropped before row) (in_run run row) (is_dropped records row)) rows,
     )
-  where
-    both : (a b c : Bool) → (a && (b && c)) ≡ true → (a && b) ≡ true
-    both true true c is = refl
-    both true false c is = cc
-    both false b c is = cc
-
-    fewer : (slot : ℕ) → count_by (stands_at before run.list slot) rows ≤ 1
-    fewer slot =
-        let one = once run.list slot in
-        omega (
-          arith,
-          one,
-          count_fewer (stands_at before run.list slot) (λ row. at_slot run.list slot row && is_of_log row) rows
-              (every (λ row. stands_at before run.list slot row ≡ true → (at_slot run.list slot row && is_of_log row) ≡ true)
-              (λ row is. both (at_slot run.list slot row) (is_of_log row) (not (is_dropped before row)) is) rows),
-        )

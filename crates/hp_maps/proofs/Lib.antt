@@ -1,4 +1,6 @@
 mod ListFacts
+mod GapLemmas
+mod FindLemmas
 mod ApartLemmas
 mod HeldLemmas
 mod MapLemmas
@@ -21,4 +23,5 @@ mod BesideLemmas
 pub mod ReadyLemmas
 mod ByteLemmas
 mod FreedCounts
+mod SlotLemmas
 pub mod BytesLaw

@@ -153,6 +153,7 @@ ready_to_catch_up lists maps records to ready =
     record {
       from = ready.from;
       within = ready.within;
+      formed = log.formed;
       mappable =
           All-weaker (λ entry. IsRunOf lists (run_in entry)) (λ entry. IsMappableRun (run_in entry))
           (λ entry at. run_mappable lists (run_in entry) log.small at) records log.runs;

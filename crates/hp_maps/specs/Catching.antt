@@ -8,7 +8,7 @@ use Rattle.hp_base.specs.declared.map_answer.MapAnswer.{MapAnswer}
 use Rattle.hp_base.specs.declared.map_answer.MapAnswer.TheVariants as answer
 use Rattle.hp_base.specs.declared.row.Row.{Row}
 use Rattle.hp_base.specs.declared.row.Run.{Run}
-use Rattle.hp_log.specs.Log.{run_in, table_at}
+use Rattle.hp_log.specs.Log.{IsWellFormed, run_in, table_at}
 use Rattle.hp_log.specs.Rows.{rows_of, in_run, IsSmallRun}
 use Rattle.hp_log.specs.declared.log_record.LogRecord.{LogRecord}
 use Rattle.hp_log.specs.declared.log_record.LogRecord.TheVariants.{Add, Drop}
@@ -108,6 +108,8 @@ pub record Lags (records : List LogRecord) (n to : ℕ) (table : List Row) : Typ
 pub record CanCatchUp (maps : MapsView) (records : List LogRecord) (to : ℕ) : Type 0 where
   pub from : maps.number ≤ to
   pub within : to ≤ length records
+  -- no slot has two rows at any of the records
+  pub formed : IsWellFormed records
   pub mappable : All (λ entry. IsMappableRun (run_in entry)) records
   -- it is a table of these records, or one that lags
   pub lags : Lags records maps.number to (table_in maps.rows)

@@ -1,4 +1,5 @@
 pub mod MapsView
+pub mod RowsView
 pub mod Catching
 pub mod Chunks
 pub mod Events

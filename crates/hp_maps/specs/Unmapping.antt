@@ -12,6 +12,7 @@ use Rattle.hp_log.specs.declared.log_record.LogRecord.{LogRecord}
 use Rattle.hp_log.specs.declared.log_record.LogRecord.TheVariants.{Add, Drop}
 use Rattle.hp_maps.specs.Catching.{IsMappableRun, kept, new_rows}
 use Rattle.hp_maps.specs.MapsView.{AreApart}
+use Rattle.hp_maps.specs.RowsView.{HaveOwnSlots}
 
 -- the record is a Drop
 abbrev pub is_drop : LogRecord → Bool
@@ -74,6 +75,7 @@ calls_after calls more (caught.Elsewhere row call got) = call
 pub record CanTakeIn (rows : List Row) (n : ℕ) (records : List LogRecord) (capacity memory calls : ℕ) : Type 0 where
   pub mappable : All (λ entry. IsMappableRun (run_in entry)) records
   pub few : n + length records < 2 ^ 64
+  pub once : HaveOwnSlots rows
   pub apart : AreApart (kept records rows ++ new_rows n records)
   pub room : length (kept records rows) + length (new_rows n records) ≤ capacity
   pub memory_room : length (kept records rows) + length (new_rows n records) ≤ memory

@@ -1,20 +1,21 @@
 //! Records that are taken in over rows and a mapper.
-ghost use Rattle.std.specs.Prelude.{◌≡◌, ◌+◌, ◌^◌, ◌<◌, ◌≤◌, length, take, drop, vec_capacity};
+ghost use Rattle.std.specs.Prelude.{◌≡◌, ◌+◌, ◌^◌, ◌<◌, ◌≤◌, length, take, drop};
 ghost use Rattle.hp_base.specs.Mapping.{is_done, owned};
 ghost use Rattle.hp_base.specs.Streams.{CountsFault};
 ghost use Rattle.hp_maps.specs.Catching.{HasAnswered, HasReason, kept, new_rows, number_after, rows_after, was_refused};
 ghost use Rattle.hp_maps.specs.Unmapping.{CanMapRows, CanTakeIn, calls_after, rows_mapped};
 
-use crate::mapping::{drop_rows, map_rows};
-use crate::rows::push_new_rows;
-use hp_base::{Caught, Mapper, Row};
+use crate::mapping::map_rows;
+use crate::new_rows::push_new_rows;
+use crate::row_list::{RowList, drop_rows};
+use hp_base::{Caught, Mapper};
 use hp_log::LogRecord;
 
 /// Takes in the records that stand behind the first `n`: unmaps what they drop, and then maps what they bring. `calls`
 /// is how many mapping calls there were.
 pub fn take_in<M: Mapper>(
     mapper: &mut M,
-    rows: &mut Vec<Row>,
+    rows: &mut RowList,
     n: u64,
     records: &[LogRecord],
     calls: &mut u64,
@@ -22,14 +23,14 @@ pub fn take_in<M: Mapper>(
     requires holds { M.held mapper.old ≡ owned rows.old.items }
     requires counted { calls.old ≡ length (M.answers mapper.old) }
     requires can { CanTakeIn rows.old.items n records.now (M.capacity mapper.old)
-        (vec_capacity rows.old) calls.old }
+        rows.old.memory calls.old }
     ensures rows { rows.new.items
         ≡ rows_after (kept records.now rows.old.items) (new_rows n records.now) result }
     ensures answered { HasAnswered (new_rows n records.now) (M.answers mapper.old) (M.answers mapper.new) result }
     ensures holds { M.held mapper.new ≡ owned rows.new.items }
     ensures counted { calls.new ≡ length (M.answers mapper.new) }
     ensures capacity { M.capacity mapper.new ≡ M.capacity mapper.old }
-    ensures memory { vec_capacity rows.old ≤ vec_capacity rows.new }
+    ensures memory { rows.old.memory ≤ rows.new.memory }
     ensures cause { CountsFault (M.faults mapper.old) (M.faults mapper.new) (was_refused result) }
     ensures may_fail { M.may_fail mapper.new ≡ M.may_fail mapper.old }
     ensures reason { HasReason (M.may_fail mapper.old) result }
@@ -43,7 +44,7 @@ pub fn take_in<M: Mapper>(
 /// Maps the rows from `start` on, or takes them out.
 pub fn map_behind<M: Mapper>(
     mapper: &mut M,
-    rows: &mut Vec<Row>,
+    rows: &mut RowList,
     start: usize,
     calls: &mut u64,
 ) -> Caught
@@ -54,7 +55,7 @@ pub fn map_behind<M: Mapper>(
     ensures holds { M.held mapper.new ≡ owned rows.new.items }
     ensures counted { calls.new ≡ length (M.answers mapper.new) }
     ensures capacity { M.capacity mapper.new ≡ M.capacity mapper.old }
-    ensures memory { vec_capacity rows.new ≡ vec_capacity rows.old }
+    ensures memory { rows.new.memory ≡ rows.old.memory }
     ensures cause { CountsFault (M.faults mapper.old) (M.faults mapper.new) (was_refused result) }
     ensures may_fail { M.may_fail mapper.new ≡ M.may_fail mapper.old }
     ensures reason { HasReason (M.may_fail mapper.old) result }
@@ -76,9 +77,10 @@ fn calls_after(caught: &Caught, calls: u64, more: u64) -> u64
     }
 }
 
-fn keep_mapped(rows: &mut Vec<Row>, start: usize, caught: &Caught)
+fn keep_mapped(rows: &mut RowList, start: usize, caught: &Caught)
+    requires { start ≤ length rows.old.items }
     ensures items { rows.new.items ≡ rows_mapped rows.old.items start caught.now }
-    ensures capacity { vec_capacity rows.new ≡ vec_capacity rows.old }
+    ensures capacity { rows.new.memory ≡ rows.old.memory }
 {
     match caught {
         Caught::Done => {}

@@ -1,8 +1,9 @@
 //! The rows of a chunk.
-ghost use Rattle.std.specs.Prelude.{◌≡◌, ◌/◌, ◌^◌, ◌<◌, vec_capacity};
+ghost use Rattle.std.specs.Prelude.{◌≡◌, ◌/◌, ◌^◌, ◌<◌};
 ghost use Rattle.hp_base.specs.Mapping.{owned};
 ghost use Rattle.hp_maps.specs.Chunks.{is_of_chunk, rows_beside, run_of_chunk};
 
+use crate::row_list::RowList;
 use hp_base::{Chunk, Mapper, Row, Run};
 
 /// All slots of a chunk's list.
@@ -22,10 +23,10 @@ pub fn run_of_chunk(chunk: &Chunk) -> Run
 }
 
 /// Unmaps the rows of a chunk, and takes them out.
-pub fn drop_chunk<M: Mapper>(mapper: &mut M, rows: &mut Vec<Row>, chunk: &Chunk)
+pub fn drop_chunk<M: Mapper>(mapper: &mut M, rows: &mut RowList, chunk: &Chunk)
     requires { M.held mapper.old ≡ owned rows.old.items }
     ensures rows { rows.new.items ≡ rows_beside chunk.now rows.old.items }
-    ensures memory { vec_capacity rows.new ≡ vec_capacity rows.old }
+    ensures memory { rows.new.memory ≡ rows.old.memory }
     ensures held { M.held mapper.new ≡ owned rows.new.items }
     ensures capacity { M.capacity mapper.new ≡ M.capacity mapper.old }
     ensures answers { M.answers mapper.new ≡ M.answers mapper.old }
@@ -33,7 +34,7 @@ pub fn drop_chunk<M: Mapper>(mapper: &mut M, rows: &mut Vec<Row>, chunk: &Chunk)
     ensures may_fail { M.may_fail mapper.new ≡ M.may_fail mapper.old }
 {
     unmap_chunk(mapper, rows.as_slice(), chunk);
-    retain_beside(rows, chunk);
+    rows.retain_beside(chunk);
 }
 
 fn unmap_chunk<M: Mapper>(mapper: &mut M, rows: &[Row], chunk: &Chunk)
@@ -51,14 +52,8 @@ fn unmap_chunk<M: Mapper>(mapper: &mut M, rows: &[Row], chunk: &Chunk)
     }
 }
 
-fn retain_beside(rows: &mut Vec<Row>, chunk: &Chunk)
-    ensures rows { rows.new.items ≡ rows_beside chunk.now rows.old.items }
-    ensures memory { vec_capacity rows.new ≡ vec_capacity rows.old }
-{
-    rows.retain(|row: &Row| !is_of_chunk(chunk, row));
-}
-
-fn is_of_chunk(chunk: &Chunk, row: &Row) -> bool
+/// Whether a row is one of a chunk's.
+pub fn is_of_chunk(chunk: &Chunk, row: &Row) -> bool
     ensures { result ≡ is_of_chunk chunk.now row.now }
 {
     row.generation == 0 && row.list == chunk.list

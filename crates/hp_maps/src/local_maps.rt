@@ -6,6 +6,7 @@ ghost use Rattle.hp_log.specs.Log.{table_at};
 ghost use Rattle.hp_maps.specs.MapsView.{AreApart, IsMapped, calls_of, chunk_rows, table_in};
 
 use crate::catching::{number_after, take_in};
+use crate::row_list::RowList;
 use crate::rows::is_row;
 use crate::telling::{tell_caught, tell_dropped};
 use hp_base::{Caught, Mapper, Row, Tell};
@@ -18,7 +19,7 @@ use std::marker::Model;
 #[derive(Drop)]
 pub struct LocalMaps<M: Mapper> {
     mapper: M,
-    rows: Vec<Row>,
+    rows: RowList,
     // How many records are taken in.
     number: u64,
     // How many rows there may be.
@@ -31,7 +32,6 @@ mod chunks;
 mod leaving;
 
 impl<M: Mapper> Model for LocalMaps<M> {
-    ghost use Rattle.std.specs.Prelude.{vec_capacity};
     ghost use Rattle.hp_maps.specs.MapsView.{MapsView};
     ghost use Rattle.hp_maps.specs.MapsLayout.{IsKept};
 
@@ -47,7 +47,7 @@ impl<M: Mapper> Model for LocalMaps<M> {
       held = M.held a.mapper;
     } };
 
-    ghost invariant = { λ a. IsKept a.rows.items (M.held a.mapper) a.capacity (vec_capacity a.rows)
+    ghost invariant = { λ a. IsKept a.rows.items (M.held a.mapper) a.capacity a.rows.memory
         (M.capacity a.mapper) a.calls (M.answers a.mapper) };
 }
 
@@ -84,7 +84,7 @@ impl<M: Mapper> LocalMaps<M> {
     {
         Ok(LocalMaps {
             mapper,
-            rows: Vec::with_capacity(alloc, capacity)?,
+            rows: RowList::new(alloc, capacity)?,
             number: 0,
             capacity,
             calls: 0,
@@ -119,7 +119,7 @@ impl<M: Mapper> LocalMaps<M> {
     pub fn maps(&self, row: &Row) -> bool
         ensures { result ≡ list_any (is_row row.now) self.now.rows }
     {
-        self.rows.iter().any(|other| is_row(row, other))
+        self.rows.as_slice().iter().any(|other| is_row(row, other))
     }
 
     /// Catches up with the log: unmaps the rows that the records behind its number up to `to` drop, and then maps the rows
@@ -155,7 +155,13 @@ impl<M: Mapper> LocalMaps<M> {
             (newer records.now self.old.number to) result) }
     {
         let newer = &records[self.number as usize..to as usize];
-        tell_dropped(tell, &self.mapper, self.rows.as_slice(), newer);
+        tell_dropped(
+            tell,
+            &self.mapper,
+            self.rows.as_slice(),
+            self.rows.next(),
+            newer,
+        );
         let before = self.calls;
         let caught = self.take_in_log(records, to);
         tell_caught(

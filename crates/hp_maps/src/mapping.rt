@@ -1,13 +1,11 @@
 //! Rows that a mapper maps and unmaps.
-ghost use Rattle.std.specs.Prelude.{◌≡◌, ◌+◌, ◌*◌, ◌^◌, ◌<◌, ◌≤◌, ◌++◌, ◌∷◌, [], false, length, take, drop, vec_capacity};
+ghost use Rattle.std.specs.Prelude.{◌≡◌, ◌+◌, ◌*◌, ◌^◌, ◌<◌, ◌≤◌, ◌++◌, ◌∷◌, [], false, length, drop};
 ghost use Rattle.hp_base.specs.Mapping.{CanMap, is_refused, may_fail_at, own_place, owned};
 ghost use Rattle.hp_base.specs.Streams.{CountsFault};
-ghost use Rattle.hp_maps.specs.Catching.{HasAnswered, HasReason, kept, was_refused};
+ghost use Rattle.hp_maps.specs.Catching.{HasAnswered, HasReason, was_refused};
 ghost use Rattle.hp_maps.specs.Unmapping.{CanMapRows, caught_by, held_own, is_own, rows_mapped, without_rows};
 
-use crate::rows::{goes, has_drop};
 use hp_base::{Caught, MapAnswer, Mapper, Row};
-use hp_log::LogRecord;
 
 /// Unmaps rows.
 pub fn unmap_rows<M: Mapper>(mapper: &mut M, rows: &[Row])
@@ -20,47 +18,6 @@ pub fn unmap_rows<M: Mapper>(mapper: &mut M, rows: &[Row])
     for row in rows {
         mapper.unmap(row);
     }
-}
-
-/// Unmaps those of the rows that records drop, and takes them out. Where none of the records is a Drop, the rows aren't
-/// gone over, and else once.
-pub fn drop_rows<M: Mapper>(mapper: &mut M, rows: &mut Vec<Row>, records: &[LogRecord])
-    requires { M.held mapper.old ≡ owned rows.old.items }
-    ensures rows { rows.new.items ≡ kept records.now rows.old.items }
-    ensures memory { vec_capacity rows.new ≡ vec_capacity rows.old }
-    ensures held { M.held mapper.new ≡ owned rows.new.items }
-    ensures capacity { M.capacity mapper.new ≡ M.capacity mapper.old }
-    ensures answers { M.answers mapper.new ≡ M.answers mapper.old }
-    ensures faults { M.faults mapper.new ≡ M.faults mapper.old }
-    ensures may_fail { M.may_fail mapper.new ≡ M.may_fail mapper.old }
-{
-    if has_drop(records) {
-        let stay = unmap_dropped(mapper, rows.as_mut_slice(), records);
-        rows.truncate(stay);
-    }
-}
-
-// Unmaps those of the rows that records drop, and moves the others to the front. How many these are.
-fn unmap_dropped<M: Mapper>(mapper: &mut M, rows: &mut [Row], records: &[LogRecord]) -> usize
-    requires { M.held mapper.old ≡ owned rows.old }
-    ensures rows { take result rows.new ≡ kept records.now rows.old }
-    ensures held { M.held mapper.new ≡ owned (kept records.now rows.old) }
-    ensures capacity { M.capacity mapper.new ≡ M.capacity mapper.old }
-    ensures answers { M.answers mapper.new ≡ M.answers mapper.old }
-    ensures faults { M.faults mapper.new ≡ M.faults mapper.old }
-    ensures may_fail { M.may_fail mapper.new ≡ M.may_fail mapper.old }
-{
-    let mut stay = 0;
-    for at in 0..rows.len() {
-        let row = rows[at];
-        if goes(records, &row) {
-            mapper.unmap(&row);
-        } else {
-            rows[stay] = row;
-            stay += 1;
-        }
-    }
-    stay
 }
 
 /// Maps the rows from `start` on, one after the other. Where one is refused or comes out at another place, all of them

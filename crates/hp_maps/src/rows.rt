@@ -1,15 +1,12 @@
-//! Which rows records drop, and which they bring.
-ghost use Rattle.std.specs.Prelude.{◌≡◌, ◌+◌, ◌*◌, ◌^◌, ◌<◌, ◌≤◌, ◌++◌, ◌∷◌, [], false, length, vec_len, vec_capacity};
-ghost use Rattle.std.specs.List.{All};
+//! Rows, and which records drop them.
+ghost use Rattle.std.specs.Prelude.{◌≡◌};
 ghost use Rattle.hp_base.specs.Mapping.{is_row};
-ghost use Rattle.hp_log.specs.Log.{run_in};
-ghost use Rattle.hp_log.specs.Rows.{rows_of, IsSmallRun};
-ghost use Rattle.hp_maps.specs.Catching.{brought, drops, goes, is_dropped, new_rows, undropped};
+ghost use Rattle.hp_maps.specs.Catching.{drops, is_dropped};
 ghost use Rattle.hp_maps.specs.MapsView.{is_of_log};
-ghost use Rattle.hp_maps.specs.Unmapping.{has_drop, is_drop};
+ghost use Rattle.hp_maps.specs.Unmapping.{is_drop};
 
-use hp_base::{Row, Run};
-use hp_log::{LogRecord, contains, row_of};
+use hp_base::Row;
+use hp_log::{LogRecord, contains};
 
 /// Whether a row is of the log, and not of a chunk.
 pub fn is_of_log(row: &Row) -> bool
@@ -47,83 +44,12 @@ pub fn is_dropped(records: &[LogRecord], row: &Row) -> bool
     records.iter().any(|entry| drops(row, entry))
 }
 
-/// Whether one of the records is a Drop.
-pub fn has_drop(records: &[LogRecord]) -> bool
-    ensures { result ≡ has_drop records.now }
-{
-    records.iter().any(is_drop)
-}
-
-fn is_drop(entry: &LogRecord) -> bool
+/// Whether a record is a Drop.
+pub fn is_drop(entry: &LogRecord) -> bool
     ensures { result ≡ is_drop entry.now }
 {
     match entry {
         LogRecord::Add { .. } => false,
         LogRecord::Drop { .. } => true,
-    }
-}
-
-/// Whether a row is of the log, and one of the records drops it.
-pub fn goes(records: &[LogRecord], row: &Row) -> bool
-    ensures { result ≡ goes records.now row.now }
-{
-    is_of_log(row) && is_dropped(records, row)
-}
-
-/// Adds what records bring behind the first `n`, where there is room for it.
-#[tactic(auto, using(crate::proofs::CatchLemmas::none_behind))]
-pub fn push_new_rows(rows: &mut Vec<Row>, n: u64, records: &[LogRecord])
-    requires small { All (λ entry. IsSmallRun (run_in entry)) records.now }
-    requires few { n + length records.now < 2 ^ 64 }
-    requires room { vec_len rows.old + length (new_rows n records.now) ≤ vec_capacity rows.old }
-    ensures items { rows.new.items ≡ rows.old.items ++ new_rows n records.now }
-    ensures capacity { vec_capacity rows.old ≤ vec_capacity rows.new }
-{
-    let dropping = has_drop(records);
-    for (at, entry) in records.iter().enumerate() {
-        if let LogRecord::Add { run, .. } = entry {
-            push_of(rows, n + at as u64 + 1, run, &records[at + 1..], dropping);
-        }
-    }
-}
-
-// Adds the rows of a run that none of the records drops. Where none of them is a Drop, they aren't gone over.
-#[tactic(auto, using(crate::proofs::CatchLemmas::all_undropped))]
-fn push_of(rows: &mut Vec<Row>, generation: u64, run: &Run, later: &[LogRecord], dropping: bool)
-    requires small { IsSmallRun run.now }
-    requires dropping { dropping ≡ false → has_drop later.now ≡ false }
-    requires room { vec_len rows.old + length (undropped later.now (rows_of run.now generation))
-        ≤ vec_capacity rows.old }
-    ensures items { rows.new.items ≡ rows.old.items ++ undropped later.now (rows_of run.now generation) }
-    ensures capacity { vec_capacity rows.old ≤ vec_capacity rows.new }
-{
-    if dropping {
-        push_undropped(rows, generation, run, later);
-    } else {
-        push_undropped(rows, generation, run, &[]);
-    }
-}
-
-/// Adds the rows of a run that none of the records drops, where there is room for them.
-pub fn push_undropped(rows: &mut Vec<Row>, generation: u64, run: &Run, later: &[LogRecord])
-    requires small { IsSmallRun run.now }
-    requires room { vec_len rows.old + length (undropped later.now (rows_of run.now generation))
-        ≤ vec_capacity rows.old }
-    ensures items { rows.new.items ≡ rows.old.items ++ undropped later.now (rows_of run.now generation) }
-    ensures capacity { vec_capacity rows.old ≤ vec_capacity rows.new }
-{
-    for n in 0..run.count {
-        push_if_undropped(rows, row_of(run, generation, n), later);
-    }
-}
-
-// Adds a row, where none of the records drops it.
-fn push_if_undropped(rows: &mut Vec<Row>, row: Row, later: &[LogRecord])
-    requires room { vec_len rows.old + length (undropped later.now (row ∷ [])) ≤ vec_capacity rows.old }
-    ensures items { rows.new.items ≡ rows.old.items ++ undropped later.now (row ∷ []) }
-    ensures capacity { vec_capacity rows.old ≤ vec_capacity rows.new }
-{
-    if !is_dropped(later, &row) {
-        let _ = rows.push(row);
     }
 }

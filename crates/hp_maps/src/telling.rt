@@ -1,15 +1,15 @@
 //! Rows that come and go, told as one event for each of their greatest stretches.
-ghost use Rattle.std.specs.Prelude.{◌≡◌, ◌+◌, ◌*◌, ◌^◌, ◌<◌, ◌≤◌, ◌-◌, [], true, drop, length, find};
+ghost use Rattle.std.specs.Prelude.{◌≡◌, ◌+◌, ◌*◌, ◌^◌, ◌<◌, ◌≤◌, ◌-◌, [], true, drop, length};
 ghost use Rattle.std.specs.List.{All};
 ghost use Rattle.hp_base.specs.declared.event.EventKind.TheVariants as kind;
 ghost use Rattle.hp_base.specs.Mapping.{is_done};
 ghost use Rattle.hp_log.specs.Log.{run_in};
 ghost use Rattle.hp_log.specs.Rows.{IsSmallRun};
-ghost use Rattle.hp_maps.specs.Events.{all_told, dropped_events, events_of, freed_by, stands_at};
+ghost use Rattle.hp_maps.specs.Events.{all_told, dropped_events, events_of, freed_by};
+ghost use Rattle.hp_maps.specs.RowsView.{HaveOwnSlots};
 ghost use Rattle.hp_maps.specs.TellingInTurn.{mapped_events};
 ghost use Rattle.hp_maps.specs.Unmapping.{AreHeld, IsWithin};
 
-use crate::rows::{is_dropped, is_of_log};
 use hp_base::{Caught, Event, EventKind, Mapper, Row, Tell};
 use hp_log::LogRecord;
 
@@ -20,8 +20,10 @@ pub struct Stretch {
     pub last: Row,
 }
 
+mod finding;
 mod in_turn;
 
+use finding::found_at;
 pub use in_turn::{tell_found, tell_last};
 
 /// Tells rows that come, or that go. The mapper holds them: what comes is told once it is mapped, and what goes before it is
@@ -69,28 +71,39 @@ pub fn tell_caught<M: Mapper, T: Tell>(
     }
 }
 
-/// Tells the rows of the log that records are about to unmap. The mapper still holds them.
+/// Tells the rows of the log that records are about to unmap. The mapper still holds them. They are looked for from a place on
+/// first.
 pub fn tell_dropped<M: Mapper, T: Tell>(
     tell: &mut T,
     mapper: &M,
     rows: &[Row],
+    from: usize,
     records: &[LogRecord],
 )
     requires held { AreHeld (M.held mapper.now) rows.now }
     requires near { All IsWithin rows.now }
+    requires once { HaveOwnSlots rows.now }
     requires small { All (λ entry. IsSmallRun (run_in entry)) records.now }
     requires spare { length (dropped_events rows.now [] records.now) ≤ T.spare tell.old }
     ensures told { T.told tell.new ≡ all_told (dropped_events rows.now [] records.now) (T.told tell.old) }
     ensures spare { T.spare tell.old ≤ T.spare tell.new + length (dropped_events rows.now [] records.now) }
 {
     for (at, entry) in records.iter().enumerate() {
-        tell_freed(tell, rows, &records[..at], entry);
+        tell_freed(tell, rows, from, &records[..at], entry);
     }
 }
 
-// Tells the rows that a record unmaps, where others came before it, by rising slot.
-fn tell_freed<T: Tell>(tell: &mut T, rows: &[Row], before: &[LogRecord], entry: &LogRecord)
+// Tells the rows that a record unmaps, where others came before it, by rising slot. Each is looked for behind the one before it
+// first.
+fn tell_freed<T: Tell>(
+    tell: &mut T,
+    rows: &[Row],
+    from: usize,
+    before: &[LogRecord],
+    entry: &LogRecord,
+)
     requires near { All IsWithin rows.now }
+    requires once { HaveOwnSlots rows.now }
     requires small { IsSmallRun (run_in entry.now) }
     requires spare { length (events_of kind.Free (freed_by rows.now before.now entry.now)) ≤ T.spare tell.old }
     ensures told { T.told tell.new
@@ -100,28 +113,12 @@ fn tell_freed<T: Tell>(tell: &mut T, rows: &[Row], before: &[LogRecord], entry: 
 {
     if let LogRecord::Drop { run } = entry {
         let mut stretch = None;
+        let mut next = from;
         for n in 0..run.count {
-            let found = standing_at(rows, before, run.list, run.first + n);
-            stretch = tell_found(tell, EventKind::Free, stretch, found);
+            let found = found_at(rows, next, before, run.list, run.first + n);
+            next = found.next;
+            stretch = tell_found(tell, EventKind::Free, stretch, found.row);
         }
         tell_last(tell, EventKind::Free, stretch);
     }
-}
-
-// The row of the log that stands at a slot once some records are taken in.
-fn standing_at(rows: &[Row], before: &[LogRecord], list: u32, slot: u32) -> Option<Row>
-    ensures { result ≡ find (stands_at before.now list slot) rows.now }
-{
-    for row in rows {
-        if stands_at(before, list, slot, row) {
-            return Some(*row);
-        }
-    }
-    None
-}
-
-fn stands_at(before: &[LogRecord], list: u32, slot: u32, row: &Row) -> bool
-    ensures { result ≡ stands_at before.now list slot row.now }
-{
-    row.list == list && row.slot == slot && (is_of_log(row) && !is_dropped(before, row))
 }

@@ -6,7 +6,7 @@ ghost use Rattle.hp_maps.specs.MapsView.{IsMapped};
 use crate::catching::map_behind;
 use crate::chunks::{drop_chunk, run_of_chunk};
 use crate::local_maps::LocalMaps;
-use crate::rows::push_undropped;
+use crate::new_rows::push_undropped;
 use hp_base::{Caught, Chunk, Mapper};
 
 impl<M: Mapper> LocalMaps<M> {
@@ -28,7 +28,7 @@ impl<M: Mapper> LocalMaps<M> {
     {
         let run = run_of_chunk(chunk);
         let start = self.rows.len();
-        push_undropped(&mut self.rows, 0, &run, &[]);
+        let _ = push_undropped(&mut self.rows, 0, &run, &[], 0);
         map_behind(&mut self.mapper, &mut self.rows, start, &mut self.calls)
     }
 

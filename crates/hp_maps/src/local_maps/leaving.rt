@@ -1,12 +1,11 @@
 //! Unmapping all that is mapped.
-ghost use Rattle.std.specs.Prelude.{◌≡◌, ◌+◌, ◌≤◌, [], length, vec_capacity};
-ghost use Rattle.std.specs.List.Sorted.{IsNonDecreasingBy, IsPermutation};
+ghost use Rattle.std.specs.Prelude.{◌≡◌, ◌+◌, ◌≤◌, [], length};
 ghost use Rattle.hp_maps.specs.MapsView.{IsMapped, chunk_rows};
 
 use crate::local_maps::LocalMaps;
 use crate::mapping::unmap_rows;
 use crate::telling::tell_rows;
-use hp_base::{EventKind, Mapper, Row, Tell};
+use hp_base::{EventKind, Mapper, Tell};
 
 impl<M: Mapper> LocalMaps<M> {
     ghost use Rattle.hp_maps.specs.Events.{IsToldByAddress};
@@ -26,18 +25,10 @@ impl<M: Mapper> LocalMaps<M> {
         ensures told { IsToldByAddress self.old.rows (T.told tell.old) (T.told tell.new) }
         ensures spare { T.spare tell.old ≤ T.spare tell.new + length self.old.rows }
     {
-        sort_by_address(&mut self.rows);
+        self.rows.sort_by_address();
         tell_rows(tell, &self.mapper, EventKind::Free, self.rows.as_slice());
         unmap_rows(&mut self.mapper, self.rows.as_slice());
         self.rows.clear();
         self.number = 0;
     }
-}
-
-fn sort_by_address(rows: &mut Vec<Row>)
-    ensures same { IsPermutation rows.old.items rows.new.items }
-    ensures sorted { IsNonDecreasingBy (λ row. row.addr) rows.new.items }
-    ensures memory { vec_capacity rows.new ≡ vec_capacity rows.old }
-{
-    rows.sort_unstable_by_key(|row: &Row| row.addr);
 }

@@ -12,7 +12,7 @@ use Rattle.hp_maps.proofs.telling.tell_freed.Goals as goal
 
 pub tell_found-stretch-requires-clause-near : goal.tell_found-stretch-requires-clause-near
 tell_found-stretch-requires-clause-near g c =
-    subst (λ (found : Option Row). IfSome found IsWithin) (sym c.standing_at-found.ensures)
+    subst (λ (found : Option Row). IfSome found IsWithin) (sym c.found_at-found.ensures)
     (found_of_all (stands_at c.args.before.now c.in-Drop.run'.list (c.in-Drop.run'.first + c.loop-n.n)) IsWithin c.args.rows.now c.requires.near)
 
 pub tell_found-stretch-requires-clause-spare : goal.tell_found-stretch-requires-clause-spare
@@ -21,9 +21,9 @@ tell_found-stretch-requires-clause-spare g c =
     let before = c.args.before.now in
     let run = c.in-Drop.run' in
     let n = c.loop-n.n in
-    let found = c.standing_at-found.result in
+    let found = c.found_at-found.result.row in
     let rest = rows_from rows before run (n + 1) (run.count - (n + 1)) in
-    let next = rows_left rows before run n run.count (omega arith) ∙ ap (λ (o : Option Row). option_to_list o ++ rest) (sym c.standing_at-found.ensures) in
+    let next = rows_left rows before run n run.count (omega arith) ∙ ap (λ (o : Option Row). option_to_list o ++ rest) (sym c.found_at-found.ensures) in
     omega (
       arith,
       c.loop-n.invariant.spare,
@@ -39,9 +39,9 @@ loop-n-preserved g c =
     let before = c.args.before.now in
     let run = c.in-Drop.run' in
     let n = c.loop-n.n in
-    let found = c.standing_at-found.result in
+    let found = c.found_at-found.result.row in
     let rest = rows_from rows before run (n + 1) (run.count - (n + 1)) in
-    let next = rows_left rows before run n run.count (omega arith) ∙ ap (λ (o : Option Row). option_to_list o ++ rest) (sym c.standing_at-found.ensures) in
+    let next = rows_left rows before run n run.count (omega arith) ∙ ap (λ (o : Option Row). option_to_list o ++ rest) (sym c.found_at-found.ensures) in
     let told = ap (λ (l : List Row). all_told (events_from Free c.loop-n.stretch l) (g.T.Tell.told c.loop-n.tell)) (sym next)
     ∙ c.loop-n.invariant.told in
     let after = c.tell_found-stretch.ensures.stretch in

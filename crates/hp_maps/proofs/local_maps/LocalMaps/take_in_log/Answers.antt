@@ -3,12 +3,14 @@ use Rattle.std.proofs.Common.{◌∙◌, ap, arith, subst, sym}
 use Rattle.hp_maps.specs.Catching.{CanCatchUp}
 use Rattle.hp_maps.specs.MapsView.{MapsView, chunk_rows}
 use Rattle.hp_maps.proofs.CatchLemmas.{apart_after, can_take_in, chunks_after, lags_after, near_after, room_after, table_after_catching}
+use Rattle.hp_maps.proofs.SlotLemmas.{own_slots}
 use Rattle.hp_maps.proofs.local_maps.LocalMaps.take_in_log.Goals as goal
 
 pub take_in-caught-requires-clause-can : goal.take_in-caught-requires-clause-can
 take_in-caught-requires-clause-can g c =
     let can = subst (λ (maps : MapsView). CanCatchUp maps c.args.records.now c.args.to) (sym c.self.view_is) c.requires in
     can_take_in _ c.args.records.now c.args.to _ _ _ can c.self.invariant.apart (omega arith) c.self.invariant.room c.self.invariant.fits c.self.invariant.counted
+    (own_slots c.args.records.now _ c.args.to c.self.inside.rows.items can.formed can.lags)
 
 pub invariant_of-self : goal.invariant_of-self
 invariant_of-self g c =

@@ -1,11 +1,11 @@
 -- The rows of the first n slots that none of the records drops are there.
-use Rattle.std.proofs.Common.{◌≡◌, ◌++◌, ◌≤◌, vec_capacity}
+use Rattle.std.proofs.Common.{◌≡◌, ◌++◌, ◌≤◌}
 use Rattle.hp_log.specs.Rows.{rows_below}
 use Rattle.hp_maps.specs.Catching.{undropped}
-use Rattle.hp_maps.proofs.rows.push_undropped.Given as goal
+use Rattle.hp_maps.proofs.new_rows.push_undropped.Given as goal
 
 abbrev pub invariant-loop-n : goal.invariant-loop-n
 invariant-loop-n l = record {
   items : l.rows.items ≡ l.initial.rows.items ++ undropped l.later (rows_below l.run l.generation l.n);
-  capacity : vec_capacity l.initial.rows ≤ vec_capacity l.rows;
+  capacity : l.initial.rows.memory ≤ l.rows.memory;
 }

@@ -1,7 +1,7 @@
 -- A filter keeps the rows that stay.
 use Rattle.std.proofs.Common.{rules}
 use Rattle.std.proofs.lemmas.Fn.{filter_same}
-use Rattle.hp_maps.proofs.chunks.retain_beside.Goals as goal
+use Rattle.hp_maps.proofs.row_list.retain_beside.Goals as goal
 
 pub returns-clause-rows : goal.returns-clause-rows
 returns-clause-rows c = filter_same _ _ _ (λ x b f' k. search rules) _ _ c.retain.ensures.filtered

@@ -1,0 +1,22 @@
+-- What a record brings has room.
+use Rattle.std.proofs.Common.{◌≡◌, ◌+◌, ◌-◌, ◌∙◌, ap, arith, count_by, drop, length, sym}
+use Rattle.std.proofs.lemmas.List.{drop-drop}
+use Rattle.hp_maps.specs.Unmapping.{has_drop, is_drop}
+use Rattle.hp_maps.proofs.ListFacts.{uncounted}
+use Rattle.hp_maps.proofs.NewRows.{added_fits}
+use Rattle.hp_maps.proofs.CatchLemmas.{none_before, none_behind}
+use Rattle.hp_maps.proofs.new_rows.push_new_rows.Goals as goal
+
+pub push_of-from-requires-clause-room : goal.push_of-from-requires-clause-room
+push_of-from-requires-clause-room c =
+    let fits = added_fits c.args.n c.loop-at.at c.args.records.now _ c.in-Add.run' c.in-Add.heap c.loop-at.rows.items c.args.rows.now.items
+    c.args.rows.now.memory (omega arith) c.in-Add.is c.loop-at.invariant.items c.requires.room in
+    omega (arith, fits, c.loop-at.invariant.capacity)
+
+pub push_of-from-requires-clause-drops : goal.push_of-from-requires-clause-drops
+push_of-from-requires-clause-drops c none =
+    let records = c.args.records.now in
+    let at = c.loop-at.at in
+    let counted : count_by is_drop (drop at records) ≡ 0 = omega (arith, c.loop-at.invariant.drops, none) in
+    none_before (length records - (at + 1)) (drop (at + 1) records)
+    (ap has_drop (sym (drop-drop 1 at records)) ∙ none_behind 1 (drop at records) (uncounted is_drop (drop at records) counted))
