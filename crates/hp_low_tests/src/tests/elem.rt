@@ -74,9 +74,10 @@ fn keeps_elements_by_address(rt: HostRuntime) -> Result<(), Fail> {
     assert_eq!(rt; elems.at(0x2080), Some(middle));
     assert_eq!(rt; elems.at(0x3fff), Some(high));
     elems.hide(middle);
-    assert_eq!(rt; elems.at(0x2000), None);
+    assert_eq!(rt; elems.len(), 2);
+    assert_eq!(rt; elems.starting_at(0x2000), None);
     assert_eq!(rt; elems.at(0x2fff), None);
-    assert_eq!(rt; elems.at(0x3000), Some(high));
+    assert_eq!(rt; elems.starting_at(0x3000), Some(high));
     assert_eq!(rt; elems.key_end() >= 3, true);
     Ok(())
 }
