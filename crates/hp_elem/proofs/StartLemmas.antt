@@ -3,10 +3,24 @@ use Rattle.std.proofs.Common.{◌≡◌, ℕ, ◌<◌, ◌≤◌, [], ◌∷◌,
 use Rattle.std.proofs.lemmas.Bool.{cases_Bool, cond-true, cond-false, eqb-true, eqb-false, ne_eqb}
 use Rattle.hp_base.specs.declared.span.Span.{Span}
 use Rattle.hp_chain.specs.Chain.{Keyed}
-use Rattle.hp_elem.specs.Items.{Items, end_of}
+use Rattle.std.specs.List.{find}
+use Rattle.std.specs.Option.{option_map}
+use Rattle.hp_elem.specs.Items.{Items, end_of, begins_at, key_from}
 use Rattle.hp_elem.specs.Order.{IsRising}
 use Rattle.hp_elem.specs.Index.{with_start, start_key, reach}
 use Rattle.hp_elem.proofs.OrderLemmas.{reach_above, rising_front, rising_back}
+
+-- the key that the table has is that of the element that begins there
+pub start_is : (addr : ℕ) (xs : Items) → start_key xs addr ≡ key_from addr xs
+start_is addr [] = refl
+start_is addr (x ∷ xs) = elim (cases_Bool (nat_eq x.value.addr addr)) [
+  | inl same ↦
+      cond-true (nat_eq x.value.addr addr) (Some x.key) (start_key xs addr) same
+      ∙ sym (ap (λ (o : Option (Keyed Span)). option_map (λ (e : Keyed Span). e.key) o) (cond-true (nat_eq x.value.addr addr) (Some x) (find (begins_at addr) xs) same))
+  | inr differs ↦
+      cond-false (nat_eq x.value.addr addr) (Some x.key) (start_key xs addr) differs ∙ start_is addr xs
+      ∙ sym (ap (λ (o : Option (Keyed Span)). option_map (λ (e : Keyed Span). e.key) o) (cond-false (nat_eq x.value.addr addr) (Some x) (find (begins_at addr) xs) differs))
+]
 
 -- none begins below where they stand, nor at or above where they end
 pub lacks_below : (addr from : ℕ) (xs : Items) → addr < from → IsRising from xs → start_key xs addr ≡ None

@@ -129,6 +129,14 @@ contains addr e = nat_le e.value.addr addr && nat_lt addr (end_of e.value)
 abbrev pub key_at : ℕ → Items → Option ℕ
 key_at addr items = option_map (λ e. e.key) (find (contains addr) items)
 
+-- whether an element begins at an address
+abbrev pub begins_at : ℕ → Keyed Span → Bool
+begins_at addr e = e.value.addr == addr
+
+-- the key of the element that begins at the address
+abbrev pub key_from : ℕ → Items → Option ℕ
+key_from addr items = option_map (λ e. e.key) (find (begins_at addr) items)
+
 -- whether an element is busy with a zone mark and a number: a tag, but for who asked
 abbrev pub is_tagged_state : Bool → ℕ → SpanState → Bool
 is_tagged_state zone number (Free stamp) = false

@@ -10,19 +10,16 @@ use crate::chain::Chain;
 use crate::node::Node;
 use crate::tags::{Tags, number_of};
 use crate::{gaps, starts};
-use hp_base::{HEADER, LINE, Span, SpanState, Tag};
+use hp_base::{Span, SpanState, Tag};
 use std::alloc::{AllocError, Global};
 use std::collections::HashMap;
 use std::marker::Model;
 
-// How far the start of an element's data may lie above that of the element: its header, and a pad of 0 to 2 lines.
-const OFFSETS: [u64; 4] = [0, HEADER, HEADER + LINE, HEADER + 2 * LINE];
-
 /// The elements of a heap.
 #[derive(Drop)]
 pub struct Elems {
-    chain: Chain,
-    starts: HashMap<u64, usize>,
+    pub(crate) chain: Chain,
+    pub(crate) starts: HashMap<u64, usize>,
     // The starts of the elements with a gap in front of them, rising.
     gaps: Vec<u64>,
     // The busy elements by the number of their tag. Out of use where a `reserve` made more keys and had no memory for it.
@@ -97,6 +94,13 @@ impl Elems {
         self.chain.key_end()
     }
 
+    /// How many elements there are.
+    pub fn len(&self) -> usize
+        ensures { result ≡ length self.now.items }
+    {
+        self.chain.len()
+    }
+
     /// The element of lowest address.
     pub fn first(&self) -> Option<usize>
         ensures { result ≡ first_key self.now.items None }
@@ -121,33 +125,6 @@ impl Elems {
             return Some(key);
         }
         self.chain.find_address(self.walk_start(addr), addr)
-    }
-
-    // The element that contains an address, where that is its start or that of its data.
-    fn near(&self, addr: u64) -> Option<usize>
-        ensures { IfSome result (λ key. key_at addr self.now.items ≡ Some key) }
-    {
-        for back in OFFSETS {
-            if back <= addr {
-                if let Some(key) = self.holder(addr - back, addr) {
-                    return Some(key);
-                }
-            }
-        }
-        None
-    }
-
-    // The element that begins at `start`, where it contains the address.
-    fn holder(&self, start: u64, addr: u64) -> Option<usize>
-        requires above { start ≤ addr }
-        ensures { IfSome result (λ key. key_at addr self.now.items ≡ Some key) }
-    {
-        let key = starts::find(&self.starts, start)?;
-        if addr - start < self.chain.get(key).span.whole {
-            Some(key)
-        } else {
-            None
-        }
     }
 
     // Where a walk to an address begins: the start of the last extent that begins below it.

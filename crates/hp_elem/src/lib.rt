@@ -9,6 +9,7 @@ mod gaps;
 mod laws;
 mod link;
 mod lowest;
+mod near;
 mod node;
 mod search;
 mod starts;

@@ -47,14 +47,14 @@ put_had e (o ∷ os) x has = by_place (ltb (stamp_of e.value) (stamp_of o.value)
     ]
     by_place false had has = has
 
-newest_has : (es : Items) (x : Keyed Span) → Contains es x → Contains (newest es) x
+pub newest_has : (es : Items) (x : Keyed Span) → Contains es x → Contains (newest es) x
 newest_has [] x has = absurd (Contains-none x has)
 newest_has (e ∷ es) x has = put_has e (newest es) x (elim (Contains-cases e x es has) [
   | inl here ↦ subst (λ (z : Keyed Span). Contains (z ∷ newest es) x) (sym here) (Contains-here x (newest es))
   | inr rest ↦ Contains-there e x (newest es) (newest_has es x rest)
 ])
 
-newest_had : (es : Items) (x : Keyed Span) → Contains (newest es) x → Contains es x
+pub newest_had : (es : Items) (x : Keyed Span) → Contains (newest es) x → Contains es x
 newest_had [] x has = absurd (Contains-none x has)
 newest_had (e ∷ es) x has = elim (Contains-cases e x (newest es) (put_had e (newest es) x has)) [
   | inl here ↦ subst (λ (z : Keyed Span). Contains (z ∷ es) x) (sym here) (Contains-here x es)

@@ -1,16 +1,13 @@
 -- One more call of a heap keeps what holds of it.
-use Rattle.std.proofs.Common.{◌≡◌, ℕ, ◌+◌, ◌*◌, ◌^◌, ◌≤◌, [], ◌∷◌, ◌++◌, sym, ap, subst, ◌∙◌, arith, Option, vec_len, vec_capacity}
+use Rattle.std.proofs.Common.{◌≡◌, ℕ, ◌+◌, ◌*◌, ◌≤◌, [], ◌∷◌, ◌++◌, sym, ap, subst, ◌∙◌, Option, vec_len, vec_capacity}
 use Rattle.std.specs.List.{AllByRecursion}
-use Rattle.hp_base.specs.declared.span.Span.{Span}
 use Rattle.hp_chain.specs.Chain.{AreApart}
 use Rattle.hp_heap.specs.declared.heap.Heap.TheInside.{Inside}
 use Rattle.hp_heap.specs.declared.entry.Entry.{Entry}
-use Rattle.hp_heap.specs.PlainHeap.{PlainHeap, opening_heap, end_of, segments_of}
+use Rattle.hp_heap.specs.PlainHeap.{PlainHeap, opening_heap, segments_of}
 use Rattle.hp_heap.specs.Tiling.{IsTiled, IsElement}
 use Rattle.hp_heap.specs.Lists.{free_lists}
-use Rattle.hp_heap.specs.Statistics.{total_bytes}
 use Rattle.hp_heap.specs.History.{HeapView, replay, after_entry, IsLegal, IsLegalEntry, IsCall}
-use Rattle.hp_heap.specs.FreeSearch.{HasSpace}
 use Rattle.hp_heap.specs.Headers.{spans_of, exact_lists}
 use Rattle.hp_heap.specs.Joins.{HasRoom, IsJoinable}
 use Rattle.hp_heap.specs.Finding.{IsOfHeap}
@@ -20,8 +17,7 @@ use Rattle.hp_heap.specs.Inside.{opened, plain_of, view_of, IsHeap}
 use Rattle.hp_heap.proofs.ChunkLaw.{after-kept}
 use Rattle.hp_heap.proofs.HistoryLaw.{after-same, replay-push, IsLegal-push}
 use Rattle.hp_heap.proofs.LaidLemmas.{tiled_limits}
-use Rattle.hp_heap.proofs.Limits.{tiled_spaces, total_below}
-use Rattle.hp_heap.proofs.RangeLemmas.{AllByRecursion-weaker}
+use Rattle.hp_heap.proofs.Limits.{tiled_spaces}
 
 -- the fields after one more call
 pub record IsNext (a b : Inside) (entry : Entry) (next : PlainHeap) : Type 0 where
@@ -119,10 +115,3 @@ of_heap a heap = record {
   elements = subst (λ zs. AllByRecursion (IsElement a.headers.insertions) zs) (sym heap.ranges)
       (subst (λ (n : ℕ). AllByRecursion (IsElement n) (plain_of a).ranges) (sym heap.insertions) heap.tiled.tiling.elements);
 }
-
--- the bytes of a heap's elements are within the limits
-pub total_within : (a : Inside) → IsHeap a → total_bytes (spans_of a.headers.items) ≤ 2 ^ 63
-total_within a heap =
-    let ends = AllByRecursion-weaker HasSpace (λ (r : Span). end_of r ≤ 2 ^ 63) (λ r space. space.end) (plain_of a).ranges
-    (tiled_spaces (segments_of (plain_of a)) (plain_of a).insertions (plain_of a).ranges heap.tiled.tiling (tiled_limits (plain_of a) heap.tiled)) in
-    subst (λ zs. total_bytes zs ≤ 2 ^ 63) (sym heap.ranges) (omega (arith, total_below 0 (2 ^ 63) (plain_of a).ranges (omega arith) heap.tiled.tiling.rising ends))

@@ -21,7 +21,8 @@ pub mod GapTiling
 pub mod GrowLaw
 pub mod HistoryLaw
 pub mod PageListLemmas
-pub mod SummaryLemmas
+pub mod TotalsLemmas
+pub mod GreatestLemmas
 pub mod PlaceLemmas
 pub mod AllocKept
 pub mod Limits

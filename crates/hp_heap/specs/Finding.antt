@@ -1,5 +1,5 @@
 -- How elements are found under keys, and what a free makes of them. No public clause cites this module.
-use Rattle.std.specs.Prelude.{◌≡◌, ℕ, ◌+◌, Bool, false, not, ◌&&◌, List, ◌∷◌, ◌++◌, Option, Some, None, MatchOption, if◌then◌else◌}
+use Rattle.std.specs.Prelude.{◌≡◌, ℕ, ◌+◌, Bool, true, false, not, ◌&&◌, List, ◌∷◌, ◌++◌, Option, Some, None, MatchOption, if◌then◌else◌}
 use Rattle.std.specs.List.{find, AllByRecursion}
 use Rattle.hp_base.specs.declared.span.Span.{Span}
 use Rattle.hp_base.specs.declared.span.SpanState.{SpanState}
@@ -7,7 +7,7 @@ use Rattle.hp_base.specs.declared.span.SpanState.TheVariants.{Free, Busy}
 use Rattle.hp_base.specs.declared.tag.Tag.{Tag}
 use Rattle.hp_chain.specs.Chain.{Keyed, AreApart}
 use Rattle.hp_elem.specs.Items.{Items}
-use Rattle.hp_heap.specs.PlainHeap.{is_free, freed}
+use Rattle.hp_heap.specs.PlainHeap.{is_free, freed, pad_of_state}
 use Rattle.hp_heap.specs.Tiling.{IsElement}
 use Rattle.hp_heap.specs.Joining.{has_data_at, is_zone_range, with_stretch}
 use Rattle.hp_heap.specs.Joins.{IsJoinable}
@@ -28,6 +28,14 @@ pub record HasDataAt (addr : ℕ) (items : Items) (key : ℕ) : Type 0 where
   pub same : found.key ≡ key
   pub busy : is_free found.value ≡ false
   pub found_is : find (has_data_at addr) (spans_of items) ≡ Some found.value
+
+-- no busy element has its data at an address, behind a pad
+abbrev pub LacksData : ℕ → ℕ → Items → Type 0
+LacksData addr pad items = AllByRecursion (λ e. has_data_at addr e.value ≡ true → pad_of_state e.value.state ≡ pad → ⊥) items
+
+-- the key of such an element, or that there is none behind that pad
+abbrev pub FindsPadded : ℕ → ℕ → Items → Option ℕ → Type 0
+FindsPadded addr pad items result = MatchOption result (LacksData addr pad items) (HasDataAt addr items)
 
 -- its key, or that there is none
 abbrev pub FindsData : ℕ → Items → Option ℕ → Type 0

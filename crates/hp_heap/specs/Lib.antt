@@ -17,6 +17,7 @@ pub mod History
 pub mod Growing
 pub mod Headers
 pub mod Tie
+pub mod Totals
 pub mod Joins
 pub mod Cutting
 pub mod FreeSearch

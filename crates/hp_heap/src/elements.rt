@@ -1,5 +1,10 @@
+ghost use Rattle.std.specs.Prelude.{◌≡◌, ◌∷◌, ◌++◌, [], MatchOption, OnOk, OnErr};
+ghost use Rattle.hp_chain.specs.Chain.{AreApart};
+ghost use Rattle.hp_heap.specs.Headers.{spans_of};
+
 use crate::headers::Headers;
 use hp_base::Span;
+use std::alloc::AllocError;
 use std::marker::Model;
 
 /// The elements of a heap that are left of a walk over them, by address. Contracts see it as their list. Own.
@@ -23,10 +28,6 @@ impl<'a> Model for Elements<'a> {
 }
 
 impl<'a> Elements<'a> {
-    ghost use Rattle.std.specs.Prelude.{◌≡◌, ◌∷◌, [], MatchOption};
-    ghost use Rattle.hp_chain.specs.Chain.{AreApart};
-    ghost use Rattle.hp_heap.specs.Headers.{spans_of};
-
     /// A walk from the first element on.
     pub(crate) fn new(headers: &'a Headers) -> Elements<'a>
         requires apart { AreApart headers.now.items }
@@ -48,4 +49,23 @@ impl<'a> Elements<'a> {
         self.next = node.next;
         Some(&node.span)
     }
+}
+
+/// Appends all elements, by address, or nothing.
+pub fn append(headers: &Headers, out: &mut Vec<Span>) -> Result<(), AllocError>
+    requires apart { AreApart headers.now.items }
+    ensures elements { OnOk result (out.new.items ≡ out.old.items ++ spans_of headers.now.items) }
+    ensures err { OnErr result (out.new.items ≡ out.old.items) }
+{
+    let len = out.len();
+    let mut next = headers.first();
+    while let Some(key) = next {
+        let node = headers.get(key);
+        if out.push(node.span).is_err() {
+            out.truncate(len);
+            return Err(AllocError);
+        }
+        next = node.next;
+    }
+    Ok(())
 }

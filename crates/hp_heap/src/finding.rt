@@ -1,21 +1,39 @@
-ghost use Rattle.std.specs.Prelude.{◌≡◌, ◌<◌, ◌^◌, Some, IfSome, true};
+ghost use Rattle.std.specs.Prelude.{◌≡◌, ◌<◌, ◌≤◌, ◌^◌, Some, IfSome, true};
 ghost use Rattle.hp_elem.specs.Items.{key_at};
 ghost use Rattle.hp_heap.specs.PlainHeap.{data_address, end_of};
 ghost use Rattle.hp_heap.specs.Tiling.{in_range};
 ghost use Rattle.hp_heap.specs.Joining.{has_data_at};
-ghost use Rattle.hp_heap.specs.Finding.{IsOfHeap, FindsData};
+ghost use Rattle.hp_heap.specs.Finding.{IsOfHeap, FindsData, FindsPadded};
 ghost use Rattle.hp_heap.specs.PageCutting.{FindsFree};
 
 use crate::headers::Headers;
 use crate::state::is_free;
-use hp_base::{HEADER, Span, SpanState, class_of};
+use hp_base::{HEADER, LINE, Span, SpanState, class_of};
 
-/// The busy element with its data at an address.
+/// The busy element with its data at an address. Behind a pad of 0 to 2 lines it begins at one of three addresses.
 pub fn busy_at(headers: &Headers, addr: u64) -> Option<usize>
     requires { IsOfHeap headers.now }
     ensures { FindsData addr headers.now.items result }
 {
-    let Some(key) = headers.at(addr) else {
+    if let Some(key) = padded_at(headers, addr, 0) {
+        return Some(key);
+    }
+    if let Some(key) = padded_at(headers, addr, LINE) {
+        return Some(key);
+    }
+    padded_at(headers, addr, 2 * LINE)
+}
+
+// The busy element with its data at an address, where it begins in front of a pad and its header.
+fn padded_at(headers: &Headers, addr: u64, pad: u64) -> Option<usize>
+    requires of_heap { IsOfHeap headers.now }
+    requires pad { pad ≤ 128 }
+    ensures { FindsPadded addr pad headers.now.items result }
+{
+    if addr < HEADER + pad {
+        return None;
+    }
+    let Some(key) = headers.starting_at(addr - (HEADER + pad)) else {
         return None;
     };
     if has_data_at(&headers.get(key).span, addr) {

@@ -2,12 +2,15 @@ ghost use Rattle.std.specs.Prelude.{◌≡◌, ℕ, ◌+◌, ◌<◌, ◌≤◌,
 ghost use Rattle.hp_base.specs.declared.span.SpanState.TheVariants.{Free, Busy};
 ghost use Rattle.hp_chain.specs.Chain.{first_key, has_key, AreApart};
 ghost use Rattle.hp_chain.specs.Edits.{without_key};
-ghost use Rattle.hp_elem.specs.Items.{IsAt, AreAt, Stands, after_split, after_join, after_set, after_add, key_at, first_tagged};
+ghost use Rattle.hp_elem.specs.Items.{IsAt, AreAt, Stands, after_split, after_join, after_set, after_add, key_at, key_from, first_tagged};
 ghost use Rattle.hp_elem.specs.Order.{FitsBeside, IsRising};
+ghost use Rattle.std.specs.List.{filter};
 ghost use Rattle.hp_heap.specs.PlainHeap.{is_free};
+ghost use Rattle.hp_heap.specs.Statistics.{greatest_whole, statistics_of_ranges};
 ghost use Rattle.hp_heap.specs.Headers.{spans_of, exact_lists, IsFree, IsBusy, CanSplit, CanJoin, CanInsert, FindsFirstFree};
 
-use hp_base::{Span, Tag};
+use crate::totals::Totals;
+use hp_base::{Span, Stats, Tag};
 use hp_elem::{Elems, Node};
 use hp_freelist::Lists;
 use std::alloc::{AllocError, Global};
@@ -20,17 +23,19 @@ use std::marker::Model;
 pub(crate) struct Headers {
     elems: Elems,
     lists: Lists,
+    totals: Totals,
 }
 
 impl Model for Headers {
     ghost use Rattle.hp_heap.specs.Headers.{HeadersView};
-    ghost use Rattle.hp_heap.specs.Tie.{AreTied, spare_of, starts_of};
+    ghost use Rattle.hp_heap.specs.Tie.{spare_of, starts_of};
+    ghost use Rattle.hp_heap.specs.Totals.{AreKept};
 
     ghost Value = { HeadersView };
 
     ghost view = { λ h. record { items = h.elems.items; lists = starts_of h.elems.items h.lists.lists; spare = spare_of h.elems h.lists; insertions = h.elems.stamps } };
 
-    ghost invariant = { λ h. AreTied h.elems h.lists };
+    ghost invariant = { λ h. AreKept h.elems h.lists h.totals };
 }
 
 impl Headers {
@@ -44,6 +49,11 @@ impl Headers {
         Headers {
             elems: Elems::new(alloc),
             lists: Lists::new(alloc),
+            totals: Totals {
+                total: 0,
+                free: 0,
+                frees: 0,
+            },
         }
     }
 
@@ -57,6 +67,31 @@ impl Headers {
     {
         self.elems.reserve(n)?;
         self.lists.reserve(self.elems.key_end())
+    }
+
+    /// The statistics of the elements. Of the sums that are kept, and of one free list for the greatest free element.
+    pub(crate) fn statistics(&self) -> Stats
+        ensures { result ≡ statistics_of_ranges (spans_of self.now.items) }
+    {
+        let Totals { total, free, frees } = self.totals;
+        Stats {
+            total,
+            free,
+            used: total - free,
+            greatest: self.greatest(),
+            busy: self.elems.len() as u64 - frees,
+            frees,
+        }
+    }
+
+    // The bytes of the greatest free element, 0 where there is none.
+    fn greatest(&self) -> u64
+        ensures { result ≡ greatest_whole (filter is_free (spans_of self.now.items)) }
+    {
+        match self.lists.greatest() {
+            Some(key) => self.elems.get(key).span.whole,
+            None => 0,
+        }
     }
 
     /// What holds of all headers: the linked lists are exactly the free lists that the elements have to have. It does
@@ -89,6 +124,13 @@ impl Headers {
         self.elems.at(addr)
     }
 
+    /// The element that begins at an address.
+    pub(crate) fn starting_at(&self, addr: u64) -> Option<usize>
+        ensures { result ≡ key_from addr self.now.items }
+    {
+        self.elems.starting_at(addr)
+    }
+
     /// The element that is busy with a tag, of several the one of lowest address. Who asked for it is not compared.
     pub(crate) fn find_tag(&self, tag: Tag) -> Option<usize>
         ensures { result ≡ first_tagged tag.zone tag.number self.now.items }
@@ -114,8 +156,14 @@ impl Headers {
         ensures insertions { self.new.insertions ≡ self.old.insertions }
         ensures apart { AreApart self.new.items }
     {
+        let whole = self.elems.get(key).span.whole;
         self.lists.remove(key);
         self.elems.set_busy(key, pad, size, tag);
+        self.totals = Totals {
+            free: self.totals.free - whole,
+            frees: self.totals.frees - 1,
+            ..self.totals
+        };
     }
 
     /// Makes a busy element free, with the next stamp, at the head of its free list.
@@ -130,6 +178,11 @@ impl Headers {
         let whole = self.elems.get(key).span.whole;
         self.elems.set_free(key);
         self.lists.insert_head(key, whole);
+        self.totals = Totals {
+            free: self.totals.free + whole,
+            frees: self.totals.frees + 1,
+            ..self.totals
+        };
     }
 
     /// Gives a busy element another pad, size and tag.
@@ -176,7 +229,9 @@ impl Headers {
         ensures insertions { self.new.insertions ≡ self.old.insertions }
         ensures apart { AreApart self.new.items }
     {
+        let whole = self.elems.get(key).span.whole;
         self.elems.hide(key);
+        self.totals.total -= whole;
     }
 
     /// Adds a busy element where no other one has a byte. The key is its own.
@@ -191,6 +246,9 @@ impl Headers {
         ensures apart { AreApart self.new.items }
         ensures rising { IsRising 0 self.new.items }
     {
-        self.elems.add(span)
+        let whole = span.whole;
+        let key = self.elems.add(span);
+        self.totals.total += whole;
+        key
     }
 }

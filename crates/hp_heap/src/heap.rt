@@ -5,12 +5,11 @@ ghost use Rattle.hp_heap.specs.Lists.{free_lists};
 ghost use Rattle.hp_heap.specs.Statistics.{statistics_of};
 ghost use Rattle.hp_heap.specs.History.{IsSound, SameButSpare};
 
-use crate::elements::Elements;
+use crate::elements::{Elements, append};
 use crate::entry::{Entry, HeapAnswer, HeapCall};
 use crate::headers::Headers;
 use crate::page_list::PageList;
 use crate::socket_name::socket_name;
-use crate::summary::{append, statistics};
 use hp_base::{Caller, Chunk, Name, Span, Stats};
 use std::alloc::{AllocError, Global};
 use std::marker::Model;
@@ -175,7 +174,7 @@ impl Heap {
     pub fn summary(&self) -> Stats
         ensures { result ≡ statistics_of self.now.plain }
     {
-        statistics(&self.headers)
+        self.headers.statistics()
     }
 }
 

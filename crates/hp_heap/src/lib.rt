@@ -23,7 +23,7 @@ mod resizing;
 mod socket_name;
 mod state;
 mod stretch;
-mod summary;
+mod totals;
 
 pub use elements::Elements;
 pub use entry::{Entry, HeapAnswer, HeapCall};

@@ -14,7 +14,6 @@ use crate::alloc::address_answer;
 use crate::entry::{HeapAnswer, HeapCall};
 use crate::headers::Headers;
 use crate::heap::{Heap, record};
-use crate::summary::statistics;
 use hp_base::{Caller, HEADER, Span, SpanState, Stats, Tag};
 
 impl Heap {
@@ -43,7 +42,7 @@ impl Heap {
         requires spare { 0 < self.old.spare }
         ensures { IsCall caller HeapCall.Stats (HeapAnswer.Statistics result) self.old self.new }
     {
-        let stats = statistics(&self.headers);
+        let stats = self.headers.statistics();
         record(
             &mut self.history,
             caller,

@@ -74,9 +74,10 @@ fn keeps_elements_by_address(rt: HostRuntime) -> Result<(), Fail> {
     assert!(rt; elems.at(0x2080) == Some(middle));
     assert!(rt; elems.at(0x3fff) == Some(high));
     elems.hide(middle);
-    assert!(rt; elems.at(0x2000) == None);
+    assert!(rt; elems.len() == 2);
+    assert!(rt; elems.starting_at(0x2000) == None);
     assert!(rt; elems.at(0x2fff) == None);
-    assert!(rt; elems.at(0x3000) == Some(high));
+    assert!(rt; elems.starting_at(0x3000) == Some(high));
     assert!(rt; elems.key_end() >= 3);
     Ok(())
 }

@@ -8,16 +8,9 @@ use Rattle.hp_heap.specs.Step.{after, answer_of}
 use Rattle.hp_heap.specs.History.{after_entry}
 use Rattle.hp_heap.specs.Inside.{plain_of}
 use Rattle.hp_heap.proofs.QuestionLemmas.{IsAsked, asked}
-use Rattle.hp_heap.proofs.HeapLaw.{next_heap, next_call, room_of, total_within}
+use Rattle.hp_heap.proofs.HeapLaw.{next_heap, next_call}
 use Rattle.hp_heap.proofs.heap.Heap.stats.Goals as goal
 use Rattle.hp_heap.proofs.heap.Heap.stats.Goals.{After-self-1}
-
-pub statistics-stats-requires : goal.statistics-stats-requires
-statistics-stats-requires c = record {
-  apart = c.self.invariant.apart;
-  room = room_of c.self.inside c.self.invariant;
-  total = total_within c.self.inside c.self.invariant;
-}
 
 -- the fields afterwards, and the entry
 after_call : After-self-1 → Inside

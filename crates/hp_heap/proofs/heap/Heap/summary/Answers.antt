@@ -1,10 +1,6 @@
 use Rattle.std.proofs.Common.{ap, ◌∙◌}
 use Rattle.hp_heap.specs.Statistics.{statistics_of, statistics_of_ranges}
-use Rattle.hp_heap.proofs.HeapLaw.{room_of, total_within}
 use Rattle.hp_heap.proofs.heap.Heap.summary.Goals as goal
-
-pub statistics-requires : goal.statistics-requires
-statistics-requires c = record { apart = c.self.invariant.apart; room = room_of c.self.inside c.self.invariant; total = total_within c.self.inside c.self.invariant }
 
 pub returns : goal.returns
 unfolding statistics_of

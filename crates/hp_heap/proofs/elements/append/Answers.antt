@@ -1,7 +1,7 @@
 use Rattle.std.proofs.Common.{◌++◌, ◌∷◌, [], sym, ap, ◌∙◌, append-nil, append_assoc}
 use Rattle.hp_heap.specs.Headers.{spans_of}
 use Rattle.hp_heap.proofs.WalkLemmas.{passed_none, step_at, step_smaller, spans_more, pushed_ok}
-use Rattle.hp_heap.proofs.summary.append.Goals as goal
+use Rattle.hp_heap.proofs.elements.append.Goals as goal
 
 pub loop-next-init : goal.loop-next-init
 loop-next-init c = ([], rw c.first-next.ensures (passed_none c.args.headers.now.items c.requires.apart), sym (append-nil c.args.out.now.items))
