@@ -9,7 +9,7 @@ pub struct NotAll {
 }
 
 /// Why external memory gets no segment list, in the order in which it is judged. Own.
-#[derive(Clone, Copy, Debug, PartialEq, Eq)]
+#[derive(Clone, Copy, PartialEq, Eq)]
 pub enum RangeFault {
     /// The page size is no power of two from 4,096 to 2^34, the address or the length is not in whole pages, the
     /// length is 0, or the end lies above 2^63.

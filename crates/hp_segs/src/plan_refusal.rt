@@ -1,5 +1,5 @@
 /// Why no run is planned for an ask, in the order in which it is judged. Own.
-#[derive(Clone, Copy, Debug, PartialEq, Eq)]
+#[derive(Clone, Copy, PartialEq, Eq)]
 pub enum PlanRefusal {
     /// The asks of the participant up to `done` are closed, and this one is of number `number`.
     StaleAsk { number: u64, done: u64 },
