@@ -1,6 +1,6 @@
 -- Hugepage pools as a list, seen by the pool of a socket and page size.
 use Rattle.std.specs.Prelude.{◌≡◌, ℕ, ◌+◌, ◌-◌, ◌≤◌, ◌==◌, ◌&&◌, Bool, List, Option, Some, IsSomeAnd, find}
-use Rattle.std.specs.List.{AllByRecursion}
+use Rattle.std.specs.List.{AllByRecursion, AllPairs}
 use Rattle.std.specs.Option.{option_map}
 use Rattle.hp_pool.specs.declared.pool.Pool.{Pool}
 
@@ -33,6 +33,10 @@ IsCounted pools = AllByRecursion (λ pool. pool.free ≤ pool.pages) pools
 abbrev pub IsOther : ℕ → ℕ → ℕ → ℕ → Type 0
 IsOther socket page other_socket other_page =
     ¬ ((other_socket ≡ socket) × (other_page ≡ page))
+
+-- no two pools are of one socket and page size
+abbrev pub AreSingle : List Pool → Type 0
+AreSingle pools = AllPairs (λ pool other. IsOther pool.socket pool.page other.socket other.page) pools
 
 -- every pool but that of this socket and page size stays as it was
 abbrev pub KeepsOthers : List Pool → List Pool → ℕ → ℕ → Type 0

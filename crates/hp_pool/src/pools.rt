@@ -20,13 +20,13 @@ pub struct Pools {
 impl Model for Pools {
     ghost use Rattle.std.specs.Prelude.{List};
     ghost use Rattle.hp_pool.specs.declared.pool.Pool.{Pool as OnePool};
-    ghost use Rattle.hp_pool.specs.Pools.{IsCounted};
+    ghost use Rattle.hp_pool.specs.Pools.{AreSingle, IsCounted};
 
     ghost Value = { List OnePool };
 
     ghost view = { λ pools. pools.pools.items };
 
-    ghost invariant = { λ pools. IsCounted pools.pools.items };
+    ghost invariant = { λ pools. IsCounted pools.pools.items × AreSingle pools.pools.items };
 }
 
 // The place of the pool of this socket and page size.
@@ -121,5 +121,16 @@ impl Pools {
     {
         let place = place_of(self.pools.as_slice(), socket, page)?;
         Some(self.pools[place].free)
+    }
+
+    /// The same, where the caller knows at which place the pool stands: the pools stand in the order in which they were
+    /// added. Where another pool stands there, it is looked for (own).
+    pub fn have_at(&self, place: usize, socket: u32, page: u64) -> Option<u64>
+        ensures { result ≡ free_pages self.now socket page }
+    {
+        match self.pools.get(place) {
+            Some(pool) if pool.socket == socket && pool.page == page => Some(pool.free),
+            _ => self.have(socket, page),
+        }
     }
 }

@@ -6,9 +6,9 @@ use Rattle.std.proofs.lemmas.List.{get_or-set_other}
 use Rattle.hp_segs.specs.Calls.{HasNoGrowth, MayWithdraw}
 use Rattle.hp_segs.specs.GrowthLaws.{CallsLeaveArmed, HasArmedGrowth, IsOfArmed}
 use Rattle.hp_segs.specs.LaterSteps.{armed_ask, grows_for, is_noted, noting, withdrawn_growth, withdrawn_unless}
-use Rattle.hp_segs.specs.Moved.{SegsCall, Reserve, OpenRun, CloseAsk, LogStale, NoteFailed, Agree, Cancel, Claim, Arm, Withdraw, Retire, DropRetiring, LogFreed, JoinRoster, LeaveRoster, ClaimRange, ReleaseRange, after}
+use Rattle.hp_segs.specs.Moved.{Reserve, OpenRun, CloseAsk, LogStale, NoteFailed, Agree, Cancel, Claim, Arm, Withdraw, Retire, DropRetiring, LogFreed, JoinRoster, LeaveRoster, ClaimRange, ReleaseRange, after}
 use Rattle.hp_segs.specs.SegsView.{SegsView, closed_number, grant_of, grant_or_refusal_of, is_stale}
-use Rattle.hp_segs.specs.Steps.{after_failure, agreed_growth, cancelled_growth, claimed_grant, granted_unless, lowest_member_below, with_outcome}
+use Rattle.hp_segs.specs.Steps.{after_failure, agreed_growth, cancelled_growth, claimed_grant, granted_unless, lowest_member_below}
 use Rattle.hp_segs.specs.declared.ask.Ask.{Ask}
 use Rattle.hp_segs.specs.declared.fault.NotAll.{NotAll}
 use Rattle.hp_segs.specs.declared.growth.Growth.{Growth}
@@ -16,7 +16,7 @@ use Rattle.hp_segs.specs.declared.outcome.AskLog.{AskLog}
 use Rattle.hp_segs.specs.declared.outcome.Cause.{Cause}
 use Rattle.hp_segs.specs.declared.outcome.Cause.TheVariants.{MapFailed, Withdrawn}
 use Rattle.hp_segs.specs.declared.outcome.Outcome.{Outcome}
-use Rattle.hp_segs.specs.declared.outcome.Outcome.TheVariants.{Freed, Refused, Stale}
+use Rattle.hp_segs.specs.declared.outcome.Outcome.TheVariants.{Refused}
 use Rattle.hp_segs.proofs.ClosedLemmas.{and_false, closed_push}
 use Rattle.hp_segs.proofs.PlannedLemmas.{open_plan}
 

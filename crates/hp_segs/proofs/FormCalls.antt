@@ -6,7 +6,7 @@ use Rattle.std.proofs.lemmas.List.{append-nil}
 use Rattle.std.proofs.lemmas.List.Elements.{All-head, All-tail, filter-append}
 use Rattle.hp_base.specs.declared.row.Row.{Row}
 use Rattle.hp_log.specs.Rows.{in_run, rows_of}
-use Rattle.hp_segs.specs.Forms.{LeavesOwned, LogFormLeaves, OwnerFormLeaves, RangeFormLeaves, RosterFormLeaves, is_owned, owned_in}
+use Rattle.hp_segs.specs.Forms.{LeavesOwned, LogFormLeaves, OwnerFormLeaves, RangeFormLeaves, RosterFormLeaves, is_owned}
 use Rattle.hp_segs.specs.LaterSteps.{armed_ask}
 use Rattle.hp_segs.specs.Moved.{SegsCall, Reserve, OpenRun, CloseAsk, LogStale, NoteFailed, Agree, Cancel, Claim, Arm, Withdraw, Retire, DropRetiring, LogFreed, JoinRoster, LeaveRoster, ClaimRange, ReleaseRange, Leads, after, is_log_call, is_owner_call, is_range_call, is_roster_call}
 use Rattle.hp_segs.specs.SegsView.{SegsView, grant_of, is_opened, is_retiring}

@@ -1,7 +1,7 @@
 -- What each call gives up.
 use Rattle.std.proofs.Common.{◌≡◌, ◌∙◌, [], ◌++◌, refl, sym, append-nil}
 use Rattle.hp_segs.specs.GivenUp.{CallsGiveUp}
-use Rattle.hp_segs.specs.Moved.{SegsCall, Reserve, OpenRun, CloseAsk, LogStale, NoteFailed, Agree, Cancel, Claim, Arm, Withdraw, Retire, DropRetiring, LogFreed, JoinRoster, LeaveRoster, ClaimRange, ReleaseRange, after}
+use Rattle.hp_segs.specs.Moved.{Reserve, OpenRun, CloseAsk, LogStale, NoteFailed, Agree, Cancel, Claim, Arm, Withdraw, Retire, DropRetiring, LogFreed, JoinRoster, LeaveRoster, ClaimRange, ReleaseRange, after}
 use Rattle.hp_segs.specs.SegsView.{SegsView}
 use Rattle.hp_segs.proofs.CallCases.{agree_holds, cancel_holds, claim_holds, note_holds, withdraw_holds}
 

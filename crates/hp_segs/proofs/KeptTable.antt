@@ -1,5 +1,5 @@
 -- The table with its slots and totals, after each of its calls.
-use Rattle.std.proofs.Common.{◌≡◌, ◌==◌, ℕ, ◌+◌, ◌-◌, ◌*◌, ◌^◌, ◌<◌, ◌≤◌, Bool, true, false, not, if◌then◌else◌, List, [], ◌∷◌, ◌++◌, length, map, filter, get_or, set, drop, refl, ap, ◌∙◌, sym, subst, arith, add-one, get_or-set_same}
+use Rattle.std.proofs.Common.{◌≡◌, ◌==◌, ℕ, ◌+◌, ◌-◌, ◌*◌, ◌^◌, ◌<◌, ◌≤◌, Bool, true, false, not, if◌then◌else◌, List, [], ◌∷◌, ◌++◌, length, map, get_or, set, drop, ap, ◌∙◌, sym, subst, arith, add-one, get_or-set_same}
 use Rattle.std.proofs.Math.Seq.{drop-cons}
 use Rattle.std.specs.List.{All}
 use Rattle.std.proofs.lemmas.Bool.{and_left, ne_eqb}
@@ -7,7 +7,6 @@ use Rattle.std.proofs.lemmas.List.FromFn.{length-map-range_with_len}
 use Rattle.std.proofs.lemmas.List.Elements.{All-filter, All-head, All-tail, All-weaker}
 use Rattle.hp_base.specs.PoolLines.{IsPoolLine}
 use Rattle.hp_base.specs.declared.pool_line.PoolLine.{PoolLine}
-use Rattle.hp_base.specs.declared.row.Row.{Row}
 use Rattle.hp_base.specs.declared.row.Run.{Run}
 use Rattle.hp_pool.specs.Pools.{Gives, Takes}
 use Rattle.hp_pool.specs.declared.pool.Pool.{Pool}
@@ -20,7 +19,7 @@ use Rattle.hp_segs.specs.Lists.{lists_of}
 use Rattle.hp_segs.specs.Masks.{with_places}
 use Rattle.hp_segs.specs.SegsView.{counted_bytes, is_counted, rows_in, total_of}
 use Rattle.hp_segs.specs.Slots.{AreSlots, HasRun, SlotsView, changed_slots, kept_segments, stamped_slots}
-use Rattle.hp_segs.specs.Steps.{agreed_segment, claimed_segment, retired_segment, segment_of, without_run}
+use Rattle.hp_segs.specs.Steps.{agreed_segment, retired_segment, segment_of, without_run}
 use Rattle.hp_segs.specs.Table.{IsListRun, IsPlaced, TableView}
 use Rattle.hp_segs.specs.TableCalls.{AllCount, AreTotals, IsCountedRun, IsGrantRun, IsKeptTable, IsOpenRun}
 use Rattle.hp_segs.specs.TableLayout.{IsLaidOut}

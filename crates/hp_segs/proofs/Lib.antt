@@ -65,6 +65,7 @@ pub mod Appending
 pub mod PlacedGrants
 pub mod ArmedGrowth
 pub mod NewSound
+pub mod NumberLemmas
 pub mod WithdrawSteps
 pub mod WholeGrants
 mod LogPlaceLemmas

@@ -1,5 +1,5 @@
 -- The table as its lists, masks and counts are made, pool after pool.
-use Rattle.std.proofs.Common.{◌≡◌, ◌⊎◌, ℕ, zero, suc, ◌+◌, ◌-◌, ◌*◌, ◌^◌, ◌<◌, ◌≤◌, Bool, false, List, [], ◌∷◌, ◌++◌, map, length, get_or, take, replicate, Some, None, refl, ap, ◌∙◌, sym, subst, arith, inl, inr}
+use Rattle.std.proofs.Common.{◌≡◌, ◌⊎◌, ℕ, zero, suc, ◌+◌, ◌-◌, ◌*◌, ◌^◌, ◌<◌, ◌≤◌, Bool, false, List, [], ◌∷◌, ◌++◌, map, length, get_or, take, replicate, Some, None, IsSome, refl, ap, ◌∙◌, sym, subst, arith, inl, inr}
 use Rattle.std.proofs.Math.Nat.{mul-le-mul_right}
 use Rattle.std.specs.List.{All, range_with_len, slice_get}
 use Rattle.std.specs.Option.{option_map}
@@ -9,19 +9,22 @@ use Rattle.hp_base.specs.PoolLines.{ArePoolLines, IsPoolLine}
 use Rattle.hp_base.specs.declared.pool_line.PoolLine.{PoolLine}
 use Rattle.hp_pool.specs.Pools.{pool_of}
 use Rattle.hp_pool.specs.declared.pool.Pool.{Pool}
+use Rattle.hp_segs.specs.ListNumbers.{number_place}
 use Rattle.hp_segs.specs.Lists.{list_after, end_of, lists_from, lists_of}
 use Rattle.hp_segs.specs.Table.{IsPlaced, IsStamped, IsListRun}
-use Rattle.hp_segs.specs.Slots.{SlotsView, generation_kept, slots_in}
+use Rattle.hp_segs.specs.Slots.{SlotsView, fresh_slots, generation_kept, slots_in}
 use Rattle.hp_segs.specs.TableCalls.{IsKeptTable}
 use Rattle.hp_segs.specs.TableLayout.{IsFitList, AddsLine, masks_from, pool_beside}
 use Rattle.hp_segs.specs.declared.row_state.RowState.TheVariants.{Opened}
 use Rattle.hp_segs.specs.declared.list_info.ListInfo.{ListInfo}
 use Rattle.hp_log.specs.Log.{run_in}
+use Rattle.hp_segs.proofs.ListsLemmas.{length_lists_from}
+use Rattle.hp_segs.proofs.NumberLemmas.{has_place}
 use Rattle.hp_segs.proofs.PageSizes.{page_small}
 use Rattle.hp_base.proofs.Rounding.{ceil_below}
 use Rattle.hp_base.proofs.PageLemmas.{page_pos}
 use Rattle.std.proofs.Math.Seq.{take-suc}
-use Rattle.std.proofs.lemmas.List.{length-map, length-replicate}
+use Rattle.std.proofs.lemmas.List.{length-map, length-replicate, length-take-le}
 use Rattle.std.proofs.Common.{add-one}
 
 map_push : {X Y : Type 0} (f : X → Y) (xs : List X) (x : X) → map f (xs ++ x ∷ []) ≡ map f xs ++ f x ∷ []
@@ -68,10 +71,6 @@ end_grows line end is =
     let bytes : line.slots * line.page ≤ 8192 * line.page = mul-le-mul_right line.page is.slots in
     let base = ceil_below end line.page (page_pos line.page is.page) in
     omega (arith, small, bytes, base)
-
--- the slots of a list without rows
-abbrev pub fresh_slots : ListInfo → SlotsView
-fresh_slots info = record { generations = replicate info.slots 0; states = replicate info.slots Opened }
 
 fresh_at : (lists : List ListInfo) (list : ℕ) (info : ListInfo) → slice_get lists list ≡ Some info
     → slots_in (map fresh_slots lists) list ≡ fresh_slots info
@@ -161,6 +160,20 @@ made_more {pools} {i} {lists} {masks} {kept} {counts} {end} counts' info d made 
           made.its_counts)
           (own_count counts counts' line added));
     }
+
+-- one list more has its number among 128, a place for it, and few slots
+pub made_list : {pools : List PoolLine} {i : ℕ} {lists : List ListInfo} {masks : List (List Bool)} {kept : List SlotsView} {counts : List Pool} {end : ℕ}
+    (info : ListInfo) (d : PoolLine) → IsMade pools i lists masks kept counts end → ArePoolLines pools → i < length pools
+    → info ≡ list_after (get_or pools i d) end
+    → (length lists < 128) × IsSome (number_place info.socket info.page) × (info.slots ≤ 8192)
+made_list {pools} {i} {lists} info d made limits within is =
+    let is_line : IsPoolLine (get_or pools i d) = limits.lines i d within in
+    let long : length lists ≡ length (take i pools) = ap length made.its_lists ∙ length_lists_from (2 ^ 32) (take i pools) in
+    let few = limits.few in (
+      omega (arith, long, length-take-le i pools (omega (arith, within)), few, within),
+      rw is (has_place (get_or pools i d).socket (get_or pools i d).page is_line.socket is_line.page),
+      rw is is_line.slots,
+    )
 
 -- the table of pools without a record
 pub kept_new : {pools : List PoolLine} {lists : List ListInfo} {masks : List (List Bool)} {kept : List SlotsView} {counts : List Pool} {end : ℕ} (i : ℕ)

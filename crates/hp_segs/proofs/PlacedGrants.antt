@@ -1,20 +1,17 @@
 -- What was granted, and what is open, has a place for what was asked.
-use Rattle.std.proofs.Common.{◌≡◌, ◌∙◌, ℕ, List, [], ◌∷◌, ◌++◌, Option, Some, None, IfSome, refl, ap, sym, subst}
+use Rattle.std.proofs.Common.{◌≡◌, ◌∙◌, List, [], ◌∷◌, ◌++◌, Option, Some, None, IfSome, ap, sym, subst}
 use Rattle.std.specs.List.{All}
 use Rattle.std.specs.Option.{option_and_then}
 use Rattle.std.proofs.lemmas.List.Elements.{All-cons, All-nil}
 use Rattle.hp_base.specs.declared.pool_line.PoolLine.{PoolLine}
-use Rattle.hp_base.specs.declared.row.Run.{Run}
 use Rattle.hp_log.specs.declared.log_record.LogRecord.{LogRecord}
 use Rattle.hp_segs.specs.Causes.{AllCaused, HasCause}
 use Rattle.hp_segs.specs.GrowthLaws.{GrantsHavePlace, IsPlacedGrant, OpenHasPlace}
 use Rattle.hp_segs.specs.Plan.{HasPlace}
-use Rattle.hp_segs.specs.SegsView.{SegsView, added_run, run_of}
+use Rattle.hp_segs.specs.SegsView.{added_run, run_of}
 use Rattle.hp_segs.specs.SoundRows.{IsLogged}
-use Rattle.hp_segs.specs.declared.ask.Ask.{Ask}
 use Rattle.hp_segs.specs.declared.growth.Growth.{Growth}
 use Rattle.hp_segs.specs.declared.outcome.AskLog.{AskLog}
-use Rattle.hp_segs.specs.declared.outcome.Outcome.TheVariants.{Granted}
 use Rattle.hp_segs.specs.declared.row_state.Segment.{Segment}
 
 open_by : (pools : List PoolLine) (log : List LogRecord) (segments : List Segment) (growth : Option Growth) → IsLogged pools log segments growth

@@ -1,5 +1,5 @@
 -- Where the outcomes of an ask can stand: not before its number was above the closed one.
-use Rattle.std.proofs.Common.{◌≡◌, ◌==◌, ℕ, ◌+◌, ◌-◌, ◌<◌, ◌≤◌, nat_lt, max, Bool, true, false, not, ◌&&◌, if◌then◌else◌, List, [], ◌∷◌, ◌++◌, length, get_or, take, drop, Option, Some, None, IfSome, refl, ap, ◌∙◌, sym, arith, slice_index, length-append, inl, inr}
+use Rattle.std.proofs.Common.{◌≡◌, ◌==◌, ℕ, ◌-◌, ◌<◌, nat_lt, max, Bool, true, false, not, ◌&&◌, if◌then◌else◌, List, [], ◌∷◌, ◌++◌, length, get_or, take, drop, Option, Some, None, IfSome, refl, ap, ◌∙◌, sym, arith, slice_index, length-append, inl, inr}
 use Rattle.std.specs.List.{find, fold}
 use Rattle.std.specs.Option.{option_map, option_or}
 use Rattle.std.proofs.lemmas.Bool.{and_from, and_parts, cases_lt, eqb-true, false_from_ne_true}
@@ -8,7 +8,6 @@ use Rattle.std.proofs.lemmas.List.Folds.{find-append}
 use Rattle.hp_segs.specs.AsksView.{AreKeptAsks, closed_after, failed_after, failure_of, is_above}
 use Rattle.hp_segs.specs.SegsView.{closed_number, grant_or_refusal_of, grants_or_refuses, is_outcome_for, is_stale, outcome_of}
 use Rattle.hp_segs.specs.declared.outcome.AskLog.{AskLog}
-use Rattle.hp_segs.specs.declared.outcome.Outcome.{Outcome}
 use Rattle.hp_segs.proofs.ClosedLemmas.{closed_at, closed_is_after}
 use Rattle.hp_segs.proofs.FailedLemmas.{failed_is_after}
 use Rattle.hp_segs.proofs.GrantLemmas.{closing, closing_grows, fresh_by}

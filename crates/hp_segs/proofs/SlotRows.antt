@@ -1,5 +1,5 @@
 -- The row at a slot, and the slot at an address.
-use Rattle.std.proofs.Common.{◌≡◌, ◌⊎◌, ◌==◌, nat_le, nat_lt, ℕ, ◌+◌, ◌-◌, ◌*◌, ◌/◌, ◌^◌, ◌<◌, ◌≤◌, Bool, true, false, ◌&&◌, cond, List, [], ◌∷◌, length, get_or, Option, Some, None, refl, ap, ◌∙◌, sym, subst, arith, inl, inr, mul_comm, IsSomeAnd}
+use Rattle.std.proofs.Common.{◌≡◌, ◌⊎◌, ◌==◌, nat_le, nat_lt, ℕ, ◌+◌, ◌-◌, ◌*◌, ◌/◌, ◌^◌, ◌<◌, ◌≤◌, Bool, true, false, cond, List, [], ◌∷◌, length, get_or, Option, Some, None, refl, ap, ◌∙◌, sym, subst, arith, inl, inr, mul_comm, IsSomeAnd}
 use Rattle.std.proofs.Math.Nat.{mul-le-mul_right}
 use Rattle.std.specs.List.{All, find, list_any, slice_get}
 use Rattle.std.specs.Option.{option_map}
@@ -8,7 +8,6 @@ use Rattle.std.proofs.lemmas.List.Elements.{All-head, All-tail}
 use Rattle.std.proofs.lemmas.List.Folds.{list_any_none}
 use Rattle.std.proofs.lemmas.List.FromFn.{length-map-range_with_len}
 use Rattle.std.proofs.lemmas.Option.{slice_get_within}
-use Rattle.hp_base.specs.PoolLines.{ArePoolLines}
 use Rattle.hp_base.specs.declared.pool_line.PoolLine.{PoolLine}
 use Rattle.hp_base.specs.declared.row.Row.{Row}
 use Rattle.hp_base.proofs.PageLemmas.{page_pos}
@@ -17,7 +16,7 @@ use Rattle.hp_log.specs.Rows.{at_slot, row_contains}
 use Rattle.hp_log.specs.declared.log_record.LogRecord.{LogRecord}
 use Rattle.hp_segs.specs.Lists.{end_of, lists_of}
 use Rattle.hp_segs.specs.SegsView.{rows_in}
-use Rattle.hp_segs.specs.Slots.{AreSlots, SlotsView, generation_kept, slots_in}
+use Rattle.hp_segs.specs.Slots.{AreSlots, SlotsView, generation_kept}
 use Rattle.hp_segs.specs.Steps.{segment_of}
 use Rattle.hp_segs.specs.Table.{IsPlaced}
 use Rattle.hp_segs.specs.TableLayout.{IsFitList, IsLaidOut, list_contains}
@@ -26,7 +25,7 @@ use Rattle.hp_segs.specs.declared.row_state.RowState.{RowState}
 use Rattle.hp_segs.specs.declared.row_state.Segment.{Segment}
 use Rattle.hp_segs.proofs.ClaimLemmas.{found_has}
 use Rattle.hp_segs.proofs.Finds.{any_found, find_mapped}
-use Rattle.hp_segs.proofs.ListsApart.{list_fits, lists_apart}
+use Rattle.hp_segs.proofs.ListsApart.{lists_apart}
 use Rattle.hp_segs.proofs.MaskStepLemmas.{masks_from_at, slot_at}
 use Rattle.hp_segs.proofs.PlaceLemmas.{slot_behind}
 use Rattle.hp_segs.proofs.QueryLemmas.{get_within}

@@ -1,5 +1,5 @@
 -- The runs that a sound value hands to the calls of its table.
-use Rattle.std.proofs.Common.{◌≡◌, ◌==◌, ◌∙◌, ℕ, ◌+◌, ◌-◌, ◌<◌, ◌≤◌, Bool, true, false, ◌&&◌, ◌||◌, cond, List, [], ◌∷◌, ◌++◌, map, filter, length, get_or, Option, Some, None, IsSomeAnd, IsTrue, refl, ap, sym, subst, arith, count_by, eq-eqb}
+use Rattle.std.proofs.Common.{◌≡◌, ◌==◌, ◌∙◌, ℕ, ◌+◌, ◌-◌, ◌≤◌, Bool, true, false, ◌&&◌, ◌||◌, cond, List, [], ◌∷◌, map, filter, get_or, Option, Some, IsSomeAnd, IsTrue, refl, ap, sym, subst, arith, count_by, eq-eqb}
 use Rattle.std.specs.List.{All, list_any, slice_get}
 use Rattle.std.specs.Option.{option_and_then}
 use Rattle.std.proofs.lemmas.Bool.{and_from, and_parts, eqb-true, or_left, or_right}
@@ -7,7 +7,6 @@ use Rattle.std.proofs.lemmas.List.Elements.{All-cons, All-head, All-map, All-nil
 use Rattle.std.proofs.lemmas.List.Folds.{Any-from_list_any, list_any_at}
 use Rattle.std.proofs.lemmas.Option.{slice_get_within}
 use Rattle.hp_base.specs.declared.pool_line.PoolLine.{PoolLine}
-use Rattle.hp_base.specs.declared.row.Row.{Row}
 use Rattle.hp_base.specs.declared.row.Run.{Run}
 use Rattle.hp_log.specs.Log.{run_in}
 use Rattle.hp_log.specs.Rows.{at_slot, in_run, row_of, rows_of}
@@ -16,14 +15,13 @@ use Rattle.hp_log.specs.declared.log_record.LogRecord.TheVariants.{Add}
 use Rattle.hp_log.proofs.RowLemmas.{all_rows_below, in_run_from, row_at_place}
 use Rattle.hp_segs.specs.Calls.{IsUnclaimedGrant, OwnsRun}
 use Rattle.hp_segs.specs.Lists.{lists_of}
-use Rattle.hp_segs.specs.SegsView.{SegsView, added_run, grant_of, is_agreed, is_counted, is_opened, is_owned_by, is_retiring, is_unclaimed, rows_in, run_of}
+use Rattle.hp_segs.specs.SegsView.{SegsView, added_run, grant_of, is_agreed, is_counted, is_opened, is_owned_by, is_retiring, is_unclaimed, run_of}
 use Rattle.hp_segs.specs.Sound.{IsSound}
-use Rattle.hp_segs.specs.SoundRows.{AreRows, IsWholeGrant, of_generation}
+use Rattle.hp_segs.specs.SoundRows.{AreRows, IsWholeGrant}
 use Rattle.hp_segs.specs.Steps.{segment_of}
 use Rattle.hp_segs.specs.Table.{IsListRun}
 use Rattle.hp_segs.specs.TableCalls.{AllCount, added_heap, IsCountedRun, IsGrantRun, IsOpenRun}
 use Rattle.hp_segs.specs.declared.growth.Growth.{Growth}
-use Rattle.hp_segs.specs.declared.list_info.ListInfo.{ListInfo}
 use Rattle.hp_segs.specs.declared.row_state.RowState.{RowState}
 use Rattle.hp_segs.specs.declared.row_state.RowState.TheVariants.{Opened, Agreed, Owned, Retiring}
 use Rattle.hp_segs.specs.declared.row_state.Segment.{Segment}

@@ -1,5 +1,5 @@
 -- What a laid out table gives to a run of its lists.
-use Rattle.std.proofs.Common.{◌≡◌, ℕ, zero, suc, ◌+◌, ◌*◌, ◌^◌, ◌<◌, ◌≤◌, Bool, List, [], ◌∷◌, ◌++◌, length, get_or, Some, IsSomeAnd, ap, ◌∙◌, sym, subst, arith, count_by, length-append}
+use Rattle.std.proofs.Common.{◌≡◌, ℕ, zero, suc, ◌+◌, ◌*◌, ◌^◌, ◌<◌, ◌≤◌, Bool, List, [], ◌∷◌, length, get_or, Some, IsSomeAnd, ap, ◌∙◌, sym, subst, arith, count_by}
 use Rattle.std.proofs.Math.Nat.{add-mul, mul-le-mul_right}
 use Rattle.std.specs.List.{All, slice_get}
 use Rattle.std.specs.Option.{option_map_or}
@@ -13,9 +13,9 @@ use Rattle.hp_base.specs.declared.pool_line.PoolLine.{PoolLine}
 use Rattle.hp_pool.specs.Pools.{pool_of, free_pages as free_of, HasOut}
 use Rattle.hp_pool.specs.declared.pool.Pool.{Pool}
 use Rattle.hp_segs.specs.Lists.{lists_of, is_of_pool, free_pages, pages_beside}
-use Rattle.hp_log.specs.Rows.{at_slot, rows_of, IsUnusedRun, IsUsedRun}
+use Rattle.hp_log.specs.Rows.{at_slot, IsUsedRun}
 use Rattle.hp_log.specs.Log.{run_in}
-use Rattle.hp_segs.specs.Table.{IsPlaced, IsListRun, HasPages}
+use Rattle.hp_segs.specs.Table.{IsListRun, HasPages}
 use Rattle.hp_segs.specs.TableLayout.{IsLaidOut, IsFitList, pool_beside}
 use Rattle.hp_log.specs.Rows.{IsSmallRun}
 use Rattle.hp_segs.specs.declared.list_info.ListInfo.{ListInfo}

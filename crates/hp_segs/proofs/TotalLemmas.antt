@@ -1,5 +1,5 @@
 -- The bytes of each socket, as rows come, go and change their state.
-use Rattle.std.proofs.Common.{◌≡◌, ◌≢◌, ◌==◌, ℕ, zero, suc, ◌+◌, ◌-◌, ◌*◌, ◌^◌, ◌<◌, ◌≤◌, Bool, true, false, not, ◌&&◌, cond, if◌then◌else◌, List, [], ◌∷◌, ◌++◌, length, map, filter, get_or, set, refl, ap, ◌∙◌, sym, arith, inl, inr, count_by, sum_by, get_or-set_same, get_or-set_other, eq-eqb, zero-mul}
+use Rattle.std.proofs.Common.{◌≡◌, ◌≢◌, ◌==◌, ℕ, ◌+◌, ◌-◌, ◌*◌, ◌<◌, Bool, true, false, not, ◌&&◌, cond, if◌then◌else◌, List, [], ◌∷◌, ◌++◌, length, map, filter, get_or, set, refl, ap, ◌∙◌, sym, arith, inl, inr, count_by, sum_by, get_or-set_same, get_or-set_other, eq-eqb, zero-mul}
 use Rattle.std.proofs.Math.ListN.{length-set}
 use Rattle.std.proofs.Math.Nat.{add-mul}
 use Rattle.std.specs.List.{All, range_with_len}

@@ -1,4 +1,5 @@
 pub mod Lists
+pub mod ListNumbers
 pub mod SegsView
 pub mod Plan
 pub mod Steps
@@ -19,6 +20,7 @@ pub mod Forms
 pub mod SettledAsks
 pub mod Laws
 pub mod GrowthLaws
+pub mod Standing
 pub mod PlaceLaws
 pub mod Opening
 pub mod AsksView

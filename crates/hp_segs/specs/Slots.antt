@@ -1,5 +1,5 @@
 -- What the table keeps of the slots of its lists. No public clause cites this module.
-use Rattle.std.specs.Prelude.{◌≡◌, ℕ, ◌+◌, ◌^◌, ◌<◌, ◌≤◌, List, [], map, Some, length, slice_get, slice_index_or, slice_set}
+use Rattle.std.specs.Prelude.{◌≡◌, ℕ, ◌+◌, ◌^◌, ◌<◌, ◌≤◌, List, [], map, Some, length, replicate, slice_get, slice_index_or, slice_set}
 use Rattle.std.specs.List.{All}
 use Rattle.hp_base.specs.declared.row.Row.{Row}
 use Rattle.hp_base.specs.declared.row.Run.{Run}
@@ -18,6 +18,10 @@ pub record SlotsView : Type 0 where
 -- a list without slots
 abbrev pub no_slots : SlotsView
 no_slots = record { generations = []; states = [] }
+
+-- the slots of a list without rows
+abbrev pub fresh_slots : ListInfo → SlotsView
+fresh_slots info = record { generations = replicate info.slots 0; states = replicate info.slots Opened }
 
 -- what is kept of the slots of a list
 abbrev pub slots_in : List SlotsView → ℕ → SlotsView

@@ -1,6 +1,6 @@
 -- How the table keeps masks and counts beside its rows. No public clause cites this module.
-use Rattle.std.specs.Prelude.{◌≡◌, ℕ, ◌+◌, ◌-◌, ◌*◌, ◌^◌, ◌≤◌, ◌<◌, nat_le, nat_lt, Bool, ◌&&◌, List, [], ◌∷◌, ◌++◌, Some, None, IsTrue, length, sum_by}
-use Rattle.std.specs.List.{All, AllWithin}
+use Rattle.std.specs.Prelude.{◌≡◌, ℕ, ◌+◌, ◌-◌, ◌*◌, ◌^◌, ◌≤◌, ◌<◌, nat_le, nat_lt, Bool, ◌&&◌, List, [], ◌∷◌, ◌++◌, Some, None, IsTrue}
+use Rattle.std.specs.List.{All}
 use Rattle.hp_base.specs.Pages.{is_page_size}
 use Rattle.hp_base.specs.declared.row.Row.{Row}
 use Rattle.hp_base.specs.declared.pool_line.PoolLine.{PoolLine}
@@ -14,7 +14,6 @@ use Rattle.hp_segs.specs.Lists.{end_of, lists_of, free_pages}
 use Rattle.hp_segs.specs.Table.{IsTable, TableView}
 use Rattle.hp_segs.specs.declared.list_info.ListInfo.{ListInfo}
 use Rattle.hp_log.specs.declared.log_record.LogRecord.{LogRecord}
-use Rattle.hp_segs.specs.declared.row_state.Segment.{Segment}
 
 -- the used masks of lists, where so many lists stand before them
 abbrev pub masks_from : ℕ → List Row → List ListInfo → List (List Bool)

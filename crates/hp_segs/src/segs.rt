@@ -73,15 +73,15 @@ impl Segs {
         requires participants { IsAbsent participants absent }
         ensures { IfOk result (λ segs. segs ≡ opening pools.now participants absent) }
     {
-        let table = Table::new(alloc, pools)?;
         let mut slots = 0;
         for line in pools {
             slots += line.slots as usize;
         }
-        let asks = Asks::new(alloc)?;
-        let retiring = Vec::with_capacity(alloc, slots)?;
         let retired = RetiredLog::new();
         let armed = Box::new(alloc, [None; 16])?;
+        let retiring = Vec::with_capacity(alloc, slots)?;
+        let asks = Asks::new(alloc)?;
+        let table = Table::new(alloc, pools)?;
         Ok(Segs {
             table,
             asks,

@@ -1,19 +1,23 @@
 //! The table of mapped segments, as the log leaves it.
-ghost use Rattle.std.specs.Prelude.{◌≡◌, ◌^◌, ◌<◌, ◌≤◌, [], IfOk, OnOk};
+ghost use Rattle.std.specs.Prelude.{◌≡◌, ◌^◌, ◌<◌, ◌≤◌, false, [], ◌∷◌, ◌++◌, IfOk, IsSome, OnOk, length, replicate};
 ghost use Rattle.hp_base.specs.PoolLines.{ArePoolLines, IsPoolLine};
 ghost use Rattle.hp_segs.specs.Table.{IsTable};
+ghost use Rattle.hp_segs.specs.ListNumbers.{number_place};
 ghost use Rattle.hp_segs.specs.Lists.{list_after};
 ghost use Rattle.hp_segs.specs.SegsView.{rows_in};
+ghost use Rattle.hp_segs.specs.Slots.{fresh_slots};
 ghost use Rattle.hp_segs.specs.TableLayout.{AddsLine};
 
 mod changes;
 mod list_slots;
+mod lists;
 mod queries;
 pub(crate) mod slots;
 mod states;
 
 use crate::list_info::ListInfo;
 use crate::table::list_slots::ListSlots;
+use crate::table::lists::Lists;
 use hp_base::PoolLine;
 use hp_fbarray::Mask;
 use hp_log::LogRecord;
@@ -29,7 +33,7 @@ const FIRST: u64 = 1 << 32;
 pub(crate) struct Table {
     pools: Vec<PoolLine>,
     // The list of each pool, and which of its slots are used.
-    lists: Vec<ListInfo>,
+    lists: Lists,
     masks: Vec<Mask>,
     // The free pages of each pool.
     counts: Pools,
@@ -57,7 +61,7 @@ impl Model for Table {
       room = vec_capacity t.log - length t.log.items;
     } };
 
-    ghost invariant = { λ t. IsKeptTable t.pools.items t.lists.items t.masks.items t.counts t.kept.items
+    ghost invariant = { λ t. IsKeptTable t.pools.items t.lists t.masks.items t.counts t.kept.items
         t.totals.value t.log.items };
 }
 
@@ -85,6 +89,27 @@ fn add_pool(counts: &mut Pools, line: &PoolLine) -> Result<(), AllocError>
     }
 }
 
+// A list whose slots are free is added.
+fn add_list(
+    alloc: Global,
+    lists: &mut Lists,
+    masks: &mut Vec<Mask>,
+    kept: &mut Vec<ListSlots>,
+    info: ListInfo,
+) -> Result<(), AllocError>
+    requires few { length lists.old < 128 }
+    requires placed { IsSome (number_place info.socket info.page) }
+    requires slots { info.slots ≤ 8192 }
+    ensures lists { OnOk result (lists.new ≡ lists.old ++ info ∷ []) }
+    ensures masks { OnOk result (masks.new.items ≡ masks.old.items ++ replicate info.slots false ∷ []) }
+    ensures kept { OnOk result (kept.new.items ≡ kept.old.items ++ fresh_slots info ∷ []) }
+{
+    masks.push(Mask::new(alloc, info.slots as usize)?)?;
+    kept.push(ListSlots::new(alloc, info.slots as usize)?)?;
+    lists.push(info)?;
+    Ok(())
+}
+
 impl Table {
     // The table of pools without a record.
     pub(crate) fn new(alloc: Global, pools: &[PoolLine]) -> Result<Table, AllocError>
@@ -94,17 +119,15 @@ impl Table {
         ensures segments { IfOk result (λ table. table.segments ≡ []) }
         ensures sound { IfOk result (λ table. IsTable table.pools table.log (rows_in table.segments)) }
     {
-        let mut lists = Vec::with_capacity(alloc, pools.len())?;
-        let mut masks = Vec::with_capacity(alloc, pools.len())?;
-        let mut kept = Vec::with_capacity(alloc, pools.len())?;
-        let mut counts = Pools::new(alloc);
         let mut end = FIRST;
+        let mut counts = Pools::new(alloc);
+        let mut masks = Vec::new(alloc);
+        let mut kept = Vec::new(alloc);
+        let mut lists = Lists::new(alloc)?;
         for line in pools {
             let info = list_after(line, end);
             end = info.base + u64::from(info.slots) * info.page;
-            lists.push(info)?;
-            masks.push(Mask::new(alloc, info.slots as usize)?)?;
-            kept.push(ListSlots::new(alloc, info.slots as usize)?)?;
+            add_list(alloc, &mut lists, &mut masks, &mut kept, info)?;
             add_pool(&mut counts, line)?;
         }
         let totals = Box::new(alloc, [0; 32])?;

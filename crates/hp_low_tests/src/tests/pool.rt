@@ -46,8 +46,8 @@ fn counts_what_is_taken_and_given_back(rt: HostRuntime) -> Result<(), Fail> {
     assert!(rt; pools.have(0, SMALL) == Some(1));
     assert!(rt; pools.have(1, SMALL) == Some(3));
     pools.give(0, SMALL, 2);
-    assert!(rt; pools.have(0, SMALL) == Some(3));
-    assert!(rt; pools.have(1, SMALL) == Some(3));
+    assert!(rt; pools.have_at(1, 0, SMALL) == Some(3));
+    assert!(rt; pools.have_at(1, 1, SMALL) == Some(3));
     assert!(rt; pools.take(0, SMALL, 3) == Ok(()));
     assert!(rt; pools.have(0, SMALL) == Some(0));
     Ok(())

@@ -1,10 +1,10 @@
 //! External memory that has a list.
-ghost use Rattle.std.specs.Prelude.{◌≡◌, ◌+◌, ◌*◌, ◌^◌, ◌<◌, ◌≤◌, ◌==◌, not, map, filter, IfOk, IsTrue, OnErr, None, find, sum_by};
+ghost use Rattle.std.specs.Prelude.{◌≡◌, ◌+◌, ◌*◌, ◌^◌, ◌<◌, ◌≤◌, ◌==◌, false, not, map, filter, IfOk, IsTrue, OnErr, None, find, sum_by};
 ghost use Rattle.std.specs.List.{All, enumerate_from, fold, list_any};
 ghost use Rattle.std.specs.Option.{option_map};
 ghost use Rattle.hp_base.specs.ExternalMemory.{is_bad_range};
 ghost use Rattle.hp_segs.specs.Lists.{lists_of};
-ghost use Rattle.hp_segs.specs.Ranges.{after_claim_range, after_release_range, first_shared, free_number, info_of, is_claimed, is_free_number, is_too_much, lower_of, lower_shared, range_contains, range_entry, range_plan, range_row, range_segments, row_at, shares_byte, unlogged_row, IsRangeAnswer};
+ghost use Rattle.hp_segs.specs.Ranges.{after_claim_range, after_release_range, first_shared, free_number, info_of, is_claimed, is_free_number, is_too_much, lower_of, lower_shared, overlap_of, range_apart, range_contains, range_entry, range_plan, range_row, range_segments, row_at, shares_byte, unlogged_row, IsRangeAnswer};
 ghost use Rattle.hp_segs.specs.SegsView.{rows_in};
 ghost use Rattle.hp_segs.specs.SoundPlaces.{IsRange};
 ghost use Rattle.hp_segs.specs.TableLayout.{IsExtent};
@@ -235,6 +235,14 @@ impl Segs {
         if is_bad_range(addr, len, page) {
             return Err(RangeFault::BadRange);
         }
+        self.plan_apart(addr, len, page)
+    }
+
+    // The list number that a range of such numbers would get, or the first refusal.
+    fn plan_apart(&self, addr: u64, len: u64, page: u64) -> Result<u32, RangeFault>
+        requires { is_bad_range addr len page ≡ false }
+        ensures { result ≡ range_apart self.now len page (overlap_of self.now addr len) }
+    {
         let ranges = self.ranges.as_slice();
         let found = shared_in_pools(&self.table, addr, len);
         if let Some(row) = shared_in_ranges(&self.table, ranges, found, addr, len) {

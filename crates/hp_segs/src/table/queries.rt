@@ -44,9 +44,7 @@ impl Table {
     pub(crate) fn list_number(&self, socket: u32, page: u64) -> Option<usize>
         ensures { result ≡ list_number (lists_of self.now.pools) socket page }
     {
-        self.lists
-            .iter()
-            .position(|info| info.socket == socket && info.page == page)
+        self.lists.number_of(socket, page)
     }
 
     // The free pages of the pool of that place.
@@ -55,7 +53,9 @@ impl Table {
         ensures { result ≡ pages_beside self.now.pools (rows_in self.now.segments) pool }
     {
         let line = &self.pools[pool];
-        self.counts.have(line.socket, line.page).unwrap_or(0)
+        self.counts
+            .have_at(pool, line.socket, line.page)
+            .unwrap_or(0)
     }
 
     // The first run of n free slots of a list, or how long the longest one is.
@@ -92,7 +92,7 @@ impl Table {
     fn has_row(&self, list: u32, slot: u32) -> bool
         ensures { result ≡ list_any (at_slot list slot) (rows_in self.now.segments) }
     {
-        let Some(info) = self.lists.get(list as usize) else {
+        let Some(info) = self.lists.as_slice().get(list as usize) else {
             return false;
         };
         if slot >= info.slots {
@@ -106,7 +106,7 @@ impl Table {
         requires used { list_any (at_slot list slot) (rows_in self.now.segments) ≡ true }
         ensures { find (λ segment. at_slot list slot segment.row) self.now.segments ≡ Some result }
     {
-        let info = &self.lists[list as usize];
+        let info = self.lists.list(list as usize);
         let kept = &self.kept[list as usize];
         Segment {
             row: Row {
@@ -128,7 +128,7 @@ impl Table {
         let Some(list) = list_containing(self.lists.as_slice(), addr) else {
             return None;
         };
-        let info = &self.lists[list];
+        let info = self.lists.list(list);
         let slot = (addr - info.base) / info.page;
         match self.at(list as u32, slot as u32) {
             Some(segment) => Some(segment.row),

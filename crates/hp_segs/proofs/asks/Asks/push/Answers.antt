@@ -1,5 +1,4 @@
 -- What is kept beside the outcomes, with the entry.
-use Rattle.std.proofs.Common.{IfSome, ◌<◌}
 use Rattle.hp_segs.proofs.SinceLemmas.{kept_push}
 use Rattle.hp_segs.proofs.asks.Asks.push.Goals as goal
 

@@ -1,5 +1,5 @@
 -- The grant's record adds the run, and its claim keeps the value sound.
-use Rattle.std.proofs.Common.{◌≡◌, ◌<◌, ◌-◌, ◌∙◌, ap, arith, sym, length}
+use Rattle.std.proofs.Common.{◌<◌, ◌-◌, ◌∙◌, ap, arith, sym, length}
 use Rattle.std.specs.Option.{option_and_then}
 use Rattle.hp_segs.specs.SegsView.{grant_of, granted_by, run_of}
 use Rattle.hp_segs.specs.SegsLayout.{view_of}

@@ -1,5 +1,5 @@
 -- The planned run is unused and has its pages, and its growth keeps the value sound.
-use Rattle.std.proofs.Common.{◌≡◌, ◌+◌, ◌∙◌, ap, arith, length, length-append, None, Some, refl, subst, sym}
+use Rattle.std.proofs.Common.{◌≡◌, ◌+◌, ◌∙◌, ap, arith, length, length-append}
 use Rattle.hp_segs.specs.SegsLayout.{view_of}
 use Rattle.hp_segs.proofs.KeptSteps.{kept_opened}
 use Rattle.hp_segs.proofs.PlannedLemmas.{open_plan}

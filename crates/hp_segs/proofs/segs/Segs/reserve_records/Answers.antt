@@ -1,6 +1,5 @@
 -- Beside spare there is room for two places of each participant.
 use Rattle.std.proofs.Common.{arith}
-use Rattle.hp_segs.specs.SegsLayout.{view_of}
 use Rattle.hp_segs.proofs.KeptSteps.{kept_rooms}
 use Rattle.hp_segs.proofs.segs.Segs.reserve_records.Goals as goal
 

@@ -1,15 +1,24 @@
 -- One pool more is made, and the table is kept at the end.
-use Rattle.std.proofs.Common.{◌≡◌, ◌++◌, ◌∷◌, [], ◌≤◌, ap, ◌∙◌, arith, replicate, false, length}
-use Rattle.hp_segs.proofs.NewLemmas.{made_more, kept_new}
+use Rattle.std.proofs.Common.{◌≤◌, arith, length}
+use Rattle.hp_segs.proofs.NewLemmas.{kept_new, made_list, made_more}
 use Rattle.hp_segs.proofs.table.Table.new.Goals as goal
+
+pub add_list-requires-clause-few : goal.add_list-requires-clause-few
+add_list-requires-clause-few c =
+    (made_list c.list_after-info.result _ c.loop-line.invariant c.requires c.loop-line-test.true c.list_after-info.ensures).0
+
+pub add_list-requires-clause-placed : goal.add_list-requires-clause-placed
+add_list-requires-clause-placed c =
+    (made_list c.list_after-info.result _ c.loop-line.invariant c.requires c.loop-line-test.true c.list_after-info.ensures).1
+
+pub add_list-requires-clause-slots : goal.add_list-requires-clause-slots
+add_list-requires-clause-slots c =
+    (made_list c.list_after-info.result _ c.loop-line.invariant c.requires c.loop-line-test.true c.list_after-info.ensures).2
 
 pub loop-line-preserved : goal.loop-line-preserved
 loop-line-preserved c =
-    let lists : c.push.new.self.items ≡ c.loop-line.lists.items ++ c.list_after-info.result ∷ [] = c.in_ok-push.ensures.items in
-    let masks : c.push-in-loop-line.new.self.items ≡ c.loop-line.masks.items ++ replicate c.list_after-info.result.slots false ∷ [] =
-    c.in_ok-push-2.ensures.items ∙ ap (λ m. c.loop-line.masks.items ++ m ∷ []) c.in_ok-new.ensures.clear in
-    let kept = c.in_ok-push-3.ensures.items ∙ ap (λ k. c.loop-line.kept.items ++ k ∷ []) c.in_ok-new-2.ensures in
-    rw (lists, masks, kept, c.from.ensures)
+    let made = c.in_ok-add_list.ensures in
+    rw (made.lists, made.masks, made.kept, c.from.ensures)
     (made_more
     c.add_pool.new.counts
     c.list_after-info.result

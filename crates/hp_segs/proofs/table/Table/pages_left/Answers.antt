@@ -13,7 +13,7 @@ returns c =
     let rows = sym (rows_kept c.self.inside.kept.items (table_of c.self.inside.log.items)) in
     rw (← c.self.view_is)
     (c.unwrap_or.ensures
-    ∙ (ap (λ o. unwrap_or o 0) c.have.ensures.free
+    ∙ (ap (λ o. unwrap_or o 0) c.have_at.ensures
     ∙ (ap (λ line. unwrap_or (free_pages c.self.inside.counts line.socket line.page) 0) c.index-line.ensures
     ∙ (count_at c.self.invariant.laid c.args.pool c.index-line.result.now within
     ∙ ap (λ r. pages_beside c.self.inside.pools.items r c.args.pool) rows))))

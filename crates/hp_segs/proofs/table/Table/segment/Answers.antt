@@ -1,5 +1,5 @@
 -- The row at the slot, which is read off its list and what is kept for the slot.
-use Rattle.std.proofs.Common.{◌≡◌, ◌+◌, ◌*◌, ◌∙◌, Some, slice_index_or, ap, sym, arith, length}
+use Rattle.std.proofs.Common.{◌≡◌, ◌*◌, ◌∙◌, Some, slice_index_or, ap, arith, length}
 use Rattle.std.specs.Option.{option_map}
 use Rattle.std.proofs.lemmas.List.{get_or_default}
 use Rattle.std.proofs.lemmas.Option.{slice_get_within}
@@ -14,11 +14,11 @@ use Rattle.hp_segs.proofs.KeptSlots.{rows_kept}
 use Rattle.hp_segs.proofs.SlotRows.{addr_fits, read_is, row_at_slot, same_segment}
 use Rattle.hp_segs.proofs.table.Table.segment.Goals as goal
 
-pub index-info-requires : goal.index-info-requires
-index-info-requires c =
+pub list-info-requires : goal.list-info-requires
+list-info-requires c =
     let used = rw (← c.self.view_is, rows_kept c.self.inside.kept.items (table_of c.self.inside.log.items)) at c.requires.used in
     let row = row_at_slot c.self.invariant.laid c.self.inside.kept.items c.args.list c.args.slot c.self.invariant.slots used in
-    omega (arith, slice_get_within c.self.inside.lists.items c.args.list row.info row.its_list, c.self.inside.lists.ok)
+    omega (arith, slice_get_within c.self.inside.lists c.args.list row.info row.its_list)
 
 pub index-kept-requires : goal.index-kept-requires
 index-kept-requires c =
@@ -26,7 +26,7 @@ index-kept-requires c =
     let row = row_at_slot c.self.invariant.laid c.self.inside.kept.items c.args.list c.args.slot c.self.invariant.slots used in
     omega (
       arith,
-      slice_get_within c.self.inside.lists.items c.args.list row.info row.its_list,
+      slice_get_within c.self.inside.lists c.args.list row.info row.its_list,
       c.self.invariant.slots.long,
       c.self.inside.kept.ok,
     )
@@ -35,26 +35,26 @@ pub overflow_mul-result : goal.overflow_mul-result
 overflow_mul-result c =
     let used = rw (← c.self.view_is, rows_kept c.self.inside.kept.items (table_of c.self.inside.log.items)) at c.requires.used in
     let row = row_at_slot c.self.invariant.laid c.self.inside.kept.items c.args.list c.args.slot c.self.invariant.slots used in
-    let info = read_is c.self.inside.lists.items c.args.list c.index-info.result.now row.info c.index-info.ensures row.its_list in
-    let product : c.from.result * c.index-info.result.now.page ≡ c.args.slot * row.info.page =
-    ap (λ n. n * c.index-info.result.now.page) c.from.ensures ∙ ap (λ (i : ListInfo). c.args.slot * i.page) info in
+    let info = read_is c.self.inside.lists c.args.list c.list-info.result.now row.info c.list-info.ensures row.its_list in
+    let product : c.from.result * c.list-info.result.now.page ≡ c.args.slot * row.info.page =
+    ap (λ n. n * c.list-info.result.now.page) c.from.ensures ∙ ap (λ (i : ListInfo). c.args.slot * i.page) info in
     omega (arith, product, addr_fits c.self.invariant.laid c.args.list c.args.slot row.info row.its_list row.within)
 
 pub overflow_add-result : goal.overflow_add-result
 overflow_add-result c =
     let used = rw (← c.self.view_is, rows_kept c.self.inside.kept.items (table_of c.self.inside.log.items)) at c.requires.used in
     let row = row_at_slot c.self.invariant.laid c.self.inside.kept.items c.args.list c.args.slot c.self.invariant.slots used in
-    let info = read_is c.self.inside.lists.items c.args.list c.index-info.result.now row.info c.index-info.ensures row.its_list in
-    let product : c.from.result * c.index-info.result.now.page ≡ c.args.slot * row.info.page =
-    ap (λ n. n * c.index-info.result.now.page) c.from.ensures ∙ ap (λ (i : ListInfo). c.args.slot * i.page) info in
-    let base : c.index-info.result.now.base ≡ row.info.base = ap (λ (i : ListInfo). i.base) info in
+    let info = read_is c.self.inside.lists c.args.list c.list-info.result.now row.info c.list-info.ensures row.its_list in
+    let product : c.from.result * c.list-info.result.now.page ≡ c.args.slot * row.info.page =
+    ap (λ n. n * c.list-info.result.now.page) c.from.ensures ∙ ap (λ (i : ListInfo). c.args.slot * i.page) info in
+    let base : c.list-info.result.now.base ≡ row.info.base = ap (λ (i : ListInfo). i.base) info in
     omega (arith, product, base, addr_fits c.self.invariant.laid c.args.list c.args.slot row.info row.its_list row.within)
 
 pub generation-requires : goal.generation-requires
 generation-requires c =
     let used = rw (← c.self.view_is, rows_kept c.self.inside.kept.items (table_of c.self.inside.log.items)) at c.requires.used in
     let row = row_at_slot c.self.invariant.laid c.self.inside.kept.items c.args.list c.args.slot c.self.invariant.slots used in
-    let inside = slice_get_within c.self.inside.lists.items c.args.list row.info row.its_list in
+    let inside = slice_get_within c.self.inside.lists c.args.list row.info row.its_list in
     let its : c.index-kept.result.now ≡ slots_in c.self.inside.kept.items c.args.list =
     c.index-kept.ensures
     ∙ get_or_default c.self.inside.kept.items c.args.list c.index-kept.result.now no_slots (omega (arith, inside, c.self.invariant.slots.long)) in
@@ -65,7 +65,7 @@ pub state-requires : goal.state-requires
 state-requires c =
     let used = rw (← c.self.view_is, rows_kept c.self.inside.kept.items (table_of c.self.inside.log.items)) at c.requires.used in
     let row = row_at_slot c.self.invariant.laid c.self.inside.kept.items c.args.list c.args.slot c.self.invariant.slots used in
-    let inside = slice_get_within c.self.inside.lists.items c.args.list row.info row.its_list in
+    let inside = slice_get_within c.self.inside.lists c.args.list row.info row.its_list in
     let its : c.index-kept.result.now ≡ slots_in c.self.inside.kept.items c.args.list =
     c.index-kept.ensures
     ∙ get_or_default c.self.inside.kept.items c.args.list c.index-kept.result.now no_slots (omega (arith, inside, c.self.invariant.slots.long)) in
@@ -76,8 +76,8 @@ pub returns : goal.returns
 returns c =
     let used = rw (← c.self.view_is, rows_kept c.self.inside.kept.items (table_of c.self.inside.log.items)) at c.requires.used in
     let row = row_at_slot c.self.invariant.laid c.self.inside.kept.items c.args.list c.args.slot c.self.invariant.slots used in
-    let inside = slice_get_within c.self.inside.lists.items c.args.list row.info row.its_list in
-    let info = read_is c.self.inside.lists.items c.args.list c.index-info.result.now row.info c.index-info.ensures row.its_list in
+    let inside = slice_get_within c.self.inside.lists c.args.list row.info row.its_list in
+    let info = read_is c.self.inside.lists c.args.list c.list-info.result.now row.info c.list-info.ensures row.its_list in
     let its : c.index-kept.result.now ≡ slots_in c.self.inside.kept.items c.args.list =
     c.index-kept.ensures
     ∙ get_or_default c.self.inside.kept.items c.args.list c.index-kept.result.now no_slots (omega (arith, inside, c.self.invariant.slots.long)) in
@@ -90,5 +90,5 @@ returns c =
     ∙ (ap (option_map (kept_segment c.self.inside.kept.items)) row.found
     ∙ ap Some
     (ap (kept_segment c.self.inside.kept.items) row.its_row
-    ∙ same_segment row.info c.index-info.result.now c.args.list c.args.slot c.from.result _ c.generation.result _ c.state.result info c.from.ensures
+    ∙ same_segment row.info c.list-info.result.now c.args.list c.args.slot c.from.result _ c.generation.result _ c.state.result info c.from.ensures
     generation state)))
