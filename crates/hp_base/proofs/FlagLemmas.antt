@@ -1,6 +1,7 @@
 -- A walk over the bits of flags.
-use Rattle.std.proofs.Common.{◌≡◌, ℕ, ◌+◌, ◌<◌, ◌==◌, ◌&&◌, Bool, true, false, List, length, get_or, drop, drop-cons}
+use Rattle.std.proofs.Common.{◌≡◌, ℕ, ◌+◌, ◌<◌, ◌==◌, ◌&&◌, Bool, false, List, length, get_or, drop, drop-cons}
 use Rattle.std.proofs.Common.{add-one, refl, ap, ◌∙◌}
+use Rattle.std.proofs.Math.Bool.{and-false}
 use Rattle.std.specs.List.{list_any}
 use Rattle.hp_base.specs.Flags.{has_bit, page_flags}
 
@@ -11,10 +12,6 @@ any_step p xs i d within fails = rw (add-one, drop-cons xs i d within, fails) re
 
 abbrev names : ℕ → ℕ → (ℕ × ℕ) → Bool
 names flags page entry = (entry.0 == page) && has_bit flags entry.1
-
-and_fails : (b : Bool) → (b && false) ≡ false
-and_fails true = refl
-and_fails false = refl
 
 -- a bit that is not set, and a page of another size, are passed over
 module _ (flags page i : ℕ) (d : ℕ × ℕ) (within : i < length page_flags) where
@@ -32,4 +29,4 @@ module _ (flags page i : ℕ) (d : ℕ × ℕ) (within : i < length page_flags) 
       → list_any (names flags page) (drop i page_flags) ≡ list_any (names flags page) (drop (i + 1) page_flags)
   clear_bit clear =
       any_step (names flags page) page_flags i d within
-      (ap (λ (b : Bool). ((get_or page_flags i d).0 == page) && b) clear ∙ and_fails ((get_or page_flags i d).0 == page))
+      (ap (λ (b : Bool). ((get_or page_flags i d).0 == page) && b) clear ∙ and-false ((get_or page_flags i d).0 == page))

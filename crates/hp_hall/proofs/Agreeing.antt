@@ -6,7 +6,7 @@ use Rattle.std.specs.Option.{option_and_then}
 use Rattle.std.proofs.Math.Seq.{drop-append_seam}
 use Rattle.std.proofs.lemmas.Bool.{cases_eq}
 use Rattle.std.proofs.lemmas.List.Elements.{All-contains, Contains-append_cases}
-use Rattle.std.proofs.lemmas.Option.{slice_get_within}
+use Rattle.std.proofs.lemmas.Option.{slice_get_within, same_Some}
 use Rattle.hp_base.specs.declared.limits.TheConstants.{MAX_HEAPS}
 use Rattle.hp_base.specs.declared.row.Run.{Run}
 use Rattle.hp_heap.specs.History.{HeapView}
@@ -142,9 +142,6 @@ module _ (knows : Knows) (before kept : SegsView) where
       let same : shared kept ≡ shared before = owner_calls_shared 0 before kept form.moved in
       still_taken_in (ap (λ (s : Shared). s.asks) same) (ap (λ (s : Shared). s.roster) same) old
 
-some_same : {X : Type 0} (x y : X) → Some x ≡ Some y → x ≡ y
-some_same x y same = cc
-
 module _ (me number : ℕ) (old : HallView) (hall : IsHall old) (before : SlotView) (there : slot_at old number ≡ Some before) where
   abbrev behind : Kept → HallView
   behind kept = with_slot number (home_slot kept) old
@@ -167,8 +164,8 @@ module _ (me number : ℕ) (old : HallView) (hall : IsHall old) (before : SlotVi
       ap (λ (n : ℕ). segs_in (slot_at old n)) (sym fits) ∙ ap segs_in there ∙ ap segs_of is in
       let are : segs_in (slot_at (behind (Segments kept)) MAX_HEAPS) ≡ Some kept =
       ap (λ (n : ℕ). segs_in (slot_at (behind (Segments kept)) n)) (sym fits) ∙ ap segs_in (here (Segments kept)) in
-      let sound : IsSound was = subst IsSound (some_same hall.segs was (sym hall.there ∙ were)) hall.sound in
-      subst (AreTakenIn (known old me).noted) (some_same kept segs (sym are ∙ now))
+      let sound : IsSound was = subst IsSound (same_Some hall.segs was (sym hall.there ∙ were)) hall.sound in
+      subst (AreTakenIn (known old me).noted) (same_Some kept segs (sym are ∙ now))
       (taken_in_by (known old me) was kept sound refl form (agreed was were))
 
   agreed_by : (was kept : Kept) → before.kept ≡ was → Fits number kept → GivesFor (known old me) (Some was) kept

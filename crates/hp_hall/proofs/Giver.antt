@@ -2,6 +2,7 @@
 use Rattle.std.proofs.Common.{◌≡◌, ◌≢◌, ℕ, Bool, true, false, ne_eqb, List, [], Option, Some, None, refl, sym, ap, subst, ◌∙◌, if◌then◌else◌}
 use Rattle.std.specs.Option.{option_map}
 use Rattle.std.proofs.lemmas.Bool.{eqb-true}
+use Rattle.std.proofs.lemmas.Option.{same_Some}
 use Rattle.hp_base.specs.declared.limits.TheConstants.{MAX_HEAPS}
 use Rattle.hp_heap.specs.declared.entry.Entry.{Entry}
 use Rattle.hp_heap.specs.History.{HeapView, entries_of}
@@ -21,9 +22,6 @@ use Rattle.hp_hall.proofs.Formed.{asks_given, standing_given}
 use Rattle.hp_hall.proofs.Given.{known, same_for_others}
 use Rattle.hp_hall.proofs.Slotted.{MovesSlot, read_alike}
 use Rattle.hp_hall.proofs.Taking.{part_apart, part_by, parts_still, segs_still}
-
-some_same : {X : Type 0} (x y : X) → Some x ≡ Some y → x ≡ y
-some_same x y same = cc
 
 -- what one participant holds no other does
 apart_by : (who other : ℕ) (kept : Kept) (holder : Option ℕ) → other ≢ who → is_held_heap who kept holder ≡ true
@@ -117,7 +115,7 @@ module _ (me number : ℕ) (before : SlotView) (step : MailStep) (old new : Hall
 
     segs_others : (who heap : ℕ) → who ≢ me → part_in new who heap ≡ part_in old who heap
     segs_others who heap apart =
-        let sound : IsSound was = subst IsSound (some_same hall.segs was (sym hall.there ∙ segs_were)) hall.sound in
+        let sound : IsSound was = subst IsSound (same_Some hall.segs was (sym hall.there ∙ segs_were)) hall.sound in
         part_now who heap
         ∙ stays_by who heap (slot_at old heap) (is_held_by who (slot_at old heap)) (asks_given (known old me) was kept gives.form who apart) (λ held.
         standing_given (known old me) was kept sound gives.form heap

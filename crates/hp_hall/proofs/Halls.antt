@@ -3,6 +3,7 @@ use Rattle.std.proofs.Common.{◌≡◌, ◌≢◌, ℕ, ◌<◌, Bool, true, fa
 use Rattle.std.specs.List.{slice_get}
 use Rattle.std.specs.Option.{option_map}
 use Rattle.std.proofs.lemmas.Bool.{cases_eq}
+use Rattle.std.proofs.lemmas.Option.{same_Some}
 use Rattle.hp_base.specs.declared.limits.TheConstants.{MAX_HEAPS}
 use Rattle.hp_heap.specs.History.{HeapView}
 use Rattle.hp_segs.specs.SegsView.{SegsView}
@@ -17,9 +18,6 @@ use Rattle.hp_hall.specs.Values.{Fits, IsSoundKept}
 use Rattle.hp_hall.proofs.Given.{known}
 use Rattle.hp_hall.proofs.Formed.{armed_given, standing_given}
 use Rattle.hp_hall.proofs.Slotted.{heap_same, out_not_home, read_alike, segs_not_heap, unheld_heap, slice_get-set_other, slice_get-set_same}
-
-some_same : {X : Type 0} (x y : X) → Some x ≡ Some y → x ≡ y
-some_same x y same = cc
 
 -- a slot has come to this, and beside it nothing of the values, mailboxes and own parts has changed
 pub record IsChanged (number : ℕ) (slot : SlotView) (old new : HallView) : Type 0 where
@@ -48,7 +46,7 @@ module _ (number : ℕ) (slot : SlotView) (old new : HallView) (changed : IsChan
   each_now P here elsewhere k s there =
       ⊎_elim
       (λ (same : k ≡ number).
-      let read : slot ≡ s = some_same slot s (sym now_here ∙ ap (slot_at new) (sym same) ∙ there) in
+      let read : slot ≡ s = same_Some slot s (sym now_here ∙ ap (slot_at new) (sym same) ∙ there) in
       subst (λ (n : ℕ). P n s) (sym same) (subst (P number) read here))
       (λ (apart : k ≢ number). elsewhere k s apart (sym (now_elsewhere k apart) ∙ there))
       (cases_eq k number)
@@ -122,7 +120,7 @@ module _ (me number : ℕ) (old new : HallView) (hall : IsHall old) where
   segs_given before was kept is there fits gives sound changed =
       let slot : SlotView = home_slot (Segments kept) in
       let same : hall.segs ≡ was =
-      some_same hall.segs was (sym hall.there ∙ ap (λ (n : ℕ). segs_in (slot_at old n)) (sym fits) ∙ ap segs_in there ∙ ap segs_of is) in
+      same_Some hall.segs was (sym hall.there ∙ ap (λ (n : ℕ). segs_in (slot_at old n)) (sym fits) ∙ ap segs_in there ∙ ap segs_of is) in
       let now : segs_in (slot_at new MAX_HEAPS) ≡ Some kept =
       ap (λ (n : ℕ). segs_in (slot_at new n)) (sym fits) ∙ ap segs_in (now_here number slot old new changed) in
       let armed = armed_given (known old me) was kept gives.form (subst IsArmed same hall.armed) in

@@ -4,7 +4,7 @@ use Rattle.std.specs.List.{slice_get}
 use Rattle.std.specs.Option.{option_map}
 use Rattle.std.proofs.lemmas.Bool.{cases_eq}
 use Rattle.std.proofs.lemmas.List.{map-set}
-use Rattle.std.proofs.lemmas.Option.{slice_get-map, slice_get_within}
+use Rattle.std.proofs.lemmas.Option.{slice_get-map, slice_get_within, same_Some}
 use Rattle.hp_base.specs.declared.limits.TheConstants.{MAX_HEAPS}
 use Rattle.hp_heap.specs.History.{HeapView}
 use Rattle.hp_segs.specs.SegsView.{SegsView}
@@ -31,9 +31,6 @@ slice_get-set_other (x ∷ xs) zero zero y apart = absurd (apart refl)
 slice_get-set_other (x ∷ xs) zero (suc k) y apart = refl
 slice_get-set_other (x ∷ xs) (suc i) zero y apart = refl
 slice_get-set_other (x ∷ xs) (suc i) (suc k) y apart = slice_get-set_other xs i k y (λ same. apart (ap suc same))
-
-some_same : {X : Type 0} (x y : X) → Some x ≡ Some y → x ≡ y
-some_same x y same = cc
 
 -- what slots tell apart
 pub heap_same : (a b : HeapView) → heap_slot a ≡ heap_slot b → a ≡ b
@@ -134,7 +131,7 @@ agreed_alike old new same rises agreed segs there entry generation member has gr
 
 set_same : {X : Type 0} (xs : List X) (i : ℕ) (x : X) → slice_get xs i ≡ Some x → set xs i x ≡ xs
 set_same {X} [] i x is = refl
-set_same {X} (y ∷ xs) zero x is = ap (λ (z : X). z ∷ xs) (some_same x y (sym is))
+set_same {X} (y ∷ xs) zero x is = ap (λ (z : X). z ∷ xs) (same_Some x y (sym is))
 set_same {X} (y ∷ xs) (suc i) x is = ap (λ (l : List X). y ∷ l) (set_same xs i x is)
 
 -- the value of a slot, by number

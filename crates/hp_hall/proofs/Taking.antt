@@ -2,6 +2,7 @@
 use Rattle.std.proofs.Common.{◌≡◌, ◌≢◌, ℕ, Bool, true, false, ne_eqb, List, [], Option, Some, None, refl, sym, ap, subst, ◌∙◌, if◌then◌else◌}
 use Rattle.std.specs.Option.{option_and_then, option_map}
 use Rattle.std.proofs.lemmas.Bool.{eq-eqb}
+use Rattle.std.proofs.lemmas.Option.{same_Some}
 use Rattle.hp_base.specs.declared.limits.TheConstants.{MAX_HEAPS}
 use Rattle.hp_heap.specs.declared.entry.Entry.{Entry}
 use Rattle.hp_heap.specs.History.{HeapView, entries_of}
@@ -44,9 +45,6 @@ module _ (number : ℕ) (slot : SlotView) (me : ℕ) (step : MailStep) (old new 
         let last : Option SegsView = segs_in (slot_at old MAX_HEAPS) in
         ap (part_of who heap (slot_at new heap)) segs
         ∙ read_alike (λ (s : Option SlotView). part_of who heap s last) number slot old new moves.here moves.elsewhere (alike heap last) heap
-
-some_same : {X : Type 0} (x y : X) → Some x ≡ Some y → x ≡ y
-some_same x y same = cc
 
 -- what is held is what the segment value has for it
 held_is : (segs : SegsView) (heap : ℕ) (holding : Holding) (held : Bool)
@@ -108,7 +106,7 @@ module _ (me number : ℕ) (kept : Kept) (step : MailStep) (old new : HallView) 
   segs_stand segs is fits =
       let now : segs_in (slot_at new MAX_HEAPS) ≡ Some segs =
       ap (λ (n : ℕ). segs_in (slot_at new n)) (sym fits) ∙ ap segs_in moves.here ∙ ap (λ (k : Kept). segs_in (Some (out_slot me k))) is in
-      let same : hall.segs ≡ segs = some_same hall.segs segs (sym hall.there ∙ sym still ∙ now) in
+      let same : hall.segs ≡ segs = same_Some hall.segs segs (sym hall.there ∙ sym still ∙ now) in
       record {
         held = λ heap holding held.
             held_is segs heap holding _ (sym (ap (λ (s : Option SegsView). (part_of me heap (slot_at new heap) s).holding) now) ∙ held);

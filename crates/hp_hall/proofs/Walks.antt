@@ -5,7 +5,7 @@ use Rattle.std.specs.List.{AllByRecursion, filter, slice_get}
 use Rattle.std.specs.Option.{option_map}
 use Rattle.std.proofs.lemmas.Bool.{cases_eq, cond-false, cond-true, eq-eqb}
 use Rattle.std.proofs.lemmas.List.{append-nil}
-use Rattle.std.proofs.lemmas.Option.{slice_get_within}
+use Rattle.std.proofs.lemmas.Option.{slice_get_within, same_Some}
 use Rattle.hp_base.specs.declared.limits.TheConstants.{MAX_HEAPS}
 use Rattle.hp_heap.specs.declared.entry.Entry.{Entry}
 use Rattle.hp_heap.specs.History.{entries_of}
@@ -24,9 +24,6 @@ use Rattle.hp_hall.specs.Values.{IsSoundKept, history_of}
 use Rattle.hp_hall.proofs.Given.{entries_of-append, entries_of-other}
 use Rattle.hp_hall.proofs.Slotted.{value_at, slice_get-set_other, slice_get-set_same}
 
-some_same : {X : Type 0} (x y : X) → Some x ≡ Some y → x ≡ y
-some_same x y same = cc
-
 module _ {X : Type 0} (of : ℕ → Type 0) (read : Kept → X)
     (given : (who : ℕ) (before kept : Kept) → of who → IsGivenBy who before kept → read kept ≡ read before) where
   -- a step leaves a value of which that is read which was
@@ -39,7 +36,7 @@ module _ {X : Type 0} (of : ℕ → Type 0) (read : Kept → X)
   stepped who (Gives slot kept) values number before maker shows there =
       ⊎_elim
       (λ (same : number ≡ slot).
-      let was : shows.before ≡ before = some_same shows.before before (sym shows.there ∙ ap (slice_get values) (sym same) ∙ there) in
+      let was : shows.before ≡ before = same_Some shows.before before (sym shows.there ∙ ap (slice_get values) (sym same) ∙ there) in
       let now : slice_get (set values slot kept) number ≡ Some kept =
       ap (slice_get (set values slot kept)) same ∙ slice_get-set_same values slot kept (slice_get_within values slot shows.before shows.there) in
       (kept, now, given who shows.before kept maker shows.by ∙ ap read was))
@@ -51,7 +48,7 @@ module _ {X : Type 0} (of : ℕ → Type 0) (read : Kept → X)
       → AllByRecursion (λ step. of step.0) steps → (number : ℕ) (before kept : Kept) → slice_get old number ≡ Some before
       → slice_get new number ≡ Some kept → read kept ≡ read before
   read_kept count [] old new by makers number before kept early late =
-      ap read (some_same kept before (sym late ∙ ap (λ (l : List Kept). slice_get l number) by ∙ early))
+      ap read (same_Some kept before (sym late ∙ ap (λ (l : List Kept). slice_get l number) by ∙ early))
   read_kept count (step ∷ steps) old new by makers number before kept early late =
       let mid = stepped step.0 step.1 old number before makers.0 by.0.shows early in
       read_kept count steps (values_after step.1 old) new by.1 makers.1 number mid.0 kept mid.1 late ∙ mid.2
@@ -155,7 +152,7 @@ sound_step who (Gives slot kept) values shows sound =
       λ number value there.
           ⊎_elim
           (λ (same : number ≡ slot).
-          subst IsSoundAndArmed (some_same kept value (sym here ∙ ap (slice_get (set values slot kept)) (sym same) ∙ there)) now)
+          subst IsSoundAndArmed (same_Some kept value (sym here ∙ ap (slice_get (set values slot kept)) (sym same) ∙ there)) now)
           (λ (apart : number ≢ slot). sound number value (sym (slice_get-set_other values slot number kept apart) ∙ there))
           (cases_eq number slot),
     )
@@ -172,7 +169,7 @@ sound_steps count (step ∷ steps) old new by sound =
 -- the segment value is the one that its slot keeps
 segs_is : (kept : Kept) (segs : SegsView) → segs_of kept ≡ Some segs → kept ≡ Segments segs
 segs_is (Heap heap) segs is = cc
-segs_is (Segments value) segs is = ap Segments (some_same value segs is)
+segs_is (Segments value) segs is = ap Segments (same_Some value segs is)
 
 segs_value : (hall : HallView) (number : ℕ) (segs : SegsView) (slot : Option SlotView) → slot_at hall number ≡ slot → segs_in slot ≡ Some segs
     → slice_get (values_in hall) number ≡ Some (Segments segs)
@@ -221,15 +218,15 @@ pub idle_stay_in_place : IdleStayInPlace
 idle_stay_in_place old new course who idle before segs are =
     let makers = idle_apart who course.steps idle in
     record {
-      armed = some_same (armed_ask segs who) (armed_ask before who)
+      armed = same_Some (armed_ask segs who) (armed_ask before who)
           (segs_read old new course before segs are (λ maker. maker ≢ who) (armed_of who) (armed_left who) makers);
-      member = some_same (is_member segs.roster who) (is_member before.roster who)
+      member = same_Some (is_member segs.roster who) (is_member before.roster who)
           (segs_read old new course before segs are (λ maker. maker ≢ who) (member_of who) (member_left who) makers);
     }
 
 pub ranges_stay : RangesStay
 ranges_stay old new course before segs are =
-    some_same segs.ranges before.ranges
+    same_Some segs.ranges before.ranges
     (segs_read old new course before segs are (λ maker. ⊤) ranges_of ranges_left (any_makers course.steps))
 
 pub values_stay_sound : ValuesStaySound

@@ -2,6 +2,7 @@
 use Rattle.std.proofs.Common.{◌≡◌, ℕ, Bool, true, false, List, [], ◌∷◌, ◌++◌, Some, refl, sym, subst, arith}
 use Rattle.std.specs.List.{AllByRecursion}
 use Rattle.std.proofs.lemmas.List.{append_cancel_left}
+use Rattle.std.proofs.lemmas.Option.{same_Some}
 use Rattle.hp_heap.specs.declared.entry.Entry.{Entry}
 use Rattle.hp_heap.specs.History.{HeapView}
 use Rattle.hp_hall.specs.declared.kept.Kept.{Kept}
@@ -9,19 +10,16 @@ use Rattle.hp_hall.specs.InTurn.{AreTakenInTurn}
 use Rattle.hp_hall.specs.Keeping.{IsHeapGivenBy, IsKeptBy}
 use Rattle.hp_hall.specs.Mail.{MailStep, Takes, Gives}
 
-some_same : {X : Type 0} (x y : X) → Some x ≡ Some y → x ≡ y
-some_same x y same = cc
-
 abbrev back_and_forth : Kept → Kept → Kept → List (ℕ × MailStep)
 back_and_forth first second third = (0, Takes 0 first) ∷ (0, Gives 0 second) ∷ (0, Takes 0 third) ∷ []
 
 -- what is taken first is what the slot had, and what is taken then is what was given in between, which the slot has from then on
 takes_what_it_had : (was now first second third : Kept) → IsKeptBy 1 (back_and_forth first second third) (was ∷ []) (now ∷ []) → was ≡ first
-takes_what_it_had was now first second third by = some_same was first by.0.shows
+takes_what_it_had was now first second third by = same_Some was first by.0.shows
 
 takes_what_was_given : (was now first second third : Kept) → IsKeptBy 1 (back_and_forth first second third) (was ∷ []) (now ∷ [])
     → second ≡ third
-takes_what_was_given was now first second third by = some_same second third by.1.1.0.shows
+takes_what_was_given was now first second third by = same_Some second third by.1.1.0.shows
 
 keeps_what_was_given : (was now first second third : Kept) → IsKeptBy 1 (back_and_forth first second third) (was ∷ []) (now ∷ []) → now ∷ [] ≡ second ∷ []
 keeps_what_was_given was now first second third by = by.1.1.1

@@ -2,13 +2,11 @@
 use Rattle.std.proofs.Common.{◌≡◌, ℕ, ◌<◌, ◌≤◌, Bool, true, false, List, [], ◌∷◌, length, Option, Some, sym, ap, ◌∙◌, ⊎_elim, arith}
 use Rattle.std.specs.List.{slice_get, slice_index_or}
 use Rattle.std.proofs.lemmas.List.{get_or-set_same}
+use Rattle.std.proofs.lemmas.Option.{same_Some}
 use Rattle.hp_hall.specs.declared.note.Note.TheVariants.{Acked, Loaded, Paused, Read}
 use Rattle.hp_hall.specs.Mail.{MailStep, Notes}
 use Rattle.hp_hall.specs.Meters.{AreMetered, GoesOnTo, Meters}
 use Rattle.hp_hall.proofs.Slotted.{slice_get-set_same}
-
-some_same : {X : Type 0} (x y : X) → Some x ≡ Some y → x ≡ y
-some_same x y same = cc
 
 abbrev around_a_pause : ℕ → Bool → Option ℕ → ℕ → List (ℕ × MailStep)
 around_a_pause first moved until second = (0, Notes (Read first)) ∷ (0, Notes (Paused moved until)) ∷ (0, Notes (Read second)) ∷ []
@@ -41,7 +39,7 @@ module _ (old new : Meters) (first second : ℕ) where
   loads_what_was_acknowledged : (who other : ℕ) → who < length old.numbers
       → AreMetered ((who, Notes (Acked first)) ∷ (other, Notes (Loaded who second)) ∷ []) old new → first ≡ second
   loads_what_was_acknowledged who other below by =
-      some_same first second
+      same_Some first second
       (sym (slice_get-set_same old.numbers who first below) ∙ sym (ap (λ (l : List ℕ). slice_get l who) by.1.numbers) ∙ by.2.1.shows)
 
   -- and nobody acknowledges fewer records than before
