@@ -193,12 +193,11 @@ impl<M: Mapper> LocalMaps<M> {
         ensures lags { Lags records.now self.new.number to (table_in self.new.rows) }
         ensures chunks { chunk_rows self.new.rows ≡ chunk_rows self.old.rows }
     {
-        let newer = &records[self.number as usize..to as usize];
         let caught = take_in(
             &mut self.mapper,
             &mut self.rows,
             self.number,
-            newer,
+            &records[self.number as usize..to as usize],
             &mut self.calls,
         );
         self.number = number_after(self.number, to, &caught);
