@@ -115,6 +115,13 @@ impl<M: Mapper> LocalMaps<M> {
         self.rows.as_slice()
     }
 
+    /// Hands out what is mapped, in the order of mapping, without unmapping it. No row is copied.
+    pub fn into_rows(self) -> Vec<Row>
+        ensures { result.items ≡ self.rows }
+    {
+        self.rows.into_rows()
+    }
+
     /// Whether a row is mapped. Rows are compared in all fields.
     pub fn maps(&self, row: &Row) -> bool
         ensures { result ≡ list_any (is_row row.now) self.now.rows }
