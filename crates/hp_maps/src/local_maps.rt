@@ -115,6 +115,13 @@ impl<M: Mapper> LocalMaps<M> {
         self.rows.as_slice()
     }
 
+    /// Hands out what is mapped, in the order of mapping, without unmapping it. No row is copied.
+    pub fn into_rows(self) -> Vec<Row>
+        ensures { result.items ≡ self.rows }
+    {
+        self.rows.into_rows()
+    }
+
     /// Whether a row is mapped. Rows are compared in all fields.
     pub fn maps(&self, row: &Row) -> bool
         ensures { result ≡ list_any (is_row row.now) self.now.rows }
@@ -193,12 +200,11 @@ impl<M: Mapper> LocalMaps<M> {
         ensures lags { Lags records.now self.new.number to (table_in self.new.rows) }
         ensures chunks { chunk_rows self.new.rows ≡ chunk_rows self.old.rows }
     {
-        let newer = &records[self.number as usize..to as usize];
         let caught = take_in(
             &mut self.mapper,
             &mut self.rows,
             self.number,
-            newer,
+            &records[self.number as usize..to as usize],
             &mut self.calls,
         );
         self.number = number_after(self.number, to, &caught);

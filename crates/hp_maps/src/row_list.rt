@@ -64,6 +64,15 @@ impl RowList {
         self.rows.len() - self.gap
     }
 
+    /// Hands them out.
+    pub fn into_rows(self) -> Vec<Row>
+        ensures { result.items ≡ self.items }
+    {
+        let mut rows = self.rows;
+        cut_out(&mut rows, 0, self.gap);
+        rows
+    }
+
     /// From where on the next rows that go are looked for first: where the last ones went. Nothing else rests on it.
     pub fn next(&self) -> usize {
         self.next
