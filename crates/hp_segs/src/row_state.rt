@@ -14,7 +14,7 @@ pub enum RowState {
 }
 
 /// A mapped segment with its state. After rte_memseg.
-#[derive(Clone, Copy, Debug, PartialEq, Eq)]
+#[derive(Clone, Copy)]
 pub struct Segment {
     pub row: Row,
     pub state: RowState,
