@@ -1,11 +1,13 @@
 //! A call each: its condition is looked at when it runs, and it is false where that is not so.
-ghost use Rattle.std.specs.Prelude.{◌≡◌, true};
-ghost use Rattle.hp_segs.specs.Calls.{IsUnnotedGrowth};
+ghost use Rattle.std.specs.Prelude.{◌≡◌, ◌*◌, ◌^◌, ◌<◌, ◌≤◌, true, IfSome};
+ghost use Rattle.hp_segs.specs.Calls.{IsCloseCause, IsDenial, IsRefusalOf, IsUnnotedGrowth};
+ghost use Rattle.hp_segs.specs.Plan.{plan_of};
 
+use super::seen::{End, end_for};
 use super::taking::{Wants, ask_for, ask_with, give_up, open, take};
 use super::{FIRST_ROW, PAGE};
-use hp_base::{MapAnswer, Run};
-use hp_segs::{Cause, Closing, NotAll, PlanRefusal, Segs};
+use hp_base::{MapAnswer, Name, Run};
+use hp_segs::{Ask, Cause, Closing, NotAll, PlanRefusal, Segs};
 use std::test::Fail;
 
 pub fn arm(segs: &mut Segs, number: u64) -> Result<bool, Fail> {
@@ -77,8 +79,8 @@ pub fn drop_all(segs: &mut Segs) -> Result<u64, Fail> {
     Ok(segs.drop_retiring())
 }
 
-// Whether the ask of that number was granted.
-pub fn take_back(segs: &mut Segs, number: u64) -> Result<bool, Fail> {
+// How the ask of that number ended, unless it was granted.
+pub fn take_back(segs: &mut Segs, number: u64) -> Result<Option<End>, Fail> {
     let Some(ask) = segs.armed(0) else {
         return Err("an armed ask".into());
     };
@@ -86,9 +88,9 @@ pub fn take_back(segs: &mut Segs, number: u64) -> Result<bool, Fail> {
         return Err("an ask of that number".into());
     }
     match segs.withdraw(0, number, 10, 40) {
-        Closing::Granted => Ok(true),
-        Closing::Withdrawn => Ok(false),
-        Closing::Refused { .. } => Err("no refusal".into()),
+        Closing::Granted => Ok(None),
+        Closing::Withdrawn => Ok(Some(End::Withdrawn(10, 40))),
+        Closing::Refused { cause } => Ok(Some(end_for(&cause))),
     }
 }
 
@@ -148,14 +150,65 @@ pub fn refusal_of(segs: &Segs, number: u64, wants: Wants) -> Result<Option<PlanR
     Ok(segs.plan_run(&ask).err())
 }
 
+// The cause of a refused plan.
+fn cause_of(refusal: PlanRefusal) -> Option<Cause>
+    ensures { IfSome result (IsRefusalOf refusal) }
+{
+    match refusal {
+        PlanRefusal::StaleAsk { .. } => None,
+        PlanRefusal::GrowthOpen { .. } => None,
+        PlanRefusal::NoList => Some(Cause::NoList),
+        PlanRefusal::TooFew { have, need } => Some(Cause::TooFew { have, need }),
+        PlanRefusal::ListFull { longest, need } => Some(Cause::ListFull { longest, need }),
+        PlanRefusal::CannotHold { addr, len } => Some(Cause::CannotHold { addr, len }),
+    }
+}
+
+// A validator that allows no byte denies a run.
+fn denial(segs: &Segs, ask: &Ask, run: &Run) -> Option<Cause>
+    requires { run.now.count * run.now.page ≤ 2 ^ 47 }
+    ensures { IfSome result (IsDenial ask.now run.now segs.now) }
+{
+    let validator = Name::new(b"no_byte")?;
+    let total = segs.total_of(ask.socket) + u64::from(run.count) * run.page;
+    if total == 0 {
+        return None;
+    }
+    if segs.retiring() > 0 {
+        return None;
+    }
+    Some(Cause::Denied {
+        validator,
+        limit: 0,
+        total,
+    })
+}
+
+// The cause with which an ask is closed.
+fn cause_for(segs: &Segs, ask: &Ask) -> Option<Cause>
+    requires { ask.now.from < 16 }
+    ensures { IfSome result (λ cause. IsCloseCause ask.now segs.now cause (plan_of ask.now segs.now)) }
+{
+    match segs.plan_run(ask) {
+        Ok(run) => denial(segs, ask, &run),
+        Err(refusal) => cause_of(refusal),
+    }
+}
+
 pub fn close(segs: &mut Segs, number: u64, wants: Wants) -> Result<bool, Fail> {
     let ask = ask_with(number, wants)?;
     segs.reserve_records(1)?;
-    if let Err(PlanRefusal::TooFew { have, need }) = segs.plan_run(&ask) {
-        segs.close_ask(&ask, Cause::TooFew { have, need });
-        return Ok(true);
+    if segs.growth().is_some() {
+        return Ok(false);
     }
-    Ok(false)
+    if ask.number <= segs.closed(0) {
+        return Ok(false);
+    }
+    let Some(cause) = cause_for(segs, &ask) else {
+        return Ok(false);
+    };
+    segs.close_ask(&ask, cause);
+    Ok(true)
 }
 
 pub fn claim_and_release(segs: &mut Segs, addr: u64, len: u64, socket: u32) -> bool {

@@ -75,3 +75,16 @@ fn gives_three_ranges_the_lowest_numbers(rt: HostRuntime) -> Result<(), Fail> {
     ];
     play(segs_of(rt.alloc(), 4), rt.alloc(), steps.as_slice())
 }
+
+// A list has at most 8,192 segments, and all lists have at most 16,384: those of the pool are four.
+#[test]
+fn refuses_a_range_without_space(rt: HostRuntime) -> Result<(), Fail> {
+    let further = OUTSIDE + 8192 * PAGE;
+    let steps = [
+        Claim(OUTSIDE, 8193 * PAGE, 256, Err(RangeFault::NoSpace)),
+        Claim(OUTSIDE, 8192 * PAGE, 256, Ok(1)),
+        Claim(further, 8189 * PAGE, 256, Err(RangeFault::NoSpace)),
+        Claim(further, 8188 * PAGE, 256, Ok(2)),
+    ];
+    play(segs_of(rt.alloc(), 4), rt.alloc(), steps.as_slice())
+}

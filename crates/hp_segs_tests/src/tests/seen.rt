@@ -50,15 +50,20 @@ pub enum End {
     Granted(u64),
     Freed(u64),
     Stale(u64),
-    // There were so many pages, where it needed so many.
+    NoList,
+    // There were so many pages, or free slots behind one another, where it needed so many.
     TooFew(u64, u64),
+    ListFull(u64, u64),
+    // The run at that address, of so many bytes, has no place for it.
+    CannotHold(u64, u64),
+    // So many bytes were allowed, where there would have been so many.
+    Denied(u64, u64),
     // The participant had not acknowledged between these readings.
     Late(u8, u64, u64),
     // The participant's mapping call of that number, for the page at that address, was answered so.
     MapFailed(u8, u64, u64, MapAnswer),
     // The asker took its ask back, which it had sent at the one reading, at the other.
     Withdrawn(u64, u64),
-    Other,
 }
 
 pub fn end_of(outcome: &Outcome) -> End {
@@ -72,7 +77,11 @@ pub fn end_of(outcome: &Outcome) -> End {
 
 pub fn end_for(cause: &Cause) -> End {
     match cause {
+        Cause::NoList => End::NoList,
         Cause::TooFew { have, need } => End::TooFew(*have, *need),
+        Cause::ListFull { longest, need } => End::ListFull(*longest, *need),
+        Cause::CannotHold { addr, len } => End::CannotHold(*addr, *len),
+        Cause::Denied { limit, total, .. } => End::Denied(*limit, *total),
         Cause::Late {
             participant,
             from,
@@ -85,6 +94,5 @@ pub fn end_for(cause: &Cause) -> End {
             got,
         } => End::MapFailed(*participant, *call, *addr, *got),
         Cause::Withdrawn { from, to } => End::Withdrawn(*from, *to),
-        _ => End::Other,
     }
 }

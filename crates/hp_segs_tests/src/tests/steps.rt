@@ -3,6 +3,7 @@
 use super::PAGE;
 use super::calls::*;
 use super::looks::{Look, is_so};
+use super::seen::End;
 use super::taking::Wants;
 use hp_base::Run;
 use hp_segs::{NotAll, PlanRefusal, RangeFault, Segs};
@@ -25,8 +26,8 @@ pub enum Step {
     GiveUp(u64, Run),
     // What was given up is dropped: there are so many records then.
     Drop(u64),
-    // The ask that the participant is armed with is taken back: it was granted, or not.
-    TakeBack(u64, bool),
+    // The ask that the participant is armed with is taken back: it was granted, or it ended so.
+    TakeBack(u64, Option<End>),
     // An ask that is closed comes again. Or a notice comes.
     Stale(u64),
     Freed(u64),
@@ -35,7 +36,7 @@ pub enum Step {
     // A participant comes, or goes.
     Join(u8),
     Leave(u8),
-    // An ask with these wants is refused. Or it is closed, since there are too few pages.
+    // An ask with these wants is refused. Or it is closed: by the cause of its refusal, or since a validator allows no byte.
     Refuse(u64, Wants, PlanRefusal),
     Close(u64, Wants),
     // External memory from an address on, of so many bytes and of a socket, gets a list of that number, or none. Or it gives it back.
@@ -76,7 +77,7 @@ fn perform(segs: &mut Segs, alloc: Global, step: Step) -> Result<bool, Fail> {
         Step::Take(number, run) => Ok(take_for(segs, number)? == run),
         Step::GiveUp(number, run) => Ok(give_up_for(segs, number)? == run),
         Step::Drop(records) => Ok(drop_all(segs)? == records),
-        Step::TakeBack(number, granted) => Ok(take_back(segs, number)? == granted),
+        Step::TakeBack(number, end) => Ok(take_back(segs, number)? == end),
         Step::Stale(number) => log_stale(segs, number),
         Step::Freed(number) => log_freed(segs, number),
         Step::Note(call, first) => Ok(note(segs, call)? == first),
