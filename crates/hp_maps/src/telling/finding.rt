@@ -8,7 +8,7 @@ use hp_base::Row;
 use hp_log::LogRecord;
 
 /// The row that stands at a slot, if there is one, and from where on the one at the next slot is looked for first.
-#[derive(Clone, Copy, Debug, PartialEq, Eq)]
+#[derive(Clone, Copy)]
 pub struct Found {
     pub row: Option<Row>,
     pub next: usize,
