@@ -13,10 +13,10 @@ use Rattle.hp_log.specs.Log.{table_at}
 use Rattle.hp_log.specs.Places.{ArePlacesApart, IsLogOf, IsRowOf, ListPlace, place_end}
 use Rattle.hp_log.specs.Rows.{at_slot}
 use Rattle.hp_log.specs.declared.log_record.LogRecord.{LogRecord}
-use Rattle.hp_log.proofs.Counts.{any_counts, count_agree, count_append, count_filter, count_split, none_counts}
+use Rattle.hp_log.proofs.Counts.{any_counts, count_append, none_counts}
 use Rattle.hp_log.proofs.PlaceLemmas.{placed_at}
 use Rattle.hp_maps.specs.Bytes.{AreTold, bytes_after_all, has_byte, in_row}
-use Rattle.hp_maps.specs.Catching.{Lags, is_dropped, kept, new_rows, newer, rows_after}
+use Rattle.hp_maps.specs.Catching.{is_dropped, kept, new_rows, newer, rows_after}
 use Rattle.hp_maps.specs.Events.{caught_events, dropped_events, events_of}
 use Rattle.hp_maps.specs.MapsView.{MapsView, chunk_rows, is_of_log, table_in}
 use Rattle.hp_maps.specs.Ready.{IsReady, TellsBytes, TellsTheEnd}
@@ -26,7 +26,6 @@ use Rattle.hp_maps.proofs.SlotLemmas.{lag_few, own_slots}
 use Rattle.hp_maps.proofs.FreedCounts.{count_both, freed_count, going}
 use Rattle.hp_maps.proofs.LawLemmas.{count_fewer, one_row_a_slot}
 use Rattle.hp_maps.proofs.ListFacts.{filter_twice, uncounted}
-use Rattle.hp_maps.proofs.TableLaw.{every}
 
 abbrev one_if : Bool → ℕ
 one_if b = cond b 1 0

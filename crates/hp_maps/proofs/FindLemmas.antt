@@ -1,5 +1,5 @@
 -- Which row is found where one passes at most.
-use Rattle.std.proofs.Common.{◌≡◌, ◌≤◌, ◌<◌, ℕ, zero, suc, Bool, true, false, cond, List, [], ◌∷◌, Option, Some, None, find, length, get_or, refl, ap, ◌∙◌, arith, inl, inr, count_by}
+use Rattle.std.proofs.Common.{◌≡◌, ◌≤◌, ◌<◌, ℕ, zero, suc, Bool, true, false, cond, List, [], ◌∷◌, Some, None, find, length, get_or, refl, ap, ◌∙◌, arith, inl, inr, count_by}
 use Rattle.std.proofs.lemmas.Bool.{cases_Bool}
 use Rattle.hp_log.proofs.Counts.{count_cons}
 

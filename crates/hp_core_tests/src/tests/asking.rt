@@ -23,6 +23,20 @@ fn logs_a_repeated_ask_as_stale(rt: HostRuntime) -> Result<(), Fail> {
     play(rt.alloc(), 2, 4, acts.as_slice(), ends.as_slice(), 1)
 }
 
+// An ask that comes twice is granted once and found to be stale once.
+#[test]
+fn grants_a_repeated_ask_once(rt: HostRuntime) -> Result<(), Fail> {
+    let acts = [
+        (Arm(0, 1), Nothing),
+        (Grow(0, 1), Map(1)),
+        (Grow(0, 1), Nothing),
+        (Mapped(0), Grant(0, 1, true)),
+        (Poll(0, ALL), Nothing),
+    ];
+    let ends = [(0, 1, End::Granted), (0, 1, End::Stale)];
+    play(rt.alloc(), 1, 4, acts.as_slice(), ends.as_slice(), 1)
+}
+
 // Participants 1 and 2 ask while 0's growth is under way: 1 is served first, and by its later ask.
 #[test]
 fn holds_one_ask_of_each_participant(rt: HostRuntime) -> Result<(), Fail> {

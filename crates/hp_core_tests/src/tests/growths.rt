@@ -18,13 +18,15 @@ const NOT_2: [u64; 16] = [
     MAX, MAX, 0, MAX, MAX, MAX, MAX, MAX, MAX, MAX, MAX, MAX, MAX, MAX, MAX, MAX,
 ];
 
+// Alone, it is granted at once. Where the answer is lost, and the asker takes its ask back at 600, it stays granted.
 #[test]
-fn grants_a_growth_alone_at_once(rt: HostRuntime) -> Result<(), Fail> {
+fn keeps_a_grant_whose_answer_is_lost(rt: HostRuntime) -> Result<(), Fail> {
     let acts = [
         (Arm(0, 1), Nothing),
         (Grow(0, 1), Map(1)),
-        (Mapped(10), Grant(0, 1, true)),
-        (Poll(20, ALL), Nothing),
+        (Mapped(0), Grant(0, 1, true)),
+        (Withdraw(0, 1), Nothing),
+        (Poll(600, ALL), Nothing),
     ];
     let ends = [(0, 1, End::Granted)];
     play(rt.alloc(), 1, 4, acts.as_slice(), ends.as_slice(), 1)
@@ -59,6 +61,21 @@ fn cancels_a_late_growth_at_its_reading(rt: HostRuntime) -> Result<(), Fail> {
     ];
     let ends = [(0, 1, End::Late(1, 10, 210))];
     play(rt.alloc(), 3, 4, acts.as_slice(), ends.as_slice(), 2)
+}
+
+// The SYNC to the only other member is lost, so the growth is late once the deadline has passed. The rollback reaches it.
+#[test]
+fn cancels_a_growth_whose_sync_is_lost(rt: HostRuntime) -> Result<(), Fail> {
+    let acts = [
+        (Arm(0, 1), Nothing),
+        (Grow(0, 1), Map(1)),
+        (Mapped(0), Sync(1, 1, 2)),
+        (Poll(200, FIRST), Map(2)),
+        (Mapped(200), Sync(2, 2, 2)),
+        (Poll(200, ALL), Grant(0, 1, false)),
+    ];
+    let ends = [(0, 1, End::Late(1, 0, 200))];
+    play(rt.alloc(), 2, 4, acts.as_slice(), ends.as_slice(), 2)
 }
 
 // A clock that stands still refuses nothing, whatever the words.

@@ -18,5 +18,6 @@ fn makes_room_in_a_full_mapper_first(rt: HostRuntime) -> Result<(), Fail> {
         ..SECOND_ROW
     };
     assert!(rt; maps.rows() == [second].as_slice());
+    assert!(rt; maps.into_rows().as_slice() == [second].as_slice());
     Ok(())
 }

@@ -1,5 +1,5 @@
 -- Record by record, and at the end none is left.
-use Rattle.std.proofs.Common.{◌+◌, ◌∙◌, List, ap, arith, drop, filter, not, subst, sym}
+use Rattle.std.proofs.Common.{◌+◌, ◌∙◌, List, ap, arith, drop, not, subst, sym}
 use Rattle.std.proofs.lemmas.List.{drop_all}
 use Rattle.hp_base.specs.Mapping.{owned}
 use Rattle.hp_base.specs.declared.row.Row.{Row}

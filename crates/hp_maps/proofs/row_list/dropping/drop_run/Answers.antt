@@ -1,5 +1,5 @@
 -- The rows that stand together are all that go.
-use Rattle.std.proofs.Common.{◌≡◌, ◌+◌, ◌-◌, ◌++◌, ◌∙◌, List, ap, arith, drop, length, subst, sym, take}
+use Rattle.std.proofs.Common.{◌≡◌, ◌+◌, ◌-◌, ◌∙◌, List, ap, arith, drop, subst, sym, take}
 use Rattle.hp_base.specs.Mapping.{Held, owned}
 use Rattle.hp_base.specs.declared.row.Row.{Row}
 use Rattle.hp_maps.specs.RowsView.{StandTogether}
