@@ -52,6 +52,7 @@ pub mod MarksTiling
 pub mod StepLaw
 pub mod InsertLaw
 pub mod FrontsLaw
+pub mod EntriesLaw
 pub mod BusyLemmas
 pub mod FreeLaw
 pub mod BusyLaw
