@@ -1,5 +1,5 @@
 -- What a call adds to the runs of a history, and what each entry of a legal one answers.
-use Rattle.std.proofs.Common.{◌≡◌, ℕ, List, [], ◌∷◌, ◌++◌, refl, sym, ap, ◌∙◌, flat_map, append_assoc, append-nil}
+use Rattle.std.proofs.Common.{◌≡◌, List, [], ◌∷◌, ◌++◌, sym, ap, ◌∙◌, flat_map, append_assoc, append-nil}
 use Rattle.hp_base.specs.declared.row.Run.{Run}
 use Rattle.hp_heap.specs.declared.entry.Entry.{Entry}
 use Rattle.hp_heap.specs.PlainHeap.{PlainHeap}

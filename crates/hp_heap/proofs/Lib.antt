@@ -47,6 +47,7 @@ pub mod ChunkListLemmas
 pub mod WholeChunk
 pub mod WholeElement
 pub mod ChunkCalls
+pub mod BesideLemmas
 pub mod UnchunkTiling
 pub mod MarksTiling
 pub mod StepLaw
