@@ -1,5 +1,5 @@
 -- The heap of two chunks that the tests begin with, and the calls that may be made of it.
-use Rattle.std.proofs.Common.{◌≡◌, ◌≢◌, ℕ, ◌<◌, ◌≤◌, ◌+◌, Bool, false, cond, [], ◌∷◌, Option, Some, None, count_by, refl, sym, ap, ◌∙◌, subst, arith, nat_le, ◌==◌, IsTrue}
+use Rattle.std.proofs.Common.{◌≡◌, ℕ, ◌<◌, ◌+◌, false, Option, Some, None, refl, sym, ap, ◌∙◌, subst, arith, nat_le, ◌==◌, IsTrue}
 use lib.Count.{ones}
 use Rattle.std.proofs.lemmas.Bool.{lt-leb}
 use Rattle.std.proofs.lemmas.Nat.{ones_cat}
@@ -10,8 +10,7 @@ use Rattle.hp_base.specs.declared.tag.Caller.{Caller}
 use Rattle.hp_heap.specs.declared.entry.HeapCall.{HeapCall}
 use Rattle.hp_heap.specs.declared.entry.HeapCall.TheVariants as call
 use Rattle.hp_heap.specs.declared.entry.HeapAnswer.TheVariants as answer
-use Rattle.hp_heap.specs.PlainHeap.{PlainHeap, opening_heap, segments_of}
-use Rattle.hp_heap.specs.Tiling.{in_segment}
+use Rattle.hp_heap.specs.PlainHeap.{PlainHeap, opening_heap}
 use Rattle.hp_heap.specs.Chunks.{after_chunk, after_share, after_unshare, chunk_of, chunk_at, with_mark, CanAddChunk}
 use Rattle.hp_heap.specs.Step.{after}
 use Rattle.hp_heap.specs.Allowed.{IsAllowed}

@@ -1,7 +1,7 @@
-use Rattle.std.proofs.Common.{refl, sym, ap, subst, ◌≡◌, ◌∙◌, lit<, arith}
+use Rattle.std.proofs.Common.{sym, ap, subst, ◌∙◌, lit<, arith}
 use Rattle.hp_heap.specs.Chunks.{CanAddChunk, after_chunk}
 use Rattle.hp_heap.specs.Step.{after}
-use Rattle.hp_heap_tests.proofs.ChunkHeaps.{first, second, opening, one, both, second_comes, first_comes, shares_first, shared_first}
+use Rattle.hp_heap_tests.proofs.ChunkHeaps.{first, second, second_comes, first_comes, shares_first, shared_first}
 use Rattle.hp_heap_tests.proofs.tests.chunks.attached.Goals as goal
 
 pub add_chunk-requires-clause-allowed : goal.add_chunk-requires-clause-allowed

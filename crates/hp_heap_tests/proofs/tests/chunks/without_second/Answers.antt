@@ -1,4 +1,4 @@
-use Rattle.std.proofs.Common.{◌≡◌, ◌+◌, ◌∙◌, arith}
+use Rattle.std.proofs.Common.{arith}
 use Rattle.hp_heap_tests.proofs.ChunkHeaps.{shares_again, shared_again, leaves_first, left_first, removes_second}
 use Rattle.hp_heap_tests.proofs.tests.chunks.without_second.Goals as goal
 
