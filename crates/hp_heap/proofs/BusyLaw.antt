@@ -1,9 +1,9 @@
 -- What calls leave of the busy elements, and of those of memzones among them.
-use Rattle.std.proofs.Common.{◌≡◌, ℕ, ◌+◌, ◌-◌, ◌<◌, ◌≤◌, ◌⊎◌, Bool, true, false, cond, not, List, [], ◌∷◌, ◌++◌, refl, sym, ap, subst, ◌∙◌, inl, inr, arith, Option, Some, None, Contains, MatchOption, unwrap_or, eqb, ltb}
-use Rattle.std.proofs.lemmas.Bool.{ne_eqb, false≢true, not-true}
+use Rattle.std.proofs.Common.{◌≡◌, ℕ, ◌+◌, ◌-◌, ◌<◌, ◌≤◌, ◌⊎◌, Bool, true, false, cond, not, List, [], ◌∷◌, ◌++◌, refl, sym, ap, subst, ◌∙◌, inl, inr, arith, Option, Some, None, Contains, MatchOption, unwrap_or, eqb, ltb, append_assoc}
+use Rattle.std.proofs.lemmas.Bool.{ne_eqb, eq-eqb, false≢true, not-true}
 use Rattle.std.proofs.lemmas.Option.{none-some, same_Some}
 use Rattle.std.proofs.lemmas.List.Elements.{filter-append}
-use Rattle.std.specs.List.{AllByRecursion, filter}
+use Rattle.std.specs.List.{AllByRecursion, filter, find}
 use Rattle.std.specs.Option.{option_and_then}
 use Rattle.hp_base.specs.declared.span.Span.{Span}
 use Rattle.hp_base.specs.declared.chunk.Chunk.{Chunk}
@@ -15,17 +15,17 @@ use Rattle.hp_heap.specs.declared.entry.HeapCall.TheVariants as call
 use Rattle.hp_heap.specs.PlainHeap.{PlainHeap, end_of, is_free, freed, free_range, data_address}
 use Rattle.hp_heap.specs.Tiling.{IsTiled, IsElement}
 use Rattle.hp_heap.specs.Choice.{chosen, IsChoice, HasNoChoice}
-use Rattle.hp_heap.specs.Placing.{only_if, busy_start, has_rest_before, has_rest_behind, place_in, pieces_of, pieces_with, placed, after_choice, after_alloc, allocated, replaced}
-use Rattle.hp_heap.specs.Joining.{with_stretch, after_insertion, busy_ranges, zone_ranges, is_zone_range}
+use Rattle.hp_heap.specs.Placing.{only_if, count_if, rest_before, rest_behind, busy_piece, busy_start, has_rest_before, has_rest_behind, place_in, pieces_of, pieces_with, placed, after_choice, after_alloc, allocated, replaced}
+use Rattle.hp_heap.specs.Joining.{with_stretch, after_insertion, busy_ranges, zone_ranges, is_zone_range, has_data_at, busy_at, tag_of_state, tag_at}
 use Rattle.hp_heap.specs.Growing.{run_bytes, run_range, after_grow, CanGrow}
 use Rattle.hp_heap.specs.Cut.{PageCut, rests_of, after_cut, after_cut_of}
 use Rattle.hp_heap.specs.Chunks.{chunk_at, without_chunk, after_chunk, after_unchunk, after_share, after_unshare, CanAddChunk, IsUnused}
 use Rattle.hp_heap.specs.Step.{after, after_name}
 use Rattle.hp_heap.specs.Allowed.{IsAllowed}
 use Rattle.hp_heap.specs.BusyLaws.{names_none, LeavesBusy, AllocatesAlone}
-use Rattle.hp_heap.proofs.RangeLemmas.{AllByRecursion-front, AllByRecursion-back, replaced-at, rising-front, rising_before, rising_behind}
+use Rattle.hp_heap.proofs.RangeLemmas.{AllByRecursion-append, AllByRecursion-weaker, AllByRecursion-front, AllByRecursion-back, replaced-at, rising-front, rising_before, rising_behind}
 use Rattle.hp_heap.proofs.ChoiceLaw.{AllByRecursion-contains, eligible-candidate, chosen-is_choice}
-use Rattle.hp_heap.proofs.Members.{AllByRecursion-each, filter_implied, filter_swapped}
+use Rattle.hp_heap.proofs.Members.{AllByRecursion-each, filter_implied, filter_swapped, find_behind}
 use Rattle.hp_heap.proofs.PieceLemmas.{IsPlacing}
 use Rattle.hp_heap.proofs.AllocLaw.{choice-placed}
 use Rattle.hp_heap.proofs.Stretches.{with_stretch-parts}
@@ -171,7 +171,58 @@ placed_busy heap r d size tag tiled has placing =
     ∙ sym (free_between xs (r ∷ []) ys (one_free r placing.free))
     ∙ ap (filter busy) (sym among.ranges)
 
+-- one of them has the data, with the tag
+elsewhere_not : (d : ℕ) (q : Span) → elsewhere d q ≡ true → eqb (data_address q) d ≡ false
+elsewhere_not d q away = not_is (eqb (data_address q) d) away
+  where
+    not_is : (b : Bool) → not b ≡ true → b ≡ false
+    not_is false is = refl
+    not_is true is = absurd (false≢true is)
+
+rest_free : (some : Bool) (x : Span) → is_free x ≡ true → (d : ℕ) → AllByRecursion (λ (q : Span). has_data_at d q ≡ false) (only_if some x)
+rest_free true x free d = (rw free refl, tt)
+rest_free false x free d = tt
+
+not_there : (d : ℕ) (q : Span) → (busy q ≡ true → elsewhere d q ≡ true) → has_data_at d q ≡ false
+not_there d q away = by_test (busy q) refl
+  where
+    by_test : (b : Bool) → busy q ≡ b → has_data_at d q ≡ false
+    by_test true is = rw (is, elsewhere_not d q (away is)) refl
+    by_test false is = rw is refl
+
+placed_tag : (heap : PlainHeap) (r : Span) (d size : ℕ) (tag : Tag) → IsTiled heap → Contains heap.ranges r → IsPlacing r d size → tag_at d (placed r d size tag heap) ≡ Some tag
+unfolding placed pieces_of tag_at busy_at
+placed_tag heap r d size tag tiled has placing =
+    let (xs, ys, among) = among_ranges heap r tiled has in
+    let before = has_rest_before r d in
+    let behind = has_rest_behind r d size in
+    let pieces = pieces_with before behind r d size tag heap.insertions in
+    let piece = busy_piece before behind r d size tag in
+    let front = only_if before (rest_before r d (heap.insertions + count_if behind + 1)) in
+    let back = only_if behind (rest_behind r (d + size) (heap.insertions + 1)) in
+    let from : r.addr < d = omega (arith, placing.before) in
+    let to : d < end_of r = omega (arith, placing.behind, placing.some) in
+    let none : AllByRecursion (λ (q : Span). has_data_at d q ≡ false) (xs ++ front) =
+    AllByRecursion-append (λ (q : Span). has_data_at d q ≡ false) xs front
+    (AllByRecursion-weaker (λ (q : Span). busy q ≡ true → elsewhere d q ≡ true) (λ (q : Span). has_data_at d q ≡ false) (not_there d) xs (others_before heap r d xs ys among from to))
+    (rest_free before (rest_before r d (heap.insertions + count_if behind + 1)) refl d) in
+    let own : has_data_at d piece ≡ true = rw (eq-eqb (data_address piece) d (omega (arith, piece_start before r d placing.before))) refl in
+    let ranges : (placed r d size tag heap).ranges ≡ (xs ++ front) ++ (piece ∷ (back ++ ys)) =
+    ap (replaced r.addr pieces) among.ranges ∙ replaced-at r.addr pieces xs r ys among.under refl
+    ∙ ap (λ (zs : List Span). xs ++ zs) (append_assoc front (piece ∷ back) ys) ∙ sym (append_assoc xs front (piece ∷ (back ++ ys))) in
+    ap (λ (zs : List Span). option_and_then (λ (range : Span). tag_of_state range.state) (find (has_data_at d) zs)) ranges
+    ∙ ap (λ (o : Option Span). option_and_then (λ (range : Span). tag_of_state range.state) o) (find_behind (has_data_at d) (xs ++ front) piece (back ++ ys) none own)
+
 module _ (participant : ℕ) (request : Request) (tag : Tag) (heap : PlainHeap) (tiled : IsTiled heap) where
+  alloc_tag : (o : Option Span) → MatchOption o (HasNoChoice participant request heap) (IsChoice participant request heap) → (d : ℕ) → option_and_then (place_in request) o ≡ Some d
+      → tag_at d (after_choice o request tag heap) ≡ Some tag
+  alloc_tag None none d is = absurd (none-some d is)
+  alloc_tag (Some r) choice d is =
+      let (at, place) = choice-placed heap participant request r tiled choice in
+      let same : at ≡ d = same_Some at d (sym place.in_it ∙ is) in
+      ap (λ (o : Option ℕ). tag_at d (placed r (unwrap_or o 0) request.size tag heap)) is
+      ∙ placed_tag heap r d request.size tag tiled (eligible-candidate heap participant request r choice.among).1 (subst (λ (n : ℕ). IsPlacing r n request.size) same place.placing)
+
   alloc_busy : (o : Option Span) → MatchOption o (HasNoChoice participant request heap) (IsChoice participant request heap) → (d : ℕ) → option_and_then (place_in request) o ≡ Some d
       → filter (elsewhere d) (filter busy (after_choice o request tag heap).ranges) ≡ filter busy heap.ranges
   alloc_busy None none d is = absurd (none-some d is)
@@ -189,5 +240,6 @@ module _ (participant : ℕ) (request : Request) (tag : Tag) (heap : PlainHeap) 
   unfolding after_alloc allocated busy_ranges zone_ranges
   allocates_alone = record {
     busy = λ address is. alloc_busy (chosen participant request heap) (chosen-is_choice heap participant request) address is;
+    tagged = λ address is. alloc_tag (chosen participant request heap) (chosen-is_choice heap participant request) address is;
     refused = λ is. alloc_refused (chosen participant request heap) (chosen-is_choice heap participant request) is;
   }

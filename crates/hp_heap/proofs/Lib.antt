@@ -47,11 +47,13 @@ pub mod ChunkListLemmas
 pub mod WholeChunk
 pub mod WholeElement
 pub mod ChunkCalls
+pub mod BesideLemmas
 pub mod UnchunkTiling
 pub mod MarksTiling
 pub mod StepLaw
 pub mod InsertLaw
 pub mod FrontsLaw
+pub mod EntriesLaw
 pub mod BusyLemmas
 pub mod FreeLaw
 pub mod BusyLaw

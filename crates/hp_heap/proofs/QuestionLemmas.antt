@@ -1,5 +1,5 @@
 -- Calls that leave the heap as it is, and what they find.
-use Rattle.std.proofs.Common.{◌≡◌, ℕ, ◌+◌, ◌≤◌, Bool, true, false, cond, List, [], ◌∷◌, ◌++◌, Option, Some, None, refl, sym, ap, ◌∙◌, arith, vec_len, vec_capacity}
+use Rattle.std.proofs.Common.{◌≡◌, ℕ, ◌+◌, Bool, cond, [], ◌∷◌, ◌++◌, Option, Some, None, refl, sym, ap, ◌∙◌, vec_len, vec_capacity}
 use Rattle.std.specs.List.{find}
 use Rattle.std.specs.Option.{option_map}
 use Rattle.hp_base.specs.declared.span.Span.{Span}
@@ -11,11 +11,11 @@ use Rattle.hp_elem.specs.Items.{Items, Stands, is_tagged, is_tagged_state}
 use Rattle.hp_heap.specs.declared.heap.Heap.TheInside.{Inside}
 use Rattle.hp_heap.specs.declared.entry.Entry.{Entry}
 use Rattle.hp_heap.specs.Joining.{has_tag, has_tag_state}
-use Rattle.hp_heap.specs.Headers.{spans_of, exact_lists}
+use Rattle.hp_heap.specs.Headers.{spans_of}
 use Rattle.hp_heap.specs.History.{after_entry, IsLegalEntry}
 use Rattle.hp_heap.specs.Inside.{plain_of, IsHeap}
-use Rattle.hp_heap.specs.PageLists.{AreNoted}
 use Rattle.hp_heap.proofs.HeapLaw.{IsNext}
+use Rattle.hp_heap.proofs.BesideLemmas.{beside}
 use Rattle.hp_heap.proofs.FindingLemmas.{key_found, key_value, found_none, find-spans}
 
 -- the fields after a call that leaves the heap as it is
@@ -30,29 +30,25 @@ pub record IsAsked (a b : Inside) (entry : Entry) : Type 0 where
 
 pub asked : (a b : Inside) (entry : Entry) → IsHeap a → IsAsked a b entry → IsNext a b entry (plain_of a)
 asked a b entry heap is =
-    let headers : b.headers ≡ a.headers = ap (λ v. v.headers) is.others in
-    let lists : b.page_lists ≡ a.page_lists = ap (λ v. v.page_lists) is.others in
-    record {
+    beside a b entry (plain_of a) heap
+    (record {
+      others = is.others ∙ sym (rw (ap (λ v. v.name) is.others, ap (λ v. v.socket) is.others, ap (λ v. v.chunks) is.others) refl);
+      history = is.history;
+      spare = is.spare;
+      len = is.len;
+      room = is.room;
+      chunk_len = ap (λ v. vec_len v.chunks) is.others;
+      chunk_room = ap (λ v. vec_capacity v.chunks) is.others;
+    })
+    (record {
       step = is.step;
       legal = is.legal;
-      index = ap (λ v. v.index) is.others;
-      serves = ap (λ v. v.serves) is.others;
-      history = is.history;
-      ranges = ap (λ h. spans_of h.items) headers ∙ heap.ranges;
-      apart = Rattle.std.proofs.Common.subst (λ h. AreApart h.items) (sym headers) heap.apart;
-      exact = ap (λ h. h.lists) headers ∙ heap.exact ∙ ap (λ h. exact_lists (spans_of h.items)) (sym headers);
-      insertions = ap (λ h. h.insertions) headers ∙ heap.insertions;
+      same = refl;
       name = ap (λ v. v.name) is.others ∙ heap.name;
       socket = ap (λ v. v.socket) is.others ∙ heap.socket;
       chunks = ap (λ v. v.chunks.items) is.others ∙ heap.chunks;
-      lists = Rattle.std.proofs.Common.subst (λ ls. AreNoted (plain_of a).pages ls.items) (sym lists) heap.lists;
       tiled = heap.tiled;
-      counted = omega (arith, ap (λ h. h.insertions) headers, heap.counted, is.len);
-      room = omega (arith, ap (λ h. h.spare) headers, heap.room, is.spare);
-      room_history = omega (arith, is.len, is.room, is.spare, heap.room_history);
-      room_lists = omega (arith, ap (λ ls. vec_len ls) lists, ap (λ ls. vec_capacity ls) lists, is.spare, heap.room_lists);
-      room_chunks = omega (arith, ap (λ v. vec_len v.chunks) is.others, ap (λ v. vec_capacity v.chunks) is.others, is.spare, heap.room_chunks);
-    }
+    })
 
 -- a search by a test that says the same
 find-same : (p q : Keyed Span → Bool) → ((e : Keyed Span) → p e ≡ q e) → (items : Items) → find p items ≡ find q items

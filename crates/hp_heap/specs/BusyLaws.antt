@@ -8,7 +8,7 @@ use Rattle.hp_heap.specs.declared.entry.HeapCall.TheVariants as call
 use Rattle.hp_heap.specs.PlainHeap.{PlainHeap, data_address}
 use Rattle.hp_heap.specs.Tiling.{IsTiled}
 use Rattle.hp_heap.specs.Placing.{after_alloc, allocated}
-use Rattle.hp_heap.specs.Joining.{busy_ranges, zone_ranges}
+use Rattle.hp_heap.specs.Joining.{busy_ranges, zone_ranges, tag_at}
 use Rattle.hp_heap.specs.Step.{after}
 use Rattle.hp_heap.specs.Allowed.{IsAllowed}
 
@@ -43,5 +43,8 @@ pub record AllocatesAlone (participant : ℕ) (request : Request) (tag : Tag) (h
   -- where it is given an address, the busy elements besides the one with its data there are those that were busy before
   pub busy : (address : ℕ) → allocated participant request heap ≡ Some address
       → filter (λ range. not (data_address range == address)) (busy_ranges (after_alloc participant request tag heap)) ≡ busy_ranges heap
+  -- and that one has the tag
+  pub tagged : (address : ℕ) → allocated participant request heap ≡ Some address
+      → tag_at address (after_alloc participant request tag heap) ≡ Some tag
   -- else the heap
   pub refused : allocated participant request heap ≡ None → after_alloc participant request tag heap ≡ heap

@@ -26,6 +26,7 @@ pub mod PageLists
 pub mod Inside
 pub mod Laws
 pub mod BusyLaws
+pub mod HistoryLaws
 pub mod Freeing
 pub mod Finding
 pub mod PageCutting

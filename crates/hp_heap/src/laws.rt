@@ -6,6 +6,7 @@ ghost use Rattle.hp_heap.specs.PlainHeap.{PlainHeap};
 ghost use Rattle.hp_heap.specs.Tiling.{IsApart, IsTiled};
 ghost use Rattle.hp_heap.specs.Resizing.{CanAskSize};
 ghost use Rattle.hp_heap.specs.BusyLaws.{AllocatesAlone, LeavesBusy};
+ghost use Rattle.hp_heap.specs.HistoryLaws.{CallsAddRuns, EntriesAreAnswered};
 ghost use Rattle.hp_heap.specs.Laws.{AllocatesPlace, CallsKeepSound, ComputesChoice, ComputesCut, CutsPages, FreesAlone, FrontsStand, InsertsAtHead, KeepsTiled, ResizesAlone, SortsByStamp, StandsOn, TakesNeighbours};
 
 /// The computed choice is the choice. This law and the others here are proved of all heaps; their functions have no
@@ -35,7 +36,8 @@ pub fn busy_law()
     ensures { LeavesBusy }
 {}
 
-/// An allocation from a tiled heap leaves every other busy element, and where it is refused the heap.
+/// An allocation from a tiled heap leaves every other busy element, and where it is refused the heap; what is allocated
+/// has its tag.
 pub fn alloc_alone_law()
     ensures { (participant : ℕ) (request : Request) (tag : Tag) (heap : PlainHeap)
         → IsTiled heap → AllocatesAlone participant request tag heap }
@@ -55,6 +57,16 @@ pub fn resize_law()
 /// A heap that stands for its legal history does so with one more entry.
 pub fn history_law()
     ensures { StandsOn }
+{}
+
+/// A call adds its own run to the runs of growths or to those of cuts, and no other.
+pub fn runs_law()
+    ensures { CallsAddRuns }
+{}
+
+/// Each entry of a legal history has the answer of the heap that the entries before it leave.
+pub fn answers_law()
+    ensures { EntriesAreAnswered }
 {}
 
 /// Every front of a legal history stands for a tiled heap.

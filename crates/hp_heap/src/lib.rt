@@ -31,6 +31,7 @@ pub use freeing::FreeFault;
 pub use heap::Heap;
 pub use hp_base::{Chunk, Span, SpanState};
 pub use laws::{
-    alloc_alone_law, alloc_law, busy_law, choice_law, cut_law, free_law, fronts_law, history_law,
-    insertion_law, joining_law, list_law, pages_law, resize_law, sound_law, tiling_law,
+    alloc_alone_law, alloc_law, answers_law, busy_law, choice_law, cut_law, free_law, fronts_law,
+    history_law, insertion_law, joining_law, list_law, pages_law, resize_law, runs_law, sound_law,
+    tiling_law,
 };

@@ -2,19 +2,21 @@
 
 use hp_base::{Caller, Run, Span, SpanState, Stats};
 use hp_heap::Heap;
-use std::alloc::Global;
+use std::alloc::{AllocError, Global};
 use std::test::Fail;
 
 mod choices;
+mod chunks;
 mod cuts;
 mod frees;
 mod heaps;
 mod looks;
 mod resizes;
 mod steps;
+mod sums;
 
 use heaps::{one_page, padded, three_pages};
-use looks::Look::{Answers, BusyAt, Calls, Counts, FreeAt, Shows};
+use looks::Look::{Answers, BusyAt, Called, Calls, Counts, FreeAt, Shows};
 use looks::{Said, busy, first_list};
 use steps::Step::{Alloc, See, Tell};
 use steps::play;
@@ -38,20 +40,20 @@ const FIRST_PAGE: Run = Run {
     socket: 0,
 };
 
-// Whether a heap of that socket is named so.
-fn is_named(alloc: Global, socket: u32, text: &str) -> bool {
-    let heap = Heap::socket(alloc, 3, socket);
-    match heap.name() {
-        Some(name) => name.as_bytes() == text.as_bytes(),
-        None => false,
-    }
+// A heap of that socket, without memory.
+fn opening(alloc: Global, socket: u32) -> Result<Heap, AllocError> {
+    Ok(Heap::socket(alloc, 3, socket))
 }
 
 #[test]
-fn names_a_heap_for_its_socket(rt: HostRuntime) {
-    assert!(rt; is_named(rt.alloc(), 0, "socket_0"));
-    assert!(rt; is_named(rt.alloc(), 31, "socket_31"));
-    assert!(rt; is_named(rt.alloc(), u32::MAX, "socket_4294967295"));
+fn names_a_heap_for_its_socket(rt: HostRuntime) -> Result<(), Fail> {
+    let last = See(Called(Some("socket_4294967295"), u32::MAX));
+    play(opening(rt.alloc(), 0), &[See(Called(Some("socket_0"), 0))])?;
+    play(
+        opening(rt.alloc(), 31),
+        &[See(Called(Some("socket_31"), 31))],
+    )?;
+    play(opening(rt.alloc(), u32::MAX), &[last])
 }
 
 // The index, the socket that is served, whether there is a name, and the room.

@@ -17,6 +17,10 @@ pub enum Look {
     // There are so many busy and so many free elements, in so many bytes of memory.
     Counts(u64, u64, u64),
     Shows(Stats),
+    // Its name and its socket number.
+    Called(Option<&'static str>, u32),
+    // There are so many chunks, the first of that segment list and with these marks.
+    Chunks(usize, u32, u16),
     // So many calls are in the history, and the one at that place was answered so.
     Calls(usize),
     Answers(usize, Said),
@@ -48,6 +52,8 @@ pub fn is_so(heap: &Heap, look: Look) -> bool {
         Look::Contains(addr, span) => heap.lookup(addr) == span,
         Look::Counts(busy, frees, total) => counts(heap) == (busy, frees, total),
         Look::Shows(stats) => heap.summary() == stats,
+        Look::Called(text, socket) => is_called(heap, text) && heap.socket_number() == socket,
+        Look::Chunks(count, list, marks) => chunks(heap) == (count, list, marks),
         Look::Calls(calls) => heap.history().len() == calls,
         Look::Answers(place, said) => said_at(heap, place) == Some(said),
     }
@@ -77,6 +83,23 @@ pub fn first_list(addr: u64, whole: u64, state: SpanState) -> Span {
 fn counts(heap: &Heap) -> (u64, u64, u64) {
     let stats = heap.summary();
     (stats.busy, stats.frees, stats.total)
+}
+
+fn is_called(heap: &Heap, text: Option<&str>) -> bool {
+    match (heap.name(), text) {
+        (Some(name), Some(text)) => name.as_bytes() == text.as_bytes(),
+        (None, None) => true,
+        _ => false,
+    }
+}
+
+// How many chunks there are, and of the first the segment list and who has attached it.
+fn chunks(heap: &Heap) -> (usize, u32, u16) {
+    let chunks = heap.chunks();
+    match chunks.first() {
+        Some(chunk) => (chunks.len(), chunk.list, chunk.attached),
+        None => (0, 0, 0),
+    }
 }
 
 // What the call at that place of the history answered.

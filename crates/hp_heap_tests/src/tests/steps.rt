@@ -4,7 +4,8 @@ ghost use Rattle.std.specs.Prelude.{◌≡◌, ◌%◌, ◌^◌, ◌<◌, ◌≤
 use super::CALLER;
 use super::heaps::tag_of;
 use super::looks::{Look, is_so};
-use hp_base::{Request, Run, Stats, Tag};
+use super::sums::sums_up;
+use hp_base::{Caller, Name, Request, Run, Stats, Tag};
 use hp_heap::{FreeFault, Heap};
 use std::alloc::AllocError;
 use std::test::Fail;
@@ -17,6 +18,8 @@ pub enum Step {
     Aligned(u64, u64, u32, Option<u64>),
     Within(u64, u64, u32, Option<u64>),
     OnPages(u64, u32, u32, Option<u64>),
+    // So many bytes for a line of that participant: the data lies there.
+    By(u8, u64, u32, Option<u64>),
     // So many bytes for a memzone: the data lies there.
     Reserve(u64, Tag, u64),
     // The element with its data there is freed, or refused to be.
@@ -33,6 +36,11 @@ pub enum Step {
     Find(Tag, Option<u64>),
     // The statistics that are asked for.
     Tell(Stats),
+    // It gets a name and a socket number, and loses both.
+    Name(&'static str, u32),
+    Unname,
+    // So many calls are made at random, after each of which the statistics are the sums over the elements.
+    SumUp(usize),
     // What is seen of the heap.
     See(Look),
 }
@@ -65,6 +73,7 @@ fn perform(heap: &mut Heap, step: Step) -> bool {
         Step::Aligned(size, align, line, at) => alloc(heap, size, align, 0, 0, tag_of(line)) == at,
         Step::Within(size, bound, line, at) => alloc(heap, size, 0, bound, 0, tag_of(line)) == at,
         Step::OnPages(size, flags, line, at) => alloc(heap, size, 0, 0, flags, tag_of(line)) == at,
+        Step::By(participant, size, line, at) => alloc_by(heap, participant, size, line) == at,
         Step::Reserve(size, tag, at) => alloc(heap, size, 0, 0, 0, tag) == Some(at),
         Step::Free(addr) => free(heap, addr) == Some(Ok(())),
         Step::Refuse(addr, fault) => free(heap, addr) == Some(Err(fault)),
@@ -74,12 +83,22 @@ fn perform(heap: &mut Heap, step: Step) -> bool {
         Step::TooLarge(line, size) => try_resize(heap, line, size) == Some(false),
         Step::Find(tag, at) => find(heap, tag) == Some(at),
         Step::Tell(stats) => stats_of(heap) == Some(stats),
+        Step::Name(text, socket) => set_name(heap, text, socket),
+        Step::Unname => clear_name(heap),
+        Step::SumUp(calls) => sums_up(heap, calls),
         Step::See(look) => is_so(heap, look),
     }
 }
 
 // Allocates for a tag. Each of these does nothing where there is no room for its calls.
-fn alloc(heap: &mut Heap, size: u64, align: u64, bound: u64, flags: u32, tag: Tag) -> Option<u64> {
+pub fn alloc(
+    heap: &mut Heap,
+    size: u64,
+    align: u64,
+    bound: u64,
+    flags: u32,
+    tag: Tag,
+) -> Option<u64> {
     let req = Request::new(size, align, bound, flags).ok()?;
     if heap.spare() == 0 {
         return None;
@@ -87,7 +106,19 @@ fn alloc(heap: &mut Heap, size: u64, align: u64, bound: u64, flags: u32, tag: Ta
     heap.alloc(CALLER, &req, tag)
 }
 
-fn free(heap: &mut Heap, addr: u64) -> Option<Result<(), FreeFault>> {
+fn alloc_by(heap: &mut Heap, participant: u8, size: u64, line: u32) -> Option<u64> {
+    let req = Request::new(size, 0, 0, 0).ok()?;
+    if heap.spare() == 0 {
+        return None;
+    }
+    let caller = Caller {
+        participant,
+        number: 1,
+    };
+    heap.alloc(caller, &req, tag_of(line))
+}
+
+pub fn free(heap: &mut Heap, addr: u64) -> Option<Result<(), FreeFault>> {
     if heap.spare() == 0 {
         return None;
     }
@@ -159,4 +190,23 @@ fn stats_of(heap: &mut Heap) -> Option<Stats> {
         return None;
     }
     Some(heap.stats(CALLER))
+}
+
+fn set_name(heap: &mut Heap, text: &str, socket: u32) -> bool {
+    let Some(name) = Name::new(text.as_bytes()) else {
+        return false;
+    };
+    if heap.spare() == 0 {
+        return false;
+    }
+    heap.set_name(CALLER, name, socket);
+    true
+}
+
+fn clear_name(heap: &mut Heap) -> bool {
+    if heap.spare() == 0 {
+        return false;
+    }
+    heap.clear_name(CALLER);
+    true
 }

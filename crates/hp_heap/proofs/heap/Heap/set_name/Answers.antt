@@ -1,4 +1,4 @@
-use Rattle.std.proofs.Common.{◌-◌, ◌≤◌, Some, refl, ap, arith}
+use Rattle.std.proofs.Common.{◌-◌, Some, refl, ap, arith}
 use Rattle.hp_heap.specs.declared.heap.Heap.TheInside.{Inside}
 use Rattle.hp_heap.specs.declared.entry.Entry.{Entry}
 use Rattle.hp_heap.specs.declared.entry.HeapCall.TheVariants.{Name}
@@ -7,6 +7,7 @@ use Rattle.hp_heap.specs.Step.{after, after_name, answer_of}
 use Rattle.hp_heap.specs.History.{after_entry}
 use Rattle.hp_heap.specs.Inside.{plain_of}
 use Rattle.hp_heap.proofs.HeapLaw.{IsNext, next_heap, next_call}
+use Rattle.hp_heap.proofs.BesideLemmas.{beside, renamed}
 use Rattle.hp_heap.proofs.heap.Heap.set_name.Goals as goal
 use Rattle.hp_heap.proofs.heap.Heap.set_name.Goals.{After-self-3-1}
 
@@ -17,32 +18,12 @@ after_call c = record c.self.inside { name = Some c.args.name; socket = c.args.s
 entry_of : After-self-3-1 → Entry
 entry_of c = record { caller = c.args.caller; call = Name c.args.name c.args.socket; answer = Done }
 
-spare_some : (c : After-self-3-1) → 1 ≤ c.self.inside.spare
-spare_some c = omega (arith, c.requires, ap (λ v. v.spare) c.self.view_is)
-
 is_next : (c : After-self-3-1) → IsNext c.self.inside (after_call c) (entry_of c) (after_name (Some c.args.name) c.args.socket (plain_of c.self.inside))
 unfolding after_call entry_of after_entry after after_name answer_of
-is_next c = record {
-  step = refl;
-  legal = record { allowed = tt; answered = refl };
-  index = refl;
-  serves = refl;
-  history = c.record.ensures.entry;
-  ranges = c.self.invariant.ranges;
-  apart = c.self.invariant.apart;
-  exact = c.self.invariant.exact;
-  insertions = c.self.invariant.insertions;
-  name = refl;
-  socket = refl;
-  chunks = c.self.invariant.chunks;
-  lists = c.self.invariant.lists;
-  tiled = record { kind = c.self.invariant.tiled.kind; laid = c.self.invariant.tiled.laid; tiling = c.self.invariant.tiled.tiling };
-  counted = omega (arith, c.self.invariant.counted, c.record.ensures.len);
-  room = omega (arith, c.self.invariant.room, spare_some c);
-  room_history = omega (arith, c.record.ensures.len, c.record.ensures.room, c.self.invariant.room_history, spare_some c);
-  room_lists = omega (arith, c.self.invariant.room_lists, spare_some c);
-  room_chunks = omega (arith, c.self.invariant.room_chunks, spare_some c);
-}
+is_next c =
+    beside c.self.inside (after_call c) (entry_of c) (after_name (Some c.args.name) c.args.socket (plain_of c.self.inside)) c.self.invariant
+    (record { others = refl; history = c.record.ensures.entry; spare = omega (arith, c.requires, ap (λ v. v.spare) c.self.view_is); len = c.record.ensures.len; room = c.record.ensures.room; chunk_len = refl; chunk_room = refl })
+    (renamed c.self.inside (after_call c) (entry_of c) (Some c.args.name) c.args.socket c.self.invariant refl (record { allowed = tt; answered = refl }) refl refl refl)
 
 pub invariant_of-self : goal.invariant_of-self
 unfolding after_call

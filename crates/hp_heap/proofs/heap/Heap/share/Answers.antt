@@ -1,96 +1,61 @@
-use Rattle.std.proofs.Common.{◌≡◌, ◌-◌, ◌≤◌, ◌++◌, ◌∷◌, [], Some, refl, sym, ap, subst, ◌∙◌, arith, IsSomeAnd, IfSome}
-use Rattle.std.proofs.lemmas.Option.{same_Some}
+use Rattle.std.proofs.Common.{◌-◌, refl, ap, ◌∙◌, arith}
 use Rattle.hp_base.specs.declared.chunk.Chunk.{Chunk}
 use Rattle.hp_heap.specs.declared.heap.Heap.TheInside.{Inside}
-use Rattle.hp_heap.specs.declared.entry.Entry.{Entry}
+use Rattle.hp_heap.specs.declared.entry.HeapCall.{HeapCall}
 use Rattle.hp_heap.specs.declared.entry.HeapCall.TheVariants.{Share}
 use Rattle.hp_heap.specs.declared.entry.HeapAnswer.TheVariants.{Done}
 use Rattle.hp_heap.specs.Chunks.{chunk_of, with_mark, after_share}
 use Rattle.hp_heap.specs.ChunkKeeping.{with_marks_of}
 use Rattle.hp_heap.specs.Allowed.{IsAllowed}
 use Rattle.hp_heap.specs.Step.{after, answer_of}
-use Rattle.hp_heap.specs.History.{after_entry, IsCall}
-use Rattle.hp_heap.specs.Inside.{plain_of, view_of}
-use Rattle.hp_heap.proofs.MarksTiling.{marks-tiled}
-use Rattle.hp_heap.proofs.ChunkCalls.{there_is, own_lists, kept_there, kept_some, marks_are}
-use Rattle.hp_heap.proofs.HeapLaw.{IsNext, next_heap, next_call}
+use Rattle.hp_heap.proofs.ChunkCalls.{there_is, own_lists}
+use Rattle.hp_heap.proofs.BesideLemmas.{HasEntry, chunk_kept, marked_heap, marked_call}
 use Rattle.hp_heap.proofs.heap.Heap.share.Goals as goal
 use Rattle.hp_heap.proofs.heap.Heap.share.Goals.{After-self-1}
 
+-- the call that is made of a chunk
+abbrev made : Chunk → HeapCall
+made x = Share x.addr x.len
+
 pub chunk_of-addr-requires : goal.chunk_of-addr-requires
-chunk_of-addr-requires c =
-    let known = there_is (λ x. IsAllowed c.args.caller.participant (Share x.addr x.len) (plain_of c.self.inside)) (chunk_of c.args.list (plain_of c.self.inside))
-    (subst (λ heap. IsSomeAnd (chunk_of c.args.list heap) (λ x. IsAllowed c.args.caller.participant (Share x.addr x.len) heap)) (sym (ap (λ v. v.plain) c.self.view_is)) c.requires.allowed) in
-    kept_some c.self.inside c.self.invariant c.args.list known.0 known.1
+chunk_of-addr-requires c = chunk_kept c.self.inside c.self.invariant c.args.self.now c.self.view_is c.args.caller c.args.list made c.requires.allowed
 
 pub with_mark-requires : goal.with_mark-requires
-with_mark-requires c =
-    (there_is (λ x. IsAllowed c.args.caller.participant (Share x.addr x.len) c.args.self.now.plain) (chunk_of c.args.list c.args.self.now.plain) c.requires.allowed).2.0
+with_mark-requires c = (there_is (λ x. IsAllowed c.args.caller.participant (made x) c.args.self.now.plain) (chunk_of c.args.list c.args.self.now.plain) c.requires.allowed).2.0
 
 pub set_marks-requires-clause-own : goal.set_marks-requires-clause-own
 set_marks-requires-clause-own c = own_lists c.self.inside c.self.invariant
 
 pub set_marks-requires-clause-there : goal.set_marks-requires-clause-there
-set_marks-requires-clause-there c =
-    let known = there_is (λ x. IsAllowed c.args.caller.participant (Share x.addr x.len) (plain_of c.self.inside)) (chunk_of c.args.list (plain_of c.self.inside))
-    (subst (λ heap. IsSomeAnd (chunk_of c.args.list heap) (λ x. IsAllowed c.args.caller.participant (Share x.addr x.len) heap)) (sym (ap (λ v. v.plain) c.self.view_is)) c.requires.allowed) in
-    kept_some c.self.inside c.self.invariant c.args.list known.0 known.1
-
--- the chunk of the list
-known : (c : After-self-1) → (x : Chunk) × (chunk_of c.args.list (plain_of c.self.inside) ≡ Some x) × IsAllowed c.args.caller.participant (Share x.addr x.len) (plain_of c.self.inside)
-known c = there_is (λ x. IsAllowed c.args.caller.participant (Share x.addr x.len) (plain_of c.self.inside)) (chunk_of c.args.list (plain_of c.self.inside))
-    (subst (λ heap. IsSomeAnd (chunk_of c.args.list heap) (λ x. IsAllowed c.args.caller.participant (Share x.addr x.len) heap)) (sym (ap (λ v. v.plain) c.self.view_is)) c.requires.allowed)
-
-same : (c : After-self-1) → c.chunk_of-addr.result ≡ (known c).0
-same c = same_Some c.chunk_of-addr.result (known c).0 (sym c.chunk_of-addr.ensures ∙ kept_there c.self.inside c.self.invariant c.args.list (known c).0 (known c).1)
+set_marks-requires-clause-there c = chunk_kept c.self.inside c.self.invariant c.args.self.now c.self.view_is c.args.caller c.args.list made c.requires.allowed
 
 -- the fields afterwards, and the entry
 after_call : After-self-1 → Inside
 after_call c = record c.self.inside { chunks = c.set_marks.new.chunks; history = c.record.new.history; spare = c.self.inside.spare - 1 }
 
-entry_of : After-self-1 → Entry
-entry_of c = record { caller = c.args.caller; call = Share (known c).0.addr (known c).0.len; answer = Done }
-
-spare_some : (c : After-self-1) → 1 ≤ c.self.inside.spare
-spare_some c = omega (arith, c.requires.spare, ap (λ v. v.spare) c.self.view_is)
-
-is_next : (c : After-self-1) → IsNext c.self.inside (after_call c) (entry_of c) (after_share c.args.caller.participant (known c).0.addr (known c).0.len (plain_of c.self.inside))
-unfolding after_call entry_of after_entry after after_share answer_of
-is_next c =
-    let x = (known c).0 in
-    record {
-      step = refl;
-      legal = record { allowed = (known c).2; answered = refl };
-      index = refl;
-      serves = refl;
-      history = c.record.ensures.entry ∙ ap (λ (y : Chunk). c.self.inside.history.items ++ record { caller = c.args.caller; call = Share y.addr y.len; answer = Done } ∷ []) (same c);
-      ranges = c.self.invariant.ranges;
-      apart = c.self.invariant.apart;
-      exact = c.self.invariant.exact;
-      insertions = c.self.invariant.insertions;
-      name = c.self.invariant.name;
-      socket = c.self.invariant.socket;
-      chunks = c.set_marks.ensures.chunks
-          ∙ ap (λ marks. with_marks_of c.args.list marks c.self.inside.chunks.items) (c.with_mark.ensures ∙ ap (λ (y : Chunk). with_mark c.args.caller.participant y.attached) (same c))
-          ∙ marks_are c.self.inside c.self.invariant c.args.list x (known c).1 (with_mark c.args.caller.participant);
-      lists = c.self.invariant.lists;
-      tiled = marks-tiled (with_mark c.args.caller.participant) x.addr x.len (plain_of c.self.inside) c.self.invariant.tiled (known c).2.1.external;
-      counted = omega (arith, c.self.invariant.counted, c.record.ensures.len);
-      room = omega (arith, c.self.invariant.room, spare_some c);
-      room_history = omega (arith, c.record.ensures.len, c.record.ensures.room, c.self.invariant.room_history, spare_some c);
-      room_lists = omega (arith, c.self.invariant.room_lists, spare_some c);
-      room_chunks = omega (arith, c.set_marks.ensures.len, c.set_marks.ensures.capacity, c.self.invariant.room_chunks, spare_some c);
-    }
+has_entry : (c : After-self-1) → HasEntry c.self.inside (after_call c) (record { caller = c.args.caller; call = made c.chunk_of-addr.result; answer = Done })
+unfolding after_call
+has_entry c = record {
+  others = refl;
+  history = c.record.ensures.entry;
+  spare = omega (arith, c.requires.spare, ap (λ v. v.spare) c.self.view_is);
+  len = c.record.ensures.len;
+  room = c.record.ensures.room;
+  chunk_len = c.set_marks.ensures.len;
+  chunk_room = c.set_marks.ensures.capacity;
+}
 
 pub invariant_of-self : goal.invariant_of-self
-unfolding after_call
-invariant_of-self c = next_heap c.self.inside (after_call c) (entry_of c) (after_share c.args.caller.participant (known c).0.addr (known c).0.len (plain_of c.self.inside)) c.self.invariant (is_next c)
+unfolding after_call after after_share answer_of
+invariant_of-self c =
+    marked_heap c.self.inside c.self.invariant c.args.self.now c.self.view_is c.args.caller c.args.list made c.requires.allowed (with_mark c.args.caller.participant)
+    (λ x allowed. allowed.1.external) (λ x. refl) (λ x. refl) c.chunk_of-addr.result c.chunk_of-addr.ensures (after_call c) (has_entry c) refl refl
+    (c.set_marks.ensures.chunks ∙ ap (λ marks. with_marks_of c.args.list marks c.self.inside.chunks.items) c.with_mark.ensures)
 
 pub returns : goal.returns
-unfolding after_call entry_of
+unfolding after_call after after_share answer_of
 returns c =
     let d = (goal.at.returns c).After-self-1 in
-    let there : chunk_of c.args.list c.args.self.now.plain ≡ Some (known d).0 = ap (λ v. chunk_of c.args.list v.plain) (sym c.self.view_is) ∙ (known d).1 in
-    subst (λ o. IfSome o (λ x. IsCall c.args.caller (Share x.addr x.len) Done c.args.self.now (view_of (after_call d)))) (sym there)
-    (next_call c.self.inside (after_call d) (entry_of d) (after_share c.args.caller.participant (known d).0.addr (known d).0.len (plain_of c.self.inside)) c.self.invariant (is_next d) c.args.self.now c.self.view_is
-    (omega (arith, c.requires.spare, ap (λ v. v.spare) c.self.view_is)))
+    marked_call c.self.inside c.self.invariant c.args.self.now c.self.view_is c.args.caller c.args.list made c.requires.allowed (with_mark c.args.caller.participant)
+    (λ x allowed. allowed.1.external) (λ x. refl) (λ x. refl) c.chunk_of-addr.result c.chunk_of-addr.ensures (after_call d) (has_entry d) refl refl
+    (c.set_marks.ensures.chunks ∙ ap (λ marks. with_marks_of c.args.list marks c.self.inside.chunks.items) c.with_mark.ensures)
