@@ -7,6 +7,7 @@ mod freelist;
 mod log;
 mod memory;
 mod pool;
+mod streams;
 mod words;
 mod written;
 

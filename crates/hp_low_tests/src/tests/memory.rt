@@ -1,12 +1,11 @@
-//! Worked values of what stands for the outside: the mapper, the plan, the clock, the streams, and where elements and slots lie.
+//! Worked values of what stands for the outside: the mapper, the plan, the clock, and where elements and slots lie.
 ghost use Rattle.std.specs.Prelude.{◌≡◌, [], ◌+◌, ◌*◌, ◌<◌, Some, false, true, IfOk};
 ghost use Rattle.hp_base.specs.Mapping.{IsSteady, may_fail_at};
 
 use super::ended;
 use hp_base::{
-    Action, Clock, Event, EventKind, Got, Judge, MapAction, MapAnswer, Mapper, MemMapper, MemSink,
-    MemSource, MsgKind, NoLimits, Plan, PlanEntry, Put, Row, Run, Silent, Sink, Source, Span,
-    SpanState, StepClock, Tell, slot_address,
+    Action, Clock, Event, EventKind, Judge, MapAction, MapAnswer, Mapper, MemMapper, MsgKind,
+    NoLimits, Plan, PlanEntry, Row, Run, Silent, Span, SpanState, StepClock, Tell, slot_address,
 };
 use std::alloc::{AllocError, Global};
 use std::test::Fail;
@@ -79,10 +78,15 @@ fn unsteady_mapper(alloc: Global) -> Result<MemMapper, AllocError>
     Ok(mapper)
 }
 
+// Whether the two hold a row.
+fn hold_a_row(alloc: Global) -> Result<[bool; 2], AllocError> {
+    let steady = steady_mapper(alloc)?.holds(&row(0));
+    Ok([steady, unsteady_mapper(alloc)?.holds(&row(0))])
+}
+
 #[test]
 fn a_mapper_may_fail_where_it_is_told(rt: HostRuntime) -> Result<(), Fail> {
-    assert!(rt; !steady_mapper(rt.alloc())?.holds(&row(0)));
-    assert!(rt; !unsteady_mapper(rt.alloc())?.holds(&row(0)));
+    assert!(rt; hold_a_row(rt.alloc())? == [false, false]);
     Ok(())
 }
 
@@ -149,12 +153,18 @@ fn plan_four(plan: &mut Plan) -> Result<(), AllocError>
     plan.add(mapping(2, true, 6))
 }
 
+// How many entries a plan of four has, and the first of which something else becomes.
+fn becomes_of_four(alloc: Global) -> Result<(usize, Option<usize>), AllocError> {
+    let mut plan = Plan::new(alloc);
+    plan_four(&mut plan)?;
+    Ok((plan.entries().len(), planned_otherwise(&plan, PLANNED)))
+}
+
 #[test]
 fn a_plan_says_what_becomes_of_messages_and_mappings(rt: HostRuntime) -> Result<(), Fail> {
-    let mut plan = Plan::new(rt.alloc());
-    plan_four(&mut plan)?;
-    assert!(rt; plan.entries().len() == 4);
-    ended(planned_otherwise(&plan, PLANNED))
+    let (count, otherwise) = becomes_of_four(rt.alloc())?;
+    assert!(rt; count == 4);
+    ended(otherwise)
 }
 
 fn message(kind: MsgKind, twice: bool, line: u32) -> PlanEntry
@@ -220,67 +230,4 @@ fn elements_runs_and_slots_lie_where_they_do(rt: HostRuntime) {
     assert!(rt; run.bytes() == 4_194_304);
     assert!(rt; run.end() == 0x1_0060_0000);
     assert!(rt; slot_address(0x1_0000_0000, PAGE, 3) == 0x1_0060_0000);
-}
-
-const READ: &[(Got, usize)] = &[
-    (Got::Bytes(2), 3),
-    (Got::Failed, 3),
-    (Got::Bytes(2), 1),
-    (Got::Bytes(1), 0),
-    (Got::End, 0),
-];
-
-// The first reading that gives something else, or leaves another number of bytes.
-fn reads_otherwise(
-    source: &mut MemSource,
-    buf: &mut [u8; 4],
-    read: &[(Got, usize)],
-) -> Option<usize> {
-    for at in 0..read.len() {
-        let got = source.read(buf);
-        if (got, source.left().len()) != read[at] {
-            return Some(at);
-        }
-    }
-    None
-}
-
-#[test]
-fn a_source_gives_pieces_and_fails_where_told(rt: HostRuntime) -> Result<(), Fail> {
-    let bytes = Vec::from_slice(rt.alloc(), b"abcde")?;
-    let fails = Vec::from_slice(rt.alloc(), &[2])?;
-    let mut source = MemSource::new(bytes, 2, fails);
-    let mut buf = [0; 4];
-    let otherwise = reads_otherwise(&mut source, &mut buf, READ);
-    assert!(rt; &buf[..2] == b"ed".as_slice());
-    ended(otherwise)
-}
-
-const WRITTEN: &[(&[u8], Put)] = &[
-    (b"abcde", Put::Took(3)),
-    (b"de", Put::Failed),
-    (b"de", Put::Took(2)),
-];
-
-// The first writing that answers something else.
-fn writes_otherwise(sink: &mut MemSink, written: &[(&[u8], Put)]) -> Option<usize> {
-    for at in 0..written.len() {
-        let (bytes, put) = written[at];
-        if bytes.is_empty() {
-            return Some(at);
-        }
-        if sink.write(bytes) != put {
-            return Some(at);
-        }
-    }
-    None
-}
-
-#[test]
-fn a_sink_takes_pieces_and_fails_where_told(rt: HostRuntime) -> Result<(), Fail> {
-    let fails = Vec::from_slice(rt.alloc(), &[2])?;
-    let mut sink = MemSink::with_room(rt.alloc(), 5, 3, fails)?;
-    let otherwise = writes_otherwise(&mut sink, WRITTEN);
-    assert!(rt; sink.bytes() == b"abcde".as_slice());
-    ended(otherwise)
 }
