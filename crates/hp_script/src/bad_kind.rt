@@ -3,7 +3,7 @@ ghost use Rattle.hp_script.specs.Kinds.{kind_word};
 use std::fmt;
 
 /// Why a line of a workload is refused, in the order in which a line is judged. Own.
-#[derive(Clone, Copy, Debug)]
+#[derive(Clone, Copy, Debug, PartialEq, Eq)]
 pub enum BadKind {
     /// A byte that is neither printable ASCII nor a tab.
     Byte,

@@ -1,7 +1,7 @@
 use hp_base::{BadRequest, MsgKind, PlanEntry, PoolLine, Stats};
 use hp_script::*;
-use std::alloc::Global;
-use std::test::*;
+use std::alloc::{AllocError, Global};
+use std::test::Fail;
 
 mod facts;
 mod index;
@@ -17,6 +17,25 @@ pub fn outcome(alloc: Global, text: &[u8]) -> Result<usize, ParseFault> {
     }
     let workload = parse(alloc, text)?;
     Ok(workload.lines.len())
+}
+
+// The same with the line and the kind of a refusal, where memory lasted.
+pub fn judged(alloc: Global, text: &[u8]) -> Option<Result<usize, (u32, BadKind)>> {
+    match outcome(alloc, text) {
+        Ok(lines) => Some(Ok(lines)),
+        Err(ParseFault::Bad { line, kind }) => Some(Err((line, kind))),
+        Err(ParseFault::OutOfMemory) => None,
+    }
+}
+
+// What stands at that place of a list, counted from 0, came out otherwise.
+#[derive(Debug, Drop)]
+struct Otherwise {
+    place: usize,
+}
+
+pub fn ended_at(place: usize) -> Result<(), Fail> {
+    Err(Otherwise { place }.into())
 }
 
 // Every setup line, with spaces, tabs, carriage returns, skipped lines and numbers of each form.
@@ -35,7 +54,7 @@ lose answer 3 2
 refuse 0 1
 elsewhere 2 1K";
 
-const POOLS: [PoolLine; 3] = [
+const POOLS: &[PoolLine] = &[
     PoolLine {
         socket: 0,
         page: 0x20_0000,
@@ -56,7 +75,7 @@ const POOLS: [PoolLine; 3] = [
     },
 ];
 
-const PLAN: [PlanEntry; 5] = [
+const PLAN: &[PlanEntry] = &[
     PlanEntry::Message {
         kind: MsgKind::Alloc,
         party: 0,
@@ -92,29 +111,33 @@ const PLAN: [PlanEntry; 5] = [
     },
 ];
 
+// The sockets of the sixteen participants.
+const SOCKETS: &[u32] = &[0, 0, 31, 0, 0, 0, 0, 0, 0, 0, 0, 0, 0, 0, 0, 0];
+
+// What setup lines say in numbers: the participants, the absent ones as bits, the deadline, and how many pools, planned disturbances and
+// participant lines there are.
+fn counts(read: &Workload<'_>) -> (u8, u16, u64, [usize; 3]) {
+    let lists = [read.pools.len(), read.plan.len(), read.lines.len()];
+    (read.participants, read.absent, read.deadline, lists)
+}
+
+fn has_lists(read: &Workload<'_>) -> bool {
+    read.sockets.as_slice() == SOCKETS
+        && read.pools.as_slice() == POOLS
+        && read.plan.as_slice() == PLAN
+}
+
 #[test]
 fn reads_every_setup_line(rt: HostRuntime) -> Result<(), Fail> {
     let read = parse(rt.alloc(), SETUP)?;
-    assert!(rt; read.participants == 4);
-    assert!(rt; read.absent == 10);
-    let sockets = [0, 0, 31, 0, 0, 0, 0, 0, 0, 0, 0, 0, 0, 0, 0, 0];
-    assert!(rt; read.sockets.as_slice() == sockets.as_slice());
-    assert!(rt; read.deadline == 16);
-    assert!(rt; read.pools.as_slice() == POOLS.as_slice());
-    assert!(rt; read.plan.as_slice() == PLAN.as_slice());
-    assert!(rt; read.lines.len() == 0);
+    assert!(rt; counts(&read) == (4, 10, 16, [3, 5, 0]) && has_lists(&read));
     Ok(())
 }
 
 #[test]
 fn what_is_not_said_has_its_default(rt: HostRuntime) -> Result<(), Fail> {
     let read = parse(rt.alloc(), b"")?;
-    assert!(rt; read.participants == 1);
-    assert!(rt; read.absent == 0);
-    assert!(rt; read.deadline == 5000);
-    assert!(rt; read.pools.len() == 0);
-    assert!(rt; read.plan.len() == 0);
-    assert!(rt; read.lines.len() == 0);
+    assert!(rt; counts(&read) == (1, 0, 5000, [0, 0, 0]));
     Ok(())
 }
 
@@ -144,7 +167,7 @@ const STATS: Stats = Stats {
     frees: 1,
 };
 
-const ANSWERS: [(Answer, &str); 20] = [
+const ANSWERS: &[(Answer, &str)] = &[
     (Answer::Done, "ok"),
     (
         Answer::Address {
@@ -196,15 +219,26 @@ const ANSWERS: [(Answer, &str); 20] = [
     (Answer::Detached, "detached"),
 ];
 
-#[test]
-fn answers_are_written_as_the_report_has_them(rt: HostRuntime) -> Result<(), Fail> {
-    for (answer, want) in ANSWERS {
-        assert!(rt; answer.to_string(rt.alloc())?.as_str() == want);
+fn is_text(alloc: Global, answer: &Answer, text: &str) -> Result<bool, AllocError> {
+    Ok(answer.to_string(alloc)?.as_str() == text)
+}
+
+fn are_texts(alloc: Global, answers: &[(Answer, &str)]) -> Result<(), Fail> {
+    for at in 0..answers.len() {
+        let (answer, text) = answers[at];
+        if !is_text(alloc, &answer, text)? {
+            return ended_at(at);
+        }
     }
     Ok(())
 }
 
-const KINDS: [(BadKind, &str); 12] = [
+#[test]
+fn answers_are_written_as_the_report_has_them(rt: HostRuntime) -> Result<(), Fail> {
+    are_texts(rt.alloc(), ANSWERS)
+}
+
+const KINDS: &[(BadKind, &str)] = &[
     (BadKind::Byte, "Byte"),
     (BadKind::Long, "Long"),
     (BadKind::Verb, "Verb"),
@@ -219,17 +253,28 @@ const KINDS: [(BadKind, &str); 12] = [
     (BadKind::Limit, "Limit"),
 ];
 
+fn are_words(alloc: Global, kinds: &[(BadKind, &str)]) -> Result<(), Fail> {
+    for at in 0..kinds.len() {
+        let (kind, word) = kinds[at];
+        if kind.to_string(alloc)?.as_str() != word {
+            return ended_at(at);
+        }
+    }
+    Ok(())
+}
+
+// Whether a fault has that text.
+fn says(alloc: Global, fault: &ParseFault, text: &str) -> Result<bool, AllocError> {
+    Ok(fault.to_string(alloc)?.as_str() == text)
+}
+
 #[test]
 fn kinds_and_faults_have_texts(rt: HostRuntime) -> Result<(), Fail> {
-    let alloc = rt.alloc();
-    for (kind, want) in KINDS {
-        assert!(rt; kind.to_string(alloc)?.as_str() == want);
-    }
     let bad = ParseFault::Bad {
         line: 7,
         kind: BadKind::Ahead,
     };
-    assert!(rt; bad.to_string(alloc)?.as_str() == "line 7 is refused: Ahead");
-    assert!(rt; ParseFault::OutOfMemory.to_string(alloc)?.as_str() == "out of memory");
-    Ok(())
+    assert!(rt; says(rt.alloc(), &bad, "line 7 is refused: Ahead")?);
+    assert!(rt; says(rt.alloc(), &ParseFault::OutOfMemory, "out of memory")?);
+    are_words(rt.alloc(), KINDS)
 }

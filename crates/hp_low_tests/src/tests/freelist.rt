@@ -1,60 +1,132 @@
 //! Worked values of the free lists' calls.
-ghost use Rattle.std.specs.Prelude.{◌≡◌, ◌≤◌, IfOk, true};
-ghost use Rattle.hp_freelist.specs.Lists.{is_listed};
+ghost use Rattle.std.specs.Prelude.{◌≡◌, ◌≤◌, true};
+ghost use Rattle.hp_freelist.specs.Lists.{empty_lists, is_listed};
 
+use super::ended;
 use hp_freelist::Lists;
+use std::alloc::{AllocError, Global};
 use std::test::Fail;
 
-// Lists with the keys 0 to 3. Whole sizes of 384 bytes have 256 behind the header, which class 0 just holds, and whole sizes
-// of 448 are of class 1: the lists are 3, 2, 0 and 1.
-fn four_keys(rt: &HostRuntime) -> Result<Lists, Fail>
-    ensures room { IfOk result (λ l. 4 ≤ l.room) }
-    ensures listed { IfOk result (λ l. (is_listed 1 l.lists ≡ true) × (is_listed 2 l.lists ≡ true)
-        × (is_listed 3 l.lists ≡ true) × (is_listed 0 l.lists ≡ true)) }
+// The keys 0 to 3 come. Whole sizes of 384 bytes have 256 behind the header, which class 0 just holds, and whole sizes of 448 are
+// of class 1: the lists are 3, 2, 0 and 1.
+fn insert_four(lists: &mut Lists)
+    requires room { 4 ≤ lists.old.room }
+    requires nothing { lists.old.lists ≡ empty_lists }
+    ensures room { lists.new.room ≡ lists.old.room }
+    ensures listed { (is_listed 1 lists.new.lists ≡ true) × (is_listed 2 lists.new.lists ≡ true)
+        × (is_listed 3 lists.new.lists ≡ true) × (is_listed 0 lists.new.lists ≡ true) }
 {
-    let mut lists = Lists::new(rt.alloc());
-    lists.reserve(4)?;
     lists.insert_head(0, 192);
     lists.insert_head(1, 448);
     lists.insert_head(2, 384);
     lists.insert_head(3, 384);
-    Ok(lists)
+}
+
+// Which keys pass a test.
+#[derive(Clone, Copy)]
+enum Test {
+    All,
+    Below(usize),
+    Only(usize),
+    Not(usize),
+}
+
+// What is looked for, with the key that is found.
+#[derive(Clone, Copy)]
+enum Look {
+    // The first key, from the list of a class on, that passes.
+    From(u8, Test, Option<usize>),
+    // The key of the greatest whole size.
+    Greatest(Option<usize>),
+}
+
+fn first(lists: &Lists, class: u8, test: Test) -> Option<usize> {
+    if class > 12 {
+        return None;
+    }
+    match test {
+        Test::All => lists.first_from(class, |_key| true),
+        Test::Below(end) => lists.first_from(class, |key| key < end),
+        Test::Only(one) => lists.first_from(class, |key| key == one),
+        Test::Not(one) => lists.first_from(class, |key| key != one),
+    }
+}
+
+fn is_so(lists: &Lists, look: Look) -> bool {
+    match look {
+        Look::From(class, test, key) => first(lists, class, test) == key,
+        Look::Greatest(key) => lists.greatest() == key,
+    }
+}
+
+// The first of these that is found otherwise.
+fn otherwise(lists: &Lists, looks: &[Look]) -> Option<usize> {
+    for at in 0..looks.len() {
+        if !is_so(lists, looks[at]) {
+            return Some(at);
+        }
+    }
+    None
+}
+
+const FOUR: &[Look] = &[
+    Look::From(0, Test::All, Some(3)),
+    Look::From(0, Test::Below(3), Some(2)),
+    Look::From(0, Test::Only(1), Some(1)),
+    Look::From(1, Test::All, Some(1)),
+    Look::From(1, Test::Only(3), None),
+    Look::From(2, Test::All, None),
+    Look::Greatest(Some(1)),
+];
+
+const NONE: &[Look] = &[Look::Greatest(None), Look::From(12, Test::All, None)];
+
+// What is found among no keys, and then among four.
+fn found(alloc: Global) -> Result<(Option<usize>, Option<usize>), AllocError> {
+    let mut lists = Lists::new(alloc);
+    lists.reserve(4)?;
+    let none = otherwise(&lists, NONE);
+    insert_four(&mut lists);
+    Ok((none, otherwise(&lists, FOUR)))
 }
 
 #[test]
 fn finds_the_last_inserted_of_the_least_class(rt: HostRuntime) -> Result<(), Fail> {
-    let lists = four_keys(&rt)?;
-    assert!(rt; lists.first_from(0, |_key| true) == Some(3));
-    assert!(rt; lists.first_from(0, |key| key < 3) == Some(2));
-    assert!(rt; lists.first_from(0, |key| key == 1) == Some(1));
-    assert!(rt; lists.first_from(1, |_key| true) == Some(1));
-    assert!(rt; lists.first_from(1, |key| key == 3) == None);
-    assert!(rt; lists.first_from(2, |_key| true) == None);
-    Ok(())
+    ended(found(rt.alloc())?.1)
 }
 
 #[test]
 fn gives_the_greatest_and_of_several_the_first(rt: HostRuntime) -> Result<(), Fail> {
-    let empty = Lists::new(rt.alloc());
-    assert!(rt; empty.greatest() == None);
-    assert!(rt; empty.first_from(12, |_key| true) == None);
-    let lists = four_keys(&rt)?;
-    assert!(rt; lists.greatest() == Some(1));
-    Ok(())
+    ended(found(rt.alloc())?.0)
+}
+
+// What is found once each key goes, and then one comes with another size.
+fn remove_each(lists: &mut Lists) -> [Option<usize>; 5]
+    requires room { 4 ≤ lists.old.room }
+    requires listed { (is_listed 1 lists.old.lists ≡ true) × (is_listed 2 lists.old.lists ≡ true)
+        × (is_listed 3 lists.old.lists ≡ true) × (is_listed 0 lists.old.lists ≡ true) }
+{
+    lists.remove(1);
+    let greatest = lists.greatest();
+    lists.remove(2);
+    let other = first(lists, 0, Test::Not(3));
+    lists.remove(3);
+    let last = first(lists, 0, Test::All);
+    lists.remove(0);
+    let none = first(lists, 0, Test::All);
+    lists.insert_head(0, 1 << 40);
+    [greatest, other, last, none, first(lists, 12, Test::All)]
+}
+
+fn removed(alloc: Global) -> Result<[Option<usize>; 5], AllocError> {
+    let mut lists = Lists::new(alloc);
+    lists.reserve(4)?;
+    insert_four(&mut lists);
+    Ok(remove_each(&mut lists))
 }
 
 #[test]
 fn forgets_a_key_that_was_removed(rt: HostRuntime) -> Result<(), Fail> {
-    let mut lists = four_keys(&rt)?;
-    lists.remove(1);
-    assert!(rt; lists.greatest() == Some(3));
-    lists.remove(2);
-    assert!(rt; lists.first_from(0, |key| key != 3) == Some(0));
-    lists.remove(3);
-    assert!(rt; lists.first_from(0, |_key| true) == Some(0));
-    lists.remove(0);
-    assert!(rt; lists.first_from(0, |_key| true) == None);
-    lists.insert_head(0, 1 << 40);
-    assert!(rt; lists.first_from(12, |_key| true) == Some(0));
+    assert!(rt; removed(rt.alloc())? == [Some(3), Some(0), Some(0), None, Some(0)]);
     Ok(())
 }

@@ -1,7 +1,9 @@
 //! Worked values of runs, and of the table that records leave.
+ghost use Rattle.std.specs.Prelude.{◌≤◌};
 
 use hp_base::{Row, Run};
 use hp_log::{LogRecord, contains, row_of, table_at};
+use std::alloc::{AllocError, Global};
 use std::test::Fail;
 
 const PAGE: u64 = 0x20_0000;
@@ -36,38 +38,53 @@ const SECOND: Row = Row {
     generation: 1,
 };
 
-#[test]
-fn gives_the_rows_of_a_run(rt: HostRuntime) -> Result<(), Fail> {
-    assert!(rt; row_of(&RUN, 1, 0) == FIRST);
-    assert!(rt; row_of(&RUN, 1, 1) == SECOND);
-    assert!(rt; contains(&RUN, &SECOND));
+// Whether the run holds the row of its second slot, one behind it, and one of another list.
+fn holds() -> [bool; 3] {
     let behind = Row { slot: 5, ..SECOND };
-    assert!(rt; !contains(&RUN, &behind));
     let elsewhere = Row { list: 0, ..SECOND };
-    assert!(rt; !contains(&RUN, &elsewhere));
-    Ok(())
+    [
+        contains(&RUN, &SECOND),
+        contains(&RUN, &behind),
+        contains(&RUN, &elsewhere),
+    ]
 }
 
 #[test]
+fn gives_the_rows_of_a_run(rt: HostRuntime) {
+    assert!(rt; row_of(&RUN, 1, 0) == FIRST && row_of(&RUN, 1, 1) == SECOND);
+    assert!(rt; holds() == [true, false, false]);
+}
+
+// The first page alone.
+const FIRST_PAGE: Run = Run { count: 1, ..RUN };
+
+const RECORDS: &[LogRecord] = &[
+    LogRecord::Add { run: RUN, heap: 0 },
+    LogRecord::Drop { run: FIRST_PAGE },
+    LogRecord::Add {
+        run: FIRST_PAGE,
+        heap: 1,
+    },
+];
+
+// Whether so many of the records leave these rows.
+fn leaves(alloc: Global, number: u64, rows: &[Row]) -> Result<bool, AllocError>
+    requires { number ≤ 3 }
+{
+    let mut left = Vec::new(alloc);
+    table_at(alloc, RECORDS, number, &mut left)?;
+    Ok(left.as_slice() == rows)
+}
+
+// The row of the first page that the third record mapped.
+const AGAIN: Row = Row {
+    generation: 3,
+    ..FIRST
+};
+
+#[test]
 fn keeps_what_is_added_and_not_dropped(rt: HostRuntime) -> Result<(), Fail> {
-    let first = Run { count: 1, ..RUN };
-    let records = [
-        LogRecord::Add { run: RUN, heap: 0 },
-        LogRecord::Drop { run: first },
-        LogRecord::Add {
-            run: first,
-            heap: 1,
-        },
-    ];
-    let mut rows = Vec::new(rt.alloc());
-    table_at(rt.alloc(), records.as_slice(), 1, &mut rows)?;
-    assert!(rt; rows.as_slice() == [FIRST, SECOND].as_slice());
-    rows.clear();
-    table_at(rt.alloc(), records.as_slice(), 3, &mut rows)?;
-    let again = Row {
-        generation: 3,
-        ..FIRST
-    };
-    assert!(rt; rows.as_slice() == [SECOND, again].as_slice());
+    assert!(rt; leaves(rt.alloc(), 1, &[FIRST, SECOND])?);
+    assert!(rt; leaves(rt.alloc(), 3, &[SECOND, AGAIN])?);
     Ok(())
 }

@@ -1,11 +1,11 @@
-//! Worked values of what stands for the outside: the mapper, the plan, the clock, the streams, and where elements and slots lie.
-ghost use Rattle.std.specs.Prelude.{◌≡◌, ◌+◌, ◌*◌, ◌<◌, Some, false, true, IfOk};
+//! Worked values of what stands for the outside: the mapper, the plan, the clock, and where elements and slots lie.
+ghost use Rattle.std.specs.Prelude.{◌≡◌, [], ◌+◌, ◌*◌, ◌<◌, Some, false, true, IfOk};
 ghost use Rattle.hp_base.specs.Mapping.{IsSteady, may_fail_at};
 
+use super::ended;
 use hp_base::{
-    Action, Clock, Event, EventKind, Got, Judge, MapAction, MapAnswer, Mapper, MemMapper, MemSink,
-    MemSource, MsgKind, NoLimits, Plan, PlanEntry, Put, Row, Run, Silent, Sink, Source, Span,
-    SpanState, StepClock, Tell, slot_address,
+    Action, Clock, Event, EventKind, Judge, MapAction, MapAnswer, Mapper, MemMapper, MsgKind,
+    NoLimits, Plan, PlanEntry, Row, Run, Silent, Span, SpanState, StepClock, Tell, slot_address,
 };
 use std::alloc::{AllocError, Global};
 use std::test::Fail;
@@ -38,16 +38,25 @@ fn place_of(slot: u32) -> MapAnswer
     }
 }
 
+// What a mapper that is told to fail at its second call answers to three, which rows it holds then, and which once one is unmapped.
+fn refused_once(alloc: Global) -> Result<([MapAnswer; 3], [bool; 4]), AllocError> {
+    let mut mapper = MemMapper::new(alloc, 3)?;
+    mapper.fail_at(Vec::from_slice(alloc, &[2])?);
+    let answers = [
+        mapper.map(&row(0)),
+        mapper.map(&row(1)),
+        mapper.map(&row(1)),
+    ];
+    let (first, second) = (mapper.holds(&row(0)), mapper.holds(&row(1)));
+    mapper.unmap(&row(0));
+    let held = [first, second, mapper.holds(&row(0)), mapper.holds(&row(1))];
+    Ok((answers, held))
+}
+
 #[test]
 fn a_mapper_refuses_its_second_call(rt: HostRuntime) -> Result<(), Fail> {
-    let mut mapper = MemMapper::new(rt.alloc(), 3)?;
-    mapper.fail_at(Vec::from_slice(rt.alloc(), &[2])?);
-    assert!(rt; mapper.map(&row(0)) == place_of(0));
-    assert!(rt; mapper.map(&row(1)) == MapAnswer::Refused);
-    assert!(rt; mapper.map(&row(1)) == place_of(1));
-    assert!(rt; mapper.holds(&row(0)) && mapper.holds(&row(1)));
-    mapper.unmap(&row(0));
-    assert!(rt; !mapper.holds(&row(0)) && mapper.holds(&row(1)));
+    let answers = [place_of(0), MapAnswer::Refused, place_of(1)];
+    assert!(rt; refused_once(rt.alloc())? == (answers, [true, true, false, true]));
     Ok(())
 }
 
@@ -69,53 +78,93 @@ fn unsteady_mapper(alloc: Global) -> Result<MemMapper, AllocError>
     Ok(mapper)
 }
 
-#[test]
-fn a_mapper_may_fail_where_it_is_told(rt: HostRuntime) -> Result<(), Fail> {
-    assert!(rt; !steady_mapper(rt.alloc())?.holds(&row(0)));
-    assert!(rt; !unsteady_mapper(rt.alloc())?.holds(&row(0)));
-    Ok(())
+// Whether the two hold a row.
+fn hold_a_row(alloc: Global) -> Result<[bool; 2], AllocError> {
+    let steady = steady_mapper(alloc)?.holds(&row(0));
+    Ok([steady, unsteady_mapper(alloc)?.holds(&row(0))])
 }
 
 #[test]
-fn a_mapper_takes_its_last_row(rt: HostRuntime) -> Result<(), Fail> {
-    let mut mapper = MemMapper::new(rt.alloc(), 2)?;
-    assert!(rt; mapper.map(&row(7)) == place_of(7));
-    assert!(rt; mapper.map(&row(5)) == place_of(5));
+fn a_mapper_may_fail_where_it_is_told(rt: HostRuntime) -> Result<(), Fail> {
+    assert!(rt; hold_a_row(rt.alloc())? == [false, false]);
+    Ok(())
+}
+
+// What a mapper with room for two answers to two, and which it holds once a row of another generation is unmapped.
+fn filled(alloc: Global) -> Result<([MapAnswer; 2], [bool; 2]), AllocError> {
+    let mut mapper = MemMapper::new(alloc, 2)?;
+    let answers = [mapper.map(&row(7)), mapper.map(&row(5))];
     let other = Row {
         generation: 2,
         ..row(7)
     };
     mapper.unmap(&other);
-    assert!(rt; mapper.holds(&row(7)) && mapper.holds(&row(5)));
+    Ok((answers, [mapper.holds(&row(7)), mapper.holds(&row(5))]))
+}
+
+#[test]
+fn a_mapper_takes_its_last_row(rt: HostRuntime) -> Result<(), Fail> {
+    assert!(rt; filled(rt.alloc())? == ([place_of(7), place_of(5)], [true; 2]));
     Ok(())
+}
+
+// What becomes of a message of a kind, a participant and a number, or of a mapping call of a participant and a number.
+#[derive(Clone, Copy)]
+enum Becomes {
+    Message(MsgKind, u8, u64, Action),
+    Mapping(u8, u64, MapAction),
+}
+
+const PLANNED: &[Becomes] = &[
+    Becomes::Message(MsgKind::Sync, 1, 1, Action::Lose { line: 3 }),
+    Becomes::Message(MsgKind::Alloc, 1, 1, Action::Repeat { line: 4 }),
+    Becomes::Message(MsgKind::Reply, 1, 1, Action::Deliver),
+    Becomes::Message(MsgKind::Sync, 2, 1, Action::Deliver),
+    Becomes::Message(MsgKind::Sync, 1, 2, Action::Deliver),
+    Becomes::Mapping(1, 1, MapAction::Refuse { line: 5 }),
+    Becomes::Mapping(1, 2, MapAction::Elsewhere { line: 6 }),
+    Becomes::Mapping(1, 3, MapAction::Ask),
+    Becomes::Mapping(2, 1, MapAction::Ask),
+];
+
+fn is_planned(plan: &Plan, what: Becomes) -> bool {
+    match what {
+        Becomes::Message(kind, party, k, action) => plan.message(kind, party, k) == action,
+        Becomes::Mapping(party, call, action) => plan.mapping(party, call) == action,
+    }
+}
+
+// The first of these of which something else becomes.
+fn planned_otherwise(plan: &Plan, all: &[Becomes]) -> Option<usize> {
+    for at in 0..all.len() {
+        if !is_planned(plan, all[at]) {
+            return Some(at);
+        }
+    }
+    None
+}
+
+fn plan_four(plan: &mut Plan) -> Result<(), AllocError>
+    requires { plan.old ≡ [] }
+{
+    plan.add(message(MsgKind::Sync, false, 3))?;
+    plan.add(message(MsgKind::Alloc, true, 4))?;
+    plan.add(mapping(1, false, 5))?;
+    plan.add(mapping(2, true, 6))
+}
+
+// How many entries a plan of four has, and the first of which something else becomes.
+fn becomes_of_four(alloc: Global) -> Result<(usize, Option<usize>), AllocError> {
+    let mut plan = Plan::new(alloc);
+    plan_four(&mut plan)?;
+    Ok((plan.entries().len(), planned_otherwise(&plan, PLANNED)))
 }
 
 #[test]
 fn a_plan_says_what_becomes_of_messages_and_mappings(rt: HostRuntime) -> Result<(), Fail> {
-    let mut plan = Plan::new(rt.alloc());
-    plan.add(message(MsgKind::Sync, false, 3))?;
-    plan.add(message(MsgKind::Alloc, true, 4))?;
-    plan.add(mapping(1, false, 5))?;
-    plan.add(mapping(2, true, 6))?;
-    assert!(rt; plan.entries().len() == 4);
-    for (kind, party, k, action) in [
-        (MsgKind::Sync, 1, 1, Action::Lose { line: 3 }),
-        (MsgKind::Alloc, 1, 1, Action::Repeat { line: 4 }),
-        (MsgKind::Reply, 1, 1, Action::Deliver),
-        (MsgKind::Sync, 2, 1, Action::Deliver),
-        (MsgKind::Sync, 1, 2, Action::Deliver),
-    ] {
-        assert!(rt; plan.message(kind, party, k) == action);
-    }
-    for (party, call, action) in [
-        (1, 1, MapAction::Refuse { line: 5 }),
-        (1, 2, MapAction::Elsewhere { line: 6 }),
-        (1, 3, MapAction::Ask),
-        (2, 1, MapAction::Ask),
-    ] {
-        assert!(rt; plan.mapping(party, call) == action);
-    }
-    Ok(())
+    let (count, otherwise) = becomes_of_four(rt.alloc())?;
+    assert!(rt; count == 4);
+    ended(otherwise)
 }
 
 fn message(kind: MsgKind, twice: bool, line: u32) -> PlanEntry
@@ -144,9 +193,8 @@ fn mapping(call: u64, elsewhere: bool, line: u32) -> PlanEntry
 #[test]
 fn a_clock_goes_by_steps_and_stands_at_its_end(rt: HostRuntime) {
     let mut clock = StepClock::new(1 << 62);
-    for reading in [0, 1 << 62, 1 << 63, 1 << 63] {
-        assert!(rt; clock.now() == reading);
-    }
+    let readings = [clock.now(), clock.now(), clock.now(), clock.now()];
+    assert!(rt; readings == [0, 1 << 62, 1 << 63, 1 << 63]);
 }
 
 #[test]
@@ -182,39 +230,4 @@ fn elements_runs_and_slots_lie_where_they_do(rt: HostRuntime) {
     assert!(rt; run.bytes() == 4_194_304);
     assert!(rt; run.end() == 0x1_0060_0000);
     assert!(rt; slot_address(0x1_0000_0000, PAGE, 3) == 0x1_0060_0000);
-}
-
-#[test]
-fn a_source_gives_pieces_and_fails_where_told(rt: HostRuntime) -> Result<(), Fail> {
-    let bytes = Vec::from_slice(rt.alloc(), b"abcde")?;
-    let fails = Vec::from_slice(rt.alloc(), &[2])?;
-    let mut source = MemSource::new(bytes, 2, fails);
-    let mut buf = [0; 4];
-    for (got, left) in [
-        (Got::Bytes(2), 3),
-        (Got::Failed, 3),
-        (Got::Bytes(2), 1),
-        (Got::Bytes(1), 0),
-        (Got::End, 0),
-    ] {
-        assert!(rt; source.read(&mut buf) == got);
-        assert!(rt; source.left().len() == left);
-    }
-    assert!(rt; &buf[..2] == b"ed".as_slice());
-    Ok(())
-}
-
-#[test]
-fn a_sink_takes_pieces_and_fails_where_told(rt: HostRuntime) -> Result<(), Fail> {
-    let fails = Vec::from_slice(rt.alloc(), &[2])?;
-    let mut sink = MemSink::with_room(rt.alloc(), 5, 3, fails)?;
-    for (bytes, put) in [
-        (b"abcde".as_slice(), Put::Took(3)),
-        (b"de".as_slice(), Put::Failed),
-        (b"de".as_slice(), Put::Took(2)),
-    ] {
-        assert!(rt; sink.write(bytes) == put);
-    }
-    assert!(rt; sink.bytes() == b"abcde".as_slice());
-    Ok(())
 }

@@ -1,13 +1,13 @@
-use super::outcome;
+use super::{ended_at, judged, outcome};
 use hp_script::{BadKind, Line, ParseFault, maker_of, parse};
 use std::alloc::Global;
-use std::test::*;
+use std::test::Fail;
 
 // A text at a limit, and one past it in its last line, with that line and its refusal.
 type Limit = (&'static [u8], &'static [u8], u32, BadKind);
 
 // The limits of the facts that hold of each workload: of setup lines, and of participant lines by verb.
-const SETUPS: [Limit; 14] = [
+const SETUPS: &[Limit] = &[
     (b"participants 16", b"participants 17", 1, BadKind::Range),
     (b"participants 1", b"participants 0", 1, BadKind::Range),
     (b"deadline 3600000", b"deadline 3600001", 1, BadKind::Range),
@@ -64,7 +64,7 @@ const SETUPS: [Limit; 14] = [
     ),
 ];
 
-const CALLS: [Limit; 16] = [
+const CALLS: &[Limit] = &[
     (
         b"0 alloc a 18446744073709551615",
         b"0 alloc a 18446744073709551616",
@@ -143,29 +143,30 @@ const CALLS: [Limit; 16] = [
     ),
 ];
 
-fn is_limit(alloc: Global, limit: &Limit) -> bool {
+fn is_limit(alloc: Global, limit: Limit) -> bool {
     let (within, past, number, expected) = limit;
-    let refused = match outcome(alloc, *past) {
-        Err(ParseFault::Bad { line, kind }) => line == *number && kind == *expected,
-        _ => false,
-    };
-    refused && outcome(alloc, *within).is_ok()
+    let refused = judged(alloc, past) == Some(Err((number, expected)));
+    refused && outcome(alloc, within).is_ok()
+}
+
+// Each of these texts is one at its limit.
+fn are_limits(alloc: Global, limits: &[Limit]) -> Result<(), Fail> {
+    for at in 0..limits.len() {
+        if !is_limit(alloc, limits[at]) {
+            return ended_at(at);
+        }
+    }
+    Ok(())
 }
 
 #[test]
 fn facts_of_setup_lines_hold_up_to_their_limits(rt: HostRuntime) -> Result<(), Fail> {
-    for limit in &SETUPS {
-        assert!(rt; is_limit(rt.alloc(), limit), "{}", limit.3);
-    }
-    Ok(())
+    are_limits(rt.alloc(), SETUPS)
 }
 
 #[test]
 fn facts_of_participant_lines_hold_up_to_their_limits(rt: HostRuntime) -> Result<(), Fail> {
-    for limit in &CALLS {
-        assert!(rt; is_limit(rt.alloc(), limit), "{}", limit.3);
-    }
-    Ok(())
+    are_limits(rt.alloc(), CALLS)
 }
 
 // The label `z` of a memzone that two lines reserve, and the label `a`, which is freed before it is made.
@@ -186,16 +187,23 @@ fn maker(lines: &[Line], name: &[u8]) -> (u32, u8) {
     }
 }
 
+// The makers of three names.
+fn makers(alloc: Global) -> Result<[(u32, u8); 3], ParseFault> {
+    let read = parse(alloc, MAKERS)?;
+    Ok([
+        maker(&read.lines, b"a"),
+        maker(&read.lines, b"z"),
+        maker(&read.lines, b"b"),
+    ])
+}
+
 #[test]
 fn the_maker_of_a_name_is_the_first_line_that_makes_it(rt: HostRuntime) -> Result<(), Fail> {
-    let read = parse(rt.alloc(), MAKERS)?;
-    assert!(rt; maker(&read.lines, b"a") == (7, 1));
-    assert!(rt; maker(&read.lines, b"z") == (5, 1));
-    assert!(rt; maker(&read.lines, b"b") == (0, 0));
+    assert!(rt; makers(rt.alloc())? == [(7, 1), (5, 1), (0, 0)]);
     Ok(())
 }
 
-const VERBS: [&str; 21] = [
+const VERBS: &[&str] = &[
     "alloc", "free", "resize", "zone", "lookup", "unzone", "attach", "detach", "heap", "unheap",
     "add", "remove", "map", "unmap", "watch", "unwatch", "limit", "unlimit", "await", "dump",
     "stats",
@@ -225,13 +233,22 @@ const EACH: &[u8] = b"participants 2
 0 dump h
 0 stats h";
 
+// Whether the lines have these verbs, each line one.
+fn have_verbs(lines: &[Line], verbs: &[&str]) -> bool {
+    if lines.len() != verbs.len() {
+        return false;
+    }
+    for at in 0..lines.len() {
+        if lines[at].act.verb() != verbs[at] {
+            return false;
+        }
+    }
+    true
+}
+
 #[test]
 fn an_act_has_the_word_of_its_verb(rt: HostRuntime) -> Result<(), Fail> {
     let read = parse(rt.alloc(), EACH)?;
-    assert!(rt; read.lines.len() == VERBS.len());
-    for (i, want) in VERBS.iter().enumerate() {
-        let word = read.lines.get(i).map(|line| line.act.verb());
-        assert!(rt; word.unwrap_or("") == *want);
-    }
+    assert!(rt; have_verbs(&read.lines, VERBS));
     Ok(())
 }

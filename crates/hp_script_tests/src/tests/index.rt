@@ -1,6 +1,6 @@
 use hp_script::{Line, MakerIndex, ParseFault, parse};
-use std::alloc::Global;
-use std::test::*;
+use std::alloc::{AllocError, Global};
+use std::test::Fail;
 
 // The number and the participant of a line, or 0.
 fn place(line: Option<&Line>) -> (u32, u8) {
@@ -23,42 +23,64 @@ const NAMES: &[u8] = b"participants 3
 1 alloc a 1
 2 resize ab 1";
 
+// The lines that make five names.
+fn places(alloc: Global) -> Result<[(u32, u8); 5], ParseFault> {
+    let read = parse(alloc, NAMES)?;
+    let index = MakerIndex::of(alloc, &read.lines)?;
+    Ok([
+        place(index.maker_of(b"a")),
+        place(index.maker_of(b"ab")),
+        place(index.maker_of(b"z")),
+        place(index.maker_of(b"b")),
+        place(index.maker_of(b"")),
+    ])
+}
+
 #[test]
 fn an_index_finds_the_first_line_that_makes_a_name(rt: HostRuntime) -> Result<(), Fail> {
-    let read = parse(rt.alloc(), NAMES)?;
-    let index = MakerIndex::of(rt.alloc(), &read.lines)?;
-    assert!(rt; place(index.maker_of(b"a")) == (9, 1));
-    assert!(rt; place(index.maker_of(b"ab")) == (4, 0));
-    assert!(rt; place(index.maker_of(b"z")) == (7, 1));
-    assert!(rt; place(index.maker_of(b"b")) == (0, 0));
-    assert!(rt; place(index.maker_of(b"")) == (0, 0));
+    assert!(rt; places(rt.alloc())? == [(9, 1), (4, 0), (7, 1), (0, 0), (0, 0)]);
     Ok(())
 }
 
-// How many of 20,000 labels an index finds in the line that makes it, each on a line of its own.
-fn found(alloc: Global) -> Result<u32, ParseFault> {
-    let mut text = String::new(alloc);
+// A line of its own for each of 20,000 labels.
+fn make_labels(text: &mut String) -> Result<(), AllocError> {
     for number in 1..20_001u32 {
         write!(text, "0 alloc l{number} 64\n")?;
     }
-    if text.len() > 1048576 {
-        return Ok(0);
-    }
-    let read = parse(alloc, text.as_bytes())?;
-    let index = MakerIndex::of(alloc, &read.lines)?;
+    Ok(())
+}
+
+// Whether a label is found in the line that makes it.
+fn is_found(alloc: Global, index: &MakerIndex<'_>, number: u32) -> Result<bool, AllocError> {
+    let label = format!(in alloc; "l{number}")?;
+    Ok(place(index.maker_of(label.as_bytes())) == (number, 0))
+}
+
+// How many of 20,000 labels an index finds so.
+fn count_found(alloc: Global, index: &MakerIndex<'_>) -> Result<u32, AllocError> {
     let mut count = 0u32;
     for number in 1..20_001u32 {
-        let label = format!(in alloc; "l{number}")?;
-        if place(index.maker_of(label.as_bytes())) == (number, 0) {
+        if is_found(alloc, index, number)? {
             count = count.saturating_add(1);
         }
     }
     Ok(count)
 }
 
+fn found(alloc: Global, text: &[u8]) -> Result<u32, ParseFault> {
+    if text.len() > 1048576 {
+        return Ok(0);
+    }
+    let read = parse(alloc, text)?;
+    let index = MakerIndex::of(alloc, &read.lines)?;
+    Ok(count_found(alloc, &index)?)
+}
+
 // Every look-up goes to one line: 20,000 of 20,000 lines take milliseconds.
 #[test]
 fn an_index_finds_each_of_many_names(rt: HostRuntime) -> Result<(), Fail> {
-    assert!(rt; found(rt.alloc())? == 20_000);
+    let mut text = String::new(rt.alloc());
+    make_labels(&mut text)?;
+    assert!(rt; found(rt.alloc(), text.as_bytes())? == 20_000);
     Ok(())
 }

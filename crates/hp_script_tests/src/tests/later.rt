@@ -1,7 +1,7 @@
-use super::outcome;
+use super::{ended_at, outcome};
 use hp_script::{ParseFault, first_later, parse};
 use std::alloc::{AllocError, Global};
-use std::test::*;
+use std::test::Fail;
 
 // Twelve setup lines that are built or skipped.
 const SETUP: &str = "participants 0x4
@@ -37,7 +37,7 @@ const FURTHER: &str = "0 stats socket_0
 ";
 
 // Texts that are built to their end.
-const ALL_BUILT: [&str; 25] = [
+const ALL_BUILT: &[&str] = &[
     "",
     "\n\r\n \t\n# 0 zone a 1",
     "pool 0 2M 4\n",
@@ -66,7 +66,7 @@ const ALL_BUILT: [&str; 25] = [
 ];
 
 // Participant lines that are not built.
-const CALL_LINES: [&str; 25] = [
+const CALL_LINES: &[&str] = &[
     "0 alloc d 10 heap=ext",
     "1 alloc d 10 align=64 heap=ext flags=1",
     "0 zone z 100",
@@ -95,7 +95,7 @@ const CALL_LINES: [&str; 25] = [
 ];
 
 // Texts with lines of several kinds that are not built, and the number of the first one.
-const EARLIEST: [(&str, u32); 7] = [
+const EARLIEST: &[(&str, u32)] = &[
     ("participants 1\nrefuse 0 1\nlose alloc 0 1\n0 zone z 1", 4),
     (
         "refuse 0 1\nlose alloc 0 1\nparticipants 2\n1 attach\n0 await 1 1",
@@ -114,14 +114,14 @@ const EARLIEST: [(&str, u32); 7] = [
     ),
 ];
 
-fn joined(alloc: Global, parts: &[&str]) -> Result<String, AllocError> {
-    let mut text = String::new(alloc);
-    for part in parts {
-        text.push_str(*part)?;
+fn add_each(text: &mut String, parts: &[&str]) -> Result<(), AllocError> {
+    for at in 0..parts.len() {
+        text.push_str(parts[at])?;
     }
-    Ok(text)
+    Ok(())
 }
 
+// The first line of a text that is read that is not built.
 fn later(alloc: Global, text: &str) -> Result<Option<u32>, ParseFault> {
     if text.len() > 1048576 {
         return Ok(None);
@@ -130,50 +130,88 @@ fn later(alloc: Global, text: &str) -> Result<Option<u32>, ParseFault> {
     Ok(first_later(&workload))
 }
 
+// The same of parts of a text, one behind the other.
+fn later_of(alloc: Global, parts: &[&str]) -> Result<Option<u32>, ParseFault> {
+    let mut text = String::new(alloc);
+    add_each(&mut text, parts)?;
+    later(alloc, text.as_str())
+}
+
+// All lines of each text are built.
+fn are_built(alloc: Global, texts: &[&str]) -> Result<(), Fail> {
+    for at in 0..texts.len() {
+        if later(alloc, texts[at])?.is_some() {
+            return ended_at(at);
+        }
+    }
+    Ok(())
+}
+
+// The number of participant lines of two parts of a text.
+fn lines_of(alloc: Global, first: &str, second: &str) -> Result<usize, ParseFault> {
+    let mut text = String::new(alloc);
+    add_each(&mut text, &[first, second])?;
+    outcome(alloc, text.as_bytes())
+}
+
 #[test]
 fn built_lines_alone_have_no_later_one(rt: HostRuntime) -> Result<(), Fail> {
-    let alloc = rt.alloc();
-    let both = joined(alloc, &[SETUP, CALLS])?;
-    assert!(rt; outcome(alloc, both.as_bytes())? == 9);
-    assert!(rt; later(alloc, both.as_str())? == None);
-    for text in ALL_BUILT {
-        assert!(rt; outcome(alloc, text.as_bytes()).is_ok(), "{text}");
-        assert!(rt; later(alloc, text)? == None, "{text}");
+    assert!(rt; lines_of(rt.alloc(), SETUP, CALLS)? == 9);
+    assert!(rt; later_of(rt.alloc(), &[SETUP, CALLS])?.is_none());
+    are_built(rt.alloc(), ALL_BUILT)
+}
+
+// Each of these lines is the first one that is not built, behind those that are and in front of others.
+fn are_later(alloc: Global, lines: &[&str]) -> Result<(), Fail> {
+    for at in 0..lines.len() {
+        let parts = [SETUP, CALLS, lines[at], "\n", FURTHER, "0 zone z 1"];
+        if later_of(alloc, &parts)? != Some(23) {
+            return ended_at(at);
+        }
     }
     Ok(())
 }
 
 #[test]
 fn a_later_line_stands_between_built_ones_and_further_ones(rt: HostRuntime) -> Result<(), Fail> {
-    let alloc = rt.alloc();
-    for line in CALL_LINES {
-        let text = joined(alloc, &[SETUP, CALLS, line, "\n", FURTHER, "0 zone z 1"])?;
-        assert!(rt; outcome(alloc, text.as_bytes()).is_ok(), "{line}");
-        assert!(rt; later(alloc, text.as_str())? == Some(23), "{line}");
+    are_later(rt.alloc(), CALL_LINES)
+}
+
+fn are_earliest(alloc: Global, texts: &[(&str, u32)]) -> Result<(), Fail> {
+    for at in 0..texts.len() {
+        let (text, line) = texts[at];
+        if later(alloc, text)? != Some(line) {
+            return ended_at(at);
+        }
     }
     Ok(())
 }
 
 #[test]
 fn of_later_lines_the_first_is_named(rt: HostRuntime) -> Result<(), Fail> {
-    let alloc = rt.alloc();
-    for (text, want) in EARLIEST {
-        assert!(rt; outcome(alloc, text.as_bytes()).is_ok(), "{text}");
-        assert!(rt; later(alloc, text)? == Some(want), "{text}");
+    are_earliest(rt.alloc(), EARLIEST)
+}
+
+// Lines that are built, so many.
+fn make_lines(text: &mut String, count: u32) -> Result<(), AllocError> {
+    for number in 0..count {
+        write!(text, "0 alloc l{number} 64 socket=1\n")?;
     }
     Ok(())
+}
+
+// The first line that is not built of 19,999 that are, and what comes behind.
+fn later_of_many(alloc: Global, behind: &str) -> Result<Option<u32>, ParseFault> {
+    let mut text = String::new(alloc);
+    make_lines(&mut text, 19_999)?;
+    text.push_str(behind)?;
+    later(alloc, text.as_str())
 }
 
 // The lines are walked once: with 19,999 lines before the later one this takes milliseconds.
 #[test]
 fn the_last_of_many_lines_is_found(rt: HostRuntime) -> Result<(), Fail> {
-    let alloc = rt.alloc();
-    let mut text = String::new(alloc);
-    for number in 0..19_999u32 {
-        write!(text, "0 alloc l{number} 64 socket=1\n")?;
-    }
-    assert!(rt; later(alloc, text.as_str())? == None);
-    text.push_str("0 stats l1")?;
-    assert!(rt; later(alloc, text.as_str())? == Some(20_000));
+    assert!(rt; later_of_many(rt.alloc(), "")?.is_none());
+    assert!(rt; later_of_many(rt.alloc(), "0 stats l1")? == Some(20_000));
     Ok(())
 }

@@ -1,65 +1,75 @@
+use super::ended_at;
 use hp_script::{Act, Line, Options, SocketChoice, Token, parse};
 use std::alloc::{AllocError, Global};
-use std::test::*;
+use std::test::Fail;
 
 // A token's place, and its text.
-fn token(alloc: Global, token: &Token) -> Result<String, AllocError> {
+fn put_token(text: &mut String, token: &Token) -> Result<(), AllocError> {
     let start = token.start();
-    let text = token.as_str();
-    format!(in alloc; "{start}:{text}")
+    let word = token.as_str();
+    write!(text, " {start}:{word}")
 }
 
-fn options(alloc: Global, options: &Options) -> Result<String, AllocError> {
-    let socket = match options.socket {
-        SocketChoice::Any => String::from_str(alloc, "any")?,
-        SocketChoice::Number { socket } => format!(in alloc; "{socket}")?,
-    };
-    let heap = match &options.heap {
-        None => String::from_str(alloc, "none")?,
-        Some(heap) => token(alloc, heap)?,
-    };
+fn put_socket(text: &mut String, socket: SocketChoice) -> Result<(), AllocError> {
+    match socket {
+        SocketChoice::Any => text.push_str(" any"),
+        SocketChoice::Number { socket } => write!(text, " {socket}"),
+    }
+}
+
+fn put_options(text: &mut String, options: &Options) -> Result<(), AllocError> {
+    put_socket(text, options.socket)?;
+    match &options.heap {
+        None => text.push_str(" none")?,
+        Some(heap) => put_token(text, heap)?,
+    }
     let Options {
         align,
         bound,
         flags,
         ..
     } = options;
-    format!(in alloc; "{socket} {heap} {align} {bound} {flags}")
+    write!(text, " {align} {bound} {flags}")
+}
+
+// A verb, a token and a size.
+fn put_sized(text: &mut String, verb: &str, token: &Token, size: u64) -> Result<(), AllocError> {
+    text.push_str(verb)?;
+    put_token(text, token)?;
+    write!(text, " {size}")
 }
 
 // A line in short: its verb, and its fields.
-fn shown(alloc: Global, act: &Act) -> Result<String, AllocError> {
+fn put_act(text: &mut String, act: &Act) -> Result<(), AllocError> {
     match act {
         Act::Alloc {
             label,
             size,
-            options: given,
+            options,
         } => {
-            let label = token(alloc, label)?;
-            let given = options(alloc, given)?;
-            format!(in alloc; "alloc {label} {size} {given}")
+            put_sized(text, "alloc", label, *size)?;
+            put_options(text, options)
         }
-        Act::Zone {
-            name,
-            len,
-            options: given,
-        } => {
-            let name = token(alloc, name)?;
-            let given = options(alloc, given)?;
-            format!(in alloc; "zone {name} {len} {given}")
+        Act::Zone { name, len, options } => {
+            put_sized(text, "zone", name, *len)?;
+            put_options(text, options)
         }
-        Act::Resize { label, size } => {
-            let label = token(alloc, label)?;
-            format!(in alloc; "resize {label} {size}")
-        }
-        Act::Attach => String::from_str(alloc, "attach"),
-        Act::Detach => String::from_str(alloc, "detach"),
-        Act::Await { other, lines } => format!(in alloc; "await {other} {lines}"),
-        other => limiting(alloc, other),
+        Act::Resize { label, size } => put_sized(text, "resize", label, *size),
+        Act::Attach => text.push_str("attach"),
+        Act::Detach => text.push_str("detach"),
+        Act::Await { other, lines } => write!(text, "await {other} {lines}"),
+        other => put_limiting(text, other),
     }
 }
 
-fn limiting(alloc: Global, act: &Act) -> Result<String, AllocError> {
+// A verb, a name and a socket.
+fn put_name(text: &mut String, verb: &str, name: &Token, socket: u32) -> Result<(), AllocError> {
+    text.push_str(verb)?;
+    put_token(text, name)?;
+    write!(text, " {socket}")
+}
+
+fn put_limiting(text: &mut String, act: &Act) -> Result<(), AllocError> {
     match act {
         Act::Limit {
             name,
@@ -67,18 +77,15 @@ fn limiting(alloc: Global, act: &Act) -> Result<String, AllocError> {
             bytes,
             allow,
         } => {
-            let name = token(alloc, name)?;
-            format!(in alloc; "limit {name} {socket} {bytes} {allow}")
+            put_name(text, "limit", name, *socket)?;
+            write!(text, " {bytes} {allow}")
         }
-        Act::Unlimit { name, socket } => {
-            let name = token(alloc, name)?;
-            format!(in alloc; "unlimit {name} {socket}")
-        }
-        other => named(alloc, other),
+        Act::Unlimit { name, socket } => put_name(text, "unlimit", name, *socket),
+        other => put_named(text, other),
     }
 }
 
-fn named(alloc: Global, act: &Act) -> Result<String, AllocError> {
+fn put_named(text: &mut String, act: &Act) -> Result<(), AllocError> {
     let (verb, name) = match act {
         Act::Free { label } => ("free", label),
         Act::Lookup { name } => ("lookup", name),
@@ -89,13 +96,13 @@ fn named(alloc: Global, act: &Act) -> Result<String, AllocError> {
         Act::Unwatch { name } => ("unwatch", name),
         Act::Dump { heap } => ("dump", heap),
         Act::Stats { heap } => ("stats", heap),
-        other => return ranged(alloc, other),
+        other => return put_ranged(text, other),
     };
-    let name = token(alloc, name)?;
-    format!(in alloc; "{verb} {name}")
+    text.push_str(verb)?;
+    put_token(text, name)
 }
 
-fn ranged(alloc: Global, act: &Act) -> Result<String, AllocError> {
+fn put_ranged(text: &mut String, act: &Act) -> Result<(), AllocError> {
     let (verb, heap, addr, len, page) = match act {
         Act::Add {
             heap,
@@ -106,10 +113,11 @@ fn ranged(alloc: Global, act: &Act) -> Result<String, AllocError> {
         Act::Remove { heap, addr, len } => ("remove", heap, addr, len, 0),
         Act::Map { heap, addr, len } => ("map", heap, addr, len, 0),
         Act::Unmap { heap, addr, len } => ("unmap", heap, addr, len, 0),
-        _ => return String::from_str(alloc, "?"),
+        _ => return text.push_str("?"),
     };
-    let heap = token(alloc, heap)?;
-    format!(in alloc; "{verb} {heap} {addr} {len} {page}")
+    text.push_str(verb)?;
+    put_token(text, heap)?;
+    write!(text, " {addr} {len} {page}")
 }
 
 const TEXT: &[u8] = b"participants 2
@@ -138,7 +146,7 @@ const TEXT: &[u8] = b"participants 2
 0 dump socket_0
 0 stats ext";
 
-const SHOWN: [&str; 24] = [
+const SHOWN: &[&str] = &[
     "alloc 23:a 1024 1 none 64 4096 4294967295",
     "alloc 82:b 0 any 91:ext 0 0 0",
     "zone 102:z 1 any none 0 0 0",
@@ -165,23 +173,31 @@ const SHOWN: [&str; 24] = [
     "stats 424:ext",
 ];
 
-#[test]
-fn reads_every_participant_line(rt: HostRuntime) -> Result<(), Fail> {
-    let alloc = rt.alloc();
-    let read = parse(alloc, TEXT)?;
-    assert!(rt; read.lines.len() == SHOWN.len());
-    for (i, line) in read.lines.iter().enumerate() {
-        let Line {
-            line: number,
-            participant,
-            act,
-        } = line;
-        let act = shown(alloc, act)?;
-        assert!(rt; *number == i as u32 + 2);
-        assert!(rt; *participant < 2);
-        if let Some(want) = SHOWN.get(i) {
-            assert!(rt; act.as_str() == *want);
+// Whether a line has a participant below 2, and is shown so.
+fn is_shown(alloc: Global, line: &Line, shown: &str) -> Result<bool, AllocError> {
+    let mut text = String::new(alloc);
+    put_act(&mut text, &line.act)?;
+    Ok(line.participant < 2 && text.as_str() == shown)
+}
+
+// The lines are shown so, and are numbered from 2 on.
+fn are_shown(alloc: Global, lines: &[Line], shown: &[&str]) -> Result<(), Fail> {
+    if lines.len() != shown.len() {
+        return Err("a line for each that is shown".into());
+    }
+    for at in 0..lines.len() {
+        if lines[at].line as usize != at.saturating_add(2) {
+            return ended_at(at);
+        }
+        if !is_shown(alloc, &lines[at], shown[at])? {
+            return ended_at(at);
         }
     }
     Ok(())
+}
+
+#[test]
+fn reads_every_participant_line(rt: HostRuntime) -> Result<(), Fail> {
+    let read = parse(rt.alloc(), TEXT)?;
+    are_shown(rt.alloc(), &read.lines, SHOWN)
 }

@@ -1,12 +1,13 @@
-use super::outcome;
-use hp_script::{BadKind, ParseFault};
-use std::test::*;
+use super::{ended_at, judged};
+use hp_script::BadKind;
+use std::alloc::Global;
+use std::test::Fail;
 
 // A line, the number of the bad one, and its kind.
 type Case = (&'static [u8], u32, BadKind);
 
 // Bytes, words and fields.
-const WORDS: [Case; 36] = [
+const WORDS: &[Case] = &[
     (b"\x00", 1, BadKind::Byte),
     (b"0 alloc a 10\x7f0", 1, BadKind::Byte),
     (b"0 alloc \xc3\xa4 10", 1, BadKind::Byte),
@@ -46,7 +47,7 @@ const WORDS: [Case; 36] = [
 ];
 
 // Numbers, ranges and options.
-const NUMBERS: [Case; 44] = [
+const NUMBERS: &[Case] = &[
     (b"participants x", 1, BadKind::Number),
     (b"absent 0x1", 1, BadKind::Number),
     (b"socket 0x0 0", 1, BadKind::Number),
@@ -94,7 +95,7 @@ const NUMBERS: [Case; 44] = [
 ];
 
 // What is judged along the text.
-const ALONG: [Case; 33] = [
+const ALONG: &[Case] = &[
     (b"0 zone z 1 flags=4294967296", 1, BadKind::Option),
     (b"0 dump x\npool 0 2M 4", 2, BadKind::Order),
     (b"0 dump x\nparticipants 17", 2, BadKind::Range),
@@ -158,38 +159,28 @@ const ALONG: [Case; 33] = [
     (b"0 frob\nfrob", 1, BadKind::Verb),
 ];
 
-#[test]
-fn words_are_refused(rt: HostRuntime) -> Result<(), Fail> {
-    for (text, line, kind) in WORDS {
-        let got = outcome(rt.alloc(), text);
-        assert!(rt;
-            matches!(got, Err(ParseFault::Bad { line: l, kind: k }) if l == line && k == kind),
-            "at line {line}, {kind}"
-        );
+// Each of these texts is refused so.
+fn are_refused(alloc: Global, cases: &[Case]) -> Result<(), Fail> {
+    for at in 0..cases.len() {
+        let (text, line, kind) = cases[at];
+        if judged(alloc, text) != Some(Err((line, kind))) {
+            return ended_at(at);
+        }
     }
     Ok(())
+}
+
+#[test]
+fn words_are_refused(rt: HostRuntime) -> Result<(), Fail> {
+    are_refused(rt.alloc(), WORDS)
 }
 
 #[test]
 fn numbers_are_refused(rt: HostRuntime) -> Result<(), Fail> {
-    for (text, line, kind) in NUMBERS {
-        let got = outcome(rt.alloc(), text);
-        assert!(rt;
-            matches!(got, Err(ParseFault::Bad { line: l, kind: k }) if l == line && k == kind),
-            "at line {line}, {kind}"
-        );
-    }
-    Ok(())
+    are_refused(rt.alloc(), NUMBERS)
 }
 
 #[test]
 fn lines_are_refused_along_the_text(rt: HostRuntime) -> Result<(), Fail> {
-    for (text, line, kind) in ALONG {
-        let got = outcome(rt.alloc(), text);
-        assert!(rt;
-            matches!(got, Err(ParseFault::Bad { line: l, kind: k }) if l == line && k == kind),
-            "at line {line}, {kind}"
-        );
-    }
-    Ok(())
+    are_refused(rt.alloc(), ALONG)
 }

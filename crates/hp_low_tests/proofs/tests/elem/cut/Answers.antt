@@ -4,7 +4,7 @@ use Rattle.hp_elem.specs.Items.{Items, IsAt, IsInside, lower_part, upper_part, c
 use Rattle.hp_elem.specs.Worked.{free_span}
 use Rattle.hp_elem.proofs.OrderLemmas.{lower_end}
 use Rattle.hp_elem.proofs.IndexLemmas.{edit_is}
-use Rattle.hp_low_tests.proofs.tests.elem.cuts_an_element_and_joins_it_again.Goals as goal
+use Rattle.hp_low_tests.proofs.tests.elem.cut.Goals as goal
 
 inside_span : (span : Span) → span ≡ free_span 4096 1024 → IsInside 4352 span
 inside_span span is =
@@ -23,13 +23,13 @@ one_at items before key span is none span_is = record {
 }
 
 pub split-second-requires-clause-inside : goal.split-second-requires-clause-inside
-split-second-requires-clause-inside g c =
-    one_at c.add-key.new.self.items c.reserve.new.self.items c.add-key.result c.free.result c.add-key.ensures.items (c.reserve.ensures.items ∙ c.new-elems.ensures.items) c.free.ensures
+split-second-requires-clause-inside c =
+    one_at c.add-key.new.self.items c.args.elems.now.items c.add-key.result c.free.result c.add-key.ensures.items c.requires.nothing c.free.ensures
 
 pub join_next-requires : goal.join_next-requires
-join_next-requires g c =
+join_next-requires c =
     let at : IsAt (IsInside 4352) c.add-key.result c.add-key.new.self.items =
-    one_at c.add-key.new.self.items c.reserve.new.self.items c.add-key.result c.free.result c.add-key.ensures.items (c.reserve.ensures.items ∙ c.new-elems.ensures.items) c.free.ensures in
+    one_at c.add-key.new.self.items c.args.elems.now.items c.add-key.result c.free.result c.add-key.ensures.items c.requires.nothing c.free.ensures in
     record {
       next = record {
         front = [];
