@@ -2,6 +2,7 @@
 mod base;
 mod elem;
 mod fbarray;
+mod flags;
 mod frame;
 mod freelist;
 mod log;

@@ -1,7 +1,7 @@
 //! Worked values of what is counted and named: classes, multiples, requests, places, names and statuses.
 use hp_base::{
-    BadRequest, Name, Request, Status, align_ceil, align_floor, class_of, has_bit, is_fitting_page,
-    is_hint, is_page_size, names_page, names_pages, pages_for, place, round64,
+    BadRequest, Name, Request, Status, align_ceil, align_floor, class_of, is_page_size, pages_for,
+    place, round64,
 };
 
 const MB: u64 = 0x10_0000;
@@ -129,27 +129,6 @@ fn asks_for_the_pages_of_size_and_header(rt: HostRuntime) {
     ] {
         assert_eq!(rt; is_page_size(page), known, "at {page}");
     }
-}
-
-#[test]
-fn flags_name_page_sizes(rt: HostRuntime) {
-    for (flags, page, named, some, hint) in [
-        (0, 2 * MB, false, false, false),
-        (0x1, 2 * MB, true, true, false),
-        (0x6, 1024 * MB, true, true, true),
-        (0x100, 16 * MB, true, true, false),
-        (0x200, 16 * MB, false, true, false),
-        (0x1_0000, 0x4_0000, true, true, false),
-        (0x6_0000, 512 * MB, true, true, false),
-        (0x8_0004, 4096 * MB, true, true, true),
-        (0xfff0_fcf8, 2 * MB, false, false, false),
-    ] {
-        assert_eq!(rt; names_page(flags, page), named, "of {flags}");
-        assert_eq!(rt; names_pages(flags), some, "of {flags}");
-        assert_eq!(rt; is_fitting_page(flags, page), named || !some, "of {flags}");
-        assert_eq!(rt; is_hint(flags), hint, "of {flags}");
-    }
-    assert!(rt; has_bit(0x8000_0000, 31) && !has_bit(0x7fff_ffff, 31));
 }
 
 #[test]
