@@ -17,7 +17,8 @@ use Rattle.hp_heap.specs.PlainHeap.{PlainHeap, end_of, free_range, is_free, is_w
 use Rattle.hp_heap.specs.Tiling.{IsTiled, in_range, in_range_of, in_segment_of, joins}
 use Rattle.hp_heap.specs.Joining.{after_insertion, joined_up, stretch_down, stretch_to, stretch_up, with_stretch}
 use Rattle.hp_heap.specs.Growing.{CanGrow, after_grow, run_bytes, run_pages}
-use Rattle.hp_heap.specs.Choice.{HasNoChoice, candidates, eligible, fitting_or_hinted, is_attached, is_candidate, is_fitting_page, is_hint, of_fitting_pages}
+use Rattle.hp_base.specs.Flags.{is_fitting_page, is_hint}
+use Rattle.hp_heap.specs.Choice.{HasNoChoice, candidates, eligible, fitting_or_hinted, is_attached, is_candidate, of_fitting_pages}
 use Rattle.hp_heap.specs.Placing.{IsPlacedIn, allocated}
 use Rattle.hp_heap.specs.Step.{address_answer, after, answer_of}
 use Rattle.hp_heap.proofs.AllocLaw.{allocated-is}

@@ -2,7 +2,7 @@
 use Rattle.std.proofs.Common.{◌≡◌, ◌∙◌, ℕ, true, List, length, Option, Some, None, refl, sym, ap, subst}
 use Rattle.std.specs.Prelude.{is_none, slice_get}
 use Rattle.std.specs.Option.{option_map}
-use Rattle.std.proofs.lemmas.Option.{slice_get-map}
+use Rattle.std.proofs.lemmas.Option.{slice_get-map, same_Some}
 use Rattle.hp_base.specs.declared.limits.TheConstants.{MAX_HEAPS}
 use Rattle.hp_frame.specs.declared.frame.Frame.{Frame}
 use Rattle.hp_hall.specs.Course.{IsCourse}
@@ -19,12 +19,9 @@ use Rattle.hp_joint.specs.Together.{Joint, Runs}
 use Rattle.hp_joint.proofs.Walk.{AllLead, IsGood, IsThere, IsUnderWay, Keeps}
 use Rattle.hp_joint.proofs.Walked.{Arrives, arrives}
 
-some_same : {X : Type 0} (x y : X) → Some x ≡ Some y → x ≡ y
-some_same x y same = cc
-
 segs_is : (kept : Kept) (segs : SegsView) → segs_of kept ≡ Some segs → kept ≡ Segments segs
 segs_is (Heap heap) segs is = cc
-segs_is (Segments value) segs is = ap Segments (some_same value segs is)
+segs_is (Segments value) segs is = ap Segments (same_Some value segs is)
 
 -- the segment value of a hall is the one that its slot keeps
 keeps_by : (hall : HallView) (segs : SegsView) (slot : Option SlotView) → slot_at hall MAX_HEAPS ≡ slot → segs_in slot ≡ Some segs
@@ -39,7 +36,7 @@ keeps_back hall segs None at keeps =
     slice_get-map (λ (s : SlotView). s.kept) hall.slots MAX_HEAPS ∙ ap (option_map (λ (s : SlotView). s.kept)) at in
     cc
 keeps_back hall segs (Some slot) at keeps =
-    ap segs_of (some_same slot.kept (Segments segs) (sym (value_at hall MAX_HEAPS slot at) ∙ keeps))
+    ap segs_of (same_Some slot.kept (Segments segs) (sym (value_at hall MAX_HEAPS slot at) ∙ keeps))
 
 -- its value is there where it is at home
 there_by : (hall : HallView) (slot : Option SlotView) → slot_at hall MAX_HEAPS ≡ slot → IsHome slot → IsThere (homes_in hall) true

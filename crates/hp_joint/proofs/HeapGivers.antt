@@ -3,7 +3,7 @@ use Rattle.std.proofs.Common.{◌≡◌, ◌≢◌, ◌⊎◌, ◌∙◌, ℕ, �
 use Rattle.std.specs.Prelude.{⊤, slice_get, slice_set}
 use Rattle.std.specs.List.{AllByRecursion}
 use Rattle.std.proofs.lemmas.Bool.{cases_eq}
-use Rattle.std.proofs.lemmas.Option.{slice_get_within}
+use Rattle.std.proofs.lemmas.Option.{slice_get_within, same_Some}
 use Rattle.hp_heap.specs.declared.entry.Entry.{Entry}
 use Rattle.hp_hall.specs.Keeping.{IsGivenBy, IsKeptBy, ShowsValues, values_after}
 use Rattle.hp_hall.specs.Mail.{Fetches, Gives, MailStep, Notes, Posts, Takes, steps_of}
@@ -12,9 +12,6 @@ use Rattle.hp_hall.specs.declared.kept.Kept.{Kept}
 use Rattle.hp_hall.specs.declared.kept.Kept.TheVariants.{Heap, Segments}
 use Rattle.hp_hall.proofs.Slotted.{slice_get-set_other, slice_get-set_same}
 use Rattle.hp_joint.proofs.Walk.{steps_elsewhere, steps_here}
-
-some_same : {X : Type 0} (x y : X) → Some x ≡ Some y → x ≡ y
-some_same x y same = cc
 
 -- a step gives no heap back
 abbrev pub IsNoGive : MailStep → Type 0
@@ -85,7 +82,7 @@ module _ (of : ℕ → Type 0) where
   stepped who (Gives slot kept) values number before may shows there =
       ⊎_elim
       (λ (same : number ≡ slot).
-      let was : shows.before ≡ before = some_same shows.before before (sym shows.there ∙ ap (slice_get values) (sym same) ∙ there) in
+      let was : shows.before ≡ before = same_Some shows.before before (sym shows.there ∙ ap (slice_get values) (sym same) ∙ there) in
       let now : slice_get (slice_set values slot kept) number ≡ Some kept =
       ap (slice_get (slice_set values slot kept)) same
       ∙ slice_get-set_same values slot kept (slice_get_within values slot shows.before shows.there) in
@@ -125,7 +122,7 @@ module _ (of : ℕ → Type 0) where
       → NoOtherGives of count steps → (number : ℕ) (before kept : Kept) → slice_get old number ≡ Some before
       → slice_get new number ≡ Some kept → HasMoreOf of (history_of before) (history_of kept)
   kept_more count [] old new by may number before kept early late =
-      same_more of _ _ (ap history_of (some_same kept before (sym late ∙ ap (λ (l : List Kept). slice_get l number) by ∙ early)))
+      same_more of _ _ (ap history_of (same_Some kept before (sym late ∙ ap (λ (l : List Kept). slice_get l number) by ∙ early)))
   kept_more count (step ∷ steps) old new by may number before kept early late =
       let mid = stepped step.0 step.1 old number before (here_gives step.0 step.1 steps (may step.0 by.0.declared)) by.0.shows early in
       then_more of (history_of before) (history_of mid.0) (history_of kept) mid.2

@@ -1,10 +1,8 @@
 -- Where each participant came to a seat of its own, all of them are the seats behind.
 use Rattle.std.proofs.Common.{◌≡◌, ℕ, zero, suc, List, [], ◌∷◌, length, Some, refl, ap, subst}
 use Rattle.std.specs.Prelude.{slice_get}
+use Rattle.std.proofs.lemmas.Option.{same_Some}
 use Rattle.hp_joint.specs.Seats.{Seat}
-
-some_same : {X : Type 0} (x y : X) → Some x ≡ Some y → x ≡ y
-some_same x y same = cc
 
 -- a participant came to this
 pub record CameTo (IsBehind : ℕ → Seat → Seat → Type 0) (who : ℕ) (seat : Seat) : Type 0 where
@@ -49,12 +47,12 @@ all_came IsBehind (first ∷ seats) comes =
         → slice_get (first ∷ seats) who ≡ Some seat
         → (last : Seat) × (slice_get (here.last ∷ rest.lasts) who ≡ Some last) × IsBehind who seat last
     each_of here rest zero seat at =
-        (here.last, refl, subst (λ (seat : Seat). IsBehind 0 seat here.last) (some_same first seat at) here.is)
+        (here.last, refl, subst (λ (seat : Seat). IsBehind 0 seat here.last) (same_Some first seat at) here.is)
     each_of here rest (suc who) seat at = rest.each who seat at
 
     were_of : (here : CameTo IsBehind 0 first) (rest : AllCameTo (λ who. IsBehind (suc who)) seats) (who : ℕ) (last : Seat)
         → slice_get (here.last ∷ rest.lasts) who ≡ Some last
         → (seat : Seat) × (slice_get (first ∷ seats) who ≡ Some seat) × IsBehind who seat last
     were_of here rest zero last at =
-        (first, refl, subst (λ (last : Seat). IsBehind 0 first last) (some_same here.last last at) here.is)
+        (first, refl, subst (λ (last : Seat). IsBehind 0 first last) (same_Some here.last last at) here.is)
     were_of here rest (suc who) last at = rest.were who last at

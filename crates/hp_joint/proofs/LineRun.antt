@@ -1,6 +1,7 @@
 -- The run of a line, or of servings: behind it each ask has its answer, no growth is open, and none but the doer took a number.
 use Rattle.std.proofs.Common.{◌≡◌, ◌≢◌, ◌∙◌, ℕ, ◌≤◌, List, [], ◌++◌, append-nil, length, Option, Some, None, refl, ap, sym, subst, arith}
 use Rattle.std.specs.Prelude.{slice_get}
+use Rattle.std.proofs.lemmas.Option.{same_Some}
 use Rattle.hp_hall.specs.HallView.{HallView, heard_in, seen_in}
 use Rattle.hp_log.specs.declared.log_record.LogRecord.{LogRecord}
 use Rattle.hp_script.specs.declared.workload.Workload.{Workload}
@@ -49,9 +50,6 @@ module _ (workload : Workload) (courses later : List Course) (parties behind : L
   module _ (who : ℕ) (apart : (other : ℕ) → other ≢ who → more other ≡ []) (seat last : Seat)
       (early : slice_get so.now.seats who ≡ Some seat) (late : slice_get came.lasts who ≡ Some last)
       (runs : Runs workload.participants so.first there) where
-    some_same : (x y : Seat) → Some x ≡ Some y → x ≡ y
-    some_same x y same = cc
-
     -- nobody else took a number
     none_beside : (other : ℕ) → other ≢ who → length (numbers_of came.lasts other) ≤ length (numbers_of so.now.seats other)
     none_beside other beside = by_seat (slice_get came.lasts other) refl
@@ -78,7 +76,7 @@ module _ (workload : Workload) (courses later : List Course) (parties behind : L
           runs = came.gone.runs;
           was = early;
           is = late;
-          trace_is = were.3 ∙ ap (λ (seat : Seat). seat.trace ++ more who) (some_same were.0 seat (sym were.1 ∙ early));
+          trace_is = were.3 ∙ ap (λ (seat : Seat). seat.trace ++ more who) (same_Some were.0 seat (sym were.1 ∙ early));
           alone = none_open_so_far workload courses parties old so;
           closed = closed_so_far workload courses parties old so;
           beside = none_beside;

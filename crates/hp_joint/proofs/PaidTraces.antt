@@ -11,7 +11,7 @@ use Rattle.hp_base.specs.declared.tag.Tag.{Tag}
 use Rattle.hp_heap.proofs.ChoiceLaw.{Contains-filter}
 use Rattle.hp_heap.proofs.Members.{AllByRecursion-each}
 use Rattle.hp_heap.proofs.RangeLemmas.{AllByRecursion-append}
-use Rattle.hp_heap.specs.Choice.{is_fitting_page, is_hint, names_page, names_pages}
+use Rattle.hp_base.specs.Flags.{is_fitting_page, is_hint, names_page, names_pages}
 use Rattle.hp_heap.specs.declared.entry.HeapAnswer.{HeapAnswer}
 use Rattle.hp_heap.specs.declared.entry.HeapAnswer.TheVariants as gives
 use Rattle.hp_heap.specs.declared.entry.HeapCall.{HeapCall}

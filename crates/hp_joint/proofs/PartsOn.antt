@@ -22,9 +22,6 @@ use Rattle.hp_hall.proofs.Slotted.{unheld_heap, value_at}
 use Rattle.hp_segs.specs.SegsView.{SegsView}
 use Rattle.hp_joint.proofs.HeapGivers.{HasMoreOf, NoOtherGives, kept_more, same_more}
 
-some_same : {X : Type 0} (x y : X) → Some x ≡ Some y → x ≡ y
-some_same x y same = cc
-
 -- THE SEGMENT VALUE
 
 log_kept : (kept : Kept) (segs : SegsView) → segs_of kept ≡ Some segs → log_of kept ≡ segs.log

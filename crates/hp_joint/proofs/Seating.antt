@@ -2,12 +2,9 @@
 use Rattle.std.proofs.Common.{◌≡◌, ◌≢◌, ◌∙◌, ℕ, List, Some, sym, ap, ⊎_elim}
 use Rattle.std.specs.Prelude.{slice_get, slice_set}
 use Rattle.std.proofs.lemmas.Bool.{cases_eq}
-use Rattle.std.proofs.lemmas.Option.{slice_get_within}
+use Rattle.std.proofs.lemmas.Option.{slice_get_within, same_Some}
 use Rattle.hp_hall.proofs.Slotted.{slice_get-set_other, slice_get-set_same}
 use Rattle.hp_joint.specs.Seats.{Seat}
-
-some_same : {X : Type 0} (x y : X) → Some x ≡ Some y → x ≡ y
-some_same x y same = cc
 
 -- a seat is the one that has come to something else, or one of the others
 pub data IsSeatBehind (seats : List Seat) (who : ℕ) (new : Seat) (other : ℕ) (seat : Seat) : Type 0 where
@@ -28,6 +25,6 @@ module _ (seats : List Seat) (who : ℕ) (old new : Seat) (there : slice_get sea
   seat_behind other seat is =
       ⊎_elim
       (λ (same : other ≡ who).
-      IsSeatBehind.its same (some_same seat new (sym is ∙ ap (slice_get (slice_set seats who new)) same ∙ its_seat)))
+      IsSeatBehind.its same (same_Some seat new (sym is ∙ ap (slice_get (slice_set seats who new)) same ∙ its_seat)))
       (λ (beside : other ≢ who). IsSeatBehind.apart beside (sym (other_seat other beside) ∙ is))
       (cases_eq other who)

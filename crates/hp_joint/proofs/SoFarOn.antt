@@ -2,7 +2,7 @@
 use Rattle.std.proofs.Common.{◌≡◌, ◌∙◌, ℕ, ◌<◌, ◌≤◌, true, List, ◌++◌, length, Some, refl, ap, sym, subst, arith}
 use Rattle.std.specs.Prelude.{slice_get, slice_index}
 use Rattle.std.specs.List.{All}
-use Rattle.std.proofs.lemmas.Option.{slice_get_within}
+use Rattle.std.proofs.lemmas.Option.{slice_get_within, same_Some}
 use Rattle.hp_base.specs.declared.limits.TheConstants.{MAX_HEAPS}
 use Rattle.hp_hall.specs.Course.{IsCourse, course_then}
 use Rattle.hp_hall.specs.HallView.{HallView, heard_in, history_in, own_at, part_in, seen_in, slot_at}
@@ -100,7 +100,7 @@ module _ (workload : Workload) (courses later : List Course) (parties behind : L
     roster = enrolled;
     each = λ who after at.
         let last = at_place came.lasts who (omega (arith, slice_get_within behind who after at, size, so.count, came.size, many)) in
-        let own : last.it.party ≡ after = some_same last.it.party after (sym (came.were who last.it last.there).2 ∙ at) in
+        let own : last.it.party ≡ after = same_Some last.it.party after (sym (came.were who last.it last.there).2 ∙ at) in
         so_far_for who after (known who after at)
         (subst (λ (party : Party). party.joined ≡ party.context.standing.attached) own (left who last.it last.there).joined)
         (λ joined. subst (λ (party : Party). party.context.standing.records ≤ party.maps.number) own
@@ -114,6 +114,3 @@ module _ (workload : Workload) (courses later : List Course) (parties behind : L
     where
       many : length so.now.seats ≡ workload.participants
       many = seats_many workload courses parties old so
-
-      some_same : (x y : Party) → Some x ≡ Some y → x ≡ y
-      some_same x y same = cc

@@ -3,6 +3,7 @@ use Rattle.std.proofs.Common.{◌≡◌, ◌≢◌, ◌∙◌, ℕ, Bool, true, 
 use Rattle.std.specs.Prelude.{slice_get}
 use Rattle.std.specs.List.{filter}
 use Rattle.std.proofs.lemmas.Bool.{cond-false, cond-true, eq-eqb}
+use Rattle.std.proofs.lemmas.Option.{same_Some}
 use Rattle.hp_base.specs.declared.limits.TheConstants.{MAX_HEAPS}
 use Rattle.hp_frame.specs.declared.frame.Frame.{Frame}
 use Rattle.hp_hall.specs.Holding.{IsArmed}
@@ -18,9 +19,6 @@ use Rattle.hp_segs.specs.SegsView.{SegsView}
 use Rattle.hp_segs.specs.Sound.{IsSound}
 use Rattle.hp_joint.specs.Seats.{Handles, IsOfHeap, Mails, Path, Seat}
 use Rattle.hp_joint.specs.Together.{Joint, Runs}
-
-some_same : {X : Type 0} (x y : X) → Some x ≡ Some y → x ≡ y
-some_same x y same = cc
 
 -- the steps of who made the first one begin with it, and those of others do not
 pub steps_here : (who : ℕ) (step : MailStep) (steps : List (ℕ × MailStep)) → steps_of who ((who, step) ∷ steps) ≡ step ∷ steps_of who steps
@@ -98,14 +96,14 @@ pub record IsBehind (count : ℕ) (lasts : List Seat) (who : ℕ) (step : MailSt
 pub taken_is : (values : List Kept) (segs taken : SegsView) → Keeps values segs → slice_get values MAX_HEAPS ≡ Some (Segments taken)
     → taken ≡ segs
 taken_is values segs taken keeps shows =
-    let same : Segments taken ≡ Segments segs = some_same (Segments taken) (Segments segs) (sym shows ∙ keeps) in
+    let same : Segments taken ≡ Segments segs = same_Some (Segments taken) (Segments segs) (sym shows ∙ keeps) in
     cc
 
 not_heap : (values : List Kept) (segs : SegsView) (number : ℕ) (heap : _) → Keeps values segs → slice_get values number ≡ Some (Heap heap)
     → number ≢ MAX_HEAPS
 not_heap values segs number heap keeps shows same =
     let wrong : Heap heap ≡ Segments segs =
-    some_same (Heap heap) (Segments segs) (sym shows ∙ ap (slice_get values) same ∙ keeps) in
+    same_Some (Heap heap) (Segments segs) (sym shows ∙ ap (slice_get values) same ∙ keeps) in
     cc
 
 not_given_heap : (values : List Kept) (segs : SegsView) (who number : ℕ) (heap : _) → Keeps values segs
@@ -113,7 +111,7 @@ not_given_heap : (values : List Kept) (segs : SegsView) (who number : ℕ) (heap
     → number ≢ MAX_HEAPS
 not_given_heap values segs who number heap keeps shows same =
     let was : shows.before ≡ Segments segs =
-    some_same shows.before (Segments segs) (sym shows.there ∙ ap (slice_get values) same ∙ keeps) in
+    same_Some shows.before (Segments segs) (sym shows.there ∙ ap (slice_get values) same ∙ keeps) in
     subst (λ (kept : Kept). IsGivenBy who kept (Heap heap)) was shows.by
 
 -- a step of a heap leaves the segment value, and whether it is there

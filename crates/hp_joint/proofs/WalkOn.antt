@@ -3,7 +3,7 @@ use Rattle.std.proofs.Common.{◌≡◌, ◌≢◌, ◌∙◌, ℕ, Bool, true, 
 use Rattle.std.specs.Prelude.{slice_get}
 use Rattle.std.proofs.lemmas.Bool.{cases_eq}
 use Rattle.std.proofs.lemmas.List.{length-set}
-use Rattle.std.proofs.lemmas.Option.{slice_get_within}
+use Rattle.std.proofs.lemmas.Option.{slice_get_within, same_Some}
 use Rattle.hp_base.specs.declared.limits.TheConstants.{MAX_HEAPS}
 use Rattle.hp_frame.specs.declared.frame.Frame.{Frame}
 use Rattle.hp_hall.specs.InTurn.{ShowsHome, homes_after}
@@ -21,9 +21,6 @@ use Rattle.hp_joint.specs.Together.{Joint, Runs, Steps, behind_step, with_seat, 
 use Rattle.hp_joint.proofs.Seating.{its_seat, other_seat}
 use Rattle.hp_joint.proofs.Walk.{AllLead, IsBehind, IsGood, IsHolding, IsThere, IsUnderWay, Keeps, Leads, LeavesSegs, OthersLead, heap_boxes, heap_leaves, mail_leaves, steps_elsewhere, steps_here, taken_is}
 use Rattle.hp_joint.proofs.WalkSteps.{IsNext, Reaches, reaches_mail, reaches_same}
-
-some_same : {X : Type 0} (x y : X) → Some x ≡ Some y → x ≡ y
-some_same x y same = cc
 
 -- a step as it shows itself to all
 pub record IsShown (who : ℕ) (step : MailStep) (at : Joint) (values : List Kept) (homes : List Bool) : Type 0 where
@@ -56,7 +53,7 @@ module _ (count : ℕ) (lasts : List Seat) (who : ℕ) (step : MailStep) (steps 
   all_lead new seat last boxes reaches last_is path others other found there =
       ⊎_elim
       (λ (same : other ≡ who).
-      let seat_is : found ≡ seat = some_same found seat (sym there ∙ ap (slice_get new.seats) same ∙ reaches.its) in
+      let seat_is : found ≡ seat = same_Some found seat (sym there ∙ ap (slice_get new.seats) same ∙ reaches.its) in
       subst (λ (other : ℕ). Leads count lasts steps other found) (sym same)
       (record {
         last = last;
@@ -114,7 +111,7 @@ module _ (count : ℕ) (lasts : List Seat) (who : ℕ) (step : MailStep) (steps 
         (λ other found apart is.
         ⊎_elim
         (λ (same : other ≡ who).
-        let seat_is : found ≡ seat = some_same found seat (sym is ∙ ap (slice_get new.seats) same ∙ reaches.its) in
+        let seat_is : found ≡ seat = same_Some found seat (sym is ∙ ap (slice_get new.seats) same ∙ reaches.its) in
         subst (λ (other : ℕ). Leads count lasts steps other found) (sym same)
         (record {
           last = last;
@@ -193,7 +190,7 @@ module _ (count : ℕ) (lasts : List Seat) (who : ℕ) (step : MailStep) (steps 
         (mail_leaves who before seat step values homes does) holder beside there holding others
     held_next (IsNext.takes new seat mid taken given held more reaches step_is are does path) =
         let shows : slice_get homes MAX_HEAPS ≡ Some true = subst (λ (step : MailStep). ShowsHome step homes) step_is shown.home in
-        let wrong : true ≡ false = some_same true false (sym shows ∙ there) in
+        let wrong : true ≡ false = same_Some true false (sym shows ∙ there) in
         absurd (true≢false wrong)
 
   -- WHERE ITS HOLDER GOES ON
@@ -244,7 +241,7 @@ module _ (count : ℕ) (lasts : List Seat) (who : ℕ) (step : MailStep) (steps 
       let step_is : step ≡ gives_segments holding.given = cc in
       let rest_is : steps_of who steps ≡ holding.rest = cc in
       let shows = subst (λ (step : MailStep). ShowsValues who step values) step_is shown.shows in
-      let was : shows.before ≡ Segments at.segs = some_same shows.before (Segments at.segs) (sym shows.there ∙ shown.keeps) in
+      let was : shows.before ≡ Segments at.segs = same_Some shows.before (Segments at.segs) (sym shows.there ∙ shown.keeps) in
       let good = given_kept shows.before holding.given was shows.by shows.sound in
       let new : Joint = with_segs holding.given (with_seat who holding.mid at) in
       let within = slice_get_within homes MAX_HEAPS false there in
@@ -265,7 +262,7 @@ module _ (count : ℕ) (lasts : List Seat) (who : ℕ) (step : MailStep) (steps 
             ⊎_elim
             (λ (same : other ≡ who).
             let seat_is : found ≡ holding.mid =
-            some_same found holding.mid (sym is ∙ ap (slice_get new.seats) same
+            same_Some found holding.mid (sym is ∙ ap (slice_get new.seats) same
             ∙ its_seat at.seats who holding.old holding.mid holding.there) in
             subst (λ (other : ℕ). Leads count lasts steps other found) (sym same)
             (record {

@@ -10,7 +10,7 @@ use Rattle.hp_base.specs.declared.limits.TheConstants.{MAX_HEAPS}
 use Rattle.hp_base.specs.declared.pool_line.PoolLine.{PoolLine}
 use Rattle.hp_hall.proofs.Pending.{pending_later}
 use Rattle.hp_hall.specs.Weights.{pending_at}
-use Rattle.hp_heap.specs.Choice.{is_hint, names_page, names_pages}
+use Rattle.hp_base.specs.Flags.{is_hint, names_page, names_pages}
 use Rattle.hp_script.specs.declared.options.SocketChoice.{SocketChoice}
 use Rattle.hp_script.specs.declared.options.SocketChoice.TheVariants.{Any, Number}
 use Rattle.hp_proc.specs.AskSteps.{waits_until}

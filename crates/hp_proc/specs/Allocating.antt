@@ -1,10 +1,11 @@
 -- What an allocation line does: it searches heap after heap, and asks for pages page size after page size.
 use Rattle.std.specs.Prelude.{ℕ, Bool, true, false, ◌+◌, ◌-◌, List, [], ◌∷◌, Option, Some, None, if◌then◌else◌}
+use Rattle.hp_base.specs.declared.flags.TheConstants.{HINT}
 use Rattle.hp_base.specs.declared.pool_line.PoolLine.{PoolLine}
 use Rattle.hp_base.specs.declared.request.Request.{Request}
 use Rattle.hp_base.specs.declared.row.Run.{Run}
 use Rattle.hp_base.specs.declared.tag.Tag.{Tag}
-use Rattle.hp_heap.specs.Choice.{is_hint}
+use Rattle.hp_base.specs.Flags.{is_hint}
 use Rattle.hp_heap.specs.declared.entry.HeapCall.TheVariants as call
 use Rattle.hp_heap.specs.declared.entry.HeapAnswer.{HeapAnswer}
 use Rattle.hp_heap.specs.declared.entry.HeapAnswer.TheVariants as gives
@@ -13,11 +14,7 @@ use Rattle.hp_script.specs.declared.answer.Answer.TheVariants as answer
 use Rattle.hp_proc.specs.Doing.{Doing}
 use Rattle.hp_proc.specs.Heaps.{NamedHeap, page_sizes_for}
 
--- the bit of the flags by which their page sizes are a hint alone
-abbrev pub HINT : ℕ
-HINT = 4
-
--- flags without that bit, and with it
+-- flags without the bit by which their page sizes are a hint alone, and with it
 abbrev pub without_hint : ℕ → ℕ
 without_hint flags = if is_hint flags then flags - HINT else flags
 

@@ -5,7 +5,7 @@ use Rattle.std.specs.Option.{option_map_or, option_to_list}
 use Rattle.std.specs.Str.{bytes_eq}
 use Rattle.hp_base.specs.Pages.{page_sizes}
 use Rattle.hp_base.specs.declared.pool_line.PoolLine.{PoolLine}
-use Rattle.hp_heap.specs.Choice.{names_pages, names_page, is_hint}
+use Rattle.hp_base.specs.Flags.{names_pages, names_page, is_hint}
 use Rattle.hp_heap.specs.PlainHeap.{socket_name}
 use Rattle.hp_script.specs.declared.options.SocketChoice.{SocketChoice}
 use Rattle.hp_script.specs.declared.options.SocketChoice.TheVariants.{Any, Number}

@@ -11,7 +11,7 @@ use Rattle.hp_frame.specs.declared.message.Body.{Body}
 use Rattle.hp_frame.specs.declared.message.Body.TheVariants.{Sync, Answer}
 use Rattle.hp_hall.specs.Mail.{MailStep, Posts}
 use Rattle.hp_mail.specs.declared.posted.Posted.{Posted}
-use Rattle.hp_heap.specs.Choice.{has_bit}
+use Rattle.hp_base.specs.Flags.{has_bit}
 use Rattle.hp_proc.specs.Frames.{Says}
 use Rattle.hp_proc.specs.Party.{Party, one_more}
 

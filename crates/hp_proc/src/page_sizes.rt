@@ -1,68 +1,13 @@
 //! The page sizes for which memory is asked, and what flags say of them.
-ghost use Rattle.std.specs.Prelude.{◌≡◌, ◌<◌, ◌++◌, ◌&&◌, not, IfOk, OnOk};
+ghost use Rattle.std.specs.Prelude.{◌≡◌, ◌++◌, ◌&&◌, not, IfOk, OnOk};
 ghost use Rattle.std.specs.List.{filter};
 ghost use Rattle.hp_base.specs.Pages.{page_sizes};
-ghost use Rattle.hp_heap.specs.Choice.{has_bit, is_hint, names_page, names_pages};
+ghost use Rattle.hp_base.specs.Flags.{names_page};
 ghost use Rattle.hp_proc.specs.Allocating.{without_hint};
 ghost use Rattle.hp_proc.specs.Heaps.{has_pool, page_sizes_for};
 
-use hp_base::{PAGE_SIZES, PoolLine};
+use hp_base::{HINT, PAGE_SIZES, PoolLine, is_hint, names_page, names_pages};
 use std::alloc::{AllocError, Global};
-
-// Each hugepage size with the bit of the flags that names it, as the RTE_MEMZONE_ flags do.
-const PAGE_FLAGS: [(u64, u32); 8] = [
-    (1 << 21, 0),
-    (1 << 30, 1),
-    (1 << 24, 8),
-    (1 << 34, 9),
-    (1 << 18, 16),
-    (1 << 28, 17),
-    (1 << 29, 18),
-    (1 << 32, 19),
-];
-
-// What RTE_MEMZONE_SIZE_HINT_ONLY adds to flags.
-const HINT: u32 = 4;
-
-// Whether a bit of a number is set.
-fn has_bit(bits: u32, bit: u32) -> bool
-    requires { bit < 32 }
-    ensures { result ≡ has_bit bits bit }
-{
-    (bits >> bit) % 2 == 1
-}
-
-// Whether the page sizes of flags are a hint alone.
-#[tactic(auto, unfolding(hp_heap::specs::Choice::is_hint))]
-fn is_hint(flags: u32) -> bool
-    ensures { result ≡ is_hint flags }
-{
-    has_bit(flags, 2)
-}
-
-// Whether flags name a page size.
-fn names_page(flags: u32, page: u64) -> bool
-    ensures { result ≡ names_page flags page }
-{
-    for (size, bit) in PAGE_FLAGS {
-        if size == page && has_bit(flags, bit) {
-            return true;
-        }
-    }
-    false
-}
-
-// Whether flags name some page size.
-fn names_pages(flags: u32) -> bool
-    ensures { result ≡ names_pages flags }
-{
-    for (_, bit) in PAGE_FLAGS {
-        if has_bit(flags, bit) {
-            return true;
-        }
-    }
-    false
-}
 
 // Whether a pool line names the socket and the page size.
 fn has_pool(pools: &[PoolLine], socket: u32, page: u64) -> bool

@@ -6,7 +6,6 @@ ghost use Rattle.hp_frame.specs.declared.frame.Frame.{Frame};
 ghost use Rattle.hp_hall.specs.Mail.{MailStep, Posts};
 ghost use Rattle.hp_hall.specs.Weights.{frame_weight};
 ghost use Rattle.hp_mail.specs.declared.posted.Posted.{Posted};
-ghost use Rattle.hp_heap.specs.Choice.{has_bit};
 ghost use Rattle.hp_log.specs.declared.log_record.LogRecord.{LogRecord};
 ghost use Rattle.hp_proc.specs.Frames.{Says};
 ghost use Rattle.hp_proc.specs.Party.{one_more};
@@ -23,24 +22,16 @@ ghost use Rattle.hp_proc.specs.Posting.{
 use crate::calls::post;
 use crate::framing::framed;
 use crate::sent::one_more;
-use hp_base::{MsgKind, Plan};
+use hp_base::{MsgKind, Plan, has_bit};
 use hp_frame::{Body, Frame};
 use hp_hall::Hall;
-
-// Whether bit `who` of a number of members is set.
-fn has_bit(members: u16, who: u8) -> bool
-    requires { who < 16 }
-    ensures { result ≡ has_bit members who }
-{
-    (members >> who) % 2 == 1
-}
 
 // Whether a SYNC for these members goes to a participant.
 fn is_told(count: u8, members: u16, who: u8) -> bool
     requires { who < 16 }
     ensures { result ≡ is_told count members who }
 {
-    who < count && has_bit(members, who)
+    who < count && has_bit(u32::from(members), u32::from(who))
 }
 
 /// Posts the next message of a kind to a participant, as it is planned, and counts it. Own.

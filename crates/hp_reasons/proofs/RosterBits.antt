@@ -1,7 +1,7 @@
 -- The bits of a roster's number are its members.
 use Rattle.std.proofs.Common.{◌≡◌, ◌∙◌, ℕ, zero, suc, ◌+◌, ◌/◌, ◌%◌, ◌==◌, Bool, true, false, List, [], ◌∷◌, ap, arith, if◌then◌else◌}
 use Rattle.std.proofs.lemmas.Nat.Bits.{bit_at-suc, bit_at_above, bit_at_lowest}
-use Rattle.hp_heap.specs.Choice.{has_bit}
+use Rattle.hp_base.specs.Flags.{has_bit}
 use Rattle.hp_segs.specs.SegsView.{is_member, roster_bits}
 
 lowest_bit : (here : Bool) (n : ℕ) → (((if here then 1 else 0) + (n + n)) % 2 == 1) ≡ here

@@ -3,11 +3,11 @@ ghost use Rattle.std.specs.Prelude.{◌≡◌, ◌<◌, IfOk, MatchResult, lengt
 ghost use Rattle.hp_run.specs.Reading.{GaveAll, GaveUp, read_failed};
 ghost use Rattle.hp_base.specs.Streams.{CountsFault};
 
-use hp_base::{Got, Source};
+use hp_base::{Got, MAX_WORKLOAD_BYTES, Source};
 use std::alloc::{AllocError, Global};
 
 /// The greatest length of a workload, in bytes.
-pub const LIMIT: usize = 1_048_576;
+pub const LIMIT: usize = MAX_WORKLOAD_BYTES;
 
 /// The greatest piece that is asked of a source at a time, in bytes.
 const PIECE: usize = 65_536;

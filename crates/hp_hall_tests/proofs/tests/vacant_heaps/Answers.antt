@@ -1,12 +1,9 @@
 use Rattle.std.proofs.Common.{◌≡◌, ℕ, zero, suc, List, [], ◌∷◌, ◌++◌, length, Some, ap, subst, ◌∙◌, arith}
 use Rattle.std.specs.List.{slice_get}
-use Rattle.std.proofs.lemmas.Option.{slice_get_within}
+use Rattle.std.proofs.lemmas.Option.{slice_get_within, same_Some}
 use Rattle.hp_heap.specs.History.{HeapView}
 use Rattle.hp_heap.specs.PlainHeap.{PlainHeap}
 use Rattle.hp_hall_tests.proofs.tests.vacant_heaps.Goals as goal
-
-some_same : (a b : HeapView) → Some a ≡ Some b → a ≡ b
-some_same a b same = cc
 
 none_in : (xs : List HeapView) (number : ℕ) (heap : HeapView) → xs ≡ [] → slice_get xs number ≡ Some heap → ⊥
 none_in xs number heap none there = omega (arith, slice_get_within xs number heap there, ap length none)
@@ -14,7 +11,7 @@ none_in xs number heap none there = omega (arith, slice_get_within xs number hea
 -- what holds of each holds with one more behind them
 each_more : (P : ℕ → HeapView → Type 0) (xs : List HeapView) (x : HeapView) → ((k : ℕ) (y : HeapView) → slice_get xs k ≡ Some y → P k y)
     → P (length xs) x → (k : ℕ) (y : HeapView) → slice_get (xs ++ x ∷ []) k ≡ Some y → P k y
-each_more P [] x each last zero y there = subst (P zero) (some_same x y there) last
+each_more P [] x each last zero y there = subst (P zero) (same_Some x y there) last
 each_more P [] x each last (suc k) y there = cc
 each_more P (z ∷ xs) x each last zero y there = each zero y there
 each_more P (z ∷ xs) x each last (suc k) y there = each_more (λ n. P (suc n)) xs x (λ n w at. each (suc n) w at) last k y there

@@ -1,6 +1,6 @@
 use Rattle.std.proofs.Common.{ap, sym, ◌∙◌}
 use Rattle.hp_base.specs.Pages.{page_sizes}
-use Rattle.hp_heap.specs.Choice.{names_page}
+use Rattle.hp_base.specs.Flags.{names_page}
 use Rattle.hp_proc.proofs.Mapped.{kept_more, kept_same}
 use Rattle.hp_proc.proofs.page_sizes.push_named.Goals.{then-names_page+in_ok-push, else-names_page}
 use Rattle.hp_proc.proofs.page_sizes.push_named.Goals as goal

@@ -1,6 +1,6 @@
 use Rattle.std.proofs.Common.{◌≡◌, ◌++◌, filter, take}
 use Rattle.hp_base.specs.Pages.{page_sizes}
-use Rattle.hp_heap.specs.Choice.{names_page}
+use Rattle.hp_base.specs.Flags.{names_page}
 use Rattle.hp_proc.proofs.page_sizes.push_named.Given as goal
 
 abbrev pub invariant-loop-page : goal.invariant-loop-page

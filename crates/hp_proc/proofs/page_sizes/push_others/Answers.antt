@@ -1,6 +1,6 @@
 use Rattle.std.proofs.Common.{◌&&◌, not, ap, sym, ◌∙◌}
 use Rattle.hp_base.specs.Pages.{page_sizes}
-use Rattle.hp_heap.specs.Choice.{names_page}
+use Rattle.hp_base.specs.Flags.{names_page}
 use Rattle.hp_proc.specs.Heaps.{has_pool}
 use Rattle.hp_proc.proofs.Mapped.{kept_more, kept_same}
 use Rattle.hp_proc.proofs.page_sizes.push_others.Goals.{then-is_other+in_ok-push, else-is_other}

@@ -1,6 +1,6 @@
 use Rattle.std.proofs.Common.{◌≡◌, ℕ, ◌≤◌, ◌/◌, ◌%◌, true, arith, sym, ◌∙◌}
 use Rattle.std.proofs.lemmas.Bool.{eqb-true}
-use Rattle.hp_heap.specs.Choice.{is_hint}
+use Rattle.hp_base.specs.Flags.{is_hint}
 use Rattle.hp_proc.proofs.page_sizes.without_hint.Goals as goal
 
 -- the bit counts
