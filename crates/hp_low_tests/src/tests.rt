@@ -27,3 +27,12 @@ fn ended(otherwise: Option<usize>) -> Result<(), Fail> {
         Some(place) => Err(Otherwise { place }.into()),
     }
 }
+
+// What has to hold holds.
+fn holds(is_so: bool) -> Result<(), Fail> {
+    if is_so {
+        Ok(())
+    } else {
+        Err("what has to hold".into())
+    }
+}

@@ -3,6 +3,7 @@ ghost use Rattle.std.specs.Prelude.{◌≡◌, ◌≤◌, [], true};
 ghost use Rattle.hp_chain.specs.Chain.{has_key};
 ghost use Rattle.hp_elem.specs.Worked.{free_span, busy_span};
 
+use super::holds;
 use Look::*;
 use hp_base::{Span, SpanState, Tag};
 use hp_elem::Elems;
@@ -267,26 +268,22 @@ fn plays(alloc: Global, play: Play) -> Result<bool, AllocError> {
 
 #[test]
 fn cuts_an_element_and_joins_it_again(rt: HostRuntime) -> Result<(), Fail> {
-    assert!(rt; plays(rt.alloc(), Play::Cut)?);
-    Ok(())
+    holds(plays(rt.alloc(), Play::Cut)?)
 }
 
 #[test]
 fn keeps_elements_by_address(rt: HostRuntime) -> Result<(), Fail> {
-    assert!(rt; plays(rt.alloc(), Play::HideOne)?);
-    Ok(())
+    holds(plays(rt.alloc(), Play::HideOne)?)
 }
 
 #[test]
 fn finds_the_lowest_with_a_tag(rt: HostRuntime) -> Result<(), Fail> {
-    assert!(rt; plays(rt.alloc(), Play::TagTwo)?);
-    Ok(())
+    holds(plays(rt.alloc(), Play::TagTwo)?)
 }
 
 #[test]
 fn finds_each_part_of_a_busy_element(rt: HostRuntime) -> Result<(), Fail> {
-    assert!(rt; plays(rt.alloc(), Play::CutBusy)?);
-    Ok(())
+    holds(plays(rt.alloc(), Play::CutBusy)?)
 }
 
 // So it does with room for one, until more is made.
@@ -298,6 +295,5 @@ fn plays_after_reserve(alloc: Global) -> Result<bool, AllocError> {
 
 #[test]
 fn finds_tags_after_a_reserve(rt: HostRuntime) -> Result<(), Fail> {
-    assert!(rt; plays_after_reserve(rt.alloc())?);
-    Ok(())
+    holds(plays_after_reserve(rt.alloc())?)
 }

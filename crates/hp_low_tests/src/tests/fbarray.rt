@@ -1,7 +1,7 @@
 //! Worked values of the mask's calls, and a table from a plain search that was written apart.
 ghost use Rattle.std.specs.Prelude.{◌≡◌, length};
 
-use super::ended;
+use super::{ended, holds};
 use hp_fbarray::Mask;
 use std::alloc::{AllocError, Global};
 use std::test::Fail;
@@ -84,8 +84,7 @@ fn set_and_clear(mask: &mut Mask) -> ([bool; 2], [Option<usize>; 3])
 #[test]
 fn finds_two_clear_places_behind_a_used_one(rt: HostRuntime) -> Result<(), Fail> {
     let mut mask = Mask::new(rt.alloc(), 4)?;
-    assert!(rt; set_and_clear(&mut mask) == ([true; 2], [Some(2), None, Some(0)]));
-    Ok(())
+    holds(set_and_clear(&mut mask) == ([true; 2], [Some(2), None, Some(0)]))
 }
 
 // What a mask of no places answers for none and for one.
@@ -96,6 +95,5 @@ fn answers_of_nothing(alloc: Global) -> Result<[Answers; 2], AllocError> {
 
 #[test]
 fn has_no_place_at_all(rt: HostRuntime) -> Result<(), Fail> {
-    assert!(rt; answers_of_nothing(rt.alloc())? == [(Some(0), None, 0, 0), (None, None, 0, 0)]);
-    Ok(())
+    holds(answers_of_nothing(rt.alloc())? == [(Some(0), None, 0, 0), (None, None, 0, 0)])
 }

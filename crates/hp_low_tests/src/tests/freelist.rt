@@ -2,7 +2,7 @@
 ghost use Rattle.std.specs.Prelude.{◌≡◌, ◌≤◌, true};
 ghost use Rattle.hp_freelist.specs.Lists.{empty_lists, is_listed};
 
-use super::ended;
+use super::{ended, holds};
 use hp_freelist::Lists;
 use std::alloc::{AllocError, Global};
 use std::test::Fail;
@@ -127,6 +127,5 @@ fn removed(alloc: Global) -> Result<[Option<usize>; 5], AllocError> {
 
 #[test]
 fn forgets_a_key_that_was_removed(rt: HostRuntime) -> Result<(), Fail> {
-    assert!(rt; removed(rt.alloc())? == [Some(3), Some(0), Some(0), None, Some(0)]);
-    Ok(())
+    holds(removed(rt.alloc())? == [Some(3), Some(0), Some(0), None, Some(0)])
 }

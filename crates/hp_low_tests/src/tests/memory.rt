@@ -2,7 +2,7 @@
 ghost use Rattle.std.specs.Prelude.{◌≡◌, [], ◌+◌, ◌*◌, ◌<◌, Some, false, true, IfOk};
 ghost use Rattle.hp_base.specs.Mapping.{IsSteady, may_fail_at};
 
-use super::ended;
+use super::{ended, holds};
 use hp_base::{
     Action, Clock, Event, EventKind, Judge, MapAction, MapAnswer, Mapper, MemMapper, MsgKind,
     NoLimits, Plan, PlanEntry, Row, Run, Silent, Span, SpanState, StepClock, Tell, slot_address,
@@ -56,8 +56,7 @@ fn refused_once(alloc: Global) -> Result<([MapAnswer; 3], [bool; 4]), AllocError
 #[test]
 fn a_mapper_refuses_its_second_call(rt: HostRuntime) -> Result<(), Fail> {
     let answers = [place_of(0), MapAnswer::Refused, place_of(1)];
-    assert!(rt; refused_once(rt.alloc())? == (answers, [true, true, false, true]));
-    Ok(())
+    holds(refused_once(rt.alloc())? == (answers, [true, true, false, true]))
 }
 
 // A mapper that is told no call to fail at is steady.
@@ -86,8 +85,7 @@ fn hold_a_row(alloc: Global) -> Result<[bool; 2], AllocError> {
 
 #[test]
 fn a_mapper_may_fail_where_it_is_told(rt: HostRuntime) -> Result<(), Fail> {
-    assert!(rt; hold_a_row(rt.alloc())? == [false, false]);
-    Ok(())
+    holds(hold_a_row(rt.alloc())? == [false, false])
 }
 
 // What a mapper with room for two answers to two, and which it holds once a row of another generation is unmapped.
@@ -104,8 +102,7 @@ fn filled(alloc: Global) -> Result<([MapAnswer; 2], [bool; 2]), AllocError> {
 
 #[test]
 fn a_mapper_takes_its_last_row(rt: HostRuntime) -> Result<(), Fail> {
-    assert!(rt; filled(rt.alloc())? == ([place_of(7), place_of(5)], [true; 2]));
-    Ok(())
+    holds(filled(rt.alloc())? == ([place_of(7), place_of(5)], [true; 2]))
 }
 
 // What becomes of a message of a kind, a participant and a number, or of a mapping call of a participant and a number.

@@ -2,7 +2,7 @@
 //! search by places that was written apart.
 ghost use Rattle.std.specs.Prelude.{◌≡◌, ◌≤◌, IfOk, length};
 
-use super::ended;
+use super::{ended, holds};
 use hp_fbarray::{FreeRun, MAX_PLACES, Mask};
 use std::alloc::{AllocError, Global};
 use std::test::Fail;
@@ -96,6 +96,5 @@ fn finds_a_place_that_is_clear_again(rt: HostRuntime) -> Result<(), Fail> {
         FreeRun::Found { start: 127 },
         FreeRun::TooShort { longest: 2 },
     ];
-    assert!(rt; clear_some(&mut mask) == ([None, Some(3), Some(127), Some(129)], runs));
-    Ok(())
+    holds(clear_some(&mut mask) == ([None, Some(3), Some(127), Some(129)], runs))
 }
