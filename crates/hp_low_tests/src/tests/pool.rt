@@ -52,8 +52,8 @@ fn counts_what_is_taken_and_given_back(rt: HostRuntime) -> Result<(), Fail> {
     assert_eq!(rt; pools.have(0, SMALL), Some(1));
     assert_eq!(rt; pools.have(1, SMALL), Some(3));
     pools.give(0, SMALL, 2);
-    assert_eq!(rt; pools.have(0, SMALL), Some(3));
-    assert_eq!(rt; pools.have(1, SMALL), Some(3));
+    assert_eq!(rt; pools.have_at(1, 0, SMALL), Some(3));
+    assert_eq!(rt; pools.have_at(1, 1, SMALL), Some(3));
     assert_eq!(rt; pools.take(0, SMALL, 3), Ok(()));
     assert_eq!(rt; pools.have(0, SMALL), Some(0));
     Ok(())
