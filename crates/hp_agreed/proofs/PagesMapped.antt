@@ -14,7 +14,8 @@ use Rattle.hp_heap.specs.PlainHeap.{HeapPage, PlainHeap}
 use Rattle.hp_heap.proofs.ChoiceLaw.{Contains-cases, Contains-none}
 use Rattle.hp_heap.proofs.Members.{Contains-image}
 use Rattle.hp_heap.proofs.RunPages.{of_run}
-use Rattle.hp_hall.specs.Holding.{HasPages, is_page_of, owned_by}
+use Rattle.hp_hall.specs.Holding.{HasPages, is_page_of}
+use Rattle.hp_segs.specs.Standing.{owned_by}
 use Rattle.hp_hall.proofs.StandingAsks.{contains_kept}
 use Rattle.hp_hall.proofs.StandingLists.{any_contained, contains_passes, contains_unkept, found_in}
 use Rattle.hp_log.specs.Log.{run_in}

@@ -22,7 +22,8 @@ use Rattle.hp_hall.specs.declared.kept.Kept.TheVariants.{Heap, Segments}
 use Rattle.hp_hall.specs.declared.slot.TheConstants.{SLOTS}
 use Rattle.hp_hall.specs.Giving.{Knows, GivesFor, GivesHeap, GivesSegments, IsGiveOf, entries_made, enrols, owns}
 use Rattle.hp_hall.specs.HallView.{HallView, IsHome, slot_at}
-use Rattle.hp_hall.specs.Holding.{HasPages, HeapPart, Holding, IsHeldWith, IsTakenAs, StandsFor}
+use Rattle.hp_hall.specs.Holding.{HasPages, HeapPart, IsHeldWith, IsTakenAs, StandsFor}
+use Rattle.hp_segs.specs.Standing.{Holding}
 use Rattle.hp_hall.specs.Opening.{AreHome}
 
 -- all values are there again once a slot that was taken has its value again

@@ -16,7 +16,7 @@ use Rattle.hp_segs.specs.declared.outcome.Cause.{Cause}
 use Rattle.hp_segs.specs.declared.outcome.Cause.TheVariants.{Withdrawn}
 use Rattle.hp_segs.specs.declared.outcome.Outcome.{Outcome}
 use Rattle.hp_segs.proofs.ArmedGrowth.{calls_leave_armed}
-use Rattle.hp_hall.specs.Holding.{KeepsArmed}
+use Rattle.hp_segs.specs.Standing.{KeepsArmed}
 use Rattle.hp_hall.specs.Standings.{ArmKeeps, WithdrawKeeps}
 use Rattle.hp_hall.proofs.StandingAsks.{closed_above, told}
 

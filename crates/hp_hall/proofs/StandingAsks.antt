@@ -17,7 +17,7 @@ use Rattle.hp_segs.specs.declared.outcome.AskLog.{AskLog}
 use Rattle.hp_segs.specs.declared.outcome.Outcome.{Outcome}
 use Rattle.hp_segs.specs.declared.outcome.Outcome.TheVariants.{Granted, Refused, Stale, Freed}
 use Rattle.hp_segs.proofs.GrantLemmas.{closing, closing_grows}
-use Rattle.hp_hall.specs.Holding.{is_claimed_for}
+use Rattle.hp_segs.specs.Standing.{is_claimed_for}
 use Rattle.hp_hall.specs.Standings.{RestCanBeClaimed}
 
 -- an outcome that keeps an ask closes the number of that ask

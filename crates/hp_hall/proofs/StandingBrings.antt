@@ -22,7 +22,8 @@ use Rattle.hp_segs.specs.declared.row_state.Segment.{Segment}
 use Rattle.hp_segs.proofs.GrantLemmas.{any_mapped}
 use Rattle.hp_segs.proofs.GrantedRows.{claim_owns_all}
 use Rattle.hp_segs.proofs.StateLemmas.{chosen_row}
-use Rattle.hp_hall.specs.Holding.{HasPages, is_page_of, owned_by}
+use Rattle.hp_hall.specs.Holding.{HasPages, is_page_of}
+use Rattle.hp_segs.specs.Standing.{owned_by}
 use Rattle.hp_hall.specs.Standings.{ClaimBrings}
 use Rattle.hp_hall.proofs.StandingAsks.{contains_kept}
 use Rattle.hp_hall.proofs.StandingClaims.{its_record, one_heap, stays}

@@ -20,7 +20,7 @@ use Rattle.hp_segs.specs.declared.row_state.RowState.TheVariants.{Opened, Agreed
 use Rattle.hp_segs.specs.declared.row_state.Segment.{Segment}
 use Rattle.hp_segs.proofs.GrantLemmas.{any_mapped}
 use Rattle.hp_segs.proofs.ListFacts.{filter_alike}
-use Rattle.hp_hall.specs.Holding.{is_claimed_for, standing_of}
+use Rattle.hp_segs.specs.Standing.{is_claimed_for, standing_of}
 use Rattle.hp_hall.specs.Standings.{ClaimLeavesOthers, IsGrantFor}
 use Rattle.hp_hall.proofs.CountedRows.{any_alike, claimed_by, filter_changed, standing_from}
 use Rattle.hp_hall.proofs.StandingAsks.{told}

@@ -22,7 +22,8 @@ use Rattle.hp_segs.specs.Sound.{IsSound}
 use Rattle.hp_segs.specs.declared.row_state.Segment.{Segment}
 use Rattle.hp_segs.proofs.Finds.{count_mapped}
 use Rattle.hp_segs.proofs.GivenUp.{one_has}
-use Rattle.hp_hall.specs.Holding.{HasPages, is_page_of, owned_by}
+use Rattle.hp_hall.specs.Holding.{HasPages, is_page_of}
+use Rattle.hp_segs.specs.Standing.{owned_by}
 use Rattle.hp_hall.specs.Standings.{RetireTakesPages}
 use Rattle.hp_hall.proofs.StandingAsks.{contains_kept}
 use Rattle.hp_hall.proofs.StandingLists.{any_contained, contains_passes, contains_unkept, found_in}

@@ -24,7 +24,7 @@ use Rattle.hp_segs.specs.declared.row_state.RowState.TheVariants.{Opened, Agreed
 use Rattle.hp_segs.specs.declared.row_state.Segment.{Segment}
 use Rattle.hp_segs.proofs.GrantLemmas.{any_mapped}
 use Rattle.hp_segs.proofs.ListFacts.{any_off, filter_alike}
-use Rattle.hp_hall.specs.Holding.{is_claimed_for, standing_of}
+use Rattle.hp_segs.specs.Standing.{is_claimed_for, standing_of}
 use Rattle.hp_hall.proofs.CountedRows.{any_alike, claimed_alike, filter_behind, filter_changed, standing_from}
 
 opened_not_owned : (heap : ℕ) (state : RowState) → is_opened state ≡ true → is_owned_by heap state ≡ false

@@ -27,7 +27,8 @@ use Rattle.hp_segs.proofs.GrantLemmas.{any_mapped}
 use Rattle.hp_segs.proofs.GrantedRows.{claim_by}
 use Rattle.hp_segs.proofs.ListFacts.{all_unmap}
 use Rattle.hp_segs.proofs.TableUse.{at_place}
-use Rattle.hp_hall.specs.Holding.{HasPages, is_page_of, owned_by}
+use Rattle.hp_hall.specs.Holding.{HasPages, is_page_of}
+use Rattle.hp_segs.specs.Standing.{owned_by}
 use Rattle.hp_hall.specs.Standings.{ClaimedCanGrow}
 use Rattle.hp_hall.proofs.StandingLists.{any_contained, any_row, contains_passes, contains_unkept, found_in}
 use Rattle.hp_hall.proofs.StandingPages.{numbers_of}

@@ -27,7 +27,7 @@ use Rattle.hp_segs.specs.declared.row_state.RowState.TheVariants.{Opened, Agreed
 use Rattle.hp_segs.specs.declared.row_state.Segment.{Segment}
 use Rattle.hp_segs.proofs.ListFacts.{filter_alike, filter_twice}
 use Rattle.hp_segs.proofs.Moves.{calls_keep}
-use Rattle.hp_hall.specs.Holding.{standing_of}
+use Rattle.hp_segs.specs.Standing.{standing_of}
 use Rattle.hp_hall.specs.Standings.{LeavesAsks, LeavesStanding, LogCallsLeave, NotesLeave, OwnerCallsLeave, RangeCallsLeave, RosterCallsLeave}
 use Rattle.hp_hall.proofs.CountedRows.{counted, standing_logged, standing_silent}
 use Rattle.hp_hall.proofs.StandingGrants.{standing_granted}

@@ -15,7 +15,7 @@ use Rattle.hp_segs.specs.declared.row_state.Segment.{Segment}
 use Rattle.hp_segs.proofs.GivenUp.{owned_all, owned_none_agreed}
 use Rattle.hp_segs.proofs.GrantLemmas.{any_mapped}
 use Rattle.hp_segs.proofs.ListFacts.{filter_alike, filter_twice}
-use Rattle.hp_hall.specs.Holding.{is_claimed_for, owned_by, standing_of}
+use Rattle.hp_segs.specs.Standing.{is_claimed_for, owned_by, standing_of}
 use Rattle.hp_hall.specs.Standings.{RetireLeavesOthers, RetireTakesRows}
 use Rattle.hp_hall.proofs.CountedRows.{any_alike, claimed_alike, filter_changed, standing_from}
 

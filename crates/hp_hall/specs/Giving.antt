@@ -12,7 +12,8 @@ use Rattle.hp_segs.specs.declared.outcome.AskLog.{AskLog}
 use Rattle.hp_hall.specs.declared.kept.Kept.{Kept}
 use Rattle.hp_hall.specs.declared.kept.Kept.TheVariants.{Heap, Segments}
 use Rattle.hp_hall.specs.declared.slot.TheConstants.{SLOTS}
-use Rattle.hp_hall.specs.Holding.{HeapPart, Holding, IsArmed, IsHeldWith, standing_of}
+use Rattle.hp_hall.specs.Holding.{HeapPart, IsHeldWith}
+use Rattle.hp_segs.specs.Standing.{Holding, IsArmed, standing_of}
 
 -- what a giver knows: its number among the participants, the values that it has taken, its part in each heap, its own number of records,
 -- the numbers that it has loaded of others, and what it has seen of the log and of the outcomes

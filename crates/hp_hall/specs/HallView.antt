@@ -13,7 +13,8 @@ use Rattle.hp_segs.specs.declared.outcome.AskLog.{AskLog}
 use Rattle.hp_hall.specs.declared.kept.Kept.{Kept}
 use Rattle.hp_hall.specs.declared.kept.Kept.TheVariants.{Heap, Segments}
 use Rattle.hp_hall.specs.declared.slot.TheConstants.{SLOTS}
-use Rattle.hp_hall.specs.Holding.{HasPages, HeapPart, IsArmed, owned_by, standing_of}
+use Rattle.hp_hall.specs.Holding.{HasPages, HeapPart}
+use Rattle.hp_segs.specs.Standing.{IsArmed, owned_by, standing_of}
 use Rattle.hp_hall.specs.Mail.{MailStep, steps_of}
 use Rattle.hp_hall.specs.Own.{Own, after_ack}
 use Rattle.hp_hall.specs.Values.{Fits, asks_of, history_of, log_of}

@@ -1,24 +1,18 @@
 -- What a participant has in a heap: the rule "Holding" of docs/PARTICIPANTS.md.
-use Rattle.std.specs.Prelude.{◌≡◌, ◌≢◌, ℕ, Bool, true, false, not, ◌&&◌, ◌==◌, List, filter, Contains, Option, Some, None}
+use Rattle.std.specs.Prelude.{◌≡◌, ◌≢◌, ℕ, Bool, true, ◌&&◌, ◌==◌, List, Contains, Option, Some, None}
 use Rattle.std.specs.List.{list_any}
-use Rattle.std.specs.Option.{option_map, option_map_or}
+use Rattle.std.specs.Option.{option_map}
 use Rattle.hp_heap.specs.History.{HeapView, entries_of}
 use Rattle.hp_heap.specs.PlainHeap.{HeapPage}
 use Rattle.hp_heap.specs.declared.entry.Entry.{Entry}
 use Rattle.hp_base.specs.declared.row.Row.{Row}
-use Rattle.hp_segs.specs.GrowthLaws.{HasArmedGrowth}
 use Rattle.hp_segs.specs.LaterSteps.{armed_ask}
-use Rattle.hp_segs.specs.SegsView.{SegsView, granted_by, is_owned_by, is_unclaimed}
+use Rattle.hp_segs.specs.SegsView.{SegsView}
+use Rattle.hp_segs.specs.Standing.{Holding, IsArmed, standing_of}
 use Rattle.hp_segs.specs.declared.ask.Ask.{Ask}
-use Rattle.hp_segs.specs.declared.outcome.AskLog.{AskLog}
 use Rattle.hp_segs.specs.declared.row_state.Segment.{Segment}
 use Rattle.hp_hall.specs.declared.kept.Kept.{Kept}
 use Rattle.hp_hall.specs.declared.kept.Kept.TheVariants.{Heap, Segments}
-
--- what the segment value has for a heap: the segments that are its own, and the outcomes that granted it runs which it has claimed
-pub record Holding : Type 0 where
-  pub owned : List Segment
-  pub claimed : List AskLog
 
 -- a participant's part in a heap: the entries that it made there, as far as they were given back, the socket whose pages the heap takes,
 -- settled when it opens, and while it holds the heap what the segment value has for it. Beside these, in each part alike, the ask with
@@ -28,19 +22,6 @@ pub record HeapPart : Type 0 where
   pub serves : Option ℕ
   pub holding : Option Holding
   pub armed : Option Ask
-
--- the segments that are a heap's own
-abbrev pub owned_by : ℕ → SegsView → List Segment
-owned_by heap segs = filter (λ segment. is_owned_by heap segment.state) segs.segments
-
--- an outcome granted the heap a run, and no row of that is Agreed any more
-abbrev pub is_claimed_for : ℕ → List Segment → AskLog → Bool
-is_claimed_for heap segments entry = option_map_or (λ ask. ask.heap == heap) entry.ask false
-    && option_map_or (λ generation. not (is_unclaimed segments generation)) (granted_by entry.outcome) false
-
--- what the segment value has for a heap
-abbrev pub standing_of : ℕ → SegsView → Holding
-standing_of heap segs = record { owned = owned_by heap segs; claimed = filter (is_claimed_for heap segs.segments) segs.asks }
 
 -- a page of a heap is the row's: it lies in the same slot, at the same address, with the same size and socket
 abbrev pub is_page_of : Row → HeapPage → Bool
@@ -56,16 +37,6 @@ pub record HasPages (pages : List HeapPage) (owned : List Segment) : Type 0 wher
 abbrev pub IsHeldWith : HeapView → Option Holding → Type 0
 IsHeldWith heap None = ⊥
 IsHeldWith heap (Some holding) = HasPages heap.plain.pages holding.owned
-
--- an outcome keeps no other ask under the number with which its participant is armed
-abbrev pub KeepsArmed : SegsView → Type 0
-KeepsArmed segs = (entry : AskLog) (ask armed : Ask) → Contains segs.asks entry → entry.ask ≡ Some ask
-    → armed_ask segs entry.from ≡ Some armed → armed.number ≡ ask.number → armed ≡ ask
-
--- the open growth, and each outcome that keeps an ask, are of asks with which participants are armed
-pub record IsArmed (segs : SegsView) : Type 0 where
-  pub growth : HasArmedGrowth segs
-  pub kept : KeepsArmed segs
 
 -- what a participant learns of a segment value: of each heap that it holds the value has what was known, it is armed with the ask with
 -- which it armed itself last, and the open growth and the kept asks are those of the armed

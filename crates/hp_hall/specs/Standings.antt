@@ -18,7 +18,8 @@ use Rattle.hp_segs.specs.Steps.{after_claim, after_retire, claimed_run}
 use Rattle.hp_segs.specs.declared.ask.Ask.{Ask}
 use Rattle.hp_segs.specs.declared.outcome.AskLog.{AskLog}
 use Rattle.hp_segs.specs.declared.outcome.Outcome.TheVariants.{Granted}
-use Rattle.hp_hall.specs.Holding.{HasPages, IsArmed, owned_by, standing_of}
+use Rattle.hp_hall.specs.Holding.{HasPages}
+use Rattle.hp_segs.specs.Standing.{IsArmed, owned_by, standing_of}
 
 -- what the value has for each heap is as it was, and so is the ask of each who is armed
 pub record LeavesStanding (old new : SegsView) : Type 0 where

@@ -88,7 +88,6 @@ pub mod Resting
 pub mod Returned
 pub mod ReturnedByRounds
 pub mod ReturnedBySteps
-pub mod ReturnedRuns
 pub mod Rising
 pub mod Roster
 pub mod RosterMoves

@@ -17,7 +17,9 @@ use Rattle.hp_segs.specs.Steps.{after_claim, after_retire, insert_by_address}
 use Rattle.hp_proc.specs.Coordinating.{nobody_denies, stepping, with_room}
 use Rattle.hp_proc.specs.Doing.{Done}
 use Rattle.hp_proc.specs.Ends.{HaveGoneBack, KeepsCalls}
-use Rattle.hp_proc.specs.Histories.{cut_runs, returned_runs}
+use Rattle.hp_segs.specs.Returned.{gone_in, returned_runs}
+use Rattle.hp_segs.proofs.ReturnedBySteps.{IsGoneAlike}
+use Rattle.hp_proc.specs.Histories.{cut_runs}
 use Rattle.hp_joint.specs.Seats.{Handles, Mails, Quietly, Seat}
 use Rattle.hp_joint.specs.Together.{IsFirst, Joint, Runs, Steps}
 use Rattle.hp_joint.proofs.CutRuns.{cuts_append, cuts_in, flat_map_indexed}
@@ -25,7 +27,7 @@ use Rattle.hp_joint.proofs.CutShares.{AreTheirs, cuts_of_all}
 use Rattle.hp_joint.proofs.SeatsAlong.{count_along}
 use Rattle.hp_joint.proofs.SegsAlong.{sound_along}
 use Rattle.hp_joint.proofs.ReturnedByRounds.{step_gone}
-use Rattle.hp_joint.proofs.ReturnedBySteps.{IsGoneAlike, claim_gone, gone_in, withdraw_gone}
+use Rattle.hp_joint.proofs.ReturnedBySteps.{claim_gone, withdraw_gone}
 use Rattle.hp_joint.proofs.Leaving.{IsClaimed, room_sound}
 use Rattle.hp_joint.proofs.Following.{attaching_leaves, catching_leaves}
 

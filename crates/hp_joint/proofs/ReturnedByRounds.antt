@@ -14,7 +14,8 @@ use Rattle.hp_segs.specs.SegsView.{SegsView}
 use Rattle.hp_segs.specs.Sound.{IsSound}
 use Rattle.hp_segs.specs.Steps.{after_drop}
 use Rattle.hp_segs.proofs.Moves.{moves_keep}
-use Rattle.hp_joint.proofs.ReturnedBySteps.{IsGoneAlike, agree_gone, cancel_gone, close_gone, drop_gone, freed_gone, open_gone, stale_gone}
+use Rattle.hp_segs.proofs.ReturnedBySteps.{IsGoneAlike, close_gone, drop_gone, freed_gone, open_gone, stale_gone}
+use Rattle.hp_joint.proofs.ReturnedBySteps.{agree_gone, cancel_gone}
 use Rattle.hp_joint.proofs.CallCases.{catching_holds}
 
 module _ (segs : SegsView) where

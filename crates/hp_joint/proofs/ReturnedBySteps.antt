@@ -1,150 +1,30 @@
--- What has gone back or is Retiring: the calls of the segment value leave it as it is, but the one that gives up a run.
-use Rattle.std.proofs.Common.{◌≡◌, ◌∙◌, ℕ, ◌+◌, ◌-◌, ◌<◌, true, false, List, [], ◌∷◌, ◌++◌, length, map, Option, Some, None, refl, ap, sym, subst, arith, append-nil}
-use Rattle.std.proofs.lemmas.Bool.{ne_eqb}
-use Rattle.std.proofs.lemmas.Option.{slice_get_within}
-use Rattle.hp_base.specs.declared.row.Run.{Run}
-use Rattle.hp_core.proofs.GivingLemmas.{growth_is_last}
-use Rattle.hp_log.specs.declared.log_record.LogRecord.TheVariants.{Add, Drop}
-use Rattle.hp_segs.specs.LaterSteps.{after_stale, after_withdraw, armed_ask}
-use Rattle.hp_segs.specs.SegsView.{SegsView, closed_number}
+-- What has gone back or is Retiring: the calls of the segment value that come to several cases leave it as it is.
+use Rattle.std.proofs.Common.{ℕ, List, Some, refl}
+use Rattle.hp_segs.specs.LaterSteps.{after_withdraw, armed_ask}
+use Rattle.hp_segs.specs.SegsView.{SegsView}
 use Rattle.hp_segs.specs.Sound.{IsSound}
-use Rattle.hp_segs.specs.SoundAsks.{AreSettled, IsUngranted, grants, is_granted}
-use Rattle.hp_segs.specs.SoundRows.{IsGrowth, IsLogged}
-use Rattle.hp_segs.specs.Steps.{after_agree, after_cancel, after_claim, after_close, after_drop, after_failure, after_freed, after_grant, after_open, with_outcome}
-use Rattle.hp_segs.specs.declared.ask.Ask.{Ask}
+use Rattle.hp_segs.specs.Steps.{after_agree, after_cancel, after_claim}
 use Rattle.hp_segs.specs.declared.growth.Growth.{Growth}
-use Rattle.hp_segs.specs.declared.outcome.AskLog.{AskLog}
 use Rattle.hp_segs.specs.declared.outcome.Cause.{Cause}
 use Rattle.hp_segs.specs.declared.outcome.Cause.TheVariants.{Withdrawn}
-use Rattle.hp_segs.specs.declared.outcome.Outcome.TheVariants.{Freed, Granted, Refused, Stale}
-use Rattle.hp_proc.specs.Histories.{returned_runs}
-use Rattle.hp_joint.proofs.ReturnedRuns.{failed_after, granted_alike, last_failed, none_failed, returned_alike, returned_append, returned_drops}
-use Rattle.hp_joint.proofs.Changes.{outcome_for}
-use Rattle.hp_joint.proofs.CallCases.{agree_holds, cancel_holds, claim_holds, withdraw_holds}
-
--- the runs that went back by the log, and then those that are Retiring
-abbrev pub gone_in : SegsView → List Run
-gone_in segs = returned_runs segs.asks false 1 segs.log ++ segs.retiring
-
--- it is the same in two values
-abbrev pub IsGoneAlike : SegsView → SegsView → Type 0
-IsGoneAlike old new = gone_in new ≡ gone_in old
-
--- outcomes come that grant none of the records before the last one
-gone_kept : (old new : SegsView) → new.log ≡ old.log → new.retiring ≡ old.retiring
-    → ((generation : ℕ) → generation < length old.log → is_granted new.asks generation ≡ is_granted old.asks generation)
-    → IsGoneAlike old new
-gone_kept old new log retiring alike =
-    ap (λ log. returned_runs new.asks false 1 log ++ new.retiring) log
-    ∙ (ap (λ retiring. returned_runs new.asks false 1 old.log ++ retiring) retiring
-    ∙ ap (λ runs. runs ++ old.retiring)
-    (returned_alike old.asks new.asks old.log false 1 (λ generation below. alike generation (omega (arith, below)))))
-
--- one outcome comes that grants none of them
-gone_beside : (old new : SegsView) (entry : AskLog) → new.log ≡ old.log → new.retiring ≡ old.retiring → new.asks ≡ old.asks ++ entry ∷ []
-    → ((generation : ℕ) → generation < length old.log → grants generation entry ≡ false) → IsGoneAlike old new
-gone_beside old new entry log retiring asks none =
-    gone_kept old new log retiring
-    (λ generation below. ap (λ asks. is_granted asks generation) asks ∙ granted_alike old.asks entry generation (none generation below))
+use Rattle.hp_segs.proofs.CallCases.{agree_holds, cancel_holds, claim_holds, withdraw_holds}
+use Rattle.hp_segs.proofs.ReturnedBySteps.{IsGoneAlike, failure_gone, grant_gone, refused_gone}
 
 module _ (segs : SegsView) where
-  pub stale_gone : (from number : ℕ) → IsGoneAlike segs (after_stale from number segs)
-  stale_gone from number =
-      gone_beside segs (after_stale from number segs)
-      (record { from = from; number = number; outcome = Stale (closed_number segs.asks from); at = length segs.log; ask = None })
-      refl refl refl
-      (λ generation below. refl)
-
-  pub close_gone : (ask : Ask) (cause : Cause) → IsGoneAlike segs (after_close ask cause segs)
-  close_gone ask cause =
-      gone_beside segs (after_close ask cause segs)
-      (record { from = ask.from; number = ask.number; outcome = Refused cause; at = length segs.log; ask = Some ask })
-      refl refl refl
-      (λ generation below. refl)
-
-  pub freed_gone : (from number : ℕ) → IsGoneAlike segs (after_freed from number segs)
-  freed_gone from number =
-      gone_beside segs (after_freed from number segs)
-      (record { from = from; number = number; outcome = Freed (length segs.log); at = length segs.log; ask = None })
-      refl refl refl
-      (λ generation below. refl)
-
-  -- an Add gives nothing back
-  pub open_gone : (ask : Ask) (run : Run) → IsGoneAlike segs (after_open ask run segs)
-  open_gone ask run =
-      ap (λ runs. runs ++ segs.retiring)
-      (returned_append segs.asks segs.log (Add run ask.heap ∷ []) false 1 (1 + length segs.log) refl
-      ∙ append-nil (returned_runs segs.asks false 1 segs.log))
-
-  -- what is Retiring goes back, where the last record is no failed Add
-  drop_by : failed_after segs.asks false 1 segs.log ≡ false → IsGoneAlike segs (after_drop segs)
-  drop_by sound =
-      append-nil (returned_runs segs.asks false 1 (segs.log ++ map (λ run. Drop run) segs.retiring))
-      ∙ (returned_append segs.asks segs.log (map (λ run. Drop run) segs.retiring) false 1 (1 + length segs.log) refl
-      ∙ ap (λ runs. returned_runs segs.asks false 1 segs.log ++ runs)
-      (ap (λ failed. returned_runs segs.asks failed (1 + length segs.log) (map (λ run. Drop run) segs.retiring)) sound
-      ∙ returned_drops segs.asks segs.retiring (1 + length segs.log)))
-
-  -- while no growth is open a record stands behind each Add that is not granted
-  settled_none : IsSound segs → segs.growth ≡ None → failed_after segs.asks false 1 segs.log ≡ false
-  settled_none sound alone =
-      let settled : AreSettled segs.log segs.asks None = subst (AreSettled segs.log segs.asks) alone sound.asks.settled in
-      none_failed segs.asks segs.log 1
-      (λ place number run heap at here off.
-      let same : number ≡ place + 1 = omega (arith, at) in
-      slice_get_within segs.log (place + 1) _
-      (settled place run heap here refl (ap (is_granted segs.asks) (sym same) ∙ off)))
-
-  pub drop_gone : IsSound segs → segs.growth ≡ None → IsGoneAlike segs (after_drop segs)
-  drop_gone sound alone = drop_by (settled_none sound alone)
-
-  -- a growth that fails gives nothing back that was given up
-  module _ (sound : IsSound segs) (growth : Growth) (open_now : segs.growth ≡ Some growth) where
-    open_failed : failed_after segs.asks false 1 segs.log ≡ true
-    open_failed =
-        let logged : IsGrowth segs.pools segs.log segs.segments growth =
-        subst (IsLogged segs.pools segs.log segs.segments) open_now sound.rows.logged in
-        let off : IsUngranted segs.asks (Some growth) = subst (IsUngranted segs.asks) open_now sound.asks.ungranted in
-        last_failed segs.asks segs.log false 1 (growth.generation - 1) growth.generation growth.run growth.ask.heap logged.added
-        (omega (arith, logged.some, logged.last)) (omega (arith, logged.some)) off
-
-    failure_gone : (cause : Cause) (ask : Option Ask) (places : ℕ) → IsGoneAlike segs (after_failure growth cause ask places segs)
-    failure_gone cause ask places =
-        let entry = outcome_for growth (Refused cause) ask segs in
-        let before = returned_runs segs.asks false 1 segs.log in
-        ap (λ runs. runs ++ segs.retiring)
-        (returned_alike segs.asks (segs.asks ++ entry ∷ []) (segs.log ++ Drop growth.run ∷ []) false 1
-        (λ generation below. granted_alike segs.asks entry generation refl)
-        ∙ (returned_append segs.asks segs.log (Drop growth.run ∷ []) false 1 (1 + length segs.log) refl
-        ∙ (ap (λ failed. before ++ returned_runs segs.asks failed (1 + length segs.log) (Drop growth.run ∷ [])) open_failed
-        ∙ append-nil before)))
-
-    grant_gone : IsGoneAlike segs (after_grant growth segs)
-    grant_gone =
-        gone_beside segs (after_grant growth segs)
-        (outcome_for growth (Granted growth.generation) (Some growth.ask) segs)
-        refl refl refl
-        (λ generation below.
-        ne_eqb growth.generation generation (λ same. omega (arith, same, below, growth_is_last segs growth sound open_now)))
-
   module _ (sound : IsSound segs) where
     pub cancel_gone : (cause : Cause) → IsGoneAlike segs (after_cancel cause segs)
     cancel_gone cause =
-        cancel_holds (IsGoneAlike segs) segs refl cause (λ growth is. failure_gone sound growth is cause (Some growth.ask) 2)
+        cancel_holds (IsGoneAlike segs) segs refl cause (λ growth is. failure_gone segs sound growth is cause (Some growth.ask) 2)
 
     pub agree_gone : (acks : List ℕ) → IsGoneAlike segs (after_agree acks segs)
-    agree_gone acks = agree_holds (IsGoneAlike segs) segs refl acks (grant_gone sound)
+    agree_gone acks = agree_holds (IsGoneAlike segs) segs refl acks (grant_gone segs sound)
 
     -- what is taken back has no run that was given up
     pub withdraw_gone : (from number since now : ℕ) → IsGoneAlike segs (after_withdraw from number since now segs)
     withdraw_gone from number since now =
         withdraw_holds (IsGoneAlike segs) segs refl from number since now
-        (λ none other.
-        gone_beside segs (record segs { asks = with_outcome segs from number (Refused (Withdrawn since now)) (armed_ask segs from) })
-        (record { from = from; number = number; outcome = Refused (Withdrawn since now); at = length segs.log; ask = armed_ask segs from })
-        refl refl refl
-        (λ generation below. refl))
-        (λ none growth is own. failure_gone sound growth is (Withdrawn since now) (armed_ask segs from) 0)
+        (λ none other. refused_gone segs from number (Withdrawn since now) (armed_ask segs from))
+        (λ none growth is own. failure_gone segs sound growth is (Withdrawn since now) (armed_ask segs from) 0)
 
   pub claim_gone : (from number : ℕ) → IsGoneAlike segs (after_claim from number segs)
   claim_gone from number = claim_holds (IsGoneAlike segs) segs refl from number (λ generation. refl)

@@ -1,7 +1,7 @@
 -- Behind each run of all participants the segment value is sound, and armed as it has to be.
 use Rattle.hp_base.specs.declared.pool_line.PoolLine.{PoolLine}
 use Rattle.std.specs.Prelude.{ℕ, List}
-use Rattle.hp_hall.specs.Holding.{IsArmed}
+use Rattle.hp_segs.specs.Standing.{IsArmed}
 use Rattle.hp_segs.specs.Sound.{IsSound}
 use Rattle.hp_joint.specs.Together.{IsFirst, Joint, Runs, Steps}
 

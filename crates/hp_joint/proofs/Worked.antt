@@ -40,7 +40,7 @@ use Rattle.hp_proc.specs.declared.pages_asked.PagesAsked.{PagesAsked}
 use Rattle.hp_joint.specs.Seats.{Handles, IsOfHeap, Mails, Path, Quietly, Seat, armed_with, having_done}
 use Rattle.hp_joint.specs.Together.{IsFirst, IsFirstSeat, Joint, Runs, Steps, behind_step, with_seat, with_segs}
 use Rattle.hp_joint.proofs.Returned.{cuts_by_all}
-use Rattle.hp_joint.proofs.ReturnedBySteps.{gone_in}
+use Rattle.hp_segs.specs.Returned.{gone_in}
 
 -- four pages of 2M on socket 0
 abbrev pools : List PoolLine

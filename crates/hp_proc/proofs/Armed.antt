@@ -7,7 +7,8 @@ use Rattle.std.proofs.lemmas.Bool.{and_parts}
 use Rattle.std.proofs.lemmas.List.{drop_all, get_or-set_other, get_or-set_same}
 use Rattle.std.proofs.lemmas.List.Sums.{fold-append}
 use Rattle.hp_hall.specs.Giving.{GivesSegments, Knows, logs}
-use Rattle.hp_hall.specs.Holding.{AreStanding, HeapPart, Holding, is_claimed_for, part_behind, standing_of}
+use Rattle.hp_hall.specs.Holding.{AreStanding, HeapPart, part_behind}
+use Rattle.hp_segs.specs.Standing.{Holding, is_claimed_for, standing_of}
 use Rattle.hp_hall.specs.Standings.{ArmKeeps}
 use Rattle.hp_hall.proofs.StandingAsks.{closed_above}
 use Rattle.hp_heap.proofs.ChoiceLaw.{Contains-filter}

@@ -8,7 +8,8 @@ use Rattle.std.proofs.lemmas.List.Elements.{All-cons, All-contains, All-nil}
 use Rattle.hp_base.specs.declared.pool_line.PoolLine.{PoolLine}
 use Rattle.hp_heap.proofs.Members.{find_some}
 use Rattle.hp_hall.proofs.StandingAsks.{rest_can_be_claimed}
-use Rattle.hp_hall.specs.Holding.{AreStanding, HeapPart, Holding, standing_of}
+use Rattle.hp_hall.specs.Holding.{AreStanding, HeapPart}
+use Rattle.hp_segs.specs.Standing.{Holding, standing_of}
 use Rattle.hp_hall.specs.Standings.{IsGrantFor}
 use Rattle.hp_log.specs.declared.log_record.LogRecord.{LogRecord}
 use Rattle.hp_segs.specs.Calls.{IsUnclaimedGrant}

@@ -5,7 +5,8 @@ use Rattle.std.specs.List.{find}
 use Rattle.std.specs.Option.{option_and_then, option_map}
 use Rattle.hp_base.specs.declared.row.Run.{Run}
 use Rattle.hp_hall.specs.Giving.{GivesSegments, Knows, owns}
-use Rattle.hp_hall.specs.Holding.{AreStanding, HasPages, HeapPart, Holding, owned_by, part_behind, standing_of}
+use Rattle.hp_hall.specs.Holding.{AreStanding, HasPages, HeapPart, part_behind}
+use Rattle.hp_segs.specs.Standing.{Holding, owned_by, standing_of}
 use Rattle.hp_hall.specs.Standings.{ClaimBrings, ClaimLeavesOthers, ClaimedCanGrow, IsGrantFor}
 use Rattle.hp_heap.specs.Growing.{after_grow}
 use Rattle.hp_segs.specs.Calls.{IsUnclaimedGrant}

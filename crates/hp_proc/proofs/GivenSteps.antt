@@ -7,7 +7,7 @@ use Rattle.std.specs.Prelude.{Result, Ok, Err, IfOk, OnErr, None, Some, slice_in
 use Rattle.std.specs.Result.{result_ok}
 use Rattle.hp_hall.proofs.StandingMoves.{log_calls_leave}
 use Rattle.hp_hall.specs.Giving.{GivesSegments, Knows, logs}
-use Rattle.hp_hall.specs.Holding.{KeepsArmed}
+use Rattle.hp_segs.specs.Standing.{KeepsArmed}
 use Rattle.hp_hall.specs.Standings.{LeavesStanding}
 use Rattle.hp_segs.specs.GrowthLaws.{HasArmedGrowth}
 use Rattle.hp_segs.specs.LaterSteps.{armed_ask}

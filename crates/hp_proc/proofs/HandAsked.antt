@@ -16,7 +16,8 @@ use Rattle.hp_heap.specs.declared.entry.Entry.{Entry}
 use Rattle.hp_heap.specs.declared.entry.HeapAnswer.{HeapAnswer}
 use Rattle.hp_heap.specs.declared.entry.HeapCall.TheVariants as call
 use Rattle.hp_hall.specs.Giving.{IsNumbered, entries_made}
-use Rattle.hp_hall.specs.Holding.{HasPages, HeapPart, Holding, IsHeldWith}
+use Rattle.hp_hall.specs.Holding.{HasPages, HeapPart, IsHeldWith}
+use Rattle.hp_segs.specs.Standing.{Holding}
 use Rattle.hp_hall.specs.Mail.{MailStep}
 use Rattle.hp_hall.specs.declared.kept.Kept.{Kept}
 use Rattle.hp_hall.specs.declared.slot.TheConstants.{SLOTS}

@@ -4,7 +4,8 @@ use Rattle.std.proofs.lemmas.Bool.Decides.{eqb_tells}
 use Rattle.std.specs.Option.{option_map}
 use Rattle.hp_base.specs.declared.row.Run.{Run}
 use Rattle.hp_base.specs.declared.tag.Caller.{Caller}
-use Rattle.hp_hall.specs.Holding.{HasPages, HeapPart, Holding, IsHeldWith}
+use Rattle.hp_hall.specs.Holding.{HasPages, HeapPart, IsHeldWith}
+use Rattle.hp_segs.specs.Standing.{Holding}
 use Rattle.hp_heap.specs.Cut.{PageCut, after_cut, after_cut_of, cut_at, run_of}
 use Rattle.hp_heap.specs.History.{HeapView, IsCall}
 use Rattle.hp_heap.specs.Laws.{IsRunCut}

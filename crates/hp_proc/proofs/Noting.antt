@@ -13,7 +13,7 @@ use Rattle.hp_core.specs.Following.{after_catching, noted}
 use Rattle.hp_core.specs.Giving.{OnlyNotes}
 use Rattle.hp_hall.proofs.StandingMoves.{notes_leave}
 use Rattle.hp_hall.specs.Giving.{GivesFor, GivesSegments, IsGiveOf, Knows, logs}
-use Rattle.hp_hall.specs.Holding.{IsArmed}
+use Rattle.hp_segs.specs.Standing.{IsArmed}
 use Rattle.hp_hall.specs.Standings.{LeavesStanding}
 use Rattle.hp_hall.specs.declared.kept.Kept.TheVariants.{Segments}
 use Rattle.hp_segs.proofs.Moves.{moves_stay, moves_widen}

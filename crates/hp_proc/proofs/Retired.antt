@@ -3,7 +3,8 @@ use Rattle.std.proofs.Common.{◌≡◌, ◌≢◌, ◌∙◌, ℕ, [], append-n
 use Rattle.std.specs.Option.{option_map}
 use Rattle.hp_base.specs.declared.row.Run.{Run}
 use Rattle.hp_hall.specs.Giving.{GivesSegments, Knows, owns}
-use Rattle.hp_hall.specs.Holding.{AreStanding, HasPages, HeapPart, Holding, owned_by, part_behind, standing_of}
+use Rattle.hp_hall.specs.Holding.{AreStanding, HasPages, HeapPart, part_behind}
+use Rattle.hp_segs.specs.Standing.{Holding, owned_by, standing_of}
 use Rattle.hp_hall.specs.Standings.{IsGivenUpWith, RetireLeavesOthers, RetireTakesPages, RetireTakesRows}
 use Rattle.hp_heap.specs.Cut.{after_cut}
 use Rattle.hp_heap.specs.PlainHeap.{PlainHeap}

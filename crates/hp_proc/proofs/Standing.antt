@@ -4,7 +4,8 @@ use Rattle.std.specs.Option.{option_map}
 use Rattle.hp_segs.specs.LaterSteps.{armed_ask}
 use Rattle.hp_segs.specs.SegsView.{SegsView}
 use Rattle.hp_segs.specs.declared.ask.Ask.{Ask}
-use Rattle.hp_hall.specs.Holding.{AreStanding, HeapPart, Holding, part_behind, standing_of}
+use Rattle.hp_hall.specs.Holding.{AreStanding, HeapPart, part_behind}
+use Rattle.hp_segs.specs.Standing.{Holding, standing_of}
 
 -- what is held stays where the value has just that
 held_same : (holding : Holding) (held : Option Holding) → ((known : Holding) → held ≡ Some known → known ≡ holding)

@@ -7,7 +7,7 @@ use Rattle.hp_segs.specs.SegsView.{SegsView}
 use Rattle.hp_segs.specs.declared.ask.Ask.{Ask}
 use Rattle.hp_segs.specs.declared.growth.Growth.{Growth}
 use Rattle.hp_segs.specs.declared.outcome.AskLog.{AskLog}
-use Rattle.hp_hall.specs.Holding.{IsArmed}
+use Rattle.hp_segs.specs.Standing.{IsArmed}
 use Rattle.hp_hall.proofs.Gives.{has_nothing}
 
 -- a value without growth and outcomes has no growth and no outcome but of armed asks

@@ -3,7 +3,8 @@ use Rattle.std.specs.Prelude.{◌≡◌, ◌≢◌, ℕ, ◌+◌, ◌-◌, ◌^�
 use Rattle.hp_base.specs.declared.row.Run.{Run}
 use Rattle.hp_frame.specs.declared.message.Body.{Body}
 use Rattle.hp_frame.specs.declared.message.Body.TheVariants.{Alloc, Free}
-use Rattle.hp_hall.specs.Holding.{HasPages, HeapPart, Holding}
+use Rattle.hp_hall.specs.Holding.{HasPages, HeapPart}
+use Rattle.hp_segs.specs.Standing.{Holding}
 use Rattle.hp_heap.specs.Growing.{CanGrow, after_grow, run_bytes}
 use Rattle.hp_heap.specs.Laws.{IsRunCut}
 use Rattle.hp_heap.specs.Cut.{after_cut}

@@ -18,7 +18,8 @@ use Rattle.hp_proc.specs.Heaps.{sockets_of}
 use Rattle.hp_proc.specs.Lines.{IsBuilt}
 use Rattle.hp_proc.specs.Courses.{calls_in}
 use Rattle.hp_proc.specs.LinesDone.{Course, courses_of, trace_of, IsNoneUngranted, AreDone, opening_standing, standing_after}
-use Rattle.hp_proc.specs.Histories.{entries_for, grown_runs, cut_runs, granted_runs, returned_runs}
+use Rattle.hp_segs.specs.Returned.{returned_runs}
+use Rattle.hp_proc.specs.Histories.{entries_for, grown_runs, cut_runs, granted_runs}
 use Rattle.hp_proc.specs.Outcomes.{AreAnsweredSo, IsOfATraceUnlessStale, AreInTurn, AreAskedFor, IsRefusedIn}
 use Rattle.hp_proc.specs.Seen.{AreSeen, AreRefusals, HasTakenIn, counted_on, seen_in, seen_by_lines}
 use Rattle.hp_proc.specs.Awaits.{AreAwaited}

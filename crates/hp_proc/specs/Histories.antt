@@ -1,5 +1,5 @@
 -- What participants' calls leave in the histories of heaps, and which runs came and went by them.
-use Rattle.std.specs.Prelude.{ℕ, ◌+◌, Bool, true, false, not, ◌&&◌, ◌==◌, List, [], ◌∷◌, ◌++◌, if◌then◌else◌}
+use Rattle.std.specs.Prelude.{ℕ, ◌+◌, Bool, ◌&&◌, ◌==◌, List, [], ◌∷◌, ◌++◌, if◌then◌else◌}
 use Rattle.hp_base.specs.declared.row.Run.{Run}
 use Rattle.hp_heap.specs.declared.entry.Entry.{Entry}
 use Rattle.hp_heap.specs.declared.entry.HeapCall.{HeapCall}
@@ -53,11 +53,3 @@ abbrev pub granted_runs : ℕ → List AskLog → ℕ → List LogRecord → Lis
 granted_runs heap asks generation [] = []
 granted_runs heap asks generation (entry ∷ log) =
     run_granted heap (is_granted asks generation) entry ++ granted_runs heap asks (generation + 1) log
-
--- the runs that went back, of records numbered from a generation on: those of all Drops but that behind an Add that failed
-abbrev pub returned_runs : List AskLog → Bool → ℕ → List LogRecord → List Run
-returned_runs asks failed generation [] = []
-returned_runs asks failed generation (Add run heap ∷ log) =
-    returned_runs asks (not (is_granted asks generation)) (generation + 1) log
-returned_runs asks true generation (Drop run ∷ log) = returned_runs asks false (generation + 1) log
-returned_runs asks false generation (Drop run ∷ log) = run ∷ returned_runs asks false (generation + 1) log

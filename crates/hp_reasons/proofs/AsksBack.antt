@@ -7,7 +7,7 @@ use Rattle.std.proofs.lemmas.Bool.{and_from, and_parts, cases_eq, cond_both, eqb
 use Rattle.std.proofs.lemmas.List.Folds.{list_any-append}
 use Rattle.std.proofs.lemmas.List.Elements.{Contains-push_cases}
 use Rattle.hp_base.specs.declared.plan_entry.MsgKind.TheVariants as message
-use Rattle.hp_hall.specs.Holding.{IsArmed}
+use Rattle.hp_segs.specs.Standing.{IsArmed}
 use Rattle.hp_maps.specs.MapsView.{calls_of}
 use Rattle.hp_segs.specs.LaterSteps.{has_failed_from}
 use Rattle.hp_segs.specs.SegsView.{SegsView, closed_number, granted_by, grants_or_refuses, is_member, is_outcome_for}

@@ -17,7 +17,7 @@ use Rattle.hp_core.specs.declared.out.Out.TheVariants as out
 use Rattle.hp_core.specs.declared.phase.Phase.{Phase}
 use Rattle.hp_core.specs.declared.phase.Phase.TheVariants.{Idle, Waiting}
 use Rattle.hp_core.specs.declared.phase.Round.{Round}
-use Rattle.hp_hall.specs.Holding.{IsArmed}
+use Rattle.hp_segs.specs.Standing.{IsArmed}
 use Rattle.hp_segs.specs.LaterSteps.{after_stale, has_failed_from}
 use Rattle.hp_segs.specs.SegsView.{SegsView, closed_number, grants_or_refuses}
 use Rattle.hp_segs.specs.Sound.{IsSound}

@@ -5,7 +5,7 @@ use Rattle.std.specs.Option.{option_and_then}
 use Rattle.std.specs.Prelude.{slice_get, slice_index_or}
 use Rattle.hp_base.specs.declared.plan_entry.MsgKind.TheVariants as message
 use Rattle.hp_core.specs.Core.{Core}
-use Rattle.hp_hall.specs.Holding.{IsArmed}
+use Rattle.hp_segs.specs.Standing.{IsArmed}
 use Rattle.hp_maps.specs.MapsView.{MapsView, calls_of}
 use Rattle.hp_segs.specs.LaterSteps.{has_failed_from, outcome_fails_from}
 use Rattle.hp_segs.specs.SegsView.{SegsView, closed_number, granted_by, is_member}

@@ -5,7 +5,7 @@ use Rattle.hp_base.specs.declared.plan_entry.MsgKind.TheVariants as message
 use Rattle.hp_core.specs.Core.{Core}
 use Rattle.hp_core.specs.declared.asked.Asked.{Asked}
 use Rattle.hp_core.specs.declared.asked.Asked.TheVariants as want
-use Rattle.hp_hall.specs.Holding.{IsArmed}
+use Rattle.hp_segs.specs.Standing.{IsArmed}
 use Rattle.hp_segs.specs.SegsView.{SegsView}
 use Rattle.hp_segs.specs.Sound.{IsSound}
 use Rattle.hp_segs.specs.declared.ask.Ask.{Ask}

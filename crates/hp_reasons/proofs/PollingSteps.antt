@@ -5,7 +5,7 @@ use Rattle.hp_core.specs.Core.{Core, Stepped, unchanged}
 use Rattle.hp_core.specs.declared.event.CoreEvent.{CoreEvent}
 use Rattle.hp_core.specs.declared.out.Out.{Out}
 use Rattle.hp_core.specs.declared.out.Out.TheVariants as out
-use Rattle.hp_hall.specs.Holding.{IsArmed}
+use Rattle.hp_segs.specs.Standing.{IsArmed}
 use Rattle.hp_segs.specs.SegsView.{SegsView}
 use Rattle.hp_segs.specs.Sound.{IsSound}
 use Rattle.hp_proc.specs.Coordinating.{stepping, with_core}

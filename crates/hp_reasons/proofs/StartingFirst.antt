@@ -16,7 +16,7 @@ use Rattle.hp_core.specs.declared.out.Out.TheVariants.{Nothing}
 use Rattle.hp_core.specs.declared.phase.Phase.{Phase}
 use Rattle.hp_core.specs.declared.phase.Phase.TheVariants.{Idle}
 use Rattle.hp_core.specs.declared.phase.RoundKind.TheVariants as kind
-use Rattle.hp_hall.specs.Holding.{IsArmed}
+use Rattle.hp_segs.specs.Standing.{IsArmed}
 use Rattle.hp_segs.specs.LaterSteps.{after_stale, noted_failure}
 use Rattle.hp_segs.specs.Plan.{plan_of}
 use Rattle.hp_segs.specs.SegsView.{SegsView}

@@ -15,7 +15,7 @@ use Rattle.hp_core.specs.declared.out.Out.{Out}
 use Rattle.hp_core.specs.declared.phase.Phase.{Phase}
 use Rattle.hp_core.specs.declared.phase.Phase.TheVariants.{Mapping}
 use Rattle.hp_core.specs.declared.phase.Round.{Round}
-use Rattle.hp_hall.specs.Holding.{IsArmed}
+use Rattle.hp_segs.specs.Standing.{IsArmed}
 use Rattle.hp_maps.specs.MapsView.{MapsView, calls_of}
 use Rattle.hp_segs.specs.LaterSteps.{noted_failure}
 use Rattle.hp_segs.specs.SegsView.{SegsView}

@@ -16,7 +16,7 @@ use Rattle.hp_segs.specs.declared.row_state.RowState.TheVariants.{Agreed, Opened
 use Rattle.hp_segs.specs.declared.row_state.Segment.{Segment}
 use Rattle.hp_segs.proofs.GrantLemmas.{after_granted}
 use Rattle.hp_segs.proofs.ListFacts.{filter_drops}
-use Rattle.hp_hall.specs.Holding.{owned_by}
+use Rattle.hp_segs.specs.Standing.{owned_by}
 use Rattle.hp_hall.proofs.Gives.{has_nothing}
 
 same_row : (changes : Bool) (other segment : Segment) → other.row ≡ segment.row → (if changes then other else segment).row ≡ segment.row

@@ -4,7 +4,7 @@ ghost use Rattle.hp_base.specs.Plans.{action_of};
 ghost use Rattle.hp_base.specs.declared.limits.TheConstants.{MAX_HEAPS};
 ghost use Rattle.hp_base.specs.declared.plan_entry.MsgKind.{MsgKind};
 ghost use Rattle.hp_frame.specs.declared.frame.Frame.{Frame};
-ghost use Rattle.hp_hall.specs.Holding.{Holding};
+ghost use Rattle.hp_segs.specs.Standing.{Holding};
 ghost use Rattle.hp_hall.specs.Mail.{MailStep, Posts};
 ghost use Rattle.hp_mail.specs.declared.posted.Posted.{Posted};
 ghost use Rattle.hp_heap.specs.PlainHeap.{PlainHeap};

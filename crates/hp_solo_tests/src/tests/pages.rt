@@ -1,6 +1,6 @@
 //! A page that heap 0 had, and gave up before the hall opens.
 ghost use Rattle.std.specs.Prelude.{◌≡◌, ◌<◌, ◌+◌, ℕ, [], None, Ok, Some, Contains, IfOk, length};
-ghost use Rattle.hp_hall.specs.Holding.{owned_by};
+ghost use Rattle.hp_segs.specs.Standing.{owned_by};
 ghost use Rattle.hp_segs.specs.Calls.{IsUnclaimedGrant, OwnsRun};
 ghost use Rattle.hp_segs.specs.Plan.{plan_of};
 ghost use Rattle.hp_segs.specs.SegsView.{grant_of};

@@ -1,6 +1,6 @@
 //! Acts are played on a stage of their own.
 ghost use Rattle.std.specs.Prelude.{◌≡◌, ℕ, []};
-ghost use Rattle.hp_hall.specs.Holding.{IsArmed, owned_by};
+ghost use Rattle.hp_segs.specs.Standing.{IsArmed, owned_by};
 
 use super::acts::{Act, perform};
 use super::stage::{Left, Stage};

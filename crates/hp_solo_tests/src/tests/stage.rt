@@ -1,6 +1,6 @@
 //! Two participants and their hall.
 ghost use Rattle.std.specs.Prelude.{◌≡◌, ◌<◌, ℕ, []};
-ghost use Rattle.hp_hall.specs.Holding.{IsArmed, owned_by};
+ghost use Rattle.hp_segs.specs.Standing.{IsArmed, owned_by};
 
 use super::shown::{End, SegsShown, shown_in};
 use super::{member, plain_hall};

@@ -15,7 +15,7 @@ use Rattle.hp_log.specs.Rows.{rows_of}
 use Rattle.hp_log.specs.declared.log_record.LogRecord.{LogRecord}
 use Rattle.hp_log.specs.declared.log_record.LogRecord.TheVariants.{Add}
 use Rattle.hp_segs.proofs.OnePool.{one_pool}
-use Rattle.hp_hall.specs.Holding.{IsArmed, owned_by}
+use Rattle.hp_segs.specs.Standing.{IsArmed, owned_by}
 use Rattle.hp_hall.proofs.Gives.{has_nothing}
 use Rattle.hp_hall_tests.proofs.tests.grown_segs.Goals as goal
 

@@ -6,7 +6,8 @@ use Rattle.hp_hall.proofs.StandingClaims.{claim_leaves_others}
 use Rattle.hp_hall.proofs.StandingGrowths.{claimed_can_grow}
 use Rattle.hp_hall.proofs.StandingMoves.{log_calls_leave}
 use Rattle.hp_hall.specs.Giving.{GivesSegments, Knows}
-use Rattle.hp_hall.specs.Holding.{AreStanding, part_behind, standing_of}
+use Rattle.hp_hall.specs.Holding.{AreStanding, part_behind}
+use Rattle.hp_segs.specs.Standing.{standing_of}
 use Rattle.hp_segs.specs.Calls.{IsUnclaimedGrant}
 use Rattle.hp_segs.specs.SegsView.{SegsView}
 use Rattle.hp_segs.specs.Steps.{after_claim, claimed_run}

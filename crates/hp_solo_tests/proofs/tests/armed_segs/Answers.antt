@@ -2,7 +2,7 @@
 use Rattle.std.proofs.Common.{sym, ap, subst, ◌∙◌}
 use Rattle.hp_segs.specs.LaterSteps.{after_arm}
 use Rattle.hp_segs.specs.SegsView.{SegsView}
-use Rattle.hp_hall.specs.Holding.{IsArmed, owned_by}
+use Rattle.hp_segs.specs.Standing.{IsArmed, owned_by}
 use Rattle.hp_proc.proofs.Unarmed.{armed_new}
 use Rattle.hp_solo_tests.proofs.tests.armed_segs.Goals as goal
 

@@ -7,7 +7,7 @@ use Rattle.hp_segs.specs.SegsView.{SegsView}
 use Rattle.hp_segs.specs.declared.ask.Ask.{Ask}
 use Rattle.hp_segs.specs.declared.growth.Growth.{Growth}
 use Rattle.hp_segs.specs.declared.outcome.AskLog.{AskLog}
-use Rattle.hp_hall.specs.Holding.{IsArmed, owned_by}
+use Rattle.hp_segs.specs.Standing.{IsArmed, owned_by}
 use Rattle.hp_solo_tests.proofs.tests.retired_segs.Goals as goal
 
 not_both : {X : Type 0} (o : Option X) (x : X) → o ≡ None → o ≡ Some x → ⊥
