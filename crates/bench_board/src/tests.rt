@@ -1,20 +1,46 @@
+ghost use Rattle.std.specs.Prelude.{◌≡◌};
+ghost use Rattle.hp_board.specs.Slots.{IsSlot};
+
 use crate::heaps::opening_heaps;
 use crate::session::three;
-use hp_board::Board;
-use hp_turn::{Busy, Slot, try_take};
+use hp_board::{Board, Seat};
+use hp_turn::{Slot, try_take};
 use std::test::Fail;
+
+// The lock word that a participant finds at a slot, or that it has taken it.
+fn found(board: &Board, seat: &mut Seat, slot: Slot) -> Option<u64>
+    requires board { seat.old.board ≡ board.now.id }
+    requires slot { IsSlot slot }
+    ensures { seat.new.board ≡ seat.old.board }
+{
+    match try_take(board, seat, slot) {
+        Ok(_) => None,
+        Err(busy) => Some(busy.word),
+    }
+}
+
+// The second of two locks heap 0, the first tries to, and locks heap 31: what each finds.
+fn find_three(board: &Board, first: &mut Seat, second: &mut Seat) -> [Option<u64>; 3]
+    requires first { first.old.board ≡ board.now.id }
+    requires second { second.old.board ≡ board.now.id }
+{
+    let taken = found(board, second, Slot::Heap(0));
+    let busy = found(board, first, Slot::Heap(0));
+    [taken, busy, found(board, first, Slot::Heap(31))]
+}
+
+// Whether they hold what they locked, and no more.
+fn hold_theirs(first: &Seat, second: &Seat) -> bool {
+    second.holds(Slot::Heap(0)) && !first.holds(Slot::Heap(0)) && first.holds(Slot::Heap(31))
+}
 
 #[test]
 fn names_the_holder_of_a_locked_slot(rt: HostRuntime) -> Result<(), Fail> {
     let (board, seats) = Board::new(rt.alloc(), opening_heaps(rt.alloc())?, 3)?;
     let Some((mut first, mut second, _)) = three(seats) else {
-        return Ok(());
+        return Err("three seats".into());
     };
-    let taken = try_take(&board, &mut second, Slot::Heap(0));
-    assert!(rt; taken.is_ok() && second.holds(Slot::Heap(0)) && !first.holds(Slot::Heap(0)));
-    let busy = try_take(&board, &mut first, Slot::Heap(0));
-    assert!(rt; matches!(busy, Err(Busy { word: 2 })));
-    let other = try_take(&board, &mut first, Slot::Heap(31));
-    assert!(rt; other.is_ok() && first.holds(Slot::Heap(31)));
+    let found = find_three(&board, &mut first, &mut second);
+    assert!(rt; found == [None, Some(2), None] && hold_theirs(&first, &second));
     Ok(())
 }

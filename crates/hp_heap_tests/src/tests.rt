@@ -18,7 +18,7 @@ mod sums;
 use heaps::{one_page, padded, three_pages};
 use looks::Look::{Answers, BusyAt, Called, Calls, Counts, FreeAt, Shows};
 use looks::{Said, busy, first_list};
-use steps::Step::{Alloc, See, Tell};
+use steps::Step::{self, Alloc, See, Tell};
 use steps::play;
 
 const BASE: u64 = 0x1_0000_0000;
@@ -128,31 +128,33 @@ fn lists_its_elements_by_address(rt: HostRuntime) {
     assert!(rt; has_elements(rt.alloc(), wanted.as_slice()) == Some(true));
 }
 
+const STATS: Stats = Stats {
+    total: PAGE,
+    free: 2_096_000,
+    used: 1152,
+    greatest: 2_096_000,
+    busy: 1,
+    frees: 1,
+};
+
 // A page comes, and is allocated from: there is one call for each.
+const TOLD: &[Step] = &[
+    Alloc(1000, 2, Some(0x1_001f_fc00)),
+    Alloc(0x20_0000, 3, None),
+    See(Shows(STATS)),
+    See(FreeAt(BASE, 2_096_000, 2)),
+    See(BusyAt(0x1_001f_fb80, 1152, 0, 1024, 2)),
+    See(Calls(3)),
+    Tell(STATS),
+    See(Answers(0, Said::Done)),
+    See(Answers(1, Said::Address(0x1_001f_fc00))),
+    See(Answers(2, Said::Nothing)),
+    See(Answers(3, Said::Statistics(STATS))),
+];
+
 #[test]
 fn tells_its_statistics_and_its_calls(rt: HostRuntime) -> Result<(), Fail> {
-    let stats = Stats {
-        total: PAGE,
-        free: 2_096_000,
-        used: 1152,
-        greatest: 2_096_000,
-        busy: 1,
-        frees: 1,
-    };
-    let steps = [
-        Alloc(1000, 2, Some(0x1_001f_fc00)),
-        Alloc(0x20_0000, 3, None),
-        See(Shows(stats)),
-        See(FreeAt(BASE, 2_096_000, 2)),
-        See(BusyAt(0x1_001f_fb80, 1152, 0, 1024, 2)),
-        See(Calls(3)),
-        Tell(stats),
-        See(Answers(0, Said::Done)),
-        See(Answers(1, Said::Address(0x1_001f_fc00))),
-        See(Answers(2, Said::Nothing)),
-        See(Answers(3, Said::Statistics(stats))),
-    ];
-    play(one_page(rt.alloc()), steps.as_slice())
+    play(one_page(rt.alloc()), TOLD)
 }
 
 // Two more pages come behind a free one: the element is one with all three.
