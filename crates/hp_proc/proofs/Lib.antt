@@ -49,4 +49,6 @@ pub mod Unarmed
 pub mod Pushed
 pub mod Rising
 pub mod Attached
+pub mod SegmentSlots
+pub mod InHalls
 pub mod AttachedLines
