@@ -107,3 +107,10 @@ freed_own took frees then =
       others = others_then took.others frees.others;
       weight = omega (arith, lighter, then);
     }
+
+pub freed_stays : {me : ℕ} {segs : SegsView} {a b c : HallState} → Took me segs a b → FreesSegs me b c → c.own me ≡ b.own me → Stays me a c
+freed_stays took frees own = record {
+  slots = closed took.may took.slots frees.slots frees.taken frees.home;
+  mine = record { parts = parts_then (took_parts took) frees.parts; own = own ∙ took.took.own };
+  others = others_then took.others frees.others;
+}

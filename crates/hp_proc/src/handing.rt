@@ -46,8 +46,9 @@ fn step_with_room(
     ensures gives { (knows : Knows) → IsTrueOf knows.noted (length segs.old.log) event
         → GivesSegments knows segs.old segs.new }
 
-    // It leaves what the value has for each heap, and the ask of each who is armed.
+    // It leaves what the value has for each heap, the ask of each who is armed, and the roster.
     ensures leaves { LeavesStanding segs.old segs.new }
+    ensures roster { segs.new.roster ≡ segs.old.roster }
 {
     core_law();
     make_room(segs)?;

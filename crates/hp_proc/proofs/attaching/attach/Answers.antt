@@ -8,7 +8,7 @@ use Rattle.hp_proc.proofs.attaching.attach.Goals as goal
 pub give_attached-requires-clause-standing : goal.give_attached-requires-clause-standing
 give_attached-requires-clause-standing g c =
     let me = c.args.me in
-    standing_with me (g.H.Hall.part c.take_segments-segs.new.hall me) (g.H.Hall.part c.take_whole_log-caught.new.hall me)
+    standing_with me ((g.H.Hall.state c.take_segments-segs.new.hall).part me) ((g.H.Hall.state c.take_whole_log-caught.new.hall).part me)
     c.take_segments-segs.result (c.take_whole_log-caught.ensures.part me) c.take_segments-segs.ensures.standing
 
 pub returns-clause-did : goal.returns-clause-did
@@ -21,19 +21,11 @@ returns-clause-did g c =
       caught.0,
       caught.1,
       caught.2,
-      g.met.H.Hall.did_then c.args.hall.now c.take_segments-segs.new.hall c.give_attached.new.hall me (takes_segments segs ∷ []) _
+      did_then
           c.take_segments-segs.ensures.did
-          (g.met.H.Hall.did_then c.take_segments-segs.new.hall c.take_whole_log-caught.new.hall c.give_attached.new.hall me _ (gives ∷ [])
+          (did_then
           c.take_whole_log-caught.ensures.did c.give_attached.ensures.did),
     )
-
-pub returns-clause-did_others : goal.returns-clause-did_others
-returns-clause-did_others g c =
-    λ who apart.
-    g.met.H.Hall.did_then c.args.hall.now c.take_segments-segs.new.hall c.give_attached.new.hall who [] []
-    (c.take_segments-segs.ensures.did_others who apart)
-    (g.met.H.Hall.did_then c.take_segments-segs.new.hall c.take_whole_log-caught.new.hall c.give_attached.new.hall who [] []
-    (c.take_whole_log-caught.ensures.did_others who apart) (c.give_attached.ensures.did_others who apart))
 
 pub returns-clause-goes_on : goal.returns-clause-goes_on
 returns-clause-goes_on g c =

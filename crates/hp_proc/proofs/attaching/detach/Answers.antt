@@ -14,8 +14,7 @@ returns-clause-did g c =
     let me = c.args.me in
     let segs = c.take_segments-segs.result in (
       segs,
-      g.met.H.Hall.did_then c.args.hall.now c.take_segments-segs.new.hall c.give_left.new.hall me (takes_segments segs ∷ [])
-          (gives_segments (after_leave me segs) ∷ []) c.take_segments-segs.ensures.did c.give_left.ensures.did,
+      did_then c.take_segments-segs.ensures.did c.give_left.ensures.did,
     )
 
 pub returns-clause-tied : goal.returns-clause-tied
@@ -26,16 +25,10 @@ returns-clause-tied g c =
     let maps = c.args.maps.now in
     let seen = c.take_segments-segs.ensures.seen in
     let tied = c.requires.tied in
-    subst (λ (maps : MapsView). IsTied (g.H.Hall.seen new me) (g.H.Hall.own new me) false maps) (sym c.empty.ensures)
-    (tied_since (g.H.Hall.seen old me) (g.H.Hall.seen new me) seen.0 (g.H.Hall.own old me) (g.H.Hall.own new me) false (emptied maps)
+    subst (λ (maps : MapsView). IsTied ((g.H.Hall.state new).seen me) ((g.H.Hall.state new).own me) false maps) (sym c.empty.ensures)
+    (tied_since ((g.H.Hall.state old).seen me) ((g.H.Hall.state new).seen me) seen.0 ((g.H.Hall.state old).own me) ((g.H.Hall.state new).own me) false (emptied maps)
     (c.give_left.ensures.log ∙ seen.1) (c.give_left.ensures.own me ∙ c.take_segments-segs.ensures.own me)
-    (emptied_tied (g.H.Hall.seen old me) (g.H.Hall.own old me) maps tied.within tied.table.room))
-
-pub returns-clause-did_others : goal.returns-clause-did_others
-returns-clause-did_others g c =
-    λ who apart.
-    g.met.H.Hall.did_then c.args.hall.now c.take_segments-segs.new.hall c.give_left.new.hall who [] []
-    (c.take_segments-segs.ensures.did_others who apart) (c.give_left.ensures.did_others who apart)
+    (emptied_tied ((g.H.Hall.state old).seen me) ((g.H.Hall.state old).own me) maps tied.within tied.table.room))
 
 pub returns-clause-goes_on : goal.returns-clause-goes_on
 returns-clause-goes_on g c =

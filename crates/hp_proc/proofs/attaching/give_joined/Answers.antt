@@ -10,15 +10,7 @@ give_segments-requires-clause-gives g c =
     let hall = c.args.hall.now in
     let me = c.args.me in
     let segs = c.args.segs in
-    let knows : Knows = record {
-      who = me;
-      taken = g.H.Hall.taken hall;
-      part = g.H.Hall.part hall me;
-      number = (g.H.Hall.own hall me).number;
-      noted = g.H.Hall.noted hall me;
-      seen = g.H.Hall.seen hall me;
-      heard = g.H.Hall.heard hall me;
-    } in
+    let knows : Knows = known_to me (g.H.Hall.state hall) in
     gives_in_place knows segs c.join_roster.new.self c.requires.taken
     (subst (GivesSegments knows segs) (sym c.join_roster.ensures.step)
     (gives_join knows segs (record { declared = c.requires.few; out = sym c.is_member.ensures ∙ c.if-is_member.false; all = c.requires.whole })))

@@ -20,7 +20,7 @@ catch_up-caught-requires-clause-can g c =
     let sound = c.records-records.ensures.sound in
     let few : slots_in (places_of segs.pools) ≤ 16384 = omega (arith, c.log_law.ensures.few segs sound) in
     ready_to_catch_up (places_of segs.pools) c.args.maps.now records (length records)
-    (tied_can (places_of segs.pools) segs.log records (g.H.Hall.own c.args.hall.now c.args.me) c.args.joined c.args.maps.now
+    (tied_can (places_of segs.pools) segs.log records ((g.H.Hall.state c.args.hall.now).own c.args.me) c.args.joined c.args.maps.now
     c.records-records.ensures.records (c.log_law.ensures.placed segs sound) few c.requires.tied c.requires.calls)
 
 pub catch_up-caught-requires-clause-spare : goal.catch_up-caught-requires-clause-spare
@@ -31,7 +31,7 @@ catch_up-caught-requires-clause-spare g c =
     let few : slots_in (places_of segs.pools) ≤ 16384 = omega (arith, c.log_law.ensures.few segs sound) in
     let told =
     tells_one_a_record (places_of segs.pools) c.args.maps.now records (length records) Done
-    (tied_can (places_of segs.pools) segs.log records (g.H.Hall.own c.args.hall.now c.args.me) c.args.joined c.args.maps.now
+    (tied_can (places_of segs.pools) segs.log records ((g.H.Hall.state c.args.hall.now).own c.args.me) c.args.joined c.args.maps.now
     c.records-records.ensures.records (c.log_law.ensures.placed segs sound) few c.requires.tied c.requires.calls) in
     omega (arith, told, c.records-records.type_inv.1)
 
@@ -40,13 +40,8 @@ returns-then-is_done-clause-did g c =
     let caught = c.catch_up-caught.result in
     let records = length c.records-records.result.now in
     let done : is_done caught ≡ true = sym c.is_done.ensures ∙ c.if-is_done.true in
-    subst (g.H.Hall.did c.args.hall.now c.ack.new.self c.args.me)
+    subst (did_in c.args.me (g.H.Hall.state c.args.hall.now) (g.H.Hall.state c.ack.new.self))
     (own_step c.args.me (Notes (Acked records))
     ∙ acks_whole caught records (length c.args.segs.now.log) done (ap (λ (log : List LogRecord). length log) c.records-records.ensures.records))
     (c.ack.ensures.did c.args.me)
 
-pub returns-then-is_done-clause-did_others : goal.returns-then-is_done-clause-did_others
-returns-then-is_done-clause-did_others g c =
-    λ who apart.
-    subst (g.H.Hall.did c.args.hall.now c.ack.new.self who) (other_step who c.args.me (Notes (Acked (length c.records-records.result.now))) apart)
-    (c.ack.ensures.did who)

@@ -14,7 +14,7 @@ catch_up-caught-requires-clause-can g c =
     let sound = c.records-records.ensures.sound in
     let few : slots_in (places_of segs.pools) ≤ 16384 = omega (arith, c.log_law.ensures.few segs sound) in
     ready_to_catch_up (places_of segs.pools) c.args.maps.now records (length records)
-    (tied_can (places_of segs.pools) segs.log records (g.H.Hall.own c.args.hall.now c.args.me) c.args.joined c.args.maps.now
+    (tied_can (places_of segs.pools) segs.log records ((g.H.Hall.state c.args.hall.now).own c.args.me) c.args.joined c.args.maps.now
     c.records-records.ensures.records (c.log_law.ensures.placed segs sound) few c.requires.tied c.requires.calls)
 
 pub catch_up-caught-requires-clause-spare : goal.catch_up-caught-requires-clause-spare
@@ -25,6 +25,6 @@ catch_up-caught-requires-clause-spare g c =
     let few : slots_in (places_of segs.pools) ≤ 16384 = omega (arith, c.log_law.ensures.few segs sound) in
     let told =
     tells_one_a_record (places_of segs.pools) c.args.maps.now records (length records) Done
-    (tied_can (places_of segs.pools) segs.log records (g.H.Hall.own c.args.hall.now c.args.me) c.args.joined c.args.maps.now
+    (tied_can (places_of segs.pools) segs.log records ((g.H.Hall.state c.args.hall.now).own c.args.me) c.args.joined c.args.maps.now
     c.records-records.ensures.records (c.log_law.ensures.placed segs sound) few c.requires.tied c.requires.calls) in
     omega (arith, told, c.records-records.type_inv.1)

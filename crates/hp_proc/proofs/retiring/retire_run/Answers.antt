@@ -16,10 +16,10 @@ pub retire-requires : goal.retire-requires
 retire-requires g c =
     let me = c.args.me in
     let segs = c.take_segments-segs.result in
-    let old = g.H.Hall.part c.args.hall.now me in
+    let old = (g.H.Hall.state c.args.hall.now).part me in
     let cut = c.requires.cut in
     let standing =
-    standing_with me (g.H.Hall.part c.take_segments-segs.new.hall me) old segs (λ heap. sym (c.take_segments-segs.ensures.part me heap))
+    standing_with me ((g.H.Hall.state c.take_segments-segs.new.hall).part me) old segs (λ heap. sym (c.take_segments-segs.ensures.part me heap))
     c.take_segments-segs.ensures.standing in
     record {
       owned = owns_run me c.args.heap c.args.run.now old segs c.take_segments-segs.ensures.sound standing cut.0 cut.2
@@ -31,20 +31,12 @@ give_back-requires-clause-gives g c =
     let me = c.args.me in
     let segs = c.take_segments-segs.result in
     let hall = c.take_segments-segs.new.hall in
-    let old = g.H.Hall.part c.args.hall.now me in
+    let old = (g.H.Hall.state c.args.hall.now).part me in
     let cut = c.requires.cut in
     let standing =
-    standing_with me (g.H.Hall.part hall me) old segs (λ heap. sym (c.take_segments-segs.ensures.part me heap))
+    standing_with me ((g.H.Hall.state hall).part me) old segs (λ heap. sym (c.take_segments-segs.ensures.part me heap))
     c.take_segments-segs.ensures.standing in
-    let knows : Knows = record {
-      who = me;
-      taken = g.H.Hall.taken hall;
-      part = g.H.Hall.part hall me;
-      number = (g.H.Hall.own hall me).number;
-      noted = g.H.Hall.noted hall me;
-      seen = g.H.Hall.seen hall me;
-      heard = g.H.Hall.heard hall me;
-    } in
+    let knows : Knows = known_to me (g.H.Hall.state hall) in
     gives_in_place knows segs c.retire.new.self c.take_segments-segs.ensures.taken
     (subst (GivesSegments knows segs) (sym c.retire.ensures.step)
     (retire_gives me c.args.heap c.args.run.now old segs c.take_segments-segs.ensures.sound standing cut.0 cut.2 retire_takes_pages cut.1
@@ -55,14 +47,14 @@ pub returns-clause-gives_up : goal.returns-clause-gives_up
 returns-clause-gives_up g c =
     let me = c.args.me in
     let segs = c.take_segments-segs.result in
-    let old = g.H.Hall.part c.args.hall.now me in
+    let old = (g.H.Hall.state c.args.hall.now).part me in
     let cut = c.requires.cut in
     let standing =
-    standing_with me (g.H.Hall.part c.take_segments-segs.new.hall me) old segs (λ heap. sym (c.take_segments-segs.ensures.part me heap))
+    standing_with me ((g.H.Hall.state c.take_segments-segs.new.hall).part me) old segs (λ heap. sym (c.take_segments-segs.ensures.part me heap))
     c.take_segments-segs.ensures.standing in
     gives_up me c.args.heap c.args.run.now old segs c.take_segments-segs.ensures.sound standing cut.0 cut.2 retire_takes_pages cut.1 cut.3
-    retire_leaves_others retire_takes_rows (g.H.Hall.part c.give_back.new.hall me)
-    (λ heap. subst (λ (given : SegsView). g.H.Hall.part c.give_back.new.hall me heap ≡ part_behind me given heap (old heap))
+    retire_leaves_others retire_takes_rows ((g.H.Hall.state c.give_back.new.hall).part me)
+    (λ heap. subst (λ (given : SegsView). (g.H.Hall.state c.give_back.new.hall).part me heap ≡ part_behind me given heap (old heap))
     c.retire.ensures.step
     (c.give_back.ensures.part heap ∙ ap (part_behind me c.retire.new.self heap) (c.take_segments-segs.ensures.part me heap)))
 
@@ -70,35 +62,35 @@ pub returns-clause-others : goal.returns-clause-others
 returns-clause-others g c = λ other apart.
     let me = c.args.me in
     let segs = c.take_segments-segs.result in
-    let old = g.H.Hall.part c.args.hall.now me in
+    let old = (g.H.Hall.state c.args.hall.now).part me in
     let cut = c.requires.cut in
     let standing =
-    standing_with me (g.H.Hall.part c.take_segments-segs.new.hall me) old segs (λ heap. sym (c.take_segments-segs.ensures.part me heap))
+    standing_with me ((g.H.Hall.state c.take_segments-segs.new.hall).part me) old segs (λ heap. sym (c.take_segments-segs.ensures.part me heap))
     c.take_segments-segs.ensures.standing in
     part_stays me c.args.heap c.args.run.now old segs c.take_segments-segs.ensures.sound standing cut.0 cut.2 retire_takes_pages cut.1 cut.3
-    retire_leaves_others retire_takes_rows (g.H.Hall.part c.give_back.new.hall me)
-    (λ heap. subst (λ (given : SegsView). g.H.Hall.part c.give_back.new.hall me heap ≡ part_behind me given heap (old heap))
+    retire_leaves_others retire_takes_rows ((g.H.Hall.state c.give_back.new.hall).part me)
+    (λ heap. subst (λ (given : SegsView). (g.H.Hall.state c.give_back.new.hall).part me heap ≡ part_behind me given heap (old heap))
     c.retire.ensures.step
     (c.give_back.ensures.part heap ∙ ap (part_behind me c.retire.new.self heap) (c.take_segments-segs.ensures.part me heap))) other apart
 
 pub returns-clause-did : goal.returns-clause-did
 returns-clause-did g c = (
   c.take_segments-segs.result,
-  g.met.H.Hall.did_then _ _ _ c.args.me _ _ c.take_segments-segs.ensures.did
-      (subst (λ given. g.H.Hall.did c.take_segments-segs.new.hall c.give_back.new.hall c.args.me (gives_segments given ∷ []))
+  did_then c.take_segments-segs.ensures.did
+      (subst (λ given. Did c.args.me (gives_segments given ∷ []) (g.H.Hall.state c.take_segments-segs.new.hall) (g.H.Hall.state c.give_back.new.hall))
       c.retire.ensures.step
       c.give_back.ensures.did),
 )
 
 pub returns-clause-taken : goal.returns-clause-taken
 returns-clause-taken g c = λ number.
-    taken_after (g.H.Hall.taken c.args.hall.now) (g.H.Hall.taken c.take_segments-segs.new.hall) (g.H.Hall.taken c.give_back.new.hall)
+    taken_after (g.H.Hall.state c.args.hall.now).taken (g.H.Hall.state c.take_segments-segs.new.hall).taken (g.H.Hall.state c.give_back.new.hall).taken
     c.requires.free c.take_segments-segs.ensures.others c.give_back.ensures.others c.give_back.ensures.taken number
 
 pub returns-clause-home_of_all : goal.returns-clause-home_of_all
 returns-clause-home_of_all g c = λ number.
-    home_after (g.H.Hall.may_take c.args.hall.now) (g.H.Hall.may_take c.take_segments-segs.new.hall)
-    (g.H.Hall.may_take c.give_back.new.hall)
+    home_after (g.H.Hall.state c.args.hall.now).may_take (g.H.Hall.state c.take_segments-segs.new.hall).may_take
+    (g.H.Hall.state c.give_back.new.hall).may_take
     c.take_segments-segs.ensures.home_of_others c.give_back.ensures.home_of_others c.give_back.ensures.home number
 
 pub returns-clause-own : goal.returns-clause-own

@@ -9,15 +9,7 @@ pub give_back-requires-clause-gives : goal.give_back-requires-clause-gives
 give_back-requires-clause-gives g c =
     let hall = c.args.hall.now in
     let me = c.args.ask.now.from in
-    let knows : Knows = record {
-      who = me;
-      taken = g.H.Hall.taken hall;
-      part = g.H.Hall.part hall me;
-      number = (g.H.Hall.own hall me).number;
-      noted = g.H.Hall.noted hall me;
-      seen = g.H.Hall.seen hall me;
-      heard = g.H.Hall.heard hall me;
-    } in
+    let knows : Knows = known_to me (g.H.Hall.state hall) in
     gives_in_place knows c.args.segs c.claim-run.new.self c.requires.taken
     (subst (GivesSegments knows c.args.segs) (sym c.claim-run.ensures.step)
     (claim_gives knows me c.args.ask.now.number c.args.segs c.requires.granted c.requires.held))

@@ -13,10 +13,10 @@ use Rattle.hp_proc.proofs.settling.look.Goals as goal
 pub claim_taken-run-requires-clause-granted : goal.claim_taken-run-requires-clause-granted
 claim_taken-run-requires-clause-granted g c =
     let ask = c.args.ask.now in
-    let mid = g.H.Hall.part c.take_segments-segs.new.hall ask.from in
+    let mid = (g.H.Hall.state c.take_segments-segs.new.hall).part ask.from in
     let segs = c.take_segments-segs.result in
     let awaits =
-    awaits_along ask (g.H.Hall.part c.args.hall.now ask.from) mid (λ heap. c.take_segments-segs.ensures.part ask.from heap)
+    awaits_along ask ((g.H.Hall.state c.args.hall.now).part ask.from) mid (λ heap. c.take_segments-segs.ensures.part ask.from heap)
     c.requires.awaits in
     let stands =
     outcome_stands segs.asks ask.from ask.number _ (sym c.in-Some-Granted.ensures ∙ ap Some c.in-Some-Granted.field-0-is) refl in
@@ -26,10 +26,10 @@ claim_taken-run-requires-clause-granted g c =
 pub claim_taken-run-requires-clause-held : goal.claim_taken-run-requires-clause-held
 claim_taken-run-requires-clause-held g c =
     let ask = c.args.ask.now in
-    let mid = g.H.Hall.part c.take_segments-segs.new.hall ask.from in
+    let mid = (g.H.Hall.state c.take_segments-segs.new.hall).part ask.from in
     let segs = c.take_segments-segs.result in
     let awaits =
-    awaits_along ask (g.H.Hall.part c.args.hall.now ask.from) mid (λ heap. c.take_segments-segs.ensures.part ask.from heap)
+    awaits_along ask ((g.H.Hall.state c.args.hall.now).part ask.from) mid (λ heap. c.take_segments-segs.ensures.part ask.from heap)
     c.requires.awaits in
     let stands =
     outcome_stands segs.asks ask.from ask.number _ (sym c.in-Some-Granted.ensures ∙ ap Some c.in-Some-Granted.field-0-is) refl in
@@ -40,9 +40,9 @@ claim_taken-run-requires-clause-held g c =
 pub returns-in-Some-Granted-clause-found : goal.returns-in-Some-Granted-clause-found
 returns-in-Some-Granted-clause-found g c =
     let ask = c.args.ask.now in
-    let old = g.H.Hall.part c.args.hall.now ask.from in
-    let mid = g.H.Hall.part c.take_segments-segs.new.hall ask.from in
-    let new = g.H.Hall.part c.claim_taken-run.new.hall ask.from in
+    let old = (g.H.Hall.state c.args.hall.now).part ask.from in
+    let mid = (g.H.Hall.state c.take_segments-segs.new.hall).part ask.from in
+    let new = (g.H.Hall.state c.claim_taken-run.new.hall).part ask.from in
     let segs = c.take_segments-segs.result in
     let same : (heap : ℕ) → mid heap ≡ old heap = λ heap. c.take_segments-segs.ensures.part ask.from heap in
     let awaits = awaits_along ask old mid same c.requires.awaits in
@@ -58,16 +58,16 @@ returns-in-Some-Granted-clause-found g c =
 pub returns-in-Some-Granted-clause-did : goal.returns-in-Some-Granted-clause-did
 returns-in-Some-Granted-clause-did g c = (
   _,
-  g.met.H.Hall.did_then _ _ _ c.args.ask.now.from _ _ c.take_segments-segs.ensures.did c.claim_taken-run.ensures.did,
+  did_then c.take_segments-segs.ensures.did c.claim_taken-run.ensures.did,
   record { taken = c.take_segments-segs.result; are = refl },
 )
 
 pub returns-in-Some-Refused-clause-found : goal.returns-in-Some-Refused-clause-found
 returns-in-Some-Refused-clause-found g c =
     let ask = c.args.ask.now in
-    let old = g.H.Hall.part c.args.hall.now ask.from in
-    let mid = g.H.Hall.part c.take_segments-segs.new.hall ask.from in
-    let new = g.H.Hall.part c.put_back.new.hall ask.from in
+    let old = (g.H.Hall.state c.args.hall.now).part ask.from in
+    let mid = (g.H.Hall.state c.take_segments-segs.new.hall).part ask.from in
+    let new = (g.H.Hall.state c.put_back.new.hall).part ask.from in
     let segs = c.take_segments-segs.result in
     let same : (heap : ℕ) → mid heap ≡ old heap = λ heap. c.take_segments-segs.ensures.part ask.from heap in
     let awaits = awaits_along ask old mid same c.requires.awaits in
@@ -86,7 +86,7 @@ returns-in-Some-Refused-clause-did g c =
     let stands =
     outcome_stands segs.asks ask.from ask.number _ (sym c.in-Some-Refused.ensures ∙ ap Some c.in-Some-Refused.field-0-is) refl in (
       _,
-      g.met.H.Hall.did_then _ _ _ ask.from _ _ c.take_segments-segs.ensures.did c.put_back.ensures.did,
+      did_then c.take_segments-segs.ensures.did c.put_back.ensures.did,
       record {
         taken = segs;
         are = ap (λ given. takes_segments segs ∷ gives_segments given ∷ [])
@@ -97,7 +97,7 @@ returns-in-Some-Refused-clause-did g c =
 pub returns-in-Some-Stale-clause-did : goal.returns-in-Some-Stale-clause-did
 returns-in-Some-Stale-clause-did g c = (
   _,
-  g.met.H.Hall.did_then _ _ _ c.args.ask.now.from _ _ c.take_segments-segs.ensures.did c.put_back-in-Some-Stale.ensures.did,
+  did_then c.take_segments-segs.ensures.did c.put_back-in-Some-Stale.ensures.did,
   record { taken = c.take_segments-segs.result; are = refl },
 )
 

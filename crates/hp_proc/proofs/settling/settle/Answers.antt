@@ -22,10 +22,10 @@ use Rattle.hp_proc.proofs.settling.settle.Goals as goal
 pub claim_taken-run-requires-clause-granted : goal.claim_taken-run-requires-clause-granted
 claim_taken-run-requires-clause-granted g c =
     let ask = c.args.ask.now in
-    let mid = g.H.Hall.part c.take_segments-segs.new.hall ask.from in
+    let mid = (g.H.Hall.state c.take_segments-segs.new.hall).part ask.from in
     let segs = c.take_segments-segs.result in
     let awaits =
-    awaits_along ask (g.H.Hall.part c.args.hall.now ask.from) mid (λ heap. c.take_segments-segs.ensures.part ask.from heap)
+    awaits_along ask ((g.H.Hall.state c.args.hall.now).part ask.from) mid (λ heap. c.take_segments-segs.ensures.part ask.from heap)
     c.requires.awaits in
     let stood = closing_granted segs.asks ask.from ask.number (sym c.in-Granted.ensures.answer) in
     let stands = grant_or_refusal_stands segs.asks ask.from ask.number _ stood.1 in
@@ -37,10 +37,10 @@ claim_taken-run-requires-clause-granted g c =
 pub claim_taken-run-requires-clause-held : goal.claim_taken-run-requires-clause-held
 claim_taken-run-requires-clause-held g c = λ heap none.
     let ask = c.args.ask.now in
-    let mid = g.H.Hall.part c.take_segments-segs.new.hall ask.from in
+    let mid = (g.H.Hall.state c.take_segments-segs.new.hall).part ask.from in
     let segs = c.take_segments-segs.result in
     let awaits =
-    awaits_along ask (g.H.Hall.part c.args.hall.now ask.from) mid (λ heap. c.take_segments-segs.ensures.part ask.from heap)
+    awaits_along ask ((g.H.Hall.state c.args.hall.now).part ask.from) mid (λ heap. c.take_segments-segs.ensures.part ask.from heap)
     c.requires.awaits in
     let stood = closing_granted segs.asks ask.from ask.number (sym c.in-Granted.ensures.answer) in
     let stands = grant_or_refusal_stands segs.asks ask.from ask.number _ stood.1 in
@@ -55,7 +55,7 @@ put_back-requires-clause-standing g c =
     let ask = c.args.ask.now in
     let segs = c.take_segments-segs.result in
     let stood = closing_refused segs.asks ask.from ask.number _ (sym c.in-Refused.ensures.answer) in
-    subst (AreStanding ask.from (g.H.Hall.part c.take_segments-segs.new.hall ask.from))
+    subst (AreStanding ask.from ((g.H.Hall.state c.take_segments-segs.new.hall).part ask.from))
     (sym (c.in-Refused.ensures.step ∙ stands_as_it_was segs ask.from ask.number c.args.since c.args.now _ stood.1))
     c.take_segments-segs.ensures.standing
 
@@ -65,32 +65,24 @@ give_back-requires-clause-gives g c =
     let hall = c.take_segments-segs.new.hall in
     let segs = c.take_segments-segs.result in
     let awaits =
-    awaits_along ask (g.H.Hall.part c.args.hall.now ask.from) (g.H.Hall.part hall ask.from)
+    awaits_along ask ((g.H.Hall.state c.args.hall.now).part ask.from) ((g.H.Hall.state hall).part ask.from)
     (λ heap. c.take_segments-segs.ensures.part ask.from heap)
     c.requires.awaits in
     let none = closing_withdrawn segs.asks ask.from ask.number (sym c.in-Withdrawn.ensures.answer) in
-    let knows : Knows = record {
-      who = ask.from;
-      taken = g.H.Hall.taken hall;
-      part = g.H.Hall.part hall ask.from;
-      number = (g.H.Hall.own hall ask.from).number;
-      noted = g.H.Hall.noted hall ask.from;
-      seen = g.H.Hall.seen hall ask.from;
-      heard = g.H.Hall.heard hall ask.from;
-    } in
+    let knows : Knows = known_to ask.from (g.H.Hall.state hall) in
     gives_in_place knows segs c.withdraw.new.self c.take_segments-segs.ensures.taken
     (subst (GivesSegments knows segs) (sym c.in-Withdrawn.ensures.step)
     (withdraw_gives knows segs ask.from ask.number c.args.since c.args.now withdraw_keeps c.take_segments-segs.ensures.sound
-    (may_withdraw ask (g.H.Hall.part hall ask.from) segs c.take_segments-segs.ensures.sound c.take_segments-segs.ensures.standing awaits
+    (may_withdraw ask ((g.H.Hall.state hall).part ask.from) segs c.take_segments-segs.ensures.sound c.take_segments-segs.ensures.standing awaits
     c.requires.few)
     none))
 
 pub returns-in-Granted-clause-settles : goal.returns-in-Granted-clause-settles
 returns-in-Granted-clause-settles g c =
     let ask = c.args.ask.now in
-    let old = g.H.Hall.part c.args.hall.now ask.from in
-    let mid = g.H.Hall.part c.take_segments-segs.new.hall ask.from in
-    let new = g.H.Hall.part c.claim_taken-run.new.hall ask.from in
+    let old = (g.H.Hall.state c.args.hall.now).part ask.from in
+    let mid = (g.H.Hall.state c.take_segments-segs.new.hall).part ask.from in
+    let new = (g.H.Hall.state c.claim_taken-run.new.hall).part ask.from in
     let segs = c.take_segments-segs.result in
     let same : (heap : ℕ) → mid heap ≡ old heap = λ heap. c.take_segments-segs.ensures.part ask.from heap in
     let awaits = awaits_along ask old mid same c.requires.awaits in
@@ -114,17 +106,16 @@ pub returns-in-Granted-clause-did : goal.returns-in-Granted-clause-did
 returns-in-Granted-clause-did g c =
     let ask = c.args.ask.now in (
       c.take_segments-segs.result,
-      g.met.H.Hall.did_then _ _ _ ask.from _ _ c.take_segments-segs.ensures.did
-          (subst (λ given. g.H.Hall.did c.take_segments-segs.new.hall c.claim_taken-run.new.hall ask.from
-          (gives_segments (after_claim ask.from ask.number given) ∷ [])) c.in-Granted.ensures.step c.claim_taken-run.ensures.did),
+      did_then c.take_segments-segs.ensures.did
+          (subst (λ given. Did ask.from (gives_segments (after_claim ask.from ask.number given) ∷ []) (g.H.Hall.state c.take_segments-segs.new.hall) (g.H.Hall.state c.claim_taken-run.new.hall)) c.in-Granted.ensures.step c.claim_taken-run.ensures.did),
     )
 
 pub returns-in-Refused-clause-settles : goal.returns-in-Refused-clause-settles
 returns-in-Refused-clause-settles g c =
     let ask = c.args.ask.now in
-    let old = g.H.Hall.part c.args.hall.now ask.from in
-    let mid = g.H.Hall.part c.take_segments-segs.new.hall ask.from in
-    let new = g.H.Hall.part c.put_back.new.hall ask.from in
+    let old = (g.H.Hall.state c.args.hall.now).part ask.from in
+    let mid = (g.H.Hall.state c.take_segments-segs.new.hall).part ask.from in
+    let new = (g.H.Hall.state c.put_back.new.hall).part ask.from in
     let segs = c.take_segments-segs.result in
     let same : (heap : ℕ) → mid heap ≡ old heap = λ heap. c.take_segments-segs.ensures.part ask.from heap in
     let awaits = awaits_along ask old mid same c.requires.awaits in
@@ -150,17 +141,17 @@ returns-in-Refused-clause-did g c =
     c.in-Refused.ensures.step ∙ (still ∙ (sym (claims_nothing ask.from ask.number segs (grants_none segs ask.from ask.number _ stands))
     ∙ ap (after_claim ask.from ask.number) (sym still))) in (
       segs,
-      g.met.H.Hall.did_then _ _ _ ask.from _ _ c.take_segments-segs.ensures.did
-          (subst (λ given. g.H.Hall.did c.take_segments-segs.new.hall c.put_back.new.hall ask.from (gives_segments given ∷ [])) given
+      did_then c.take_segments-segs.ensures.did
+          (subst (λ given. Did ask.from (gives_segments given ∷ []) (g.H.Hall.state c.take_segments-segs.new.hall) (g.H.Hall.state c.put_back.new.hall)) given
           c.put_back.ensures.did),
     )
 
 pub returns-in-Withdrawn-clause-settles : goal.returns-in-Withdrawn-clause-settles
 returns-in-Withdrawn-clause-settles g c =
     let ask = c.args.ask.now in
-    let old = g.H.Hall.part c.args.hall.now ask.from in
-    let mid = g.H.Hall.part c.take_segments-segs.new.hall ask.from in
-    let new = g.H.Hall.part c.give_back.new.hall ask.from in
+    let old = (g.H.Hall.state c.args.hall.now).part ask.from in
+    let mid = (g.H.Hall.state c.take_segments-segs.new.hall).part ask.from in
+    let new = (g.H.Hall.state c.give_back.new.hall).part ask.from in
     let segs = c.take_segments-segs.result in
     let same : (heap : ℕ) → mid heap ≡ old heap = λ heap. c.take_segments-segs.ensures.part ask.from heap in
     let awaits = awaits_along ask old mid same c.requires.awaits in
@@ -185,7 +176,7 @@ returns-in-Withdrawn-clause-did g c =
     c.in-Withdrawn.ensures.step
     ∙ sym (claims_nothing ask.from ask.number _ (last_grants_none segs _ ask.from ask.number none last)) in (
       segs,
-      g.met.H.Hall.did_then _ _ _ ask.from _ _ c.take_segments-segs.ensures.did
-          (subst (λ given. g.H.Hall.did c.take_segments-segs.new.hall c.give_back.new.hall ask.from (gives_segments given ∷ [])) given
+      did_then c.take_segments-segs.ensures.did
+          (subst (λ given. Did ask.from (gives_segments given ∷ []) (g.H.Hall.state c.take_segments-segs.new.hall) (g.H.Hall.state c.give_back.new.hall)) given
           c.give_back.ensures.did),
     )

@@ -10,22 +10,22 @@ use Rattle.hp_proc.proofs.participant.Participant.carry.Given as goal
 abbrev pub invariant-loop-answer : goal.invariant-loop-answer
 invariant-loop-answer g l = record {
   spoken : IsSpoken l.answer;
-  carried : (steps : List MailStep) × g.H.Hall.did l.fn.hall l.hall 0 steps
-      × LeadsOn (g.H.Hall.count l.fn.hall) l.fn.self l.fn.answer steps l.self l.answer;
-  weight : g.H.Hall.weight l.hall + own_weight g.H.Hall.scale (g.H.Hall.pending (g.H.Hall.clock l.hall)) l.self.core
+  carried : (steps : List MailStep) × Did 0 steps (g.H.Hall.state l.fn.hall) (g.H.Hall.state l.hall)
+      × LeadsOn (g.H.Hall.state l.fn.hall).count l.fn.self l.fn.answer steps l.self l.answer;
+  weight : (g.H.Hall.state l.hall).weight + own_weight g.H.Hall.scale (g.H.Hall.pending (g.H.Hall.state l.hall).clock) l.self.core
       + g.H.Hall.scale * out_weight l.answer
-      ≤ g.H.Hall.weight l.fn.hall + own_weight g.H.Hall.scale (g.H.Hall.pending (g.H.Hall.clock l.fn.hall)) l.fn.self.core
+      ≤ (g.H.Hall.state l.fn.hall).weight + own_weight g.H.Hall.scale (g.H.Hall.pending (g.H.Hall.state l.fn.hall).clock) l.fn.self.core
       + g.H.Hall.scale * out_weight l.fn.answer;
   same : IsSameParty l.fn.self l.self;
-  tied : IsTied (g.H.Hall.seen l.hall 0) (g.H.Hall.own l.hall 0) l.self.joined l.self.maps;
-  taken : (number : ℕ) → g.H.Hall.taken l.hall number ≡ g.H.Hall.taken l.fn.hall number;
-  home : (number : ℕ) → g.H.Hall.may_take l.fn.hall number → g.H.Hall.may_take l.hall number;
-  part : (who heap : ℕ) → g.H.Hall.part l.hall who heap ≡ g.H.Hall.part l.fn.hall who heap;
-  own : (who : ℕ) → who ≢ 0 → g.H.Hall.own l.hall who ≡ g.H.Hall.own l.fn.hall who;
-  did_others : (who : ℕ) → who ≢ 0 → g.H.Hall.did l.fn.hall l.hall who [];
-  clock : g.H.Hall.clock l.hall ≡ g.H.Hall.clock l.fn.hall;
-  count : g.H.Hall.count l.hall ≡ g.H.Hall.count l.fn.hall;
-  still : g.H.Hall.serves l.hall 0;
+  tied : IsTied ((g.H.Hall.state l.hall).seen 0) ((g.H.Hall.state l.hall).own 0) l.self.joined l.self.maps;
+  taken : (number : ℕ) → (g.H.Hall.state l.hall).taken number ≡ (g.H.Hall.state l.fn.hall).taken number;
+  home : (number : ℕ) → (g.H.Hall.state l.fn.hall).may_take number → (g.H.Hall.state l.hall).may_take number;
+  part : (who heap : ℕ) → (g.H.Hall.state l.hall).part who heap ≡ (g.H.Hall.state l.fn.hall).part who heap;
+  own : (who : ℕ) → who ≢ 0 → (g.H.Hall.state l.hall).own who ≡ (g.H.Hall.state l.fn.hall).own who;
+  did_others : (who : ℕ) → who ≢ 0 → Did who [] (g.H.Hall.state l.fn.hall) (g.H.Hall.state l.hall);
+  clock : (g.H.Hall.state l.hall).clock ≡ (g.H.Hall.state l.fn.hall).clock;
+  count : (g.H.Hall.state l.hall).count ≡ (g.H.Hall.state l.fn.hall).count;
+  still : (g.H.Hall.state l.hall).serves 0;
   goes_on : g.H.Hall.goes_on l.fn.hall l.hall;
 }
 

@@ -19,9 +19,8 @@ returns-then-not-is_member-clause-followed g c =
     let segs = c.take_segments-segs.result in (
       segs,
       gives_segments segs ∷ [],
-      subst (λ who. g.H.Hall.did c.args.hall.now c.put_back.new.hall who (takes_segments segs ∷ gives_segments segs ∷ [])) me
-          (g.met.H.Hall.did_then c.args.hall.now c.take_segments-segs.new.hall c.put_back.new.hall c.self.inside.me
-          (takes_segments segs ∷ []) (gives_segments segs ∷ []) c.take_segments-segs.ensures.did c.put_back.ensures.did),
+      subst (λ who. Did who (takes_segments segs ∷ gives_segments segs ∷ []) (g.H.Hall.state c.args.hall.now) (g.H.Hall.state c.put_back.new.hall)) me
+          (did_then c.take_segments-segs.ensures.did c.put_back.ensures.did),
       is_out (subst (λ who. is_member segs.roster who ≡ false) me (sym c.is_member.ensures ∙ c.if-not-is_member.true)) refl refl refl,
     )
 
@@ -30,18 +29,10 @@ returns-then-not-is_member-clause-tied g c =
     let me = ap (λ (party : Party). party.me) c.self.view_is in
     let who = c.args.self.now.me in
     let seen = c.take_segments-segs.ensures.seen in
-    tied_since (g.H.Hall.seen c.args.hall.now who) (g.H.Hall.seen c.put_back.new.hall who) seen.0 (g.H.Hall.own c.args.hall.now who)
-    (g.H.Hall.own c.put_back.new.hall who) c.args.self.now.joined c.args.self.now.maps
-    (subst (λ who. g.H.Hall.seen c.put_back.new.hall who ≡ g.H.Hall.seen c.args.hall.now who ++ seen.0) me (c.put_back.ensures.log ∙ seen.1))
+    tied_since ((g.H.Hall.state c.args.hall.now).seen who) ((g.H.Hall.state c.put_back.new.hall).seen who) seen.0 ((g.H.Hall.state c.args.hall.now).own who)
+    ((g.H.Hall.state c.put_back.new.hall).own who) c.args.self.now.joined c.args.self.now.maps
+    (subst (λ who. (g.H.Hall.state c.put_back.new.hall).seen who ≡ (g.H.Hall.state c.args.hall.now).seen who ++ seen.0) me (c.put_back.ensures.log ∙ seen.1))
     (c.put_back.ensures.own who ∙ c.take_segments-segs.ensures.own who) c.requires.tied
-
-pub returns-then-not-is_member-clause-did_others : goal.returns-then-not-is_member-clause-did_others
-returns-then-not-is_member-clause-did_others g c =
-    λ who apart.
-    let me = ap (λ (party : Party). party.me) c.self.view_is in
-    g.met.H.Hall.did_then c.args.hall.now c.take_segments-segs.new.hall c.put_back.new.hall who [] []
-    (c.take_segments-segs.ensures.did_others who (λ same. apart (same ∙ me)))
-    (c.put_back.ensures.did_others who (λ same. apart (same ∙ me)))
 
 pub returns-then-is_worn-clause-followed : goal.returns-then-is_worn-clause-followed
 returns-then-is_worn-clause-followed g c =
@@ -49,9 +40,8 @@ returns-then-is_worn-clause-followed g c =
     let segs = c.take_segments-segs.result in (
       segs,
       gives_segments segs ∷ [],
-      subst (λ who. g.H.Hall.did c.args.hall.now c.put_back-then-is_worn.new.hall who (takes_segments segs ∷ gives_segments segs ∷ [])) me
-          (g.met.H.Hall.did_then c.args.hall.now c.take_segments-segs.new.hall c.put_back-then-is_worn.new.hall c.self.inside.me
-          (takes_segments segs ∷ []) (gives_segments segs ∷ []) c.take_segments-segs.ensures.did c.put_back-then-is_worn.ensures.did),
+      subst (λ who. Did who (takes_segments segs ∷ gives_segments segs ∷ []) (g.H.Hall.state c.args.hall.now) (g.H.Hall.state c.put_back-then-is_worn.new.hall)) me
+          (did_then c.take_segments-segs.ensures.did c.put_back-then-is_worn.ensures.did),
       is_worn (subst (λ who. is_member segs.roster who ≡ true) me (sym c.is_member.ensures ∙ c.if-not-is_member.false))
           (subst (λ (party : Party). IsWorn party.maps) c.self.view_is (c.is_worn.ensures.worn c.if-is_worn.true)) refl refl refl,
     )
@@ -61,19 +51,11 @@ returns-then-is_worn-clause-tied g c =
     let me = ap (λ (party : Party). party.me) c.self.view_is in
     let who = c.args.self.now.me in
     let seen = c.take_segments-segs.ensures.seen in
-    tied_since (g.H.Hall.seen c.args.hall.now who) (g.H.Hall.seen c.put_back-then-is_worn.new.hall who) seen.0
-    (g.H.Hall.own c.args.hall.now who) (g.H.Hall.own c.put_back-then-is_worn.new.hall who) c.args.self.now.joined c.args.self.now.maps
-    (subst (λ who. g.H.Hall.seen c.put_back-then-is_worn.new.hall who ≡ g.H.Hall.seen c.args.hall.now who ++ seen.0) me
+    tied_since ((g.H.Hall.state c.args.hall.now).seen who) ((g.H.Hall.state c.put_back-then-is_worn.new.hall).seen who) seen.0
+    ((g.H.Hall.state c.args.hall.now).own who) ((g.H.Hall.state c.put_back-then-is_worn.new.hall).own who) c.args.self.now.joined c.args.self.now.maps
+    (subst (λ who. (g.H.Hall.state c.put_back-then-is_worn.new.hall).seen who ≡ (g.H.Hall.state c.args.hall.now).seen who ++ seen.0) me
     (c.put_back-then-is_worn.ensures.log ∙ seen.1))
     (c.put_back-then-is_worn.ensures.own who ∙ c.take_segments-segs.ensures.own who) c.requires.tied
-
-pub returns-then-is_worn-clause-did_others : goal.returns-then-is_worn-clause-did_others
-returns-then-is_worn-clause-did_others g c =
-    λ who apart.
-    let me = ap (λ (party : Party). party.me) c.self.view_is in
-    g.met.H.Hall.did_then c.args.hall.now c.take_segments-segs.new.hall c.put_back-then-is_worn.new.hall who [] []
-    (c.take_segments-segs.ensures.did_others who (λ same. apart (same ∙ me)))
-    (c.put_back-then-is_worn.ensures.did_others who (λ same. apart (same ∙ me)))
 
 pub obey-caught-requires-clause-tied : goal.obey-caught-requires-clause-tied
 obey-caught-requires-clause-tied g c =
@@ -81,10 +63,10 @@ obey-caught-requires-clause-tied g c =
     let who = c.args.self.now.me in
     let seen = c.take_segments-segs.ensures.seen in
     let log = c.take_segments-segs.result.log in
-    let own = g.H.Hall.own c.take_segments-segs.new.hall in
+    let own = (g.H.Hall.state c.take_segments-segs.new.hall).own in
     subst (λ (party : Party). IsTied log (own party.me) party.joined party.maps) (sym c.self.view_is)
-    (tied_since (g.H.Hall.seen c.args.hall.now who) log seen.0 (g.H.Hall.own c.args.hall.now who) (own who) c.args.self.now.joined
-    c.args.self.now.maps (subst (λ who. log ≡ g.H.Hall.seen c.args.hall.now who ++ seen.0) me seen.1)
+    (tied_since ((g.H.Hall.state c.args.hall.now).seen who) log seen.0 ((g.H.Hall.state c.args.hall.now).own who) (own who) c.args.self.now.joined
+    c.args.self.now.maps (subst (λ who. log ≡ (g.H.Hall.state c.args.hall.now).seen who ++ seen.0) me seen.1)
     (c.take_segments-segs.ensures.own who) c.requires.tied)
 
 pub returns-clause-followed : goal.returns-clause-followed
@@ -98,18 +80,10 @@ returns-clause-followed g c =
     let more = acks_behind c.obey-caught.result (length segs.log) ++ (gives ∷ posts ∷ []) in (
       segs,
       more,
-      subst (λ who. g.H.Hall.did c.args.hall.now c.obey-caught.new.hall who (takes_segments segs ∷ more)) me
-          (g.met.H.Hall.did_then c.args.hall.now c.take_segments-segs.new.hall c.obey-caught.new.hall c.self.inside.me
-          (takes_segments segs ∷ []) more c.take_segments-segs.ensures.did did.3),
+      subst (λ who. Did who (takes_segments segs ∷ more) (g.H.Hall.state c.args.hall.now) (g.H.Hall.state c.obey-caught.new.hall)) me
+          (did_then c.take_segments-segs.ensures.did did.3),
       has_followed c.args.self.now _ segs c.obey-caught.result c.obey-caught.new.maps c.has_table-self-inside.result
           c.one_more-self-inside.result did.0 did.1 c.self.view_is (sym c.is_member.ensures ∙ c.if-not-is_member.false) did.2
           c.obey-caught.ensures.caught c.has_table-self-inside.ensures c.one_more-self-inside.ensures,
     )
 
-pub returns-clause-did_others : goal.returns-clause-did_others
-returns-clause-did_others g c =
-    λ who apart.
-    let me = ap (λ (party : Party). party.me) c.self.view_is in
-    g.met.H.Hall.did_then c.args.hall.now c.take_segments-segs.new.hall c.obey-caught.new.hall who [] []
-    (c.take_segments-segs.ensures.did_others who (λ same. apart (same ∙ me)))
-    (c.obey-caught.ensures.did_others who (λ same. apart (same ∙ me)))

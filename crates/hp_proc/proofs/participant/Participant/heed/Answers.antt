@@ -12,5 +12,5 @@ returns-in-Some-clause-heeded g c =
 
 pub returns-in-Some-clause-weight : goal.returns-in-Some-clause-weight
 returns-in-Some-clause-weight g c =
-    falls_by g.H.Hall.scale (if is_sync c.in-Some.body then 2 else 0) (frame_weight c.args.frame.now) (g.H.Hall.weight c.args.hall.now)
-    (g.H.Hall.weight c.mind.new.hall) (weighs_more c.args.frame.now c.in-Some.body c.in-Some.ensures) c.mind.ensures.weight
+    falls_by g.H.Hall.scale (if is_sync c.in-Some.body then 2 else 0) (frame_weight c.args.frame.now) (g.H.Hall.state c.args.hall.now).weight
+    (g.H.Hall.state c.mind.new.hall).weight (weighs_more c.args.frame.now c.in-Some.body c.in-Some.ensures) c.mind.ensures.weight

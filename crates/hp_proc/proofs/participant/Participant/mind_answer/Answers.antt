@@ -9,20 +9,20 @@ use Rattle.hp_proc.proofs.participant.Participant.mind_answer.Goals as goal
 pub returns-clause-answered : goal.returns-clause-answered
 returns-clause-answered g c = (
   [],
-  g.met.H.Hall.did_same _ 0,
+  did_same 0 _,
   IsAnswered.hears (sym c.is_sync_reply.ensures ∙ c.if-is_sync_reply.false) refl c.hear.ensures refl,
 )
 
 pub returns-clause-weight : goal.returns-clause-weight
 returns-clause-weight g c =
     let own =
-    ap (λ (party : Party). own_weight g.H.Hall.scale (g.H.Hall.pending (g.H.Hall.clock c.args.hall.now)) party.core) c.hear.ensures
+    ap (λ (party : Party). own_weight g.H.Hall.scale (g.H.Hall.pending (g.H.Hall.state c.args.hall.now).clock) party.core) c.hear.ensures
     in
     omega (arith, own)
 
 pub returns-clause-tied : goal.returns-clause-tied
 returns-clause-tied g c =
-    subst (λ (party : Party). IsTied (g.H.Hall.seen c.args.hall.now 0) (g.H.Hall.own c.args.hall.now 0) party.joined party.maps)
+    subst (λ (party : Party). IsTied ((g.H.Hall.state c.args.hall.now).seen 0) ((g.H.Hall.state c.args.hall.now).own 0) party.joined party.maps)
     (sym c.hear.ensures) c.requires.tied
 
 pub returns-clause-same : goal.returns-clause-same

@@ -12,15 +12,15 @@ use Rattle.hp_proc.proofs.participant.Participant.poll.Goals as goal
 pub handle-requires-clause-tied : goal.handle-requires-clause-tied
 handle-requires-clause-tied g c =
     let seen = c.load_acks-acks.ensures.seen in
-    tied_still (g.H.Hall.seen c.args.hall.now 0) (g.H.Hall.seen c.load_acks-acks.new.hall 0) seen.0 (g.H.Hall.own c.args.hall.now 0)
-    (g.H.Hall.own c.load_acks-acks.new.hall 0) c.args.self.now.joined c.args.self.now.maps seen.1 (c.load_acks-acks.ensures.own 0) c.requires.tied
+    tied_still ((g.H.Hall.state c.args.hall.now).seen 0) ((g.H.Hall.state c.load_acks-acks.new.hall).seen 0) seen.0 ((g.H.Hall.state c.args.hall.now).own 0)
+    ((g.H.Hall.state c.load_acks-acks.new.hall).own 0) c.args.self.now.joined c.args.self.now.maps seen.1 (c.load_acks-acks.ensures.own 0) c.requires.tied
 
 pub returns-clause-polled : goal.returns-clause-polled
 returns-clause-polled g c =
     let looked = c.load_acks-acks.ensures.did in
     let handled = c.handle.ensures.handled in (
       looked.0 ++ handled.0,
-      g.met.H.Hall.did_then _ _ _ 0 _ _ looked.1 handled.1,
+      did_then looked.1 handled.1,
       record {
         acks = c.load_acks-acks.result;
         looks = looked.0;
@@ -36,7 +36,7 @@ returns-clause-polled g c =
 pub returns-clause-weight : goal.returns-clause-weight
 returns-clause-weight g c =
     let own =
-    own_weight_still g.H.Hall.scale g.H.Hall.pending (g.H.Hall.clock c.args.hall.now) (g.H.Hall.clock c.load_acks-acks.new.hall) c.args.self.now.core
+    own_weight_still g.H.Hall.scale g.H.Hall.pending (g.H.Hall.state c.args.hall.now).clock (g.H.Hall.state c.load_acks-acks.new.hall).clock c.args.self.now.core
     c.load_acks-acks.ensures.clock
     in
     let lighter = c.load_acks-acks.ensures.weight in
@@ -45,14 +45,10 @@ returns-clause-weight g c =
 
 pub returns-clause-due : goal.returns-clause-due
 returns-clause-due g c = λ due.
-    due_before c.handle.result g.H.Hall.scale g.H.Hall.pending (g.H.Hall.clock c.args.hall.now) (g.H.Hall.clock c.load_acks-acks.new.hall)
-    c.args.self.now.core (g.H.Hall.weight c.args.hall.now) (g.H.Hall.weight c.load_acks-acks.new.hall) (g.H.Hall.weight c.handle.new.hall)
-    (own_weight g.H.Hall.scale (g.H.Hall.pending (g.H.Hall.clock c.handle.new.hall)) c.handle.new.self.core) c.load_acks-acks.ensures.clock
+    due_before c.handle.result g.H.Hall.scale g.H.Hall.pending (g.H.Hall.state c.args.hall.now).clock (g.H.Hall.state c.load_acks-acks.new.hall).clock
+    c.args.self.now.core (g.H.Hall.state c.args.hall.now).weight (g.H.Hall.state c.load_acks-acks.new.hall).weight (g.H.Hall.state c.handle.new.hall).weight
+    (own_weight g.H.Hall.scale (g.H.Hall.pending (g.H.Hall.state c.handle.new.hall).clock) c.handle.new.self.core) c.load_acks-acks.ensures.clock
     c.load_acks-acks.ensures.weight (c.handle.ensures.due (due c.load_acks-acks.result))
-
-pub returns-clause-did_others : goal.returns-clause-did_others
-returns-clause-did_others g c = λ who apart.
-    g.met.H.Hall.did_then _ _ _ who [] [] (c.load_acks-acks.ensures.did_others who apart) (c.handle.ensures.did_others who apart)
 
 pub returns-clause-goes_on : goal.returns-clause-goes_on
 returns-clause-goes_on g c = g.met.H.Hall.goes_on_then _ _ _ c.load_acks-acks.ensures.goes_on c.handle.ensures.goes_on

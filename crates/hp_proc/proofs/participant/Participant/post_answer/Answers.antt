@@ -21,15 +21,15 @@ returns-then-to-count-clause-posted g c =
     let count = c.participants-count.ensures in
     let hall = c.args.hall.now in (
       [],
-      g.met.H.Hall.did_same _ 0,
-      nobody_asked (g.H.Hall.count hall) c.args.self.now c.args.to c.args.number c.args.what c.args.good
+      did_same 0 _,
+      nobody_asked (g.H.Hall.state hall).count c.args.self.now c.args.to c.args.number c.args.what c.args.good
           (elim c.then-to-count.branch [
             | then-to-count-via-then-to-count w ↦
                 let past = w.if-to-count.true in
-                past_count (g.H.Hall.count hall) c.args.to (omega (arith, past, count))
+                past_count (g.H.Hall.state hall).count c.args.to (omega (arith, past, count))
             | then-to-count-via-else-to-count+then-to-ge16 w ↦
                 let past = w.if-to-ge16.true in
-                past_all (g.H.Hall.count hall) c.args.to (omega (arith, past))
+                past_all (g.H.Hall.state hall).count c.args.to (omega (arith, past))
           ]),
     )
 
@@ -49,7 +49,7 @@ returns-clause-posted g c =
       context = c.self.inside.context;
     } in
     let posted = c.post_next.ensures.posted in
-    let below : c.args.to < g.H.Hall.count c.args.hall.now =
+    let below : c.args.to < (g.H.Hall.state c.args.hall.now).count =
     (let less = c.if-to-count.false in
     let count = c.participants-count.ensures in
     omega (arith, less, count)) in
@@ -59,26 +59,26 @@ returns-clause-posted g c =
           (action_of c.self.inside.plan.now message.Answer c.args.to (one_more (times_sent c.self.inside.sent.answers c.args.to))) posted.0 ∷ [],
       posted.1,
       subst
-          (λ (party : Party). IsPosted (g.H.Hall.count c.args.hall.now) party (with_answers c.post_next.new.counts inside)
+          (λ (party : Party). IsPosted (g.H.Hall.state c.args.hall.now).count party (with_answers c.post_next.new.counts inside)
           (out.Answer c.args.to c.args.number c.args.what c.args.good)
           (Posts c.args.to c.framed-frame.result
           (action_of c.self.inside.plan.now message.Answer c.args.to (one_more (times_sent c.self.inside.sent.answers c.args.to))) posted.0 ∷ []))
           c.self.view_is
-          (posted_answer (g.H.Hall.count c.args.hall.now) inside (with_answers c.post_next.new.counts inside) c.args.to c.args.number c.args.what
-          c.args.good c.framed-frame.result posted.0 c.post_next.new.counts (is_an_asker (g.H.Hall.count c.args.hall.now) c.args.to below few) says
+          (posted_answer (g.H.Hall.state c.args.hall.now).count inside (with_answers c.post_next.new.counts inside) c.args.to c.args.number c.args.what
+          c.args.good c.framed-frame.result posted.0 c.post_next.new.counts (is_an_asker (g.H.Hall.state c.args.hall.now).count c.args.to below few) says
           c.post_next.ensures.counted refl),
     )
 
 pub returns-clause-weight : goal.returns-clause-weight
 returns-clause-weight g c =
     let says = subst (λ (body : Body). Says c.framed-frame.result body) c.result_of.ensures c.framed-frame.ensures in
-    result_posted g.H.Hall.scale (g.H.Hall.weight c.args.hall.now) (g.H.Hall.weight c.post_next.new.hall) c.framed-frame.result 0 c.args.number
+    result_posted g.H.Hall.scale (g.H.Hall.state c.args.hall.now).weight (g.H.Hall.state c.post_next.new.hall).weight c.framed-frame.result 0 c.args.number
     c.args.what (if c.args.good then 0 else 1) says c.post_next.ensures.weight
 
 pub returns-clause-tied : goal.returns-clause-tied
 returns-clause-tied g c =
     let seen = c.post_next.ensures.seen in
-    subst (λ (party : Party). IsTied (g.H.Hall.seen c.post_next.new.hall 0) (g.H.Hall.own c.post_next.new.hall 0) party.joined party.maps)
+    subst (λ (party : Party). IsTied ((g.H.Hall.state c.post_next.new.hall).seen 0) ((g.H.Hall.state c.post_next.new.hall).own 0) party.joined party.maps)
     (sym c.self.view_is)
-    (tied_still (g.H.Hall.seen c.args.hall.now 0) (g.H.Hall.seen c.post_next.new.hall 0) seen.0 (g.H.Hall.own c.args.hall.now 0)
-    (g.H.Hall.own c.post_next.new.hall 0) c.args.self.now.joined c.args.self.now.maps seen.1 (c.post_next.ensures.own 0) c.requires.tied)
+    (tied_still ((g.H.Hall.state c.args.hall.now).seen 0) ((g.H.Hall.state c.post_next.new.hall).seen 0) seen.0 ((g.H.Hall.state c.args.hall.now).own 0)
+    ((g.H.Hall.state c.post_next.new.hall).own 0) c.args.self.now.joined c.args.self.now.maps seen.1 (c.post_next.ensures.own 0) c.requires.tied)

@@ -25,9 +25,9 @@ returns-in-Sync-clause-posted g c =
       told.1,
       told.2,
       subst
-          (λ (party : Party). IsPosted (g.H.Hall.count c.args.hall.now) party (with_syncs c.tell_all.new.syncs inside) c.args.answer told.1)
+          (λ (party : Party). IsPosted (g.H.Hall.state c.args.hall.now).count party (with_syncs c.tell_all.new.syncs inside) c.args.answer told.1)
           c.self.view_is
-          (posted_syncs (g.H.Hall.count c.args.hall.now) inside (with_syncs c.tell_all.new.syncs inside) c.args.answer c.in-Sync.generation c.in-Sync.round
+          (posted_syncs (g.H.Hall.state c.args.hall.now).count inside (with_syncs c.tell_all.new.syncs inside) c.args.answer c.in-Sync.generation c.in-Sync.round
           c.in-Sync.members told.0 told.1 c.tell_all.new.syncs c.in-Sync.is told.3 told.4 c.tell_all.ensures.counted refl),
     )
 
@@ -36,6 +36,6 @@ returns-in-Answer-clause-posted g c =
     let posted = c.post_answer.ensures.posted in (
       posted.0,
       posted.1,
-      subst (λ (answer : Out). IsPosted (g.H.Hall.count c.args.hall.now) c.args.self.now c.post_answer.new.self answer posted.0)
+      subst (λ (answer : Out). IsPosted (g.H.Hall.state c.args.hall.now).count c.args.self.now c.post_answer.new.self answer posted.0)
           (sym c.in-Answer.is) posted.2,
     )

@@ -11,17 +11,17 @@ use Rattle.hp_proc.proofs.participant.Participant.rest.Goals as goal
 pub poll_due-requires-clause-tied : goal.poll_due-requires-clause-tied
 poll_due-requires-clause-tied g c =
     let seen = g.met.H.Hall.goes_on_seen _ _ 0 c.now-now.ensures.goes_on in
-    tied_still (g.H.Hall.seen c.args.hall.now 0) (g.H.Hall.seen c.now-now.new.self 0) seen.0 (g.H.Hall.own c.args.hall.now 0)
-    (g.H.Hall.own c.now-now.new.self 0) c.args.self.now.joined c.args.self.now.maps seen.1 (c.now-now.ensures.own 0) c.requires.tied
+    tied_still ((g.H.Hall.state c.args.hall.now).seen 0) ((g.H.Hall.state c.now-now.new.self).seen 0) seen.0 ((g.H.Hall.state c.args.hall.now).own 0)
+    ((g.H.Hall.state c.now-now.new.self).own 0) c.args.self.now.joined c.args.self.now.maps seen.1 (c.now-now.ensures.own 0) c.requires.tied
 
 pub returns-then-is_due-clause-rested : goal.returns-then-is_due-clause-rested
 returns-then-is_due-clause-rested g c =
     let now = c.now-now.result in
     let polled = c.poll_due.ensures.polled in
     let count = g.met.H.Hall.goes_on_count _ _ c.now-now.ensures.goes_on in
-    let read = subst (g.H.Hall.did c.args.hall.now c.now-now.new.self 0) (own_step 0 (Notes (Read now))) (c.now-now.ensures.did 0) in (
+    let read = subst (did_in 0 (g.H.Hall.state c.args.hall.now) (g.H.Hall.state c.now-now.new.self)) (own_step 0 (Notes (Read now))) (c.now-now.ensures.did 0) in (
       Notes (Read now) ∷ polled.1,
-      g.met.H.Hall.did_then _ _ _ 0 (Notes (Read now) ∷ []) _ read polled.2,
+      did_then read polled.2,
       IsRested.polls now polled.1 polled.0 (c.is_due.ensures.due c.if-is_due.true []) refl
           (subst (λ n. IsPolled n now c.args.self.now c.poll_due.new.self polled.1 polled.0) count polled.3) polled.4,
     )
@@ -29,7 +29,7 @@ returns-then-is_due-clause-rested g c =
 pub returns-then-is_due-clause-weight : goal.returns-then-is_due-clause-weight
 returns-then-is_due-clause-weight g c =
     let own =
-    own_weight_still g.H.Hall.scale g.H.Hall.pending (g.H.Hall.clock c.args.hall.now) (g.H.Hall.clock c.now-now.new.self) c.args.self.now.core
+    own_weight_still g.H.Hall.scale g.H.Hall.pending (g.H.Hall.state c.args.hall.now).clock (g.H.Hall.state c.now-now.new.self).clock c.args.self.now.core
     c.now-now.ensures.clock
     in
     let lighter = c.now-now.ensures.weight in
@@ -43,14 +43,14 @@ pub returns-clause-rested : goal.returns-clause-rested
 returns-clause-rested g c =
     let now = c.now-now.result in (
       Notes (Read now) ∷ [],
-      subst (g.H.Hall.did c.args.hall.now c.now-now.new.self 0) (own_step 0 (Notes (Read now))) (c.now-now.ensures.did 0),
+      subst (did_in 0 (g.H.Hall.state c.args.hall.now) (g.H.Hall.state c.now-now.new.self)) (own_step 0 (Notes (Read now))) (c.now-now.ensures.did 0),
       IsRested.rests now (c.is_due.ensures.rests c.if-is_due.false) (c.is_due.ensures.early c.if-is_due.false) refl refl refl,
     )
 
 pub returns-clause-weight : goal.returns-clause-weight
 returns-clause-weight g c =
     let own =
-    own_weight_still g.H.Hall.scale g.H.Hall.pending (g.H.Hall.clock c.args.hall.now) (g.H.Hall.clock c.now-now.new.self) c.args.self.now.core
+    own_weight_still g.H.Hall.scale g.H.Hall.pending (g.H.Hall.state c.args.hall.now).clock (g.H.Hall.state c.now-now.new.self).clock c.args.self.now.core
     c.now-now.ensures.clock
     in
     let lighter = c.now-now.ensures.weight in
@@ -63,20 +63,8 @@ returns-clause-rests g c = λ is deadline due early.
 pub returns-clause-tied : goal.returns-clause-tied
 returns-clause-tied g c =
     let seen = g.met.H.Hall.goes_on_seen _ _ 0 c.now-now.ensures.goes_on in
-    tied_still (g.H.Hall.seen c.args.hall.now 0) (g.H.Hall.seen c.now-now.new.self 0) seen.0 (g.H.Hall.own c.args.hall.now 0)
-    (g.H.Hall.own c.now-now.new.self 0) c.args.self.now.joined c.args.self.now.maps seen.1 (c.now-now.ensures.own 0) c.requires.tied
-
-pub returns-then-is_due-clause-did_others : goal.returns-then-is_due-clause-did_others
-returns-then-is_due-clause-did_others g c = λ who apart.
-    let others =
-    subst (g.H.Hall.did c.args.hall.now c.now-now.new.self who) (other_step who 0 (Notes (Read c.now-now.result)) apart)
-    (c.now-now.ensures.did who) in
-    g.met.H.Hall.did_then _ _ _ who [] [] others (c.poll_due.ensures.did_others who apart)
-
-pub returns-clause-did_others : goal.returns-clause-did_others
-returns-clause-did_others g c = λ who apart.
-    subst (g.H.Hall.did c.args.hall.now c.now-now.new.self who) (other_step who 0 (Notes (Read c.now-now.result)) apart)
-    (c.now-now.ensures.did who)
+    tied_still ((g.H.Hall.state c.args.hall.now).seen 0) ((g.H.Hall.state c.now-now.new.self).seen 0) seen.0 ((g.H.Hall.state c.args.hall.now).own 0)
+    ((g.H.Hall.state c.now-now.new.self).own 0) c.args.self.now.joined c.args.self.now.maps seen.1 (c.now-now.ensures.own 0) c.requires.tied
 
 pub returns-then-is_due-clause-goes_on : goal.returns-then-is_due-clause-goes_on
 returns-then-is_due-clause-goes_on g c = g.met.H.Hall.goes_on_then _ _ _ c.now-now.ensures.goes_on c.poll_due.ensures.goes_on

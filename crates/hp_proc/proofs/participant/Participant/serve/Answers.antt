@@ -13,7 +13,7 @@ serve_core-requires-clause-primary g c = eqb-true c.args.self.now.me 0 (sym c.is
 
 pub serve_core-requires-clause-serves : goal.serve_core-requires-clause-serves
 serve_core-requires-clause-serves g c =
-    subst (λ (who : ℕ). g.H.Hall.serves c.args.hall.now who)
+    subst (λ (who : ℕ). (g.H.Hall.state c.args.hall.now).serves who)
     (eqb-true c.args.self.now.me 0 (sym c.is_primary.ensures.primary ∙ c.if-is_primary.true)) c.requires.serves
 
 pub serve_core-requires-clause-declared : goal.serve_core-requires-clause-declared
@@ -23,7 +23,7 @@ serve_core-requires-clause-declared g c =
 
 pub serve_core-requires-clause-tied : goal.serve_core-requires-clause-tied
 serve_core-requires-clause-tied g c =
-    subst (λ (who : ℕ). IsTied (g.H.Hall.seen c.args.hall.now who) (g.H.Hall.own c.args.hall.now who) c.args.self.now.joined c.args.self.now.maps)
+    subst (λ (who : ℕ). IsTied ((g.H.Hall.state c.args.hall.now).seen who) ((g.H.Hall.state c.args.hall.now).own who) c.args.self.now.joined c.args.self.now.maps)
     (eqb-true c.args.self.now.me 0 (sym c.is_primary.ensures.primary ∙ c.if-is_primary.true)) c.requires.tied
 
 pub returns-then-is_primary-clause-served : goal.returns-then-is_primary-clause-served
@@ -31,13 +31,13 @@ returns-then-is_primary-clause-served g c =
     let me = eqb-true c.args.self.now.me 0 (sym c.is_primary.ensures.primary ∙ c.if-is_primary.true) in
     let served = c.serve_core.ensures.served in (
       served.0,
-      subst (λ (who : ℕ). g.H.Hall.did c.args.hall.now c.serve_core.new.hall who served.0) (sym me) served.1,
+      subst (λ (who : ℕ). Did who served.0 (g.H.Hall.state c.args.hall.now) (g.H.Hall.state c.serve_core.new.hall)) (sym me) served.1,
       IsServed.coordinates me served.2,
     )
 
 pub returns-then-is_primary-clause-tied : goal.returns-then-is_primary-clause-tied
 returns-then-is_primary-clause-tied g c =
-    subst (λ (who : ℕ). IsTied (g.H.Hall.seen c.serve_core.new.hall who) (g.H.Hall.own c.serve_core.new.hall who) c.serve_core.new.self.joined
+    subst (λ (who : ℕ). IsTied ((g.H.Hall.state c.serve_core.new.hall).seen who) ((g.H.Hall.state c.serve_core.new.hall).own who) c.serve_core.new.self.joined
     c.serve_core.new.self.maps) (sym (eqb-true c.args.self.now.me 0 (sym c.is_primary.ensures.primary ∙ c.if-is_primary.true)))
     c.serve_core.ensures.tied
 
@@ -45,11 +45,6 @@ pub returns-then-is_primary-clause-own : goal.returns-then-is_primary-clause-own
 returns-then-is_primary-clause-own g c = λ who apart.
     let me = eqb-true c.args.self.now.me 0 (sym c.is_primary.ensures.primary ∙ c.if-is_primary.true) in
     c.serve_core.ensures.own who (apart_from who c.args.self.now.me me apart)
-
-pub returns-then-is_primary-clause-did_others : goal.returns-then-is_primary-clause-did_others
-returns-then-is_primary-clause-did_others g c = λ who apart.
-    let me = eqb-true c.args.self.now.me 0 (sym c.is_primary.ensures.primary ∙ c.if-is_primary.true) in
-    c.serve_core.ensures.did_others who (apart_from who c.args.self.now.me me apart)
 
 pub returns-else-is_primary-clause-served : goal.returns-else-is_primary-clause-served
 returns-else-is_primary-clause-served g c =
@@ -66,11 +61,11 @@ returns-else-is_primary-clause-served g c =
 pub returns-else-is_primary-clause-weight : goal.returns-else-is_primary-clause-weight
 returns-else-is_primary-clause-weight g c =
     let core =
-    ap (λ (party : Party). own_weight g.H.Hall.scale (g.H.Hall.pending (g.H.Hall.clock c.serve_member.new.hall)) party.core)
+    ap (λ (party : Party). own_weight g.H.Hall.scale (g.H.Hall.pending (g.H.Hall.state c.serve_member.new.hall).clock) party.core)
     c.serve_member.ensures.stays
     in
     let clock =
-    own_weight_still g.H.Hall.scale g.H.Hall.pending (g.H.Hall.clock c.args.hall.now) (g.H.Hall.clock c.serve_member.new.hall)
+    own_weight_still g.H.Hall.scale g.H.Hall.pending (g.H.Hall.state c.args.hall.now).clock (g.H.Hall.state c.serve_member.new.hall).clock
     c.args.self.now.core c.serve_member.ensures.clock
     in
     let moved = mul-le-mul_left g.H.Hall.scale (served_moved c.serve_member.result) in

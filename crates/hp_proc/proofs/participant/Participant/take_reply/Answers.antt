@@ -15,4 +15,4 @@ returns-in-Some-clause-answered g c =
 
 pub returns-in-None-clause-answered : goal.returns-in-None-clause-answered
 returns-in-None-clause-answered g c =
-    ([], g.met.H.Hall.did_same _ 0, IsAnswered.rests c.requires.reply (sym c.in-None.ensures) refl refl refl)
+    ([], did_same 0 _, IsAnswered.rests c.requires.reply (sym c.in-None.ensures) refl refl refl)
