@@ -12,6 +12,8 @@ pub mod Pending
 pub mod Read
 pub mod Slotted
 pub mod Stepped
+pub mod HallStates
+pub mod PlainStates
 pub mod Taking
 pub mod Walks
 mod WorkedKeeping

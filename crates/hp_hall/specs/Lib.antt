@@ -6,6 +6,8 @@ pub mod Giving
 pub mod Own
 pub mod Mail
 pub mod Weights
+pub mod HallState
+pub mod HallCalls
 pub mod HallView
 pub mod Keeping
 pub mod InTurn
@@ -13,6 +15,7 @@ pub mod Meters
 pub mod Course
 pub mod CourseLaws
 pub mod HallSteps
+pub mod PlainState
 pub mod SlotStates
 pub mod MailKept
 pub mod HallInside

@@ -1,5 +1,5 @@
 -- Mailboxes, and what is done in a hall: the rule "Messages" of docs/PARTICIPANTS.md.
-use Rattle.std.specs.Prelude.{◌≡◌, ℕ, ◌+◌, ◌==◌, nat_lt, List, [], ◌∷◌, ◌++◌, length, drop, replicate, Option, slice_get, slice_index_or, slice_set, map, filter, if◌then◌else◌, ⊤}
+use Rattle.std.specs.Prelude.{◌≡◌, ◌↔◌, ℕ, ◌+◌, ◌-◌, ◌^◌, min, max, sum_by, ◌==◌, nat_lt, List, [], ◌∷◌, ◌++◌, length, drop, replicate, Option, slice_get, slice_index_or, slice_set, map, filter, if◌then◌else◌, ⊤}
 use Rattle.hp_base.specs.declared.plan.Action.{Action}
 use Rattle.hp_base.specs.declared.plan.Action.TheVariants.{Lose, Repeat, Deliver}
 use Rattle.hp_frame.specs.declared.frame.Frame.{Frame}
@@ -54,6 +54,36 @@ IsMailStep who (Fetches frame) boxes = frame ≡ slice_get (box_of boxes who) 0
 IsMailStep who (Takes slot kept) boxes = ⊤
 IsMailStep who (Gives slot kept) boxes = ⊤
 IsMailStep who (Notes note) boxes = ⊤
+
+-- a post is lost exactly where that is planned
+abbrev pub IsAsPlanned : MailStep → Type 0
+IsAsPlanned (Posts to frame action posted) = (line : ℕ) → (posted ≡ Lost line) ↔ (action ≡ Lose line)
+IsAsPlanned (Fetches frame) = ⊤
+IsAsPlanned (Takes slot kept) = ⊤
+IsAsPlanned (Gives slot kept) = ⊤
+IsAsPlanned (Notes note) = ⊤
+
+-- 1 for a message that found its mailbox full
+abbrev pub full_of : Posted → ℕ
+full_of Sent = 0
+full_of Twice = 0
+full_of (Lost line) = 0
+full_of Full = 1
+
+abbrev pub full_post : MailStep → ℕ
+full_post (Posts to frame action posted) = full_of posted
+full_post (Fetches frame) = 0
+full_post (Takes slot kept) = 0
+full_post (Gives slot kept) = 0
+full_post (Notes note) = 0
+
+-- how many posts found a mailbox full
+abbrev pub full_posts : List MailStep → ℕ
+full_posts steps = sum_by full_post steps
+
+-- a count after so many more; at its type's end it stands still
+abbrev pub counted_on : ℕ → ℕ → ℕ
+counted_on more count = min (count + more) (max count (2 ^ 64 - 1))
 
 -- the mailboxes went from one state to another by these steps, each with the participant that made it
 abbrev pub IsMail : List (ℕ × MailStep) → List (List Frame) → List (List Frame) → Type 0

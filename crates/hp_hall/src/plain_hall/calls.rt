@@ -8,38 +8,11 @@ use hp_frame::Frame;
 use hp_mail::Posted;
 
 impl Hall for PlainHall {
-    ghost use Rattle.std.specs.Prelude.{◌<◌, length};
-    ghost use Rattle.hp_hall.specs.Course.{IsCourse, course_same, course_then, course_serves, course_seen, course_heard, done_same, done_then};
-    ghost use Rattle.hp_hall.specs.HallView.{HasDone, IsHome, heard_in, own_at, part_in, seen_in, slot_at, taken_from};
-    ghost use Rattle.hp_hall.specs.Weights.{boxes_weight, pending_at, pending_most_one};
+    ghost use Rattle.hp_hall.specs.Course.{IsCourse, course_same, course_then};
+    ghost use Rattle.hp_hall.specs.PlainState.{plain_later, plain_state};
+    ghost use Rattle.hp_hall.specs.Weights.{pending_at, pending_most_one};
 
-    ghost count = { λ hall. length hall.owns };
-
-    ghost serves = { λ hall who. who < length hall.owns };
-
-    ghost taken = { λ hall number. taken_from (slot_at hall number) };
-
-    ghost may_take = { λ hall number. IsHome (slot_at hall number) };
-
-    ghost part = { part_in };
-
-    ghost seen = { λ hall who. seen_in hall };
-
-    ghost heard = { λ hall who. heard_in hall };
-
-    ghost own = { own_at };
-
-    ghost noted = { λ hall who other. (own_at hall other).number };
-
-    ghost is_busy = { λ hall. ⊥ };
-
-    ghost did = { HasDone };
-
-    ghost fulls = { λ hall. hall.fulls };
-
-    ghost weight = { λ hall. boxes_weight hall.boxes };
-
-    ghost clock = { λ hall. hall.clock };
+    ghost state = { plain_state };
 
     ghost pending = { pending_at };
 
@@ -99,21 +72,7 @@ impl Hall for PlainHall {
 
     ghost goes_on_then = { course_then };
 
-    ghost goes_on_count = { λ a b course. course.count };
-
-    ghost goes_on_serves = { course_serves };
-
-    ghost goes_on_seen = { λ a b who course. course_seen a b course };
-
-    ghost goes_on_heard = { λ a b who course. course_heard a b course };
-
-    ghost goes_on_noted = { λ a b who other course. course.numbers other };
-
-    ghost goes_on_fulls = { λ a b course. course.fulls };
-
-    ghost did_same = { done_same };
-
-    ghost did_then = { done_then };
+    ghost goes_on_later = { plain_later };
 
     ghost pending_most = { pending_most_one };
 

@@ -1,8 +1,9 @@
 use Rattle.std.proofs.Common.{◌<◌, length, refl, ap, arith}
 use Rattle.hp_hall.specs.HallView.{HallView}
-use Rattle.hp_hall.specs.Mail.{Fetches}
+use Rattle.hp_hall.specs.Mail.{Fetches, MailStep}
 use Rattle.hp_hall.specs.Weights.{boxes_weight, fetched_weight}
 use Rattle.hp_hall.proofs.Mailed.{fetch_weighs}
+use Rattle.hp_hall.proofs.PlainStates.{did_one, stays_one}
 use Rattle.hp_hall.proofs.Stepped.{makes_mail}
 use Rattle.hp_hall.proofs.plain_hall.calls.PlainHallHall.fetch.Goals as goal
 
@@ -12,15 +13,12 @@ returns c =
     let new = c.fetch_at.new.self in
     let first = c.fetch_at.ensures.first in
     let hall = c.fetch_at.ensures.hall in
+    let step : MailStep = Fetches c.fetch_at.result in
     let mails = makes_mail old new c.args.me (Fetches c.fetch_at.result) old.fulls hall c.requires.serves first tt refl tt refl refl (omega arith) in
     let below : c.args.me < length old.boxes = omega (arith, c.sound.ensures.boxes, c.requires.serves) in
     record {
-      did = mails.makes.did;
-      taken = mails.taken;
-      home = mails.home;
-      part = mails.part;
-      own = mails.makes.own;
+      did = did_one c.args.me step old new mails.makes;
+      stays = stays_one c.args.me step old new mails;
       weight = omega (arith, ap (λ (h : HallView). boxes_weight h.boxes) hall, ap fetched_weight first, fetch_weighs old.boxes c.args.me below);
-      clock = mails.makes.clock;
       goes_on = mails.makes.course;
     }

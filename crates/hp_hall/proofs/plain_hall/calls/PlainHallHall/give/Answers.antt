@@ -11,6 +11,7 @@ use Rattle.hp_hall.proofs.Agreeing.{agreed_given, given_by}
 use Rattle.hp_hall.proofs.Given.{IsGivenFor, given, known, later_given, still_fit}
 use Rattle.hp_hall.proofs.Giver.{others_given, part_given}
 use Rattle.hp_hall.proofs.Halls.{hall_given}
+use Rattle.hp_hall.proofs.PlainStates.{did_one, others_one, slots_one}
 use Rattle.hp_hall.proofs.Read.{has_asks, has_log}
 use Rattle.hp_hall.proofs.Slotted.{gave}
 use Rattle.hp_hall.proofs.plain_hall.calls.PlainHallHall.give.Goals as goal
@@ -50,12 +51,10 @@ returns c =
       part = part_given me number before step old new hall was.there kept fits moves was.gives;
       log = has_log new number (home_slot kept) moves.here kept refl fits;
       asks = has_asks new number (home_slot kept) moves.here kept refl fits;
-      others = moves.taken;
-      home_of_others = moves.home;
-      part_of_others = others_given me number before step old new hall was.there kept fits moves was.gives;
-      own = moves.makes.own;
-      did = moves.makes.did;
+      did = did_one me step old new moves.makes;
+      slots = slots_one me step old new number (home_slot kept) moves;
+      own = moves.makes.own me;
+      others = others_one me step old new moves.makes (others_given me number before step old new hall was.there kept fits moves was.gives);
       weight = omega (arith, ap boxes_weight moves.boxes);
-      clock = moves.makes.clock;
       goes_on = moves.makes.course;
     }

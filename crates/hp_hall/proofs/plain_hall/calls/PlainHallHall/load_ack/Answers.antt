@@ -3,6 +3,8 @@ use Rattle.hp_hall.specs.declared.note.Note.TheVariants.{Loaded}
 use Rattle.hp_hall.specs.HallView.{HallView, own_at}
 use Rattle.hp_hall.specs.Weights.{boxes_weight}
 use Rattle.hp_hall.proofs.Owned.{number_shown}
+use Rattle.hp_hall.specs.Mail.{MailStep, Notes}
+use Rattle.hp_hall.proofs.PlainStates.{did_one, stays_one}
 use Rattle.hp_hall.proofs.Stepped.{makes_note}
 use Rattle.hp_hall.proofs.plain_hall.calls.PlainHallHall.load_ack.Goals as goal
 
@@ -14,17 +16,14 @@ returns c =
     let number = c.load_at.ensures.number in
     let hall = c.load_at.ensures.hall in
     let shows = number_shown old participant c.load_at.result c.requires.declared number in
+    let step : MailStep = Notes (Loaded participant c.load_at.result) in
     let makes = makes_note old new c.args.me (Loaded participant c.load_at.result) hall c.requires.serves
     (record { shows = shows; clock = refl; numbers = refl }) in
     record {
       noted = number ∙ sym (ap (λ (h : HallView). (own_at h participant).number) hall);
       mine = λ is. number ∙ ap (λ (n : ℕ). (own_at old n).number) is;
-      taken = makes.taken;
-      home = makes.home;
-      part = makes.part;
-      own = makes.makes.own;
-      did = makes.makes.did;
+      did = did_one c.args.me step old new makes.makes;
+      stays = stays_one c.args.me step old new makes;
       weight = omega (arith, ap (λ (h : HallView). boxes_weight h.boxes) hall);
-      clock = makes.makes.clock;
       goes_on = makes.makes.course;
     }

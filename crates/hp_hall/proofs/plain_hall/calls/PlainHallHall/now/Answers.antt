@@ -3,6 +3,8 @@ use Rattle.hp_hall.specs.declared.note.Note.TheVariants.{Read}
 use Rattle.hp_hall.specs.HallView.{HallView}
 use Rattle.hp_hall.specs.Weights.{boxes_weight, pending_at}
 use Rattle.hp_hall.proofs.Pending.{pending_later, pending_past}
+use Rattle.hp_hall.specs.Mail.{MailStep, Notes}
+use Rattle.hp_hall.proofs.PlainStates.{did_one, stays_one}
 use Rattle.hp_hall.proofs.Stepped.{makes_note}
 use Rattle.hp_hall.proofs.plain_hall.calls.PlainHallHall.now.Goals as goal
 
@@ -12,6 +14,7 @@ returns c =
     let new = c.read_at.new.self in
     let reading = c.read_at.ensures.now in
     let hall = c.read_at.ensures.hall in
+    let step : MailStep = Notes (Read c.read_at.result) in
     let makes = makes_note old new c.args.me (Read c.read_at.result) hall c.requires.serves
     (record { shows = reading; clock = refl; numbers = refl }) in
     let clock = makes.makes.clock in
@@ -20,12 +23,8 @@ returns c =
           ap (λ (n : ℕ). pending_at n deadline) clock ∙ pending_later old.clock deadline (subst (λ (n : ℕ). n < deadline) reading later);
       reached = λ deadline past.
           ap (λ (n : ℕ). pending_at n deadline) clock ∙ pending_past old.clock deadline (subst (λ (n : ℕ). deadline ≤ n) reading past);
-      taken = makes.taken;
-      home = makes.home;
-      part = makes.part;
-      own = makes.makes.own;
-      did = makes.makes.did;
+      did = did_one c.args.me step old new makes.makes;
+      stays = stays_one c.args.me step old new makes;
       weight = omega (arith, ap (λ (h : HallView). boxes_weight h.boxes) hall);
-      clock = clock;
       goes_on = makes.makes.course;
     }

@@ -5,6 +5,7 @@ use Rattle.hp_hall.specs.Mail.{MailStep, Takes}
 use Rattle.hp_hall.specs.Slots.{slot_number}
 use Rattle.hp_hall.specs.Weights.{boxes_weight}
 use Rattle.hp_hall.proofs.Read.{has_asks, has_entries, has_log}
+use Rattle.hp_hall.proofs.PlainStates.{did_one, others_one, slots_one}
 use Rattle.hp_hall.proofs.Slotted.{took}
 use Rattle.hp_hall.proofs.Taking.{others_taken, part_taken, stands_taken}
 use Rattle.hp_hall.proofs.plain_hall.calls.PlainHallHall.take.Goals as goal
@@ -22,20 +23,20 @@ returns c =
     let hall = c.sound.ensures in
     let moves = took old new me number c.requires.serves kept there c.take_at-kept.ensures.hall in
     record {
-      fits = fits;
-      sound = c.sound-2.ensures;
-      entries = has_entries old number (home_slot kept) there me kept refl fits;
-      log = has_log new number (out_slot me kept) moves.here kept refl fits;
-      asks = has_asks new number (out_slot me kept) moves.here kept refl fits;
-      stands = stands_taken me number kept step old new hall there moves kept refl fits;
-      taken = ap taken_from moves.here;
-      others = moves.taken;
-      home_of_others = moves.home;
-      part = part_taken me number kept step old new hall there moves kept refl fits;
-      part_of_others = others_taken me number kept step old new hall there moves;
-      own = moves.makes.own;
-      did = moves.makes.did;
+      took = record {
+        fits = fits;
+        sound = c.sound-2.ensures;
+        entries = has_entries old number (home_slot kept) there me kept refl fits;
+        log = has_log new number (out_slot me kept) moves.here kept refl fits;
+        asks = has_asks new number (out_slot me kept) moves.here kept refl fits;
+        stands = stands_taken me number kept step old new hall there moves kept refl fits;
+        part = part_taken me number kept step old new hall there moves kept refl fits;
+        taken = ap taken_from moves.here;
+        did = did_one me step old new moves.makes;
+      };
+      slots = slots_one me step old new number (out_slot me kept) moves;
+      own = moves.makes.own me;
+      others = others_one me step old new moves.makes (others_taken me number kept step old new hall there moves);
       weight = omega (arith, ap boxes_weight moves.boxes);
-      clock = moves.makes.clock;
       goes_on = moves.makes.course;
     }
