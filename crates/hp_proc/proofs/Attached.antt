@@ -45,7 +45,8 @@ emptied_tied log own maps within room = record {
   within = within;
   table = record {
     number = refl;
-    lags = record { reached = 0; from = omega arith; up_to = omega arith; left = refl };
+    rows = refl;
+    behind = omega arith;
     seen = omega arith;
     chunks = refl;
     room = room;

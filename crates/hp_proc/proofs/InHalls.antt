@@ -1,11 +1,11 @@
 -- A participant in a hall, over what calls leave.
-use Rattle.std.proofs.Common.{◌≡◌, ◌∙◌, ◌≤◌, ◌<◌, ◌+◌, ◌*◌, ℕ, List, sym, ap, subst, arith}
+use Rattle.std.proofs.Common.{◌≡◌, ◌∙◌, ◌≤◌, ℕ, List, sym, subst, arith}
 use Rattle.hp_base.specs.declared.limits.TheConstants.{MAX_HEAPS}
-use Rattle.hp_hall.specs.HallState.{Did, HallState, IsLater, MayServe, MineStay, OthersStay, SlotsStay, SlotsStayBut, Stays, Waits}
+use Rattle.hp_hall.specs.HallState.{Did, HallState, IsLater, MayServe, MineStay, SlotsStay, SlotsStayBut, Stays, Waits}
 use Rattle.hp_hall.specs.Mail.{MailStep}
 use Rattle.hp_hall.proofs.HallStates.{later_then, may_still, others_same, others_then, slots_then, waits_by, waits_same, waits_then}
-use Rattle.hp_proc.specs.InHall.{AreFreeBut, CanCoordinate, CanServe, HoldsIn, IsFreeAt, IsIdleIn, IsTiedIn, RemainsIn, StaysAlone, StaysIn}
-use Rattle.hp_proc.specs.Party.{IsSameParty, Party}
+use Rattle.hp_proc.specs.InHall.{AreFreeBut, CanCoordinate, CanServe, IsFreeAt, IsIdleIn, IsTiedIn, RemainsIn, StaysAlone, StaysIn}
+use Rattle.hp_proc.specs.Party.{Party}
 use Rattle.hp_proc.proofs.Carrying.{same_party, same_then}
 use Rattle.hp_proc.proofs.Handed.{tied_still}
 

@@ -49,6 +49,7 @@ pub mod Unarmed
 pub mod Pushed
 pub mod Rising
 pub mod Attached
+pub mod RowsKnown
 pub mod SegmentSlots
 pub mod InHalls
 pub mod AttachedLines

@@ -1,13 +1,12 @@
 -- A participant takes the segment value, and gives it back.
-use Rattle.std.proofs.Common.{◌≡◌, ◌∙◌, ◌≤◌, Bool, ℕ, None, sym, arith}
+use Rattle.std.proofs.Common.{◌≡◌, ◌∙◌, ◌≤◌, ℕ, None, sym, arith}
 use Rattle.hp_base.specs.declared.limits.TheConstants.{MAX_HEAPS}
-use Rattle.hp_hall.specs.HallCalls.{HasGiven, HasTaken}
+use Rattle.hp_hall.specs.HallCalls.{HasTaken}
 use Rattle.hp_hall.specs.HallState.{HallState, OthersStay, PartsStay, SlotsStay, SlotsStayBut, Stays, MayServe}
-use Rattle.hp_hall.specs.Holding.{part_behind}
 use Rattle.hp_hall.specs.declared.kept.Kept.TheVariants.{Segments}
-use Rattle.hp_hall.proofs.HallStates.{but_then, others_then, parts_then, slots_but}
+use Rattle.hp_hall.proofs.HallStates.{others_then, parts_then}
 use Rattle.hp_segs.specs.SegsView.{SegsView, is_member}
-use Rattle.hp_proc.specs.SegmentSlot.{FreesSegs, GivesBack, HasSegs, MayHold, PutsBack, StaysButOwn, StaysButParts, StaysButRoster}
+use Rattle.hp_proc.specs.SegmentSlot.{FreesSegs, GivesBack, HasSegs, MayHold, PutsBack, StaysButOwn, StaysButParts}
 use Rattle.hp_proc.proofs.Standing.{standing_with}
 use Rattle.hp_proc.proofs.Taken.{home_after, taken_after}
 

@@ -1,25 +1,14 @@
 -- No growth of the participant is open, so it may be armed; and nothing is claimed for the new number.
-use Rattle.std.proofs.Common.{◌≡◌, ◌∙◌, ℕ, [], ◌∷◌, ap, refl, sym, subst}
+use Rattle.std.proofs.Common.{◌∙◌, ℕ, ap, refl, sym, subst}
 use Rattle.std.specs.Prelude.{IsSome}
 use Rattle.hp_hall.specs.Holding.{HeapPart}
 use Rattle.hp_hall.proofs.HallStates.{did_then}
-use Rattle.hp_segs.specs.SegsView.{SegsView}
 use Rattle.hp_segs.specs.declared.ask.Ask.{Ask}
-use Rattle.hp_proc.specs.Asking.{IsHeldAsBefore, next_number}
+use Rattle.hp_proc.specs.Asking.{next_number}
 use Rattle.hp_proc.proofs.Armed.{may_arm, next_above, none_claimed}
-use Rattle.hp_proc.proofs.SegmentSlots.{Took, gave_parts, put_parts, put_stays, took_has}
+use Rattle.hp_proc.proofs.AskedAlong.{held_same, held_then}
+use Rattle.hp_proc.proofs.SegmentSlots.{Took, gave_parts, put_parts, took_has}
 use Rattle.hp_proc.proofs.arming.arm.Goals as goal
-
--- a part that stays is held as before
-held_still : (old new : HeapPart) → new ≡ old → IsHeldAsBefore old new
-held_still old new same = record {
-  entries = ap (λ (part : HeapPart). part.entries) same;
-  serves = ap (λ (part : HeapPart). part.serves) same;
-  holding = ap (λ (part : HeapPart). part.holding) same;
-}
-
-held_on : (old mid new : HeapPart) → mid ≡ old → IsHeldAsBefore mid new → IsHeldAsBefore old new
-held_on old mid new same held = subst (λ (part : HeapPart). IsHeldAsBefore part new) same held
 
 pub take_segments-segs-requires : goal.take_segments-segs-requires
 take_segments-segs-requires g c = record { serves = c.requires.may.serves; home = c.requires.may.home }
@@ -95,7 +84,7 @@ returns-clause-awaits g c =
 
 pub returns-clause-held : goal.returns-clause-held
 returns-clause-held g c = λ heap.
-    held_on _ _ _ (c.take_segments-segs.ensures.took.part heap) (c.in_ok-arm_taken.ensures.held heap)
+    held_then _ _ _ (held_same _ _ (c.take_segments-segs.ensures.took.part heap)) (c.in_ok-arm_taken.ensures.held heap)
 
 pub returns-clause-did : goal.returns-clause-did
 returns-clause-did g c = (
@@ -116,7 +105,7 @@ returns-clause-goes_on g c = g.met.H.Hall.goes_on_then _ _ _ c.take_segments-seg
 
 pub returns-in_err-arm_taken-clause-held : goal.returns-in_err-arm_taken-clause-held
 returns-in_err-arm_taken-clause-held g c = λ heap.
-    held_on _ _ _ (c.take_segments-segs.ensures.took.part heap) (c.in_err-arm_taken.ensures.held heap)
+    held_then _ _ _ (held_same _ _ (c.take_segments-segs.ensures.took.part heap)) (c.in_err-arm_taken.ensures.held heap)
 
 pub returns-in_err-arm_taken-clause-stays : goal.returns-in_err-arm_taken-clause-stays
 returns-in_err-arm_taken-clause-stays g c =
@@ -131,7 +120,7 @@ returns-in_err-arm_taken-clause-goes_on g c =
 
 pub returns-else-clause-held : goal.returns-else-clause-held
 returns-else-clause-held g c = λ heap.
-    held_still _ _ (c.put_back.ensures.back.parts.part heap ∙ c.take_segments-segs.ensures.took.part heap)
+    held_same _ _ (c.put_back.ensures.back.parts.part heap ∙ c.take_segments-segs.ensures.took.part heap)
 
 pub returns-else-clause-stays : goal.returns-else-clause-stays
 returns-else-clause-stays g c =

@@ -1,7 +1,6 @@
 -- The steps follow one another: the value is taken, the log is taken in, and the value is given back.
-use Rattle.std.proofs.Common.{[], ◌∷◌}
 use Rattle.hp_proc.specs.Attaching.{after_attaching}
-use Rattle.hp_proc.specs.Serving.{gives_segments, takes_segments}
+use Rattle.hp_proc.specs.Serving.{gives_segments}
 use Rattle.hp_proc.proofs.Standing.{standing_with}
 use Rattle.hp_proc.proofs.attaching.attach.Goals as goal
 

@@ -1,9 +1,7 @@
 -- The value is taken and given back, and an emptied table is tied, however many records were acknowledged.
-use Rattle.std.proofs.Common.{◌∙◌, [], ◌∷◌, false, sym, subst}
+use Rattle.std.proofs.Common.{◌∙◌, false, sym, subst}
 use Rattle.hp_maps.specs.MapsView.{MapsView}
-use Rattle.hp_segs.specs.LaterSteps.{after_leave}
 use Rattle.hp_proc.specs.Attaching.{emptied}
-use Rattle.hp_proc.specs.Serving.{gives_segments, takes_segments}
 use Rattle.hp_proc.specs.Tied.{IsTied}
 use Rattle.hp_proc.proofs.Attached.{emptied_tied}
 use Rattle.hp_proc.proofs.Tying.{tied_since}

@@ -9,7 +9,7 @@ use Rattle.hp_log.specs.declared.log_record.LogRecord.{LogRecord}
 use Rattle.hp_maps.proofs.ReadyLemmas.{ready_to_catch_up, tells_one_a_record}
 use Rattle.hp_segs.specs.LogPlaces.{places_of}
 use Rattle.hp_proc.proofs.Attached.{acks_whole}
-use Rattle.hp_proc.proofs.Steps.{other_step, own_step}
+use Rattle.hp_proc.proofs.Steps.{own_step}
 use Rattle.hp_proc.proofs.Tying.{tied_can}
 use Rattle.hp_proc.proofs.attaching.take_whole_log.Goals as goal
 

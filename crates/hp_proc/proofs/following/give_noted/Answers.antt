@@ -5,7 +5,7 @@ use Rattle.hp_core.specs.Giving.{OnlyNotes}
 use Rattle.hp_hall.specs.HallState.{known_to}
 use Rattle.hp_hall.specs.Standings.{LeavesStanding}
 use Rattle.hp_segs.specs.SegsView.{SegsView, is_member}
-use Rattle.hp_proc.specs.SegmentSlot.{GivesBack, PutsBack}
+use Rattle.hp_proc.specs.SegmentSlot.{GivesBack}
 use Rattle.hp_proc.proofs.Noting.{catching_leaves, gives_in_place, noted_gives}
 use Rattle.hp_proc.proofs.Standing.{behind_same}
 use Rattle.hp_proc.proofs.following.give_noted.Goals as goal

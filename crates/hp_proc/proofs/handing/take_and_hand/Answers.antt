@@ -1,5 +1,5 @@
 -- The value is taken, and what becomes of the event is that of handing it over.
-use Rattle.std.proofs.Common.{[], ◌∷◌, ◌≤◌, refl, arith}
+use Rattle.std.proofs.Common.{◌∷◌, refl, arith}
 use Rattle.hp_hall.specs.HallState.{known_to}
 use Rattle.hp_hall.proofs.HallStates.{did_then}
 use Rattle.hp_proc.specs.Serving.{takes_segments}

@@ -1,6 +1,5 @@
 -- The table is tied to the log as it was taken, and so to the log that is given back.
-use Rattle.std.proofs.Common.{◌∙◌, ◌<◌, ◌≤◌, [], ◌∷◌, refl, sym, subst, arith}
-use Rattle.hp_hall.specs.HallState.{known_to}
+use Rattle.std.proofs.Common.{◌∙◌, refl, sym, subst, arith}
 use Rattle.hp_hall.proofs.HallStates.{but_then, did_then, others_then, parts_then, slots_but, slots_then, stays_then}
 use Rattle.hp_proc.specs.Tied.{IsTied}
 use Rattle.hp_proc.proofs.Handed.{mapped_number, tied_still}

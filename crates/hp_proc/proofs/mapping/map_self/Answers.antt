@@ -1,5 +1,5 @@
 -- Participant 0 has caught up, or its mapper has made too many calls.
-use Rattle.std.proofs.Common.{◌∙◌, ◌<◌, [], ◌∷◌, ◌++◌, length, arith}
+use Rattle.std.proofs.Common.{◌∙◌, [], ◌∷◌, ◌++◌, length, arith}
 use Rattle.hp_hall.specs.Mail.{Notes}
 use Rattle.hp_hall.specs.declared.note.Note.TheVariants.{Loaded, Read}
 use Rattle.hp_hall.proofs.HallStates.{did_then}
