@@ -1,23 +1,9 @@
-pub mod Agreeing
 pub mod Beside
+pub mod Doing
 pub mod Formed
-pub mod Given
-pub mod Giver
 pub mod Gives
-pub mod Halls
-pub mod Mailed
-pub mod Opened
-pub mod Owned
-pub mod Pending
-pub mod Read
-pub mod Slotted
-pub mod Stepped
 pub mod HallStates
-pub mod PlainStates
-pub mod Taking
-pub mod Walks
-mod WorkedKeeping
-mod WorkedMeters
+pub mod Pending
 pub mod CountedRows
 pub mod StandingGrants
 pub mod StandingMoves

@@ -48,8 +48,8 @@ pub record HasGiven (me slot : ℕ) (kept : Kept) (old new : HallState) : Type 0
   pub did : Did me (Gives slot kept ∷ []) old new
 
 -- a participant's own part has come to this, by these steps of its own
-pub record HasComeTo (me : ℕ) (own : Own) (steps : List MailStep) (old new : HallState) : Type 0 where
-  pub own : new.own me ≡ own
+pub record HasComeTo (me : ℕ) (part : Own) (steps : List MailStep) (old new : HallState) : Type 0 where
+  pub own : new.own me ≡ part
   pub parts : PartsStay me old new
   pub slots : SlotsStay old new
   pub others : OthersStay me old new

@@ -8,16 +8,3 @@ pub mod Mail
 pub mod Weights
 pub mod HallState
 pub mod HallCalls
-pub mod HallView
-pub mod Keeping
-pub mod InTurn
-pub mod Meters
-pub mod Course
-pub mod CourseLaws
-pub mod HallSteps
-pub mod PlainState
-pub mod SlotStates
-pub mod MailKept
-pub mod HallInside
-pub mod Opening
-pub mod Moved
