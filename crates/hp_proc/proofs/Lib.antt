@@ -12,7 +12,6 @@ pub mod Scaled
 pub mod Weighs
 pub mod Noting
 pub mod Standing
-pub mod Steps
 pub mod Armed
 pub mod AskOutcomes
 pub mod AskSettled

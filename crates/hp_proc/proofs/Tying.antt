@@ -9,8 +9,8 @@ use Rattle.hp_hall.specs.Own.{Own}
 use Rattle.hp_log.specs.Places.{IsLogOf, IsOutside, ListPlace, slots_in}
 use Rattle.hp_log.specs.declared.log_record.LogRecord.{LogRecord}
 use Rattle.hp_log.specs.Log.{table_at}
-use Rattle.hp_maps.proofs.CatchLemmas.{lag_kept}
-use Rattle.hp_maps.proofs.TableLaw.{undropped_none}
+use Rattle.hp_maps.proofs.CatchLemmas.{table_kept}
+use Rattle.hp_maps.proofs.TableLaw.{undropped_lag, undropped_none}
 use Rattle.hp_maps.specs.Catching.{Lags, kept, new_rows, newer, number_after, rows_after, undropped}
 use Rattle.hp_maps.specs.MapsView.{MapsView, calls_of, chunk_rows, table_in}
 use Rattle.hp_maps.specs.Ready.{AreBeside, IsReady}
@@ -103,7 +103,17 @@ or_false false = refl
 
 -- nothing is dropped by no record
 none_newer : (log : List LogRecord) (n : ℕ) → newer log n n ≡ []
-none_newer log n = ap (λ k. take k (drop n log)) (omega arith)
+none_newer log n =
+    let none : n - n ≡ 0 = omega arith in
+    ap (λ k. take k (drop n log)) none
+
+-- what is left of a table that lags
+lag_kept : (maps : MapsView) (records : List LogRecord) (to : ℕ) → Lags records maps.number to (table_in maps.rows)
+    → table_in (kept (newer records maps.number to) maps.rows) ≡ undropped (newer records maps.number to) (table_at records maps.number)
+lag_kept maps records to lags =
+    table_kept (newer records maps.number to) maps.rows
+    ∙ (ap (undropped (newer records maps.number to)) lags.left
+    ∙ undropped_lag records maps.number lags.reached to (table_at records maps.number) lags.from lags.up_to)
 
 module _ (log : List LogRecord) (own : Own) (old new : MapsView) (number : new.number ≡ old.number)
     (rows : new.rows ≡ kept (newer log old.number (length log)) old.rows) (chunks : chunk_rows new.rows ≡ chunk_rows old.rows)

@@ -13,8 +13,8 @@ use Rattle.hp_proc.proofs.arming.arm.Goals as goal
 pub take_segments-segs-requires : goal.take_segments-segs-requires
 take_segments-segs-requires g c = record { serves = c.requires.may.serves; home = c.requires.may.home }
 
-pub put_back-requires-clause-has : goal.put_back-requires-clause-has
-put_back-requires-clause-has g c =
+pub put_back-requires : goal.put_back-requires
+put_back-requires g c =
     let is = c.take_segments-segs.ensures in
     let took : Took c.args.me c.take_segments-segs.result (g.H.Hall.state c.args.hall.now) (g.H.Hall.state c.take_segments-segs.new.hall) =
     record { may = c.requires.may; took = is.took; slots = is.slots; others = is.others; weight = is.weight } in

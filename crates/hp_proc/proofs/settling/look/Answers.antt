@@ -26,15 +26,15 @@ claim_taken-run-requires-clause-serves g c =
 pub claim_taken-run-requires-clause-taken : goal.claim_taken-run-requires-clause-taken
 claim_taken-run-requires-clause-taken g c = c.take_segments-segs.ensures.took.taken
 
-pub put_back-requires-clause-has : goal.put_back-requires-clause-has
-put_back-requires-clause-has g c =
+pub put_back-requires : goal.put_back-requires
+put_back-requires g c =
     let is = c.take_segments-segs.ensures in
     let took : Took c.args.ask.now.from c.take_segments-segs.result (g.H.Hall.state c.args.hall.now) (g.H.Hall.state c.take_segments-segs.new.hall) =
     record { may = c.requires.may; took = is.took; slots = is.slots; others = is.others; weight = is.weight } in
     took_has took
 
-pub put_back-in-Some-Stale-requires-clause-has : goal.put_back-in-Some-Stale-requires-clause-has
-put_back-in-Some-Stale-requires-clause-has g c =
+pub put_back-in-Some-Stale-requires : goal.put_back-in-Some-Stale-requires
+put_back-in-Some-Stale-requires g c =
     let is = c.take_segments-segs.ensures in
     let took : Took c.args.ask.now.from c.take_segments-segs.result (g.H.Hall.state c.args.hall.now) (g.H.Hall.state c.take_segments-segs.new.hall) =
     record { may = c.requires.may; took = is.took; slots = is.slots; others = is.others; weight = is.weight } in

@@ -81,8 +81,8 @@ claim_taken-run-requires-clause-held g c = λ heap none.
     stands.is
     claim_leaves_others heap none)
 
-pub put_back-requires-clause-has : goal.put_back-requires-clause-has
-put_back-requires-clause-has g c =
+pub put_back-requires : goal.put_back-requires
+put_back-requires g c =
     let ask = c.args.ask.now in
     let segs = c.take_segments-segs.result in
     let stood = closing_refused segs.asks ask.from ask.number _ (sym c.in-Refused.ensures.answer) in
