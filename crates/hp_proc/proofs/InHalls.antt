@@ -1,11 +1,14 @@
 -- A participant in a hall, over what calls leave.
-use Rattle.std.proofs.Common.{◌≡◌, ◌∙◌, ◌≤◌, ℕ, List, sym, subst, arith}
+use Rattle.std.proofs.Common.{Bool, ◌<◌, ◌≢◌, ap, inl, inr, ◌≡◌, ◌∙◌, ◌≤◌, ℕ, List, sym, subst, arith}
+use Rattle.std.proofs.lemmas.Bool.{cases_eq}
 use Rattle.hp_base.specs.declared.limits.TheConstants.{MAX_HEAPS}
-use Rattle.hp_hall.specs.HallState.{Did, HallState, IsLater, MayServe, MineStay, SlotsStay, SlotsStayBut, Stays, Waits}
+use Rattle.hp_hall.specs.HallState.{Did, HallState, IsLater, MayServe, MineStay, OthersStay, PartsStay, SlotsStay, SlotsStayBut, Stays, Waits}
 use Rattle.hp_hall.specs.Mail.{MailStep}
 use Rattle.hp_hall.proofs.HallStates.{later_then, may_still, others_same, others_then, slots_then, waits_by, waits_same, waits_then}
+use Rattle.hp_maps.specs.MapsView.{MapsView}
 use Rattle.hp_proc.specs.InHall.{AreFreeBut, CanCoordinate, CanServe, IsFreeAt, IsIdleIn, IsTiedIn, RemainsIn, StaysAlone, StaysIn}
-use Rattle.hp_proc.specs.Party.{Party}
+use Rattle.hp_proc.specs.Party.{IsSameParty, Party}
+use Rattle.hp_proc.specs.Tied.{IsTied}
 use Rattle.hp_proc.proofs.Carrying.{same_party, same_then}
 use Rattle.hp_proc.proofs.Handed.{tied_still}
 
@@ -153,3 +156,56 @@ free_but slots idle = record {
 
 pub free_at : {me slot : ℕ} {party : Party} {a : HallState} → slot ≤ MAX_HEAPS → IsIdleIn me party a → IsFreeAt slot a
 free_at {me} {slot} few idle = record { taken = idle.free slot; home = idle.home slot few }
+
+-- it did something by parts of itself, and is the same one
+pub alone_of : {me : ℕ} {old inside new : Party} {a b : HallState} → inside ≡ old → IsSameParty inside new → IsTiedIn me new b → SlotsStay a b
+    → PartsStay me a b → OthersStay me a b → StaysAlone me old new a b
+alone_of {me} {old} {inside} {new} is same tied slots parts others = record {
+  stays = record {
+    same = subst (λ (party : Party). IsSameParty party new) is same;
+    tied = tied;
+    waits = record { slots = slots; parts = parts; later = others.later };
+  };
+  others = others;
+}
+
+-- and its table is as it was
+pub alone_with : {me : ℕ} {old inside new : Party} {a b : HallState} → inside ≡ old → IsSameParty inside new → new.joined ≡ inside.joined
+    → new.maps ≡ inside.maps → Stays me a b → IsTiedIn me old a → StaysAlone me old new a b
+alone_with {me} {old} {inside} {new} {a} {b} is same joined maps stays tied =
+    let later = tied_later me old stays.others.later stays.mine.own tied in
+    let held : IsTied (b.seen me) (b.own me) inside.joined inside.maps =
+    subst (λ (party : Party). IsTiedIn me party b) (sym is) later in
+    let table : IsTied (b.seen me) (b.own me) inside.joined new.maps =
+    subst (λ (maps : MapsView). IsTied (b.seen me) (b.own me) inside.joined maps) (sym maps) held in
+    alone_of is same (subst (λ (joined : Bool). IsTied (b.seen me) (b.own me) joined new.maps) (sym joined) table) stays.slots stays.mine.parts
+    stays.others
+
+-- who holds one heap may serve
+pub may_but : {me slot : ℕ} {party : Party} {a b : HallState} → slot < MAX_HEAPS → IsLater a b → SlotsStayBut slot a b → IsIdleIn me party a
+    → MayServe me b
+may_but {me} {slot} few later slots idle =
+    let apart : MAX_HEAPS ≢ slot = λ same. omega (arith, few, same) in
+    record {
+      serves = later.serves me idle.serves;
+      declared = omega (arith, later.count, idle.declared);
+      free = slots.taken MAX_HEAPS apart ∙ idle.free MAX_HEAPS;
+      home = slots.home MAX_HEAPS apart (idle.home MAX_HEAPS (omega arith));
+    }
+
+-- who held one slot at most, and holds that no longer, holds none
+pub idle_again : {me slot : ℕ} {party : Party} {a : HallState} → a.serves me → me < a.count → IsTiedIn me party a → AreFreeBut slot a
+    → IsFreeAt slot a → IsIdleIn me party a
+idle_again {me} {slot} {party} {a} serves declared tied others here = record {
+  serves = serves;
+  declared = declared;
+  free = λ number. elim (cases_eq number slot) [
+    | inl is ↦ ap a.taken is ∙ here.taken
+    | inr apart ↦ others.taken number apart
+  ];
+  home = λ number few. elim (cases_eq number slot) [
+    | inl is ↦ subst a.may_take (sym is) here.home
+    | inr apart ↦ others.home number few apart
+  ];
+  tied = tied;
+}

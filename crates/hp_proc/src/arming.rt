@@ -1,5 +1,5 @@
 //! A participant is armed with an ask for pages before it sends it.
-ghost use Rattle.std.specs.Prelude.{◌≡◌, ℕ, ◌<◌, [], ◌∷◌, Some, None, IfOk, IfSome, IsSome, OnOk};
+ghost use Rattle.std.specs.Prelude.{◌≡◌, ℕ, ◌<◌, [], ◌∷◌, Some, IfOk, IfSome, IsSome, OnErr, OnOk};
 ghost use Rattle.hp_base.specs.declared.limits.TheConstants.{MAX_PARTICIPANTS};
 ghost use Rattle.hp_segs.specs.Calls.{MayArm};
 ghost use Rattle.hp_segs.specs.LaterSteps.{after_arm};

@@ -18,7 +18,7 @@ put_back-requires g c =
     let is = c.take_segments-segs.ensures in
     let took : Took c.args.me c.take_segments-segs.result (g.H.Hall.state c.args.hall.now) (g.H.Hall.state c.take_segments-segs.new.hall) =
     record { may = c.requires.may; took = is.took; slots = is.slots; others = is.others; weight = is.weight } in
-    took_has took
+    record { has = took_has took }
 
 pub arm_taken-requires-clause-has : goal.arm_taken-requires-clause-has
 arm_taken-requires-clause-has g c =
@@ -118,17 +118,17 @@ pub returns-in_err-arm_taken-clause-goes_on : goal.returns-in_err-arm_taken-clau
 returns-in_err-arm_taken-clause-goes_on g c =
     g.met.H.Hall.goes_on_then _ _ _ c.take_segments-segs.ensures.goes_on c.in_err-arm_taken.ensures.goes_on
 
-pub returns-else-clause-held : goal.returns-else-clause-held
-returns-else-clause-held g c = λ heap.
+pub returns-in_default-clause-held : goal.returns-in_default-clause-held
+returns-in_default-clause-held g c = λ heap.
     held_same _ _ (c.put_back.ensures.back.parts.part heap ∙ c.take_segments-segs.ensures.took.part heap)
 
-pub returns-else-clause-stays : goal.returns-else-clause-stays
-returns-else-clause-stays g c =
+pub returns-in_default-clause-stays : goal.returns-in_default-clause-stays
+returns-in_default-clause-stays g c =
     let is = c.take_segments-segs.ensures in
     let took : Took c.args.me c.take_segments-segs.result (g.H.Hall.state c.args.hall.now) (g.H.Hall.state c.take_segments-segs.new.hall) =
     record { may = c.requires.may; took = is.took; slots = is.slots; others = is.others; weight = is.weight } in
     put_parts took c.put_back.ensures.back
 
-pub returns-else-clause-goes_on : goal.returns-else-clause-goes_on
-returns-else-clause-goes_on g c =
+pub returns-in_default-clause-goes_on : goal.returns-in_default-clause-goes_on
+returns-in_default-clause-goes_on g c =
     g.met.H.Hall.goes_on_then _ _ _ c.take_segments-segs.ensures.goes_on c.put_back.ensures.goes_on

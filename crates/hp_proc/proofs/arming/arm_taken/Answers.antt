@@ -48,9 +48,10 @@ returns-in-Ok-clause-armed g c =
     c.give_back.ensures.back.gave.part)
     (subst (λ from. from < 16) c.requires.own c.requires.may.participant)
 
-pub put_back-requires-clause-has : goal.put_back-requires-clause-has
-put_back-requires-clause-has g c =
-    subst (λ (segs : SegsView). HasSegs c.args.me segs (g.H.Hall.state c.args.hall.now)) (sym c.in-Err.ensures.err) c.requires.has
+pub put_back-requires : goal.put_back-requires
+put_back-requires g c = record {
+  has = subst (λ (segs : SegsView). HasSegs c.args.me segs (g.H.Hall.state c.args.hall.now)) (sym c.in-Err.ensures.err) c.requires.has;
+}
 
 pub returns-in-Err-clause-held : goal.returns-in-Err-clause-held
 returns-in-Err-clause-held g c = λ heap.

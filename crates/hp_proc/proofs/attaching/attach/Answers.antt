@@ -1,7 +1,8 @@
 -- The steps follow one another: the value is taken, the log is taken in, and the value is given back.
-use Rattle.std.proofs.Common.{◌∙◌, ◌||◌, sym, ap, subst, arith}
+use Rattle.std.proofs.Common.{◌∙◌, ◌<◌, ◌≤◌, ◌||◌, sym, ap, subst, arith}
 use Rattle.hp_base.specs.Mapping.{is_done}
 use Rattle.hp_hall.proofs.HallStates.{but_then, did_then, others_then, slots_but}
+use Rattle.hp_proc.specs.Tied.{IsTied}
 use Rattle.hp_proc.proofs.Attached.{attached_roster}
 use Rattle.hp_proc.proofs.SegmentSlots.{Took, closed, has_still, took_has, took_serves}
 use Rattle.hp_proc.proofs.Tying.{tied_since}

@@ -10,8 +10,10 @@ use Rattle.hp_log.specs.Places.{slots_in}
 use Rattle.hp_log.specs.declared.log_record.LogRecord.{LogRecord}
 use Rattle.hp_maps.proofs.ReadyLemmas.{ready_to_catch_up, tells_one_a_record}
 use Rattle.hp_segs.specs.LogPlaces.{places_of}
-use Rattle.hp_proc.proofs.Attached.{acks_whole}
-use Rattle.hp_proc.proofs.Tying.{tied_can}
+use Rattle.hp_maps.specs.MapsView.{MapsView}
+use Rattle.hp_proc.specs.Tied.{IsTied}
+use Rattle.hp_proc.proofs.Attached.{acks_none, acks_whole, done_joined, done_own, emptied_tied}
+use Rattle.hp_proc.proofs.Tying.{tied_by, tied_can}
 use Rattle.hp_proc.proofs.attaching.take_whole_log.Goals as goal
 
 pub catch_up-caught-requires-clause-can : goal.catch_up-caught-requires-clause-can

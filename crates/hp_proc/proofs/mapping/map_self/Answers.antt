@@ -16,7 +16,7 @@ put_back-requires g c =
     let is = c.take_segments-segs.ensures in
     let took : Took 0 c.take_segments-segs.result (g.H.Hall.state c.args.hall.now) (g.H.Hall.state c.take_segments-segs.new.hall) =
     record { may = may_hold c.requires.may; took = is.took; slots = is.slots; others = is.others; weight = is.weight } in
-    took_has took
+    record { has = took_has took }
 
 pub returns-then-is_worn-clause-mapped : goal.returns-then-is_worn-clause-mapped
 returns-then-is_worn-clause-mapped g c =

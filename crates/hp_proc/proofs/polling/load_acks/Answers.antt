@@ -3,7 +3,7 @@ use Rattle.std.proofs.Common.{◌≡◌, ◌∙◌, ◌+◌, ◌<◌, ◌≤◌,
 use Rattle.std.specs.Prelude.{nat_lt, slice_index, slice_set, if◌then◌else◌}
 use Rattle.std.proofs.Math.ListN.{length-set}
 use Rattle.std.proofs.lemmas.List.{get_or-replicate}
-use Rattle.hp_hall.specs.HallState.{Did}
+use Rattle.hp_hall.specs.HallState.{Did, known_to}
 use Rattle.hp_hall.proofs.HallStates.{did_same, did_then, stays_same, stays_then}
 use Rattle.hp_hall.specs.Mail.{MailStep, Notes}
 use Rattle.hp_hall.specs.declared.note.Note.TheVariants.{Loaded}
@@ -83,8 +83,8 @@ loop-member-preserved g c =
     record {
       places = length-set c.loop-member.acks c.loop-member.member c.load_number.result ∙ places;
       noted =
-          acks_more c.loop-member.acks c.loop-member.member c.load_number.result (mid.noted 0) (new.noted 0) (omega (arith, places, below))
-          was.noted (one.stays.others.later.noted 0) one.noted;
+          acks_more c.loop-member.acks c.loop-member.member c.load_number.result (known_to 0 mid).noted (known_to 0 new).noted (omega (arith, places, below))
+          was.noted (λ k. (one.stays.others.later.noted 0 k).number) one.noted;
       did = subst (λ (steps : List MailStep). Did 0 steps old new)
           (loads_more old.count c.loop-member.acks c.loop-member.member c.load_number.result _ (omega (arith, places, below)) (omega arith))
           (did_then was.did

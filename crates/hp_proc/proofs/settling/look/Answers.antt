@@ -31,14 +31,14 @@ put_back-requires g c =
     let is = c.take_segments-segs.ensures in
     let took : Took c.args.ask.now.from c.take_segments-segs.result (g.H.Hall.state c.args.hall.now) (g.H.Hall.state c.take_segments-segs.new.hall) =
     record { may = c.requires.may; took = is.took; slots = is.slots; others = is.others; weight = is.weight } in
-    took_has took
+    record { has = took_has took }
 
-pub put_back-in-Some-Stale-requires : goal.put_back-in-Some-Stale-requires
-put_back-in-Some-Stale-requires g c =
+pub put_back-requires-in-Some-Stale : goal.put_back-requires-in-Some-Stale
+put_back-requires-in-Some-Stale g c =
     let is = c.take_segments-segs.ensures in
     let took : Took c.args.ask.now.from c.take_segments-segs.result (g.H.Hall.state c.args.hall.now) (g.H.Hall.state c.take_segments-segs.new.hall) =
     record { may = c.requires.may; took = is.took; slots = is.slots; others = is.others; weight = is.weight } in
-    took_has took
+    record { has = took_has took }
 
 pub claim_taken-run-requires-clause-granted : goal.claim_taken-run-requires-clause-granted
 claim_taken-run-requires-clause-granted g c =

@@ -89,8 +89,10 @@ put_back-requires g c =
     let is = c.take_segments-segs.ensures in
     let took : Took ask.from c.take_segments-segs.result (g.H.Hall.state c.args.hall.now) (g.H.Hall.state c.take_segments-segs.new.hall) =
     record { may = c.requires.may; took = is.took; slots = is.slots; others = is.others; weight = is.weight } in
-    subst (λ (segs : SegsView). HasSegs ask.from segs (g.H.Hall.state c.take_segments-segs.new.hall))
-    (sym (c.in-Refused.ensures.step ∙ stands_as_it_was segs ask.from ask.number c.args.since c.args.now _ stood.1)) (took_has took)
+    record {
+      has = subst (λ (segs : SegsView). HasSegs ask.from segs (g.H.Hall.state c.take_segments-segs.new.hall))
+          (sym (c.in-Refused.ensures.step ∙ stands_as_it_was segs ask.from ask.number c.args.since c.args.now _ stood.1)) (took_has took);
+    }
 
 pub give_back-requires-clause-gives : goal.give_back-requires-clause-gives
 give_back-requires-clause-gives g c =

@@ -1,10 +1,10 @@
 -- It pauses for the sooner deadline.
 use Rattle.std.proofs.Common.{◌≡◌, ◌∙◌, ℕ, ◌≤◌, ◌⊎◌, [], ◌∷◌, Some, refl, ap, sym, subst, inl, inr, ⊎_elim, arith}
-use Rattle.hp_hall.specs.HallState.{Did, MineStay}
+use Rattle.hp_hall.specs.HallState.{Did, MineStay, Waits}
 use Rattle.hp_hall.specs.Mail.{Notes}
 use Rattle.hp_hall.specs.Weights.{pause_weight}
 use Rattle.hp_hall.specs.declared.note.Note.TheVariants.{Paused}
-use Rattle.hp_hall.proofs.HallStates.{did_then, waits_by, waits_then}
+use Rattle.hp_hall.proofs.HallStates.{did_then, waits_by, waits_idle, waits_then}
 use Rattle.hp_proc.specs.Party.{Party}
 use Rattle.hp_proc.proofs.Scaled.{own_weight_still}
 use Rattle.hp_proc.proofs.Waits.{pause_falls}
@@ -60,21 +60,20 @@ returns-clause-did g c =
       _,
       did_then next.ensures.sooner.3
           (subst (λ (who : ℕ). Did who (Notes (Paused c.args.moved (Some next.result)) ∷ []) mid new)
-          (ap (λ (party : Party). party.me) c.self.view_is) c.pause.ensures.did),
+          (ap (λ (party : Party). party.me) c.self.view_is) c.pause.ensures.idles.did),
       record { now = next.ensures.sooner.0; next = next.result; sooner = next.ensures.sooner.2; are = refl },
     )
 
 pub returns-clause-waits : goal.returns-clause-waits
 returns-clause-waits g c =
-    let is = c.pause.ensures in
-    let mine = subst (λ (who : ℕ). MineStay who (g.H.Hall.state c.next_deadline-next.new.hall) (g.H.Hall.state c.pause.new.self))
-    (ap (λ (party : Party). party.me) c.self.view_is) is.mine in
-    waits_then (waits_by c.next_deadline-next.ensures.stays) (record { slots = is.slots; part = mine.part; later = is.later })
+    waits_then (waits_by c.next_deadline-next.ensures.stays)
+    (subst (λ (who : ℕ). Waits who (g.H.Hall.state c.next_deadline-next.new.hall) (g.H.Hall.state c.pause.new.self))
+    (ap (λ (party : Party). party.me) c.self.view_is) (waits_idle c.pause.ensures.idles))
 
 pub returns-clause-own : goal.returns-clause-own
 returns-clause-own g c =
     let mine = subst (λ (who : ℕ). MineStay who (g.H.Hall.state c.next_deadline-next.new.hall) (g.H.Hall.state c.pause.new.self))
-    (ap (λ (party : Party). party.me) c.self.view_is) c.pause.ensures.mine in
+    (ap (λ (party : Party). party.me) c.self.view_is) c.pause.ensures.idles.mine in
     mine.own ∙ c.next_deadline-next.ensures.stays.mine.own
 
 pub returns-clause-goes_on : goal.returns-clause-goes_on

@@ -1,5 +1,6 @@
 -- An ask is handed over, and pays for what it brings.
 use Rattle.std.proofs.Common.{◌+◌, ◌*◌, subst, arith}
+use Rattle.hp_hall.specs.HallState.{known_to}
 use Rattle.hp_hall.specs.Weights.{frame_weight}
 use Rattle.hp_proc.specs.Coordinating.{IsAskIn, IsNoAsk, IsObeyed}
 use Rattle.hp_proc.specs.Falling.{own_weight}
@@ -15,7 +16,7 @@ handle-requires-clause-outside g c = ask_outside c.participants-count.result c.a
 
 pub handle-requires-clause-known : goal.handle-requires-clause-known
 handle-requires-clause-known g c =
-    ask_true ((g.H.Hall.state c.args.hall.now).noted 0) 0 c.participants-count.result c.args.body.now c.in-Some.event c.in-Some.ensures.ask
+    ask_true (known_to 0 (g.H.Hall.state c.args.hall.now)).noted 0 c.participants-count.result c.args.body.now c.in-Some.event c.in-Some.ensures.ask
 
 pub returns-in-Some-clause-obeyed : goal.returns-in-Some-clause-obeyed
 returns-in-Some-clause-obeyed g c =

@@ -4,7 +4,12 @@ use Rattle.hp_hall.specs.Weights.{frame_weight}
 use Rattle.hp_proc.specs.Coordinating.{IsObeyed}
 use Rattle.hp_proc.specs.Falling.{own_weight}
 use Rattle.hp_proc.proofs.Scaled.{frame_served}
+use Rattle.hp_hall.proofs.HallStates.{did_same}
+use Rattle.hp_proc.proofs.InHalls.{alone_same}
 use Rattle.hp_proc.proofs.participant.Participant.obey.Goals as goal
+
+pub returns-in-None-clause-alone : goal.returns-in-None-clause-alone
+returns-in-None-clause-alone g c = alone_same 0 c.args.self.now (g.H.Hall.state c.args.hall.now) c.requires.can.tied
 
 pub returns-in-None-clause-obeyed : goal.returns-in-None-clause-obeyed
 returns-in-None-clause-obeyed g c = ([], did_same 0 _, IsObeyed.drops c.in-None.ensures refl refl refl)

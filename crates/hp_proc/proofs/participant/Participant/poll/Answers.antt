@@ -1,19 +1,24 @@
 -- The numbers are loaded, and handed over.
-use Rattle.std.proofs.Common.{◌++◌, [], refl, subst, arith}
+use Rattle.std.proofs.Common.{◌++◌, refl, subst, arith}
 use Rattle.std.specs.Prelude.{is_ok}
 use Rattle.hp_core.specs.declared.event.CoreEvent.TheVariants.{Poll}
 use Rattle.hp_proc.specs.Coordinating.{IsHandled}
 use Rattle.hp_proc.specs.Falling.{own_weight}
 use Rattle.hp_proc.proofs.Carrying.{due_before}
-use Rattle.hp_proc.proofs.Handed.{tied_still}
 use Rattle.hp_proc.proofs.Scaled.{own_weight_still}
+use Rattle.hp_hall.proofs.HallStates.{did_then}
+use Rattle.hp_proc.proofs.InHalls.{alone_by, alone_then, coordinates_still}
 use Rattle.hp_proc.proofs.participant.Participant.poll.Goals as goal
 
-pub handle-requires-clause-tied : goal.handle-requires-clause-tied
-handle-requires-clause-tied g c =
-    let seen = c.load_acks-acks.ensures.seen in
-    tied_still ((g.H.Hall.state c.args.hall.now).seen 0) ((g.H.Hall.state c.load_acks-acks.new.hall).seen 0) seen.0 ((g.H.Hall.state c.args.hall.now).own 0)
-    ((g.H.Hall.state c.load_acks-acks.new.hall).own 0) c.args.self.now.joined c.args.self.now.maps seen.1 (c.load_acks-acks.ensures.own 0) c.requires.tied
+pub load_acks-acks-requires : goal.load_acks-acks-requires
+load_acks-acks-requires g c = record { serves = c.requires.can.may.serves }
+
+pub handle-requires-clause-can : goal.handle-requires-clause-can
+handle-requires-clause-can g c = coordinates_still c.load_acks-acks.ensures.stays c.requires.can
+
+pub returns-clause-alone : goal.returns-clause-alone
+returns-clause-alone g c =
+    alone_then (alone_by 0 c.args.self.now c.load_acks-acks.ensures.stays c.requires.can.tied) c.handle.ensures.alone
 
 pub returns-clause-polled : goal.returns-clause-polled
 returns-clause-polled g c =
@@ -28,7 +33,7 @@ returns-clause-polled g c =
         looked_up = looked.2;
         handled = subst
             (λ n. IsHandled n (Poll c.args.now c.load_acks-acks.result) c.args.self.now c.handle.new.self handled.0 (is_ok c.handle.result))
-            c.load_acks-acks.ensures.count handled.2;
+            c.load_acks-acks.ensures.stays.others.later.count handled.2;
         are = refl;
       },
     )
@@ -37,7 +42,7 @@ pub returns-clause-weight : goal.returns-clause-weight
 returns-clause-weight g c =
     let own =
     own_weight_still g.H.Hall.scale g.H.Hall.pending (g.H.Hall.state c.args.hall.now).clock (g.H.Hall.state c.load_acks-acks.new.hall).clock c.args.self.now.core
-    c.load_acks-acks.ensures.clock
+    c.load_acks-acks.ensures.stays.others.clock
     in
     let lighter = c.load_acks-acks.ensures.weight in
     let falls = c.handle.ensures.weight in
@@ -47,7 +52,7 @@ pub returns-clause-due : goal.returns-clause-due
 returns-clause-due g c = λ due.
     due_before c.handle.result g.H.Hall.scale g.H.Hall.pending (g.H.Hall.state c.args.hall.now).clock (g.H.Hall.state c.load_acks-acks.new.hall).clock
     c.args.self.now.core (g.H.Hall.state c.args.hall.now).weight (g.H.Hall.state c.load_acks-acks.new.hall).weight (g.H.Hall.state c.handle.new.hall).weight
-    (own_weight g.H.Hall.scale (g.H.Hall.pending (g.H.Hall.state c.handle.new.hall).clock) c.handle.new.self.core) c.load_acks-acks.ensures.clock
+    (own_weight g.H.Hall.scale (g.H.Hall.pending (g.H.Hall.state c.handle.new.hall).clock) c.handle.new.self.core) c.load_acks-acks.ensures.stays.others.clock
     c.load_acks-acks.ensures.weight (c.handle.ensures.due (due c.load_acks-acks.result))
 
 pub returns-clause-goes_on : goal.returns-clause-goes_on

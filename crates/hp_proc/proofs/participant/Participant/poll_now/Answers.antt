@@ -1,26 +1,27 @@
 -- The clock is read, and a poll is made.
-use Rattle.std.proofs.Common.{[], ◌∷◌, subst, arith}
+use Rattle.std.proofs.Common.{subst, arith}
 use Rattle.std.specs.Prelude.{is_ok}
-use Rattle.hp_hall.specs.Mail.{Notes}
-use Rattle.hp_hall.specs.declared.note.Note.TheVariants.{Read}
 use Rattle.hp_proc.specs.Coordinating.{IsPolled}
-use Rattle.hp_proc.proofs.Handed.{tied_still}
 use Rattle.hp_proc.proofs.Scaled.{own_weight_still}
-use Rattle.hp_proc.proofs.Steps.{other_step, own_step}
+use Rattle.hp_hall.proofs.HallStates.{did_then}
+use Rattle.hp_proc.proofs.InHalls.{alone_by, alone_then, coordinates_still}
 use Rattle.hp_proc.proofs.participant.Participant.poll_now.Goals as goal
 
-pub poll-requires-clause-tied : goal.poll-requires-clause-tied
-poll-requires-clause-tied g c =
-    let seen = g.met.H.Hall.goes_on_seen _ _ 0 c.now-now.ensures.goes_on in
-    tied_still ((g.H.Hall.state c.args.hall.now).seen 0) ((g.H.Hall.state c.now-now.new.self).seen 0) seen.0 ((g.H.Hall.state c.args.hall.now).own 0)
-    ((g.H.Hall.state c.now-now.new.self).own 0) c.args.self.now.joined c.args.self.now.maps seen.1 (c.now-now.ensures.own 0) c.requires.tied
+pub now-now-requires : goal.now-now-requires
+now-now-requires g c = record { serves = c.requires.can.may.serves }
+
+pub poll-requires : goal.poll-requires
+poll-requires g c = record { can = coordinates_still c.now-now.ensures.stays c.requires.can }
+
+pub returns-clause-alone : goal.returns-clause-alone
+returns-clause-alone g c = alone_then (alone_by 0 c.args.self.now c.now-now.ensures.stays c.requires.can.tied) c.poll.ensures.alone
 
 pub returns-clause-polled : goal.returns-clause-polled
 returns-clause-polled g c =
     let now = c.now-now.result in
     let polled = c.poll.ensures.polled in
-    let count = g.met.H.Hall.goes_on_count _ _ c.now-now.ensures.goes_on in
-    let read = subst (did_in 0 (g.H.Hall.state c.args.hall.now) (g.H.Hall.state c.now-now.new.self)) (own_step 0 (Notes (Read now))) (c.now-now.ensures.did 0) in (
+    let count = c.now-now.ensures.stays.others.later.count in
+    let read = c.now-now.ensures.did in (
       now,
       polled.0,
       did_then read polled.1,
@@ -31,7 +32,7 @@ pub returns-clause-weight : goal.returns-clause-weight
 returns-clause-weight g c =
     let own =
     own_weight_still g.H.Hall.scale g.H.Hall.pending (g.H.Hall.state c.args.hall.now).clock (g.H.Hall.state c.now-now.new.self).clock c.args.self.now.core
-    c.now-now.ensures.clock
+    c.now-now.ensures.stays.others.clock
     in
     let lighter = c.now-now.ensures.weight in
     let falls = c.poll.ensures.weight in

@@ -1,5 +1,5 @@
 -- A RESULT goes to an asker that the hall has.
-use Rattle.std.proofs.Common.{◌<◌, [], ◌∷◌, refl, sym, subst, arith}
+use Rattle.std.proofs.Common.{◌<◌, [], ◌∷◌, refl, subst, arith}
 use Rattle.std.specs.Prelude.{if◌then◌else◌}
 use Rattle.hp_base.specs.Plans.{action_of}
 use Rattle.hp_base.specs.declared.plan_entry.MsgKind.TheVariants as message
@@ -9,12 +9,18 @@ use Rattle.hp_hall.specs.Mail.{Posts}
 use Rattle.hp_proc.specs.Frames.{Says}
 use Rattle.hp_proc.specs.Party.{Party, one_more}
 use Rattle.hp_proc.specs.Posting.{IsPosted, times_sent}
-use Rattle.hp_proc.specs.Tied.{IsTied}
-use Rattle.hp_proc.proofs.Handed.{tied_still}
+use Rattle.hp_hall.proofs.HallStates.{did_same}
+use Rattle.hp_proc.proofs.InHalls.{alone_same, alone_with}
 use Rattle.hp_proc.proofs.Posted.{is_an_asker, nobody_asked, past_all, past_count, posted_answer, with_answers}
 use Rattle.hp_proc.proofs.Scaled.{result_posted}
 use Rattle.hp_proc.proofs.participant.Participant.post_answer.Goals as goal
 use Rattle.hp_proc.proofs.participant.Participant.post_answer.Goals.{then-to-count-via-then-to-count, then-to-count-via-else-to-count+then-to-ge16}
+
+pub post_next-requires-clause-serves : goal.post_next-requires-clause-serves
+post_next-requires-clause-serves g c = c.requires.can.may.serves
+
+pub returns-then-to-count-clause-alone : goal.returns-then-to-count-clause-alone
+returns-then-to-count-clause-alone g c = alone_same 0 c.args.self.now (g.H.Hall.state c.args.hall.now) c.requires.can.tied
 
 pub returns-then-to-count-clause-posted : goal.returns-then-to-count-clause-posted
 returns-then-to-count-clause-posted g c =
@@ -75,10 +81,7 @@ returns-clause-weight g c =
     result_posted g.H.Hall.scale (g.H.Hall.state c.args.hall.now).weight (g.H.Hall.state c.post_next.new.hall).weight c.framed-frame.result 0 c.args.number
     c.args.what (if c.args.good then 0 else 1) says c.post_next.ensures.weight
 
-pub returns-clause-tied : goal.returns-clause-tied
-returns-clause-tied g c =
-    let seen = c.post_next.ensures.seen in
-    subst (λ (party : Party). IsTied ((g.H.Hall.state c.post_next.new.hall).seen 0) ((g.H.Hall.state c.post_next.new.hall).own 0) party.joined party.maps)
-    (sym c.self.view_is)
-    (tied_still ((g.H.Hall.state c.args.hall.now).seen 0) ((g.H.Hall.state c.post_next.new.hall).seen 0) seen.0 ((g.H.Hall.state c.args.hall.now).own 0)
-    ((g.H.Hall.state c.post_next.new.hall).own 0) c.args.self.now.joined c.args.self.now.maps seen.1 (c.post_next.ensures.own 0) c.requires.tied)
+pub returns-clause-alone : goal.returns-clause-alone
+returns-clause-alone g c =
+    alone_with c.self.view_is (record { me = refl; socket = refl; plan = refl; deadline = refl; context = refl }) refl refl
+    c.post_next.ensures.stays c.requires.can.tied

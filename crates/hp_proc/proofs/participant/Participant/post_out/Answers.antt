@@ -4,7 +4,19 @@ use Rattle.hp_core.specs.declared.out.Out.{Out}
 use Rattle.hp_proc.specs.Party.{Party}
 use Rattle.hp_proc.specs.Posting.{IsPosted}
 use Rattle.hp_proc.proofs.Posted.{posted_syncs, with_syncs}
+use Rattle.hp_proc.proofs.InHalls.{alone_same, alone_with}
 use Rattle.hp_proc.proofs.participant.Participant.post_out.Goals as goal
+
+pub tell_all-requires-clause-serves : goal.tell_all-requires-clause-serves
+tell_all-requires-clause-serves g c = c.requires.can.may.serves
+
+pub returns-in-Nothing-clause-alone : goal.returns-in-Nothing-clause-alone
+returns-in-Nothing-clause-alone g c = alone_same 0 c.args.self.now (g.H.Hall.state c.args.hall.now) c.requires.can.tied
+
+pub returns-in-Sync-clause-alone : goal.returns-in-Sync-clause-alone
+returns-in-Sync-clause-alone g c =
+    alone_with c.self.view_is (record { me = refl; socket = refl; plan = refl; deadline = refl; context = refl }) refl refl
+    c.tell_all.ensures.stays c.requires.can.tied
 
 pub returns-in-Sync-clause-posted : goal.returns-in-Sync-clause-posted
 returns-in-Sync-clause-posted g c =

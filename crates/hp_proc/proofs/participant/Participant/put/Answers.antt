@@ -25,14 +25,14 @@ returns g c =
     let is = c.give.ensures in
     let index = c.index-index.result in
     let mine = ap (λ (party : Party). party.me) c.self.view_is in
-    let given = subst (λ (who : ℕ). IsGivenAs who (Heap heap) (old.part who) (new.part who)) mine is.part in
+    let given = subst (λ (who : ℕ). IsGivenAs who (Heap heap) (old.part who) (new.part who)) mine is.gave.part in
     let others = subst (λ (who : ℕ). OthersStay who old new) mine is.others in
-    let own = subst (λ (who : ℕ). new.own who ≡ old.own who) mine is.own in
+    let own = subst (λ (who : ℕ). new.own who ≡ old.own who) mine is.gave.own in
     let seen = others.later.seen me in
     let heard = others.later.heard me in
     let did =
     subst (λ (index : ℕ). Did me (Gives index (Heap heap) ∷ []) old new) c.index-index.ensures
-    (subst (λ (who : ℕ). Did who (Gives index (Heap heap) ∷ []) old new) mine is.did) in
+    (subst (λ (who : ℕ). Did who (Gives index (Heap heap) ∷ []) old new) mine is.gave.did) in
     record {
       does = λ doing.
           does_still old.count (λ (steps : List MailStep). Did me steps old new) doing (in_hand heap (moment me party old)) (moment me party new)
@@ -44,7 +44,7 @@ returns g c =
           ready_given me heap (old.part me) (new.part me) given.0 given.1 old.taken party (old.seen me) (new.seen me) (old.heard me) (new.heard me)
           heard.0 refl c.requires.in_hand heard.1 settled;
       tied = λ tied. tied_later me party others.later own tied;
-      free = subst (λ (index : ℕ). IsFreeAt index new) c.index-index.ensures (record { taken = is.taken; home = is.home });
+      free = subst (λ (index : ℕ). IsFreeAt index new) c.index-index.ensures (record { taken = is.gave.taken; home = is.gave.home });
       slots = subst (λ (index : ℕ). SlotsStayBut index old new) c.index-index.ensures is.slots;
       others = others;
       goes_on = is.goes_on;

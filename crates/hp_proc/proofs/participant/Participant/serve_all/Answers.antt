@@ -1,34 +1,39 @@
 -- Those below serve, then the participant, then those above.
-use Rattle.std.proofs.Common.{◌≡◌, ◌∙◌, ℕ, ◌*◌, true, false, [], ◌∷◌, None, Some, refl, ap, sym, subst, arith}
+use Rattle.std.proofs.Common.{◌∙◌, ℕ, ◌*◌, true, false, [], ◌∷◌, None, Some, refl, ap, sym, subst, arith}
 use Rattle.std.specs.Result.{result_ok}
 use Rattle.std.proofs.lemmas.Result.{err_from_is_err_and}
-use Rattle.hp_base.specs.declared.limits.TheConstants.{MAX_HEAPS}
-use Rattle.hp_hall.specs.HallState.{Did, HallState, MineStay}
+use Rattle.hp_hall.specs.HallState.{Did}
 use Rattle.hp_hall.specs.Mail.{Notes}
 use Rattle.hp_hall.specs.declared.note.Note.TheVariants.{Yielded}
 use Rattle.hp_hall.proofs.HallStates.{did_then}
 use Rattle.hp_proc.specs.Falling.{served_of}
-use Rattle.hp_proc.specs.InHall.{StaysIn}
 use Rattle.hp_proc.specs.Party.{Party}
 use Rattle.hp_proc.specs.Waiting.{HaveServed}
 use Rattle.hp_proc.proofs.Carrying.{stop_differs}
-use Rattle.hp_proc.proofs.InHalls.{in_may, in_others, in_tied, in_then}
+use Rattle.hp_proc.proofs.InHalls.{in_can, in_may, in_others, in_tied, in_then}
 use Rattle.hp_proc.proofs.Scaled.{own_weight_still}
 use Rattle.hp_proc.proofs.Waits.{above_stop, all_pay, all_served, or_none, own_stops}
 use Rattle.hp_proc.proofs.participant.Participant.serve_all.Goals as goal
 
+pub others-requires : goal.others-requires
+others-requires g c = record {
+  serves = subst (g.H.Hall.state c.args.hall.now).serves (sym (ap (λ (party : Party). party.me) c.self.view_is)) c.requires.can.may.serves;
+  free = c.requires.can.may.free;
+  home = c.requires.can.may.home;
+}
+
 pub serve_some-requires : goal.serve_some-requires
 serve_some-requires g c =
-    let below = in_others c.args.self.now (ap (λ (party : Party). party.me) c.self.view_is) c.others.ensures.slots c.others.ensures.mine
-    c.others.ensures.later c.requires.tied in
-    record { may = in_may below c.requires.may; tied = in_tied below }
+    let below = in_others c.args.self.now (ap (λ (party : Party). party.me) c.self.view_is) c.others.ensures.idles.slots c.others.ensures.idles.mine
+    c.others.ensures.idles.later c.requires.can.tied in
+    record { can = in_can below c.requires.can }
 
 pub others-requires-2 : goal.others-requires-2
 others-requires-2 g c =
     let here = ap (λ (party : Party). party.me) c.self.view_is in
-    let below = in_others c.args.self.now here c.others.ensures.slots c.others.ensures.mine c.others.ensures.later c.requires.tied in
-    let own = in_may (in_then below c.serve_some.ensures.stays) c.requires.may in
-    let me = here ∙ sym c.serve_some.ensures.stays.same.me in
+    let below = in_others c.args.self.now here c.others.ensures.idles.slots c.others.ensures.idles.mine c.others.ensures.idles.later c.requires.can.tied in
+    let own = in_may (in_then below c.serve_some.ensures.alone.stays) c.requires.can.may in
+    let me = here ∙ sym c.serve_some.ensures.alone.stays.same.me in
     record {
       serves = subst (g.H.Hall.state c.serve_some.new.hall).serves (sym me) own.serves;
       free = own.free;
@@ -49,12 +54,12 @@ returns-in_err-below g c =
     record {
       served = (
         _,
-        subst (λ (who : ℕ). Did who (Notes (Yielded false (result_ok c.others.result)) ∷ []) old mid) here c.others.ensures.did,
+        subst (λ (who : ℕ). Did who (Notes (Yielded false (result_ok c.others.result)) ∷ []) old mid) here c.others.ensures.idles.did,
         HaveServed.below_stops (ap (λ moved. Notes (Yielded false moved) ∷ []) (ap result_ok c.in_err-below.was)) refl (ap result_ok stopped.1),
       );
       weight = omega (arith, none, lighter, own);
       rests = λ is. absurd (stop_differs c.from_residual.result (ap result_ok stopped.1) is);
-      stays = in_others c.args.self.now here c.others.ensures.slots c.others.ensures.mine c.others.ensures.later c.requires.tied;
+      stays = in_others c.args.self.now here c.others.ensures.idles.slots c.others.ensures.idles.mine c.others.ensures.idles.later c.requires.can.tied;
       clock = c.others.ensures.clock;
       goes_on = c.others.ensures.goes_on;
     }
@@ -68,7 +73,7 @@ returns-in_err-own g c =
     let here = ap (λ (party : Party). party.me) c.self.view_is in
     let stopped = err_from_is_err_and c.from_residual-in_err-own.result c.from_residual-in_err-own.ensures.1 in
     let one = c.in_err-own.ensures.served in
-    let below = in_others c.args.self.now here c.others.ensures.slots c.others.ensures.mine c.others.ensures.later c.requires.tied in
+    let below = in_others c.args.self.now here c.others.ensures.idles.slots c.others.ensures.idles.mine c.others.ensures.idles.later c.requires.can.tied in
     let none = ap (λ (n : ℕ). g.H.Hall.scale * n) (ap served_of stopped.1) in
     let lighter = c.others.ensures.weight in
     let served = c.serve_some.ensures.weight in
@@ -76,14 +81,14 @@ returns-in_err-own g c =
     record {
       served = (
         _,
-        did_then (subst (λ (who : ℕ). Did who (Notes (Yielded false (result_ok c.others.result)) ∷ []) old mid) here c.others.ensures.did) one.1,
-        own_stops old.count mid.count c.others.ensures.later.count c.args.self.now c.serve_some.new.self one.0 (result_ok c.others.result) None _
+        did_then (subst (λ (who : ℕ). Did who (Notes (Yielded false (result_ok c.others.result)) ∷ []) old mid) here c.others.ensures.idles.did) one.1,
+        own_stops old.count mid.count c.others.ensures.idles.later.count c.args.self.now c.serve_some.new.self one.0 (result_ok c.others.result) None _
             c.in_ok-below.below (ap result_ok c.in_ok-below.was) one.2 (ap result_ok stopped.1),
       );
       weight = omega (arith, none, lighter, served, own);
       rests = λ is. absurd (stop_differs c.from_residual-in_err-own.result (ap result_ok stopped.1) is);
-      stays = in_then below c.serve_some.ensures.stays;
-      clock = c.serve_some.ensures.others.clock ∙ c.others.ensures.clock;
+      stays = in_then below c.serve_some.ensures.alone.stays;
+      clock = c.serve_some.ensures.alone.others.clock ∙ c.others.ensures.clock;
       goes_on = g.met.H.Hall.goes_on_then _ _ _ c.others.ensures.goes_on c.serve_some.ensures.goes_on;
     }
 
@@ -98,9 +103,9 @@ returns-in_err-above g c =
     let here = ap (λ (party : Party). party.me) c.self.view_is in
     let stopped = err_from_is_err_and c.from_residual-in_err-above.result c.from_residual-in_err-above.ensures.1 in
     let one = c.in_ok-own.ensures.served in
-    let below = in_others c.args.self.now here c.others.ensures.slots c.others.ensures.mine c.others.ensures.later c.requires.tied in
-    let mine = in_then below c.serve_some.ensures.stays in
-    let above = in_others c.serve_some.new.self (here ∙ sym mine.same.me) c.others-2.ensures.slots c.others-2.ensures.mine c.others-2.ensures.later
+    let below = in_others c.args.self.now here c.others.ensures.idles.slots c.others.ensures.idles.mine c.others.ensures.idles.later c.requires.can.tied in
+    let mine = in_then below c.serve_some.ensures.alone.stays in
+    let above = in_others c.serve_some.new.self (here ∙ sym mine.same.me) c.others-2.ensures.idles.slots c.others-2.ensures.idles.mine c.others-2.ensures.idles.later
     (in_tied mine) in
     let none = ap (λ (n : ℕ). g.H.Hall.scale * n) (ap served_of stopped.1) in
     let lighter = c.others.ensures.weight in
@@ -111,16 +116,16 @@ returns-in_err-above g c =
     record {
       served = (
         _,
-        did_then (did_then (subst (λ (who : ℕ). Did who (Notes (Yielded false (result_ok c.others.result)) ∷ []) old mid) here c.others.ensures.did) one.1)
-            (subst (λ (who : ℕ). Did who (Notes (Yielded true (result_ok c.others-2.result)) ∷ []) late new) here c.others-2.ensures.did),
-        above_stop old.count mid.count c.others.ensures.later.count c.args.self.now c.serve_some.new.self one.0 (result_ok c.others.result)
+        did_then (did_then (subst (λ (who : ℕ). Did who (Notes (Yielded false (result_ok c.others.result)) ∷ []) old mid) here c.others.ensures.idles.did) one.1)
+            (subst (λ (who : ℕ). Did who (Notes (Yielded true (result_ok c.others-2.result)) ∷ []) late new) here c.others-2.ensures.idles.did),
+        above_stop old.count mid.count c.others.ensures.idles.later.count c.args.self.now c.serve_some.new.self one.0 (result_ok c.others.result)
             (result_ok c.others-2.result) _ c.in_ok-below.below c.in_ok-own.own (ap result_ok c.in_ok-below.was) one.2
             (ap result_ok c.in_err-above.was) (ap result_ok stopped.1),
       );
       weight = omega (arith, none, lighter, served, lighter_still, own, own_still);
       rests = λ is. absurd (stop_differs c.from_residual-in_err-above.result (ap result_ok stopped.1) is);
       stays = in_then mine above;
-      clock = c.others-2.ensures.clock ∙ c.serve_some.ensures.others.clock ∙ c.others.ensures.clock;
+      clock = c.others-2.ensures.clock ∙ c.serve_some.ensures.alone.others.clock ∙ c.others.ensures.clock;
       goes_on = g.met.H.Hall.goes_on_then _ _ _ (g.met.H.Hall.goes_on_then _ _ _ c.others.ensures.goes_on c.serve_some.ensures.goes_on)
           c.others-2.ensures.goes_on;
     }
@@ -135,9 +140,9 @@ returns g c =
     let new = g.H.Hall.state c.others-2.new.self in
     let here = ap (λ (party : Party). party.me) c.self.view_is in
     let one = c.in_ok-own.ensures.served in
-    let below = in_others c.args.self.now here c.others.ensures.slots c.others.ensures.mine c.others.ensures.later c.requires.tied in
-    let mine = in_then below c.serve_some.ensures.stays in
-    let above = in_others c.serve_some.new.self (here ∙ sym mine.same.me) c.others-2.ensures.slots c.others-2.ensures.mine c.others-2.ensures.later
+    let below = in_others c.args.self.now here c.others.ensures.idles.slots c.others.ensures.idles.mine c.others.ensures.idles.later c.requires.can.tied in
+    let mine = in_then below c.serve_some.ensures.alone.stays in
+    let above = in_others c.serve_some.new.self (here ∙ sym mine.same.me) c.others-2.ensures.idles.slots c.others-2.ensures.idles.mine c.others-2.ensures.idles.later
     (in_tied mine) in
     let lighter = c.others.ensures.weight in
     let served = c.serve_some.ensures.weight in
@@ -151,9 +156,9 @@ returns g c =
     record {
       served = (
         _,
-        did_then (did_then (subst (λ (who : ℕ). Did who (Notes (Yielded false (result_ok c.others.result)) ∷ []) old mid) here c.others.ensures.did) one.1)
-            (subst (λ (who : ℕ). Did who (Notes (Yielded true (result_ok c.others-2.result)) ∷ []) late new) here c.others-2.ensures.did),
-        all_served old.count mid.count c.others.ensures.later.count c.args.self.now c.serve_some.new.self one.0 (result_ok c.others.result)
+        did_then (did_then (subst (λ (who : ℕ). Did who (Notes (Yielded false (result_ok c.others.result)) ∷ []) old mid) here c.others.ensures.idles.did) one.1)
+            (subst (λ (who : ℕ). Did who (Notes (Yielded true (result_ok c.others-2.result)) ∷ []) late new) here c.others-2.ensures.idles.did),
+        all_served old.count mid.count c.others.ensures.idles.later.count c.args.self.now c.serve_some.new.self one.0 (result_ok c.others.result)
             (result_ok c.others-2.result) _ c.in_ok-below.below c.in_ok-own.own c.in_ok-above.above (ap result_ok c.in_ok-below.was) one.2
             (ap result_ok c.in_ok-above.was) (ap Some c.has_moved.ensures),
       );
@@ -163,7 +168,7 @@ returns g c =
           ∙ c.serve_some.ensures.rests (or_none c.serve_some.result _ c.in_ok-own.own _ c.has_moved.result c.in_ok-own.was refl c.has_moved.ensures is)
           deadline due early;
       stays = in_then mine above;
-      clock = c.others-2.ensures.clock ∙ c.serve_some.ensures.others.clock ∙ c.others.ensures.clock;
+      clock = c.others-2.ensures.clock ∙ c.serve_some.ensures.alone.others.clock ∙ c.others.ensures.clock;
       goes_on = g.met.H.Hall.goes_on_then _ _ _ (g.met.H.Hall.goes_on_then _ _ _ c.others.ensures.goes_on c.serve_some.ensures.goes_on)
           c.others-2.ensures.goes_on;
     }

@@ -1,16 +1,15 @@
 -- One serving more, or the last.
-use Rattle.std.proofs.Common.{◌≡◌, ◌∙◌, ℕ, ◌*◌, ◌++◌, Bool, true, false, None, Ok, Some, [], refl, ap, sym, subst, arith}
+use Rattle.std.proofs.Common.{◌≡◌, ◌∙◌, ℕ, ◌*◌, ◌++◌, Bool, true, false, None, Ok, Some, [], refl, ap, subst, arith}
 use Rattle.std.specs.Prelude.{nat_lt}
 use Rattle.std.specs.Result.{result_ok}
 use Rattle.std.specs.declared.alloc.AllocError.{AllocError}
 use Rattle.std.proofs.lemmas.Result.{err_from_is_err_and}
-use Rattle.hp_hall.specs.HallState.{OthersStay}
-use Rattle.hp_hall.proofs.HallStates.{did_same, did_then, others_same, others_then}
+use Rattle.hp_hall.proofs.HallStates.{did_same, did_then}
 use Rattle.hp_proc.specs.Coordinating.{IsServed}
 use Rattle.hp_proc.specs.Falling.{served_of}
 use Rattle.hp_proc.specs.Waiting.{AreServings, IsServedOut, most_servings}
 use Rattle.hp_proc.proofs.Carrying.{stop_differs}
-use Rattle.hp_proc.proofs.InHalls.{in_did, in_may, in_same, in_then, in_tied}
+use Rattle.hp_proc.proofs.InHalls.{alone_next, alone_same, in_can, in_did}
 use Rattle.hp_proc.proofs.Waits.{moved_differs, no_servings, ok_is, served_if, served_is, servings_more, some_more, weighs_so}
 use Rattle.hp_proc.proofs.participant.Participant.serve_some.Goals as goal
 
@@ -21,13 +20,12 @@ loop-time-init g c =
       moved = refl;
       served = ([], did_same _ old, no_servings old.count c.args.self.now);
       weight = omega arith;
-      stays = in_same c.args.self.now old c.requires.tied;
-      others = others_same _ old;
+      alone = alone_same c.args.self.now.me c.args.self.now old c.requires.can.tied;
       goes_on = g.met.H.Hall.goes_on_same _;
     }
 
 pub serve-requires : goal.serve-requires
-serve-requires g c = record { may = in_may c.loop-time.invariant.stays c.requires.may; tied = in_tied c.loop-time.invariant.stays }
+serve-requires g c = record { can = in_can c.loop-time.invariant.alone.stays c.requires.can }
 
 pub loop-time-preserved : goal.loop-time-preserved
 loop-time-preserved g c =
@@ -35,7 +33,6 @@ loop-time-preserved g c =
     let is = c.serve.ensures in
     let one = c.in_ok-more.ensures.served in
     let more = c.if-not-more.false in
-    let me = was.stays.same.me in
     let old = g.H.Hall.state c.args.hall.now in
     let mid = g.H.Hall.state c.loop-time.hall in
     let new = g.H.Hall.state c.serve.new.hall in
@@ -46,14 +43,13 @@ loop-time-preserved g c =
       moved = some_more c.loop-time._time;
       served = (
         was.served.0 ++ one.0,
-        did_then was.served.1 (in_did was.stays one.1),
+        did_then was.served.1 (in_did was.alone.stays one.1),
         servings_more old.count c.loop-time._time c.args.self.now c.loop-time.self c.serve.new.self was.served.0 one.0 was.served.2
             (subst (λ (b : Bool). IsServed old.count c.loop-time.self c.serve.new.self one.0 (Some b)) more
-            (subst (λ (n : ℕ). IsServed n c.loop-time.self c.serve.new.self one.0 (Some c.in_ok-more.more)) was.stays.waits.later.count one.2)),
+            (subst (λ (n : ℕ). IsServed n c.loop-time.self c.serve.new.self one.0 (Some c.in_ok-more.more)) was.alone.others.later.count one.2)),
       );
       weight = omega (arith, scaled, before, falls);
-      stays = in_then was.stays is.stays;
-      others = others_then was.others (subst (λ (who : ℕ). OthersStay who mid new) me is.others);
+      alone = alone_next was.alone is.alone;
       goes_on = g.met.H.Hall.goes_on_then _ _ _ was.goes_on is.goes_on;
     }
 
@@ -64,7 +60,6 @@ returns-in_err-more g c =
     let was = c.loop-time.invariant in
     let is = c.serve.ensures in
     let one = c.in_err-more.ensures.served in
-    let me = was.stays.same.me in
     let old = g.H.Hall.state c.args.hall.now in
     let mid = g.H.Hall.state c.loop-time.hall in
     let new = g.H.Hall.state c.serve.new.hall in
@@ -75,14 +70,13 @@ returns-in_err-more g c =
     record {
       served = (
         was.served.0 ++ one.0,
-        did_then was.served.1 (in_did was.stays one.1),
+        did_then was.served.1 (in_did was.alone.stays one.1),
         IsServedOut.stops c.loop-time._time c.loop-time.self was.served.0 one.0 c.loop-time-test.true was.served.2
-            (subst (λ (n : ℕ). IsServed n c.loop-time.self c.serve.new.self one.0 None) was.stays.waits.later.count one.2) refl (ap result_ok stopped.1),
+            (subst (λ (n : ℕ). IsServed n c.loop-time.self c.serve.new.self one.0 None) was.alone.others.later.count one.2) refl (ap result_ok stopped.1),
       );
       weight = omega (arith, scaled, before, falls);
       rests = λ ok. absurd (stop_differs c.from_residual.result (ap result_ok stopped.1) ok);
-      stays = in_then was.stays is.stays;
-      others = others_then was.others (subst (λ (who : ℕ). OthersStay who mid new) me is.others);
+      alone = alone_next was.alone is.alone;
       goes_on = g.met.H.Hall.goes_on_then _ _ _ was.goes_on is.goes_on;
     }
 
@@ -93,7 +87,6 @@ returns-then-not-more g c =
     let was = c.loop-time.invariant in
     let is = c.serve.ensures in
     let one = c.in_ok-more.ensures.served in
-    let me = was.stays.same.me in
     let old = g.H.Hall.state c.args.hall.now in
     let mid = g.H.Hall.state c.loop-time.hall in
     let new = g.H.Hall.state c.serve.new.hall in
@@ -103,16 +96,15 @@ returns-then-not-more g c =
     record {
       served = (
         was.served.0 ++ one.0,
-        did_then was.served.1 (in_did was.stays one.1),
+        did_then was.served.1 (in_did was.alone.stays one.1),
         IsServedOut.rests c.loop-time._time c.loop-time.self was.served.0 one.0 c.loop-time-test.true was.served.2
             (subst (λ (b : Bool). IsServed old.count c.loop-time.self c.serve.new.self one.0 (Some b)) c.if-not-more.true
-            (subst (λ (n : ℕ). IsServed n c.loop-time.self c.serve.new.self one.0 (Some c.in_ok-more.more)) was.stays.waits.later.count one.2))
+            (subst (λ (n : ℕ). IsServed n c.loop-time.self c.serve.new.self one.0 (Some c.in_ok-more.more)) was.alone.others.later.count one.2))
             refl (ap Some was.moved),
       );
       weight = omega (arith, before, falls, answer);
       rests = λ ok. is.rests (ok_is c.serve.result c.in_ok-more.more _ c.in_ok-more.was c.if-not-more.true);
-      stays = in_then was.stays is.stays;
-      others = others_then was.others (subst (λ (who : ℕ). OthersStay who mid new) me is.others);
+      alone = alone_next was.alone is.alone;
       goes_on = g.met.H.Hall.goes_on_then _ _ _ was.goes_on is.goes_on;
     }
 

@@ -1,9 +1,9 @@
-use Rattle.std.proofs.Common.{◌≡◌, ◌+◌, ◌*◌, ◌≤◌, ℕ, List}
+use Rattle.std.proofs.Common.{◌≡◌, ◌+◌, ◌*◌, ◌≤◌, List}
 use Rattle.std.specs.Prelude.{nat_lt}
-use Rattle.hp_hall.specs.HallState.{Did, OthersStay}
+use Rattle.hp_hall.specs.HallState.{Did}
 use Rattle.hp_hall.specs.Mail.{MailStep}
 use Rattle.hp_proc.specs.Falling.{if_moved}
-use Rattle.hp_proc.specs.InHall.{StaysIn, left_to_do}
+use Rattle.hp_proc.specs.InHall.{StaysAlone, left_to_do}
 use Rattle.hp_proc.specs.Waiting.{AreServings}
 use Rattle.hp_proc.proofs.participant.Participant.serve_some.Given as goal
 
@@ -14,7 +14,6 @@ invariant-loop-time g l = record {
       × AreServings (g.H.Hall.state l.fn.hall).count l._time l.fn.self l.self steps;
   weight : left_to_do g.H.Hall.scale g.H.Hall.pending l.self (g.H.Hall.state l.hall) + g.H.Hall.scale * if_moved l.moved
       ≤ left_to_do g.H.Hall.scale g.H.Hall.pending l.fn.self (g.H.Hall.state l.fn.hall);
-  stays : StaysIn l.fn.self l.self (g.H.Hall.state l.fn.hall) (g.H.Hall.state l.hall);
-  others : OthersStay l.fn.self.me (g.H.Hall.state l.fn.hall) (g.H.Hall.state l.hall);
+  alone : StaysAlone l.fn.self.me l.fn.self l.self (g.H.Hall.state l.fn.hall) (g.H.Hall.state l.hall);
   goes_on : g.H.Hall.goes_on l.fn.hall l.hall;
 }

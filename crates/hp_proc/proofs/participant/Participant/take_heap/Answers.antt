@@ -1,7 +1,7 @@
 -- The heap was taken, or another one holds it and the participant takes a turn.
 use Rattle.std.proofs.Common.{rules, ◌≡◌, ◌∙◌, ℕ, ◌++◌, List, [], ◌∷◌, Some, refl, ap, sym, subst, arith}
 use Rattle.std.specs.Prelude.{◌-◌, ◌^◌}
-use Rattle.hp_hall.specs.HallState.{Did, IsLater}
+use Rattle.hp_hall.specs.HallState.{Did}
 use Rattle.hp_hall.specs.Holding.{HeapPart}
 use Rattle.hp_hall.specs.Mail.{MailStep, Takes}
 use Rattle.hp_hall.specs.declared.kept.Kept.{Kept}
@@ -9,14 +9,14 @@ use Rattle.hp_hall.specs.declared.kept.Kept.TheVariants.{Heap}
 use Rattle.hp_hall.proofs.HallStates.{did_same, did_then, later_then}
 use Rattle.hp_proc.specs.Acting.{Acts}
 use Rattle.hp_proc.specs.Asking.{HasSettledAsks}
-use Rattle.hp_proc.specs.InHall.{StaysIn, moment}
+use Rattle.hp_proc.specs.InHall.{moment}
 use Rattle.hp_proc.specs.Party.{Party}
 use Rattle.hp_proc.specs.Progress.{in_hand, with_hand}
 use Rattle.hp_proc.proofs.AskedAlong.{settled_more}
 use Rattle.hp_proc.proofs.Carrying.{same_party}
 use Rattle.hp_proc.proofs.HandCalls.{hand_serves}
 use Rattle.hp_proc.proofs.HandGiven.{on_err_any, ready_still, take_shows, taken_in_hand, took_armed, took_hand, took_serves, waits_more}
-use Rattle.hp_proc.proofs.InHalls.{free_at, free_but, idle_may, idle_still, in_did, in_may, in_others, in_same, in_then, in_tied, tied_later}
+use Rattle.hp_proc.proofs.InHalls.{free_but, idle_can, idle_in, idle_may, in_can, in_did, in_may, in_others, in_same, in_then, in_tied, may_but, tied_later}
 use Rattle.hp_proc.proofs.Joining.{does_still}
 use Rattle.hp_proc.proofs.Scaled.{own_weight_still}
 use Rattle.hp_proc.proofs.participant.Participant.take_heap.Goals as goal
@@ -26,7 +26,7 @@ taking-init g c =
     let old = g.H.Hall.state c.args.hall.now in
     record {
       waited = ([], did_same _ old, Acts.nothing c.args.self.now);
-      stays = in_same c.args.self.now old c.requires.tied;
+      stays = in_same c.args.self.now.me c.args.self.now old c.requires.ready.idle.tied;
       asked = refl;
       goes_on = g.met.H.Hall.goes_on_same _;
       clock = λ one. omega arith;
@@ -35,11 +35,11 @@ taking-init g c =
 pub try_take-requires-clause-serves : goal.try_take-requires-clause-serves
 try_take-requires-clause-serves g c =
     subst (g.H.Hall.state c.taking.hall).serves (sym (ap (λ (party : Party). party.me) c.self.view_is))
-    (in_may c.taking.invariant.stays (idle_may c.requires.idle)).serves
+    (in_may c.taking.invariant.stays (idle_may c.requires.ready.idle)).serves
 
 pub try_take-requires-clause-home : goal.try_take-requires-clause-home
 try_take-requires-clause-home g c =
-    c.taking.invariant.stays.waits.slots.home c.args.index (c.requires.idle.home c.args.index (omega (arith, c.requires.few)))
+    c.taking.invariant.stays.waits.slots.home c.args.index (c.requires.ready.idle.home c.args.index (omega (arith, c.requires.few)))
 
 -- IT IS TAKEN
 
@@ -63,14 +63,14 @@ returns-in-Ok g c =
     let seen = later.seen me in
     let heard = later.heard me in
     let before = was.stays.waits.later.heard me in
-    let idle = idle_still was.stays.waits.slots was.stays.waits.later c.requires.idle in
+    let idle = idle_in was.stays c.requires.ready.idle in
     let step =
     subst (λ (kept : Kept). Did me (Takes heap.plain.index kept ∷ []) mid new) c.into_heap.ensures
     (subst (λ (index : ℕ). Did me (Takes index kept ∷ []) mid new) (sym shown.index)
     (subst (λ (who : ℕ). Did who (Takes c.args.index kept ∷ []) mid new) mine took.did)) in
     let ready =
     ready_still party party (old.part me) (mid.part me) (old.seen me) (mid.seen me) (old.heard me) (mid.heard me) before.0 (same_party party)
-    was.stays.waits.part before.1 c.requires.ready in
+    was.stays.waits.parts.part before.1 c.requires.ready.ready in
     let out =
     subst (λ (kept : Kept). new.taken heap.plain.index ≡ Some kept) c.into_heap.ensures (ap new.taken shown.index ∙ took.taken) in
     record {
@@ -82,46 +82,45 @@ returns-in-Ok g c =
           (λ index.
           subst (λ (who : ℕ). (with_hand who heap (new.part me) index).entries ≡ (mid.part me index).entries) (sym was.stays.same.me)
           (took_hand heap (mid.part me) (new.part me) shown.here shown.apart me shown.has index)
-          ∙ ap (λ (part : HeapPart). part.entries) (was.stays.waits.part index))
+          ∙ ap (λ (part : HeapPart). part.entries) (was.stays.waits.parts.part index))
           (λ index.
           hand_serves c.taking.self.me heap (new.part me) index
           ∙ took_serves heap (mid.part me) (new.part me) shown.here shown.apart index
-          ∙ ap (λ (part : HeapPart). part.serves) (was.stays.waits.part index))
+          ∙ ap (λ (part : HeapPart). part.serves) (was.stays.waits.parts.part index))
           was.stays.same was.asked seen.0 seen.1 heard.0 heard.1;
-      in_hand =
-          taken_in_hand heap (mid.part me) (new.part me) shown.here shown.apart new.taken party c.taking.self (mid.seen me) (new.seen me)
-          (mid.heard me) (new.heard me) was.stays.same ready out shown.few shown.has shown.stands shown.sound;
-      index = shown.index;
-      settled = subst (λ (who : ℕ). HasSettledAsks who (new.part me) (new.heard me)) (sym was.stays.same.me)
-          (settled_more me (old.part me) (new.part me) (old.heard me) (new.heard me) heard.0 heard.1
-          (λ index.
+      holds = record {
+        can = record {
+          may = may_but (omega (arith, c.requires.few)) is.others.later is.slots idle;
+          tied = tied_later me c.taking.self is.others.later (subst (λ (who : ℕ). new.own who ≡ mid.own who) mine took.own) was.stays.tied;
+        };
+        in_hand = taken_in_hand heap (mid.part me) (new.part me) shown.here shown.apart new.taken party c.taking.self (mid.seen me) (new.seen me)
+              (mid.heard me) (new.heard me) was.stays.same ready out shown.few shown.has shown.stands shown.sound;
+        settled = subst (λ (who : ℕ). HasSettledAsks who (new.part me) (new.heard me)) (sym was.stays.same.me)
+              (settled_more me (old.part me) (new.part me) (old.heard me) (new.heard me) heard.0 heard.1
+              (λ index.
           took_armed heap (mid.part me) (new.part me) shown.here shown.apart index
-          ∙ ap (λ (part : HeapPart). part.armed) (was.stays.waits.part index)) c.requires.ready.settled);
+          ∙ ap (λ (part : HeapPart). part.armed) (was.stays.waits.parts.part index)) c.requires.ready.ready.settled);
+      };
+      index = shown.index;
       same = was.stays.same;
-      tied = tied_later me c.taking.self is.others.later (subst (λ (who : ℕ). new.own who ≡ mid.own who) mine is.own) was.stays.tied;
       slots = free_but is.slots idle;
       err = tt;
-      later = later;
       clock = λ one. omega (arith, was.clock one, is.others.clock);
       goes_on = g.met.H.Hall.goes_on_then _ _ _ was.goes_on is.goes_on;
     }
 
 -- ANOTHER ONE HOLDS IT
 
-pub turn-requires-clause-may : goal.turn-requires-clause-may
-turn-requires-clause-may g c =
+pub turn-requires : goal.turn-requires
+turn-requires g c =
     let was = c.taking.invariant in
     let is = c.in-Err.ensures in
-    in_may
-    (in_others c.taking.self (ap (λ (party : Party). party.me) c.self.view_is) is.held.slots is.held.mine is.others.later (in_tied was.stays))
-    (in_may was.stays (idle_may c.requires.idle))
-
-pub turn-requires-clause-tied : goal.turn-requires-clause-tied
-turn-requires-clause-tied g c =
-    let was = c.taking.invariant in
-    let is = c.in-Err.ensures in
-    in_tied
-    (in_others c.taking.self (ap (λ (party : Party). party.me) c.self.view_is) is.held.slots is.held.mine is.others.later (in_tied was.stays))
+    record {
+      can = in_can
+          (in_others c.taking.self (ap (λ (party : Party). party.me) c.self.view_is) is.held.slots is.held.mine is.others.later (in_tied was.stays))
+          (in_can was.stays (idle_can c.requires.ready.idle));
+      before = g.met.H.Hall.busy_pending c.try_take.new.self _ (c.args.index, _, is.held.found);
+    }
 
 pub taking-smaller : goal.taking-smaller
 taking-smaller g c =
@@ -157,7 +156,7 @@ taking-preserved g c =
       stays = in_then so_far is.stays;
       asked = is.asks.asked ∙ was.asked;
       goes_on = g.met.H.Hall.goes_on_then _ _ _ was.goes_on (g.met.H.Hall.goes_on_then _ _ _ tried.goes_on is.goes_on);
-      clock = λ one. absurd (one.free c.try_take.new.self tried.held.busy);
+      clock = λ one. absurd (one.free c.try_take.new.self (c.args.index, _, tried.held.found));
     }
 
 -- SOMEBODY STOPPED
@@ -170,17 +169,14 @@ returns-in_err-turn-in-Err g c =
     let here = ap (λ (party : Party). party.me) c.self.view_is in
     let all =
     in_then (in_then was.stays (in_others c.taking.self here tried.held.slots tried.held.mine tried.others.later (in_tied was.stays))) is.stays in
-    let idle = idle_still all.waits.slots all.waits.later c.requires.idle in
+    let idle = idle_in all c.requires.ready.idle in
     record {
       did = search rules;
-      in_hand = search rules;
+      holds = search rules;
       index = search rules;
-      settled = search rules;
-      same = all.same;
-      tied = all.tied;
       slots = record { taken = λ number apart. idle.free number; home = λ number few apart. idle.home number few };
-      err = on_err_any c.from_residual.result _ (free_at (omega (arith, c.requires.few)) idle);
-      later = all.waits.later;
-      clock = λ one. absurd (one.free c.try_take.new.self tried.held.busy);
+      err = on_err_any c.from_residual.result _ idle;
+      same = all.same;
+      clock = λ one. absurd (one.free c.try_take.new.self (c.args.index, _, tried.held.found));
       goes_on = g.met.H.Hall.goes_on_then _ _ _ was.goes_on (g.met.H.Hall.goes_on_then _ _ _ tried.goes_on is.goes_on);
     }

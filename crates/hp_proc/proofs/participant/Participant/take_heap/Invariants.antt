@@ -1,5 +1,5 @@
-use Rattle.std.proofs.Common.{◌≡◌, ◌+◌, ◌-◌, ◌^◌, ℕ, List, []}
-use Rattle.hp_hall.specs.HallState.{Did}
+use Rattle.std.proofs.Common.{◌≡◌, ◌+◌, ◌-◌, ◌^◌, List, []}
+use Rattle.hp_hall.specs.HallState.{Did, IsBusy}
 use Rattle.hp_hall.specs.Mail.{MailStep}
 use Rattle.hp_proc.specs.Acting.{Acts}
 use Rattle.hp_proc.specs.Clocks.{RisesWithin}
@@ -10,10 +10,10 @@ abbrev pub invariant-taking : goal.invariant-taking
 invariant-taking g l = record {
   waited : (steps : List MailStep) × Did l.fn.self.me steps (g.H.Hall.state l.fn.hall) (g.H.Hall.state l.hall)
       × Acts (g.H.Hall.state l.fn.hall).count l.fn.self l.self [] steps;
-  stays : StaysIn l.fn.self l.self (g.H.Hall.state l.fn.hall) (g.H.Hall.state l.hall);
+  stays : StaysIn l.fn.self.me l.fn.self l.self (g.H.Hall.state l.fn.hall) (g.H.Hall.state l.hall);
   asked : l.self.asked ≡ l.fn.self.asked;
   goes_on : g.H.Hall.goes_on l.fn.hall l.hall;
-  clock : RisesWithin g.H.Hall.pending (λ hall. (g.H.Hall.state hall).is_busy) 0 (g.H.Hall.state l.fn.hall).clock (g.H.Hall.state l.hall).clock;
+  clock : RisesWithin g.H.Hall.pending (λ hall. IsBusy (g.H.Hall.state hall)) 0 (g.H.Hall.state l.fn.hall).clock (g.H.Hall.state l.hall).clock;
 }
 
 abbrev pub decreases-taking : goal.decreases-taking

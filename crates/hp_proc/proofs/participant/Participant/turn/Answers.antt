@@ -11,9 +11,12 @@ use Rattle.hp_proc.proofs.InHalls.{in_did, in_may, in_then, in_tied, in_waits}
 use Rattle.hp_proc.proofs.Waits.{no_ok, on_err, pause_since, turn_pays}
 use Rattle.hp_proc.proofs.participant.Participant.turn.Goals as goal
 
+pub serve_all-requires : goal.serve_all-requires
+serve_all-requires g c = record { can = c.requires.can }
+
 pub end_turn-requires : goal.end_turn-requires
 end_turn-requires g c = record {
-  serves = (in_may c.serve_all.ensures.stays c.requires.may).serves;
+  serves = (in_may c.serve_all.ensures.stays c.requires.can.may).serves;
   before = ap (λ (at : ℕ). g.H.Hall.pending at c.args.until) c.serve_all.ensures.clock ∙ c.requires.before;
 }
 

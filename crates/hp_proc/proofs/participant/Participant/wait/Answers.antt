@@ -6,11 +6,10 @@ use Rattle.hp_hall.specs.HallState.{Did}
 use Rattle.hp_hall.specs.Mail.{Notes}
 use Rattle.hp_hall.specs.declared.note.Note.TheVariants.{Read}
 use Rattle.hp_hall.proofs.HallStates.{did_same, did_then}
-use Rattle.hp_proc.specs.InHall.{StaysIn}
 use Rattle.hp_proc.specs.Party.{Party, due_in}
 use Rattle.hp_proc.specs.Waiting.{IsTurned, IsWaited}
 use Rattle.hp_proc.proofs.AskedLemmas.{asked_then, asked_turns}
-use Rattle.hp_proc.proofs.InHalls.{in_did, in_may, in_others, in_same, in_then, in_tied}
+use Rattle.hp_proc.proofs.InHalls.{in_can, in_did, in_may, in_others, in_same, in_then, in_tied}
 use Rattle.hp_proc.proofs.Scaled.{own_weight_still}
 use Rattle.hp_proc.proofs.Waits.{clock_still, if_no_ok, no_turns, past_deadline, turned_clock, turns_more}
 use Rattle.hp_proc.proofs.participant.Participant.wait.Goals as goal
@@ -22,14 +21,14 @@ waiting-init g c =
       turned = (0, [], did_same _ old, no_turns old.count c.args.until c.args.heeds c.args.self.now);
       weight = omega arith;
       clock = inl refl;
-      stays = in_same c.args.self.now old c.requires.tied;
+      stays = in_same c.args.self.now.me c.args.self.now old c.requires.can.tied;
       goes_on = g.met.H.Hall.goes_on_same _;
     }
 
 pub now-reading-requires : goal.now-reading-requires
 now-reading-requires g c = record {
   serves = subst (g.H.Hall.state c.waiting.hall).serves (sym (ap (λ (party : Party). party.me) c.self.view_is))
-      (in_may c.waiting.invariant.stays c.requires.may).serves;
+      (in_may c.waiting.invariant.stays c.requires.can.may).serves;
 }
 
 -- ITS WAIT IS OVER
@@ -74,8 +73,7 @@ turn-requires g c =
     let looked = in_others c.waiting.self (ap (λ (party : Party). party.me) c.self.view_is) read.stays.slots read.stays.mine
     read.stays.others.later (in_tied was.stays) in
     record {
-      may = in_may looked (in_may was.stays c.requires.may);
-      tied = in_tied looked;
+      can = in_can looked (in_can was.stays c.requires.can);
       before = read.before c.args.until (c.ends_wait-over.ensures.waits_on c.if-over.false).early;
     }
 

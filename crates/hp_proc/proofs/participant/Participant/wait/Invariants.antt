@@ -13,7 +13,7 @@ invariant-waiting g l = record {
       ≤ left_to_do g.H.Hall.scale g.H.Hall.pending l.fn.self (g.H.Hall.state l.fn.hall)
       + g.H.Hall.pending (g.H.Hall.state l.fn.hall).clock l.until;
   clock : ((g.H.Hall.state l.hall).clock ≡ (g.H.Hall.state l.fn.hall).clock) ⊎ ((g.H.Hall.state l.hall).clock ≤ l.until);
-  stays : StaysIn l.fn.self l.self (g.H.Hall.state l.fn.hall) (g.H.Hall.state l.hall);
+  stays : StaysIn l.fn.self.me l.fn.self l.self (g.H.Hall.state l.fn.hall) (g.H.Hall.state l.hall);
   goes_on : g.H.Hall.goes_on l.fn.hall l.hall;
 }
 
