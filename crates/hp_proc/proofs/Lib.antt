@@ -51,4 +51,5 @@ pub mod Attached
 pub mod RowsKnown
 pub mod SegmentSlots
 pub mod InHalls
+pub mod Holds
 pub mod AttachedLines

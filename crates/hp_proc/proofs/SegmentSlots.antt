@@ -6,7 +6,11 @@ use Rattle.hp_hall.specs.HallState.{HallState, OthersStay, PartsStay, SlotsStay,
 use Rattle.hp_hall.specs.declared.kept.Kept.TheVariants.{Segments}
 use Rattle.hp_hall.proofs.HallStates.{others_then, parts_then}
 use Rattle.hp_segs.specs.SegsView.{SegsView, is_member}
+use Rattle.hp_proc.specs.InHall.{IsTiedIn, RemainsIn}
+use Rattle.hp_proc.specs.Party.{Party}
 use Rattle.hp_proc.specs.SegmentSlot.{FreesSegs, GivesBack, HasSegs, MayHold, PutsBack, StaysButOwn, StaysButParts}
+use Rattle.hp_proc.proofs.Carrying.{same_party}
+use Rattle.hp_proc.proofs.InHalls.{tied_later}
 use Rattle.hp_proc.proofs.Standing.{standing_with}
 use Rattle.hp_proc.proofs.Taken.{home_after, taken_after}
 
@@ -112,4 +116,14 @@ freed_stays took frees own = record {
   slots = closed took.may took.slots frees.slots frees.taken frees.home;
   mine = record { parts = parts_then (took_parts took) frees.parts; own = own ∙ took.took.own };
   others = others_then took.others frees.others;
+}
+
+-- whose own part stays, keeps its table tied
+pub remains_parts : (me : ℕ) (party : Party) {a b : HallState} → StaysButParts me a b → IsTiedIn me party a → RemainsIn me party party a b
+remains_parts me party stays tied = record {
+  same = same_party party;
+  tied = tied_later me party stays.others.later stays.own tied;
+  slots = stays.slots;
+  joined = stays.joined;
+  later = stays.others.later;
 }

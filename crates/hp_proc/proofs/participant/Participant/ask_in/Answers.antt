@@ -42,8 +42,8 @@ returns-in-None-clause-does g c = λ tag otherwise.
     let party = c.args.self.now in
     let asked = c.args.asked.now in
     let ok = c.in_ok-ask.ensures in
-    let seen = g.met.H.Hall.goes_on_seen old new party.me c.ask.ensures.goes_on in
-    let heard = g.met.H.Hall.goes_on_heard old new party.me c.ask.ensures.goes_on in
+    let seen = (g.met.H.Hall.goes_on_later old new c.ask.ensures.goes_on).seen party.me in
+    let heard = (g.met.H.Hall.goes_on_later old new c.ask.ensures.goes_on).heard party.me in
     subst (λ (run : Option Run). Does (g.H.Hall.state old).count (did_in party.me (g.H.Hall.state old) (g.H.Hall.state new))
     (Doing.Asks asked (with_run asked.heap asked.request tag otherwise)) (with_run asked.heap asked.request tag otherwise run)
     (in_hand c.args.heap.now (moment_of party ((g.H.Hall.state old).part party.me) ((g.H.Hall.state old).seen party.me) ((g.H.Hall.state old).heard party.me)))
@@ -82,8 +82,8 @@ returns-in-Some-clause-does g c = λ tag otherwise.
     let party = c.args.self.now in
     let asked = c.args.asked.now in
     let ok = c.in_ok-ask.ensures in
-    let seen = g.met.H.Hall.goes_on_seen old new party.me c.ask.ensures.goes_on in
-    let heard = g.met.H.Hall.goes_on_heard old new party.me c.ask.ensures.goes_on in
+    let seen = (g.met.H.Hall.goes_on_later old new c.ask.ensures.goes_on).seen party.me in
+    let heard = (g.met.H.Hall.goes_on_later old new c.ask.ensures.goes_on).heard party.me in
     let before = in_hand c.args.heap.now (moment_of party ((g.H.Hall.state old).part party.me) ((g.H.Hall.state old).seen party.me)
     ((g.H.Hall.state old).heard party.me)) in
     let does : Does (g.H.Hall.state old).count (did_in party.me (g.H.Hall.state old) (g.H.Hall.state new))

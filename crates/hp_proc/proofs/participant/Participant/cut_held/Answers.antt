@@ -121,8 +121,8 @@ returns-in-Some-clause-does g c =
     let others = subst (λ (who : ℕ). (other : ℕ) → other ≢ place.index → (g.H.Hall.state new).part who other ≡ (g.H.Hall.state old).part who other) is_me
     c.retire.ensures.others in
     let did = c.retire.ensures.did in
-    let more = g.met.H.Hall.goes_on_seen old new me c.retire.ensures.goes_on in
-    let outcomes = g.met.H.Hall.goes_on_heard old new me c.retire.ensures.goes_on in
+    let more = (g.met.H.Hall.goes_on_later old new c.retire.ensures.goes_on).seen me in
+    let outcomes = (g.met.H.Hall.goes_on_later old new c.retire.ensures.goes_on).heard me in
     let same = hand_same after.me cut part later (given_up_part place.index run part later gives_up others) in
     let left : Doing = left_of place.index (GaveUp run) in
     subst (λ (doing : Doing). Does count (did_in me (g.H.Hall.state old) (g.H.Hall.state new)) doing left (in_hand heap (moment_of party part seen heard))
@@ -189,7 +189,7 @@ returns-in-Some-clause-settled g c =
     c.retire.ensures.gives_up in
     let others = subst (λ (who : ℕ). (other : ℕ) → other ≢ place.index → (g.H.Hall.state new).part who other ≡ (g.H.Hall.state old).part who other) is_me
     c.retire.ensures.others in
-    let outcomes = g.met.H.Hall.goes_on_heard old new me c.retire.ensures.goes_on in
+    let outcomes = (g.met.H.Hall.goes_on_later old new c.retire.ensures.goes_on).heard me in
     subst (λ (who : ℕ). HasSettledAsks who ((g.H.Hall.state new).part me) ((g.H.Hall.state new).heard me)) (sym is_me)
     (settled_more me ((g.H.Hall.state old).part me) ((g.H.Hall.state new).part me) ((g.H.Hall.state old).heard me) ((g.H.Hall.state new).heard me) outcomes.0 outcomes.1
     (given_up_armed place.index run ((g.H.Hall.state old).part me) ((g.H.Hall.state new).part me) gives_up others) c.requires.settled)
@@ -198,6 +198,6 @@ pub returns-in-Some-clause-tied : goal.returns-in-Some-clause-tied
 returns-in-Some-clause-tied g c =
     let me = c.args.self.now.me in
     let new = c.retire.new.hall in
-    let grown = g.met.H.Hall.goes_on_seen _ _ me c.retire.ensures.goes_on in
+    let grown = (g.met.H.Hall.goes_on_later _ _ c.retire.ensures.goes_on).seen me in
     subst (λ (party : Party). IsTied ((g.H.Hall.state new).seen me) ((g.H.Hall.state new).own me) party.joined party.maps) (sym c.cut_in.ensures.counted)
     (tied_since _ _ grown.0 _ _ _ _ grown.1 (c.retire.ensures.own me) c.requires.tied)

@@ -23,8 +23,8 @@ returns-clause-does g c =
     let old = c.args.hall.now in
     let new = c.attach-caught.new.hall in
     let is = c.attach-caught.ensures in
-    let more = g.met.H.Hall.goes_on_seen old new me is.goes_on in
-    let others = g.met.H.Hall.goes_on_heard old new me is.goes_on in
+    let more = (g.met.H.Hall.goes_on_later old new is.goes_on).seen me in
+    let others = (g.met.H.Hall.goes_on_later old new is.goes_on).heard me in
     line_tried (g.H.Hall.state old).count (did_in me (g.H.Hall.state old) (g.H.Hall.state new)) c.args.line.now party ((g.H.Hall.state old).part me) ((g.H.Hall.state old).seen me)
     ((g.H.Hall.state old).heard me) c.attach-caught.new.self c.note_attached.new.self ((g.H.Hall.state new).part me) ((g.H.Hall.state new).seen me) more.0
     ((g.H.Hall.state new).heard me) others.0 (is.part me) more.1 others.1 c.requires.act
@@ -40,7 +40,7 @@ returns-clause-ready g c = λ ready.
     let new = c.attach-caught.new.hall in
     let mid = c.attach-caught.new.self in
     let is = c.attach-caught.ensures in
-    let others = g.met.H.Hall.goes_on_heard old new me is.goes_on in
+    let others = (g.met.H.Hall.goes_on_later old new is.goes_on).heard me in
     ready_noted mid c.note_attached.new.self ((g.H.Hall.state new).part me) ((g.H.Hall.state new).seen me) ((g.H.Hall.state new).heard me)
     (standing_tried mid.maps.number c.attach-caught.result mid.context.standing) c.note_attached.ensures.noted
     (ready_still party mid ((g.H.Hall.state old).part me) ((g.H.Hall.state new).part me) ((g.H.Hall.state old).seen me) ((g.H.Hall.state new).seen me) ((g.H.Hall.state old).heard me)

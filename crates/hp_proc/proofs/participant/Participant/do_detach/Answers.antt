@@ -22,8 +22,8 @@ returns-clause-does g c =
     let old = c.args.hall.now in
     let new = c.detach.new.hall in
     let is = c.detach.ensures in
-    let more = g.met.H.Hall.goes_on_seen old new me is.goes_on in
-    let others = g.met.H.Hall.goes_on_heard old new me is.goes_on in
+    let more = (g.met.H.Hall.goes_on_later old new is.goes_on).seen me in
+    let others = (g.met.H.Hall.goes_on_later old new is.goes_on).heard me in
     line_left (g.H.Hall.state old).count (did_in me (g.H.Hall.state old) (g.H.Hall.state new)) c.args.line.now party ((g.H.Hall.state old).part me) ((g.H.Hall.state old).seen me)
     ((g.H.Hall.state old).heard me) c.detach.new.self c.note_detached.new.self ((g.H.Hall.state new).part me) ((g.H.Hall.state new).seen me) more.0
     ((g.H.Hall.state new).heard me) others.0 (is.part me) more.1 others.1 c.requires.act
@@ -39,7 +39,7 @@ returns-clause-ready g c = λ ready.
     let new = c.detach.new.hall in
     let mid = c.detach.new.self in
     let is = c.detach.ensures in
-    let others = g.met.H.Hall.goes_on_heard old new me is.goes_on in
+    let others = (g.met.H.Hall.goes_on_later old new is.goes_on).heard me in
     ready_noted mid c.note_detached.new.self ((g.H.Hall.state new).part me) ((g.H.Hall.state new).seen me) ((g.H.Hall.state new).heard me)
     (record mid.context.standing { attached = false }) c.note_detached.ensures.noted
     (ready_still party mid ((g.H.Hall.state old).part me) ((g.H.Hall.state new).part me) ((g.H.Hall.state old).seen me) ((g.H.Hall.state new).seen me) ((g.H.Hall.state old).heard me)

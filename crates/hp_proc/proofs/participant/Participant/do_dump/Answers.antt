@@ -109,7 +109,7 @@ pub put-requires-clause-serves : goal.put-requires-clause-serves
 put-requires-clause-serves g c =
     subst (λ (who : ℕ). (g.H.Hall.state c.hold.new.hall).serves who)
     (sym (ap (λ (party : Party). party.me) c.stats_in-stats.ensures.counted ∙ c.hold.ensures.same.me))
-    (g.met.H.Hall.goes_on_serves _ _ _ c.hold.ensures.goes_on c.requires.serves)
+    ((g.met.H.Hall.goes_on_later _ _ c.hold.ensures.goes_on).serves _ c.requires.serves)
 
 pub put-requires-clause-in_hand : goal.put-requires-clause-in_hand
 put-requires-clause-in_hand g c =
@@ -153,7 +153,7 @@ returns-clause-does g c =
     c.stats_in-stats.ensures.step count (did_in me (g.H.Hall.state mid) (g.H.Hall.state mid)) with_statistics after counted (did_same me (g.H.Hall.state mid)) refl in
     let put : Does count (did_in me (g.H.Hall.state mid) (g.H.Hall.state new)) ended ended third fourth =
     subst (λ (count : ℕ). Does count (did_in me (g.H.Hall.state mid) (g.H.Hall.state new)) ended ended third fourth)
-    (g.met.H.Hall.goes_on_count _ _ c.hold.ensures.goes_on)
+    ((g.met.H.Hall.goes_on_later _ _ c.hold.ensures.goes_on).count)
     (subst (λ (who : ℕ). Does (g.H.Hall.state mid).count (did_in who (g.H.Hall.state mid) (g.H.Hall.state new)) ended ended
     (in_hand next (moment_of after ((g.H.Hall.state mid).part who) ((g.H.Hall.state mid).seen who) ((g.H.Hall.state mid).heard who)))
     (moment_of after ((g.H.Hall.state new).part who) ((g.H.Hall.state new).seen who) ((g.H.Hall.state new).heard who)))

@@ -86,7 +86,7 @@ loop-place-preserved g c =
     let looks : (others : List SearchedHeap) → Does count (did_in me (g.H.Hall.state mid) (g.H.Hall.state new)) (looking tag found (get_or places index nowhere ∷ others))
     (unless_answered (looking tag found others) c.in_ok-answer.field-0) between last =
     λ others. subst (λ (count : ℕ). Does count (did_in me (g.H.Hall.state mid) (g.H.Hall.state new)) (looking tag found (get_or places index nowhere ∷ others))
-    (unless_answered (looking tag found others) c.in_ok-answer.field-0) between last) (g.met.H.Hall.goes_on_count _ _ was.goes_on)
+    (unless_answered (looking tag found others) c.in_ok-answer.field-0) between last) ((g.met.H.Hall.goes_on_later _ _ was.goes_on).count)
     (subst (λ (who : ℕ). Does (g.H.Hall.state mid).count (did_in who (g.H.Hall.state mid) (g.H.Hall.state new)) (looking tag found (get_or places index nowhere ∷ others))
     (unless_answered (looking tag found others) c.in_ok-answer.field-0)
     (moment_of looked ((g.H.Hall.state mid).part who) ((g.H.Hall.state mid).seen who) ((g.H.Hall.state mid).heard who))
@@ -140,7 +140,7 @@ returns-in-Some-clause-does g c =
     let looks : (others : List SearchedHeap) → Does count (did_in me (g.H.Hall.state mid) (g.H.Hall.state new)) (looking tag found (get_or places index nowhere ∷ others))
     (unless_answered (looking tag found others) c.in_ok-answer.field-0) between last =
     λ others. subst (λ (count : ℕ). Does count (did_in me (g.H.Hall.state mid) (g.H.Hall.state new)) (looking tag found (get_or places index nowhere ∷ others))
-    (unless_answered (looking tag found others) c.in_ok-answer.field-0) between last) (g.met.H.Hall.goes_on_count _ _ was.goes_on)
+    (unless_answered (looking tag found others) c.in_ok-answer.field-0) between last) ((g.met.H.Hall.goes_on_later _ _ was.goes_on).count)
     (subst (λ (who : ℕ). Does (g.H.Hall.state mid).count (did_in who (g.H.Hall.state mid) (g.H.Hall.state new)) (looking tag found (get_or places index nowhere ∷ others))
     (unless_answered (looking tag found others) c.in_ok-answer.field-0)
     (moment_of looked ((g.H.Hall.state mid).part who) ((g.H.Hall.state mid).seen who) ((g.H.Hall.state mid).heard who))

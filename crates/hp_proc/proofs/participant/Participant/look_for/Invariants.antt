@@ -19,5 +19,5 @@ invariant-loop-place g l = record {
   free : (number : ℕ) → (g.H.Hall.state l.hall).taken number ≡ None;
   home : (number : ℕ) → number ≤ MAX_HEAPS → (g.H.Hall.state l.hall).may_take number;
   goes_on : g.H.Hall.goes_on l.fn.hall l.hall;
-  clock : RisesWithin g.H.Hall.pending g.H.Hall.is_busy 0 (g.H.Hall.state l.fn.hall).clock (g.H.Hall.state l.hall).clock;
+  clock : RisesWithin g.H.Hall.pending (λ hall. IsBusy (g.H.Hall.state hall)) 0 (g.H.Hall.state l.fn.hall).clock (g.H.Hall.state l.hall).clock;
 }

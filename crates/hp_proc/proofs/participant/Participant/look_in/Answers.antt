@@ -48,7 +48,7 @@ returns-clause-does g c = λ places.
     (subst (λ (left : Option Left). Does count (did_in me (g.H.Hall.state old) (g.H.Hall.state mid)) doing
     (behind_looking place.index (looking c.args.tag found places) left) first between) c.in-Some.is (c.in_ok-left.ensures.does places))
     (subst (λ (count : ℕ). Does count (did_in me (g.H.Hall.state mid) (g.H.Hall.state new)) rest (Doing.Ended answer) between last)
-    (g.met.H.Hall.goes_on_count _ _ c.look_there.ensures.goes_on)
+    ((g.met.H.Hall.goes_on_later _ _ c.look_there.ensures.goes_on).count)
     (subst (λ (who : ℕ). Does (g.H.Hall.state mid).count (did_in who (g.H.Hall.state mid) (g.H.Hall.state new)) rest (Doing.Ended answer)
     (moment_of looked ((g.H.Hall.state mid).part who) ((g.H.Hall.state mid).seen who) ((g.H.Hall.state mid).heard who))
     (moment_of after ((g.H.Hall.state new).part who) ((g.H.Hall.state new).seen who) ((g.H.Hall.state new).heard who))) c.look_there.ensures.same.me

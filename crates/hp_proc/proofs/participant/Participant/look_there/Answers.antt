@@ -43,12 +43,12 @@ module _ (count : ℕ) (taking acting_there putting taken_acted all : List MailS
 pub look_held-left-requires-clause-serves : goal.look_held-left-requires-clause-serves
 look_held-left-requires-clause-serves g c =
     subst (λ (who : ℕ). (g.H.Hall.state c.hold.new.hall).serves who) (sym c.hold.ensures.same.me)
-    (g.met.H.Hall.goes_on_serves _ _ _ c.hold.ensures.goes_on c.requires.serves)
+    ((g.met.H.Hall.goes_on_later _ _ c.hold.ensures.goes_on).serves _ c.requires.serves)
 
 pub look_held-left-requires-clause-me : goal.look_held-left-requires-clause-me
 look_held-left-requires-clause-me g c =
     subst (λ (who : ℕ). who < (g.H.Hall.state c.hold.new.hall).count) (sym c.hold.ensures.same.me)
-    (subst (λ (count : ℕ). c.args.self.now.me < count) (sym (g.met.H.Hall.goes_on_count _ _ c.hold.ensures.goes_on)) c.requires.me)
+    (subst (λ (count : ℕ). c.args.self.now.me < count) (sym ((g.met.H.Hall.goes_on_later _ _ c.hold.ensures.goes_on).count)) c.requires.me)
 
 pub look_held-left-requires-clause-in_hand : goal.look_held-left-requires-clause-in_hand
 look_held-left-requires-clause-in_hand g c =
@@ -82,7 +82,7 @@ pub put-requires-clause-serves : goal.put-requires-clause-serves
 put-requires-clause-serves g c =
     let me : c.look_held-left.new.self.me ≡ c.args.self.now.me = c.look_held-left.ensures.same.me ∙ c.hold.ensures.same.me in
     subst (λ (who : ℕ). (g.H.Hall.state c.look_held-left.new.hall).serves who) (sym me)
-    (g.met.H.Hall.goes_on_serves _ _ _ (g.met.H.Hall.goes_on_then _ _ _ c.hold.ensures.goes_on c.look_held-left.ensures.goes_on)
+    ((g.met.H.Hall.goes_on_later _ _ (g.met.H.Hall.goes_on_then _ _ _ c.hold.ensures.goes_on c.look_held-left.ensures.goes_on)).serves _
     c.requires.serves)
 
 pub returns-clause-does : goal.returns-clause-does
@@ -104,8 +104,8 @@ returns-clause-does g c = λ places.
     let rest : Doing = behind_looking place.index (looking c.args.tag found places) c.look_held-left.result in
     let held_me : holds.me ≡ me = c.hold.ensures.same.me in
     let after_me : after.me ≡ me = c.look_held-left.ensures.same.me ∙ held_me in
-    let held_count : (g.H.Hall.state second).count ≡ count = g.met.H.Hall.goes_on_count _ _ c.hold.ensures.goes_on in
-    let acted_count : (g.H.Hall.state third).count ≡ count = g.met.H.Hall.goes_on_count _ _ c.look_held-left.ensures.goes_on ∙ held_count in
+    let held_count : (g.H.Hall.state second).count ≡ count = (g.met.H.Hall.goes_on_later _ _ c.hold.ensures.goes_on).count in
+    let acted_count : (g.H.Hall.state third).count ≡ count = (g.met.H.Hall.goes_on_later _ _ c.look_held-left.ensures.goes_on).count ∙ held_count in
     does_held count (did_in me (g.H.Hall.state first) (g.H.Hall.state second)) (did_in me (g.H.Hall.state second) (g.H.Hall.state third)) (did_in me (g.H.Hall.state third) (g.H.Hall.state last)) (did_in me (g.H.Hall.state first) (g.H.Hall.state third))
     (did_in me (g.H.Hall.state first) (g.H.Hall.state last)) doing rest
     (moment_of party ((g.H.Hall.state first).part me) ((g.H.Hall.state first).seen me) ((g.H.Hall.state first).heard me))

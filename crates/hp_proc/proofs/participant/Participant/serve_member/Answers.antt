@@ -64,5 +64,5 @@ pub returns-in_default-clause-alone : goal.returns-in_default-clause-alone
 returns-in_default-clause-alone g c =
     let me = ap (λ (party : Party). party.me) c.self.view_is in
     let stays : Stays c.args.self.now.me (g.H.Hall.state c.args.hall.now) (g.H.Hall.state c.fetch.new.self) =
-    subst (λ (who : ℕ). Stays who (g.H.Hall.state c.args.hall.now) (g.H.Hall.state c.fetch.new.self)) me c.in-None.ensures.stays in
+    subst (λ (who : ℕ). Stays who (g.H.Hall.state c.args.hall.now) (g.H.Hall.state c.fetch.new.self)) me c.fetch.ensures.stays in
     alone_by c.args.self.now.me c.args.self.now stays c.requires.can.tied

@@ -62,8 +62,8 @@ returns-in_ok-notify-in-GaveUp-clause-does g c =
     let after = c.notify.new.self in
     let told = c.in_ok-notify-in-GaveUp.ensures in
     let run = c.in-GaveUp.run' in
-    let more = g.met.H.Hall.goes_on_seen _ _ me c.notify.ensures.goes_on in
-    let others = g.met.H.Hall.goes_on_heard _ _ me c.notify.ensures.goes_on in
+    let more = (g.met.H.Hall.goes_on_later _ _ c.notify.ensures.goes_on).seen me in
+    let others = (g.met.H.Hall.goes_on_later _ _ c.notify.ensures.goes_on).heard me in
     subst (λ (left : Left). Does (g.H.Hall.state old).count (did_in me (g.H.Hall.state old) (g.H.Hall.state new)) (left_of c.args.heap left) (Doing.Ended answer.Done)
     (moment_of party ((g.H.Hall.state old).part me) ((g.H.Hall.state old).seen me) ((g.H.Hall.state old).heard me))
     (moment_of after ((g.H.Hall.state new).part me) ((g.H.Hall.state new).seen me) ((g.H.Hall.state new).heard me))) (sym c.in-GaveUp.is)
@@ -77,6 +77,6 @@ returns-in_ok-notify-in-GaveUp-clause-ready g c =
     let me = party.me in
     let old = c.args.hall.now in
     let new = c.notify.new.hall in
-    let others = g.met.H.Hall.goes_on_heard _ _ me c.notify.ensures.goes_on in
+    let others = (g.met.H.Hall.goes_on_later _ _ c.notify.ensures.goes_on).heard me in
     ready_still party c.notify.new.self ((g.H.Hall.state old).part me) ((g.H.Hall.state new).part me) ((g.H.Hall.state old).seen me) ((g.H.Hall.state new).seen me)
     ((g.H.Hall.state old).heard me) ((g.H.Hall.state new).heard me) others.0 c.notify.ensures.same c.notify.ensures.part others.1 c.requires.ready

@@ -34,11 +34,11 @@ returns-in_err-heap-clause-home g c = λ number few. c.in_err-heap.ensures.still
 pub allocate_held-given-requires-clause-serves : goal.allocate_held-given-requires-clause-serves
 allocate_held-given-requires-clause-serves g c =
     subst (λ (who : ℕ). (g.H.Hall.state c.hold.new.hall).serves who) (sym c.hold.ensures.same.me)
-    (g.met.H.Hall.goes_on_serves _ _ _ c.hold.ensures.goes_on c.requires.serves)
+    ((g.met.H.Hall.goes_on_later _ _ c.hold.ensures.goes_on).serves _ c.requires.serves)
 
 pub allocate_held-given-requires-clause-me : goal.allocate_held-given-requires-clause-me
 allocate_held-given-requires-clause-me g c =
-    omega (arith, g.met.H.Hall.goes_on_count _ _ c.hold.ensures.goes_on, c.hold.ensures.same.me, c.requires.me)
+    omega (arith, (g.met.H.Hall.goes_on_later _ _ c.hold.ensures.goes_on).count, c.hold.ensures.same.me, c.requires.me)
 
 pub allocate_held-given-requires-clause-free : goal.allocate_held-given-requires-clause-free
 allocate_held-given-requires-clause-free g c =
@@ -62,14 +62,14 @@ allocate_held-given-requires-clause-in_hand g c =
     let hall = c.hold.new.hall in
     let party = c.hold.new.self in
     subst (λ (who : ℕ). IsInHand (g.H.Hall.state hall).taken
-    (at (g.H.Hall.state Did).count (g.H.Hall.state hall).heard (g.H.Hall.state g.H.Hall.part) (g.H.Hall.state g.H.Hall.seen) who party) c.in_ok-heap.heap)
+    (moment who party (g.H.Hall.state hall)) c.in_ok-heap.heap)
     (sym c.hold.ensures.same.me) c.in_ok-heap.ensures.in_hand
 
 pub allocate_held-given-requires-clause-settled : goal.allocate_held-given-requires-clause-settled
 allocate_held-given-requires-clause-settled g c =
     let hall = c.hold.new.hall in
     let party = c.hold.new.self in
-    subst (λ (who : ℕ). AreSettled (at (g.H.Hall.state Did).count (g.H.Hall.state hall).heard (g.H.Hall.state g.H.Hall.part) (g.H.Hall.state g.H.Hall.seen) who party))
+    subst (λ (who : ℕ). AreSettled (moment who party (g.H.Hall.state hall)))
     (sym c.hold.ensures.same.me) c.in_ok-heap.ensures.settled
 
 pub allocate_held-given-requires-clause-its : goal.allocate_held-given-requires-clause-its
@@ -91,15 +91,15 @@ put-requires-clause-serves g c =
     let party = c.hold.new.self in
     subst (λ (who : ℕ). (g.H.Hall.state c.allocate_held-given.new.hall).serves who)
     (sym (c.allocate_held-given.ensures.same.me ∙ c.hold.ensures.same.me))
-    (g.met.H.Hall.goes_on_serves _ _ _ c.allocate_held-given.ensures.goes_on
-    (g.met.H.Hall.goes_on_serves _ _ _ c.hold.ensures.goes_on c.requires.serves))
+    ((g.met.H.Hall.goes_on_later _ _ c.allocate_held-given.ensures.goes_on).serves _
+    ((g.met.H.Hall.goes_on_later _ _ c.hold.ensures.goes_on).serves _ c.requires.serves))
 
 pub put-requires-clause-in_hand : goal.put-requires-clause-in_hand
 put-requires-clause-in_hand g c =
     let hall = c.allocate_held-given.new.hall in
     let party = c.allocate_held-given.new.self in
     subst (λ (who : ℕ). IsInHand (g.H.Hall.state hall).taken
-    (at (g.H.Hall.state Did).count (g.H.Hall.state hall).heard (g.H.Hall.state g.H.Hall.part) (g.H.Hall.state g.H.Hall.seen) who party) c.allocate_held-given.new.heap)
+    (moment who party (g.H.Hall.state hall)) c.allocate_held-given.new.heap)
     (sym c.allocate_held-given.ensures.same.me) c.allocate_held-given.ensures.in_hand
 
 pub returns-clause-does : goal.returns-clause-does
@@ -118,29 +118,27 @@ returns-clause-does g c =
     let heap = c.in_ok-heap.heap in
     let left = c.allocate_held-given.new.heap in
     let pools = old.context.pools in
-    let here_count = g.met.H.Hall.goes_on_count _ _ c.hold.ensures.goes_on in
-    let there_count = g.met.H.Hall.goes_on_count _ _ c.allocate_held-given.ensures.goes_on ∙ here_count in
+    let here_count = (g.met.H.Hall.goes_on_later _ _ c.hold.ensures.goes_on).count in
+    let there_count = (g.met.H.Hall.goes_on_later _ _ c.allocate_held-given.ensures.goes_on).count ∙ here_count in
     let mine = c.hold.ensures.same.me in
     if_ok _ _ c.allocate_held-given.result (λ given tried heaps.
     let doing = trying pools request tag (named_heap place ∷ heaps) in
     let otherwise = trying pools request tag heaps in
     let tries : Tries place.index (g.H.Hall.state first).count (did_in me (g.H.Hall.state second) (g.H.Hall.state third)) doing otherwise given
-    (in_hand heap (at (g.H.Hall.state Did).count (g.H.Hall.state second).heard (g.H.Hall.state g.H.Hall.part) (g.H.Hall.state g.H.Hall.seen) me mid))
-    (in_hand left (at (g.H.Hall.state Did).count (g.H.Hall.state third).heard (g.H.Hall.state g.H.Hall.part) (g.H.Hall.state g.H.Hall.seen) me new)) =
+    (in_hand heap (moment me mid (g.H.Hall.state second)))
+    (in_hand left (moment me new (g.H.Hall.state third))) =
     subst (λ (pools : List PoolLine). Tries place.index (g.H.Hall.state first).count (did_in me (g.H.Hall.state second) (g.H.Hall.state third))
     (trying pools request tag (named_heap place ∷ heaps)) (trying pools request tag heaps) given
-    (in_hand heap (at (g.H.Hall.state Did).count (g.H.Hall.state second).heard (g.H.Hall.state g.H.Hall.part) (g.H.Hall.state g.H.Hall.seen) me mid))
-    (in_hand left (at (g.H.Hall.state Did).count (g.H.Hall.state third).heard (g.H.Hall.state g.H.Hall.part) (g.H.Hall.state g.H.Hall.seen) me new)))
+    (in_hand heap (moment me mid (g.H.Hall.state second)))
+    (in_hand left (moment me new (g.H.Hall.state third))))
     (ap (λ (context : Context). context.pools) c.hold.ensures.same.context)
-    (told_alike (g.H.Hall.state Did).count g.H.Hall.heard (λ count did before behind. Tries place.index count did (trying mid.context.pools request tag (named_heap place ∷ heaps))
-    (trying mid.context.pools request tag heaps) given before behind) (g.H.Hall.state g.H.Hall.part) (g.H.Hall.state g.H.Hall.seen)
-    (g.H.Hall.state second).count (g.H.Hall.state first).count second third mid.me me (in_hand heap) (in_hand left) mid new mine here_count (tried heaps)) in
+    (told_alike (λ count did before behind. Tries place.index count did (trying mid.context.pools request tag (named_heap place ∷ heaps))
+    (trying mid.context.pools request tag heaps) given before behind) (g.H.Hall.state second).count (g.H.Hall.state first).count (g.H.Hall.state second) (g.H.Hall.state third) mid.me me (in_hand heap) (in_hand left) mid new mine here_count (tried heaps)) in
     let gone = unless_answered otherwise given in
     let back : Does (g.H.Hall.state first).count (did_in me (g.H.Hall.state third) (g.H.Hall.state last)) gone gone
-    (in_hand left (at (g.H.Hall.state Did).count (g.H.Hall.state third).heard (g.H.Hall.state g.H.Hall.part) (g.H.Hall.state g.H.Hall.seen) me new))
-    (at (g.H.Hall.state Did).count (g.H.Hall.state last).heard (g.H.Hall.state g.H.Hall.part) (g.H.Hall.state g.H.Hall.seen) me new) =
-    told_alike (g.H.Hall.state Did).count g.H.Hall.heard (λ count did before behind. Does count did gone gone before behind) (g.H.Hall.state g.H.Hall.part) (g.H.Hall.state g.H.Hall.seen)
-    (g.H.Hall.state third).count (g.H.Hall.state first).count third last new.me me (in_hand left) (λ moment. moment) new new
+    (in_hand left (moment me new (g.H.Hall.state third)))
+    (moment me new (g.H.Hall.state last)) =
+    told_alike (λ count did before behind. Does count did gone gone before behind) (g.H.Hall.state third).count (g.H.Hall.state first).count (g.H.Hall.state third) (g.H.Hall.state last) new.me me (in_hand left) (λ moment. moment) new new
     (c.allocate_held-given.ensures.same.me ∙ mine) there_count (c.put.ensures.does gone) in
     tries_passed (g.H.Hall.state first).count (did_in me (g.H.Hall.state first) (g.H.Hall.state third)) (did_in me (g.H.Hall.state third) (g.H.Hall.state last)) (did_in me (g.H.Hall.state first) (g.H.Hall.state last)) doing otherwise
     given place.index _ _ _ (did_then)
@@ -156,12 +154,12 @@ returns-clause-ready g c =
     let mine = c.allocate_held-given.ensures.same.me in
     let whole = mine ∙ c.hold.ensures.same.me in
     on_ok_then c.allocate_held-given.result
-    (AreSettled (at (g.H.Hall.state Did).count (g.H.Hall.state hall).heard (g.H.Hall.state g.H.Hall.part) (g.H.Hall.state g.H.Hall.seen) c.hold.new.self.me new))
-    (MayDo (at (g.H.Hall.state Did).count (g.H.Hall.state last).heard (g.H.Hall.state g.H.Hall.part) (g.H.Hall.state g.H.Hall.seen) c.args.self.now.me new))
+    (AreSettled (moment c.hold.new.self.me new (g.H.Hall.state hall)))
+    (MayDo (moment c.args.self.now.me new (g.H.Hall.state last)))
     (λ settled.
-    subst (λ (who : ℕ). MayDo (at (g.H.Hall.state Did).count (g.H.Hall.state last).heard (g.H.Hall.state g.H.Hall.part) (g.H.Hall.state g.H.Hall.seen) who new)) whole
+    subst (λ (who : ℕ). MayDo (moment who new (g.H.Hall.state last))) whole
     (c.put.ensures.ready
-    (subst (λ (who : ℕ). AreSettled (at (g.H.Hall.state Did).count (g.H.Hall.state hall).heard (g.H.Hall.state g.H.Hall.part) (g.H.Hall.state g.H.Hall.seen) who new)) (sym mine) settled)))
+    (subst (λ (who : ℕ). AreSettled (moment who new (g.H.Hall.state hall))) (sym mine) settled)))
     c.allocate_held-given.ensures.settled
 
 pub returns-clause-tied : goal.returns-clause-tied

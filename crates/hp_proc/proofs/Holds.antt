@@ -1,0 +1,114 @@
+-- A participant with a heap in hand, over what calls leave.
+use Rattle.std.proofs.Common.{◌≡◌, ◌∙◌, ℕ, refl, sym, ap, subst}
+use Rattle.hp_hall.specs.HallState.{HallState, MayServe}
+use Rattle.hp_hall.proofs.HallStates.{later_same, later_then, may_still, slots_same, slots_then}
+use Rattle.hp_heap.specs.History.{HeapView}
+use Rattle.hp_proc.specs.Contexts.{Context}
+use Rattle.hp_proc.specs.InHall.{HoldsIn, IsIdleAgain, IsIdleIn, IsTiedIn, KeepsHeld, RemainsIn, moment}
+use Rattle.hp_proc.specs.Party.{IsSameParty, Party, with_calls}
+use Rattle.hp_proc.specs.Progress.{AreSettled}
+
+-- who is the same is so but for the number of its calls
+pub same_to_calls : (first last : Party) → IsSameParty first last → IsSameParty (with_calls last.context.calls first) last
+same_to_calls first last same = record {
+  me = same.me;
+  socket = same.socket;
+  plan = same.plan;
+  deadline = same.deadline;
+  context = ap (λ (context : Context). record context { calls = last.context.calls }) same.context;
+}
+
+-- and so is who made calls after it
+pub calls_after : (first mid last : Party) → IsSameParty first mid → IsSameParty (with_calls last.context.calls mid) last
+    → IsSameParty (with_calls last.context.calls first) last
+calls_after first mid last here next = record {
+  me = next.me ∙ here.me;
+  socket = next.socket ∙ here.socket;
+  plan = next.plan ∙ here.plan;
+  deadline = next.deadline ∙ here.deadline;
+  context = next.context ∙ ap (λ (context : Context). record context { calls = last.context.calls }) here.context;
+}
+
+pub calls_then : (first mid last : Party) → IsSameParty (with_calls mid.context.calls first) mid
+    → IsSameParty (with_calls last.context.calls mid) last → IsSameParty (with_calls last.context.calls first) last
+calls_then first mid last here next = record {
+  me = next.me ∙ here.me;
+  socket = next.socket ∙ here.socket;
+  plan = next.plan ∙ here.plan;
+  deadline = next.deadline ∙ here.deadline;
+  context = next.context ∙ ap (λ (context : Context). record context { calls = last.context.calls }) here.context;
+}
+
+-- a participant goes on for nothing
+pub remains_same : (me : ℕ) (party : Party) (a : HallState) → IsTiedIn me party a → RemainsIn me (with_calls party.context.calls party) party a a
+remains_same me party a tied = record {
+  same = record { me = refl; socket = refl; plan = refl; deadline = refl; context = refl };
+  tied = tied;
+  slots = slots_same a;
+  joined = refl;
+  later = later_same a;
+}
+
+pub keeps_same : (me : ℕ) (party : Party) (heap : HeapView) {a : HallState} → HoldsIn me party heap a → KeepsHeld me party party heap heap a a
+keeps_same me party heap {a} holds = record {
+  in_hand = holds.in_hand;
+  index = refl;
+  its_socket = refl;
+  remains = remains_same me party a holds.can.tied;
+}
+
+-- what it did with its heap joins
+pub keeps_then : {first mid last : Party} {one two three : HeapView} {a b c : HallState} → KeepsHeld first.me first mid one two a b
+    → KeepsHeld mid.me mid last two three b c → KeepsHeld first.me first last one three a c
+keeps_then {first} {mid} {last} {one} {two} {three} {a} {b} {c} here next =
+    let me = here.remains.same.me in
+    let there : KeepsHeld first.me mid last two three b c = subst (λ (who : ℕ). KeepsHeld who mid last two three b c) me next in
+    record {
+      in_hand = there.in_hand;
+      index = there.index ∙ here.index;
+      its_socket = there.its_socket ∙ here.its_socket;
+      remains = record {
+        same = calls_then first mid last here.remains.same there.remains.same;
+        tied = there.remains.tied;
+        slots = slots_then here.remains.slots there.remains.slots;
+        joined = there.remains.joined ∙ here.remains.joined;
+        later = later_then here.remains.later there.remains.later;
+      };
+    }
+
+-- and joins with a wait before it, in which the heap stayed as it was
+pub keeps_after : {first mid last : Party} {one two three : HeapView} {a b c : HallState} → RemainsIn first.me first mid a b → two ≡ one
+    → KeepsHeld mid.me mid last two three b c → KeepsHeld first.me first last one three a c
+keeps_after {first} {mid} {last} {one} {two} {three} {a} {b} {c} here heap next =
+    let there : KeepsHeld first.me mid last two three b c = subst (λ (who : ℕ). KeepsHeld who mid last two three b c) here.same.me next in
+    record {
+      in_hand = there.in_hand;
+      index = there.index ∙ ap (λ (heap : HeapView). heap.plain.index) heap;
+      its_socket = there.its_socket ∙ ap (λ (heap : HeapView). heap.plain.serves) heap;
+      remains = record {
+        same = calls_after first mid last here.same there.remains.same;
+        tied = there.remains.tied;
+        slots = slots_then here.slots there.remains.slots;
+        joined = there.remains.joined ∙ here.joined;
+        later = later_then here.later there.remains.later;
+      };
+    }
+
+-- it may go on with the heap in its hand
+pub holds_on : {first last : Party} {before behind : HeapView} {a b : HallState} → KeepsHeld first.me first last before behind a b
+    → AreSettled (moment first.me last b) → MayServe first.me a → HoldsIn last.me last behind b
+holds_on {first} {last} {before} {behind} {a} {b} keeps settled may =
+    let here : HoldsIn first.me last behind b = record {
+      can = record { may = may_still keeps.remains.slots keeps.remains.later may; tied = keeps.remains.tied };
+      in_hand = keeps.in_hand;
+      settled = settled;
+    } in
+    subst (λ (who : ℕ). HoldsIn who last behind b) (sym keeps.remains.same.me) here
+
+-- lines of which each goes on from where the one before ended
+pub again_then : {first mid last : Party} {a b : HallState} → IsIdleAgain first.me (with_calls mid.context.calls first) mid a
+    → IsIdleAgain mid.me (with_calls last.context.calls mid) last b → IsIdleAgain first.me (with_calls last.context.calls first) last b
+again_then {first} {mid} {last} {a} {b} here next = record {
+  same = calls_then first mid last here.same next.same;
+  idle = subst (λ (who : ℕ). IsIdleIn who last b) here.same.me next.idle;
+}
