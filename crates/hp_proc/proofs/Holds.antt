@@ -1,11 +1,11 @@
 -- A participant with a heap in hand, over what calls leave.
-use Rattle.std.proofs.Common.{◌≡◌, ◌∙◌, ℕ, refl, sym, ap, subst}
+use Rattle.std.proofs.Common.{◌≡◌, ◌+◌, ◌∙◌, ℕ, refl, sym, ap, subst}
 use Rattle.hp_hall.specs.HallState.{HallState, MayServe}
 use Rattle.hp_hall.proofs.HallStates.{later_same, later_then, may_still, slots_same, slots_then}
 use Rattle.hp_heap.specs.History.{HeapView}
 use Rattle.hp_proc.specs.Contexts.{Context}
 use Rattle.hp_proc.specs.InHall.{HoldsIn, IsIdleAgain, IsIdleIn, IsTiedIn, KeepsHeld, RemainsIn, moment}
-use Rattle.hp_proc.specs.Party.{IsSameParty, Party, with_calls}
+use Rattle.hp_proc.specs.Party.{IsSameParty, Party, after_call, with_calls}
 use Rattle.hp_proc.specs.Progress.{AreSettled}
 
 -- who is the same is so but for the number of its calls
@@ -112,3 +112,35 @@ again_then {first} {mid} {last} {a} {b} here next = record {
   same = calls_then first mid last here.same next.same;
   idle = subst (λ (who : ℕ). IsIdleIn who last b) here.same.me next.idle;
 }
+
+-- a wait, and a call after it
+pub remains_calls : {me : ℕ} {first last : Party} {a b : HallState} → RemainsIn me first last a b
+    → RemainsIn me (with_calls last.context.calls first) last a b
+remains_calls {me} {first} {last} here = record {
+  same = same_to_calls first last here.same;
+  tied = here.tied;
+  slots = here.slots;
+  joined = here.joined;
+  later = here.later;
+}
+
+called_after : (first mid : Party) → IsSameParty first mid → IsSameParty (with_calls (mid.context.calls + 1) first) (after_call mid)
+called_after first mid same = record {
+  me = same.me;
+  socket = same.socket;
+  plan = same.plan;
+  deadline = same.deadline;
+  context = ap (λ (context : Context). record context { calls = mid.context.calls + 1 }) same.context;
+}
+
+pub remains_called : {me : ℕ} {first mid last : Party} {a b : HallState} → RemainsIn me first mid a b → last ≡ after_call mid
+    → RemainsIn me (with_calls last.context.calls first) last a b
+remains_called {me} {first} {mid} {last} {a} {b} here called =
+    subst (λ (last : Party). RemainsIn me (with_calls last.context.calls first) last a b) (sym called)
+    (record {
+      same = called_after first mid here.same;
+      tied = here.tied;
+      slots = here.slots;
+      joined = here.joined;
+      later = here.later;
+    })
