@@ -1,12 +1,19 @@
 -- A participant with a heap in hand, over what calls leave.
-use Rattle.std.proofs.Common.{◌≡◌, ◌+◌, ◌∙◌, ℕ, refl, sym, ap, subst}
+use Rattle.std.proofs.Common.{◌≡◌, ◌+◌, ◌∙◌, ℕ, refl, sym, ap, subst, arith}
 use Rattle.hp_hall.specs.HallState.{HallState, MayServe}
-use Rattle.hp_hall.proofs.HallStates.{later_same, later_then, may_still, slots_same, slots_then}
-use Rattle.hp_heap.specs.History.{HeapView}
+use Rattle.hp_hall.proofs.HallStates.{did_then, later_same, later_then, may_still, slots_same, slots_then}
+use Rattle.hp_heap.specs.History.{HeapView, IsCall}
+use Rattle.hp_heap.specs.declared.entry.HeapAnswer.{HeapAnswer}
+use Rattle.hp_heap.specs.declared.entry.HeapCall.{HeapCall}
+use Rattle.hp_proc.specs.Asking.{HasSettledAsks}
 use Rattle.hp_proc.specs.Contexts.{Context}
-use Rattle.hp_proc.specs.InHall.{HoldsIn, IsIdleAgain, IsIdleIn, IsTiedIn, KeepsHeld, RemainsIn, moment}
+use Rattle.hp_proc.specs.Doing.{Doing}
+use Rattle.hp_proc.specs.InHall.{HasRoom, HoldsIn, IsIdleAgain, IsIdleIn, IsTiedIn, KeepsHeld, RemainsIn, StaysIn, did_in, moment}
 use Rattle.hp_proc.specs.Party.{IsSameParty, Party, after_call, with_calls}
-use Rattle.hp_proc.specs.Progress.{AreSettled}
+use Rattle.hp_proc.specs.Progress.{AreSettled, Does, Moment, caller_of}
+use Rattle.hp_proc.proofs.HandCalls.{call_index, call_serves, hand_stays}
+use Rattle.hp_proc.proofs.InHalls.{idle_in, in_same, remains_by}
+use Rattle.hp_proc.proofs.Joining.{does_then}
 
 -- who is the same is so but for the number of its calls
 pub same_to_calls : (first last : Party) → IsSameParty first last → IsSameParty (with_calls last.context.calls first) last
@@ -144,3 +151,47 @@ remains_called {me} {first} {mid} {last} {a} {b} here called =
       joined = here.joined;
       later = here.later;
     })
+
+-- a call of the heap in its hand, which leaves the heap its pages
+pub keeps_called : (party after : Party) (heap next : HeapView) {call : HeapCall} {answer : HeapAnswer} {a : HallState}
+    → IsCall (caller_of party) call answer heap next → after ≡ after_call party → next.plain.pages ≡ heap.plain.pages
+    → HoldsIn party.me party heap a → KeepsHeld party.me party after heap next a a
+keeps_called party after heap next {call} {answer} {a} step counted pages holds =
+    let me = party.me in
+    record {
+      in_hand = hand_stays party (a.part me) (a.seen me) (a.heard me) call answer heap next step a.taken holds.in_hand after counted pages;
+      index = call_index (caller_of party) call answer heap next step;
+      its_socket = call_serves (caller_of party) call answer heap next step;
+      remains = remains_called (remains_by (in_same me party a holds.can.tied)) counted;
+    }
+
+pub settled_called : (party after : Party) {a : HallState} → after ≡ after_call party → AreSettled (moment party.me party a)
+    → AreSettled (moment party.me after a)
+settled_called party after {a} counted settled =
+    subst (λ (who : ℕ). HasSettledAsks who (a.part party.me) (a.heard party.me)) (sym (ap (λ (party : Party). party.me) counted)) settled
+
+pub room_called : (calls : ℕ) (party after : Party) (heap next : HeapView) → next.spare + 1 ≡ heap.spare → after ≡ after_call party
+    → HasRoom (calls + 1) heap party → HasRoom calls next after
+room_called calls party after heap next spare counted room =
+    let left = room.spare in
+    let numbers = room.counted in
+    subst (λ (after : Party). HasRoom calls next after) (sym counted)
+    (record { spare = omega (arith, left, spare); counted = omega (arith, numbers) })
+
+-- what was done of a line, and what was done of it next
+pub does_next : (me : ℕ) {inside : ℕ} (first : Moment) (mid last : ℕ → Moment) {doing rest end : Doing} {a b c : HallState} → inside ≡ me
+    → b.count ≡ a.count → Does a.count (did_in me a b) doing rest first (mid me)
+    → Does b.count (did_in inside b c) rest end (mid inside) (last inside) → Does a.count (did_in me a c) doing end first (last me)
+does_next me {inside} first mid last {doing} {rest} {end} {a} {b} {c} here count was next =
+    does_then a.count (did_in me a b) (did_in me b c) (did_in me a c) doing rest end first (mid me) (last me) (λ one two. did_then) was
+    (subst (λ (count : ℕ). Does count (did_in me b c) rest end (mid me) (last me)) count
+    (subst (λ (who : ℕ). Does b.count (did_in who b c) rest end (mid who) (last who)) here next))
+
+-- a line that did nothing, and one that waited alone
+pub again_same : (party : Party) {a : HallState} → IsIdleIn party.me party a
+    → IsIdleAgain party.me (with_calls party.context.calls party) party a
+again_same party idle = record { same = record { me = refl; socket = refl; plan = refl; deadline = refl; context = refl }; idle = idle }
+
+pub again_by : {me : ℕ} (old new : Party) {a b : HallState} → StaysIn me old new a b → IsIdleIn me old a
+    → IsIdleAgain me (with_calls new.context.calls old) new b
+again_by old new stays idle = record { same = same_to_calls old new stays.same; idle = idle_in stays idle }
