@@ -10,7 +10,7 @@ use Rattle.hp_hall.specs.Meters.{AreMetered, Meters, meters_in}
 use Rattle.hp_proc.specs.Coordinating.{IsCoreServed, IsRested, IsServed}
 use Rattle.hp_proc.specs.Party.{Party}
 use Rattle.hp_proc.specs.Serving.{IsMemberServed, answer_behind}
-use Rattle.hp_proc.proofs.Steps.{done_between}
+use Rattle.hp_solo.proofs.Steps.{done_between}
 use Rattle.hp_solo.specs.Solo.{FindsNothing, looks_in_vain}
 use Rattle.hp_solo.proofs.SoloSteps.{sole_steps, steps_by}
 

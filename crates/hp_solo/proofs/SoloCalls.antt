@@ -6,7 +6,7 @@ use Rattle.hp_hall.specs.HallView.{HallView, HasDone, own_at}
 use Rattle.hp_hall.specs.Mail.{MailStep, Takes, steps_of}
 use Rattle.hp_hall.specs.declared.kept.Kept.{Kept}
 use Rattle.hp_proc.specs.Party.{Party}
-use Rattle.hp_proc.proofs.Steps.{other_step, own_step}
+use Rattle.hp_solo.proofs.Steps.{other_step, own_step}
 use Rattle.hp_solo.specs.Sequence.{IsCall, IsInSequence, Makes}
 use Rattle.hp_solo.specs.Solo.{AreLater, AreTied, IsAway, IsSolo, ServerView, SoloView, party_at, party_in, server_at}
 use Rattle.hp_solo.specs.SoloCourse.{IsSoloCourse, server_stays}

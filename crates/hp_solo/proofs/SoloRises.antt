@@ -9,7 +9,7 @@ use Rattle.std.proofs.lemmas.List.Sorted.{IsNonDecreasingBy-short}
 use Rattle.hp_hall.specs.Course.{IsCourse}
 use Rattle.hp_hall.specs.HallView.{HallView, HasDone}
 use Rattle.hp_hall.specs.Mail.{MailStep}
-use Rattle.hp_proc.proofs.Steps.{done_between}
+use Rattle.hp_solo.proofs.Steps.{done_between}
 use Rattle.hp_solo.specs.Served.{IsInRisingNumber}
 use Rattle.hp_solo.proofs.SoloSteps.{by_those}
 

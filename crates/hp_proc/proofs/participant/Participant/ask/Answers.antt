@@ -19,7 +19,7 @@ use Rattle.hp_proc.proofs.participant.Participant.ask.Goals as goal
 
 pub arm-requires-clause-settled : goal.arm-requires-clause-settled
 arm-requires-clause-settled g c =
-    subst (λ (party : Party). HasSettledAsks party.me (g.H.Hall.part c.args.hall.now party.me) (g.H.Hall.heard c.args.hall.now party.me))
+    subst (λ (party : Party). HasSettledAsks party.me ((g.H.Hall.state c.args.hall.now).part party.me) ((g.H.Hall.state c.args.hall.now).heard party.me))
     (sym c.self.view_is) c.requires.settled
 
 pub returns-in_err-ask-clause-tied : goal.returns-in_err-ask-clause-tied
@@ -39,8 +39,8 @@ await_answer-requires-clause-awaits g c =
     let ask = c.in_ok-ask.ask in
     let inside = c.self.inside.me in
     let same = ap (λ (party : Party). party.me) c.self.view_is ∙ sym (ap (λ (party : Party). party.me) c.send-since.ensures.sent) in
-    subst (λ who. IsAwaiting ask (g.H.Hall.part c.send-since.new.hall who)) same
-    (awaits_along ask (g.H.Hall.part c.arm.new.hall inside) (g.H.Hall.part c.send-since.new.hall inside) (c.send-since.ensures.part inside)
+    subst (λ who. IsAwaiting ask ((g.H.Hall.state c.send-since.new.hall).part who)) same
+    (awaits_along ask ((g.H.Hall.state c.arm.new.hall).part inside) ((g.H.Hall.state c.send-since.new.hall).part inside) (c.send-since.ensures.part inside)
     c.in_ok-ask.ensures.awaits)
 
 pub returns-clause-asked : goal.returns-clause-asked
@@ -48,7 +48,7 @@ returns-clause-asked g c =
     let me = c.args.self.now.me in
     let ask = c.in_ok-ask.ask in
     let asked = c.args.asked.now in
-    let mid = g.H.Hall.part c.send-since.new.hall in
+    let mid = (g.H.Hall.state c.send-since.new.hall).part in
     let new = c.await_answer.new.hall in
     let result = c.await_answer.result in
     let who = ap (λ (party : Party). party.me) c.send-since.ensures.sent in
@@ -56,16 +56,16 @@ returns-clause-asked g c =
     g.met.H.Hall.goes_on_heard _ _ me (g.met.H.Hall.goes_on_then _ _ _ c.send-since.ensures.goes_on c.await_answer.ensures.goes_on) in
     let ask_is = subst (λ (party : Party). ask ≡ ask_of party.me ask.number asked) c.self.view_is c.in_ok-ask.ensures.asked in
     let number =
-    subst (λ (party : Party). ask.number ≡ next_number party.asked (g.H.Hall.heard c.arm.new.hall party.me) party.me) c.self.view_is
+    subst (λ (party : Party). ask.number ≡ next_number party.asked ((g.H.Hall.state c.arm.new.hall).heard party.me) party.me) c.self.view_is
     c.in_ok-ask.ensures.number in
     let settles =
-    subst (λ who. IfOk result (λ run. Settles (g.H.Hall.seen new who) (g.H.Hall.heard new who) ask (mid who) (g.H.Hall.part new who) run))
+    subst (λ who. IfOk result (λ run. Settles ((g.H.Hall.state new).seen who) ((g.H.Hall.state new).heard who) ask (mid who) ((g.H.Hall.state new).part who) run))
     who
     c.await_answer.ensures.settles in
-    if_ok _ (λ run. IsAsked (g.H.Hall.seen new me) (g.H.Hall.heard new me) me c.args.self.now.asked c.await_answer.new.self.asked asked
+    if_ok _ (λ run. IsAsked ((g.H.Hall.state new).seen me) ((g.H.Hall.state new).heard me) me c.args.self.now.asked c.await_answer.new.self.asked asked
     run) result
-    (λ run is. is_asked (g.H.Hall.seen new me) (g.H.Hall.heard new me) (g.H.Hall.heard c.arm.new.hall me) grown.0 me c.args.self.now.asked
-    c.await_answer.new.self.asked asked ask (mid me) (g.H.Hall.part new me) run ask_is
+    (λ run is. is_asked ((g.H.Hall.state new).seen me) ((g.H.Hall.state new).heard me) ((g.H.Hall.state c.arm.new.hall).heard me) grown.0 me c.args.self.now.asked
+    c.await_answer.new.self.asked asked ask (mid me) ((g.H.Hall.state new).part me) run ask_is
     (c.await_answer.ensures.asked ∙ ap (λ (party : Party). party.asked) c.send-since.ensures.sent) number grown.1 is) settles
 
 pub returns-clause-settled : goal.returns-clause-settled
@@ -74,7 +74,7 @@ returns-clause-settled g c =
     let inside = c.self.inside.me in
     let ask = c.in_ok-ask.ask in
     let asked = c.args.asked.now in
-    let mid = g.H.Hall.part c.send-since.new.hall in
+    let mid = (g.H.Hall.state c.send-since.new.hall).part in
     let new = c.await_answer.new.hall in
     let result = c.await_answer.result in
     let who = ap (λ (party : Party). party.me) c.send-since.ensures.sent in
@@ -84,51 +84,51 @@ returns-clause-settled g c =
     subst (λ who. (heap : ℕ) → (mid who heap).armed ≡ Some ask) mine
     (λ heap. ap (λ (part : HeapPart). part.armed) (c.send-since.ensures.part inside heap) ∙ c.in_ok-ask.ensures.awaits.armed.armed heap) in
     let settles =
-    subst (λ who. IfOk result (λ run. Settles (g.H.Hall.seen new who) (g.H.Hall.heard new who) ask (mid who) (g.H.Hall.part new who) run))
+    subst (λ who. IfOk result (λ run. Settles ((g.H.Hall.state new).seen who) ((g.H.Hall.state new).heard who) ask (mid who) ((g.H.Hall.state new).part who) run))
     who
     c.await_answer.ensures.settles in
-    on_ok _ (HasSettledAsks me (g.H.Hall.part new me) (g.H.Hall.heard new me)) result
-    (λ run is. subst (λ who. HasSettledAsks who (g.H.Hall.part new me) (g.H.Hall.heard new me)) from
-    (settled_by (g.H.Hall.seen new me) (g.H.Hall.heard new me) ask (mid me) (g.H.Hall.part new me) run armed is)) settles
+    on_ok _ (HasSettledAsks me ((g.H.Hall.state new).part me) ((g.H.Hall.state new).heard me)) result
+    (λ run is. subst (λ who. HasSettledAsks who ((g.H.Hall.state new).part me) ((g.H.Hall.state new).heard me)) from
+    (settled_by ((g.H.Hall.state new).seen me) ((g.H.Hall.state new).heard me) ask (mid me) ((g.H.Hall.state new).part me) run armed is)) settles
 
 -- what the participant holds stays until it awaits its answer
 pub returns-clause-others : goal.returns-clause-others
 returns-clause-others g c = λ heap apart.
     let me = c.args.self.now.me in
     let ask = c.in_ok-ask.ask in
-    let mid = g.H.Hall.part c.send-since.new.hall in
+    let mid = (g.H.Hall.state c.send-since.new.hall).part in
     let new = c.await_answer.new.hall in
     let result = c.await_answer.result in
     let who = ap (λ (party : Party). party.me) c.send-since.ensures.sent in
     let mine = ap (λ (party : Party). party.me) c.self.view_is in
     let its_heap = ap (λ (ask : Ask). ask.heap) c.in_ok-ask.ensures.asked in
     let held =
-    subst (λ who. IsHeldAsBefore (g.H.Hall.part c.args.hall.now who heap) (g.H.Hall.part c.arm.new.hall who heap)) mine
+    subst (λ who. IsHeldAsBefore ((g.H.Hall.state c.args.hall.now).part who heap) ((g.H.Hall.state c.arm.new.hall).part who heap)) mine
     (c.arm.ensures.held heap) in
     let sent = held_then _ _ _ held (held_same _ _ (c.send-since.ensures.part me heap)) in
     let settles =
-    subst (λ who. IfOk result (λ run. Settles (g.H.Hall.seen new who) (g.H.Hall.heard new who) ask (mid who) (g.H.Hall.part new who) run))
+    subst (λ who. IfOk result (λ run. Settles ((g.H.Hall.state new).seen who) ((g.H.Hall.state new).heard who) ask (mid who) ((g.H.Hall.state new).part who) run))
     who
     c.await_answer.ensures.settles in
-    let err = subst (λ who. OnErr result ((heap : ℕ) → g.H.Hall.part new who heap ≡ mid who heap)) who c.await_answer.ensures.err in
-    in_both _ ((heap : ℕ) → g.H.Hall.part new me heap ≡ mid me heap)
-    (IsHeldAsBefore (g.H.Hall.part c.args.hall.now me heap) (g.H.Hall.part new me heap)) result
+    let err = subst (λ who. OnErr result ((heap : ℕ) → (g.H.Hall.state new).part who heap ≡ mid who heap)) who c.await_answer.ensures.err in
+    in_both _ ((heap : ℕ) → (g.H.Hall.state new).part me heap ≡ mid me heap)
+    (IsHeldAsBefore ((g.H.Hall.state c.args.hall.now).part me heap) ((g.H.Hall.state new).part me heap)) result
     (λ run is. held_then _ _ _ sent (held_same _ _ (is.others heap (λ same. apart (same ∙ its_heap)))))
     (λ same. held_then _ _ _ sent (held_same _ _ (same heap))) settles err
 
 pub returns-clause-err : goal.returns-clause-err
 returns-clause-err g c =
     let me = c.args.self.now.me in
-    let mid = g.H.Hall.part c.send-since.new.hall in
+    let mid = (g.H.Hall.state c.send-since.new.hall).part in
     let new = c.await_answer.new.hall in
     let result = c.await_answer.result in
     let who = ap (λ (party : Party). party.me) c.send-since.ensures.sent in
     let mine = ap (λ (party : Party). party.me) c.self.view_is in
-    let held : (heap : ℕ) → IsHeldAsBefore (g.H.Hall.part c.args.hall.now me heap) (g.H.Hall.part c.arm.new.hall me heap) =
-    subst (λ who. (heap : ℕ) → IsHeldAsBefore (g.H.Hall.part c.args.hall.now who heap) (g.H.Hall.part c.arm.new.hall who heap)) mine
+    let held : (heap : ℕ) → IsHeldAsBefore ((g.H.Hall.state c.args.hall.now).part me heap) ((g.H.Hall.state c.arm.new.hall).part me heap) =
+    subst (λ who. (heap : ℕ) → IsHeldAsBefore ((g.H.Hall.state c.args.hall.now).part who heap) ((g.H.Hall.state c.arm.new.hall).part who heap)) mine
     c.arm.ensures.held in
-    let err = subst (λ who. OnErr result ((heap : ℕ) → g.H.Hall.part new who heap ≡ mid who heap)) who c.await_answer.ensures.err in
-    on_err _ ((heap : ℕ) → IsHeldAsBefore (g.H.Hall.part c.args.hall.now me heap) (g.H.Hall.part new me heap)) result
+    let err = subst (λ who. OnErr result ((heap : ℕ) → (g.H.Hall.state new).part who heap ≡ mid who heap)) who c.await_answer.ensures.err in
+    on_err _ ((heap : ℕ) → IsHeldAsBefore ((g.H.Hall.state c.args.hall.now).part me heap) ((g.H.Hall.state new).part me heap)) result
     (λ same heap. held_then _ _ _ (held heap) (held_then _ _ _ (held_same _ _ (c.send-since.ensures.part me heap))
     (held_same _ _ (same heap)))) err
 
@@ -148,17 +148,17 @@ returns-clause-did g c =
     let count =
     g.met.H.Hall.goes_on_count _ _ (g.met.H.Hall.goes_on_then _ _ _ c.arm.ensures.goes_on c.send-since.ensures.goes_on) in
     let ask_is = subst (λ (party : Party). ask ≡ ask_of party.me ask.number asked) c.self.view_is c.in_ok-ask.ensures.asked in
-    if_ok _ (λ run. (steps : List MailStep) × g.H.Hall.did old new me steps × DoesAsk (g.H.Hall.count old) party after asked steps run)
+    if_ok _ (λ run. (steps : List MailStep) × Did me steps (g.H.Hall.state old) (g.H.Hall.state new) × DoesAsk (g.H.Hall.state old).count party after asked steps run)
     c.await_answer.result
     (λ run awaited. (
       _,
-      g.met.H.Hall.did_then _ _ _ me _ _
-          (g.met.H.Hall.did_then _ _ _ me _ _
-          (subst (λ who. g.H.Hall.did old c.arm.new.hall who (takes_segments armed.0 ∷ gives_segments (after_arm ask armed.0) ∷ [])) mine
+      did_then
+          (did_then
+          (subst (λ who. Did who (takes_segments armed.0 ∷ gives_segments (after_arm ask armed.0) ∷ []) (g.H.Hall.state old) (g.H.Hall.state c.arm.new.hall)) mine
           armed.2)
           sent.5)
-          (subst (λ who. g.H.Hall.did c.send-since.new.hall new who awaited.0) who awaited.1),
-      does_ask (g.H.Hall.count old) party c.send-since.new.self after asked ask c.send-since.result sent.0 armed.0 sent.1 sent.2 awaited.0
+          (subst (λ who. Did who awaited.0 (g.H.Hall.state c.send-since.new.hall) (g.H.Hall.state new)) who awaited.1),
+      does_ask (g.H.Hall.state old).count party c.send-since.new.self after asked ask c.send-since.result sent.0 armed.0 sent.1 sent.2 awaited.0
           run ask_is
           (subst (λ (party : Party). ask.number ≡ next_number party.asked armed.0.asks party.me) c.self.view_is armed.1)
           sent.3
@@ -172,10 +172,10 @@ await_answer-requires-clause-few g c =
 
 pub returns-clause-clock : goal.returns-clause-clock
 returns-clause-clock g c =
-    let mid = g.H.Hall.clock c.send-since.new.hall in
-    let new = g.H.Hall.clock c.await_answer.new.hall in
+    let mid = (g.H.Hall.state c.send-since.new.hall).clock in
+    let new = (g.H.Hall.state c.await_answer.new.hall).clock in
     let since = c.send-since.result in
-    wait_rises g.H.Hall.pending g.H.Hall.is_busy since c.args.self.now.deadline (g.H.Hall.clock c.args.hall.now) mid new
+    wait_rises g.H.Hall.pending g.H.Hall.is_busy since c.args.self.now.deadline (g.H.Hall.state c.args.hall.now).clock mid new
     (c.send-since.ensures.clock ∙ c.arm.ensures.clock) c.send-since.ensures.read
     (subst (λ (deadline : ℕ). (new ≡ mid) ⊎ (new ≤ waits_until since deadline))
     (ap (λ (party : Party). party.deadline) c.send-since.ensures.sent) c.await_answer.ensures.clock)

@@ -19,8 +19,8 @@ returns-in_err-ask-clause-in_hand g c =
     let old = c.args.hall.now in
     let new = c.ask.new.hall in
     let me = c.args.self.now.me in
-    hand_asked c.args.self.now c.ask.new.self (g.H.Hall.part old me) (g.H.Hall.part new me) (g.H.Hall.seen old me) (g.H.Hall.seen new me)
-    (g.H.Hall.heard old me) (g.H.Hall.heard new me) c.args.heap.now c.ask.ensures.same (g.H.Hall.taken old) (g.H.Hall.taken new)
+    hand_asked c.args.self.now c.ask.new.self ((g.H.Hall.state old).part me) ((g.H.Hall.state new).part me) ((g.H.Hall.state old).seen me) ((g.H.Hall.state new).seen me)
+    ((g.H.Hall.state old).heard me) ((g.H.Hall.state new).heard me) c.args.heap.now c.ask.ensures.same (g.H.Hall.state old).taken (g.H.Hall.state new).taken
     c.ask.ensures.taken c.requires.in_hand c.in_err-ask.ensures.err
 
 pub returns-in-None-clause-in_hand : goal.returns-in-None-clause-in_hand
@@ -28,12 +28,12 @@ returns-in-None-clause-in_hand g c =
     let old = c.args.hall.now in
     let new = c.ask.new.hall in
     let me = c.args.self.now.me in
-    let grows = subst (λ (run : Option Run). GrowsHeld c.args.asked.now.heap run (g.H.Hall.part old me c.args.asked.now.heap)
-    (g.H.Hall.part new me c.args.asked.now.heap)) c.in-None.is c.in_ok-ask.ensures.grows in
-    hand_asked c.args.self.now c.ask.new.self (g.H.Hall.part old me) (g.H.Hall.part new me) (g.H.Hall.seen old me) (g.H.Hall.seen new me)
-    (g.H.Hall.heard old me) (g.H.Hall.heard new me) c.args.heap.now c.ask.ensures.same (g.H.Hall.taken old) (g.H.Hall.taken new)
+    let grows = subst (λ (run : Option Run). GrowsHeld c.args.asked.now.heap run ((g.H.Hall.state old).part me c.args.asked.now.heap)
+    ((g.H.Hall.state new).part me c.args.asked.now.heap)) c.in-None.is c.in_ok-ask.ensures.grows in
+    hand_asked c.args.self.now c.ask.new.self ((g.H.Hall.state old).part me) ((g.H.Hall.state new).part me) ((g.H.Hall.state old).seen me) ((g.H.Hall.state new).seen me)
+    ((g.H.Hall.state old).heard me) ((g.H.Hall.state new).heard me) c.args.heap.now c.ask.ensures.same (g.H.Hall.state old).taken (g.H.Hall.state new).taken
     c.ask.ensures.taken c.requires.in_hand
-    (none_asked c.args.asked.now.heap (g.H.Hall.part old me) (g.H.Hall.part new me) c.ask.ensures.others grows)
+    (none_asked c.args.asked.now.heap ((g.H.Hall.state old).part me) ((g.H.Hall.state new).part me) c.ask.ensures.others grows)
 
 pub returns-in-None-clause-does : goal.returns-in-None-clause-does
 returns-in-None-clause-does g c = λ tag otherwise.
@@ -44,23 +44,23 @@ returns-in-None-clause-does g c = λ tag otherwise.
     let ok = c.in_ok-ask.ensures in
     let seen = g.met.H.Hall.goes_on_seen old new party.me c.ask.ensures.goes_on in
     let heard = g.met.H.Hall.goes_on_heard old new party.me c.ask.ensures.goes_on in
-    subst (λ (run : Option Run). Does (g.H.Hall.count old) (g.H.Hall.did old new party.me)
+    subst (λ (run : Option Run). Does (g.H.Hall.state old).count (did_in party.me (g.H.Hall.state old) (g.H.Hall.state new))
     (Doing.Asks asked (with_run asked.heap asked.request tag otherwise)) (with_run asked.heap asked.request tag otherwise run)
-    (in_hand c.args.heap.now (moment_of party (g.H.Hall.part old party.me) (g.H.Hall.seen old party.me) (g.H.Hall.heard old party.me)))
-    (in_hand c.args.heap.now (moment_of c.ask.new.self (g.H.Hall.part new party.me) (g.H.Hall.seen new party.me) (g.H.Hall.heard new party.me))))
+    (in_hand c.args.heap.now (moment_of party ((g.H.Hall.state old).part party.me) ((g.H.Hall.state old).seen party.me) ((g.H.Hall.state old).heard party.me)))
+    (in_hand c.args.heap.now (moment_of c.ask.new.self ((g.H.Hall.state new).part party.me) ((g.H.Hall.state new).seen party.me) ((g.H.Hall.state new).heard party.me))))
     c.in-None.is
-    (does_ask party c.ask.new.self (g.H.Hall.part old party.me) (g.H.Hall.part new party.me) (g.H.Hall.seen old party.me)
-    (g.H.Hall.seen new party.me) (g.H.Hall.heard old party.me) (g.H.Hall.heard new party.me) c.args.heap.now c.ask.ensures.same
-    (g.H.Hall.count old) (g.H.Hall.did old new party.me) asked (with_run asked.heap asked.request tag otherwise) c.in_ok-ask.field-0
+    (does_ask party c.ask.new.self ((g.H.Hall.state old).part party.me) ((g.H.Hall.state new).part party.me) ((g.H.Hall.state old).seen party.me)
+    ((g.H.Hall.state new).seen party.me) ((g.H.Hall.state old).heard party.me) ((g.H.Hall.state new).heard party.me) c.args.heap.now c.ask.ensures.same
+    (g.H.Hall.state old).count (did_in party.me (g.H.Hall.state old) (g.H.Hall.state new)) asked (with_run asked.heap asked.request tag otherwise) c.in_ok-ask.field-0
     ok.did.0 ok.did.1 ok.did.2 ok.asked
-    (asked_entries asked.heap c.in_ok-ask.field-0 (g.H.Hall.part old party.me) (g.H.Hall.part new party.me) c.ask.ensures.others ok.grows)
-    (asked_serves asked.heap c.in_ok-ask.field-0 (g.H.Hall.part old party.me) (g.H.Hall.part new party.me) c.ask.ensures.others ok.grows)
+    (asked_entries asked.heap c.in_ok-ask.field-0 ((g.H.Hall.state old).part party.me) ((g.H.Hall.state new).part party.me) c.ask.ensures.others ok.grows)
+    (asked_serves asked.heap c.in_ok-ask.field-0 ((g.H.Hall.state old).part party.me) ((g.H.Hall.state new).part party.me) c.ask.ensures.others ok.grows)
     seen.0 seen.1 heard.0 heard.1)
 
 pub returns-in-None-clause-settled : goal.returns-in-None-clause-settled
 returns-in-None-clause-settled g c =
     let me = c.args.self.now.me in
-    subst (λ who. HasSettledAsks who (g.H.Hall.part c.ask.new.hall me) (g.H.Hall.heard c.ask.new.hall me)) (sym c.ask.ensures.same.me)
+    subst (λ who. HasSettledAsks who ((g.H.Hall.state c.ask.new.hall).part me) ((g.H.Hall.state c.ask.new.hall).heard me)) (sym c.ask.ensures.same.me)
     c.in_ok-ask.ensures.settled
 
 pub grow_in-requires-clause-allowed : goal.grow_in-requires-clause-allowed
@@ -69,10 +69,10 @@ grow_in-requires-clause-allowed g c =
     let new = c.ask.new.hall in
     let me = c.args.self.now.me in
     let asked = c.args.asked.now.heap in
-    let grows = subst (λ (run : Option Run). GrowsHeld asked run (g.H.Hall.part old me asked) (g.H.Hall.part new me asked)) c.in-Some.is
+    let grows = subst (λ (run : Option Run). GrowsHeld asked run ((g.H.Hall.state old).part me asked) ((g.H.Hall.state new).part me asked)) c.in-Some.is
     c.in_ok-ask.ensures.grows in
-    can_grow c.args.self.now (g.H.Hall.part old me) (g.H.Hall.part new me) (g.H.Hall.seen old me) (g.H.Hall.seen new me)
-    (g.H.Hall.heard old me) (g.H.Hall.heard new me) c.args.heap.now (g.H.Hall.taken old) c.requires.in_hand asked c.in-Some.run'
+    can_grow c.args.self.now ((g.H.Hall.state old).part me) ((g.H.Hall.state new).part me) ((g.H.Hall.state old).seen me) ((g.H.Hall.state new).seen me)
+    ((g.H.Hall.state old).heard me) ((g.H.Hall.state new).heard me) c.args.heap.now (g.H.Hall.state old).taken c.requires.in_hand asked c.in-Some.run'
     c.requires.its c.ask.ensures.others grows c.requires.of_socket
 
 pub returns-in-Some-clause-does : goal.returns-in-Some-clause-does
@@ -84,26 +84,26 @@ returns-in-Some-clause-does g c = λ tag otherwise.
     let ok = c.in_ok-ask.ensures in
     let seen = g.met.H.Hall.goes_on_seen old new party.me c.ask.ensures.goes_on in
     let heard = g.met.H.Hall.goes_on_heard old new party.me c.ask.ensures.goes_on in
-    let before = in_hand c.args.heap.now (moment_of party (g.H.Hall.part old party.me) (g.H.Hall.seen old party.me)
-    (g.H.Hall.heard old party.me)) in
-    let does : Does (g.H.Hall.count old) (g.H.Hall.did old new party.me)
+    let before = in_hand c.args.heap.now (moment_of party ((g.H.Hall.state old).part party.me) ((g.H.Hall.state old).seen party.me)
+    ((g.H.Hall.state old).heard party.me)) in
+    let does : Does (g.H.Hall.state old).count (did_in party.me (g.H.Hall.state old) (g.H.Hall.state new))
     (Doing.Asks asked (with_run asked.heap asked.request tag otherwise))
     (with_run asked.heap asked.request tag otherwise (Some c.in-Some.run')) before
-    (in_hand c.args.heap.now (moment_of c.ask.new.self (g.H.Hall.part new party.me) (g.H.Hall.seen new party.me) (g.H.Hall.heard new party.me))) =
-    subst (λ (run : Option Run). Does (g.H.Hall.count old) (g.H.Hall.did old new party.me)
+    (in_hand c.args.heap.now (moment_of c.ask.new.self ((g.H.Hall.state new).part party.me) ((g.H.Hall.state new).seen party.me) ((g.H.Hall.state new).heard party.me))) =
+    subst (λ (run : Option Run). Does (g.H.Hall.state old).count (did_in party.me (g.H.Hall.state old) (g.H.Hall.state new))
     (Doing.Asks asked (with_run asked.heap asked.request tag otherwise)) (with_run asked.heap asked.request tag otherwise run) before
-    (in_hand c.args.heap.now (moment_of c.ask.new.self (g.H.Hall.part new party.me) (g.H.Hall.seen new party.me) (g.H.Hall.heard new party.me))))
+    (in_hand c.args.heap.now (moment_of c.ask.new.self ((g.H.Hall.state new).part party.me) ((g.H.Hall.state new).seen party.me) ((g.H.Hall.state new).heard party.me))))
     c.in-Some.is
-    (does_ask party c.ask.new.self (g.H.Hall.part old party.me) (g.H.Hall.part new party.me) (g.H.Hall.seen old party.me)
-    (g.H.Hall.seen new party.me) (g.H.Hall.heard old party.me) (g.H.Hall.heard new party.me) c.args.heap.now c.ask.ensures.same
-    (g.H.Hall.count old) (g.H.Hall.did old new party.me) asked (with_run asked.heap asked.request tag otherwise) c.in_ok-ask.field-0
+    (does_ask party c.ask.new.self ((g.H.Hall.state old).part party.me) ((g.H.Hall.state new).part party.me) ((g.H.Hall.state old).seen party.me)
+    ((g.H.Hall.state new).seen party.me) ((g.H.Hall.state old).heard party.me) ((g.H.Hall.state new).heard party.me) c.args.heap.now c.ask.ensures.same
+    (g.H.Hall.state old).count (did_in party.me (g.H.Hall.state old) (g.H.Hall.state new)) asked (with_run asked.heap asked.request tag otherwise) c.in_ok-ask.field-0
     ok.did.0 ok.did.1 ok.did.2 ok.asked
-    (asked_entries asked.heap c.in_ok-ask.field-0 (g.H.Hall.part old party.me) (g.H.Hall.part new party.me) c.ask.ensures.others ok.grows)
-    (asked_serves asked.heap c.in_ok-ask.field-0 (g.H.Hall.part old party.me) (g.H.Hall.part new party.me) c.ask.ensures.others ok.grows)
+    (asked_entries asked.heap c.in_ok-ask.field-0 ((g.H.Hall.state old).part party.me) ((g.H.Hall.state new).part party.me) c.ask.ensures.others ok.grows)
+    (asked_serves asked.heap c.in_ok-ask.field-0 ((g.H.Hall.state old).part party.me) ((g.H.Hall.state new).part party.me) c.ask.ensures.others ok.grows)
     seen.0 seen.1 heard.0 heard.1) in
-    (called_then c.ask.new.self c.grow_in.new.self (g.H.Hall.part new party.me) (g.H.Hall.seen new party.me) (g.H.Hall.heard new party.me)
+    (called_then c.ask.new.self c.grow_in.new.self ((g.H.Hall.state new).part party.me) ((g.H.Hall.state new).seen party.me) ((g.H.Hall.state new).heard party.me)
     (call.Grow c.in-Some.run') gives.Done c.args.heap.now c.grow_in.new.heap c.grow_in.ensures.step c.grow_in.ensures.counted asked.heap
-    c.requires.its (g.H.Hall.count old) (g.H.Hall.did old new party.me) (Doing.Asks asked (with_run asked.heap asked.request tag otherwise))
+    c.requires.its (g.H.Hall.state old).count (did_in party.me (g.H.Hall.state old) (g.H.Hall.state new)) (Doing.Asks asked (with_run asked.heap asked.request tag otherwise))
     (λ answer. searching_again asked.heap asked.request tag) before refl does).does
 
 pub returns-in-Some-clause-in_hand : goal.returns-in-Some-clause-in_hand
@@ -112,13 +112,13 @@ returns-in-Some-clause-in_hand g c =
     let new = c.ask.new.hall in
     let me = c.args.self.now.me in
     let asked = c.args.asked.now.heap in
-    let grows = subst (λ (run : Option Run). GrowsHeld asked run (g.H.Hall.part old me asked) (g.H.Hall.part new me asked)) c.in-Some.is
+    let grows = subst (λ (run : Option Run). GrowsHeld asked run ((g.H.Hall.state old).part me asked) ((g.H.Hall.state new).part me asked)) c.in-Some.is
     c.in_ok-ask.ensures.grows in
-    let hand = hand_asked c.args.self.now c.ask.new.self (g.H.Hall.part old me) (g.H.Hall.part old me) (g.H.Hall.seen old me)
-    (g.H.Hall.seen old me) (g.H.Hall.heard old me) (g.H.Hall.heard old me) c.args.heap.now c.ask.ensures.same (g.H.Hall.taken old)
-    (g.H.Hall.taken new) c.ask.ensures.taken c.requires.in_hand (λ index. held_same _ _ refl) in
-    hand_grown c.ask.new.self (g.H.Hall.part old me) (g.H.Hall.part new me) (g.H.Hall.seen old me) (g.H.Hall.seen new me)
-    (g.H.Hall.heard old me) (g.H.Hall.heard new me) c.args.heap.now (g.H.Hall.taken new) hand asked c.in-Some.run' c.requires.its
+    let hand = hand_asked c.args.self.now c.ask.new.self ((g.H.Hall.state old).part me) ((g.H.Hall.state old).part me) ((g.H.Hall.state old).seen me)
+    ((g.H.Hall.state old).seen me) ((g.H.Hall.state old).heard me) ((g.H.Hall.state old).heard me) c.args.heap.now c.ask.ensures.same (g.H.Hall.state old).taken
+    (g.H.Hall.state new).taken c.ask.ensures.taken c.requires.in_hand (λ index. held_same _ _ refl) in
+    hand_grown c.ask.new.self ((g.H.Hall.state old).part me) ((g.H.Hall.state new).part me) ((g.H.Hall.state old).seen me) ((g.H.Hall.state new).seen me)
+    ((g.H.Hall.state old).heard me) ((g.H.Hall.state new).heard me) c.args.heap.now (g.H.Hall.state new).taken hand asked c.in-Some.run' c.requires.its
     c.ask.ensures.others grows c.grow_in.new.heap gives.Done c.grow_in.new.self c.grow_in.ensures.counted c.grow_in.ensures.step
 
 pub returns-in-Some-clause-index : goal.returns-in-Some-clause-index
@@ -130,5 +130,5 @@ returns-in-Some-clause-its_socket g c = call_serves _ _ _ _ _ c.grow_in.ensures.
 pub returns-in-Some-clause-settled : goal.returns-in-Some-clause-settled
 returns-in-Some-clause-settled g c =
     let me = c.args.self.now.me in
-    subst (λ who. HasSettledAsks who (g.H.Hall.part c.ask.new.hall me) (g.H.Hall.heard c.ask.new.hall me))
+    subst (λ who. HasSettledAsks who ((g.H.Hall.state c.ask.new.hall).part me) ((g.H.Hall.state c.ask.new.hall).heard me))
     (sym (ap (λ (party : Party). party.me) c.grow_in.ensures.counted ∙ c.ask.ensures.same.me)) c.in_ok-ask.ensures.settled

@@ -53,15 +53,15 @@ cut_held-requires-clause-in_hand g c =
     let hall = c.args.hall.now in
     let after = c.free_in.new.self in
     let next = c.free_in.new.heap in
-    subst (λ (who : ℕ). IsInHand (g.H.Hall.taken hall) (moment_of after (g.H.Hall.part hall who) (g.H.Hall.seen hall who)
-    (g.H.Hall.heard hall who)) next) (sym (ap (λ (party : Party). party.me) c.free_in.ensures.counted))
-    (hand_freed (g.H.Hall.taken hall) party after (g.H.Hall.part hall me) (g.H.Hall.seen hall me) (g.H.Hall.heard hall me) c.args.heap.now next
+    subst (λ (who : ℕ). IsInHand (g.H.Hall.state hall).taken (moment_of after ((g.H.Hall.state hall).part who) ((g.H.Hall.state hall).seen who)
+    ((g.H.Hall.state hall).heard who)) next) (sym (ap (λ (party : Party). party.me) c.free_in.ensures.counted))
+    (hand_freed (g.H.Hall.state hall).taken party after ((g.H.Hall.state hall).part me) ((g.H.Hall.state hall).seen me) ((g.H.Hall.state hall).heard me) c.args.heap.now next
     c.args.addr _ c.free_in.ensures.step c.free_in.ensures.counted c.requires.in_hand)
 
 pub cut_held-requires-clause-settled : goal.cut_held-requires-clause-settled
 cut_held-requires-clause-settled g c =
     let hall = c.args.hall.now in
-    subst (λ (who : ℕ). HasSettledAsks who (g.H.Hall.part hall who) (g.H.Hall.heard hall who))
+    subst (λ (who : ℕ). HasSettledAsks who ((g.H.Hall.state hall).part who) ((g.H.Hall.state hall).heard who))
     (sym (ap (λ (party : Party). party.me) c.free_in.ensures.counted)) c.requires.settled
 
 pub cut_held-requires-clause-its : goal.cut_held-requires-clause-its
@@ -74,17 +74,17 @@ pub returns-in-Err-NotAnElement-clause-does : goal.returns-in-Err-NotAnElement-c
 returns-in-Err-NotAnElement-clause-does g c =
     let party = c.args.self.now in
     let hall = c.args.hall.now in
-    freed_here (g.H.Hall.count hall) (g.H.Hall.did hall hall party.me) party c.free_in.new.self (g.H.Hall.part hall party.me)
-    (g.H.Hall.seen hall party.me) (g.H.Hall.heard hall party.me) c.args.heap.now c.free_in.new.heap c.args.place.now c.args.addr
-    (Some c.in-Err-NotAnElement.field-0) c.in-Err-NotAnElement.ensures.step c.free_in.ensures.counted (g.met.H.Hall.did_same hall party.me)
+    freed_here (g.H.Hall.state hall).count (did_in party.me (g.H.Hall.state hall) (g.H.Hall.state hall)) party c.free_in.new.self ((g.H.Hall.state hall).part party.me)
+    ((g.H.Hall.state hall).seen party.me) ((g.H.Hall.state hall).heard party.me) c.args.heap.now c.free_in.new.heap c.args.place.now c.args.addr
+    (Some c.in-Err-NotAnElement.field-0) c.in-Err-NotAnElement.ensures.step c.free_in.ensures.counted (did_same party.me (g.H.Hall.state hall))
     c.requires.its gives.NotAnElement (ap (λ (fault : FreeFault). fault_answer (Some fault)) c.in-Err-NotAnElement.field-0-is)
 
 pub returns-in-Err-NotAnElement-clause-in_hand : goal.returns-in-Err-NotAnElement-clause-in_hand
 returns-in-Err-NotAnElement-clause-in_hand g c =
     let party = c.args.self.now in
     let hall = c.args.hall.now in
-    hand_freed (g.H.Hall.taken hall) party c.free_in.new.self (g.H.Hall.part hall party.me) (g.H.Hall.seen hall party.me)
-    (g.H.Hall.heard hall party.me) c.args.heap.now c.free_in.new.heap c.args.addr _ c.free_in.ensures.step c.free_in.ensures.counted
+    hand_freed (g.H.Hall.state hall).taken party c.free_in.new.self ((g.H.Hall.state hall).part party.me) ((g.H.Hall.state hall).seen party.me)
+    ((g.H.Hall.state hall).heard party.me) c.args.heap.now c.free_in.new.heap c.args.addr _ c.free_in.ensures.step c.free_in.ensures.counted
     c.requires.in_hand
 
 pub returns-in-Err-NotAnElement-clause-index : goal.returns-in-Err-NotAnElement-clause-index
@@ -97,24 +97,24 @@ pub returns-in-Err-NotAnElement-clause-settled : goal.returns-in-Err-NotAnElemen
 returns-in-Err-NotAnElement-clause-settled g c =
     let me = c.args.self.now.me in
     let hall = c.args.hall.now in
-    subst (λ (who : ℕ). HasSettledAsks who (g.H.Hall.part hall me) (g.H.Hall.heard hall me))
+    subst (λ (who : ℕ). HasSettledAsks who ((g.H.Hall.state hall).part me) ((g.H.Hall.state hall).heard me))
     (sym (ap (λ (party : Party). party.me) c.free_in.ensures.counted)) c.requires.settled
 
 pub returns-in-Err-IsZone-clause-does : goal.returns-in-Err-IsZone-clause-does
 returns-in-Err-IsZone-clause-does g c =
     let party = c.args.self.now in
     let hall = c.args.hall.now in
-    freed_here (g.H.Hall.count hall) (g.H.Hall.did hall hall party.me) party c.free_in.new.self (g.H.Hall.part hall party.me)
-    (g.H.Hall.seen hall party.me) (g.H.Hall.heard hall party.me) c.args.heap.now c.free_in.new.heap c.args.place.now c.args.addr
-    (Some c.in-Err-IsZone.field-0) c.in-Err-IsZone.ensures.step c.free_in.ensures.counted (g.met.H.Hall.did_same hall party.me)
+    freed_here (g.H.Hall.state hall).count (did_in party.me (g.H.Hall.state hall) (g.H.Hall.state hall)) party c.free_in.new.self ((g.H.Hall.state hall).part party.me)
+    ((g.H.Hall.state hall).seen party.me) ((g.H.Hall.state hall).heard party.me) c.args.heap.now c.free_in.new.heap c.args.place.now c.args.addr
+    (Some c.in-Err-IsZone.field-0) c.in-Err-IsZone.ensures.step c.free_in.ensures.counted (did_same party.me (g.H.Hall.state hall))
     c.requires.its gives.IsZone (ap (λ (fault : FreeFault). fault_answer (Some fault)) c.in-Err-IsZone.field-0-is)
 
 pub returns-in-Err-IsZone-clause-in_hand : goal.returns-in-Err-IsZone-clause-in_hand
 returns-in-Err-IsZone-clause-in_hand g c =
     let party = c.args.self.now in
     let hall = c.args.hall.now in
-    hand_freed (g.H.Hall.taken hall) party c.free_in.new.self (g.H.Hall.part hall party.me) (g.H.Hall.seen hall party.me)
-    (g.H.Hall.heard hall party.me) c.args.heap.now c.free_in.new.heap c.args.addr _ c.free_in.ensures.step c.free_in.ensures.counted
+    hand_freed (g.H.Hall.state hall).taken party c.free_in.new.self ((g.H.Hall.state hall).part party.me) ((g.H.Hall.state hall).seen party.me)
+    ((g.H.Hall.state hall).heard party.me) c.args.heap.now c.free_in.new.heap c.args.addr _ c.free_in.ensures.step c.free_in.ensures.counted
     c.requires.in_hand
 
 pub returns-in-Err-IsZone-clause-index : goal.returns-in-Err-IsZone-clause-index
@@ -127,7 +127,7 @@ pub returns-in-Err-IsZone-clause-settled : goal.returns-in-Err-IsZone-clause-set
 returns-in-Err-IsZone-clause-settled g c =
     let me = c.args.self.now.me in
     let hall = c.args.hall.now in
-    subst (λ (who : ℕ). HasSettledAsks who (g.H.Hall.part hall me) (g.H.Hall.heard hall me))
+    subst (λ (who : ℕ). HasSettledAsks who ((g.H.Hall.state hall).part me) ((g.H.Hall.state hall).heard me))
     (sym (ap (λ (party : Party). party.me) c.free_in.ensures.counted)) c.requires.settled
 
 pub returns-in-Ok-clause-does : goal.returns-in-Ok-clause-does
@@ -142,18 +142,18 @@ returns-in-Ok-clause-does g c =
     let after = c.cut_held.new.self in
     let place = c.args.place.now in
     let addr = c.args.addr in
-    let count = g.H.Hall.count old in
+    let count = (g.H.Hall.state old).count in
     let left : Doing = left_of place.index c.cut_held.result in
-    does_then count (g.H.Hall.did old old me) (g.H.Hall.did old new me) (g.H.Hall.did old new me) (freeing place addr) (cutting place addr) left
-    (in_hand heap (moment_of party (g.H.Hall.part old me) (g.H.Hall.seen old me) (g.H.Hall.heard old me)))
-    (in_hand next (moment_of mid (g.H.Hall.part old me) (g.H.Hall.seen old me) (g.H.Hall.heard old me)))
-    (in_hand c.cut_held.new.heap (moment_of after (g.H.Hall.part new me) (g.H.Hall.seen new me) (g.H.Hall.heard new me)))
-    (λ first second. g.met.H.Hall.did_then old old new me first second)
-    (freed_here count (g.H.Hall.did old old me) party mid (g.H.Hall.part old me) (g.H.Hall.seen old me) (g.H.Hall.heard old me) heap next place
-    addr None c.in-Ok.ensures.step c.free_in.ensures.counted (g.met.H.Hall.did_same old me) c.requires.its gives.Done refl)
-    (subst (λ (who : ℕ). Does count (g.H.Hall.did old new who) (cutting place addr) left
-    (in_hand next (moment_of mid (g.H.Hall.part old who) (g.H.Hall.seen old who) (g.H.Hall.heard old who)))
-    (in_hand c.cut_held.new.heap (moment_of after (g.H.Hall.part new who) (g.H.Hall.seen new who) (g.H.Hall.heard new who))))
+    does_then count (did_in me (g.H.Hall.state old) (g.H.Hall.state old)) (did_in me (g.H.Hall.state old) (g.H.Hall.state new)) (did_in me (g.H.Hall.state old) (g.H.Hall.state new)) (freeing place addr) (cutting place addr) left
+    (in_hand heap (moment_of party ((g.H.Hall.state old).part me) ((g.H.Hall.state old).seen me) ((g.H.Hall.state old).heard me)))
+    (in_hand next (moment_of mid ((g.H.Hall.state old).part me) ((g.H.Hall.state old).seen me) ((g.H.Hall.state old).heard me)))
+    (in_hand c.cut_held.new.heap (moment_of after ((g.H.Hall.state new).part me) ((g.H.Hall.state new).seen me) ((g.H.Hall.state new).heard me)))
+    (λ first second. did_then)
+    (freed_here count (did_in me (g.H.Hall.state old) (g.H.Hall.state old)) party mid ((g.H.Hall.state old).part me) ((g.H.Hall.state old).seen me) ((g.H.Hall.state old).heard me) heap next place
+    addr None c.in-Ok.ensures.step c.free_in.ensures.counted (did_same me (g.H.Hall.state old)) c.requires.its gives.Done refl)
+    (subst (λ (who : ℕ). Does count (did_in who (g.H.Hall.state old) (g.H.Hall.state new)) (cutting place addr) left
+    (in_hand next (moment_of mid ((g.H.Hall.state old).part who) ((g.H.Hall.state old).seen who) ((g.H.Hall.state old).heard who)))
+    (in_hand c.cut_held.new.heap (moment_of after ((g.H.Hall.state new).part who) ((g.H.Hall.state new).seen who) ((g.H.Hall.state new).heard who))))
     (ap (λ (party : Party). party.me) c.free_in.ensures.counted) c.cut_held.ensures.does)
 
 pub returns-in-Ok-clause-index : goal.returns-in-Ok-clause-index
@@ -166,5 +166,5 @@ pub returns-in-Ok-clause-settled : goal.returns-in-Ok-clause-settled
 returns-in-Ok-clause-settled g c =
     let new = c.cut_held.new.hall in
     let after = c.cut_held.new.self in
-    subst (λ (who : ℕ). HasSettledAsks after.me (g.H.Hall.part new who) (g.H.Hall.heard new who))
+    subst (λ (who : ℕ). HasSettledAsks after.me ((g.H.Hall.state new).part who) ((g.H.Hall.state new).heard who))
     (ap (λ (party : Party). party.me) c.free_in.ensures.counted) c.cut_held.ensures.settled

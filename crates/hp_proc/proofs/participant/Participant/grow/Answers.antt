@@ -14,7 +14,7 @@ use Rattle.hp_proc.proofs.participant.Participant.grow.Goals as goal
 pub loop-page-init : goal.loop-page-init
 loop-page-init g c = record {
   pages = search rules;
-  does = λ tag otherwise. does_same _ _ _ _ (g.met.H.Hall.did_same _ _);
+  does = λ tag otherwise. does_same _ _ _ _ (did_same _ _);
   hand = c.requires.in_hand;
   heap = refl;
   context = refl;
@@ -31,7 +31,7 @@ loop-page-init g c = record {
 pub ask_in-requires-clause-serves : goal.ask_in-requires-clause-serves
 ask_in-requires-clause-serves g c =
     let was = c.loop-page.invariant in
-    subst (λ (who : ℕ). g.H.Hall.serves c.loop-page.hall who) (sym was.same.me)
+    subst (λ (who : ℕ). (g.H.Hall.state c.loop-page.hall).serves who) (sym was.same.me)
     (g.met.H.Hall.goes_on_serves _ _ _ was.goes_on c.requires.serves)
 
 pub ask_in-requires-clause-me : goal.ask_in-requires-clause-me
@@ -79,33 +79,33 @@ returns-then-branch-clause-does g c = λ tag otherwise.
     let socket = c.args.place.now.socket in
     let request = c.args.request.now in
     let next = asking index socket request tag otherwise (drop (c.loop-page.page-index + 1) items) in
-    let before = in_hand c.args.heap.now (at g.H.Hall.count g.H.Hall.did g.H.Hall.part g.H.Hall.seen g.H.Hall.heard first me c.args.self.now) in
+    let before = in_hand c.args.heap.now (at (g.H.Hall.state Did).count (g.H.Hall.state first).heard (g.H.Hall.state g.H.Hall.part) (g.H.Hall.state g.H.Hall.seen) me c.args.self.now) in
     let here =
-    subst (λ (left : List ℕ). Does (g.H.Hall.count first) (g.H.Hall.did first second me) (asking index socket request tag otherwise items)
-    (asking index socket request tag otherwise left) before (in_hand c.loop-page.heap (at g.H.Hall.count g.H.Hall.did g.H.Hall.part g.H.Hall.seen g.H.Hall.heard second me c.loop-page.self)))
+    subst (λ (left : List ℕ). Does (g.H.Hall.state first).count (did_in me (g.H.Hall.state first) (g.H.Hall.state second)) (asking index socket request tag otherwise items)
+    (asking index socket request tag otherwise left) before (in_hand c.loop-page.heap (at (g.H.Hall.state Did).count (g.H.Hall.state second).heard (g.H.Hall.state g.H.Hall.part) (g.H.Hall.state g.H.Hall.seen) me c.loop-page.self)))
     (drop_more items c.loop-page.page-index 0 c.loop-page-test.true) (was.does tag otherwise) in
     let there =
-    subst (λ (granted : Bool). Does (g.H.Hall.count second) (g.H.Hall.did second third c.loop-page.self.me)
+    subst (λ (granted : Bool). Does (g.H.Hall.state second).count (did_in c.loop-page.self.me (g.H.Hall.state second) (g.H.Hall.state third))
     (asking index socket request tag otherwise (get_or items c.loop-page.page-index 0 ∷ drop (c.loop-page.page-index + 1) items))
     (behind_asking index request tag next granted)
-    (in_hand c.loop-page.heap (at g.H.Hall.count g.H.Hall.did g.H.Hall.part g.H.Hall.seen g.H.Hall.heard second c.loop-page.self.me c.loop-page.self))
-    (in_hand c.ask_in.new.heap (at g.H.Hall.count g.H.Hall.did g.H.Hall.part g.H.Hall.seen g.H.Hall.heard third c.loop-page.self.me c.ask_in.new.self)))
+    (in_hand c.loop-page.heap (at (g.H.Hall.state Did).count (g.H.Hall.state second).heard (g.H.Hall.state g.H.Hall.part) (g.H.Hall.state g.H.Hall.seen) c.loop-page.self.me c.loop-page.self))
+    (in_hand c.ask_in.new.heap (at (g.H.Hall.state Did).count (g.H.Hall.state third).heard (g.H.Hall.state g.H.Hall.part) (g.H.Hall.state g.H.Hall.seen) c.loop-page.self.me c.ask_in.new.self)))
     c.if-branch.true (c.in_ok-ask_in.ensures.does tag next) in
-    subst (λ (pages : List ℕ). Does (g.H.Hall.count c.args.hall.now) (g.H.Hall.did c.args.hall.now c.ask_in.new.hall c.args.self.now.me)
+    subst (λ (pages : List ℕ). Does (g.H.Hall.state c.args.hall.now).count (did_in c.args.self.now.me (g.H.Hall.state c.args.hall.now) (g.H.Hall.state c.ask_in.new.hall))
     (asking c.args.place.now.index c.args.place.now.socket c.args.request.now tag otherwise pages) (searching_again c.args.place.now.index c.args.request.now tag)
-    (in_hand c.args.heap.now (at g.H.Hall.count g.H.Hall.did g.H.Hall.part g.H.Hall.seen g.H.Hall.heard c.args.hall.now c.args.self.now.me c.args.self.now))
-    (in_hand c.ask_in.new.heap (at g.H.Hall.count g.H.Hall.did g.H.Hall.part g.H.Hall.seen g.H.Hall.heard c.ask_in.new.hall c.args.self.now.me c.ask_in.new.self)))
+    (in_hand c.args.heap.now (at (g.H.Hall.state Did).count (g.H.Hall.state c.args.hall.now).heard (g.H.Hall.state g.H.Hall.part) (g.H.Hall.state g.H.Hall.seen) c.args.self.now.me c.args.self.now))
+    (in_hand c.ask_in.new.heap (at (g.H.Hall.state Did).count (g.H.Hall.state c.ask_in.new.hall).heard (g.H.Hall.state g.H.Hall.part) (g.H.Hall.state g.H.Hall.seen) c.args.self.now.me c.ask_in.new.self)))
     c.loop-page.invariant.pages
-    (does_more g.H.Hall.count g.H.Hall.did g.H.Hall.part g.H.Hall.seen g.H.Hall.heard first second third c.loop-page.self.me me
+    (does_more (g.H.Hall.state Did).count (g.H.Hall.state first).heard (g.H.Hall.state g.H.Hall.part) (g.H.Hall.state g.H.Hall.seen) second third c.loop-page.self.me me
     (in_hand c.loop-page.heap) (in_hand c.ask_in.new.heap) c.loop-page.self c.ask_in.new.self before
     (asking index socket request tag otherwise items)
     (asking index socket request tag otherwise (get_or items c.loop-page.page-index 0 ∷ drop (c.loop-page.page-index + 1) items))
-    (behind_asking index request tag next true) (g.met.H.Hall.did_then first second third me) was.same.me
+    (behind_asking index request tag next true) (did_then) was.same.me
     (g.met.H.Hall.goes_on_count first second was.goes_on) here there)
 
 pub returns-then-branch-clause-settled : goal.returns-then-branch-clause-settled
 returns-then-branch-clause-settled g c =
-    subst (λ (who : ℕ). AreSettled (at g.H.Hall.count g.H.Hall.did g.H.Hall.part g.H.Hall.seen g.H.Hall.heard c.ask_in.new.hall who c.ask_in.new.self))
+    subst (λ (who : ℕ). AreSettled (at (g.H.Hall.state Did).count (g.H.Hall.state c.ask_in.new.hall).heard (g.H.Hall.state g.H.Hall.part) (g.H.Hall.state g.H.Hall.seen) who c.ask_in.new.self))
     c.loop-page.invariant.same.me c.in_ok-ask_in.ensures.settled
 
 -- NONE WAS
@@ -130,29 +130,29 @@ loop-page-preserved g c =
           let socket = c.args.place.now.socket in
           let request = c.args.request.now in
           let next = asking index socket request tag otherwise (drop (c.loop-page.page-index + 1) items) in
-          let before = in_hand c.args.heap.now (at g.H.Hall.count g.H.Hall.did g.H.Hall.part g.H.Hall.seen g.H.Hall.heard first me c.args.self.now) in
+          let before = in_hand c.args.heap.now (at (g.H.Hall.state Did).count (g.H.Hall.state first).heard (g.H.Hall.state g.H.Hall.part) (g.H.Hall.state g.H.Hall.seen) me c.args.self.now) in
           let here =
-          subst (λ (left : List ℕ). Does (g.H.Hall.count first) (g.H.Hall.did first second me) (asking index socket request tag otherwise items)
-          (asking index socket request tag otherwise left) before (in_hand c.loop-page.heap (at g.H.Hall.count g.H.Hall.did g.H.Hall.part g.H.Hall.seen g.H.Hall.heard second me c.loop-page.self)))
+          subst (λ (left : List ℕ). Does (g.H.Hall.state first).count (did_in me (g.H.Hall.state first) (g.H.Hall.state second)) (asking index socket request tag otherwise items)
+          (asking index socket request tag otherwise left) before (in_hand c.loop-page.heap (at (g.H.Hall.state Did).count (g.H.Hall.state second).heard (g.H.Hall.state g.H.Hall.part) (g.H.Hall.state g.H.Hall.seen) me c.loop-page.self)))
           (drop_more items c.loop-page.page-index 0 c.loop-page-test.true) (was.does tag otherwise) in
           let there =
-          subst (λ (granted : Bool). Does (g.H.Hall.count second) (g.H.Hall.did second third c.loop-page.self.me)
+          subst (λ (granted : Bool). Does (g.H.Hall.state second).count (did_in c.loop-page.self.me (g.H.Hall.state second) (g.H.Hall.state third))
           (asking index socket request tag otherwise (get_or items c.loop-page.page-index 0 ∷ drop (c.loop-page.page-index + 1) items))
           (behind_asking index request tag next granted)
-          (in_hand c.loop-page.heap (at g.H.Hall.count g.H.Hall.did g.H.Hall.part g.H.Hall.seen g.H.Hall.heard second c.loop-page.self.me c.loop-page.self))
-          (in_hand c.ask_in.new.heap (at g.H.Hall.count g.H.Hall.did g.H.Hall.part g.H.Hall.seen g.H.Hall.heard third c.loop-page.self.me c.ask_in.new.self)))
+          (in_hand c.loop-page.heap (at (g.H.Hall.state Did).count (g.H.Hall.state second).heard (g.H.Hall.state g.H.Hall.part) (g.H.Hall.state g.H.Hall.seen) c.loop-page.self.me c.loop-page.self))
+          (in_hand c.ask_in.new.heap (at (g.H.Hall.state Did).count (g.H.Hall.state third).heard (g.H.Hall.state g.H.Hall.part) (g.H.Hall.state g.H.Hall.seen) c.loop-page.self.me c.ask_in.new.self)))
           c.if-branch.false (c.in_ok-ask_in.ensures.does tag next) in
-          does_more g.H.Hall.count g.H.Hall.did g.H.Hall.part g.H.Hall.seen g.H.Hall.heard first second third c.loop-page.self.me me
+          does_more (g.H.Hall.state Did).count (g.H.Hall.state first).heard (g.H.Hall.state g.H.Hall.part) (g.H.Hall.state g.H.Hall.seen) second third c.loop-page.self.me me
           (in_hand c.loop-page.heap) (in_hand c.ask_in.new.heap) c.loop-page.self c.ask_in.new.self before
           (asking index socket request tag otherwise items)
           (asking index socket request tag otherwise (get_or items c.loop-page.page-index 0 ∷ drop (c.loop-page.page-index + 1) items))
-          (behind_asking index request tag next false) (g.met.H.Hall.did_then first second third me) was.same.me
+          (behind_asking index request tag next false) (did_then) was.same.me
           (g.met.H.Hall.goes_on_count first second was.goes_on) here there;
-      hand = subst (λ (who : ℕ). IsInHand (g.H.Hall.taken hall) (at g.H.Hall.count g.H.Hall.did g.H.Hall.part g.H.Hall.seen g.H.Hall.heard hall who party) c.ask_in.new.heap) (sym one.same.me) one.in_hand;
+      hand = subst (λ (who : ℕ). IsInHand (g.H.Hall.state hall).taken (at (g.H.Hall.state Did).count (g.H.Hall.state hall).heard (g.H.Hall.state g.H.Hall.part) (g.H.Hall.state g.H.Hall.seen) who party) c.ask_in.new.heap) (sym one.same.me) one.in_hand;
       heap = passed.0 ∙ was.heap;
       context = passed.1 ∙ was.context;
-      settled = subst (λ (who : ℕ). AreSettled (at g.H.Hall.count g.H.Hall.did g.H.Hall.part g.H.Hall.seen g.H.Hall.heard hall who party)) (sym one.same.me) c.in_ok-ask_in.ensures.settled;
-      tied = subst (λ (who : ℕ). IsTied (g.H.Hall.seen hall who) (g.H.Hall.own hall who) party.joined party.maps) (sym one.same.me) one.tied;
+      settled = subst (λ (who : ℕ). AreSettled (at (g.H.Hall.state Did).count (g.H.Hall.state hall).heard (g.H.Hall.state g.H.Hall.part) (g.H.Hall.state g.H.Hall.seen) who party)) (sym one.same.me) c.in_ok-ask_in.ensures.settled;
+      tied = subst (λ (who : ℕ). IsTied ((g.H.Hall.state hall).seen who) ((g.H.Hall.state hall).own who) party.joined party.maps) (sym one.same.me) one.tied;
       same = record {
         me = one.same.me ∙ was.same.me;
         socket = one.same.socket ∙ was.same.socket;
@@ -165,28 +165,28 @@ loop-page-preserved g c =
       goes_on = g.met.H.Hall.goes_on_then _ _ _ was.goes_on one.goes_on;
       along = omega (arith, c.loop-page-test.true);
       clock = rises_more g.H.Hall.pending g.H.Hall.is_busy c.loop-page.page-index (longest_wait c.args.self.now.deadline)
-          (longest_wait c.loop-page.self.deadline) (g.H.Hall.clock c.args.hall.now) (g.H.Hall.clock c.loop-page.hall) (g.H.Hall.clock hall)
+          (longest_wait c.loop-page.self.deadline) (g.H.Hall.state c.args.hall.now).clock (g.H.Hall.state c.loop-page.hall).clock (g.H.Hall.state hall).clock
           (ap longest_wait was.same.deadline) was.clock one.clock;
     }
 
 pub returns-clause-does : goal.returns-clause-does
 returns-clause-does g c = λ tag otherwise.
     let items = c.deref-page-items.result.now in
-    subst (λ (pages : List ℕ). Does (g.H.Hall.count c.args.hall.now) (g.H.Hall.did c.args.hall.now c.loop-page.hall c.args.self.now.me)
+    subst (λ (pages : List ℕ). Does (g.H.Hall.state c.args.hall.now).count (did_in c.args.self.now.me (g.H.Hall.state c.args.hall.now) (g.H.Hall.state c.loop-page.hall))
     (asking c.args.place.now.index c.args.place.now.socket c.args.request.now tag otherwise pages) otherwise
-    (in_hand c.args.heap.now (at g.H.Hall.count g.H.Hall.did g.H.Hall.part g.H.Hall.seen g.H.Hall.heard c.args.hall.now c.args.self.now.me c.args.self.now))
-    (in_hand c.loop-page.heap (at g.H.Hall.count g.H.Hall.did g.H.Hall.part g.H.Hall.seen g.H.Hall.heard c.loop-page.hall c.args.self.now.me c.loop-page.self)))
+    (in_hand c.args.heap.now (at (g.H.Hall.state Did).count (g.H.Hall.state c.args.hall.now).heard (g.H.Hall.state g.H.Hall.part) (g.H.Hall.state g.H.Hall.seen) c.args.self.now.me c.args.self.now))
+    (in_hand c.loop-page.heap (at (g.H.Hall.state Did).count (g.H.Hall.state c.loop-page.hall).heard (g.H.Hall.state g.H.Hall.part) (g.H.Hall.state g.H.Hall.seen) c.args.self.now.me c.loop-page.self)))
     c.loop-page.invariant.pages
-    (subst (λ (left : List ℕ). Does (g.H.Hall.count c.args.hall.now) (g.H.Hall.did c.args.hall.now c.loop-page.hall c.args.self.now.me)
+    (subst (λ (left : List ℕ). Does (g.H.Hall.state c.args.hall.now).count (did_in c.args.self.now.me (g.H.Hall.state c.args.hall.now) (g.H.Hall.state c.loop-page.hall))
     (asking c.args.place.now.index c.args.place.now.socket c.args.request.now tag otherwise items)
     (asking c.args.place.now.index c.args.place.now.socket c.args.request.now tag otherwise left)
-    (in_hand c.args.heap.now (at g.H.Hall.count g.H.Hall.did g.H.Hall.part g.H.Hall.seen g.H.Hall.heard c.args.hall.now c.args.self.now.me c.args.self.now))
-    (in_hand c.loop-page.heap (at g.H.Hall.count g.H.Hall.did g.H.Hall.part g.H.Hall.seen g.H.Hall.heard c.loop-page.hall c.args.self.now.me c.loop-page.self)))
+    (in_hand c.args.heap.now (at (g.H.Hall.state Did).count (g.H.Hall.state c.args.hall.now).heard (g.H.Hall.state g.H.Hall.part) (g.H.Hall.state g.H.Hall.seen) c.args.self.now.me c.args.self.now))
+    (in_hand c.loop-page.heap (at (g.H.Hall.state Did).count (g.H.Hall.state c.loop-page.hall).heard (g.H.Hall.state g.H.Hall.part) (g.H.Hall.state g.H.Hall.seen) c.args.self.now.me c.loop-page.self)))
     (drop_all c.loop-page.page-index items (omega (arith, c.loop-page-test.false))) (c.loop-page.invariant.does tag otherwise))
 
 pub returns-clause-settled : goal.returns-clause-settled
 returns-clause-settled g c =
-    subst (λ (who : ℕ). AreSettled (at g.H.Hall.count g.H.Hall.did g.H.Hall.part g.H.Hall.seen g.H.Hall.heard c.loop-page.hall who c.loop-page.self))
+    subst (λ (who : ℕ). AreSettled (at (g.H.Hall.state Did).count (g.H.Hall.state c.loop-page.hall).heard (g.H.Hall.state g.H.Hall.part) (g.H.Hall.state g.H.Hall.seen) who c.loop-page.self))
     c.loop-page.invariant.same.me c.loop-page.invariant.settled
 
 -- BY HOW MUCH IT CARRIES THE CLOCK
@@ -195,8 +195,8 @@ pub returns-in_err-ask_in-clause-clock : goal.returns-in_err-ask_in-clause-clock
 returns-in_err-ask_in-clause-clock g c =
     let was = c.loop-page.invariant in
     let party = c.args.self.now in
-    let old = g.H.Hall.clock c.args.hall.now in
-    let new = g.H.Hall.clock c.ask_in.new.hall in
+    let old = (g.H.Hall.state c.args.hall.now).clock in
+    let new = (g.H.Hall.state c.ask_in.new.hall).clock in
     rises_within g.H.Hall.pending g.H.Hall.is_busy (c.loop-page.page-index + 1) 8 (longest_wait party.deadline) old new
     (omega (
       arith,
@@ -205,15 +205,15 @@ returns-in_err-ask_in-clause-clock g c =
       few_page_sizes party.context.pools c.args.place.now.socket c.args.request.now.flags,
     ))
     (rises_more g.H.Hall.pending g.H.Hall.is_busy c.loop-page.page-index (longest_wait party.deadline)
-    (longest_wait c.loop-page.self.deadline) old (g.H.Hall.clock c.loop-page.hall) new (ap longest_wait was.same.deadline) was.clock
+    (longest_wait c.loop-page.self.deadline) old (g.H.Hall.state c.loop-page.hall).clock new (ap longest_wait was.same.deadline) was.clock
     c.ask_in.ensures.clock)
 
 pub returns-then-branch-clause-clock : goal.returns-then-branch-clause-clock
 returns-then-branch-clause-clock g c =
     let was = c.loop-page.invariant in
     let party = c.args.self.now in
-    let old = g.H.Hall.clock c.args.hall.now in
-    let new = g.H.Hall.clock c.ask_in.new.hall in
+    let old = (g.H.Hall.state c.args.hall.now).clock in
+    let new = (g.H.Hall.state c.ask_in.new.hall).clock in
     rises_within g.H.Hall.pending g.H.Hall.is_busy (c.loop-page.page-index + 1) 8 (longest_wait party.deadline) old new
     (omega (
       arith,
@@ -222,7 +222,7 @@ returns-then-branch-clause-clock g c =
       few_page_sizes party.context.pools c.args.place.now.socket c.args.request.now.flags,
     ))
     (rises_more g.H.Hall.pending g.H.Hall.is_busy c.loop-page.page-index (longest_wait party.deadline)
-    (longest_wait c.loop-page.self.deadline) old (g.H.Hall.clock c.loop-page.hall) new (ap longest_wait was.same.deadline) was.clock
+    (longest_wait c.loop-page.self.deadline) old (g.H.Hall.state c.loop-page.hall).clock new (ap longest_wait was.same.deadline) was.clock
     c.ask_in.ensures.clock)
 
 pub returns-clause-clock : goal.returns-clause-clock
@@ -230,6 +230,6 @@ returns-clause-clock g c =
     let was = c.loop-page.invariant in
     let party = c.args.self.now in
     rises_within g.H.Hall.pending g.H.Hall.is_busy c.loop-page.page-index 8 (longest_wait party.deadline)
-    (g.H.Hall.clock c.args.hall.now) (g.H.Hall.clock c.loop-page.hall)
+    (g.H.Hall.state c.args.hall.now).clock (g.H.Hall.state c.loop-page.hall).clock
     (omega (arith, was.along, ap length was.pages, few_page_sizes party.context.pools c.args.place.now.socket c.args.request.now.flags))
     was.clock

@@ -14,22 +14,22 @@ use Rattle.hp_proc.proofs.participant.Participant.grow.Given as goal
 abbrev pub invariant-loop-page : goal.invariant-loop-page
 invariant-loop-page g l = record {
   pages : l.page-items ≡ page_sizes_for l.fn.self.context.pools l.fn.place.socket l.fn.request.flags;
-  does : (tag : Tag) (otherwise : Doing) → Does (g.H.Hall.count l.fn.hall) (g.H.Hall.did l.fn.hall l.hall l.fn.self.me)
+  does : (tag : Tag) (otherwise : Doing) → Does (g.H.Hall.state l.fn.hall).count (did_in l.fn.self.me (g.H.Hall.state l.fn.hall) (g.H.Hall.state l.hall))
       (asking l.fn.place.index l.fn.place.socket l.fn.request tag otherwise l.page-items)
       (asking l.fn.place.index l.fn.place.socket l.fn.request tag otherwise (drop l.page-index l.page-items))
-      (in_hand l.fn.heap (at g.H.Hall.count g.H.Hall.did g.H.Hall.part g.H.Hall.seen g.H.Hall.heard l.fn.hall l.fn.self.me l.fn.self))
-      (in_hand l.heap (at g.H.Hall.count g.H.Hall.did g.H.Hall.part g.H.Hall.seen g.H.Hall.heard l.hall l.fn.self.me l.self));
-  hand : IsInHand (g.H.Hall.taken l.hall)
-      (at g.H.Hall.count g.H.Hall.did g.H.Hall.part g.H.Hall.seen g.H.Hall.heard l.hall l.self.me l.self) l.heap;
+      (in_hand l.fn.heap (at (g.H.Hall.state Did).count (g.H.Hall.state l.fn.hall).heard (g.H.Hall.state g.H.Hall.part) (g.H.Hall.state g.H.Hall.seen) l.fn.self.me l.fn.self))
+      (in_hand l.heap (at (g.H.Hall.state Did).count (g.H.Hall.state l.hall).heard (g.H.Hall.state g.H.Hall.part) (g.H.Hall.state g.H.Hall.seen) l.fn.self.me l.self));
+  hand : IsInHand (g.H.Hall.state l.hall).taken
+      (at (g.H.Hall.state Did).count (g.H.Hall.state l.hall).heard (g.H.Hall.state g.H.Hall.part) (g.H.Hall.state g.H.Hall.seen) l.self.me l.self) l.heap;
   heap : l.heap ≡ l.fn.heap;
   context : l.self.context ≡ l.fn.self.context;
-  settled : AreSettled (at g.H.Hall.count g.H.Hall.did g.H.Hall.part g.H.Hall.seen g.H.Hall.heard l.hall l.self.me l.self);
-  tied : IsTied (g.H.Hall.seen l.hall l.self.me) (g.H.Hall.own l.hall l.self.me) l.self.joined l.self.maps;
+  settled : AreSettled (at (g.H.Hall.state Did).count (g.H.Hall.state l.hall).heard (g.H.Hall.state g.H.Hall.part) (g.H.Hall.state g.H.Hall.seen) l.self.me l.self);
+  tied : IsTied ((g.H.Hall.state l.hall).seen l.self.me) ((g.H.Hall.state l.hall).own l.self.me) l.self.joined l.self.maps;
   same : IsSameParty l.fn.self l.self;
-  taken : (number : ℕ) → g.H.Hall.taken l.hall number ≡ g.H.Hall.taken l.fn.hall number;
-  home : (number : ℕ) → g.H.Hall.may_take l.fn.hall number → g.H.Hall.may_take l.hall number;
+  taken : (number : ℕ) → (g.H.Hall.state l.hall).taken number ≡ (g.H.Hall.state l.fn.hall).taken number;
+  home : (number : ℕ) → (g.H.Hall.state l.fn.hall).may_take number → (g.H.Hall.state l.hall).may_take number;
   goes_on : g.H.Hall.goes_on l.fn.hall l.hall;
   along : l.page-index ≤ length l.page-items;
-  clock : RisesWithin g.H.Hall.pending g.H.Hall.is_busy (l.page-index * longest_wait l.fn.self.deadline) (g.H.Hall.clock l.fn.hall)
-      (g.H.Hall.clock l.hall);
+  clock : RisesWithin g.H.Hall.pending g.H.Hall.is_busy (l.page-index * longest_wait l.fn.self.deadline) (g.H.Hall.state l.fn.hall).clock
+      (g.H.Hall.state l.hall).clock;
 }

@@ -23,14 +23,12 @@ returns-clause-did g c =
       did.1,
       c.min-since.ensures,
       subst (Says did.0) c.alloc_body-body.ensures did.2,
-      subst (λ (party : Party). g.H.Hall.did old new party.me
-          (Notes (Read c.now.result) ∷ Posts 0 did.0 (action_of party.plan Alloc party.me (one_more party.sent.allocs)) did.1 ∷ []))
+      subst (λ (party : Party). Did party.me (Notes (Read c.now.result) ∷ Posts 0 did.0 (action_of party.plan Alloc party.me (one_more party.sent.allocs)) did.1 ∷ []) (g.H.Hall.state old) (g.H.Hall.state new))
           c.self.view_is
-          (subst (λ k. g.H.Hall.did old new me
-          (Notes (Read c.now.result) ∷ Posts 0 did.0 (action_of c.self.inside.plan.now Alloc me k) did.1 ∷ []))
+          (subst (λ k. Did me (Notes (Read c.now.result) ∷ Posts 0 did.0 (action_of c.self.inside.plan.now Alloc me k) did.1 ∷ []) (g.H.Hall.state old) (g.H.Hall.state new))
           c.one_more-number.ensures
-          (g.met.H.Hall.did_then _ _ _ me _ _
-          (did_step (λ who steps. g.H.Hall.did old mid who steps) me me (Notes (Read c.now.result)) refl c.now.ensures.did) did.3)),
+          (did_then
+          (did_step (λ who steps. Did who steps (g.H.Hall.state old) (g.H.Hall.state mid)) me me (Notes (Read c.now.result)) refl c.now.ensures.did) did.3)),
     )
 
 pub returns-clause-tied : goal.returns-clause-tied
@@ -39,5 +37,5 @@ returns-clause-tied g c =
     let new = c.post_own.new.hall in
     let on = g.met.H.Hall.goes_on_then _ _ _ c.now.ensures.goes_on c.post_own.ensures.goes_on in
     let grown = g.met.H.Hall.goes_on_seen _ _ who on in
-    subst (λ (party : Party). IsTied (g.H.Hall.seen new who) (g.H.Hall.own new who) party.joined party.maps) (sym c.self.view_is)
+    subst (λ (party : Party). IsTied ((g.H.Hall.state new).seen who) ((g.H.Hall.state new).own who) party.joined party.maps) (sym c.self.view_is)
     (tied_since _ _ grown.0 _ _ _ _ grown.1 (c.post_own.ensures.own who ∙ c.now.ensures.own who) c.requires.tied)

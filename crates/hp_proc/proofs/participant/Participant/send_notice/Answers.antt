@@ -20,9 +20,8 @@ returns-clause-did g c =
       did.1,
       subst (λ (party : Party). Says did.0 (free_body party.me c.args.number c.args.heap c.args.run.now)) c.self.view_is
           (subst (Says did.0) c.free_body-body.ensures did.2),
-      subst (λ (party : Party). g.H.Hall.did old new party.me
-          (Posts 0 did.0 (action_of party.plan Free party.me (one_more party.sent.frees)) did.1 ∷ [])) c.self.view_is
-          (subst (λ k. g.H.Hall.did old new me (Posts 0 did.0 (action_of c.self.inside.plan.now Free me k) did.1 ∷ []))
+      subst (λ (party : Party). Did party.me (Posts 0 did.0 (action_of party.plan Free party.me (one_more party.sent.frees)) did.1 ∷ []) (g.H.Hall.state old) (g.H.Hall.state new)) c.self.view_is
+          (subst (λ k. Did me (Posts 0 did.0 (action_of c.self.inside.plan.now Free me k) did.1 ∷ []) (g.H.Hall.state old) (g.H.Hall.state new))
           c.one_more-sent.ensures
           did.3),
     )
@@ -32,5 +31,5 @@ returns-clause-tied g c =
     let who = c.args.self.now.me in
     let new = c.post_own.new.hall in
     let grown = g.met.H.Hall.goes_on_seen _ _ who c.post_own.ensures.goes_on in
-    subst (λ (party : Party). IsTied (g.H.Hall.seen new who) (g.H.Hall.own new who) party.joined party.maps) (sym c.self.view_is)
+    subst (λ (party : Party). IsTied ((g.H.Hall.state new).seen who) ((g.H.Hall.state new).own who) party.joined party.maps) (sym c.self.view_is)
     (tied_since _ _ grown.0 _ _ _ _ grown.1 (c.post_own.ensures.own who) c.requires.tied)

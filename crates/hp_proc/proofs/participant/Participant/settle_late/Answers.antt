@@ -12,8 +12,8 @@ pub settle-run-requires-clause-awaits : goal.settle-run-requires-clause-awaits
 settle-run-requires-clause-awaits g c =
     let me = c.args.self.now.me in
     let ask = c.args.ask.now in
-    subst (λ who. IsAwaiting ask (g.H.Hall.part c.wait.new.hall who)) (sym c.requires.own)
-    (awaits_along ask (g.H.Hall.part c.args.hall.now me) (g.H.Hall.part c.wait.new.hall me) c.wait.ensures.part c.requires.awaits)
+    subst (λ who. IsAwaiting ask ((g.H.Hall.state c.wait.new.hall).part who)) (sym c.requires.own)
+    (awaits_along ask ((g.H.Hall.state c.args.hall.now).part me) ((g.H.Hall.state c.wait.new.hall).part me) c.wait.ensures.part c.requires.awaits)
 
 pub returns-clause-tied : goal.returns-clause-tied
 returns-clause-tied g c =
@@ -28,15 +28,14 @@ returns-clause-did g c =
     let waited = c.in_ok-now.ensures.turned in
     let settled = c.settle-run.ensures.did in (
       _,
-      g.met.H.Hall.did_then _ _ _ me _ _ waited.1
-          (subst (λ who. g.H.Hall.did c.wait.new.hall c.settle-run.new.hall who
-          (takes_segments settled.0 ∷ gives_segments (after_settling ask c.args.since c.in_ok-now.now settled.0) ∷ [])) c.requires.own
+      did_then waited.1
+          (subst (λ who. Did who (takes_segments settled.0 ∷ gives_segments (after_settling ask c.args.since c.in_ok-now.now settled.0) ∷ []) (g.H.Hall.state c.wait.new.hall) (g.H.Hall.state c.settle-run.new.hall)) c.requires.own
           settled.1),
       record {
         waited = waited.0;
         taken = settled.0;
         now = c.in_ok-now.now;
-        waits = subst (λ until. IsWaited (g.H.Hall.count c.args.hall.now) until false c.args.self.now c.wait.new.self waited.0
+        waits = subst (λ until. IsWaited (g.H.Hall.state c.args.hall.now).count until false c.args.self.now c.wait.new.self waited.0
             (Some c.in_ok-now.now)) c.waits_until-until.ensures waited.2;
         are = refl;
       },
@@ -44,7 +43,7 @@ returns-clause-did g c =
 
 pub returns-clause-clock : goal.returns-clause-clock
 returns-clause-clock g c =
-    let old = g.H.Hall.clock c.args.hall.now in
-    let new = g.H.Hall.clock c.settle-run.new.hall in
+    let old = (g.H.Hall.state c.args.hall.now).clock in
+    let new = (g.H.Hall.state c.settle-run.new.hall).clock in
     subst (λ (until : ℕ). (new ≡ old) ⊎ (new ≤ until)) c.waits_until-until.ensures
-    (clock_still c.waits_until-until.result old (g.H.Hall.clock c.wait.new.hall) new c.settle-run.ensures.clock c.wait.ensures.clock)
+    (clock_still c.waits_until-until.result old (g.H.Hall.state c.wait.new.hall).clock new c.settle-run.ensures.clock c.wait.ensures.clock)
