@@ -3,7 +3,7 @@ use Rattle.std.specs.List.{slice_get}
 use Rattle.std.proofs.lemmas.Option.{slice_get_within, same_Some}
 use Rattle.hp_heap.specs.History.{HeapView}
 use Rattle.hp_heap.specs.PlainHeap.{PlainHeap}
-use Rattle.hp_hall_tests.proofs.tests.vacant_heaps.Goals as goal
+use Rattle.hp_plain_tests.proofs.tests.vacant_heaps.Goals as goal
 
 none_in : (xs : List HeapView) (number : ℕ) (heap : HeapView) → xs ≡ [] → slice_get xs number ≡ Some heap → ⊥
 none_in xs number heap none there = omega (arith, slice_get_within xs number heap there, ap length none)
