@@ -50,7 +50,6 @@ module _ (workload : Workload) (courses later : List Course) (parties behind : L
   module _ (who : ℕ) (apart : (other : ℕ) → other ≢ who → more other ≡ []) (seat last : Seat)
       (early : slice_get so.now.seats who ≡ Some seat) (late : slice_get came.lasts who ≡ Some last)
       (runs : Runs workload.participants so.first there) where
-
     -- nobody else took a number
     none_beside : (other : ℕ) → other ≢ who → length (numbers_of came.lasts other) ≤ length (numbers_of so.now.seats other)
     none_beside other beside = by_seat (slice_get came.lasts other) refl
