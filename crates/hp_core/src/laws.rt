@@ -1,6 +1,14 @@
 //! Laws of the coordinator's moves, above the definitions that its step cites.
 ghost use Rattle.hp_core.specs.Giving.{CatchesNote, StepsAnswerArmed, StepsGive, StepsLeaveArmed};
-ghost use Rattle.hp_core.specs.Laws.{AddsExactly, DenialsAreJudged, JudgedOfPlans, LatesAreLate, MovesAreMoved, MovesAreSteps, PlansAreJudged};
+ghost use Rattle.hp_core.specs.Laws.{
+  AddsExactly,
+  DenialsAreJudged,
+  JudgedOfPlans,
+  LatesAreLate,
+  MovesAreMoved,
+  MovesAreSteps,
+  PlansAreJudged,
+};
 ghost use Rattle.hp_core.specs.Tied.{MovesTie, NoneIsGone, StepsTie};
 
 /// Each move of the coordinator takes the plain machine of a sound segment value to itself, through the drops, or through
