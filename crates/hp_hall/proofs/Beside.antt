@@ -126,3 +126,10 @@ owner_call_shared call segs is = absurd (false≢true is)
 
 pub owner_calls_shared : (steps : ℕ) (old new : SegsView) → IsMovedBy is_owner_call steps old new → shared new ≡ shared old
 owner_calls_shared = read_moved shared is_owner_call owner_call_shared
+
+-- a value moved by calls that log, or by which rows change hands, has the roster of before
+pub roster_logged : (steps : ℕ) (old new : SegsView) → IsMovedBy is_log_call steps old new → new.roster ≡ old.roster
+roster_logged steps old new moved = ap (λ (b : Beside). b.roster) (log_calls_beside steps old new moved)
+
+pub roster_owned : (steps : ℕ) (old new : SegsView) → IsMovedBy is_owner_call steps old new → new.roster ≡ old.roster
+roster_owned steps old new moved = ap (λ (s : Shared). s.roster) (owner_calls_shared steps old new moved)

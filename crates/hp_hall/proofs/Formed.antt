@@ -1,14 +1,15 @@
 -- What a give of the segment value leaves, whichever its form: what the heaps have that its giver does not hold, and the asks of the others.
-use Rattle.std.proofs.Common.{◌≡◌, ◌≢◌, ℕ, List, Option, None, ap}
+use Rattle.std.proofs.Common.{◌≡◌, ◌≢◌, ℕ, Bool, List, Option, None, ap}
 use Rattle.std.specs.Prelude.{slice_index_or}
 use Rattle.hp_segs.specs.LaterSteps.{armed_ask}
 use Rattle.hp_segs.specs.Moved.{Appends, SegsCall, Leads, is_log_call, is_owner_call, is_roster_call}
-use Rattle.hp_segs.specs.SegsView.{SegsView}
+use Rattle.hp_segs.specs.SegsView.{SegsView, is_member}
 use Rattle.hp_segs.specs.Sound.{IsSound}
 use Rattle.hp_segs.specs.declared.ask.Ask.{Ask}
 use Rattle.hp_segs.proofs.Appending.{moves_append}
 use Rattle.hp_hall.specs.Giving.{Knows, GivesForm, logs, enrols, owns}
-use Rattle.hp_segs.specs.Standing.{IsArmed, standing_of}
+use Rattle.hp_hall.specs.Holding.{IsArmed, standing_of}
+use Rattle.hp_hall.proofs.Beside.{roster_logged, roster_owned}
 use Rattle.hp_hall.proofs.StandingMoves.{log_calls_leave, owner_calls_leave, roster_calls_leave}
 
 module _ (knows : Knows) (before kept : SegsView) where
@@ -38,3 +39,9 @@ module _ (knows : Knows) (before kept : SegsView) where
   armed_given (logs form) armed = form.of_armed armed
   armed_given (enrols form) armed = (roster_calls_leave 0 before kept form.moved).sound armed
   armed_given (owns form) armed = (owner_calls_leave 0 before kept form.moved).sound armed
+
+  -- nobody but the giver joins or leaves
+  pub members_given : GivesForm knows before kept → (who : ℕ) → who ≢ knows.who → is_member kept.roster who ≡ is_member before.roster who
+  members_given (logs form) who apart = ap (λ (l : List Bool). is_member l who) (roster_logged 1 before kept form.moved)
+  members_given (enrols form) who apart = form.others who apart
+  members_given (owns form) who apart = ap (λ (l : List Bool). is_member l who) (roster_owned 0 before kept form.moved)

@@ -21,20 +21,7 @@ use Rattle.hp_hall.specs.declared.kept.Kept.{Kept}
 use Rattle.hp_hall.specs.declared.kept.Kept.TheVariants.{Heap, Segments}
 use Rattle.hp_hall.specs.declared.slot.TheConstants.{SLOTS}
 use Rattle.hp_hall.specs.Giving.{Knows, GivesFor, GivesHeap, GivesSegments, IsGiveOf, entries_made, enrols, owns}
-use Rattle.hp_hall.specs.HallView.{HallView, IsHome, slot_at}
-use Rattle.hp_hall.specs.Holding.{HasPages, HeapPart, IsHeldWith, IsTakenAs, StandsFor}
-use Rattle.hp_segs.specs.Standing.{Holding}
-use Rattle.hp_hall.specs.Opening.{AreHome}
-
--- all values are there again once a slot that was taken has its value again
-pub home_again : (old mid new : HallView) (number : ℕ) → AreHome old
-    → ((other : ℕ) → other ≢ number → IsHome (slot_at old other) → IsHome (slot_at mid other))
-    → ((other : ℕ) → other ≢ number → IsHome (slot_at mid other) → IsHome (slot_at new other)) → IsHome (slot_at new number) → AreHome new
-home_again old mid new number home out back here other below =
-    ⊎_elim
-    (λ (same : other ≡ number). subst (λ (n : ℕ). IsHome (slot_at new n)) (sym same) here)
-    (λ (apart : other ≢ number). back other apart (out other apart (home other below)))
-    (cases_eq other number)
+use Rattle.hp_hall.specs.Holding.{HasPages, HeapPart, Holding, IsHeldWith, IsTakenAs, StandsFor}
 
 -- the segment value as it was taken
 pub segs_same : (knows : Knows) (segs : SegsView) → GivesSegments knows segs segs

@@ -1,21 +1,9 @@
-pub mod Agreeing
 pub mod Beside
+pub mod Doing
 pub mod Formed
-pub mod Given
-pub mod Giver
 pub mod Gives
-pub mod Halls
-pub mod Mailed
-pub mod Opened
-pub mod Owned
+pub mod HallStates
 pub mod Pending
-pub mod Read
-pub mod Slotted
-pub mod Stepped
-pub mod Taking
-pub mod Walks
-mod WorkedKeeping
-mod WorkedMeters
 pub mod CountedRows
 pub mod StandingGrants
 pub mod StandingMoves

@@ -6,15 +6,5 @@ pub mod Giving
 pub mod Own
 pub mod Mail
 pub mod Weights
-pub mod HallView
-pub mod Keeping
-pub mod InTurn
-pub mod Meters
-pub mod Course
-pub mod CourseLaws
-pub mod HallSteps
-pub mod SlotStates
-pub mod MailKept
-pub mod HallInside
-pub mod Opening
-pub mod Moved
+pub mod HallState
+pub mod HallCalls

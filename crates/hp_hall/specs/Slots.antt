@@ -3,6 +3,7 @@ use Rattle.std.specs.Prelude.{ℕ, ◌<◌, ⊤}
 use Rattle.hp_base.specs.declared.limits.TheConstants.{MAX_HEAPS}
 use Rattle.hp_hall.specs.declared.slot.Slot.{Slot}
 use Rattle.hp_hall.specs.declared.slot.Slot.TheVariants.{Heap, Segments}
+use Rattle.hp_hall.specs.declared.slot.TheConstants.{SLOTS}
 
 -- the index in a heap's slot is that of a heap
 abbrev pub IsSlot : Slot → Type 0
@@ -13,3 +14,7 @@ IsSlot Segments = ⊤
 abbrev pub slot_number : Slot → ℕ
 slot_number (Heap index) = index
 slot_number Segments = MAX_HEAPS
+
+-- the number is that of a slot
+abbrev pub IsSlotNumber : ℕ → Type 0
+IsSlotNumber number = number < SLOTS

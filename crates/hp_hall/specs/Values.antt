@@ -1,10 +1,11 @@
 -- The values that slots keep, and what a taker learns of them: the rule "Halls" of docs/PARTICIPANTS.md.
-use Rattle.std.specs.Prelude.{◌≡◌, ℕ, ◌<◌, List, [], ⊤}
+use Rattle.std.specs.Prelude.{◌≡◌, ℕ, ◌<◌, Bool, List, [], ⊤}
 use Rattle.hp_base.specs.declared.limits.TheConstants.{MAX_HEAPS}
 use Rattle.hp_heap.specs.declared.entry.Entry.{Entry}
 use Rattle.hp_heap.specs.History as heaps
 use Rattle.hp_heap.specs.History.{entries_of}
 use Rattle.hp_log.specs.declared.log_record.LogRecord.{LogRecord}
+use Rattle.hp_segs.specs.SegsView.{is_member}
 use Rattle.hp_segs.specs.Sound as segments
 use Rattle.hp_segs.specs.declared.outcome.AskLog.{AskLog}
 use Rattle.hp_hall.specs.Holding.{HeapPart}
@@ -58,3 +59,13 @@ HasLog seen (Segments segs) = segs.log ≡ seen
 abbrev pub HasAsks : List AskLog → Kept → Type 0
 HasAsks heard (Heap heap) = ⊤
 HasAsks heard (Segments segs) = segs.asks ≡ heard
+
+-- a segment value has a participant in its roster, or has it not, as that knows
+abbrev pub HasMember : ℕ → Bool → Kept → Type 0
+HasMember who joined (Heap heap) = ⊤
+HasMember who joined (Segments segs) = is_member segs.roster who ≡ joined
+
+-- whether a participant is in the roster behind a give of its own
+abbrev pub joined_behind : ℕ → Kept → Bool → Bool
+joined_behind who (Heap heap) joined = joined
+joined_behind who (Segments segs) joined = is_member segs.roster who

@@ -1,5 +1,5 @@
-ghost use Rattle.std.specs.Prelude.{◌≡◌, length};
-ghost use Rattle.hp_hall.specs.Values.{IsHeap, IsSegments, IsSoundKept, log_of};
+ghost use Rattle.std.specs.Prelude.{◌≡◌};
+ghost use Rattle.hp_hall.specs.Values.{IsHeap, IsSegments, IsSoundKept};
 
 use hp_heap::Heap;
 use hp_segs::Segs;
@@ -46,15 +46,6 @@ impl Kept {
             Kept::Segments(segs) => {
                 let _records = segs.records();
             }
-        }
-    }
-    // How many records its log has.
-    pub(crate) fn records(&self) -> usize
-        ensures { result ≡ length (log_of self.now) }
-    {
-        match self {
-            Kept::Heap(_) => 0,
-            Kept::Segments(segs) => segs.records().len(),
         }
     }
 }

@@ -1,5 +1,4 @@
-//! Laws of what a segment value has for a heap, and of a hall's course. They are proved of all values, and their functions have no code.
-ghost use Rattle.hp_hall.specs.CourseLaws.{IdleAddNoEntries, IdleStayInPlace, RangesStay, SoloStepsAreItsOwn, UndeclaredDoNothing, ValuesStaySound};
+//! Laws of what a segment value has for a heap. They are proved of all values, and their functions have no code.
 ghost use Rattle.hp_hall.specs.Standings.{LogCallsLeave, NotesLeave, OwnerCallsLeave, RangeCallsLeave, RosterCallsLeave};
 ghost use Rattle.hp_hall.specs.Standings.{ArmKeeps, RestCanBeClaimed, WithdrawKeeps};
 ghost use Rattle.hp_hall.specs.Standings.{ClaimBrings, ClaimLeavesOthers, ClaimedCanGrow, RetireLeavesOthers, RetireTakesPages, RetireTakesRows};
@@ -31,16 +30,4 @@ pub fn holding_law()
     ensures retire_others { RetireLeavesOthers }
     ensures retire_rows { RetireTakesRows }
     ensures retire { RetireTakesPages }
-{}
-
-/// On the course of a hall of plain values the declared participants alone make steps. Who makes none has no entry more in any heap, is
-/// armed with the ask of before, and is in the roster where it was; external memory stays; and where the opening values are sound and armed,
-/// so is each value that is taken or given. Own.
-pub fn course_law()
-    ensures undeclared { UndeclaredDoNothing }
-    ensures solo { SoloStepsAreItsOwn }
-    ensures entries { IdleAddNoEntries }
-    ensures places { IdleStayInPlace }
-    ensures ranges { RangesStay }
-    ensures sound { ValuesStaySound }
 {}

@@ -1,7 +1,7 @@
-ghost use Rattle.std.specs.Prelude.{◌≡◌, ◌≢◌, ℕ, ◌+◌, ◌*◌, ◌≤◌, ◌⊎◌, [], ◌∷◌, None, IsSomeAnd};
+ghost use Rattle.std.specs.Prelude.{◌≡◌, ℕ, ◌+◌, ◌*◌, ◌≤◌, ◌⊎◌, None, IsSomeAnd};
 ghost use Rattle.std.specs.Result.{result_ok};
 ghost use Rattle.hp_base.specs.declared.limits.TheConstants.{MAX_HEAPS};
-ghost use Rattle.hp_hall.specs.Mail.{Notes};
+ghost use Rattle.hp_hall.specs.HallCalls.{Idles};
 ghost use Rattle.hp_hall.specs.declared.note.Note.{Note};
 ghost use Rattle.hp_hall.specs.Weights.{IsPending, counted, moved_of, pause_weight};
 
@@ -13,34 +13,28 @@ pub trait Waiting: Hall {
     /// Serves the participants below or above `me` in rising number, each until nothing is left for it, and tells whether something
     /// moved. Over threads it serves nobody: they serve themselves.
     fn others(&mut self, me: u8, above: bool) -> Result<bool, AllocError>
-        requires serves { Self.serves self.old me }
-        requires free { Self.taken self.old MAX_HEAPS ≡ None }
-        requires home { Self.may_take self.old MAX_HEAPS }
-        ensures taken { (number : ℕ) → Self.taken self.new number ≡ Self.taken self.old number }
-        ensures home { (number : ℕ) → Self.may_take self.old number → Self.may_take self.new number }
-        ensures part { (heap : ℕ) → Self.part self.new me heap ≡ Self.part self.old me heap }
-        ensures own { Self.own self.new me ≡ Self.own self.old me }
-        ensures did { Self.did self.old self.new me (Notes (Note.Yielded above (result_ok result)) ∷ []) }
-        ensures weight { Self.weight self.new + Self.scale * moved_of result ≤ Self.weight self.old }
-        ensures clock { Self.clock self.new ≡ Self.clock self.old }
+        requires serves { (Self.state self.old).serves me }
+        requires free { (Self.state self.old).taken MAX_HEAPS ≡ None }
+        requires home { (Self.state self.old).may_take MAX_HEAPS }
+        ensures idles { Idles me (Note.Yielded above (result_ok result)) (Self.state self.old) (Self.state self.new) }
+        ensures weight { (Self.state self.new).weight + Self.scale * moved_of result ≤ (Self.state self.old).weight }
+        ensures clock { (Self.state self.new).clock ≡ (Self.state self.old).clock }
         ensures goes_on { Self.goes_on self.old self.new };
 
     /// Ends a turn. In one thread, where nothing moved in it, the clock jumps to the least pending deadline, `until` among them, of
     /// which there has to be one; over threads it lets others run.
     fn pause(&mut self, me: u8, moved: bool, until: Option<u64>)
-        requires serves { Self.serves self.old me }
-        requires before { IsPending Self.scale (Self.pending (Self.clock self.old)) moved until }
-        ensures falls { Self.weight self.new + counted (Self.pending (Self.clock self.new)) until + pause_weight Self.scale moved
-            ≤ Self.weight self.old + counted (Self.pending (Self.clock self.old)) until }
-        ensures lower { (deadline : ℕ) → Self.pending (Self.clock self.new) deadline ≤ Self.pending (Self.clock self.old) deadline }
-        ensures clock { (Self.clock self.new ≡ Self.clock self.old) ⊎ IsSomeAnd until (λ deadline. Self.clock self.new ≤ deadline) }
-        ensures taken { (number : ℕ) → Self.taken self.new number ≡ Self.taken self.old number }
-        ensures home { (number : ℕ) → Self.may_take self.old number → Self.may_take self.new number }
-        ensures part { (heap : ℕ) → Self.part self.new me heap ≡ Self.part self.old me heap }
-        ensures own { Self.own self.new me ≡ Self.own self.old me }
-        ensures did { Self.did self.old self.new me (Notes (Note.Paused moved until) ∷ []) }
+        requires serves { (Self.state self.old).serves me }
+        requires before { IsPending Self.scale (Self.pending (Self.state self.old).clock) moved until }
+        ensures idles { Idles me (Note.Paused moved until) (Self.state self.old) (Self.state self.new) }
+        ensures falls { (Self.state self.new).weight + counted (Self.pending (Self.state self.new).clock) until + pause_weight Self.scale moved
+            ≤ (Self.state self.old).weight + counted (Self.pending (Self.state self.old).clock) until }
+        ensures lower { (deadline : ℕ) → Self.pending (Self.state self.new).clock deadline ≤ Self.pending (Self.state self.old).clock deadline }
+        ensures clock { ((Self.state self.new).clock ≡ (Self.state self.old).clock)
+            ⊎ IsSomeAnd until (λ deadline. (Self.state self.new).clock ≤ deadline) }
         ensures goes_on { Self.goes_on self.old self.new };
 
     /// Whether a participant has met a refusal of memory while it served.
-    fn stopped(&self) -> bool;
+    fn stopped(&self) -> bool
+        ensures { result ≡ (Self.state self.now).stopped };
 }

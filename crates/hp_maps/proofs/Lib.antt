@@ -7,9 +7,9 @@ mod MapLemmas
 mod DropLemmas
 pub mod PlannedLemmas
 mod NewRows
-mod TableLaw
+pub mod TableLaw
 mod TakeLemmas
-mod CatchLemmas
+pub mod CatchLemmas
 mod TellLemmas
 mod EndLemmas
 pub mod LawLemmas

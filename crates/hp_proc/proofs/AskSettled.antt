@@ -57,6 +57,13 @@ module _ (who number : ℕ) (segs : SegsView) where
   armed_by None = refl
   armed_by (Some generation) = refl
 
+  roster_by : (grant : Option ℕ) → (claimed_grant segs grant).roster ≡ segs.roster
+  roster_by None = refl
+  roster_by (Some generation) = refl
+
+  pub claim_roster : (after_claim who number segs).roster ≡ segs.roster
+  claim_roster = roster_by (grant_of segs.asks who number)
+
   pub claim_log : (after_claim who number segs).log ≡ segs.log
   claim_log = log_by (grant_of segs.asks who number)
 

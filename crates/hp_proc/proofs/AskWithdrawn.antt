@@ -40,6 +40,7 @@ pub record IsRefusedLast (segs given : SegsView) (from number : ℕ) : Type 0 wh
   pub kept : entry.ask ≡ armed_ask segs from
   pub refused : entry.outcome ≡ Refused cause
   pub armed : given.armed ≡ segs.armed
+  pub roster : given.roster ≡ segs.roster
 
 module _ (segs : SegsView) (from number : ℕ) (cause : Cause) where
   refused_by : (growth : Growth) (own : Bool) → grows_for from number growth ≡ own
@@ -66,6 +67,7 @@ module _ (segs : SegsView) (from number : ℕ) (cause : Cause) where
         kept = refl;
         refused = refl;
         armed = refl;
+        roster = refl;
       }
   refused_by growth false is = record {
     entry = record { from = from; number = number; outcome = Refused cause; at = length segs.log; ask = armed_ask segs from };
@@ -76,6 +78,7 @@ module _ (segs : SegsView) (from number : ℕ) (cause : Cause) where
     kept = refl;
     refused = refl;
     armed = refl;
+    roster = refl;
   }
 
   refused_where : (growth : Option Growth) → IsRefusedLast segs (withdrawn_growth from number cause segs growth) from number
@@ -88,6 +91,7 @@ module _ (segs : SegsView) (from number : ℕ) (cause : Cause) where
     kept = refl;
     refused = refl;
     armed = refl;
+    roster = refl;
   }
   refused_where (Some growth) = refused_by growth (grows_for from number growth) refl
 

@@ -135,6 +135,13 @@ step_leaves event core after taken roomy given out has_room sound moved is =
     let left = left_by event core after taken roomy given out has_room sound moved is in
     left.leaves
 
+pub step_roster : (event : CoreEvent) (core after : Core) (taken roomy given : SegsView) (out : Out) → roomy ≡ with_room taken
+    → IsSound taken → IsMovedBy is_log_call 1 roomy given → IsStepped after given out (stepped nobody_denies event core roomy)
+    → given.roster ≡ taken.roster
+step_roster event core after taken roomy given out has_room sound moved is =
+    let left = left_by event core after taken roomy given out has_room sound moved is in
+    left.gives.roster
+
 pub stepped_with_room : (event : CoreEvent) (core after : Core) (taken roomy given : SegsView) (out : Out) → roomy ≡ with_room taken
     → IsStepped after given out (stepped nobody_denies event core roomy) → IsStepped after given out (stepping event core taken)
 stepped_with_room event core after taken roomy given out has_room is =

@@ -81,6 +81,11 @@ none_asked asked old new others grows heap = ⊎_elim
     (λ here. subst (λ heap. IsHeldAsBefore (old heap) (new heap)) (sym here.1) (none_grows asked (old asked) (new asked) grows))
     (λ there. others heap there.1) (eqb_tells heap asked)
 
+-- what is held is held
+pub held_some : (heap : HeapView) (held : Option Holding) → IsHeldWith heap held → IsSome held
+held_some heap None held = absurd held
+held_some heap (Some holding) held = tt
+
 held_holding : (heap : HeapView) (holding : Option Holding) (one : Holding) → holding ≡ Some one → IsHeldWith heap holding
     → HasPages heap.plain.pages one.owned
 held_holding heap holding one is held = subst (λ (holding : Option Holding). IsHeldWith heap holding) is held

@@ -12,7 +12,6 @@ pub mod Scaled
 pub mod Weighs
 pub mod Noting
 pub mod Standing
-pub mod Steps
 pub mod Armed
 pub mod AskOutcomes
 pub mod AskSettled
@@ -49,4 +48,8 @@ pub mod Unarmed
 pub mod Pushed
 pub mod Rising
 pub mod Attached
+pub mod RowsKnown
+pub mod SegmentSlots
+pub mod InHalls
+pub mod Holds
 pub mod AttachedLines

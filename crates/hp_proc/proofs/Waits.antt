@@ -3,7 +3,7 @@ use Rattle.std.proofs.Common.{◌≡◌, ◌∙◌, ℕ, suc, ◌+◌, ◌*◌, 
 use Rattle.std.specs.Prelude.{Result, Ok, Err, IfOk, OnErr, OnOk, nat_lt}
 use Rattle.std.proofs.lemmas.Bool.Decides.{nat_tests}
 use Rattle.hp_core.specs.Core.{Core}
-use Rattle.hp_hall.specs.Mail.{MailStep, Notes, steps_of}
+use Rattle.hp_hall.specs.Mail.{MailStep, Notes}
 use Rattle.hp_hall.specs.Weights.{counted, moved_of, pause_weight}
 use Rattle.hp_hall.specs.declared.note.Note.TheVariants.{Read, Yielded}
 use Rattle.hp_proc.specs.Coordinating.{IsServed}
@@ -11,13 +11,6 @@ use Rattle.hp_proc.specs.Falling.{held_sum, if_moved, least_weight, own_weight, 
 use Rattle.hp_proc.specs.Party.{Party, due_in}
 use Rattle.hp_proc.specs.Waiting.{AreServings, AreTurns, HaveServed, IsServedOut, IsSoonerOf, IsTurned, IsWaited, PausesFor, WaitsOn, is_over}
 use Rattle.hp_proc.proofs.Scaled.{own_weight_lower}
-use Rattle.hp_proc.proofs.Steps.{own_step}
-
--- one step that was noted is its maker's
-pub did_step : (did : ℕ → List MailStep → Type 0) (me who : ℕ) (step : MailStep) → me ≡ who
-    → ((other : ℕ) → did other (steps_of other ((me, step) ∷ []))) → did who (step ∷ [])
-did_step did me who step same done =
-    subst (λ (who : ℕ). did who (step ∷ [])) same (subst (λ (steps : List MailStep). did me steps) (own_step me step) (done me))
 
 -- SERVINGS AND TURNS JOIN
 

@@ -15,6 +15,7 @@ pub mod Frames
 pub mod Freeing
 pub mod Heaps
 pub mod Histories
+pub mod InHall
 pub mod Laws
 pub mod Lines
 pub mod LinesDone
@@ -24,6 +25,7 @@ pub mod Party
 pub mod Posting
 pub mod Progress
 pub mod Seen
+pub mod SegmentSlot
 pub mod Serving
 pub mod Tied
 pub mod Waiting

@@ -3,16 +3,16 @@ use Rattle.std.specs.Prelude.{◌≡◌, ℕ, ◌≤◌, Bool, List, [], length,
 use Rattle.hp_base.specs.declared.caught.Caught.{Caught}
 use Rattle.hp_base.specs.declared.caught.Caught.TheVariants.{Done, Refused, Elsewhere}
 use Rattle.hp_base.specs.declared.limits.TheConstants.{MAX_SEGMENTS}
-use Rattle.hp_hall.specs.Own.{Own, after_ack, after_partial}
+use Rattle.hp_hall.specs.Own.{Own, after_ack, after_partial, rows_known}
 use Rattle.hp_log.specs.declared.log_record.LogRecord.{LogRecord}
-use Rattle.hp_maps.specs.Catching.{Lags}
 use Rattle.hp_maps.specs.MapsView.{MapsView, chunk_rows, table_in}
 
--- a table has taken in a number of records, and lags behind the log by no record further on than was unmapped;
--- it has no chunk's rows, and room for the slots of all lists
+-- a table has taken in a number of records, and its rows are those that the log and the part say: those of the log at that number,
+-- without what further records drop, as far as that was unmapped; it has no chunk's rows, and room for the slots of all lists
 pub record HasTable (log : List LogRecord) (own : Own) (maps : MapsView) : Type 0 where
   pub number : maps.number ≡ own.number
-  pub lags : Lags log own.number own.unmapped (table_in maps.rows)
+  pub rows : table_in maps.rows ≡ rows_known log own
+  pub behind : own.number ≤ own.unmapped
   pub seen : own.unmapped ≤ length log
   pub chunks : chunk_rows maps.rows ≡ []
   pub room : MAX_SEGMENTS ≤ maps.capacity

@@ -1,8 +1,6 @@
 //! A participant is armed with an ask for pages before it sends it.
-ghost use Rattle.std.specs.Prelude.{◌≡◌, ◌≢◌, ℕ, ◌<◌, [], ◌∷◌, Some, None, IfOk, IfSome, IsSome, OnOk};
-ghost use Rattle.hp_base.specs.declared.limits.TheConstants.{MAX_HEAPS, MAX_PARTICIPANTS};
-ghost use Rattle.hp_hall.specs.declared.kept.Kept.{Kept};
-ghost use Rattle.hp_hall.specs.Holding.{AreStanding};
+ghost use Rattle.std.specs.Prelude.{◌≡◌, ℕ, ◌<◌, [], ◌∷◌, Some, IfOk, IfSome, IsSome, OnErr, OnOk};
+ghost use Rattle.hp_base.specs.declared.limits.TheConstants.{MAX_PARTICIPANTS};
 ghost use Rattle.hp_segs.specs.Calls.{MayArm};
 ghost use Rattle.hp_segs.specs.LaterSteps.{after_arm};
 ghost use Rattle.hp_segs.specs.SegsView.{SegsView, closed_number};
@@ -10,6 +8,8 @@ ghost use Rattle.hp_segs.specs.Sound.{IsSound};
 ghost use Rattle.hp_proc.specs.Asking.{IsAwaiting, IsHeldAsBefore, HasSettledAsks, next_number};
 ghost use Rattle.hp_proc.specs.Outcomes.{ask_of};
 ghost use Rattle.hp_proc.specs.Serving.{gives_segments, takes_segments};
+ghost use Rattle.hp_hall.specs.HallState.{Did};
+ghost use Rattle.hp_proc.specs.SegmentSlot.{GivesBack, HasSegs, MayHold, StaysButParts};
 
 use crate::calls::{give_back, put_back, take_segments};
 use crate::pages_asked::PagesAsked;
@@ -41,27 +41,16 @@ fn ask_of(me: u8, number: u64, asked: &PagesAsked) -> Ask
 
 // Arms a participant, which has taken the segment value, with a new ask, and gives the value back: as it was, where memory ran out.
 fn arm_taken<H: Hall>(hall: &mut H, me: u8, segs: Segs, ask: &Ask) -> Result<(), AllocError>
-    requires serves { H.serves hall.old me }
-    requires taken { H.taken hall.old MAX_HEAPS ≡ Some (Kept.Segments segs) }
+    requires has { HasSegs me segs (H.state hall.old) }
     requires sound { IsSound segs }
-    requires standing { AreStanding me (H.part hall.old me) segs }
     requires own { ask.now.from ≡ me }
     requires may { MayArm ask.now segs }
     requires above { closed_number segs.asks me < ask.now.number }
-    requires holds { IsSome (H.part hall.old me ask.now.heap).holding }
-    ensures asks { H.heard hall.new me ≡ segs.asks }
-    ensures armed { OnOk result ((heap : ℕ) → (H.part hall.new me heap).armed ≡ Some ask.now) }
-    ensures held { (heap : ℕ) → IsHeldAsBefore (H.part hall.old me heap) (H.part hall.new me heap) }
-    ensures did { OnOk result (H.did hall.old hall.new me (gives_segments (after_arm ask.now segs) ∷ [])) }
-    ensures free { H.taken hall.new MAX_HEAPS ≡ None }
-    ensures home { H.may_take hall.new MAX_HEAPS }
-
-    ensures others { (number : ℕ) → number ≢ MAX_HEAPS → H.taken hall.new number ≡ H.taken hall.old number }
-    ensures home_of_others { (number : ℕ) → number ≢ MAX_HEAPS → H.may_take hall.old number → H.may_take hall.new number }
-    ensures own_parts { (who : ℕ) → H.own hall.new who ≡ H.own hall.old who }
-    ensures count { H.count hall.new ≡ H.count hall.old }
-    ensures still { H.serves hall.new me }
-    ensures clock { H.clock hall.new ≡ H.clock hall.old }
+    requires holds { IsSome ((H.state hall.old).part me ask.now.heap).holding }
+    ensures armed { OnOk result ((heap : ℕ) → ((H.state hall.new).part me heap).armed ≡ Some ask.now) }
+    ensures held { (heap : ℕ) → IsHeldAsBefore ((H.state hall.old).part me heap) ((H.state hall.new).part me heap) }
+    ensures ok { OnOk result (GivesBack me (after_arm ask.now segs) (H.state hall.old) (H.state hall.new)) }
+    ensures err { OnErr result (GivesBack me segs (H.state hall.old) (H.state hall.new)) }
     ensures goes_on { H.goes_on hall.old hall.new }
 {
     let mut armed = segs;
@@ -85,25 +74,17 @@ pub(crate) fn arm<H: Hall>(
     before: u64,
     asked: &PagesAsked,
 ) -> Result<Ask, AllocError>
-    requires serves { H.serves hall.old me }
+    requires may { MayHold me (H.state hall.old) }
     requires few { me < MAX_PARTICIPANTS }
-    requires free { H.taken hall.old MAX_HEAPS ≡ None }
-    requires home { H.may_take hall.old MAX_HEAPS }
-    requires settled { HasSettledAsks me (H.part hall.old me) (H.heard hall.old me) }
-    requires holds { IsSome (H.part hall.old me asked.now.heap).holding }
+    requires settled { HasSettledAsks me ((H.state hall.old).part me) ((H.state hall.old).heard me) }
+    requires holds { IsSome ((H.state hall.old).part me asked.now.heap).holding }
     ensures asked { IfOk result (λ ask. ask ≡ ask_of me ask.number asked.now) }
-    ensures number { IfOk result (λ ask. ask.number ≡ next_number before (H.heard hall.new me) me) }
-    ensures awaits { IfOk result (λ ask. IsAwaiting ask (H.part hall.new me)) }
-    ensures held { (heap : ℕ) → IsHeldAsBefore (H.part hall.old me heap) (H.part hall.new me heap) }
+    ensures number { IfOk result (λ ask. ask.number ≡ next_number before ((H.state hall.new).heard me) me) }
+    ensures awaits { IfOk result (λ ask. IsAwaiting ask ((H.state hall.new).part me)) }
+    ensures held { (heap : ℕ) → IsHeldAsBefore ((H.state hall.old).part me heap) ((H.state hall.new).part me heap) }
     ensures did { IfOk result (λ ask. (taken : SegsView) × (ask.number ≡ next_number before taken.asks me)
-        × H.did hall.old hall.new me (takes_segments taken ∷ gives_segments (after_arm ask taken) ∷ [])) }
-
-    ensures taken { (number : ℕ) → H.taken hall.new number ≡ H.taken hall.old number }
-    ensures home { (number : ℕ) → H.may_take hall.old number → H.may_take hall.new number }
-    ensures own { (who : ℕ) → H.own hall.new who ≡ H.own hall.old who }
-    ensures count { H.count hall.new ≡ H.count hall.old }
-    ensures still { H.serves hall.new me }
-    ensures clock { H.clock hall.new ≡ H.clock hall.old }
+        × Did me (takes_segments taken ∷ gives_segments (after_arm ask taken) ∷ []) (H.state hall.old) (H.state hall.new)) }
+    ensures stays { StaysButParts me (H.state hall.old) (H.state hall.new) }
     ensures goes_on { H.goes_on hall.old hall.new }
 {
     let segs = take_segments(hall, me);

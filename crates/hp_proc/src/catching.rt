@@ -1,10 +1,11 @@
 //! A participant's table catches up with the log of the segment value that the participant has taken.
-ghost use Rattle.std.specs.Prelude.{◌≡◌, ◌≢◌, ℕ, ◌^◌, ◌≤◌, ◌++◌, ◌||◌, List, [], true, false, length};
+ghost use Rattle.std.specs.Prelude.{◌≡◌, ◌^◌, ◌≤◌, ◌||◌, true, false, length};
 ghost use Rattle.hp_base.specs.Mapping.{is_done};
-ghost use Rattle.hp_log.specs.declared.log_record.LogRecord.{LogRecord};
 ghost use Rattle.hp_maps.specs.MapsView.{calls_of};
 ghost use Rattle.hp_proc.specs.Serving.{CatchesUp, IsWorn, acks_behind};
-ghost use Rattle.hp_proc.specs.Tied.{IsTied, own_after};
+ghost use Rattle.hp_proc.specs.Tied.{IsTied};
+ghost use Rattle.hp_hall.specs.HallState.{Did};
+ghost use Rattle.hp_proc.specs.SegmentSlot.{MayCatchUp, StaysButOwn};
 
 use crate::calls::tell_number;
 use hp_base::{Caught, Mapper, Silent};
@@ -49,25 +50,13 @@ pub(crate) fn take_in<H: Hall, M: Mapper>(
     maps: &mut LocalMaps<M>,
     segs: &Segs,
 ) -> Caught
-    requires serves { H.serves hall.old me }
-    requires seen { segs.now.log ≡ H.seen hall.old me }
-    requires tied { IsTied segs.now.log (H.own hall.old me) joined maps.old }
-    requires calls { calls_of maps.old ≤ 2 ^ 63 }
+    requires serves { (H.state hall.old).serves me }
+    requires seen { segs.now.log ≡ (H.state hall.old).seen me }
+    requires may { MayCatchUp segs.now.log ((H.state hall.old).own me) joined maps.old }
     ensures caught { CatchesUp segs.now.log maps.old maps.new result }
-    ensures tied { IsTied segs.now.log (H.own hall.new me) (joined || is_done result) maps.new }
-    ensures own_of_others { (who : ℕ) → who ≢ me → H.own hall.new who ≡ H.own hall.old who }
-
-    ensures seen { (more : List LogRecord) × (H.seen hall.new me ≡ H.seen hall.old me ++ more) }
-    ensures noted { (who other : ℕ) → H.noted hall.old who other ≤ H.noted hall.new who other }
-    ensures taken { (number : ℕ) → H.taken hall.new number ≡ H.taken hall.old number }
-    ensures home { (number : ℕ) → H.may_take hall.old number → H.may_take hall.new number }
-    ensures part { (who heap : ℕ) → H.part hall.new who heap ≡ H.part hall.old who heap }
-    ensures did { H.did hall.old hall.new me (acks_behind result (length segs.now.log)) }
-    ensures did_others { (who : ℕ) → who ≢ me → H.did hall.old hall.new who [] }
-    ensures weight { H.weight hall.new ≤ H.weight hall.old }
-    ensures clock { H.clock hall.new ≡ H.clock hall.old }
-    ensures count { H.count hall.new ≡ H.count hall.old }
-    ensures still { H.serves hall.new me }
+    ensures tied { IsTied segs.now.log ((H.state hall.new).own me) (joined || is_done result) maps.new }
+    ensures did { Did me (acks_behind result (length segs.now.log)) (H.state hall.old) (H.state hall.new) }
+    ensures stays { StaysButOwn me (H.state hall.old) (H.state hall.new) }
     ensures goes_on { H.goes_on hall.old hall.new }
 {
     log_law();

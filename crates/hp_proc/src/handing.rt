@@ -1,18 +1,16 @@
 //! Participant 0 hands its coordinator an event with the segment value, and gives that back.
-ghost use Rattle.std.specs.Prelude.{◌≡◌, ◌≢◌, ℕ, ◌+◌, ◌≤◌, ◌++◌, List, [], Some, None, IfOk, OnErr, OnOk, length};
+ghost use Rattle.std.specs.Prelude.{◌≡◌, ◌+◌, ◌≤◌, ◌++◌, List, Some, IfOk, OnErr, OnOk, length};
 ghost use Rattle.std.specs.Result.{result_ok};
-ghost use Rattle.hp_base.specs.declared.limits.TheConstants.{MAX_HEAPS};
 ghost use Rattle.hp_core.specs.Conditions.{NamesParticipants};
 ghost use Rattle.hp_core.specs.Core.{IsStepped};
 ghost use Rattle.hp_hall.specs.Giving.{GivesSegments, Knows};
-ghost use Rattle.hp_hall.specs.Holding.{AreStanding};
 ghost use Rattle.hp_hall.specs.Mail.{MailStep};
 ghost use Rattle.hp_hall.specs.Standings.{LeavesStanding};
-ghost use Rattle.hp_hall.specs.declared.kept.Kept.{Kept};
 ghost use Rattle.hp_log.specs.declared.log_record.LogRecord.{LogRecord};
-ghost use Rattle.hp_segs.specs.SegsView.{SegsView};
 ghost use Rattle.hp_segs.specs.Sound.{IsSound};
 ghost use Rattle.hp_proc.specs.Coordinating.{Hands, IsHanded, IsOutside, IsTrueOf, stepping, with_room};
+ghost use Rattle.hp_hall.specs.HallState.{Did, Stays, known_to};
+ghost use Rattle.hp_proc.specs.SegmentSlot.{FreesSegs, HasSegs, MayHold};
 
 use crate::calls::{give_segments, take_segments};
 use hp_base::NoLimits;
@@ -48,8 +46,9 @@ fn step_with_room(
     ensures gives { (knows : Knows) → IsTrueOf knows.noted (length segs.old.log) event
         → GivesSegments knows segs.old segs.new }
 
-    // It leaves what the value has for each heap, and the ask of each who is armed.
+    // It leaves what the value has for each heap, the ask of each who is armed, and the roster.
     ensures leaves { LeavesStanding segs.old segs.new }
+    ensures roster { segs.new.roster ≡ segs.old.roster }
 {
     core_law();
     make_room(segs)?;
@@ -65,27 +64,16 @@ pub(crate) fn hand<H: Hall>(
     segs: Segs,
     event: CoreEvent,
 ) -> Result<Out, AllocError>
-    requires serves { H.serves hall.old 0 }
-    requires taken { H.taken hall.old MAX_HEAPS ≡ Some (Kept.Segments segs) }
-    requires standing { AreStanding 0 (H.part hall.old 0) segs }
+    requires has { HasSegs 0 segs (H.state hall.old) }
     requires sound { IsSound segs }
     requires names { NamesParticipants event }
-    requires known { IsTrueOf (H.noted hall.old 0) (length segs.log) event }
-    ensures handed { (steps : List MailStep) × H.did hall.old hall.new 0 steps
+    requires known { IsTrueOf (known_to 0 (H.state hall.old)).noted (length segs.log) event }
+    ensures handed { (steps : List MailStep) × Did 0 steps (H.state hall.old) (H.state hall.new)
         × IsHanded event core.old core.new segs steps (result_ok result) }
-    ensures log { (more : List LogRecord) × (H.seen hall.new 0 ≡ segs.log ++ more) }
-    ensures free { H.taken hall.new MAX_HEAPS ≡ None }
-    ensures home { H.may_take hall.new MAX_HEAPS }
-    ensures weight { H.weight hall.new ≤ H.weight hall.old }
-
-    ensures others { (number : ℕ) → number ≢ MAX_HEAPS → H.taken hall.new number ≡ H.taken hall.old number }
-    ensures home_of_others { (number : ℕ) → number ≢ MAX_HEAPS → H.may_take hall.old number → H.may_take hall.new number }
-    ensures part { (who heap : ℕ) → H.part hall.new who heap ≡ H.part hall.old who heap }
-    ensures own { (who : ℕ) → H.own hall.new who ≡ H.own hall.old who }
-    ensures did_others { (who : ℕ) → who ≢ 0 → H.did hall.old hall.new who [] }
-    ensures clock { H.clock hall.new ≡ H.clock hall.old }
-    ensures count { H.count hall.new ≡ H.count hall.old }
-    ensures still { H.serves hall.new 0 }
+    ensures log { (more : List LogRecord) × ((H.state hall.new).seen 0 ≡ segs.log ++ more) }
+    ensures weight { (H.state hall.new).weight ≤ (H.state hall.old).weight }
+    ensures back { FreesSegs 0 (H.state hall.old) (H.state hall.new) }
+    ensures own { (H.state hall.new).own 0 ≡ (H.state hall.old).own 0 }
     ensures goes_on { H.goes_on hall.old hall.new }
 {
     let mut segs = segs;
@@ -100,25 +88,14 @@ pub(crate) fn take_and_hand<H: Hall>(
     core: &mut Coordinator,
     event: CoreEvent,
 ) -> Result<Out, AllocError>
-    requires serves { H.serves hall.old 0 }
-    requires free { H.taken hall.old MAX_HEAPS ≡ None }
-    requires home { H.may_take hall.old MAX_HEAPS }
+    requires may { MayHold 0 (H.state hall.old) }
     requires names { NamesParticipants event }
     requires outside { IsOutside event }
-    requires known { IsTrueOf (H.noted hall.old 0) 0 event }
-    ensures hands { (steps : List MailStep) × H.did hall.old hall.new 0 steps
+    requires known { IsTrueOf (known_to 0 (H.state hall.old)).noted 0 event }
+    ensures hands { (steps : List MailStep) × Did 0 steps (H.state hall.old) (H.state hall.new)
         × Hands event core.old core.new steps (result_ok result) }
-    ensures seen { (more : List LogRecord) × (H.seen hall.new 0 ≡ H.seen hall.old 0 ++ more) }
-    ensures taken { (number : ℕ) → H.taken hall.new number ≡ H.taken hall.old number }
-    ensures home { (number : ℕ) → H.may_take hall.old number → H.may_take hall.new number }
-    ensures weight { H.weight hall.new ≤ H.weight hall.old }
-
-    ensures part { (who heap : ℕ) → H.part hall.new who heap ≡ H.part hall.old who heap }
-    ensures own { (who : ℕ) → H.own hall.new who ≡ H.own hall.old who }
-    ensures did_others { (who : ℕ) → who ≢ 0 → H.did hall.old hall.new who [] }
-    ensures clock { H.clock hall.new ≡ H.clock hall.old }
-    ensures count { H.count hall.new ≡ H.count hall.old }
-    ensures still { H.serves hall.new 0 }
+    ensures weight { (H.state hall.new).weight ≤ (H.state hall.old).weight }
+    ensures stays { Stays 0 (H.state hall.old) (H.state hall.new) }
     ensures goes_on { H.goes_on hall.old hall.new }
 {
     let segs = take_segments(hall, 0);

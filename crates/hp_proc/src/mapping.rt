@@ -1,21 +1,19 @@
 //! Participant 0 catches up with the log for its coordinator.
-ghost use Rattle.std.specs.Prelude.{◌≡◌, ◌≢◌, ℕ, ◌^◌, ◌<◌, ◌≤◌, ◌++◌, ◌||◌, List, [], ◌∷◌, Some, None, length};
+ghost use Rattle.std.specs.Prelude.{◌≡◌, ℕ, ◌^◌, ◌<◌, ◌≤◌, ◌++◌, ◌||◌, List, ◌∷◌, length};
 ghost use Rattle.std.specs.Result.{result_ok};
 ghost use Rattle.hp_base.specs.Mapping.{is_done};
 ghost use Rattle.hp_base.specs.declared.caught.Caught.{Caught};
-ghost use Rattle.hp_base.specs.declared.limits.TheConstants.{MAX_HEAPS};
 ghost use Rattle.hp_core.specs.declared.event.CoreEvent.TheVariants.{SelfMapped};
-ghost use Rattle.hp_hall.specs.Holding.{AreStanding};
 ghost use Rattle.hp_hall.specs.Mail.{MailStep, Notes};
-ghost use Rattle.hp_hall.specs.declared.kept.Kept.{Kept};
 ghost use Rattle.hp_hall.specs.declared.note.Note.{Note};
-ghost use Rattle.hp_log.specs.declared.log_record.LogRecord.{LogRecord};
 ghost use Rattle.hp_maps.specs.MapsView.{calls_of};
 ghost use Rattle.hp_segs.specs.Sound.{IsSound};
 ghost use Rattle.hp_proc.specs.Coordinating.{IsHanded, IsMapped};
 ghost use Rattle.hp_proc.specs.Party.{Party, with_table};
 ghost use Rattle.hp_proc.specs.Serving.{CatchesUp, acks_behind};
 ghost use Rattle.hp_proc.specs.Tied.{IsTied};
+ghost use Rattle.hp_hall.specs.HallState.{Did, MayServe};
+ghost use Rattle.hp_proc.specs.SegmentSlot.{FreesSegs, HasSegs, StaysButOwn};
 
 use crate::calls::{put_back, take_segments};
 use crate::catching::{has_table, is_worn, take_in};
@@ -35,31 +33,20 @@ fn catch_and_hand<H: Hall, M: Mapper>(
     joined: &mut bool,
     segs: Segs,
 ) -> Result<Out, AllocError>
-    requires serves { H.serves hall.old 0 }
-    requires declared { 0 < H.count hall.old }
-    requires taken { H.taken hall.old MAX_HEAPS ≡ Some (Kept.Segments segs) }
-    requires standing { AreStanding 0 (H.part hall.old 0) segs }
+    requires has { HasSegs 0 segs (H.state hall.old) }
+    requires declared { 0 < (H.state hall.old).count }
     requires sound { IsSound segs }
-    requires log { segs.log ≡ H.seen hall.old 0 }
-    requires tied { IsTied segs.log (H.own hall.old 0) joined.old maps.old }
+    requires log { segs.log ≡ (H.state hall.old).seen 0 }
+    requires tied { IsTied segs.log ((H.state hall.old).own 0) joined.old maps.old }
     requires calls { calls_of maps.old ≤ 2 ^ 63 }
-    ensures handed { (caught : Caught) × (own now : ℕ) × (more : List MailStep) × H.did hall.old hall.new 0
-        (acks_behind caught (length segs.log) ++ (Notes (Note.Loaded 0 own) ∷ Notes (Note.Read now) ∷ more))
-        × CatchesUp segs.log maps.old maps.new caught × (joined.new ≡ (joined.old || is_done caught))
+    ensures handed { (caught : Caught) × (own now : ℕ) × (more : List MailStep)
+        × Did 0 (acks_behind caught (length segs.log) ++ (Notes (Note.Loaded 0 own) ∷ Notes (Note.Read now) ∷ more))
+        (H.state hall.old) (H.state hall.new) × CatchesUp segs.log maps.old maps.new caught
+        × (joined.new ≡ (joined.old || is_done caught))
         × IsHanded (SelfMapped caught now) core.old core.new segs more (result_ok result) }
-    ensures tied { IsTied (H.seen hall.new 0) (H.own hall.new 0) joined.new maps.new }
-    ensures own { (who : ℕ) → who ≢ 0 → H.own hall.new who ≡ H.own hall.old who }
-    ensures free { H.taken hall.new MAX_HEAPS ≡ None }
-    ensures home { H.may_take hall.new MAX_HEAPS }
-    ensures weight { H.weight hall.new ≤ H.weight hall.old }
-
-    ensures others { (number : ℕ) → number ≢ MAX_HEAPS → H.taken hall.new number ≡ H.taken hall.old number }
-    ensures home_of_others { (number : ℕ) → number ≢ MAX_HEAPS → H.may_take hall.old number → H.may_take hall.new number }
-    ensures part { (who heap : ℕ) → H.part hall.new who heap ≡ H.part hall.old who heap }
-    ensures did_others { (who : ℕ) → who ≢ 0 → H.did hall.old hall.new who [] }
-    ensures clock { H.clock hall.new ≡ H.clock hall.old }
-    ensures count { H.count hall.new ≡ H.count hall.old }
-    ensures still { H.serves hall.new 0 }
+    ensures tied { IsTied ((H.state hall.new).seen 0) ((H.state hall.new).own 0) joined.new maps.new }
+    ensures weight { (H.state hall.new).weight ≤ (H.state hall.old).weight }
+    ensures back { FreesSegs 0 (H.state hall.old) (H.state hall.new) }
     ensures goes_on { H.goes_on hall.old hall.new }
 {
     let caught = take_in(hall, 0, *joined, maps, &segs);
@@ -79,25 +66,13 @@ pub(crate) fn map_self<H: Hall, M: Mapper>(
     maps: &mut LocalMaps<M>,
     joined: &mut bool,
 ) -> Result<Out, AllocError>
-    requires serves { H.serves hall.old 0 }
-    requires declared { 0 < H.count hall.old }
-    requires free { H.taken hall.old MAX_HEAPS ≡ None }
-    requires home { H.may_take hall.old MAX_HEAPS }
-    requires tied { IsTied (H.seen hall.old 0) (H.own hall.old 0) joined.old maps.old }
-    ensures mapped { (steps : List MailStep) × H.did hall.old hall.new 0 steps
-        × ((party : Party) → IsMapped (with_table core.old maps.old joined.old party) (with_table core.new maps.new joined.new party) steps
-        (result_ok result)) }
-    ensures tied { IsTied (H.seen hall.new 0) (H.own hall.new 0) joined.new maps.new }
-    ensures own { (who : ℕ) → who ≢ 0 → H.own hall.new who ≡ H.own hall.old who }
-    ensures taken { (number : ℕ) → H.taken hall.new number ≡ H.taken hall.old number }
-    ensures home { (number : ℕ) → H.may_take hall.old number → H.may_take hall.new number }
-    ensures weight { H.weight hall.new ≤ H.weight hall.old }
-
-    ensures part { (who heap : ℕ) → H.part hall.new who heap ≡ H.part hall.old who heap }
-    ensures did_others { (who : ℕ) → who ≢ 0 → H.did hall.old hall.new who [] }
-    ensures clock { H.clock hall.new ≡ H.clock hall.old }
-    ensures count { H.count hall.new ≡ H.count hall.old }
-    ensures still { H.serves hall.new 0 }
+    requires may { MayServe 0 (H.state hall.old) }
+    requires tied { IsTied ((H.state hall.old).seen 0) ((H.state hall.old).own 0) joined.old maps.old }
+    ensures mapped { (steps : List MailStep) × Did 0 steps (H.state hall.old) (H.state hall.new)
+        × ((party : Party) → IsMapped (with_table core.old maps.old joined.old party) (with_table core.new maps.new
+        joined.new party) steps (result_ok result)) }
+    ensures tied { IsTied ((H.state hall.new).seen 0) ((H.state hall.new).own 0) joined.new maps.new }
+    ensures stays { StaysButOwn 0 (H.state hall.old) (H.state hall.new) }
     ensures goes_on { H.goes_on hall.old hall.new }
 {
     let segs = take_segments(hall, 0);

@@ -1,5 +1,5 @@
 //! What a participant posts to participant 0 of its own accord: asks for pages, and notices that pages were given up.
-ghost use Rattle.std.specs.Prelude.{◌≡◌, ℕ, ◌<◌, [], ◌∷◌};
+ghost use Rattle.std.specs.Prelude.{◌≡◌, ◌<◌, [], ◌∷◌};
 ghost use Rattle.hp_base.specs.Plans.{action_of};
 ghost use Rattle.hp_frame.specs.Spelling.{HasFieldValues};
 ghost use Rattle.hp_frame.specs.declared.frame.Frame.{Frame};
@@ -7,8 +7,8 @@ ghost use Rattle.hp_hall.specs.Mail.{Posts};
 ghost use Rattle.hp_mail.specs.declared.posted.Posted.{Posted};
 ghost use Rattle.hp_proc.specs.Asking.{alloc_body, free_body};
 ghost use Rattle.hp_proc.specs.Frames.{Says};
+ghost use Rattle.hp_hall.specs.HallState.{Did, Stays};
 
-use crate::calls::post;
 use crate::framing::framed;
 use hp_base::{MsgKind, Plan, Run};
 use hp_frame::Body;
@@ -54,22 +54,15 @@ pub(crate) fn post_own<H: Hall>(
     number: u64,
     body: Body,
 )
-    requires serves { H.serves hall.old me }
-    requires some { 0 < H.count hall.old }
+    requires serves { (H.state hall.old).serves me }
+    requires some { 0 < (H.state hall.old).count }
     requires values { HasFieldValues body }
-    ensures did { (frame : Frame) × (posted : Posted) × Says frame body × H.did hall.old hall.new me
-        (Posts 0 frame (action_of plan.now kind me number) posted ∷ []) }
-
-    ensures taken { (slot : ℕ) → H.taken hall.new slot ≡ H.taken hall.old slot }
-    ensures home { (slot : ℕ) → H.may_take hall.old slot → H.may_take hall.new slot }
-    ensures part { (who heap : ℕ) → H.part hall.new who heap ≡ H.part hall.old who heap }
-    ensures own { (who : ℕ) → H.own hall.new who ≡ H.own hall.old who }
-    ensures count { H.count hall.new ≡ H.count hall.old }
-    ensures still { H.serves hall.new me }
-    ensures clock { H.clock hall.new ≡ H.clock hall.old }
+    ensures did { (frame : Frame) × (posted : Posted) × Says frame body
+        × Did me (Posts 0 frame (action_of plan.now kind me number) posted ∷ []) (H.state hall.old) (H.state hall.new) }
+    ensures stays { Stays me (H.state hall.old) (H.state hall.new) }
     ensures goes_on { H.goes_on hall.old hall.new }
 {
     let frame = framed(body);
     let action = plan.message(kind, me, number);
-    let _posted = post(hall, me, 0, frame, action);
+    let _posted = hall.post(me, 0, frame, action);
 }

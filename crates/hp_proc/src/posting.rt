@@ -1,12 +1,11 @@
 //! What participant 0 posts for its coordinator: SYNCs to members, and RESULTs to askers.
-ghost use Rattle.std.specs.Prelude.{◌≡◌, ◌≢◌, ℕ, ◌+◌, ◌*◌, ◌<◌, ◌≤◌, ◌++◌, List, [], ◌∷◌, true, if◌then◌else◌};
+ghost use Rattle.std.specs.Prelude.{◌≡◌, ◌+◌, ◌*◌, ◌<◌, ◌≤◌, List, [], ◌∷◌, true, if◌then◌else◌};
 ghost use Rattle.hp_base.specs.Plans.{action_of};
 ghost use Rattle.hp_frame.specs.Spelling.{HasFieldValues};
 ghost use Rattle.hp_frame.specs.declared.frame.Frame.{Frame};
 ghost use Rattle.hp_hall.specs.Mail.{MailStep, Posts};
 ghost use Rattle.hp_hall.specs.Weights.{frame_weight};
 ghost use Rattle.hp_mail.specs.declared.posted.Posted.{Posted};
-ghost use Rattle.hp_log.specs.declared.log_record.LogRecord.{LogRecord};
 ghost use Rattle.hp_proc.specs.Frames.{Says};
 ghost use Rattle.hp_proc.specs.Party.{one_more};
 ghost use Rattle.hp_proc.specs.Posting.{
@@ -18,8 +17,8 @@ ghost use Rattle.hp_proc.specs.Posting.{
   syncs_after,
   times_sent,
 };
+ghost use Rattle.hp_hall.specs.HallState.{Did, Stays};
 
-use crate::calls::post;
 use crate::framing::framed;
 use crate::sent::one_more;
 use hp_base::{MsgKind, Plan, has_bit};
@@ -43,30 +42,22 @@ pub(crate) fn post_next<H: Hall>(
     to: u8,
     frame: Frame,
 )
-    requires serves { H.serves hall.old 0 }
-    requires declared { to < H.count hall.old }
+    requires serves { (H.state hall.old).serves 0 }
+    requires declared { to < (H.state hall.old).count }
     requires place { to < 16 }
     ensures counted { counts.new ≡ sent_once_more counts.old to }
-    ensures posted { (posted : Posted) × H.did hall.old hall.new 0
-        (Posts to frame (action_of plan.now kind to (one_more (times_sent counts.old to))) posted ∷ []) }
-    ensures weight { H.weight hall.new ≤ H.weight hall.old + H.scale * (2 * frame_weight frame) }
-
-    ensures seen { (more : List LogRecord) × (H.seen hall.new 0 ≡ H.seen hall.old 0 ++ more) }
-    ensures taken { (number : ℕ) → H.taken hall.new number ≡ H.taken hall.old number }
-    ensures home { (number : ℕ) → H.may_take hall.old number → H.may_take hall.new number }
-    ensures part { (who heap : ℕ) → H.part hall.new who heap ≡ H.part hall.old who heap }
-    ensures own { (who : ℕ) → H.own hall.new who ≡ H.own hall.old who }
-    ensures did_others { (who : ℕ) → who ≢ 0 → H.did hall.old hall.new who [] }
-    ensures clock { H.clock hall.new ≡ H.clock hall.old }
-    ensures count { H.count hall.new ≡ H.count hall.old }
-    ensures still { H.serves hall.new 0 }
+    ensures posted { (posted : Posted)
+        × Did 0 (Posts to frame (action_of plan.now kind to (one_more (times_sent counts.old to))) posted ∷ [])
+        (H.state hall.old) (H.state hall.new) }
+    ensures weight { (H.state hall.new).weight ≤ (H.state hall.old).weight + H.scale * (2 * frame_weight frame) }
+    ensures stays { Stays 0 (H.state hall.old) (H.state hall.new) }
     ensures goes_on { H.goes_on hall.old hall.new }
 {
     let place = to as usize;
     let number = one_more(counts[place]);
     counts[place] = number;
     let action = plan.message(kind, to, number);
-    let _posted = post(hall, 0, to, frame, action);
+    let _posted = hall.post(0, to, frame, action);
 }
 
 // Posts a SYNC to a participant that is to be told, and nothing to another.
@@ -78,22 +69,14 @@ fn tell_one<H: Hall>(
     who: u8,
     told: bool,
 )
-    requires serves { H.serves hall.old 0 }
+    requires serves { (H.state hall.old).serves 0 }
     requires place { who < 16 }
-    requires declared { told ≡ true → who < H.count hall.old }
+    requires declared { told ≡ true → who < (H.state hall.old).count }
     ensures counted { syncs.new ≡ (if told then sent_once_more syncs.old who else syncs.old) }
-    ensures told { (steps : List MailStep) × H.did hall.old hall.new 0 steps × IsToldOne plan.now frame syncs.old who told steps }
-    ensures weight { H.weight hall.new ≤ H.weight hall.old + H.scale * (2 * frame_weight frame) }
-
-    ensures seen { (more : List LogRecord) × (H.seen hall.new 0 ≡ H.seen hall.old 0 ++ more) }
-    ensures taken { (number : ℕ) → H.taken hall.new number ≡ H.taken hall.old number }
-    ensures home { (number : ℕ) → H.may_take hall.old number → H.may_take hall.new number }
-    ensures part { (who heap : ℕ) → H.part hall.new who heap ≡ H.part hall.old who heap }
-    ensures own { (who : ℕ) → H.own hall.new who ≡ H.own hall.old who }
-    ensures did_others { (who : ℕ) → who ≢ 0 → H.did hall.old hall.new who [] }
-    ensures clock { H.clock hall.new ≡ H.clock hall.old }
-    ensures count { H.count hall.new ≡ H.count hall.old }
-    ensures still { H.serves hall.new 0 }
+    ensures told { (steps : List MailStep) × Did 0 steps (H.state hall.old) (H.state hall.new)
+        × IsToldOne plan.now frame syncs.old who told steps }
+    ensures weight { (H.state hall.new).weight ≤ (H.state hall.old).weight + H.scale * (2 * frame_weight frame) }
+    ensures stays { Stays 0 (H.state hall.old) (H.state hall.new) }
     ensures goes_on { H.goes_on hall.old hall.new }
 {
     if told {
@@ -103,22 +86,13 @@ fn tell_one<H: Hall>(
 
 // Posts a SYNC once to each participant of 1 to 15 that is to be told, in rising number.
 fn tell_each<H: Hall>(hall: &mut H, plan: &Plan, syncs: &mut [u64; 16], frame: Frame, members: u16)
-    requires serves { H.serves hall.old 0 }
+    requires serves { (H.state hall.old).serves 0 }
     requires weighs { frame_weight frame ≡ 3 }
-    ensures counted { syncs.new ≡ syncs_after (is_told (H.count hall.old) members) syncs.old 15 }
-    ensures told { (steps : List MailStep) × H.did hall.old hall.new 0 steps
-        × AreTold plan.now syncs.old frame (is_told (H.count hall.old) members) 15 steps }
-    ensures weight { H.weight hall.new ≤ H.weight hall.old + H.scale * 90 }
-
-    ensures seen { (more : List LogRecord) × (H.seen hall.new 0 ≡ H.seen hall.old 0 ++ more) }
-    ensures taken { (number : ℕ) → H.taken hall.new number ≡ H.taken hall.old number }
-    ensures home { (number : ℕ) → H.may_take hall.old number → H.may_take hall.new number }
-    ensures part { (who heap : ℕ) → H.part hall.new who heap ≡ H.part hall.old who heap }
-    ensures own { (who : ℕ) → H.own hall.new who ≡ H.own hall.old who }
-    ensures did_others { (who : ℕ) → who ≢ 0 → H.did hall.old hall.new who [] }
-    ensures clock { H.clock hall.new ≡ H.clock hall.old }
-    ensures count { H.count hall.new ≡ H.count hall.old }
-    ensures still { H.serves hall.new 0 }
+    ensures counted { syncs.new ≡ syncs_after (is_told (H.state hall.old).count members) syncs.old 15 }
+    ensures told { (steps : List MailStep) × Did 0 steps (H.state hall.old) (H.state hall.new)
+        × AreTold plan.now syncs.old frame (is_told (H.state hall.old).count members) 15 steps }
+    ensures weight { (H.state hall.new).weight ≤ (H.state hall.old).weight + H.scale * 90 }
+    ensures stays { Stays 0 (H.state hall.old) (H.state hall.new) }
     ensures goes_on { H.goes_on hall.old hall.new }
 {
     let count = hall.participants();
@@ -139,22 +113,13 @@ pub(crate) fn tell_all<H: Hall>(
     round: u8,
     members: u16,
 )
-    requires serves { H.serves hall.old 0 }
+    requires serves { (H.state hall.old).serves 0 }
     requires spoken { HasFieldValues (Body.Sync generation round) }
-    ensures counted { syncs.new ≡ syncs_after (is_told (H.count hall.old) members) syncs.old 15 }
-    ensures told { (frame : Frame) × (steps : List MailStep) × H.did hall.old hall.new 0 steps
-        × Says frame (Body.Sync generation round) × AreTold plan.now syncs.old frame (is_told (H.count hall.old) members) 15 steps }
-    ensures weight { H.weight hall.new ≤ H.weight hall.old + H.scale * 90 }
-
-    ensures seen { (more : List LogRecord) × (H.seen hall.new 0 ≡ H.seen hall.old 0 ++ more) }
-    ensures taken { (number : ℕ) → H.taken hall.new number ≡ H.taken hall.old number }
-    ensures home { (number : ℕ) → H.may_take hall.old number → H.may_take hall.new number }
-    ensures part { (who heap : ℕ) → H.part hall.new who heap ≡ H.part hall.old who heap }
-    ensures own { (who : ℕ) → H.own hall.new who ≡ H.own hall.old who }
-    ensures did_others { (who : ℕ) → who ≢ 0 → H.did hall.old hall.new who [] }
-    ensures clock { H.clock hall.new ≡ H.clock hall.old }
-    ensures count { H.count hall.new ≡ H.count hall.old }
-    ensures still { H.serves hall.new 0 }
+    ensures counted { syncs.new ≡ syncs_after (is_told (H.state hall.old).count members) syncs.old 15 }
+    ensures told { (frame : Frame) × (steps : List MailStep) × Did 0 steps (H.state hall.old) (H.state hall.new)
+        × Says frame (Body.Sync generation round) × AreTold plan.now syncs.old frame (is_told (H.state hall.old).count members) 15 steps }
+    ensures weight { (H.state hall.new).weight ≤ (H.state hall.old).weight + H.scale * 90 }
+    ensures stays { Stays 0 (H.state hall.old) (H.state hall.new) }
     ensures goes_on { H.goes_on hall.old hall.new }
 {
     let frame = framed(Body::Sync { generation, round });

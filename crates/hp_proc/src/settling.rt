@@ -1,16 +1,17 @@
 //! An asker looks in the segment value for what came of its ask, claims what was granted, and takes its ask back.
-ghost use Rattle.std.specs.Prelude.{◌≡◌, ◌≢◌, ℕ, ◌<◌, List, [], ◌∷◌, Some, None};
+ghost use Rattle.std.specs.Prelude.{◌≡◌, ℕ, ◌<◌, List, [], ◌∷◌, Some, None};
 ghost use Rattle.hp_base.specs.declared.limits.TheConstants.{MAX_HEAPS, MAX_PARTICIPANTS};
 ghost use Rattle.hp_hall.specs.Mail.{MailStep};
 ghost use Rattle.hp_hall.specs.declared.kept.Kept.{Kept};
-ghost use Rattle.hp_hall.specs.Holding.{part_behind};
-ghost use Rattle.hp_segs.specs.Standing.{standing_of};
+ghost use Rattle.hp_hall.specs.Holding.{standing_of};
 ghost use Rattle.hp_segs.specs.Calls.{IsUnclaimedGrant};
 ghost use Rattle.hp_segs.specs.SegsView.{SegsView};
 ghost use Rattle.hp_segs.specs.Steps.{after_claim, claimed_run};
 ghost use Rattle.hp_proc.specs.Asking.{IsAwaiting, Settles, after_settling};
 ghost use Rattle.hp_proc.specs.Looking.{HasFound, IsLookAt};
 ghost use Rattle.hp_proc.specs.Serving.{gives_segments, takes_segments};
+ghost use Rattle.hp_hall.specs.HallState.{Did};
+ghost use Rattle.hp_proc.specs.SegmentSlot.{GivesBack, MayHold, StaysButParts};
 
 use crate::calls::{give_back, put_back, take_segments};
 use hp_base::Run;
@@ -28,28 +29,15 @@ pub(crate) enum Found {
 
 // A participant that has taken the segment value claims the run that was granted for its ask, and gives the value back.
 fn claim_taken<H: Hall>(hall: &mut H, ask: &Ask, segs: Segs) -> Run
-    requires serves { H.serves hall.old ask.now.from }
-    requires taken { H.taken hall.old MAX_HEAPS ≡ Some (Kept.Segments segs) }
+    requires serves { (H.state hall.old).serves ask.now.from }
+    requires taken { (H.state hall.old).taken MAX_HEAPS ≡ Some (Kept.Segments segs) }
     requires granted { IsUnclaimedGrant ask.now.from ask.now.number segs }
 
     // The grant is for a heap that it holds.
-    requires held { (heap : ℕ) → (H.part hall.old ask.now.from heap).holding ≡ None
+    requires held { (heap : ℕ) → ((H.state hall.old).part ask.now.from heap).holding ≡ None
         → standing_of heap (after_claim ask.now.from ask.now.number segs) ≡ standing_of heap segs }
     ensures run { Some result ≡ claimed_run ask.now.from ask.now.number segs }
-    ensures log { H.seen hall.new ask.now.from ≡ segs.log }
-    ensures asks { H.heard hall.new ask.now.from ≡ segs.asks }
-    ensures part { (heap : ℕ) → H.part hall.new ask.now.from heap
-        ≡ part_behind ask.now.from (after_claim ask.now.from ask.now.number segs) heap (H.part hall.old ask.now.from heap) }
-    ensures did { H.did hall.old hall.new ask.now.from (gives_segments (after_claim ask.now.from ask.now.number segs) ∷ []) }
-    ensures free { H.taken hall.new MAX_HEAPS ≡ None }
-    ensures home { H.may_take hall.new MAX_HEAPS }
-
-    ensures others { (number : ℕ) → number ≢ MAX_HEAPS → H.taken hall.new number ≡ H.taken hall.old number }
-    ensures home_of_others { (number : ℕ) → number ≢ MAX_HEAPS → H.may_take hall.old number → H.may_take hall.new number }
-    ensures own { (who : ℕ) → H.own hall.new who ≡ H.own hall.old who }
-    ensures count { H.count hall.new ≡ H.count hall.old }
-    ensures still { H.serves hall.new ask.now.from }
-    ensures clock { H.clock hall.new ≡ H.clock hall.old }
+    ensures back { GivesBack ask.now.from (after_claim ask.now.from ask.now.number segs) (H.state hall.old) (H.state hall.new) }
     ensures goes_on { H.goes_on hall.old hall.new }
 {
     let mut segs = segs;
@@ -60,21 +48,13 @@ fn claim_taken<H: Hall>(hall: &mut H, ask: &Ask, segs: Segs) -> Run
 
 /// Looks in the segment value for what came of a participant's ask. A grant that stands there is claimed. Own.
 pub(crate) fn look<H: Hall>(hall: &mut H, ask: &Ask) -> Found
-    requires serves { H.serves hall.old ask.now.from }
+    requires may { MayHold ask.now.from (H.state hall.old) }
     requires few { ask.now.from < MAX_PARTICIPANTS }
-    requires free { H.taken hall.old MAX_HEAPS ≡ None }
-    requires home { H.may_take hall.old MAX_HEAPS }
-    requires awaits { IsAwaiting ask.now (H.part hall.old ask.now.from) }
-    ensures found { HasFound (H.seen hall.new ask.now.from) (H.heard hall.new ask.now.from) ask.now (H.part hall.old ask.now.from)
-        (H.part hall.new ask.now.from) result }
-    ensures did { (steps : List MailStep) × H.did hall.old hall.new ask.now.from steps × IsLookAt ask.now steps result }
-
-    ensures taken { (number : ℕ) → H.taken hall.new number ≡ H.taken hall.old number }
-    ensures home { (number : ℕ) → H.may_take hall.old number → H.may_take hall.new number }
-    ensures own { (who : ℕ) → H.own hall.new who ≡ H.own hall.old who }
-    ensures count { H.count hall.new ≡ H.count hall.old }
-    ensures still { H.serves hall.new ask.now.from }
-    ensures clock { H.clock hall.new ≡ H.clock hall.old }
+    requires awaits { IsAwaiting ask.now ((H.state hall.old).part ask.now.from) }
+    ensures found { HasFound ((H.state hall.new).seen ask.now.from) ((H.state hall.new).heard ask.now.from) ask.now
+        ((H.state hall.old).part ask.now.from) ((H.state hall.new).part ask.now.from) result }
+    ensures did { (steps : List MailStep) × Did ask.now.from steps (H.state hall.old) (H.state hall.new) × IsLookAt ask.now steps result }
+    ensures stays { StaysButParts ask.now.from (H.state hall.old) (H.state hall.new) }
     ensures goes_on { H.goes_on hall.old hall.new }
 {
     let segs = take_segments(hall, ask.from);
@@ -97,22 +77,14 @@ pub(crate) fn look<H: Hall>(hall: &mut H, ask: &Ask) -> Found
 /// Settles a participant's ask, for which it has waited long enough: a grant that stands in the segment value is claimed; where neither a
 /// grant nor a refusal stands there, the ask is taken back, by the readings of the clock when it was sent and now. Own.
 pub(crate) fn settle<H: Hall>(hall: &mut H, ask: &Ask, since: u64, now: u64) -> Option<Run>
-    requires serves { H.serves hall.old ask.now.from }
+    requires may { MayHold ask.now.from (H.state hall.old) }
     requires few { ask.now.from < MAX_PARTICIPANTS }
-    requires free { H.taken hall.old MAX_HEAPS ≡ None }
-    requires home { H.may_take hall.old MAX_HEAPS }
-    requires awaits { IsAwaiting ask.now (H.part hall.old ask.now.from) }
-    ensures settles { Settles (H.seen hall.new ask.now.from) (H.heard hall.new ask.now.from) ask.now (H.part hall.old ask.now.from)
-        (H.part hall.new ask.now.from) result }
-    ensures did { (taken : SegsView) × H.did hall.old hall.new ask.now.from
-        (takes_segments taken ∷ gives_segments (after_settling ask.now since now taken) ∷ []) }
-
-    ensures taken { (number : ℕ) → H.taken hall.new number ≡ H.taken hall.old number }
-    ensures home { (number : ℕ) → H.may_take hall.old number → H.may_take hall.new number }
-    ensures own { (who : ℕ) → H.own hall.new who ≡ H.own hall.old who }
-    ensures count { H.count hall.new ≡ H.count hall.old }
-    ensures still { H.serves hall.new ask.now.from }
-    ensures clock { H.clock hall.new ≡ H.clock hall.old }
+    requires awaits { IsAwaiting ask.now ((H.state hall.old).part ask.now.from) }
+    ensures settles { Settles ((H.state hall.new).seen ask.now.from) ((H.state hall.new).heard ask.now.from) ask.now
+        ((H.state hall.old).part ask.now.from) ((H.state hall.new).part ask.now.from) result }
+    ensures did { (taken : SegsView) × Did ask.now.from (takes_segments taken
+        ∷ gives_segments (after_settling ask.now since now taken) ∷ []) (H.state hall.old) (H.state hall.new) }
+    ensures stays { StaysButParts ask.now.from (H.state hall.old) (H.state hall.new) }
     ensures goes_on { H.goes_on hall.old hall.new }
 {
     let mut segs = take_segments(hall, ask.from);

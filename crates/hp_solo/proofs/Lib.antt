@@ -13,3 +13,4 @@ pub mod SoloWaits
 pub mod SoloEnds
 pub mod SoloDrained
 pub mod Visited
+pub mod Steps

@@ -1,12 +1,12 @@
 -- A hall of one thread over a call of one that is away: it goes on, by one call more of its sequence, and what holds of it holds after it.
 use Rattle.std.proofs.Common.{◌≡◌, ◌≢◌, ℕ, ◌<◌, List, [], ◌∷◌, length, Option, Some, None, Result, Ok, Err, IfOk, IfErr, IsSome, refl, sym, ap, subst, ◌∙◌, arith}
 use Rattle.std.proofs.lemmas.Option.{slice_get_within}
-use Rattle.hp_hall.specs.Course.{IsCourse}
-use Rattle.hp_hall.specs.HallView.{HallView, HasDone, own_at}
+use Rattle.hp_plain.specs.Course.{IsCourse}
+use Rattle.hp_plain.specs.HallView.{HallView, HasDone, own_at}
 use Rattle.hp_hall.specs.Mail.{MailStep, Takes, steps_of}
 use Rattle.hp_hall.specs.declared.kept.Kept.{Kept}
 use Rattle.hp_proc.specs.Party.{Party}
-use Rattle.hp_proc.proofs.Steps.{other_step, own_step}
+use Rattle.hp_solo.proofs.Steps.{other_step, own_step}
 use Rattle.hp_solo.specs.Sequence.{IsCall, IsInSequence, Makes}
 use Rattle.hp_solo.specs.Solo.{AreLater, AreTied, IsAway, IsSolo, ServerView, SoloView, party_at, party_in, server_at}
 use Rattle.hp_solo.specs.SoloCourse.{IsSoloCourse, server_stays}

@@ -2,10 +2,10 @@
 use Rattle.std.proofs.Common.{◌≡◌, ◌≢◌, ℕ, ◌⊎◌, eqb, cond, Bool, true, false, true≢false, List, [], ◌∷◌, ◌++◌, map, refl, sym, ap, ◌∙◌, ⊎_elim}
 use Rattle.std.specs.List.{AllByRecursion, filter}
 use Rattle.std.proofs.lemmas.Bool.{cases_eq, eq-eqb}
-use Rattle.hp_hall.proofs.Mailed.{steps_of-push}
-use Rattle.hp_hall.specs.HallView.{HallView, HasDone}
+use Rattle.hp_plain.proofs.Mailed.{steps_of-push}
+use Rattle.hp_plain.specs.HallView.{HallView, HasDone}
 use Rattle.hp_hall.specs.Mail.{MailStep, steps_of}
-use Rattle.hp_proc.proofs.Steps.{other_step, own_step}
+use Rattle.hp_solo.proofs.Steps.{other_step, own_step}
 
 abbrev made_by : ℕ → ℕ × MailStep → Bool
 made_by who step = eqb step.0 who

@@ -4,9 +4,9 @@ use Rattle.std.specs.List.{slice_get}
 use Rattle.std.specs.Option.{option_map}
 use Rattle.std.proofs.lemmas.Bool.{cases_eq}
 use Rattle.std.proofs.lemmas.Option.{same_Some, slice_get_within}
-use Rattle.hp_hall.proofs.Slotted.{slice_get-set_other, slice_get-set_same}
-use Rattle.hp_hall.specs.Course.{IsCourse, course_same, course_seen, course_then, done_same, done_then}
-use Rattle.hp_hall.specs.HallView.{HallView, HasDone, SlotView, IsHome, own_at, seen_in, taken_from}
+use Rattle.hp_plain.proofs.Slotted.{slice_get-set_other, slice_get-set_same}
+use Rattle.hp_plain.specs.Course.{IsCourse, course_same, course_seen, course_then, done_same, done_then}
+use Rattle.hp_plain.specs.HallView.{HallView, HasDone, SlotView, IsHome, own_at, seen_in, taken_from}
 use Rattle.hp_hall.specs.Mail.{MailStep}
 use Rattle.hp_hall.specs.Own.{Own}
 use Rattle.hp_maps.specs.MapsView.{MapsView}

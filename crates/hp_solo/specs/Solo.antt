@@ -2,9 +2,10 @@
 use Rattle.std.specs.Prelude.{◌≡◌, ◌≢◌, ℕ, zero, suc, ◌+◌, ◌<◌, ◌≤◌, ◌⊎◌, ◌^◌, ◌-◌, Bool, true, false, List, [], ◌∷◌, ◌++◌, length, Option, Some, None, IsSome, slice_get, sum_by, if◌then◌else◌, ⊤}
 use Rattle.std.specs.List.{list_any}
 use Rattle.hp_base.specs.declared.limits.TheConstants.{MAX_HEAPS}
-use Rattle.hp_hall.specs.Course.{IsCourse}
-use Rattle.hp_hall.specs.HallView.{HallView, HasDone, IsHome, part_in, own_at, seen_in, slot_at, taken_from}
-use Rattle.hp_hall.specs.Mail.{Fetches, MailStep, Notes, box_of}
+use Rattle.hp_plain.specs.Course.{IsCourse}
+use Rattle.hp_plain.specs.HallView.{HallView, HasDone, IsHome, part_in, own_at, seen_in, slot_at, taken_from}
+use Rattle.hp_hall.specs.Mail.{Fetches, MailStep, Notes}
+use Rattle.hp_plain.specs.Boxes.{box_of}
 use Rattle.hp_hall.specs.Weights.{boxes_weight, pending_at}
 use Rattle.hp_hall.specs.declared.note.Note.TheVariants.{Read}
 use Rattle.hp_proc.specs.Falling.{own_weight}

@@ -1,7 +1,7 @@
 //! An allocation: its heaps are tried one after another, and each may grow.
 ghost use Rattle.std.specs.List.{All};
 ghost use Rattle.std.specs.Option.{option_map};
-ghost use Rattle.std.specs.Prelude.{◌≡◌, ℕ, ◌+◌, ◌*◌, ◌^◌, ◌<◌, ◌≤◌, ◌∷◌, List, Some, None, IfOk, OnErr, OnOk, map, length, Contains, true};
+ghost use Rattle.std.specs.Prelude.{◌≡◌, ◌*◌, ◌<◌, ◌∷◌, List, Some, None, IfOk, OnErr, OnOk, map, length, Contains, true};
 ghost use Rattle.hp_base.specs.declared.limits.TheConstants.{MAX_HEAPS};
 ghost use Rattle.hp_base.specs.declared.tag.Tag.{Tag};
 ghost use Rattle.hp_script.specs.Part.{Part};
@@ -11,10 +11,11 @@ ghost use Rattle.hp_proc.specs.Allocating.{serving, trying};
 ghost use Rattle.hp_proc.specs.Clocks.{RisesWithin, longest_allocation, longest_growth};
 ghost use Rattle.hp_proc.specs.Contexts.{IsNextLine, IsSocketHeapOf, named_heap};
 ghost use Rattle.hp_proc.specs.Heaps.{NamedHeap, heaps_for, socket_heaps};
-ghost use Rattle.hp_proc.specs.Party.{IsSameParty, after_answer, with_calls, with_context};
-ghost use Rattle.hp_proc.specs.Progress.{AreSettled, Brings, DoesLine, IsAllocation, IsInHand, MayDo, Tries, in_hand, moment_of};
-ghost use Rattle.hp_proc.specs.Tied.{IsTied};
+ghost use Rattle.hp_proc.specs.Party.{after_answer, with_calls, with_context};
+ghost use Rattle.hp_proc.specs.Progress.{AreSettled, Brings, IsAllocation, MayDo, Tries};
 ghost use Rattle.hp_proc.specs.declared.socket_heap.SocketHeap.{SocketHeap};
+ghost use Rattle.hp_hall.specs.HallState.{IsBusy};
+ghost use Rattle.hp_proc.specs.InHall.{DoesLineHere, HasRoom, HoldsIn, IsIdleAgain, IsReadyIn, KeepsHeld, did_in, moment, moment_with};
 
 use super::Participant;
 use crate::page_sizes::without_hint;
@@ -51,30 +52,21 @@ impl<'p, M: Mapper> Participant<'p, M> {
         request: &Request,
         tag: Tag,
     ) -> Result<Option<Answer>, AllocError>
-        requires serves { H.serves hall.old self.old.me }
-        requires me { self.old.me < H.count hall.old }
-        requires free { H.taken hall.old MAX_HEAPS ≡ None }
-        requires home { H.may_take hall.old MAX_HEAPS }
-        requires tied { IsTied (H.seen hall.old self.old.me) (H.own hall.old self.old.me) self.old.joined self.old.maps }
-        requires in_hand { IsInHand (H.taken hall.old) (moment_of self.old (H.part hall.old self.old.me) (H.seen hall.old self.old.me) (H.heard hall.old self.old.me)) heap.old }
-        requires settled { AreSettled (moment_of self.old (H.part hall.old self.old.me) (H.seen hall.old self.old.me) (H.heard hall.old self.old.me)) }
+        requires holds { HoldsIn self.old.me self.old heap.old (H.state hall.old) }
         requires its { place.now.index ≡ heap.old.plain.index }
         requires of_socket { heap.old.plain.serves ≡ Some place.now.socket }
-        requires spare { 3 ≤ heap.old.spare }
-        requires counted { self.old.context.calls + 3 < 2 ^ 64 }
-        ensures does { IfOk result (λ given. (heaps : List NamedHeap) → Tries place.now.index (H.count hall.old) (H.did hall.old hall.new self.old.me) (trying self.old.context.pools request.now tag (named_heap place.now ∷ heaps)) (trying self.old.context.pools request.now tag heaps) given
-            (in_hand heap.old (moment_of self.old (H.part hall.old self.old.me) (H.seen hall.old self.old.me) (H.heard hall.old self.old.me)))
-            (in_hand heap.new (moment_of self.new (H.part hall.new self.old.me) (H.seen hall.new self.old.me) (H.heard hall.new self.old.me)))) }
-        ensures in_hand { IsInHand (H.taken hall.new) (moment_of self.new (H.part hall.new self.old.me) (H.seen hall.new self.old.me) (H.heard hall.new self.old.me)) heap.new }
-        ensures index { heap.new.plain.index ≡ heap.old.plain.index }
-        ensures its_socket { heap.new.plain.serves ≡ heap.old.plain.serves }
-        ensures settled { OnOk result (AreSettled (moment_of self.new (H.part hall.new self.old.me) (H.seen hall.new self.old.me) (H.heard hall.new self.old.me))) }
-        ensures tied { IsTied (H.seen hall.new self.old.me) (H.own hall.new self.old.me) self.new.joined self.new.maps }
-        ensures same { IsSameParty (with_calls self.new.context.calls self.old) self.new }
-
-        ensures taken { (number : ℕ) → H.taken hall.new number ≡ H.taken hall.old number }
-        ensures home { (number : ℕ) → H.may_take hall.old number → H.may_take hall.new number }
-        ensures clock { RisesWithin H.pending H.is_busy (longest_growth self.old.deadline) (H.clock hall.old) (H.clock hall.new) }
+        requires room { HasRoom 3 heap.old self.old }
+        ensures does { IfOk result (λ given. (heaps : List NamedHeap)
+            → Tries place.now.index (H.state hall.old).count
+            (did_in self.old.me (H.state hall.old)
+            (H.state hall.new)) (trying self.old.context.pools request.now tag (named_heap place.now
+            ∷ heaps)) (trying self.old.context.pools request.now tag heaps) given
+            (moment_with heap.old self.old.me self.old (H.state hall.old))
+            (moment_with heap.new self.old.me self.new (H.state hall.new))) }
+        ensures settled { OnOk result (AreSettled (moment self.old.me self.new (H.state hall.new))) }
+        ensures clock { RisesWithin H.pending (λ hall. IsBusy (H.state hall)) (longest_growth self.old.deadline)
+            (H.state hall.old).clock (H.state hall.new).clock }
+        ensures keeps { KeepsHeld self.old.me self.old self.new heap.old heap.new (H.state hall.old) (H.state hall.new) }
         ensures goes_on { H.goes_on hall.old hall.new }
     {
         let first = with_flags(request, without_hint(request.flags));
@@ -99,22 +91,17 @@ impl<'p, M: Mapper> Participant<'p, M> {
         tag: Tag,
     ) -> Result<Option<Answer>, AllocError>
         requires place { IsSocketHeapOf self.old.context.pools place.now }
-        requires serves { H.serves hall.old self.old.me }
-        requires me { self.old.me < H.count hall.old }
-        requires free { (number : ℕ) → H.taken hall.old number ≡ None }
-        requires home { (number : ℕ) → number ≤ MAX_HEAPS → H.may_take hall.old number }
-        requires tied { IsTied (H.seen hall.old self.old.me) (H.own hall.old self.old.me) self.old.joined self.old.maps }
-        requires ready { MayDo (moment_of self.old (H.part hall.old self.old.me) (H.seen hall.old self.old.me) (H.heard hall.old self.old.me)) }
-        ensures does { IfOk result (λ given. (heaps : List NamedHeap) → Tries place.now.index (H.count hall.old) (H.did hall.old hall.new self.old.me) (trying self.old.context.pools request.now tag (named_heap place.now ∷ heaps)) (trying self.old.context.pools request.now tag heaps) given
-            (moment_of self.old (H.part hall.old self.old.me) (H.seen hall.old self.old.me) (H.heard hall.old self.old.me))
-            (moment_of self.new (H.part hall.new self.old.me) (H.seen hall.new self.old.me) (H.heard hall.new self.old.me))) }
-        ensures ready { OnOk result (MayDo (moment_of self.new (H.part hall.new self.old.me) (H.seen hall.new self.old.me) (H.heard hall.new self.old.me))) }
-        ensures tied { IsTied (H.seen hall.new self.old.me) (H.own hall.new self.old.me) self.new.joined self.new.maps }
-        ensures same { IsSameParty (with_calls self.new.context.calls self.old) self.new }
-
-        ensures free { (number : ℕ) → H.taken hall.new number ≡ None }
-        ensures home { (number : ℕ) → number ≤ MAX_HEAPS → H.may_take hall.new number }
-        ensures clock { RisesWithin H.pending H.is_busy (longest_growth self.old.deadline) (H.clock hall.old) (H.clock hall.new) }
+        requires ready { IsReadyIn self.old.me self.old (H.state hall.old) }
+        ensures does { IfOk result (λ given. (heaps : List NamedHeap)
+            → Tries place.now.index (H.state hall.old).count
+            (did_in self.old.me (H.state hall.old)
+            (H.state hall.new)) (trying self.old.context.pools request.now tag (named_heap place.now
+            ∷ heaps)) (trying self.old.context.pools request.now tag heaps) given
+            (moment self.old.me self.old (H.state hall.old)) (moment self.old.me self.new (H.state hall.new))) }
+        ensures ready { OnOk result (MayDo (moment self.old.me self.new (H.state hall.new))) }
+        ensures clock { RisesWithin H.pending (λ hall. IsBusy (H.state hall)) (longest_growth self.old.deadline)
+            (H.state hall.old).clock (H.state hall.new).clock }
+        ensures idle { IsIdleAgain self.old.me (with_calls self.new.context.calls self.old) self.new (H.state hall.new) }
         ensures goes_on { H.goes_on hall.old hall.new }
     {
         let mut heap = self.hold(hall, place.index, CALLS)?;
@@ -132,23 +119,16 @@ impl<'p, M: Mapper> Participant<'p, M> {
         tag: Tag,
     ) -> Result<(Answer, u32), AllocError>
         requires places { (place : SocketHeap) → Contains places.now place → IsSocketHeapOf self.old.context.pools place }
-        requires serves { H.serves hall.old self.old.me }
-        requires me { self.old.me < H.count hall.old }
-        requires free { (number : ℕ) → H.taken hall.old number ≡ None }
-        requires home { (number : ℕ) → number ≤ MAX_HEAPS → H.may_take hall.old number }
-        requires tied { IsTied (H.seen hall.old self.old.me) (H.own hall.old self.old.me) self.old.joined self.old.maps }
-        requires ready { MayDo (moment_of self.old (H.part hall.old self.old.me) (H.seen hall.old self.old.me) (H.heard hall.old self.old.me)) }
-        ensures does { IfOk result (λ given. Brings given.1 (H.count hall.old) (H.did hall.old hall.new self.old.me) (serving self.old.context.pools request.now tag (map named_heap places.now)) given.0
-            (moment_of self.old (H.part hall.old self.old.me) (H.seen hall.old self.old.me) (H.heard hall.old self.old.me))
-            (moment_of self.new (H.part hall.new self.old.me) (H.seen hall.new self.old.me) (H.heard hall.new self.old.me))) }
+        requires ready { IsReadyIn self.old.me self.old (H.state hall.old) }
+        ensures does { IfOk result (λ given. Brings given.1 (H.state hall.old).count
+            (did_in self.old.me (H.state hall.old)
+            (H.state hall.new)) (serving self.old.context.pools request.now tag (map named_heap places.now)) given.0
+            (moment self.old.me self.old (H.state hall.old)) (moment self.old.me self.new (H.state hall.new))) }
         ensures few { IfOk result (λ given. given.1 < MAX_HEAPS) }
-        ensures ready { OnOk result (MayDo (moment_of self.new (H.part hall.new self.old.me) (H.seen hall.new self.old.me) (H.heard hall.new self.old.me))) }
-        ensures tied { IsTied (H.seen hall.new self.old.me) (H.own hall.new self.old.me) self.new.joined self.new.maps }
-        ensures same { IsSameParty (with_calls self.new.context.calls self.old) self.new }
-
-        ensures free { (number : ℕ) → H.taken hall.new number ≡ None }
-        ensures home { (number : ℕ) → number ≤ MAX_HEAPS → H.may_take hall.new number }
-        ensures clock { RisesWithin H.pending H.is_busy (length places.now * longest_growth self.old.deadline) (H.clock hall.old) (H.clock hall.new) }
+        ensures ready { OnOk result (MayDo (moment self.old.me self.new (H.state hall.new))) }
+        ensures clock { RisesWithin H.pending (λ hall. IsBusy
+            (H.state hall)) (length places.now * longest_growth self.old.deadline) (H.state hall.old).clock (H.state hall.new).clock }
+        ensures idle { IsIdleAgain self.old.me (with_calls self.new.context.calls self.old) self.new (H.state hall.new) }
         ensures goes_on { H.goes_on hall.old hall.new }
     {
         if places.is_empty() {
@@ -205,22 +185,13 @@ impl<'p, M: Mapper> Participant<'p, M> {
         requires attached { self.old.context.standing.attached ≡ true }
         requires next { IsNextLine self.old.context line.now }
         requires asks { IsAllocation line.now options.now request.now }
-        requires serves { H.serves hall.old self.old.me }
-        requires me { self.old.me < H.count hall.old }
-        requires free { (number : ℕ) → H.taken hall.old number ≡ None }
-        requires home { (number : ℕ) → number ≤ MAX_HEAPS → H.may_take hall.old number }
-        requires tied { IsTied (H.seen hall.old self.old.me) (H.own hall.old self.old.me) self.old.joined self.old.maps }
-        requires ready { MayDo (moment_of self.old (H.part hall.old self.old.me) (H.seen hall.old self.old.me) (H.heard hall.old self.old.me)) }
-        ensures does { IfOk result (λ given. DoesLine (H.count hall.old) (H.did hall.old hall.new self.old.me) line.now given
-            (moment_of self.old (H.part hall.old self.old.me) (H.seen hall.old self.old.me) (H.heard hall.old self.old.me))
-            (moment_of self.new (H.part hall.new self.old.me) (H.seen hall.new self.old.me) (H.heard hall.new self.old.me))) }
-        ensures ready { OnOk result (MayDo (moment_of self.new (H.part hall.new self.old.me) (H.seen hall.new self.old.me) (H.heard hall.new self.old.me))) }
-        ensures tied { IsTied (H.seen hall.new self.old.me) (H.own hall.new self.old.me) self.new.joined self.new.maps }
-        ensures same { IsSameParty (with_context self.new.context self.old) self.new }
-
-        ensures free { (number : ℕ) → H.taken hall.new number ≡ None }
-        ensures home { (number : ℕ) → number ≤ MAX_HEAPS → H.may_take hall.new number }
-        ensures clock { RisesWithin H.pending H.is_busy (longest_allocation self.old.deadline) (H.clock hall.old) (H.clock hall.new) }
+        requires ready { IsReadyIn self.old.me self.old (H.state hall.old) }
+        ensures does { IfOk result (λ given. DoesLineHere self.old.me self.old self.new (H.state hall.old)
+            (H.state hall.new) line.now given) }
+        ensures ready { OnOk result (MayDo (moment self.old.me self.new (H.state hall.new))) }
+        ensures clock { RisesWithin H.pending (λ hall. IsBusy (H.state hall)) (longest_allocation self.old.deadline)
+            (H.state hall.old).clock (H.state hall.new).clock }
+        ensures idle { IsIdleAgain self.old.me (with_context self.new.context self.old) self.new (H.state hall.new) }
         ensures goes_on { H.goes_on hall.old hall.new }
     {
         self.reserve_element()?;
@@ -247,22 +218,13 @@ impl<'p, M: Mapper> Participant<'p, M> {
         requires own { line.now.participant ≡ self.old.me }
         requires next { IsNextLine self.old.context line.now }
         requires act { (label : Part) × (line.now.act ≡ act.Alloc label size options.now) }
-        requires serves { H.serves hall.old self.old.me }
-        requires me { self.old.me < H.count hall.old }
-        requires free { (number : ℕ) → H.taken hall.old number ≡ None }
-        requires home { (number : ℕ) → number ≤ MAX_HEAPS → H.may_take hall.old number }
-        requires tied { IsTied (H.seen hall.old self.old.me) (H.own hall.old self.old.me) self.old.joined self.old.maps }
-        requires ready { MayDo (moment_of self.old (H.part hall.old self.old.me) (H.seen hall.old self.old.me) (H.heard hall.old self.old.me)) }
-        ensures does { IfOk result (λ given. DoesLine (H.count hall.old) (H.did hall.old hall.new self.old.me) line.now given
-            (moment_of self.old (H.part hall.old self.old.me) (H.seen hall.old self.old.me) (H.heard hall.old self.old.me))
-            (moment_of self.new (H.part hall.new self.old.me) (H.seen hall.new self.old.me) (H.heard hall.new self.old.me))) }
-        ensures ready { OnOk result (MayDo (moment_of self.new (H.part hall.new self.old.me) (H.seen hall.new self.old.me) (H.heard hall.new self.old.me))) }
-        ensures tied { IsTied (H.seen hall.new self.old.me) (H.own hall.new self.old.me) self.new.joined self.new.maps }
-        ensures same { IsSameParty (with_context self.new.context self.old) self.new }
-
-        ensures free { (number : ℕ) → H.taken hall.new number ≡ None }
-        ensures home { (number : ℕ) → number ≤ MAX_HEAPS → H.may_take hall.new number }
-        ensures clock { RisesWithin H.pending H.is_busy (longest_allocation self.old.deadline) (H.clock hall.old) (H.clock hall.new) }
+        requires ready { IsReadyIn self.old.me self.old (H.state hall.old) }
+        ensures does { IfOk result (λ given. DoesLineHere self.old.me self.old self.new (H.state hall.old)
+            (H.state hall.new) line.now given) }
+        ensures ready { OnOk result (MayDo (moment self.old.me self.new (H.state hall.new))) }
+        ensures clock { RisesWithin H.pending (λ hall. IsBusy (H.state hall)) (longest_allocation self.old.deadline)
+            (H.state hall.old).clock (H.state hall.new).clock }
+        ensures idle { IsIdleAgain self.old.me (with_context self.new.context self.old) self.new (H.state hall.new) }
         ensures goes_on { H.goes_on hall.old hall.new }
     {
         match Request::new(size, options.align, options.bound, options.flags) {

@@ -1,7 +1,7 @@
 //! How a participant asks for pages.
 ghost use Rattle.std.specs.Prelude.{◌≡◌, ◌≢◌, ℕ, ◌^◌, ◌<◌, ◌≤◌, ◌⊎◌, min, List, [], ◌∷◌, false, true, None, IfOk, IsSome, OnErr, OnOk};
 ghost use Rattle.hp_base.specs.Plans.{action_of};
-ghost use Rattle.hp_base.specs.declared.limits.TheConstants.{MAX_HEAPS, MAX_PARTICIPANTS};
+ghost use Rattle.hp_base.specs.declared.limits.TheConstants.{MAX_PARTICIPANTS};
 ghost use Rattle.hp_base.specs.declared.plan_entry.MsgKind.{MsgKind};
 ghost use Rattle.hp_frame.specs.declared.frame.Frame.{Frame};
 ghost use Rattle.hp_hall.specs.Mail.{MailStep, Notes, Posts};
@@ -11,9 +11,10 @@ ghost use Rattle.hp_proc.specs.Asking.{GrowsHeld, IsAsked, IsAwaiting, IsHeldAsB
 ghost use Rattle.hp_proc.specs.AskSteps.{DoesAsk, IsAwaitedBy, IsSettledLate, latest, waits_until};
 ghost use Rattle.hp_proc.specs.Clocks.{RisesWithin, longest_wait};
 ghost use Rattle.hp_proc.specs.Frames.{Says};
-ghost use Rattle.hp_proc.specs.Party.{IsSameParty, after_alloc, one_more};
-ghost use Rattle.hp_proc.specs.Tied.{IsTied};
+ghost use Rattle.hp_proc.specs.Party.{after_alloc, one_more};
 ghost use Rattle.hp_proc.specs.Waiting.{IsReading};
+ghost use Rattle.hp_hall.specs.HallState.{Did, IsBusy, Stays};
+ghost use Rattle.hp_proc.specs.InHall.{CanServe, IsTiedIn, RemainsIn};
 
 use super::Participant;
 use crate::arming::arm;
@@ -41,25 +42,20 @@ impl<'p, M: Mapper> Participant<'p, M> {
     // Sends an ask with which it is armed, and notes it as its last one. Returned is a reading of the clock from before it was sent,
     // or the latest one from which it waits, where that is smaller.
     fn send<H: Hall>(&mut self, hall: &mut H, ask: &Ask) -> u64
-        requires serves { H.serves hall.old self.old.me }
-        requires me { self.old.me < H.count hall.old }
+        requires serves { (H.state hall.old).serves self.old.me }
+        requires me { self.old.me < (H.state hall.old).count }
         requires own { ask.now.from ≡ self.old.me }
-        requires tied { IsTied (H.seen hall.old self.old.me) (H.own hall.old self.old.me) self.old.joined self.old.maps }
+        requires tied { IsTiedIn self.old.me self.old (H.state hall.old) }
         ensures early { result ≤ 2 ^ 63 }
-        ensures read { H.pending (H.clock hall.new) result ≡ 0 }
-        ensures before { IsReading (λ deadline. deadline ≤ 2 ^ 63 → H.pending (H.clock hall.new) deadline ≡ H.scale) result }
+        ensures read { H.pending (H.state hall.new).clock result ≡ 0 }
+        ensures before { IsReading (λ deadline. deadline ≤ 2 ^ 63 → H.pending (H.state hall.new).clock deadline ≡ H.scale) result }
         ensures sent { self.new ≡ after_alloc ask.now.number self.old }
-        ensures did { (now : ℕ) × (frame : Frame) × (posted : Posted) × (result ≡ min now latest) × Says frame (alloc_body ask.now)
-            × H.did hall.old hall.new self.old.me (Notes (Note.Read now)
-            ∷ Posts 0 frame (action_of self.old.plan MsgKind.Alloc self.old.me (one_more self.old.sent.allocs)) posted ∷ []) }
-        ensures tied { IsTied (H.seen hall.new self.old.me) (H.own hall.new self.old.me) self.new.joined self.new.maps }
-
-        ensures taken { (number : ℕ) → H.taken hall.new number ≡ H.taken hall.old number }
-        ensures home { (number : ℕ) → H.may_take hall.old number → H.may_take hall.new number }
-        ensures part { (who heap : ℕ) → H.part hall.new who heap ≡ H.part hall.old who heap }
-        ensures count { H.count hall.new ≡ H.count hall.old }
-        ensures still { H.serves hall.new self.old.me }
-        ensures clock { H.clock hall.new ≡ H.clock hall.old }
+        ensures did { (now : ℕ) × (frame : Frame) × (posted : Posted) × (result ≡ min now latest)
+            × Says frame (alloc_body ask.now) × Did self.old.me (Notes (Note.Read now)
+            ∷ Posts 0 frame (action_of self.old.plan MsgKind.Alloc self.old.me (one_more self.old.sent.allocs)) posted ∷ [])
+            (H.state hall.old) (H.state hall.new) }
+        ensures tied { IsTiedIn self.old.me self.new (H.state hall.new) }
+        ensures stays { Stays self.old.me (H.state hall.old) (H.state hall.new) }
         ensures goes_on { H.goes_on hall.old hall.new }
     {
         let since = hall.now(self.me).min(LATEST);
@@ -79,26 +75,19 @@ impl<'p, M: Mapper> Participant<'p, M> {
         ask: &Ask,
         since: u64,
     ) -> Result<Option<Run>, AllocError>
-        requires serves { H.serves hall.old self.old.me }
-        requires me { self.old.me < H.count hall.old }
-        requires free { H.taken hall.old MAX_HEAPS ≡ None }
-        requires home { H.may_take hall.old MAX_HEAPS }
-        requires tied { IsTied (H.seen hall.old self.old.me) (H.own hall.old self.old.me) self.old.joined self.old.maps }
+        requires can { CanServe self.old.me self.old (H.state hall.old) }
         requires own { ask.now.from ≡ self.old.me }
         requires few { ask.now.from < MAX_PARTICIPANTS }
-        requires awaits { IsAwaiting ask.now (H.part hall.old self.old.me) }
-        ensures settles { IfOk result (λ run. Settles (H.seen hall.new self.old.me) (H.heard hall.new self.old.me) ask.now
-            (H.part hall.old self.old.me) (H.part hall.new self.old.me) run) }
-        ensures err { OnErr result ((heap : ℕ) → H.part hall.new self.old.me heap ≡ H.part hall.old self.old.me heap) }
-        ensures did { IfOk result (λ run. (steps : List MailStep) × H.did hall.old hall.new self.old.me steps
-            × IsSettledLate (H.count hall.old) self.old self.new ask.now since steps) }
-        ensures tied { IsTied (H.seen hall.new self.old.me) (H.own hall.new self.old.me) self.new.joined self.new.maps }
+        requires awaits { IsAwaiting ask.now ((H.state hall.old).part self.old.me) }
+        ensures settles { IfOk result (λ run. Settles ((H.state hall.new).seen self.old.me) ((H.state hall.new).heard
+            self.old.me) ask.now ((H.state hall.old).part self.old.me) ((H.state hall.new).part self.old.me) run) }
+        ensures err { OnErr result ((heap : ℕ) → (H.state hall.new).part self.old.me heap ≡ (H.state hall.old).part self.old.me heap) }
+        ensures did { IfOk result (λ run. (steps : List MailStep) × Did self.old.me steps (H.state hall.old) (H.state hall.new)
+            × IsSettledLate (H.state hall.old).count self.old self.new ask.now since steps) }
         ensures asked { self.new.asked ≡ self.old.asked }
-        ensures same { IsSameParty self.old self.new }
-
-        ensures taken { (number : ℕ) → H.taken hall.new number ≡ H.taken hall.old number }
-        ensures home { (number : ℕ) → H.may_take hall.old number → H.may_take hall.new number }
-        ensures clock { (H.clock hall.new ≡ H.clock hall.old) ⊎ (H.clock hall.new ≤ waits_until since self.old.deadline) }
+        ensures clock { ((H.state hall.new).clock ≡ (H.state hall.old).clock) ⊎ ((H.state hall.new).clock
+            ≤ waits_until since self.old.deadline) }
+        ensures remains { RemainsIn self.old.me self.old self.new (H.state hall.old) (H.state hall.new) }
         ensures goes_on { H.goes_on hall.old hall.new }
     {
         let until = self.waits_until(since);
@@ -115,26 +104,19 @@ impl<'p, M: Mapper> Participant<'p, M> {
         ask: &Ask,
         since: u64,
     ) -> Result<Option<Run>, AllocError>
-        requires serves { H.serves hall.old self.old.me }
-        requires me { self.old.me < H.count hall.old }
-        requires free { H.taken hall.old MAX_HEAPS ≡ None }
-        requires home { H.may_take hall.old MAX_HEAPS }
-        requires tied { IsTied (H.seen hall.old self.old.me) (H.own hall.old self.old.me) self.old.joined self.old.maps }
+        requires can { CanServe self.old.me self.old (H.state hall.old) }
         requires own { ask.now.from ≡ self.old.me }
         requires few { ask.now.from < MAX_PARTICIPANTS }
-        requires awaits { IsAwaiting ask.now (H.part hall.old self.old.me) }
-        ensures settles { IfOk result (λ run. Settles (H.seen hall.new self.old.me) (H.heard hall.new self.old.me) ask.now
-            (H.part hall.old self.old.me) (H.part hall.new self.old.me) run) }
-        ensures err { OnErr result ((heap : ℕ) → H.part hall.new self.old.me heap ≡ H.part hall.old self.old.me heap) }
-        ensures did { IfOk result (λ run. (steps : List MailStep) × H.did hall.old hall.new self.old.me steps
-            × IsAwaitedBy (H.count hall.old) self.old self.new ask.now since steps run) }
-        ensures tied { IsTied (H.seen hall.new self.old.me) (H.own hall.new self.old.me) self.new.joined self.new.maps }
+        requires awaits { IsAwaiting ask.now ((H.state hall.old).part self.old.me) }
+        ensures settles { IfOk result (λ run. Settles ((H.state hall.new).seen self.old.me) ((H.state hall.new).heard
+            self.old.me) ask.now ((H.state hall.old).part self.old.me) ((H.state hall.new).part self.old.me) run) }
+        ensures err { OnErr result ((heap : ℕ) → (H.state hall.new).part self.old.me heap ≡ (H.state hall.old).part self.old.me heap) }
+        ensures did { IfOk result (λ run. (steps : List MailStep) × Did self.old.me steps (H.state hall.old) (H.state hall.new)
+            × IsAwaitedBy (H.state hall.old).count self.old self.new ask.now since steps run) }
         ensures asked { self.new.asked ≡ self.old.asked }
-        ensures same { IsSameParty self.old self.new }
-
-        ensures taken { (number : ℕ) → H.taken hall.new number ≡ H.taken hall.old number }
-        ensures home { (number : ℕ) → H.may_take hall.old number → H.may_take hall.new number }
-        ensures clock { (H.clock hall.new ≡ H.clock hall.old) ⊎ (H.clock hall.new ≤ waits_until since self.old.deadline) }
+        ensures clock { ((H.state hall.new).clock ≡ (H.state hall.old).clock) ⊎ ((H.state hall.new).clock
+            ≤ waits_until since self.old.deadline) }
+        ensures remains { RemainsIn self.old.me self.old self.new (H.state hall.old) (H.state hall.new) }
         ensures goes_on { H.goes_on hall.old hall.new }
     {
         let until = self.waits_until(since);
@@ -154,32 +136,28 @@ impl<'p, M: Mapper> Participant<'p, M> {
         hall: &mut H,
         asked: &PagesAsked,
     ) -> Result<Option<Run>, AllocError>
-        requires serves { H.serves hall.old self.old.me }
-        requires me { self.old.me < H.count hall.old }
-        requires free { H.taken hall.old MAX_HEAPS ≡ None }
-        requires home { H.may_take hall.old MAX_HEAPS }
-        requires tied { IsTied (H.seen hall.old self.old.me) (H.own hall.old self.old.me) self.old.joined self.old.maps }
-        requires holds { IsSome (H.part hall.old self.old.me asked.now.heap).holding }
-        requires settled { HasSettledAsks self.old.me (H.part hall.old self.old.me) (H.heard hall.old self.old.me) }
+        requires can { CanServe self.old.me self.old (H.state hall.old) }
+        requires holds { IsSome ((H.state hall.old).part self.old.me asked.now.heap).holding }
+        requires settled { HasSettledAsks self.old.me ((H.state hall.old).part self.old.me) ((H.state hall.old).heard self.old.me) }
 
         // What it did, what it asked for and was answered, and what came to the heap.
-        ensures did { IfOk result (λ run. (steps : List MailStep) × H.did hall.old hall.new self.old.me steps
-            × DoesAsk (H.count hall.old) self.old self.new asked.now steps run) }
-        ensures asked { IfOk result (λ run. IsAsked (H.seen hall.new self.old.me) (H.heard hall.new self.old.me) self.old.me
-            self.old.asked self.new.asked asked.now run) }
-        ensures grows { IfOk result (λ run. GrowsHeld asked.now.heap run (H.part hall.old self.old.me asked.now.heap)
-            (H.part hall.new self.old.me asked.now.heap)) }
-        ensures settled { OnOk result (HasSettledAsks self.old.me (H.part hall.new self.old.me) (H.heard hall.new self.old.me)) }
+        ensures did { IfOk result (λ run. (steps : List MailStep) × Did self.old.me steps (H.state hall.old) (H.state hall.new)
+            × DoesAsk (H.state hall.old).count self.old self.new asked.now steps run) }
+        ensures asked { IfOk result (λ run. IsAsked ((H.state hall.new).seen self.old.me) ((H.state hall.new).heard
+            self.old.me) self.old.me self.old.asked self.new.asked asked.now run) }
+        ensures grows { IfOk result (λ run. GrowsHeld asked.now.heap run ((H.state hall.old).part self.old.me
+            asked.now.heap) ((H.state hall.new).part self.old.me asked.now.heap)) }
+        ensures settled { OnOk result (HasSettledAsks self.old.me ((H.state hall.new).part self.old.me) ((H.state
+            hall.new).heard self.old.me)) }
 
         // What it has in all other heaps stays, and in that one too where it stopped.
         ensures others { (heap : ℕ) → heap ≢ asked.now.heap
-            → IsHeldAsBefore (H.part hall.old self.old.me heap) (H.part hall.new self.old.me heap) }
-        ensures err { OnErr result ((heap : ℕ) → IsHeldAsBefore (H.part hall.old self.old.me heap) (H.part hall.new self.old.me heap)) }
-        ensures tied { IsTied (H.seen hall.new self.old.me) (H.own hall.new self.old.me) self.new.joined self.new.maps }
-        ensures same { IsSameParty self.old self.new }
-        ensures taken { (number : ℕ) → H.taken hall.new number ≡ H.taken hall.old number }
-        ensures home { (number : ℕ) → H.may_take hall.old number → H.may_take hall.new number }
-        ensures clock { RisesWithin H.pending H.is_busy (longest_wait self.old.deadline) (H.clock hall.old) (H.clock hall.new) }
+            → IsHeldAsBefore ((H.state hall.old).part self.old.me heap) ((H.state hall.new).part self.old.me heap) }
+        ensures err { OnErr result ((heap : ℕ)
+            → IsHeldAsBefore ((H.state hall.old).part self.old.me heap) ((H.state hall.new).part self.old.me heap)) }
+        ensures clock { RisesWithin H.pending (λ hall. IsBusy (H.state hall)) (longest_wait self.old.deadline)
+            (H.state hall.old).clock (H.state hall.new).clock }
+        ensures remains { RemainsIn self.old.me self.old self.new (H.state hall.old) (H.state hall.new) }
         ensures goes_on { H.goes_on hall.old hall.new }
     {
         let ask = arm(hall, self.me, self.asked, asked)?;

@@ -1,7 +1,6 @@
 //! The lines by which a participant attaches and detaches.
-ghost use Rattle.std.specs.Prelude.{◌≡◌, ◌≢◌, ℕ, ◌^◌, ◌<◌, ◌≤◌, ◌∷◌, ◌++◌, [], Some, None, IfOk, OnErr, false, true, length};
+ghost use Rattle.std.specs.Prelude.{◌≡◌, ℕ, ◌^◌, ◌<◌, ◌≤◌, ◌∷◌, ◌++◌, [], IfOk, OnErr, false, true, length};
 ghost use Rattle.hp_base.specs.Mapping.{is_done};
-ghost use Rattle.hp_base.specs.declared.limits.TheConstants.{MAX_HEAPS};
 ghost use Rattle.hp_maps.specs.MapsView.{calls_of};
 ghost use Rattle.hp_script.specs.declared.answer.Answer.TheVariants as answer;
 ghost use Rattle.hp_script.specs.declared.line.Act.TheVariants as act;
@@ -10,10 +9,12 @@ ghost use Rattle.hp_segs.specs.SegsView.{SegsView};
 ghost use Rattle.hp_proc.specs.Attaching.{Attaches, after_attaching, after_detaching, standing_tried};
 ghost use Rattle.hp_proc.specs.Doing.{Doing};
 ghost use Rattle.hp_proc.specs.Lines.{attached_with};
-ghost use Rattle.hp_proc.specs.Party.{IsSameParty, with_context, with_standing};
-ghost use Rattle.hp_proc.specs.Progress.{DoesLine, MayDo, moment_of};
+ghost use Rattle.hp_proc.specs.Party.{with_standing};
+ghost use Rattle.hp_proc.specs.Progress.{MayDo};
 ghost use Rattle.hp_proc.specs.Serving.{IsWorn, acks_behind, gives_segments, takes_segments};
-ghost use Rattle.hp_proc.specs.Tied.{IsTied};
+ghost use Rattle.hp_hall.specs.HallState.{Did};
+ghost use Rattle.hp_proc.specs.InHall.{ChangesRoster, DoesLineHere, IsTiedIn, moment};
+ghost use Rattle.hp_proc.specs.SegmentSlot.{MayHold, StaysButRoster};
 
 use super::Participant;
 use crate::attaching::{attach, detach};
@@ -27,22 +28,16 @@ impl<'p, M: Mapper> Participant<'p, M> {
     // A secondary catches up with the whole log and comes into the roster, or has no table.
     pub(crate) fn attach<H: Hall>(&mut self, hall: &mut H) -> Caught
         requires secondary { 0 < self.old.me }
-        requires serves { H.serves hall.old self.old.me }
-        requires free { H.taken hall.old MAX_HEAPS ≡ None }
-        requires home { H.may_take hall.old MAX_HEAPS }
-        requires tied { IsTied (H.seen hall.old self.old.me) (H.own hall.old self.old.me) self.old.joined self.old.maps }
+        requires may { MayHold self.old.me (H.state hall.old) }
+        requires tied { IsTiedIn self.old.me self.old (H.state hall.old) }
         requires calls { calls_of self.old.maps ≤ 2 ^ 63 }
         ensures did { (segs : SegsView) × Attaches self.old self.new segs.log result
-            × H.did hall.old hall.new self.old.me (takes_segments segs
-            ∷ (acks_behind result (length segs.log) ++ (gives_segments (after_attaching self.old.me result segs) ∷ []))) }
-        ensures tied { IsTied (H.seen hall.new self.old.me) (H.own hall.new self.old.me) self.new.joined self.new.maps }
-        ensures failed { is_done result ≡ false → H.own hall.new self.old.me ≡ H.own hall.old self.old.me }
-
-        ensures taken { (number : ℕ) → H.taken hall.new number ≡ H.taken hall.old number }
-        ensures home { (number : ℕ) → H.may_take hall.old number → H.may_take hall.new number }
-        ensures part { (who heap : ℕ) → H.part hall.new who heap ≡ H.part hall.old who heap }
-        ensures own_of_others { (who : ℕ) → who ≢ self.old.me → H.own hall.new who ≡ H.own hall.old who }
-        ensures clock { H.clock hall.new ≡ H.clock hall.old }
+            × Did self.old.me (takes_segments segs ∷ (acks_behind result (length segs.log)
+            ++ (gives_segments (after_attaching self.old.me result segs) ∷ []))) (H.state hall.old) (H.state hall.new) }
+        ensures tied { IsTiedIn self.old.me self.new (H.state hall.new) }
+        ensures failed { is_done result ≡ false → (H.state hall.new).own self.old.me ≡ (H.state hall.old).own self.old.me }
+        ensures roster { (H.state hall.new).joined self.old.me ≡ ((H.state hall.old).joined self.old.me || is_done result) }
+        ensures stays { StaysButRoster self.old.me (H.state hall.old) (H.state hall.new) }
         ensures goes_on { H.goes_on hall.old hall.new }
     {
         let caught = attach(hall, self.me, self.joined, &mut self.maps);
@@ -53,20 +48,15 @@ impl<'p, M: Mapper> Participant<'p, M> {
     // A secondary leaves the roster, and has no table.
     pub(crate) fn detach<H: Hall>(&mut self, hall: &mut H)
         requires secondary { 0 < self.old.me }
-        requires serves { H.serves hall.old self.old.me }
-        requires free { H.taken hall.old MAX_HEAPS ≡ None }
-        requires home { H.may_take hall.old MAX_HEAPS }
-        requires tied { IsTied (H.seen hall.old self.old.me) (H.own hall.old self.old.me) self.old.joined self.old.maps }
+        requires may { MayHold self.old.me (H.state hall.old) }
+        requires tied { IsTiedIn self.old.me self.old (H.state hall.old) }
         ensures party { self.new ≡ after_detaching self.old }
-        ensures did { (segs : SegsView)
-            × H.did hall.old hall.new self.old.me (takes_segments segs ∷ gives_segments (after_leave self.old.me segs) ∷ []) }
-        ensures tied { IsTied (H.seen hall.new self.old.me) (H.own hall.new self.old.me) self.new.joined self.new.maps }
-
-        ensures taken { (number : ℕ) → H.taken hall.new number ≡ H.taken hall.old number }
-        ensures home { (number : ℕ) → H.may_take hall.old number → H.may_take hall.new number }
-        ensures part { (who heap : ℕ) → H.part hall.new who heap ≡ H.part hall.old who heap }
-        ensures own { (who : ℕ) → H.own hall.new who ≡ H.own hall.old who }
-        ensures clock { H.clock hall.new ≡ H.clock hall.old }
+        ensures did { (segs : SegsView) × Did self.old.me (takes_segments segs ∷ gives_segments (after_leave self.old.me segs)
+            ∷ []) (H.state hall.old) (H.state hall.new) }
+        ensures tied { IsTiedIn self.old.me self.new (H.state hall.new) }
+        ensures own { (H.state hall.new).own self.old.me ≡ (H.state hall.old).own self.old.me }
+        ensures roster { (H.state hall.new).joined self.old.me ≡ false }
+        ensures stays { StaysButRoster self.old.me (H.state hall.old) (H.state hall.new) }
         ensures goes_on { H.goes_on hall.old hall.new }
     {
         detach(hall, self.me, self.joined, &mut self.maps);
@@ -109,30 +99,17 @@ impl<'p, M: Mapper> Participant<'p, M> {
     ) -> Result<Answer, AllocError>
         requires act { line.now.act ≡ act.Attach }
         requires secondary { 0 < self.old.me }
-        requires serves { H.serves hall.old self.old.me }
-        requires free { H.taken hall.old MAX_HEAPS ≡ None }
-        requires home { H.may_take hall.old MAX_HEAPS }
-        requires tied { IsTied (H.seen hall.old self.old.me) (H.own hall.old self.old.me) self.old.joined self.old.maps }
-        ensures does { IfOk result (λ given. DoesLine (H.count hall.old) (H.did hall.old hall.new self.old.me) line.now given
-            (moment_of self.old (H.part hall.old self.old.me) (H.seen hall.old self.old.me) (H.heard hall.old self.old.me))
-            (moment_of self.new (H.part hall.new self.old.me) (H.seen hall.new self.old.me) (H.heard hall.new self.old.me))) }
-        ensures ready { MayDo (moment_of self.old (H.part hall.old self.old.me) (H.seen hall.old self.old.me) (H.heard hall.old self.old.me))
-            → MayDo (moment_of self.new (H.part hall.new self.old.me) (H.seen hall.new self.old.me) (H.heard hall.new self.old.me)) }
-        ensures tied { IsTied (H.seen hall.new self.old.me) (H.own hall.new self.old.me) self.new.joined self.new.maps }
-        ensures same { IsSameParty (with_context self.new.context self.old) self.new }
+        requires may { MayHold self.old.me (H.state hall.old) }
+        requires tied { IsTiedIn self.old.me self.old (H.state hall.old) }
+        ensures does { IfOk result (λ given. DoesLineHere self.old.me self.old self.new (H.state hall.old)
+            (H.state hall.new) line.now given) }
+        ensures ready { MayDo (moment self.old.me self.old (H.state hall.old)) → MayDo (moment self.old.me self.new (H.state hall.new)) }
 
         // Where a mapping failed, it has acknowledged as many records as before.
         ensures failed { IfOk result (λ given. (call : ℕ) → given ≡ answer.Refused call
-            → H.own hall.new self.old.me ≡ H.own hall.old self.old.me) }
-
-        // Its mapper has made too many calls, and all is as it was.
-        ensures worn { OnErr result (IsWorn self.old.maps) }
-        ensures err { OnErr result (self.new ≡ self.old) }
-
-        ensures taken { (number : ℕ) → H.taken hall.new number ≡ H.taken hall.old number }
-        ensures home { (number : ℕ) → H.may_take hall.old number → H.may_take hall.new number }
-        ensures own_of_others { (who : ℕ) → who ≢ self.old.me → H.own hall.new who ≡ H.own hall.old who }
-        ensures clock { H.clock hall.new ≡ H.clock hall.old }
+            → (H.state hall.new).own self.old.me ≡ (H.state hall.old).own self.old.me) }
+        ensures err { OnErr result (IsWorn self.old.maps × (self.new ≡ self.old)) }
+        ensures changes { ChangesRoster self.old.me self.old self.new (H.state hall.old) (H.state hall.new) }
         ensures goes_on { H.goes_on hall.old hall.new }
     {
         if self.context.attached {
@@ -150,22 +127,11 @@ impl<'p, M: Mapper> Participant<'p, M> {
     pub fn do_detach<H: Hall>(&mut self, hall: &mut H, line: &Line<'_>) -> Answer
         requires act { line.now.act ≡ act.Detach }
         requires secondary { 0 < self.old.me }
-        requires serves { H.serves hall.old self.old.me }
-        requires free { H.taken hall.old MAX_HEAPS ≡ None }
-        requires home { H.may_take hall.old MAX_HEAPS }
-        requires tied { IsTied (H.seen hall.old self.old.me) (H.own hall.old self.old.me) self.old.joined self.old.maps }
-        ensures does { DoesLine (H.count hall.old) (H.did hall.old hall.new self.old.me) line.now result
-            (moment_of self.old (H.part hall.old self.old.me) (H.seen hall.old self.old.me) (H.heard hall.old self.old.me))
-            (moment_of self.new (H.part hall.new self.old.me) (H.seen hall.new self.old.me) (H.heard hall.new self.old.me)) }
-        ensures ready { MayDo (moment_of self.old (H.part hall.old self.old.me) (H.seen hall.old self.old.me) (H.heard hall.old self.old.me))
-            → MayDo (moment_of self.new (H.part hall.new self.old.me) (H.seen hall.new self.old.me) (H.heard hall.new self.old.me)) }
-        ensures tied { IsTied (H.seen hall.new self.old.me) (H.own hall.new self.old.me) self.new.joined self.new.maps }
-        ensures same { IsSameParty (with_context self.new.context self.old) self.new }
-
-        ensures taken { (number : ℕ) → H.taken hall.new number ≡ H.taken hall.old number }
-        ensures home { (number : ℕ) → H.may_take hall.old number → H.may_take hall.new number }
-        ensures own_of_others { (who : ℕ) → who ≢ self.old.me → H.own hall.new who ≡ H.own hall.old who }
-        ensures clock { H.clock hall.new ≡ H.clock hall.old }
+        requires may { MayHold self.old.me (H.state hall.old) }
+        requires tied { IsTiedIn self.old.me self.old (H.state hall.old) }
+        ensures does { DoesLineHere self.old.me self.old self.new (H.state hall.old) (H.state hall.new) line.now result }
+        ensures ready { MayDo (moment self.old.me self.old (H.state hall.old)) → MayDo (moment self.old.me self.new (H.state hall.new)) }
+        ensures changes { ChangesRoster self.old.me self.old self.new (H.state hall.old) (H.state hall.new) }
         ensures goes_on { H.goes_on hall.old hall.new }
     {
         if !self.context.attached {

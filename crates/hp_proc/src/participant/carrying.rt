@@ -1,11 +1,9 @@
 //! What participant 0 does for its coordinator: it hands events over, and carries out what is answered.
-ghost use Rattle.std.specs.Prelude.{◌≡◌, ◌≢◌, ℕ, ◌+◌, ◌*◌, ◌<◌, ◌≤◌, ◌++◌, List, [], Bool, true, false, Some, None, IfOk, OnOk, is_ok};
+ghost use Rattle.std.specs.Prelude.{◌≡◌, ◌+◌, ◌*◌, ◌<◌, ◌≤◌, List, true, false, Some, OnOk, is_ok};
 ghost use Rattle.std.specs.Result.{result_ok};
-ghost use Rattle.hp_base.specs.declared.limits.TheConstants.{MAX_HEAPS};
 ghost use Rattle.hp_core.specs.Conditions.{NamesParticipants};
 ghost use Rattle.hp_core.specs.Core.{Core};
 ghost use Rattle.hp_hall.specs.Mail.{MailStep};
-ghost use Rattle.hp_log.specs.declared.log_record.LogRecord.{LogRecord};
 ghost use Rattle.hp_proc.specs.Coordinating.{
   Hands,
   IsCarried,
@@ -16,11 +14,12 @@ ghost use Rattle.hp_proc.specs.Coordinating.{
   MustMap,
   with_core,
 };
-ghost use Rattle.hp_proc.specs.Falling.{IsDue, brought, out_weight, own_weight};
-ghost use Rattle.hp_proc.specs.Party.{IsSameParty, Party};
+ghost use Rattle.hp_proc.specs.Falling.{IsDue, brought, out_weight};
+ghost use Rattle.hp_proc.specs.Party.{Party};
 ghost use Rattle.hp_proc.specs.Posting.{IsPosted, IsSpoken, result_body};
 ghost use Rattle.hp_frame.specs.Spelling.{HasFieldValues};
-ghost use Rattle.hp_proc.specs.Tied.{IsTied};
+ghost use Rattle.hp_hall.specs.HallState.{Did, known_to};
+ghost use Rattle.hp_proc.specs.InHall.{CanCoordinate, StaysAlone, left_to_do};
 
 use super::Participant;
 use crate::framing::framed;
@@ -46,29 +45,15 @@ fn must_map(answer: &Out) -> bool
 impl<'p, M: Mapper> Participant<'p, M> {
     // Hands the coordinator an event.
     fn hand_event<H: Hall>(&mut self, hall: &mut H, event: CoreEvent) -> Result<Out, AllocError>
-        requires primary { self.old.me ≡ 0 }
-        requires serves { H.serves hall.old 0 }
-        requires declared { 0 < H.count hall.old }
-        requires free { H.taken hall.old MAX_HEAPS ≡ None }
-        requires home { H.may_take hall.old MAX_HEAPS }
-        requires tied { IsTied (H.seen hall.old 0) (H.own hall.old 0) self.old.joined self.old.maps }
+        requires can { CanCoordinate self.old (H.state hall.old) }
         requires names { NamesParticipants event }
         requires outside { IsOutside event }
-        requires known { IsTrueOf (H.noted hall.old 0) 0 event }
+        requires known { IsTrueOf (known_to 0 (H.state hall.old)).noted 0 event }
         ensures hands { (core next : Core) × (steps : List MailStep) × (self.old.core ≡ Some core)
-            × (self.new ≡ with_core next self.old) × H.did hall.old hall.new 0 steps × Hands event core next steps (result_ok result) }
-        ensures weight { H.weight hall.new ≤ H.weight hall.old }
-        ensures tied { IsTied (H.seen hall.new 0) (H.own hall.new 0) self.new.joined self.new.maps }
-        ensures same { IsSameParty self.old self.new }
-
-        ensures taken { (number : ℕ) → H.taken hall.new number ≡ H.taken hall.old number }
-        ensures home { (number : ℕ) → H.may_take hall.old number → H.may_take hall.new number }
-        ensures part { (who heap : ℕ) → H.part hall.new who heap ≡ H.part hall.old who heap }
-        ensures own { (who : ℕ) → who ≢ 0 → H.own hall.new who ≡ H.own hall.old who }
-        ensures did_others { (who : ℕ) → who ≢ 0 → H.did hall.old hall.new who [] }
-        ensures clock { H.clock hall.new ≡ H.clock hall.old }
-        ensures count { H.count hall.new ≡ H.count hall.old }
-        ensures still { H.serves hall.new 0 }
+            × (self.new ≡ with_core next self.old) × Did 0 steps (H.state hall.old) (H.state hall.new)
+            × Hands event core next steps (result_ok result) }
+        ensures weight { (H.state hall.new).weight ≤ (H.state hall.old).weight }
+        ensures alone { StaysAlone 0 self.old self.new (H.state hall.old) (H.state hall.new) }
         ensures goes_on { H.goes_on hall.old hall.new }
     {
         let Some(core) = &mut self.coordinator else {
@@ -79,26 +64,11 @@ impl<'p, M: Mapper> Participant<'p, M> {
 
     // Catches up with the log, as it was told, and tells the coordinator.
     fn map_again<H: Hall>(&mut self, hall: &mut H) -> Result<Out, AllocError>
-        requires primary { self.old.me ≡ 0 }
-        requires serves { H.serves hall.old 0 }
-        requires declared { 0 < H.count hall.old }
-        requires free { H.taken hall.old MAX_HEAPS ≡ None }
-        requires home { H.may_take hall.old MAX_HEAPS }
-        requires tied { IsTied (H.seen hall.old 0) (H.own hall.old 0) self.old.joined self.old.maps }
-        ensures mapped { (steps : List MailStep) × H.did hall.old hall.new 0 steps
+        requires can { CanCoordinate self.old (H.state hall.old) }
+        ensures mapped { (steps : List MailStep) × Did 0 steps (H.state hall.old) (H.state hall.new)
             × IsMapped self.old self.new steps (result_ok result) }
-        ensures weight { H.weight hall.new ≤ H.weight hall.old }
-        ensures tied { IsTied (H.seen hall.new 0) (H.own hall.new 0) self.new.joined self.new.maps }
-        ensures same { IsSameParty self.old self.new }
-
-        ensures taken { (number : ℕ) → H.taken hall.new number ≡ H.taken hall.old number }
-        ensures home { (number : ℕ) → H.may_take hall.old number → H.may_take hall.new number }
-        ensures part { (who heap : ℕ) → H.part hall.new who heap ≡ H.part hall.old who heap }
-        ensures own { (who : ℕ) → who ≢ 0 → H.own hall.new who ≡ H.own hall.old who }
-        ensures did_others { (who : ℕ) → who ≢ 0 → H.did hall.old hall.new who [] }
-        ensures clock { H.clock hall.new ≡ H.clock hall.old }
-        ensures count { H.count hall.new ≡ H.count hall.old }
-        ensures still { H.serves hall.new 0 }
+        ensures weight { (H.state hall.new).weight ≤ (H.state hall.old).weight }
+        ensures alone { StaysAlone 0 self.old self.new (H.state hall.old) (H.state hall.new) }
         ensures goes_on { H.goes_on hall.old hall.new }
     {
         let Some(core) = &mut self.coordinator else {
@@ -109,28 +79,13 @@ impl<'p, M: Mapper> Participant<'p, M> {
 
     // Posts a RESULT to an asker that the hall has.
     fn post_answer<H: Hall>(&mut self, hall: &mut H, to: u8, number: u64, what: u8, good: bool)
-        requires primary { self.old.me ≡ 0 }
-        requires serves { H.serves hall.old 0 }
-        requires declared { 0 < H.count hall.old }
-        requires free { H.taken hall.old MAX_HEAPS ≡ None }
-        requires home { H.may_take hall.old MAX_HEAPS }
-        requires tied { IsTied (H.seen hall.old 0) (H.own hall.old 0) self.old.joined self.old.maps }
+        requires can { CanCoordinate self.old (H.state hall.old) }
         requires spoken { HasFieldValues (result_body number what good) }
-        ensures posted { (steps : List MailStep) × H.did hall.old hall.new 0 steps
-            × IsPosted (H.count hall.old) self.old self.new (Out.Answer to number what good) steps }
-        ensures weight { H.weight hall.new ≤ H.weight hall.old + H.scale * 2 }
+        ensures posted { (steps : List MailStep) × Did 0 steps (H.state hall.old) (H.state hall.new)
+            × IsPosted (H.state hall.old).count self.old self.new (Out.Answer to number what good) steps }
+        ensures weight { (H.state hall.new).weight ≤ (H.state hall.old).weight + H.scale * 2 }
         ensures core { self.new.core ≡ self.old.core }
-        ensures tied { IsTied (H.seen hall.new 0) (H.own hall.new 0) self.new.joined self.new.maps }
-        ensures same { IsSameParty self.old self.new }
-
-        ensures taken { (number : ℕ) → H.taken hall.new number ≡ H.taken hall.old number }
-        ensures home { (number : ℕ) → H.may_take hall.old number → H.may_take hall.new number }
-        ensures part { (who heap : ℕ) → H.part hall.new who heap ≡ H.part hall.old who heap }
-        ensures own { (who : ℕ) → who ≢ 0 → H.own hall.new who ≡ H.own hall.old who }
-        ensures did_others { (who : ℕ) → who ≢ 0 → H.did hall.old hall.new who [] }
-        ensures clock { H.clock hall.new ≡ H.clock hall.old }
-        ensures count { H.count hall.new ≡ H.count hall.old }
-        ensures still { H.serves hall.new 0 }
+        ensures alone { StaysAlone 0 self.old self.new (H.state hall.old) (H.state hall.new) }
         ensures goes_on { H.goes_on hall.old hall.new }
     {
         let count = hall.participants();
@@ -150,29 +105,14 @@ impl<'p, M: Mapper> Participant<'p, M> {
 
     // Posts what the coordinator answers.
     fn post_out<H: Hall>(&mut self, hall: &mut H, answer: Out)
-        requires primary { self.old.me ≡ 0 }
-        requires serves { H.serves hall.old 0 }
-        requires declared { 0 < H.count hall.old }
-        requires free { H.taken hall.old MAX_HEAPS ≡ None }
-        requires home { H.may_take hall.old MAX_HEAPS }
-        requires tied { IsTied (H.seen hall.old 0) (H.own hall.old 0) self.old.joined self.old.maps }
+        requires can { CanCoordinate self.old (H.state hall.old) }
         requires spoken { IsSpoken answer }
         requires not_told { MustMap answer → ⊥ }
-        ensures posted { (steps : List MailStep) × H.did hall.old hall.new 0 steps
-            × IsPosted (H.count hall.old) self.old self.new answer steps }
-        ensures weight { H.weight hall.new ≤ H.weight hall.old + H.scale * out_weight answer }
+        ensures posted { (steps : List MailStep) × Did 0 steps (H.state hall.old) (H.state hall.new)
+            × IsPosted (H.state hall.old).count self.old self.new answer steps }
+        ensures weight { (H.state hall.new).weight ≤ (H.state hall.old).weight + H.scale * out_weight answer }
         ensures core { self.new.core ≡ self.old.core }
-        ensures tied { IsTied (H.seen hall.new 0) (H.own hall.new 0) self.new.joined self.new.maps }
-        ensures same { IsSameParty self.old self.new }
-
-        ensures taken { (number : ℕ) → H.taken hall.new number ≡ H.taken hall.old number }
-        ensures home { (number : ℕ) → H.may_take hall.old number → H.may_take hall.new number }
-        ensures part { (who heap : ℕ) → H.part hall.new who heap ≡ H.part hall.old who heap }
-        ensures own { (who : ℕ) → who ≢ 0 → H.own hall.new who ≡ H.own hall.old who }
-        ensures did_others { (who : ℕ) → who ≢ 0 → H.did hall.old hall.new who [] }
-        ensures clock { H.clock hall.new ≡ H.clock hall.old }
-        ensures count { H.count hall.new ≡ H.count hall.old }
-        ensures still { H.serves hall.new 0 }
+        ensures alone { StaysAlone 0 self.old self.new (H.state hall.old) (H.state hall.new) }
         ensures goes_on { H.goes_on hall.old hall.new }
     {
         match answer {
@@ -196,28 +136,13 @@ impl<'p, M: Mapper> Participant<'p, M> {
 
     // Carries out what the coordinator answers: it catches up as often as it is told to, and then posts.
     fn carry<H: Hall>(&mut self, hall: &mut H, answer: Out) -> Result<(), AllocError>
-        requires primary { self.old.me ≡ 0 }
-        requires serves { H.serves hall.old 0 }
-        requires declared { 0 < H.count hall.old }
-        requires free { H.taken hall.old MAX_HEAPS ≡ None }
-        requires home { H.may_take hall.old MAX_HEAPS }
-        requires tied { IsTied (H.seen hall.old 0) (H.own hall.old 0) self.old.joined self.old.maps }
+        requires can { CanCoordinate self.old (H.state hall.old) }
         requires spoken { IsSpoken answer }
-        ensures carried { (path : List Party) × (steps : List MailStep) × H.did hall.old hall.new 0 steps
-            × IsCarried (H.count hall.old) path self.old self.new answer steps (is_ok result) }
-        ensures weight { H.weight hall.new + own_weight H.scale (H.pending (H.clock hall.new)) self.new.core
-            ≤ H.weight hall.old + own_weight H.scale (H.pending (H.clock hall.old)) self.old.core + H.scale * out_weight answer }
-        ensures tied { IsTied (H.seen hall.new 0) (H.own hall.new 0) self.new.joined self.new.maps }
-        ensures same { IsSameParty self.old self.new }
-
-        ensures taken { (number : ℕ) → H.taken hall.new number ≡ H.taken hall.old number }
-        ensures home { (number : ℕ) → H.may_take hall.old number → H.may_take hall.new number }
-        ensures part { (who heap : ℕ) → H.part hall.new who heap ≡ H.part hall.old who heap }
-        ensures own { (who : ℕ) → who ≢ 0 → H.own hall.new who ≡ H.own hall.old who }
-        ensures did_others { (who : ℕ) → who ≢ 0 → H.did hall.old hall.new who [] }
-        ensures clock { H.clock hall.new ≡ H.clock hall.old }
-        ensures count { H.count hall.new ≡ H.count hall.old }
-        ensures still { H.serves hall.new 0 }
+        ensures carried { (path : List Party) × (steps : List MailStep) × Did 0 steps (H.state hall.old) (H.state hall.new)
+            × IsCarried (H.state hall.old).count path self.old self.new answer steps (is_ok result) }
+        ensures weight { left_to_do H.scale H.pending self.new (H.state hall.new)
+            ≤ left_to_do H.scale H.pending self.old (H.state hall.old) + H.scale * out_weight answer }
+        ensures alone { StaysAlone 0 self.old self.new (H.state hall.old) (H.state hall.new) }
         ensures goes_on { H.goes_on hall.old hall.new }
     {
         let mut answer = answer;
@@ -235,35 +160,19 @@ impl<'p, M: Mapper> Participant<'p, M> {
         hall: &mut H,
         event: CoreEvent,
     ) -> Result<(), AllocError>
-        requires primary { self.old.me ≡ 0 }
-        requires serves { H.serves hall.old 0 }
-        requires declared { 0 < H.count hall.old }
-        requires free { H.taken hall.old MAX_HEAPS ≡ None }
-        requires home { H.may_take hall.old MAX_HEAPS }
-        requires tied { IsTied (H.seen hall.old 0) (H.own hall.old 0) self.old.joined self.old.maps }
+        requires can { CanCoordinate self.old (H.state hall.old) }
         requires names { NamesParticipants event }
         requires outside { IsOutside event }
-        requires known { IsTrueOf (H.noted hall.old 0) 0 event }
-        ensures handled { (steps : List MailStep) × H.did hall.old hall.new 0 steps
-            × IsHandled (H.count hall.old) event self.old self.new steps (is_ok result) }
-        ensures weight { H.weight hall.new + own_weight H.scale (H.pending (H.clock hall.new)) self.new.core
-            ≤ H.weight hall.old + own_weight H.scale (H.pending (H.clock hall.old)) self.old.core + H.scale * brought event }
+        requires known { IsTrueOf (known_to 0 (H.state hall.old)).noted 0 event }
+        ensures handled { (steps : List MailStep) × Did 0 steps (H.state hall.old) (H.state hall.new)
+            × IsHandled (H.state hall.old).count event self.old self.new steps (is_ok result) }
+        ensures weight { left_to_do H.scale H.pending self.new (H.state hall.new)
+            ≤ left_to_do H.scale H.pending self.old (H.state hall.old) + H.scale * brought event }
 
         // A poll that is due uses up 1.
-        ensures due { IsDue self.old.core event → OnOk result (
-            H.weight hall.new + own_weight H.scale (H.pending (H.clock hall.new)) self.new.core + H.scale * 1
-            ≤ H.weight hall.old + own_weight H.scale (H.pending (H.clock hall.old)) self.old.core + H.scale * brought event) }
-        ensures tied { IsTied (H.seen hall.new 0) (H.own hall.new 0) self.new.joined self.new.maps }
-        ensures same { IsSameParty self.old self.new }
-
-        ensures taken { (number : ℕ) → H.taken hall.new number ≡ H.taken hall.old number }
-        ensures home { (number : ℕ) → H.may_take hall.old number → H.may_take hall.new number }
-        ensures part { (who heap : ℕ) → H.part hall.new who heap ≡ H.part hall.old who heap }
-        ensures own { (who : ℕ) → who ≢ 0 → H.own hall.new who ≡ H.own hall.old who }
-        ensures did_others { (who : ℕ) → who ≢ 0 → H.did hall.old hall.new who [] }
-        ensures clock { H.clock hall.new ≡ H.clock hall.old }
-        ensures count { H.count hall.new ≡ H.count hall.old }
-        ensures still { H.serves hall.new 0 }
+        ensures due { IsDue self.old.core event → OnOk result ( left_to_do H.scale H.pending self.new (H.state hall.new)
+            + H.scale * 1 ≤ left_to_do H.scale H.pending self.old (H.state hall.old) + H.scale * brought event) }
+        ensures alone { StaysAlone 0 self.old self.new (H.state hall.old) (H.state hall.new) }
         ensures goes_on { H.goes_on hall.old hall.new }
     {
         let answer = self.hand_event(hall, event)?;

@@ -1,13 +1,11 @@
 //! What messages make of participant 0.
-ghost use Rattle.std.specs.Prelude.{◌≡◌, ◌≢◌, ℕ, ◌+◌, ◌*◌, ◌<◌, ◌≤◌, List, [], true, None, is_ok};
-ghost use Rattle.hp_base.specs.declared.limits.TheConstants.{MAX_HEAPS};
+ghost use Rattle.std.specs.Prelude.{◌≡◌, ◌+◌, ◌*◌, ◌<◌, ◌≤◌, List, true, None, is_ok};
 ghost use Rattle.hp_hall.specs.Mail.{MailStep};
 ghost use Rattle.hp_hall.specs.Weights.{frame_weight};
 ghost use Rattle.hp_proc.specs.Coordinating.{IsAnswered, IsObeyed, is_sync_reply};
-ghost use Rattle.hp_proc.specs.Falling.{own_weight};
 ghost use Rattle.hp_proc.specs.Frames.{Says};
-ghost use Rattle.hp_proc.specs.Party.{IsSameParty};
-ghost use Rattle.hp_proc.specs.Tied.{IsTied};
+ghost use Rattle.hp_hall.specs.HallState.{Did};
+ghost use Rattle.hp_proc.specs.InHall.{CanCoordinate, StaysAlone, left_to_do};
 
 use super::Participant;
 use crate::asking::{ask_in, is_sync_reply};
@@ -20,28 +18,13 @@ use std::alloc::AllocError;
 impl<'p, M: Mapper> Participant<'p, M> {
     // A reply to a SYNC came: it is a poll where a round is under way.
     fn take_reply<H: Hall>(&mut self, hall: &mut H, body: &Body) -> Result<(), AllocError>
-        requires primary { self.old.me ≡ 0 }
-        requires serves { H.serves hall.old 0 }
-        requires declared { 0 < H.count hall.old }
-        requires free { H.taken hall.old MAX_HEAPS ≡ None }
-        requires home { H.may_take hall.old MAX_HEAPS }
-        requires tied { IsTied (H.seen hall.old 0) (H.own hall.old 0) self.old.joined self.old.maps }
+        requires can { CanCoordinate self.old (H.state hall.old) }
         requires reply { is_sync_reply body.now ≡ true }
-        ensures answered { (steps : List MailStep) × H.did hall.old hall.new 0 steps
-            × IsAnswered (H.count hall.old) self.old self.new body.now steps (is_ok result) }
-        ensures weight { H.weight hall.new + own_weight H.scale (H.pending (H.clock hall.new)) self.new.core
-            ≤ H.weight hall.old + own_weight H.scale (H.pending (H.clock hall.old)) self.old.core }
-        ensures tied { IsTied (H.seen hall.new 0) (H.own hall.new 0) self.new.joined self.new.maps }
-        ensures same { IsSameParty self.old self.new }
-
-        ensures taken { (number : ℕ) → H.taken hall.new number ≡ H.taken hall.old number }
-        ensures home { (number : ℕ) → H.may_take hall.old number → H.may_take hall.new number }
-        ensures part { (who heap : ℕ) → H.part hall.new who heap ≡ H.part hall.old who heap }
-        ensures own { (who : ℕ) → who ≢ 0 → H.own hall.new who ≡ H.own hall.old who }
-        ensures did_others { (who : ℕ) → who ≢ 0 → H.did hall.old hall.new who [] }
-        ensures clock { H.clock hall.new ≡ H.clock hall.old }
-        ensures count { H.count hall.new ≡ H.count hall.old }
-        ensures still { H.serves hall.new 0 }
+        ensures answered { (steps : List MailStep) × Did 0 steps (H.state hall.old) (H.state hall.new)
+            × IsAnswered (H.state hall.old).count self.old self.new body.now steps (is_ok result) }
+        ensures weight { left_to_do H.scale H.pending self.new (H.state hall.new)
+            ≤ left_to_do H.scale H.pending self.old (H.state hall.old) }
+        ensures alone { StaysAlone 0 self.old self.new (H.state hall.old) (H.state hall.new) }
         ensures goes_on { H.goes_on hall.old hall.new }
     {
         match self.due() {
@@ -53,27 +36,12 @@ impl<'p, M: Mapper> Participant<'p, M> {
     // What a message that is no ask makes of it: a reply to a SYNC is a poll where a round is under way, and an answer to its own last
     // ask is noted.
     fn mind_answer<H: Hall>(&mut self, hall: &mut H, body: &Body) -> Result<(), AllocError>
-        requires primary { self.old.me ≡ 0 }
-        requires serves { H.serves hall.old 0 }
-        requires declared { 0 < H.count hall.old }
-        requires free { H.taken hall.old MAX_HEAPS ≡ None }
-        requires home { H.may_take hall.old MAX_HEAPS }
-        requires tied { IsTied (H.seen hall.old 0) (H.own hall.old 0) self.old.joined self.old.maps }
-        ensures answered { (steps : List MailStep) × H.did hall.old hall.new 0 steps
-            × IsAnswered (H.count hall.old) self.old self.new body.now steps (is_ok result) }
-        ensures weight { H.weight hall.new + own_weight H.scale (H.pending (H.clock hall.new)) self.new.core
-            ≤ H.weight hall.old + own_weight H.scale (H.pending (H.clock hall.old)) self.old.core }
-        ensures tied { IsTied (H.seen hall.new 0) (H.own hall.new 0) self.new.joined self.new.maps }
-        ensures same { IsSameParty self.old self.new }
-
-        ensures taken { (number : ℕ) → H.taken hall.new number ≡ H.taken hall.old number }
-        ensures home { (number : ℕ) → H.may_take hall.old number → H.may_take hall.new number }
-        ensures part { (who heap : ℕ) → H.part hall.new who heap ≡ H.part hall.old who heap }
-        ensures own { (who : ℕ) → who ≢ 0 → H.own hall.new who ≡ H.own hall.old who }
-        ensures did_others { (who : ℕ) → who ≢ 0 → H.did hall.old hall.new who [] }
-        ensures clock { H.clock hall.new ≡ H.clock hall.old }
-        ensures count { H.count hall.new ≡ H.count hall.old }
-        ensures still { H.serves hall.new 0 }
+        requires can { CanCoordinate self.old (H.state hall.old) }
+        ensures answered { (steps : List MailStep) × Did 0 steps (H.state hall.old) (H.state hall.new)
+            × IsAnswered (H.state hall.old).count self.old self.new body.now steps (is_ok result) }
+        ensures weight { left_to_do H.scale H.pending self.new (H.state hall.new)
+            ≤ left_to_do H.scale H.pending self.old (H.state hall.old) }
+        ensures alone { StaysAlone 0 self.old self.new (H.state hall.old) (H.state hall.new) }
         ensures goes_on { H.goes_on hall.old hall.new }
     {
         if is_sync_reply(body) {
@@ -90,28 +58,13 @@ impl<'p, M: Mapper> Participant<'p, M> {
         frame: &Frame,
         body: &Body,
     ) -> Result<(), AllocError>
-        requires primary { self.old.me ≡ 0 }
-        requires serves { H.serves hall.old 0 }
-        requires declared { 0 < H.count hall.old }
-        requires free { H.taken hall.old MAX_HEAPS ≡ None }
-        requires home { H.may_take hall.old MAX_HEAPS }
-        requires tied { IsTied (H.seen hall.old 0) (H.own hall.old 0) self.old.joined self.old.maps }
+        requires can { CanCoordinate self.old (H.state hall.old) }
         requires says { Says frame.now body.now }
-        ensures obeyed { (steps : List MailStep) × H.did hall.old hall.new 0 steps
-            × IsObeyed (H.count hall.old) self.old self.new frame.now steps (is_ok result) }
-        ensures weight { H.weight hall.new + own_weight H.scale (H.pending (H.clock hall.new)) self.new.core + H.scale * 1
-            ≤ H.weight hall.old + own_weight H.scale (H.pending (H.clock hall.old)) self.old.core + H.scale * frame_weight frame.now }
-        ensures tied { IsTied (H.seen hall.new 0) (H.own hall.new 0) self.new.joined self.new.maps }
-        ensures same { IsSameParty self.old self.new }
-
-        ensures taken { (number : ℕ) → H.taken hall.new number ≡ H.taken hall.old number }
-        ensures home { (number : ℕ) → H.may_take hall.old number → H.may_take hall.new number }
-        ensures part { (who heap : ℕ) → H.part hall.new who heap ≡ H.part hall.old who heap }
-        ensures own { (who : ℕ) → who ≢ 0 → H.own hall.new who ≡ H.own hall.old who }
-        ensures did_others { (who : ℕ) → who ≢ 0 → H.did hall.old hall.new who [] }
-        ensures clock { H.clock hall.new ≡ H.clock hall.old }
-        ensures count { H.count hall.new ≡ H.count hall.old }
-        ensures still { H.serves hall.new 0 }
+        ensures obeyed { (steps : List MailStep) × Did 0 steps (H.state hall.old) (H.state hall.new)
+            × IsObeyed (H.state hall.old).count self.old self.new frame.now steps (is_ok result) }
+        ensures weight { left_to_do H.scale H.pending self.new (H.state hall.new) + H.scale * 1
+            ≤ left_to_do H.scale H.pending self.old (H.state hall.old) + H.scale * frame_weight frame.now }
+        ensures alone { StaysAlone 0 self.old self.new (H.state hall.old) (H.state hall.new) }
         ensures goes_on { H.goes_on hall.old hall.new }
     {
         let count = hall.participants();
@@ -123,27 +76,12 @@ impl<'p, M: Mapper> Participant<'p, M> {
 
     // What a frame makes of it.
     pub(super) fn obey<H: Hall>(&mut self, hall: &mut H, frame: &Frame) -> Result<(), AllocError>
-        requires primary { self.old.me ≡ 0 }
-        requires serves { H.serves hall.old 0 }
-        requires declared { 0 < H.count hall.old }
-        requires free { H.taken hall.old MAX_HEAPS ≡ None }
-        requires home { H.may_take hall.old MAX_HEAPS }
-        requires tied { IsTied (H.seen hall.old 0) (H.own hall.old 0) self.old.joined self.old.maps }
-        ensures obeyed { (steps : List MailStep) × H.did hall.old hall.new 0 steps
-            × IsObeyed (H.count hall.old) self.old self.new frame.now steps (is_ok result) }
-        ensures weight { H.weight hall.new + own_weight H.scale (H.pending (H.clock hall.new)) self.new.core + H.scale * 1
-            ≤ H.weight hall.old + own_weight H.scale (H.pending (H.clock hall.old)) self.old.core + H.scale * frame_weight frame.now }
-        ensures tied { IsTied (H.seen hall.new 0) (H.own hall.new 0) self.new.joined self.new.maps }
-        ensures same { IsSameParty self.old self.new }
-
-        ensures taken { (number : ℕ) → H.taken hall.new number ≡ H.taken hall.old number }
-        ensures home { (number : ℕ) → H.may_take hall.old number → H.may_take hall.new number }
-        ensures part { (who heap : ℕ) → H.part hall.new who heap ≡ H.part hall.old who heap }
-        ensures own { (who : ℕ) → who ≢ 0 → H.own hall.new who ≡ H.own hall.old who }
-        ensures did_others { (who : ℕ) → who ≢ 0 → H.did hall.old hall.new who [] }
-        ensures clock { H.clock hall.new ≡ H.clock hall.old }
-        ensures count { H.count hall.new ≡ H.count hall.old }
-        ensures still { H.serves hall.new 0 }
+        requires can { CanCoordinate self.old (H.state hall.old) }
+        ensures obeyed { (steps : List MailStep) × Did 0 steps (H.state hall.old) (H.state hall.new)
+            × IsObeyed (H.state hall.old).count self.old self.new frame.now steps (is_ok result) }
+        ensures weight { left_to_do H.scale H.pending self.new (H.state hall.new) + H.scale * 1
+            ≤ left_to_do H.scale H.pending self.old (H.state hall.old) + H.scale * frame_weight frame.now }
+        ensures alone { StaysAlone 0 self.old self.new (H.state hall.old) (H.state hall.new) }
         ensures goes_on { H.goes_on hall.old hall.new }
     {
         match heard(frame) {

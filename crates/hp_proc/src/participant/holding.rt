@@ -1,13 +1,14 @@
 //! How a participant takes a heap into its hand, and gives it back.
-ghost use Rattle.std.specs.Prelude.{◌≡◌, ◌≢◌, ℕ, ◌+◌, ◌^◌, ◌<◌, ◌≤◌, None, IfOk, OnErr, OnOk};
+ghost use Rattle.std.specs.Prelude.{◌≡◌, ◌<◌, IfOk, OnErr};
 ghost use Rattle.hp_base.specs.declared.limits.TheConstants.{MAX_HEAPS};
 ghost use Rattle.hp_hall.specs.Mail.{Gives};
 ghost use Rattle.hp_hall.specs.declared.kept.Kept.{Kept};
 ghost use Rattle.hp_proc.specs.Clocks.{RisesWithin};
 ghost use Rattle.hp_proc.specs.Doing.{Doing};
 ghost use Rattle.hp_proc.specs.Party.{IsSameParty};
-ghost use Rattle.hp_proc.specs.Progress.{AreSettled, Does, IsInHand, MayDo, in_hand, moment_of};
-ghost use Rattle.hp_proc.specs.Tied.{IsTied};
+ghost use Rattle.hp_proc.specs.Progress.{AreSettled, Does, IsInHand, MayDo, in_hand};
+ghost use Rattle.hp_hall.specs.HallState.{IsBusy, OthersStay, SlotsStayBut};
+ghost use Rattle.hp_proc.specs.InHall.{AreFreeBut, HasRoom, HoldsIn, IsFreeAt, IsIdleIn, IsReadyIn, IsTiedIn, did_in, moment, moment_with};
 
 use super::Participant;
 use hp_base::Mapper;
@@ -19,25 +20,16 @@ impl<'p, M: Mapper> Participant<'p, M> {
     // Tries to take the heap of an index, and takes turns while another one holds it.
     fn take_heap<H: Waiting>(&mut self, hall: &mut H, index: u32) -> Result<Heap, AllocError>
         requires few { index < MAX_HEAPS }
-        requires serves { H.serves hall.old self.old.me }
-        requires me { self.old.me < H.count hall.old }
-        requires free { (number : ℕ) → H.taken hall.old number ≡ None }
-        requires home { (number : ℕ) → number ≤ MAX_HEAPS → H.may_take hall.old number }
-        requires tied { IsTied (H.seen hall.old self.old.me) (H.own hall.old self.old.me) self.old.joined self.old.maps }
-        requires ready { MayDo (moment_of self.old (H.part hall.old self.old.me) (H.seen hall.old self.old.me) (H.heard hall.old self.old.me)) }
-        ensures did { IfOk result (λ heap. (doing : Doing) → Does (H.count hall.old) (H.did hall.old hall.new self.old.me) doing doing
-            (moment_of self.old (H.part hall.old self.old.me) (H.seen hall.old self.old.me) (H.heard hall.old self.old.me))
-            (in_hand heap (moment_of self.new (H.part hall.new self.old.me) (H.seen hall.new self.old.me) (H.heard hall.new self.old.me)))) }
-        ensures in_hand { IfOk result (λ heap. IsInHand (H.taken hall.new) (moment_of self.new (H.part hall.new self.old.me) (H.seen hall.new self.old.me) (H.heard hall.new self.old.me)) heap) }
+        requires ready { IsReadyIn self.old.me self.old (H.state hall.old) }
+        ensures did { IfOk result (λ heap. (doing : Doing) → Does (H.state hall.old).count
+            (did_in self.old.me (H.state hall.old) (H.state hall.new)) doing doing
+            (moment self.old.me self.old (H.state hall.old)) (moment_with heap self.old.me self.new (H.state hall.new))) }
+        ensures holds { IfOk result (λ heap. HoldsIn self.old.me self.new heap (H.state hall.new)) }
         ensures index { IfOk result (λ heap. heap.plain.index ≡ index) }
-        ensures settled { OnOk result (AreSettled (moment_of self.new (H.part hall.new self.old.me) (H.seen hall.new self.old.me) (H.heard hall.new self.old.me))) }
         ensures same { IsSameParty self.old self.new }
-        ensures tied { IsTied (H.seen hall.new self.old.me) (H.own hall.new self.old.me) self.new.joined self.new.maps }
-        ensures taken { (number : ℕ) → number ≢ index → H.taken hall.new number ≡ None }
-        ensures err { OnErr result (H.taken hall.new index ≡ None) }
-        ensures home { (number : ℕ) → number ≤ MAX_HEAPS → number ≢ index → H.may_take hall.new number }
-        ensures still { OnErr result ((number : ℕ) → number ≤ MAX_HEAPS → H.may_take hall.new number) }
-        ensures clock { RisesWithin H.pending H.is_busy 0 (H.clock hall.old) (H.clock hall.new) }
+        ensures slots { AreFreeBut index (H.state hall.new) }
+        ensures err { OnErr result (IsIdleIn self.old.me self.new (H.state hall.new)) }
+        ensures clock { RisesWithin H.pending (λ hall. IsBusy (H.state hall)) 0 (H.state hall.old).clock (H.state hall.new).clock }
         ensures goes_on { H.goes_on hall.old hall.new }
     {
         'taking: loop {
@@ -52,21 +44,17 @@ impl<'p, M: Mapper> Participant<'p, M> {
 
     // Gives a heap back.
     pub(crate) fn put<H: Hall>(&self, hall: &mut H, heap: Heap)
-        requires serves { H.serves hall.old self.now.me }
-        requires in_hand { IsInHand (H.taken hall.old) (moment_of self.now (H.part hall.old self.now.me) (H.seen hall.old self.now.me) (H.heard hall.old self.now.me)) heap }
-        ensures does { (doing : Doing) → Does (H.count hall.old) (H.did hall.old hall.new self.now.me) doing doing
-            (in_hand heap (moment_of self.now (H.part hall.old self.now.me) (H.seen hall.old self.now.me) (H.heard hall.old self.now.me)))
-            (moment_of self.now (H.part hall.new self.now.me) (H.seen hall.new self.now.me) (H.heard hall.new self.now.me)) }
-        ensures ready { AreSettled (moment_of self.now (H.part hall.old self.now.me) (H.seen hall.old self.now.me) (H.heard hall.old self.now.me))
-            → MayDo (moment_of self.now (H.part hall.new self.now.me) (H.seen hall.new self.now.me) (H.heard hall.new self.now.me)) }
-        ensures tied { IsTied (H.seen hall.old self.now.me) (H.own hall.old self.now.me) self.now.joined self.now.maps
-            → IsTied (H.seen hall.new self.now.me) (H.own hall.new self.now.me) self.now.joined self.now.maps }
-
-        ensures taken { H.taken hall.new heap.plain.index ≡ None }
-        ensures others { (number : ℕ) → number ≢ heap.plain.index → H.taken hall.new number ≡ H.taken hall.old number }
-        ensures home { H.may_take hall.new heap.plain.index }
-        ensures home_of_others { (number : ℕ) → number ≢ heap.plain.index → H.may_take hall.old number → H.may_take hall.new number }
-        ensures clock { H.clock hall.new ≡ H.clock hall.old }
+        requires serves { (H.state hall.old).serves self.now.me }
+        requires in_hand { IsInHand (H.state hall.old).taken (moment self.now.me self.now (H.state hall.old)) heap }
+        ensures does { (doing : Doing) → Does (H.state hall.old).count
+            (did_in self.now.me (H.state hall.old) (H.state hall.new)) doing doing
+            (moment_with heap self.now.me self.now (H.state hall.old)) (moment self.now.me self.now (H.state hall.new)) }
+        ensures ready { AreSettled (moment self.now.me self.now (H.state hall.old))
+            → MayDo (moment self.now.me self.now (H.state hall.new)) }
+        ensures tied { IsTiedIn self.now.me self.now (H.state hall.old) → IsTiedIn self.now.me self.now (H.state hall.new) }
+        ensures free { IsFreeAt heap.plain.index (H.state hall.new) }
+        ensures slots { SlotsStayBut heap.plain.index (H.state hall.old) (H.state hall.new) }
+        ensures others { OthersStay self.now.me (H.state hall.old) (H.state hall.new) }
         ensures goes_on { H.goes_on hall.old hall.new }
     {
         let index = heap.index();
@@ -81,27 +69,17 @@ impl<'p, M: Mapper> Participant<'p, M> {
         calls: usize,
     ) -> Result<Heap, AllocError>
         requires few { index < MAX_HEAPS }
-        requires serves { H.serves hall.old self.old.me }
-        requires me { self.old.me < H.count hall.old }
-        requires free { (number : ℕ) → H.taken hall.old number ≡ None }
-        requires home { (number : ℕ) → number ≤ MAX_HEAPS → H.may_take hall.old number }
-        requires tied { IsTied (H.seen hall.old self.old.me) (H.own hall.old self.old.me) self.old.joined self.old.maps }
-        requires ready { MayDo (moment_of self.old (H.part hall.old self.old.me) (H.seen hall.old self.old.me) (H.heard hall.old self.old.me)) }
-        ensures did { IfOk result (λ heap. (doing : Doing) → Does (H.count hall.old) (H.did hall.old hall.new self.old.me) doing doing
-            (moment_of self.old (H.part hall.old self.old.me) (H.seen hall.old self.old.me) (H.heard hall.old self.old.me))
-            (in_hand heap (moment_of self.new (H.part hall.new self.old.me) (H.seen hall.new self.old.me) (H.heard hall.new self.old.me)))) }
-        ensures in_hand { IfOk result (λ heap. IsInHand (H.taken hall.new) (moment_of self.new (H.part hall.new self.old.me) (H.seen hall.new self.old.me) (H.heard hall.new self.old.me)) heap) }
+        requires ready { IsReadyIn self.old.me self.old (H.state hall.old) }
+        ensures did { IfOk result (λ heap. (doing : Doing) → Does (H.state hall.old).count
+            (did_in self.old.me (H.state hall.old) (H.state hall.new)) doing doing
+            (moment self.old.me self.old (H.state hall.old)) (moment_with heap self.old.me self.new (H.state hall.new))) }
+        ensures holds { IfOk result (λ heap. HoldsIn self.old.me self.new heap (H.state hall.new)) }
         ensures index { IfOk result (λ heap. heap.plain.index ≡ index) }
-        ensures room { IfOk result (λ heap. calls ≤ heap.spare) }
-        ensures counted { OnOk result (self.new.context.calls + calls < 2 ^ 64) }
-        ensures settled { OnOk result (AreSettled (moment_of self.new (H.part hall.new self.old.me) (H.seen hall.new self.old.me) (H.heard hall.new self.old.me))) }
+        ensures room { IfOk result (λ heap. HasRoom calls heap self.new) }
         ensures same { IsSameParty self.old self.new }
-        ensures tied { IsTied (H.seen hall.new self.old.me) (H.own hall.new self.old.me) self.new.joined self.new.maps }
-        ensures taken { (number : ℕ) → number ≢ index → H.taken hall.new number ≡ None }
-        ensures err { OnErr result (H.taken hall.new index ≡ None) }
-        ensures home { (number : ℕ) → number ≤ MAX_HEAPS → number ≢ index → H.may_take hall.new number }
-        ensures still { OnErr result ((number : ℕ) → number ≤ MAX_HEAPS → H.may_take hall.new number) }
-        ensures clock { RisesWithin H.pending H.is_busy 0 (H.clock hall.old) (H.clock hall.new) }
+        ensures slots { AreFreeBut index (H.state hall.new) }
+        ensures err { OnErr result (IsIdleIn self.old.me self.new (H.state hall.new)) }
+        ensures clock { RisesWithin H.pending (λ hall. IsBusy (H.state hall)) 0 (H.state hall.old).clock (H.state hall.new).clock }
         ensures goes_on { H.goes_on hall.old hall.new }
     {
         if self.context.calls.checked_add(calls as u64).is_none() {

@@ -1,15 +1,15 @@
 //! The lines that a participant does.
-ghost use Rattle.std.specs.Prelude.{◌≡◌, ℕ, ◌^◌, ◌<◌, ◌≤◌, Some, None, IfOk, OnOk, MatchResult, true};
+ghost use Rattle.std.specs.Prelude.{◌≡◌, ◌^◌, ◌<◌, ◌≤◌, Some, None, IfOk, OnOk, MatchResult, true};
 ghost use Rattle.hp_base.specs.Requests.{rounded_size};
-ghost use Rattle.hp_base.specs.declared.limits.TheConstants.{MAX_HEAPS};
 ghost use Rattle.hp_base.specs.declared.request.BadRequest.TheVariants as bad;
 ghost use Rattle.hp_script.specs.declared.line.Act.TheVariants as act;
 ghost use Rattle.hp_proc.specs.Clocks.{RisesWithin, longest_wait};
 ghost use Rattle.hp_proc.specs.Contexts.{IsNextLine};
 ghost use Rattle.hp_proc.specs.Freeing.{resize_refusal};
-ghost use Rattle.hp_proc.specs.Party.{IsSameParty, with_context};
-ghost use Rattle.hp_proc.specs.Progress.{DoesLine, IsLineBuilt, MayDo, moment_of};
-ghost use Rattle.hp_proc.specs.Tied.{IsTied};
+ghost use Rattle.hp_proc.specs.Party.{with_context};
+ghost use Rattle.hp_proc.specs.Progress.{IsLineBuilt, MayDo};
+ghost use Rattle.hp_hall.specs.HallState.{IsBusy};
+ghost use Rattle.hp_proc.specs.InHall.{DoesLineHere, IsIdleAgain, IsReadyIn, moment};
 
 use super::Participant;
 use hp_base::{BadRequest, Mapper, round64};
@@ -54,22 +54,13 @@ impl<'p, M: Mapper> Participant<'p, M> {
         requires attached { self.old.context.standing.attached ≡ true }
         requires own { line.now.participant ≡ self.old.me }
         requires act { line.now.act ≡ act.Free label.now }
-        requires serves { H.serves hall.old self.old.me }
-        requires me { self.old.me < H.count hall.old }
-        requires free { (number : ℕ) → H.taken hall.old number ≡ None }
-        requires home { (number : ℕ) → number ≤ MAX_HEAPS → H.may_take hall.old number }
-        requires tied { IsTied (H.seen hall.old self.old.me) (H.own hall.old self.old.me) self.old.joined self.old.maps }
-        requires ready { MayDo (moment_of self.old (H.part hall.old self.old.me) (H.seen hall.old self.old.me) (H.heard hall.old self.old.me)) }
-        ensures does { IfOk result (λ given. DoesLine (H.count hall.old) (H.did hall.old hall.new self.old.me) line.now given
-            (moment_of self.old (H.part hall.old self.old.me) (H.seen hall.old self.old.me) (H.heard hall.old self.old.me))
-            (moment_of self.new (H.part hall.new self.old.me) (H.seen hall.new self.old.me) (H.heard hall.new self.old.me))) }
-        ensures ready { OnOk result (MayDo (moment_of self.new (H.part hall.new self.old.me) (H.seen hall.new self.old.me) (H.heard hall.new self.old.me))) }
-        ensures tied { IsTied (H.seen hall.new self.old.me) (H.own hall.new self.old.me) self.new.joined self.new.maps }
-        ensures same { IsSameParty (with_context self.new.context self.old) self.new }
-
-        ensures free { (number : ℕ) → H.taken hall.new number ≡ None }
-        ensures home { (number : ℕ) → number ≤ MAX_HEAPS → H.may_take hall.new number }
-        ensures clock { RisesWithin H.pending H.is_busy (longest_wait self.old.deadline) (H.clock hall.old) (H.clock hall.new) }
+        requires ready { IsReadyIn self.old.me self.old (H.state hall.old) }
+        ensures does { IfOk result (λ given. DoesLineHere self.old.me self.old self.new (H.state hall.old)
+            (H.state hall.new) line.now given) }
+        ensures ready { OnOk result (MayDo (moment self.old.me self.new (H.state hall.new))) }
+        ensures clock { RisesWithin H.pending (λ hall. IsBusy (H.state hall)) (longest_wait self.old.deadline)
+            (H.state hall.old).clock (H.state hall.new).clock }
+        ensures idle { IsIdleAgain self.old.me (with_context self.new.context self.old) self.new (H.state hall.new) }
         ensures goes_on { H.goes_on hall.old hall.new }
     {
         self.act_on(hall, line, label, None)
@@ -86,22 +77,13 @@ impl<'p, M: Mapper> Participant<'p, M> {
         requires attached { self.old.context.standing.attached ≡ true }
         requires own { line.now.participant ≡ self.old.me }
         requires act { line.now.act ≡ act.Resize label.now size }
-        requires serves { H.serves hall.old self.old.me }
-        requires me { self.old.me < H.count hall.old }
-        requires free { (number : ℕ) → H.taken hall.old number ≡ None }
-        requires home { (number : ℕ) → number ≤ MAX_HEAPS → H.may_take hall.old number }
-        requires tied { IsTied (H.seen hall.old self.old.me) (H.own hall.old self.old.me) self.old.joined self.old.maps }
-        requires ready { MayDo (moment_of self.old (H.part hall.old self.old.me) (H.seen hall.old self.old.me) (H.heard hall.old self.old.me)) }
-        ensures does { IfOk result (λ given. DoesLine (H.count hall.old) (H.did hall.old hall.new self.old.me) line.now given
-            (moment_of self.old (H.part hall.old self.old.me) (H.seen hall.old self.old.me) (H.heard hall.old self.old.me))
-            (moment_of self.new (H.part hall.new self.old.me) (H.seen hall.new self.old.me) (H.heard hall.new self.old.me))) }
-        ensures ready { OnOk result (MayDo (moment_of self.new (H.part hall.new self.old.me) (H.seen hall.new self.old.me) (H.heard hall.new self.old.me))) }
-        ensures tied { IsTied (H.seen hall.new self.old.me) (H.own hall.new self.old.me) self.new.joined self.new.maps }
-        ensures same { IsSameParty (with_context self.new.context self.old) self.new }
-
-        ensures free { (number : ℕ) → H.taken hall.new number ≡ None }
-        ensures home { (number : ℕ) → number ≤ MAX_HEAPS → H.may_take hall.new number }
-        ensures clock { RisesWithin H.pending H.is_busy (longest_wait self.old.deadline) (H.clock hall.old) (H.clock hall.new) }
+        requires ready { IsReadyIn self.old.me self.old (H.state hall.old) }
+        ensures does { IfOk result (λ given. DoesLineHere self.old.me self.old self.new (H.state hall.old)
+            (H.state hall.new) line.now given) }
+        ensures ready { OnOk result (MayDo (moment self.old.me self.new (H.state hall.new))) }
+        ensures clock { RisesWithin H.pending (λ hall. IsBusy (H.state hall)) (longest_wait self.old.deadline)
+            (H.state hall.old).clock (H.state hall.new).clock }
+        ensures idle { IsIdleAgain self.old.me (with_context self.new.context self.old) self.new (H.state hall.new) }
         ensures goes_on { H.goes_on hall.old hall.new }
     {
         match rounded(size) {
@@ -120,22 +102,12 @@ impl<'p, M: Mapper> Participant<'p, M> {
         requires attached { self.old.context.standing.attached ≡ true }
         requires own { line.now.participant ≡ self.old.me }
         requires act { line.now.act ≡ act.Dump name.now }
-        requires serves { H.serves hall.old self.old.me }
-        requires me { self.old.me < H.count hall.old }
-        requires free { (number : ℕ) → H.taken hall.old number ≡ None }
-        requires home { (number : ℕ) → number ≤ MAX_HEAPS → H.may_take hall.old number }
-        requires tied { IsTied (H.seen hall.old self.old.me) (H.own hall.old self.old.me) self.old.joined self.old.maps }
-        requires ready { MayDo (moment_of self.old (H.part hall.old self.old.me) (H.seen hall.old self.old.me) (H.heard hall.old self.old.me)) }
-        ensures does { IfOk result (λ given. DoesLine (H.count hall.old) (H.did hall.old hall.new self.old.me) line.now given
-            (moment_of self.old (H.part hall.old self.old.me) (H.seen hall.old self.old.me) (H.heard hall.old self.old.me))
-            (moment_of self.new (H.part hall.new self.old.me) (H.seen hall.new self.old.me) (H.heard hall.new self.old.me))) }
-        ensures ready { OnOk result (MayDo (moment_of self.new (H.part hall.new self.old.me) (H.seen hall.new self.old.me) (H.heard hall.new self.old.me))) }
-        ensures tied { IsTied (H.seen hall.new self.old.me) (H.own hall.new self.old.me) self.new.joined self.new.maps }
-        ensures same { IsSameParty (with_context self.new.context self.old) self.new }
-
-        ensures free { (number : ℕ) → H.taken hall.new number ≡ None }
-        ensures home { (number : ℕ) → number ≤ MAX_HEAPS → H.may_take hall.new number }
-        ensures clock { RisesWithin H.pending H.is_busy 0 (H.clock hall.old) (H.clock hall.new) }
+        requires ready { IsReadyIn self.old.me self.old (H.state hall.old) }
+        ensures does { IfOk result (λ given. DoesLineHere self.old.me self.old self.new (H.state hall.old)
+            (H.state hall.new) line.now given) }
+        ensures ready { OnOk result (MayDo (moment self.old.me self.new (H.state hall.new))) }
+        ensures clock { RisesWithin H.pending (λ hall. IsBusy (H.state hall)) 0 (H.state hall.old).clock (H.state hall.new).clock }
+        ensures idle { IsIdleAgain self.old.me (with_context self.new.context self.old) self.new (H.state hall.new) }
         ensures goes_on { H.goes_on hall.old hall.new }
     {
         let Some(index) = self.context.index_named(name) else {
@@ -158,24 +130,14 @@ impl<'p, M: Mapper> Participant<'p, M> {
         requires own { line.now.participant ≡ self.old.me }
         requires next { IsNextLine self.old.context line.now }
         requires built { IsLineBuilt self.old.me line.now.act }
-        requires serves { H.serves hall.old self.old.me }
-        requires me { self.old.me < H.count hall.old }
-        requires free { (number : ℕ) → H.taken hall.old number ≡ None }
-        requires home { (number : ℕ) → number ≤ MAX_HEAPS → H.may_take hall.old number }
-        requires tied { IsTied (H.seen hall.old self.old.me) (H.own hall.old self.old.me) self.old.joined self.old.maps }
-        requires ready { MayDo (moment_of self.old (H.part hall.old self.old.me) (H.seen hall.old self.old.me) (H.heard hall.old self.old.me)) }
+        requires ready { IsReadyIn self.old.me self.old (H.state hall.old) }
 
         // What it did, by what was known when it began, and what that leaves.
-        ensures does { IfOk result (λ given. DoesLine (H.count hall.old) (H.did hall.old hall.new self.old.me) line.now given
-            (moment_of self.old (H.part hall.old self.old.me) (H.seen hall.old self.old.me) (H.heard hall.old self.old.me))
-            (moment_of self.new (H.part hall.new self.old.me) (H.seen hall.new self.old.me) (H.heard hall.new self.old.me))) }
-        ensures ready { OnOk result (MayDo (moment_of self.new (H.part hall.new self.old.me) (H.seen hall.new self.old.me) (H.heard hall.new self.old.me))) }
-        ensures tied { IsTied (H.seen hall.new self.old.me) (H.own hall.new self.old.me) self.new.joined self.new.maps }
-        ensures same { IsSameParty (with_context self.new.context self.old) self.new }
-
-        ensures free { (number : ℕ) → H.taken hall.new number ≡ None }
-        ensures home { (number : ℕ) → number ≤ MAX_HEAPS → H.may_take hall.new number }
-        ensures clock { RisesWithin H.pending H.is_busy (2 ^ 40) (H.clock hall.old) (H.clock hall.new) }
+        ensures does { IfOk result (λ given. DoesLineHere self.old.me self.old self.new (H.state hall.old)
+            (H.state hall.new) line.now given) }
+        ensures ready { OnOk result (MayDo (moment self.old.me self.new (H.state hall.new))) }
+        ensures clock { RisesWithin H.pending (λ hall. IsBusy (H.state hall)) (2 ^ 40) (H.state hall.old).clock (H.state hall.new).clock }
+        ensures idle { IsIdleAgain self.old.me (with_context self.new.context self.old) self.new (H.state hall.new) }
         ensures goes_on { H.goes_on hall.old hall.new }
     {
         match &line.act {

@@ -1,6 +1,5 @@
 //! A line looks for its element in heaps, and acts on it where it is there.
-ghost use Rattle.std.specs.Prelude.{◌≡◌, ℕ, ◌+◌, ◌^◌, ◌<◌, ◌≤◌, ◌∷◌, List, Some, None, IfOk, OnOk, Contains, false};
-ghost use Rattle.hp_base.specs.declared.limits.TheConstants.{MAX_HEAPS};
+ghost use Rattle.std.specs.Prelude.{◌≡◌, ◌<◌, ◌∷◌, List, Some, None, IfOk, OnOk, Contains, false};
 ghost use Rattle.hp_base.specs.declared.tag.Tag.{Tag};
 ghost use Rattle.hp_script.specs.Acts.{label_used};
 ghost use Rattle.hp_proc.specs.Allocating.{unless_answered};
@@ -9,10 +8,11 @@ ghost use Rattle.hp_proc.specs.Contexts.{AreFactsOf, IsPlaceOf};
 ghost use Rattle.hp_proc.specs.Doing.{Doing};
 ghost use Rattle.hp_proc.specs.Freeing.{IsSizedWell, act_for, acting, behind_looking, left_of, looking};
 ghost use Rattle.hp_proc.specs.Lines.{Facts, on_element};
-ghost use Rattle.hp_proc.specs.Party.{IsSameParty, with_calls};
-ghost use Rattle.hp_proc.specs.Progress.{AreSettled, Does, IsInHand, MayDo, in_hand, moment_of};
-ghost use Rattle.hp_proc.specs.Tied.{IsTied};
+ghost use Rattle.hp_proc.specs.Party.{with_calls};
+ghost use Rattle.hp_proc.specs.Progress.{AreSettled, MayDo};
 ghost use Rattle.hp_proc.specs.declared.searched_heap.SearchedHeap.{SearchedHeap};
+ghost use Rattle.hp_hall.specs.HallState.{IsBusy, OthersStay};
+ghost use Rattle.hp_proc.specs.InHall.{DoesHeld, DoesHere, HasRoom, HoldsIn, IsIdleAgain, IsReadyIn, KeepsHeld, moment};
 
 use super::Participant;
 use crate::element_act::{ElementAct, Left};
@@ -38,30 +38,16 @@ impl<'p, M: Mapper> Participant<'p, M> {
         action: ElementAct,
     ) -> Option<Left>
         requires size { IsSizedWell action }
-        requires serves { H.serves hall.old self.old.me }
-        requires me { self.old.me < H.count hall.old }
-        requires free { H.taken hall.old MAX_HEAPS ≡ None }
-        requires home { H.may_take hall.old MAX_HEAPS }
-        requires tied { IsTied (H.seen hall.old self.old.me) (H.own hall.old self.old.me) self.old.joined self.old.maps }
-        requires in_hand { IsInHand (H.taken hall.old) (moment_of self.old (H.part hall.old self.old.me) (H.seen hall.old self.old.me) (H.heard hall.old self.old.me)) heap.old }
-        requires settled { AreSettled (moment_of self.old (H.part hall.old self.old.me) (H.seen hall.old self.old.me) (H.heard hall.old self.old.me)) }
+        requires holds { HoldsIn self.old.me self.old heap.old (H.state hall.old) }
         requires its { place.now.index ≡ heap.old.plain.index }
         requires of_socket { place.now.serves ≡ heap.old.plain.serves }
-        requires spare { 3 ≤ heap.old.spare }
-        requires counted { self.old.context.calls + 3 < 2 ^ 64 }
-        ensures does { (places : List SearchedHeap) → Does (H.count hall.old) (H.did hall.old hall.new self.old.me) (looking tag (acting action) (place.now ∷ places)) (behind_looking place.now.index (looking tag (acting action) places) result)
-            (in_hand heap.old (moment_of self.old (H.part hall.old self.old.me) (H.seen hall.old self.old.me) (H.heard hall.old self.old.me)))
-            (in_hand heap.new (moment_of self.new (H.part hall.new self.old.me) (H.seen hall.new self.old.me) (H.heard hall.new self.old.me))) }
-        ensures in_hand { IsInHand (H.taken hall.new) (moment_of self.new (H.part hall.new self.old.me) (H.seen hall.new self.old.me) (H.heard hall.new self.old.me)) heap.new }
-        ensures index { heap.new.plain.index ≡ heap.old.plain.index }
-        ensures its_socket { heap.new.plain.serves ≡ heap.old.plain.serves }
-        ensures settled { AreSettled (moment_of self.new (H.part hall.new self.old.me) (H.seen hall.new self.old.me) (H.heard hall.new self.old.me)) }
-        ensures tied { IsTied (H.seen hall.new self.old.me) (H.own hall.new self.old.me) self.new.joined self.new.maps }
-        ensures same { IsSameParty (with_calls self.new.context.calls self.old) self.new }
-
-        ensures taken { (number : ℕ) → H.taken hall.new number ≡ H.taken hall.old number }
-        ensures home { (number : ℕ) → H.may_take hall.old number → H.may_take hall.new number }
-        ensures clock { H.clock hall.new ≡ H.clock hall.old }
+        requires room { HasRoom 3 heap.old self.old }
+        ensures does { (places : List SearchedHeap) → DoesHeld self.old.me self.old self.new heap.old heap.new (H.state hall.old)
+            (H.state hall.new) (looking tag (acting action) (place.now
+            ∷ places)) (behind_looking place.now.index (looking tag (acting action) places) result) }
+        ensures settled { AreSettled (moment self.old.me self.new (H.state hall.new)) }
+        ensures keeps { KeepsHeld self.old.me self.old self.new heap.old heap.new (H.state hall.old) (H.state hall.new) }
+        ensures others { OthersStay self.old.me (H.state hall.old) (H.state hall.new) }
         ensures goes_on { H.goes_on hall.old hall.new }
     {
         let addr = self.find_in(heap, tag)?;
@@ -75,22 +61,13 @@ impl<'p, M: Mapper> Participant<'p, M> {
         heap: u32,
         left: Left,
     ) -> Result<Answer, AllocError>
-        requires serves { H.serves hall.old self.old.me }
-        requires me { self.old.me < H.count hall.old }
-        requires free { (number : ℕ) → H.taken hall.old number ≡ None }
-        requires home { (number : ℕ) → number ≤ MAX_HEAPS → H.may_take hall.old number }
-        requires tied { IsTied (H.seen hall.old self.old.me) (H.own hall.old self.old.me) self.old.joined self.old.maps }
-        requires ready { MayDo (moment_of self.old (H.part hall.old self.old.me) (H.seen hall.old self.old.me) (H.heard hall.old self.old.me)) }
-        ensures does { IfOk result (λ given. Does (H.count hall.old) (H.did hall.old hall.new self.old.me) (left_of heap left) (Doing.Ended given)
-            (moment_of self.old (H.part hall.old self.old.me) (H.seen hall.old self.old.me) (H.heard hall.old self.old.me))
-            (moment_of self.new (H.part hall.new self.old.me) (H.seen hall.new self.old.me) (H.heard hall.new self.old.me))) }
-        ensures ready { OnOk result (MayDo (moment_of self.new (H.part hall.new self.old.me) (H.seen hall.new self.old.me) (H.heard hall.new self.old.me))) }
-        ensures tied { IsTied (H.seen hall.new self.old.me) (H.own hall.new self.old.me) self.new.joined self.new.maps }
-        ensures same { IsSameParty (with_calls self.new.context.calls self.old) self.new }
-
-        ensures free { (number : ℕ) → H.taken hall.new number ≡ None }
-        ensures home { (number : ℕ) → H.may_take hall.old number → H.may_take hall.new number }
-        ensures clock { RisesWithin H.pending H.is_busy (longest_wait self.old.deadline) (H.clock hall.old) (H.clock hall.new) }
+        requires ready { IsReadyIn self.old.me self.old (H.state hall.old) }
+        ensures does { IfOk result (λ given. DoesHere self.old.me self.old self.new (H.state hall.old)
+            (H.state hall.new) (left_of heap left) (Doing.Ended given)) }
+        ensures ready { OnOk result (MayDo (moment self.old.me self.new (H.state hall.new))) }
+        ensures clock { RisesWithin H.pending (λ hall. IsBusy (H.state hall)) (longest_wait self.old.deadline)
+            (H.state hall.old).clock (H.state hall.new).clock }
+        ensures idle { IsIdleAgain self.old.me (with_calls self.new.context.calls self.old) self.new (H.state hall.new) }
         ensures goes_on { H.goes_on hall.old hall.new }
     {
         match left {
@@ -113,22 +90,14 @@ impl<'p, M: Mapper> Participant<'p, M> {
     ) -> Result<Option<Left>, AllocError>
         requires size { IsSizedWell action }
         requires place { IsPlaceOf self.old.context.pools place.now }
-        requires serves { H.serves hall.old self.old.me }
-        requires me { self.old.me < H.count hall.old }
-        requires free { (number : ℕ) → H.taken hall.old number ≡ None }
-        requires home { (number : ℕ) → number ≤ MAX_HEAPS → H.may_take hall.old number }
-        requires tied { IsTied (H.seen hall.old self.old.me) (H.own hall.old self.old.me) self.old.joined self.old.maps }
-        requires ready { MayDo (moment_of self.old (H.part hall.old self.old.me) (H.seen hall.old self.old.me) (H.heard hall.old self.old.me)) }
-        ensures does { IfOk result (λ left. (places : List SearchedHeap) → Does (H.count hall.old) (H.did hall.old hall.new self.old.me) (looking tag (acting action) (place.now ∷ places)) (behind_looking place.now.index (looking tag (acting action) places) left)
-            (moment_of self.old (H.part hall.old self.old.me) (H.seen hall.old self.old.me) (H.heard hall.old self.old.me))
-            (moment_of self.new (H.part hall.new self.old.me) (H.seen hall.new self.old.me) (H.heard hall.new self.old.me))) }
-        ensures ready { OnOk result (MayDo (moment_of self.new (H.part hall.new self.old.me) (H.seen hall.new self.old.me) (H.heard hall.new self.old.me))) }
-        ensures tied { IsTied (H.seen hall.new self.old.me) (H.own hall.new self.old.me) self.new.joined self.new.maps }
-        ensures same { IsSameParty (with_calls self.new.context.calls self.old) self.new }
-
-        ensures free { (number : ℕ) → H.taken hall.new number ≡ None }
-        ensures home { (number : ℕ) → number ≤ MAX_HEAPS → H.may_take hall.new number }
-        ensures clock { RisesWithin H.pending H.is_busy 0 (H.clock hall.old) (H.clock hall.new) }
+        requires ready { IsReadyIn self.old.me self.old (H.state hall.old) }
+        ensures does { IfOk result (λ left. (places : List SearchedHeap)
+            → DoesHere self.old.me self.old self.new (H.state hall.old)
+            (H.state hall.new) (looking tag (acting action) (place.now
+            ∷ places)) (behind_looking place.now.index (looking tag (acting action) places) left)) }
+        ensures ready { OnOk result (MayDo (moment self.old.me self.new (H.state hall.new))) }
+        ensures clock { RisesWithin H.pending (λ hall. IsBusy (H.state hall)) 0 (H.state hall.old).clock (H.state hall.new).clock }
+        ensures idle { IsIdleAgain self.old.me (with_calls self.new.context.calls self.old) self.new (H.state hall.new) }
         ensures goes_on { H.goes_on hall.old hall.new }
     {
         let mut heap = self.hold(hall, place.index, CALLS)?;
@@ -147,23 +116,17 @@ impl<'p, M: Mapper> Participant<'p, M> {
     ) -> Result<Option<Answer>, AllocError>
         requires size { IsSizedWell action }
         requires place { IsPlaceOf self.old.context.pools place.now }
-        requires serves { H.serves hall.old self.old.me }
-        requires me { self.old.me < H.count hall.old }
-        requires free { (number : ℕ) → H.taken hall.old number ≡ None }
-        requires home { (number : ℕ) → number ≤ MAX_HEAPS → H.may_take hall.old number }
-        requires tied { IsTied (H.seen hall.old self.old.me) (H.own hall.old self.old.me) self.old.joined self.old.maps }
-        requires ready { MayDo (moment_of self.old (H.part hall.old self.old.me) (H.seen hall.old self.old.me) (H.heard hall.old self.old.me)) }
-        ensures does { IfOk result (λ given. (places : List SearchedHeap) → Does (H.count hall.old) (H.did hall.old hall.new self.old.me) (looking tag (acting action) (place.now ∷ places)) (unless_answered (looking tag (acting action) places) given)
-            (moment_of self.old (H.part hall.old self.old.me) (H.seen hall.old self.old.me) (H.heard hall.old self.old.me))
-            (moment_of self.new (H.part hall.new self.old.me) (H.seen hall.new self.old.me) (H.heard hall.new self.old.me))) }
-        ensures ready { OnOk result (MayDo (moment_of self.new (H.part hall.new self.old.me) (H.seen hall.new self.old.me) (H.heard hall.new self.old.me))) }
-        ensures tied { IsTied (H.seen hall.new self.old.me) (H.own hall.new self.old.me) self.new.joined self.new.maps }
-        ensures same { IsSameParty (with_calls self.new.context.calls self.old) self.new }
-
-        ensures free { (number : ℕ) → H.taken hall.new number ≡ None }
-        ensures home { (number : ℕ) → number ≤ MAX_HEAPS → H.may_take hall.new number }
-        ensures clock { RisesWithin H.pending H.is_busy (longest_wait self.old.deadline) (H.clock hall.old) (H.clock hall.new) }
-        ensures passed { IfOk result (λ given. given ≡ None → RisesWithin H.pending H.is_busy 0 (H.clock hall.old) (H.clock hall.new)) }
+        requires ready { IsReadyIn self.old.me self.old (H.state hall.old) }
+        ensures does { IfOk result (λ given. (places : List SearchedHeap)
+            → DoesHere self.old.me self.old self.new (H.state hall.old)
+            (H.state hall.new) (looking tag (acting action) (place.now
+            ∷ places)) (unless_answered (looking tag (acting action) places) given)) }
+        ensures ready { OnOk result (MayDo (moment self.old.me self.new (H.state hall.new))) }
+        ensures clock { RisesWithin H.pending (λ hall. IsBusy (H.state hall)) (longest_wait self.old.deadline)
+            (H.state hall.old).clock (H.state hall.new).clock }
+        ensures passed { IfOk result (λ given. given ≡ None → RisesWithin H.pending (λ hall. IsBusy (H.state hall)) 0
+            (H.state hall.old).clock (H.state hall.new).clock) }
+        ensures idle { IsIdleAgain self.old.me (with_calls self.new.context.calls self.old) self.new (H.state hall.new) }
         ensures goes_on { H.goes_on hall.old hall.new }
     {
         let Some(left) = self.look_there(hall, place, tag, action)? else {
@@ -183,22 +146,13 @@ impl<'p, M: Mapper> Participant<'p, M> {
     ) -> Result<Answer, AllocError>
         requires size { IsSizedWell action }
         requires places { (place : SearchedHeap) → Contains places.now place → IsPlaceOf self.old.context.pools place }
-        requires serves { H.serves hall.old self.old.me }
-        requires me { self.old.me < H.count hall.old }
-        requires free { (number : ℕ) → H.taken hall.old number ≡ None }
-        requires home { (number : ℕ) → number ≤ MAX_HEAPS → H.may_take hall.old number }
-        requires tied { IsTied (H.seen hall.old self.old.me) (H.own hall.old self.old.me) self.old.joined self.old.maps }
-        requires ready { MayDo (moment_of self.old (H.part hall.old self.old.me) (H.seen hall.old self.old.me) (H.heard hall.old self.old.me)) }
-        ensures does { IfOk result (λ given. Does (H.count hall.old) (H.did hall.old hall.new self.old.me) (looking tag (acting action) places.now) (Doing.Ended given)
-            (moment_of self.old (H.part hall.old self.old.me) (H.seen hall.old self.old.me) (H.heard hall.old self.old.me))
-            (moment_of self.new (H.part hall.new self.old.me) (H.seen hall.new self.old.me) (H.heard hall.new self.old.me))) }
-        ensures ready { OnOk result (MayDo (moment_of self.new (H.part hall.new self.old.me) (H.seen hall.new self.old.me) (H.heard hall.new self.old.me))) }
-        ensures tied { IsTied (H.seen hall.new self.old.me) (H.own hall.new self.old.me) self.new.joined self.new.maps }
-        ensures same { IsSameParty (with_calls self.new.context.calls self.old) self.new }
-
-        ensures free { (number : ℕ) → H.taken hall.new number ≡ None }
-        ensures home { (number : ℕ) → number ≤ MAX_HEAPS → H.may_take hall.new number }
-        ensures clock { RisesWithin H.pending H.is_busy (longest_wait self.old.deadline) (H.clock hall.old) (H.clock hall.new) }
+        requires ready { IsReadyIn self.old.me self.old (H.state hall.old) }
+        ensures does { IfOk result (λ given. DoesHere self.old.me self.old self.new (H.state hall.old)
+            (H.state hall.new) (looking tag (acting action) places.now) (Doing.Ended given)) }
+        ensures ready { OnOk result (MayDo (moment self.old.me self.new (H.state hall.new))) }
+        ensures clock { RisesWithin H.pending (λ hall. IsBusy (H.state hall)) (longest_wait self.old.deadline)
+            (H.state hall.old).clock (H.state hall.new).clock }
+        ensures idle { IsIdleAgain self.old.me (with_calls self.new.context.calls self.old) self.new (H.state hall.new) }
         ensures goes_on { H.goes_on hall.old hall.new }
     {
         for place in places {
@@ -219,22 +173,15 @@ impl<'p, M: Mapper> Participant<'p, M> {
     ) -> Result<Answer, AllocError>
         requires label { label_used line.now.act ≡ Some label.now }
         requires size { IsSizedWell (act_for false size) }
-        requires serves { H.serves hall.old self.old.me }
-        requires me { self.old.me < H.count hall.old }
-        requires free { (number : ℕ) → H.taken hall.old number ≡ None }
-        requires home { (number : ℕ) → number ≤ MAX_HEAPS → H.may_take hall.old number }
-        requires tied { IsTied (H.seen hall.old self.old.me) (H.own hall.old self.old.me) self.old.joined self.old.maps }
-        requires ready { MayDo (moment_of self.old (H.part hall.old self.old.me) (H.seen hall.old self.old.me) (H.heard hall.old self.old.me)) }
-        ensures does { IfOk result (λ given. (facts : Facts) → AreFactsOf self.old.socket self.old.context line.now facts → Does (H.count hall.old) (H.did hall.old hall.new self.old.me) (on_element self.old.me facts (λ tag. looking tag (acting (act_for tag.zone size))) facts.maker) (Doing.Ended given)
-            (moment_of self.old (H.part hall.old self.old.me) (H.seen hall.old self.old.me) (H.heard hall.old self.old.me))
-            (moment_of self.new (H.part hall.new self.old.me) (H.seen hall.new self.old.me) (H.heard hall.new self.old.me))) }
-        ensures ready { OnOk result (MayDo (moment_of self.new (H.part hall.new self.old.me) (H.seen hall.new self.old.me) (H.heard hall.new self.old.me))) }
-        ensures tied { IsTied (H.seen hall.new self.old.me) (H.own hall.new self.old.me) self.new.joined self.new.maps }
-        ensures same { IsSameParty (with_calls self.new.context.calls self.old) self.new }
-
-        ensures free { (number : ℕ) → H.taken hall.new number ≡ None }
-        ensures home { (number : ℕ) → number ≤ MAX_HEAPS → H.may_take hall.new number }
-        ensures clock { RisesWithin H.pending H.is_busy (longest_wait self.old.deadline) (H.clock hall.old) (H.clock hall.new) }
+        requires ready { IsReadyIn self.old.me self.old (H.state hall.old) }
+        ensures does { IfOk result (λ given. (facts : Facts) → AreFactsOf self.old.socket self.old.context line.now facts
+            → DoesHere self.old.me self.old self.new (H.state hall.old)
+            (H.state hall.new) (on_element self.old.me facts
+            (λ tag. looking tag (acting (act_for tag.zone size))) facts.maker) (Doing.Ended given)) }
+        ensures ready { OnOk result (MayDo (moment self.old.me self.new (H.state hall.new))) }
+        ensures clock { RisesWithin H.pending (λ hall. IsBusy (H.state hall)) (longest_wait self.old.deadline)
+            (H.state hall.old).clock (H.state hall.new).clock }
+        ensures idle { IsIdleAgain self.old.me (with_calls self.new.context.calls self.old) self.new (H.state hall.new) }
         ensures goes_on { H.goes_on hall.old hall.new }
     {
         let Some(maker) = self.context.maker_of(label.as_bytes()) else {

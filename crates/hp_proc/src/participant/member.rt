@@ -1,15 +1,15 @@
 //! How a participant without a coordinator serves.
-ghost use Rattle.std.specs.Prelude.{◌≡◌, ◌≢◌, ℕ, ◌+◌, ◌*◌, ◌<◌, ◌≤◌, ◌||◌, ◌==◌, List, [], ◌∷◌, None, if◌then◌else◌};
+ghost use Rattle.std.specs.Prelude.{◌≡◌, ◌+◌, ◌*◌, ◌<◌, ◌≤◌, ◌||◌, ◌==◌, List, ◌∷◌, None, if◌then◌else◌};
 ghost use Rattle.std.specs.Result.{result_ok};
-ghost use Rattle.hp_base.specs.declared.limits.TheConstants.{MAX_HEAPS};
 ghost use Rattle.hp_hall.specs.Mail.{MailStep};
 ghost use Rattle.hp_hall.specs.Weights.{frame_weight, moved_of};
 ghost use Rattle.hp_segs.specs.SegsView.{SegsView};
 ghost use Rattle.hp_proc.specs.Serving.{IsFollowed, IsHeeded, IsMemberServed, IsTold, hearing, is_answer_to, is_sync, takes_segments};
-ghost use Rattle.hp_proc.specs.Tied.{IsTied};
+ghost use Rattle.hp_hall.specs.HallState.{Did};
+ghost use Rattle.hp_proc.specs.InHall.{CanServe, StaysAlone};
 
 use super::Participant;
-use crate::calls::{fetch, put_back, take_segments};
+use crate::calls::{put_back, take_segments};
 use crate::catching::{has_table, is_worn};
 use crate::following::obey;
 use crate::framing::heard;
@@ -58,22 +58,12 @@ impl<'p, M: Mapper> Participant<'p, M> {
 
     // Does what a SYNC demands.
     fn follow_sync<H: Hall>(&mut self, hall: &mut H) -> bool
-        requires serves { H.serves hall.old self.old.me }
-        requires some { 0 < H.count hall.old }
-        requires free { H.taken hall.old MAX_HEAPS ≡ None }
-        requires home { H.may_take hall.old MAX_HEAPS }
-        requires tied { IsTied (H.seen hall.old self.old.me) (H.own hall.old self.old.me) self.old.joined self.old.maps }
+        requires can { CanServe self.old.me self.old (H.state hall.old) }
         ensures followed { (taken : SegsView) × (more : List MailStep)
-            × H.did hall.old hall.new self.old.me (takes_segments taken ∷ more) × IsFollowed self.old self.new taken more result }
-        ensures tied { IsTied (H.seen hall.new self.old.me) (H.own hall.new self.old.me) self.new.joined self.new.maps }
-        ensures weight { H.weight hall.new ≤ H.weight hall.old + H.scale * 2 }
-
-        ensures taken { (number : ℕ) → H.taken hall.new number ≡ H.taken hall.old number }
-        ensures home { (number : ℕ) → H.may_take hall.old number → H.may_take hall.new number }
-        ensures part { (who heap : ℕ) → H.part hall.new who heap ≡ H.part hall.old who heap }
-        ensures own { (who : ℕ) → who ≢ self.old.me → H.own hall.new who ≡ H.own hall.old who }
-        ensures did_others { (who : ℕ) → who ≢ self.old.me → H.did hall.old hall.new who [] }
-        ensures clock { H.clock hall.new ≡ H.clock hall.old }
+            × Did self.old.me (takes_segments taken ∷ more) (H.state hall.old) (H.state hall.new)
+            × IsFollowed self.old self.new taken more result }
+        ensures weight { (H.state hall.new).weight ≤ (H.state hall.old).weight + H.scale * 2 }
+        ensures alone { StaysAlone self.old.me self.old self.new (H.state hall.old) (H.state hall.new) }
         ensures goes_on { H.goes_on hall.old hall.new }
     {
         let segs = take_segments(hall, self.me);
@@ -102,22 +92,11 @@ impl<'p, M: Mapper> Participant<'p, M> {
     // Does what a message demands: a SYNC makes the participant catch up, and an answer to its last ask is noted. Returned is
     // whether it goes on, or stopped.
     fn mind<H: Hall>(&mut self, hall: &mut H, body: &Body) -> bool
-        requires serves { H.serves hall.old self.old.me }
-        requires some { 0 < H.count hall.old }
-        requires free { H.taken hall.old MAX_HEAPS ≡ None }
-        requires home { H.may_take hall.old MAX_HEAPS }
-        requires tied { IsTied (H.seen hall.old self.old.me) (H.own hall.old self.old.me) self.old.joined self.old.maps }
-        ensures told { (steps : List MailStep) × H.did hall.old hall.new self.old.me steps
+        requires can { CanServe self.old.me self.old (H.state hall.old) }
+        ensures told { (steps : List MailStep) × Did self.old.me steps (H.state hall.old) (H.state hall.new)
             × IsTold self.old self.new body.now steps result }
-        ensures tied { IsTied (H.seen hall.new self.old.me) (H.own hall.new self.old.me) self.new.joined self.new.maps }
-        ensures weight { H.weight hall.new ≤ H.weight hall.old + H.scale * (if is_sync body.now then 2 else 0) }
-
-        ensures taken { (number : ℕ) → H.taken hall.new number ≡ H.taken hall.old number }
-        ensures home { (number : ℕ) → H.may_take hall.old number → H.may_take hall.new number }
-        ensures part { (who heap : ℕ) → H.part hall.new who heap ≡ H.part hall.old who heap }
-        ensures own { (who : ℕ) → who ≢ self.old.me → H.own hall.new who ≡ H.own hall.old who }
-        ensures did_others { (who : ℕ) → who ≢ self.old.me → H.did hall.old hall.new who [] }
-        ensures clock { H.clock hall.new ≡ H.clock hall.old }
+        ensures weight { (H.state hall.new).weight ≤ (H.state hall.old).weight + H.scale * (if is_sync body.now then 2 else 0) }
+        ensures alone { StaysAlone self.old.me self.old self.new (H.state hall.old) (H.state hall.new) }
         ensures goes_on { H.goes_on hall.old hall.new }
     {
         if is_sync(body) {
@@ -129,22 +108,11 @@ impl<'p, M: Mapper> Participant<'p, M> {
 
     // Does what a frame demands. Returned is whether it goes on, or stopped.
     fn heed<H: Hall>(&mut self, hall: &mut H, frame: &Frame) -> bool
-        requires serves { H.serves hall.old self.old.me }
-        requires some { 0 < H.count hall.old }
-        requires free { H.taken hall.old MAX_HEAPS ≡ None }
-        requires home { H.may_take hall.old MAX_HEAPS }
-        requires tied { IsTied (H.seen hall.old self.old.me) (H.own hall.old self.old.me) self.old.joined self.old.maps }
-        ensures heeded { (steps : List MailStep) × H.did hall.old hall.new self.old.me steps
+        requires can { CanServe self.old.me self.old (H.state hall.old) }
+        ensures heeded { (steps : List MailStep) × Did self.old.me steps (H.state hall.old) (H.state hall.new)
             × IsHeeded self.old self.new frame.now steps result }
-        ensures tied { IsTied (H.seen hall.new self.old.me) (H.own hall.new self.old.me) self.new.joined self.new.maps }
-        ensures weight { H.weight hall.new + H.scale ≤ H.weight hall.old + H.scale * frame_weight frame.now }
-
-        ensures taken { (number : ℕ) → H.taken hall.new number ≡ H.taken hall.old number }
-        ensures home { (number : ℕ) → H.may_take hall.old number → H.may_take hall.new number }
-        ensures part { (who heap : ℕ) → H.part hall.new who heap ≡ H.part hall.old who heap }
-        ensures own { (who : ℕ) → who ≢ self.old.me → H.own hall.new who ≡ H.own hall.old who }
-        ensures did_others { (who : ℕ) → who ≢ self.old.me → H.did hall.old hall.new who [] }
-        ensures clock { H.clock hall.new ≡ H.clock hall.old }
+        ensures weight { (H.state hall.new).weight + H.scale ≤ (H.state hall.old).weight + H.scale * frame_weight frame.now }
+        ensures alone { StaysAlone self.old.me self.old self.new (H.state hall.old) (H.state hall.new) }
         ensures goes_on { H.goes_on hall.old hall.new }
     {
         match heard(frame) {
@@ -156,31 +124,16 @@ impl<'p, M: Mapper> Participant<'p, M> {
     // Serves once, as a participant without a coordinator does. Returned is whether it fetched a frame; it stops with an error at
     // a SYNC for which its mapper has made too many calls.
     pub(crate) fn serve_member<H: Hall>(&mut self, hall: &mut H) -> Result<bool, AllocError>
-        requires serves { H.serves hall.old self.old.me }
-        requires declared { self.old.me < H.count hall.old }
-        requires free { H.taken hall.old MAX_HEAPS ≡ None }
-        requires home { H.may_take hall.old MAX_HEAPS }
-        requires tied { IsTied (H.seen hall.old self.old.me) (H.own hall.old self.old.me) self.old.joined self.old.maps }
-        ensures served { (steps : List MailStep) × H.did hall.old hall.new self.old.me steps
+        requires can { CanServe self.old.me self.old (H.state hall.old) }
+        ensures served { (steps : List MailStep) × Did self.old.me steps (H.state hall.old) (H.state hall.new)
             × IsMemberServed self.old self.new steps (result_ok result) }
-        ensures tied { IsTied (H.seen hall.new self.old.me) (H.own hall.new self.old.me) self.new.joined self.new.maps }
-        ensures weight { H.weight hall.new + H.scale * moved_of result ≤ H.weight hall.old }
-        ensures stays { self.new ≡ record self.old {
-          joined = self.new.joined;
-          maps = self.new.maps;
-          answered = self.new.answered;
-          sent = self.new.sent;
-        } }
-
-        ensures taken { (number : ℕ) → H.taken hall.new number ≡ H.taken hall.old number }
-        ensures home { (number : ℕ) → H.may_take hall.old number → H.may_take hall.new number }
-        ensures part { (who heap : ℕ) → H.part hall.new who heap ≡ H.part hall.old who heap }
-        ensures own { (who : ℕ) → who ≢ self.old.me → H.own hall.new who ≡ H.own hall.old who }
-        ensures did_others { (who : ℕ) → who ≢ self.old.me → H.did hall.old hall.new who [] }
-        ensures clock { H.clock hall.new ≡ H.clock hall.old }
+        ensures weight { (H.state hall.new).weight + H.scale * moved_of result ≤ (H.state hall.old).weight }
+        ensures party { self.new ≡ record self.old { joined = self.new.joined; maps = self.new.maps; answered =
+            self.new.answered; sent = self.new.sent; } }
+        ensures alone { StaysAlone self.old.me self.old self.new (H.state hall.old) (H.state hall.new) }
         ensures goes_on { H.goes_on hall.old hall.new }
     {
-        let Some(frame) = fetch(hall, self.me) else {
+        let Some(frame) = hall.fetch(self.me) else {
             return Ok(false);
         };
         if self.heed(hall, &frame) {

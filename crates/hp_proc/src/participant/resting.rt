@@ -1,15 +1,15 @@
 //! The polls of participant 0: when it makes one, and what it does at an empty mailbox.
-ghost use Rattle.std.specs.Prelude.{◌≡◌, ◌≢◌, ℕ, ◌+◌, ◌-◌, ◌*◌, ◌^◌, ◌<◌, ◌≤◌, Bool, List, [], ◌∷◌, true, false, None, Ok, Some, OnOk, is_ok};
+ghost use Rattle.std.specs.Prelude.{◌≡◌, ℕ, ◌+◌, ◌-◌, ◌*◌, ◌^◌, ◌<◌, ◌≤◌, Bool, List, ◌∷◌, true, false, Ok, Some, OnOk, is_ok};
 ghost use Rattle.std.specs.Result.{result_ok};
-ghost use Rattle.hp_base.specs.declared.limits.TheConstants.{MAX_HEAPS};
 ghost use Rattle.hp_core.specs.declared.event.CoreEvent.TheVariants.{Poll};
 ghost use Rattle.hp_hall.specs.Mail.{MailStep, Notes};
 ghost use Rattle.hp_hall.specs.declared.note.Note.{Note};
 ghost use Rattle.hp_proc.specs.Coordinating.{IsPolled, IsRested, core_holds};
-ghost use Rattle.hp_proc.specs.Falling.{IsDue, own_weight, served_of};
-ghost use Rattle.hp_proc.specs.Party.{IsSameParty, due_in};
+ghost use Rattle.hp_proc.specs.Falling.{IsDue, served_of};
+ghost use Rattle.hp_proc.specs.Party.{due_in};
 ghost use Rattle.hp_proc.specs.Serving.{answer_behind};
-ghost use Rattle.hp_proc.specs.Tied.{IsTied};
+ghost use Rattle.hp_hall.specs.HallState.{Did};
+ghost use Rattle.hp_proc.specs.InHall.{CanCoordinate, StaysAlone, left_to_do};
 
 use super::Participant;
 use crate::polling::{is_due, load_acks};
@@ -21,30 +21,15 @@ use std::alloc::AllocError;
 impl<'p, M: Mapper> Participant<'p, M> {
     // A poll at this reading of the clock: of the round under way, or for a held ask.
     pub(super) fn poll<H: Hall>(&mut self, hall: &mut H, now: u64) -> Result<(), AllocError>
-        requires primary { self.old.me ≡ 0 }
-        requires serves { H.serves hall.old 0 }
-        requires declared { 0 < H.count hall.old }
-        requires free { H.taken hall.old MAX_HEAPS ≡ None }
-        requires home { H.may_take hall.old MAX_HEAPS }
-        requires tied { IsTied (H.seen hall.old 0) (H.own hall.old 0) self.old.joined self.old.maps }
-        ensures polled { (steps : List MailStep) × H.did hall.old hall.new 0 steps
-            × IsPolled (H.count hall.old) now self.old self.new steps (is_ok result) }
-        ensures weight { H.weight hall.new + own_weight H.scale (H.pending (H.clock hall.new)) self.new.core
-            ≤ H.weight hall.old + own_weight H.scale (H.pending (H.clock hall.old)) self.old.core }
-        ensures due { ((acks : List ℕ) → IsDue self.old.core (Poll now acks)) → OnOk result (
-            H.weight hall.new + own_weight H.scale (H.pending (H.clock hall.new)) self.new.core + H.scale * 1
-            ≤ H.weight hall.old + own_weight H.scale (H.pending (H.clock hall.old)) self.old.core) }
-        ensures tied { IsTied (H.seen hall.new 0) (H.own hall.new 0) self.new.joined self.new.maps }
-        ensures same { IsSameParty self.old self.new }
-
-        ensures taken { (number : ℕ) → H.taken hall.new number ≡ H.taken hall.old number }
-        ensures home { (number : ℕ) → H.may_take hall.old number → H.may_take hall.new number }
-        ensures part { (who heap : ℕ) → H.part hall.new who heap ≡ H.part hall.old who heap }
-        ensures own { (who : ℕ) → who ≢ 0 → H.own hall.new who ≡ H.own hall.old who }
-        ensures did_others { (who : ℕ) → who ≢ 0 → H.did hall.old hall.new who [] }
-        ensures clock { H.clock hall.new ≡ H.clock hall.old }
-        ensures count { H.count hall.new ≡ H.count hall.old }
-        ensures still { H.serves hall.new 0 }
+        requires can { CanCoordinate self.old (H.state hall.old) }
+        ensures polled { (steps : List MailStep) × Did 0 steps (H.state hall.old) (H.state hall.new)
+            × IsPolled (H.state hall.old).count now self.old self.new steps (is_ok result) }
+        ensures weight { left_to_do H.scale H.pending self.new (H.state hall.new)
+            ≤ left_to_do H.scale H.pending self.old (H.state hall.old) }
+        ensures due { ((acks : List ℕ) → IsDue self.old.core (Poll now acks))
+            → OnOk result ( left_to_do H.scale H.pending self.new (H.state hall.new) + H.scale * 1
+            ≤ left_to_do H.scale H.pending self.old (H.state hall.old)) }
+        ensures alone { StaysAlone 0 self.old self.new (H.state hall.old) (H.state hall.new) }
         ensures goes_on { H.goes_on hall.old hall.new }
     {
         let acks = load_acks(hall);
@@ -53,27 +38,13 @@ impl<'p, M: Mapper> Participant<'p, M> {
 
     // A poll at the present reading of the clock.
     pub(super) fn poll_now<H: Hall>(&mut self, hall: &mut H) -> Result<(), AllocError>
-        requires primary { self.old.me ≡ 0 }
-        requires serves { H.serves hall.old 0 }
-        requires declared { 0 < H.count hall.old }
-        requires free { H.taken hall.old MAX_HEAPS ≡ None }
-        requires home { H.may_take hall.old MAX_HEAPS }
-        requires tied { IsTied (H.seen hall.old 0) (H.own hall.old 0) self.old.joined self.old.maps }
-        ensures polled { (now : ℕ) × (steps : List MailStep) × H.did hall.old hall.new 0 (Notes (Note.Read now) ∷ steps)
-            × IsPolled (H.count hall.old) now self.old self.new steps (is_ok result) }
-        ensures weight { H.weight hall.new + own_weight H.scale (H.pending (H.clock hall.new)) self.new.core
-            ≤ H.weight hall.old + own_weight H.scale (H.pending (H.clock hall.old)) self.old.core }
-        ensures tied { IsTied (H.seen hall.new 0) (H.own hall.new 0) self.new.joined self.new.maps }
-        ensures same { IsSameParty self.old self.new }
-
-        ensures taken { (number : ℕ) → H.taken hall.new number ≡ H.taken hall.old number }
-        ensures home { (number : ℕ) → H.may_take hall.old number → H.may_take hall.new number }
-        ensures part { (who heap : ℕ) → H.part hall.new who heap ≡ H.part hall.old who heap }
-        ensures own { (who : ℕ) → who ≢ 0 → H.own hall.new who ≡ H.own hall.old who }
-        ensures did_others { (who : ℕ) → who ≢ 0 → H.did hall.old hall.new who [] }
-        ensures clock { H.clock hall.new ≡ H.clock hall.old }
-        ensures count { H.count hall.new ≡ H.count hall.old }
-        ensures still { H.serves hall.new 0 }
+        requires can { CanCoordinate self.old (H.state hall.old) }
+        ensures polled { (now : ℕ) × (steps : List MailStep)
+            × Did 0 (Notes (Note.Read now) ∷ steps) (H.state hall.old) (H.state hall.new)
+            × IsPolled (H.state hall.old).count now self.old self.new steps (is_ok result) }
+        ensures weight { left_to_do H.scale H.pending self.new (H.state hall.new)
+            ≤ left_to_do H.scale H.pending self.old (H.state hall.old) }
+        ensures alone { StaysAlone 0 self.old self.new (H.state hall.old) (H.state hall.new) }
         ensures goes_on { H.goes_on hall.old hall.new }
     {
         let now = hall.now(0);
@@ -92,29 +63,14 @@ impl<'p, M: Mapper> Participant<'p, M> {
 
     // A poll that is due at this reading of the clock.
     fn poll_due<H: Hall>(&mut self, hall: &mut H, now: u64) -> Result<bool, AllocError>
-        requires primary { self.old.me ≡ 0 }
-        requires serves { H.serves hall.old 0 }
-        requires declared { 0 < H.count hall.old }
-        requires free { H.taken hall.old MAX_HEAPS ≡ None }
-        requires home { H.may_take hall.old MAX_HEAPS }
-        requires tied { IsTied (H.seen hall.old 0) (H.own hall.old 0) self.old.joined self.old.maps }
+        requires can { CanCoordinate self.old (H.state hall.old) }
         requires due { (acks : List ℕ) → IsDue self.old.core (Poll now acks) }
-        ensures polled { (goes : Bool) × (steps : List MailStep) × H.did hall.old hall.new 0 steps
-            × IsPolled (H.count hall.old) now self.old self.new steps goes × (result_ok result ≡ answer_behind goes) }
-        ensures weight { H.weight hall.new + own_weight H.scale (H.pending (H.clock hall.new)) self.new.core + H.scale * served_of result
-            ≤ H.weight hall.old + own_weight H.scale (H.pending (H.clock hall.old)) self.old.core }
+        ensures polled { (goes : Bool) × (steps : List MailStep) × Did 0 steps (H.state hall.old) (H.state hall.new)
+            × IsPolled (H.state hall.old).count now self.old self.new steps goes × (result_ok result ≡ answer_behind goes) }
+        ensures weight { left_to_do H.scale H.pending self.new (H.state hall.new) + H.scale * served_of result
+            ≤ left_to_do H.scale H.pending self.old (H.state hall.old) }
         ensures moves { result ≡ Ok false → ⊥ }
-        ensures tied { IsTied (H.seen hall.new 0) (H.own hall.new 0) self.new.joined self.new.maps }
-        ensures same { IsSameParty self.old self.new }
-
-        ensures taken { (number : ℕ) → H.taken hall.new number ≡ H.taken hall.old number }
-        ensures home { (number : ℕ) → H.may_take hall.old number → H.may_take hall.new number }
-        ensures part { (who heap : ℕ) → H.part hall.new who heap ≡ H.part hall.old who heap }
-        ensures own { (who : ℕ) → who ≢ 0 → H.own hall.new who ≡ H.own hall.old who }
-        ensures did_others { (who : ℕ) → who ≢ 0 → H.did hall.old hall.new who [] }
-        ensures clock { H.clock hall.new ≡ H.clock hall.old }
-        ensures count { H.count hall.new ≡ H.count hall.old }
-        ensures still { H.serves hall.new 0 }
+        ensures alone { StaysAlone 0 self.old self.new (H.state hall.old) (H.state hall.new) }
         ensures goes_on { H.goes_on hall.old hall.new }
     {
         self.poll(hall, now)?;
@@ -123,29 +79,14 @@ impl<'p, M: Mapper> Participant<'p, M> {
 
     // What it does at an empty mailbox: a poll, where one is due.
     pub(super) fn rest<H: Hall>(&mut self, hall: &mut H) -> Result<bool, AllocError>
-        requires primary { self.old.me ≡ 0 }
-        requires serves { H.serves hall.old 0 }
-        requires declared { 0 < H.count hall.old }
-        requires free { H.taken hall.old MAX_HEAPS ≡ None }
-        requires home { H.may_take hall.old MAX_HEAPS }
-        requires tied { IsTied (H.seen hall.old 0) (H.own hall.old 0) self.old.joined self.old.maps }
-        ensures rested { (steps : List MailStep) × H.did hall.old hall.new 0 steps
-            × IsRested (H.count hall.old) self.old self.new steps (result_ok result) }
-        ensures weight { H.weight hall.new + own_weight H.scale (H.pending (H.clock hall.new)) self.new.core + H.scale * served_of result
-            ≤ H.weight hall.old + own_weight H.scale (H.pending (H.clock hall.old)) self.old.core }
+        requires can { CanCoordinate self.old (H.state hall.old) }
+        ensures rested { (steps : List MailStep) × Did 0 steps (H.state hall.old) (H.state hall.new)
+            × IsRested (H.state hall.old).count self.old self.new steps (result_ok result) }
+        ensures weight { left_to_do H.scale H.pending self.new (H.state hall.new) + H.scale * served_of result
+            ≤ left_to_do H.scale H.pending self.old (H.state hall.old) }
         ensures rests { result ≡ Ok false → (deadline : ℕ) → due_in self.new.core ≡ Some deadline → deadline < 2 ^ 64 - 1
-            → H.pending (H.clock hall.new) deadline ≡ H.scale }
-        ensures tied { IsTied (H.seen hall.new 0) (H.own hall.new 0) self.new.joined self.new.maps }
-        ensures same { IsSameParty self.old self.new }
-
-        ensures taken { (number : ℕ) → H.taken hall.new number ≡ H.taken hall.old number }
-        ensures home { (number : ℕ) → H.may_take hall.old number → H.may_take hall.new number }
-        ensures part { (who heap : ℕ) → H.part hall.new who heap ≡ H.part hall.old who heap }
-        ensures own { (who : ℕ) → who ≢ 0 → H.own hall.new who ≡ H.own hall.old who }
-        ensures did_others { (who : ℕ) → who ≢ 0 → H.did hall.old hall.new who [] }
-        ensures clock { H.clock hall.new ≡ H.clock hall.old }
-        ensures count { H.count hall.new ≡ H.count hall.old }
-        ensures still { H.serves hall.new 0 }
+            → H.pending (H.state hall.new).clock deadline ≡ H.scale }
+        ensures alone { StaysAlone 0 self.old self.new (H.state hall.old) (H.state hall.new) }
         ensures goes_on { H.goes_on hall.old hall.new }
     {
         let now = hall.now(0);

@@ -5,8 +5,8 @@ use hp_hall::{Busy, Hall, Kept, Posted, Slot};
 
 impl<'p, M: Mapper> Hall for SoloHall<'p, M> {
     ghost use Rattle.std.specs.Prelude.{length};
-    ghost use Rattle.hp_hall.specs.Course.{course_heard, course_seen, done_same, done_then};
-    ghost use Rattle.hp_hall.specs.HallView.{HasDone, IsHome, heard_in, own_at, part_in, seen_in, slot_at, taken_from};
+    ghost use Rattle.hp_plain.specs.Course.{course_heard, course_seen, done_same, done_then};
+    ghost use Rattle.hp_plain.specs.HallView.{HasDone, IsHome, heard_in, own_at, part_in, seen_in, slot_at, taken_from};
     ghost use Rattle.hp_hall.specs.Weights.{pending_at, pending_most_one};
     ghost use Rattle.hp_solo.specs.Solo.{IsAway, server_at, solo_weight};
     ghost use Rattle.hp_solo.specs.SoloCourse.{IsSoloCourse, solo_same, solo_serves, solo_then};

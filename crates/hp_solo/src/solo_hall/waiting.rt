@@ -1,8 +1,8 @@
 ghost use Rattle.std.specs.Prelude.{◌≡◌, ◌<◌, ◌≤◌, ◌+◌, ℕ, Some, false, true, IfSome, if◌then◌else◌};
 ghost use Rattle.hp_base.specs.declared.limits.TheConstants.{MAX_HEAPS};
-ghost use Rattle.hp_hall.specs.Course.{IsCourse};
-ghost use Rattle.hp_hall.specs.HallSteps.{with_note};
-ghost use Rattle.hp_hall.specs.HallView.{IsHome, slot_at};
+ghost use Rattle.hp_plain.specs.Course.{IsCourse};
+ghost use Rattle.hp_plain.specs.HallSteps.{with_note};
+ghost use Rattle.hp_plain.specs.HallView.{IsHome, slot_at};
 ghost use Rattle.hp_hall.specs.Weights.{IsPending, pending_at};
 ghost use Rattle.hp_hall.specs.declared.note.Note.{Note};
 ghost use Rattle.hp_proc.specs.Falling.{if_moved};
@@ -73,8 +73,8 @@ impl<'p, M: Mapper> Waiting for SoloHall<'p, M> {
     ghost use Rattle.std.specs.Prelude.{◌≡◌, ◌+◌, ◌*◌, ◌≤◌, ◌⊎◌, ℕ, [], ◌∷◌, None, IfOk, IfSome, IsOk, IsSomeAnd, false, true};
     ghost use Rattle.std.specs.Result.{result_ok};
     ghost use Rattle.hp_base.specs.declared.limits.TheConstants.{MAX_HEAPS};
-    ghost use Rattle.hp_hall.specs.HallSteps.{after_pause};
-    ghost use Rattle.hp_hall.specs.HallView.{HasDone, IsHome, part_in, own_at, slot_at, taken_from};
+    ghost use Rattle.hp_plain.specs.HallSteps.{after_pause};
+    ghost use Rattle.hp_plain.specs.HallView.{HasDone, IsHome, part_in, own_at, slot_at, taken_from};
     ghost use Rattle.hp_hall.specs.Mail.{Notes};
     ghost use Rattle.hp_hall.specs.Weights.{IsPending, counted, moved_of, pause_weight, pending_at};
     ghost use Rattle.hp_hall.specs.declared.note.Note.{Note};

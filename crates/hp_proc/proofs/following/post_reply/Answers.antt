@@ -2,6 +2,7 @@
 use Rattle.std.proofs.Common.{◌≡◌, ◌*◌, ℕ, [], ◌∷◌, ap, subst, arith}
 use Rattle.hp_base.specs.Plans.{action_of}
 use Rattle.hp_base.specs.declared.plan_entry.MsgKind.TheVariants.{Reply}
+use Rattle.hp_hall.specs.HallState.{Did}
 use Rattle.hp_hall.specs.Mail.{Posts}
 use Rattle.hp_proc.proofs.MemberLemmas.{reply_weighs}
 use Rattle.hp_proc.proofs.following.post_reply.Goals as goal
@@ -15,7 +16,7 @@ returns-clause-did g c =
       frame,
       posted,
       c.framed-frame.ensures,
-      subst (λ action. g.H.Hall.did c.args.hall.now c.post-posted.new.hall c.args.me (Posts 0 frame action posted ∷ [])) planned
+      subst (λ action. Did c.args.me (Posts 0 frame action posted ∷ []) (g.H.Hall.state c.args.hall.now) (g.H.Hall.state c.post-posted.new.self)) planned
           c.post-posted.ensures.did,
     )
 

@@ -1,26 +1,53 @@
 -- The log that is given back begins with the one that was taken.
-use Rattle.std.proofs.Common.{◌∙◌}
-use Rattle.hp_hall.specs.Giving.{Knows}
+use Rattle.std.proofs.Common.{◌∙◌, [], ◌∷◌, ap, sym}
+use Rattle.hp_hall.specs.HallState.{known_to}
+use Rattle.hp_segs.specs.SegsView.{is_member}
+use Rattle.hp_proc.specs.Serving.{gives_segments}
+use Rattle.hp_proc.proofs.GivenSteps.{handed_by}
+use Rattle.hp_proc.proofs.Noting.{gives_in_place}
 use Rattle.hp_proc.proofs.Standing.{behind_same}
 use Rattle.hp_proc.proofs.handing.hand.Goals as goal
 
-pub give_segments-requires-clause-same : goal.give_segments-requires-clause-same
-give_segments-requires-clause-same g c =
+pub give_segments-requires : goal.give_segments-requires
+give_segments-requires g c =
+    let old = g.H.Hall.state c.args.hall.now in
+    let has = c.requires.has in
     let step = c.step_with_room-answer in
     let leaves = step.ensures.leaves in
-    behind_same 0 (g.H.Hall.part c.args.hall.now 0) c.args.segs step.new.segs c.requires.standing leaves.standing (leaves.armed 0)
+    record {
+      serves = has.serves;
+      gives = gives_in_place (known_to 0 old) c.args.segs step.new.segs has.taken (step.ensures.gives (known_to 0 old) c.requires.known);
+      same = behind_same 0 (old.part 0) c.args.segs step.new.segs has.standing leaves.standing (leaves.armed 0);
+    }
 
 pub returns-clause-log : goal.returns-clause-log
 returns-clause-log g c =
-    let hall = c.args.hall.now in
-    let knows : Knows = record {
-      who = 0;
-      taken = g.H.Hall.taken hall;
-      part = g.H.Hall.part hall 0;
-      number = (g.H.Hall.own hall 0).number;
-      noted = g.H.Hall.noted hall 0;
-      seen = g.H.Hall.seen hall 0;
-      heard = g.H.Hall.heard hall 0;
-    } in
-    let gives = c.step_with_room-answer.ensures.gives knows c.requires.known in
-    (gives.more, c.give_segments.ensures.log ∙ gives.log)
+    let gives = c.step_with_room-answer.ensures.gives (known_to 0 (g.H.Hall.state c.args.hall.now)) c.requires.known in
+    (gives.more, sym c.give_segments.ensures.back.gave.log ∙ gives.log)
+
+pub returns-clause-back : goal.returns-clause-back
+returns-clause-back g c =
+    let given = c.give_segments.ensures in
+    let back = given.back in
+    let roster = ap (λ roster. is_member roster 0) c.step_with_room-answer.ensures.roster in
+    record {
+      taken = back.gave.taken;
+      home = back.gave.home;
+      slots = back.slots;
+      parts = record { part = given.part; joined = back.gave.joined ∙ roster ∙ c.requires.has.roster };
+      others = back.others;
+    }
+
+pub returns-clause-own : goal.returns-clause-own
+returns-clause-own g c = c.give_segments.ensures.back.gave.own
+
+pub returns-clause-weight : goal.returns-clause-weight
+returns-clause-weight g c = c.give_segments.ensures.back.weight
+
+pub returns-clause-handed : goal.returns-clause-handed
+returns-clause-handed g c =
+    let step = c.step_with_room-answer in (
+      gives_segments step.new.segs ∷ [],
+      c.give_segments.ensures.back.gave.did,
+      handed_by c.args.event c.args.core.now step.new.core c.args.segs step.new.segs step.result step.ensures.ok step.ensures.err,
+    )

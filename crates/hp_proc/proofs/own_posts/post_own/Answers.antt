@@ -1,5 +1,6 @@
 -- The frame says the message, and the plan has it.
 use Rattle.std.proofs.Common.{[], ◌∷◌, subst}
+use Rattle.hp_hall.specs.HallState.{Did}
 use Rattle.hp_hall.specs.Mail.{Posts}
 use Rattle.hp_proc.proofs.own_posts.post_own.Goals as goal
 
@@ -10,6 +11,6 @@ returns-clause-did g c =
       frame,
       posted,
       c.framed-frame.ensures,
-      subst (λ action. g.H.Hall.did c.args.hall.now c.post-posted.new.hall c.args.me (Posts 0 frame action posted ∷ []))
+      subst (λ action. Did c.args.me (Posts 0 frame action posted ∷ []) (g.H.Hall.state c.args.hall.now) (g.H.Hall.state c.post-posted.new.self))
           c.message-action.ensures.action c.post-posted.ensures.did,
     )

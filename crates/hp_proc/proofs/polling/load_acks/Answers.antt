@@ -1,8 +1,10 @@
 -- One more number is loaded.
-use Rattle.std.proofs.Common.{◌≡◌, ◌∙◌, ◌+◌, ◌<◌, ◌≤◌, ◌≢◌, ℕ, zero, suc, List, [], ◌∷◌, ◌++◌, append-nil, length, refl, ap, sym, subst, arith, get_or-set_other, get_or-set_same, below_more}
+use Rattle.std.proofs.Common.{◌≡◌, ◌∙◌, ◌+◌, ◌<◌, ◌≤◌, ◌≢◌, ℕ, zero, suc, List, [], ◌∷◌, ◌++◌, length, refl, ap, sym, subst, arith, get_or-set_other, get_or-set_same, below_more}
 use Rattle.std.specs.Prelude.{nat_lt, slice_index, slice_set, if◌then◌else◌}
 use Rattle.std.proofs.Math.ListN.{length-set}
 use Rattle.std.proofs.lemmas.List.{get_or-replicate}
+use Rattle.hp_hall.specs.HallState.{Did, known_to}
+use Rattle.hp_hall.proofs.HallStates.{did_same, did_then, stays_same, stays_then}
 use Rattle.hp_hall.specs.Mail.{MailStep, Notes}
 use Rattle.hp_hall.specs.declared.note.Note.TheVariants.{Loaded}
 use Rattle.hp_proc.specs.Coordinating.{loads_of}
@@ -57,68 +59,53 @@ unfolding loads_of
 loads_none count acks = refl
 
 pub loop-member-init : goal.loop-member-init
-loop-member-init g c = record {
-  places = refl;
-  noted = λ member early. omega arith;
-  seen = ([], sym (append-nil (g.H.Hall.seen c.args.hall.now 0)));
-  taken = λ number. refl;
-  home = λ number may. may;
-  part = λ who heap. refl;
-  own = λ who. refl;
-  did = subst (g.H.Hall.did c.args.hall.now c.args.hall.now 0) (loads_none (g.H.Hall.count c.args.hall.now) _) (g.met.H.Hall.did_same _ 0);
-  nobody = λ member past few. get_or-replicate 16 member 0 0 few;
-  did_others = λ who apart. g.met.H.Hall.did_same _ who;
-  weight = omega arith;
-  clock = refl;
-  count = refl;
-  still = c.requires.serves;
-  goes_on = g.met.H.Hall.goes_on_same _;
-}
+loop-member-init g c =
+    let old = g.H.Hall.state c.args.hall.now in
+    record {
+      places = refl;
+      noted = λ member early. omega arith;
+      did = subst (λ (steps : List MailStep). Did 0 steps old old) (loads_none old.count _) (did_same 0 old);
+      nobody = λ member past few. get_or-replicate 16 member 0 0 few;
+      stays = stays_same 0 old;
+      weight = omega arith;
+      goes_on = g.met.H.Hall.goes_on_same _;
+    }
 
 pub loop-member-preserved : goal.loop-member-preserved
 loop-member-preserved g c =
     let was = c.loop-member.invariant in
     let one = c.load_number.ensures in
-    let goes_on = g.met.H.Hall.goes_on_then _ _ _ was.goes_on one.goes_on in
+    let old = g.H.Hall.state c.args.hall.now in
+    let mid = g.H.Hall.state c.loop-member.hall in
+    let new = g.H.Hall.state c.load_number.new.hall in
     let places = was.places in
     let below = c.loop-member-test.true in
     record {
       places = length-set c.loop-member.acks c.loop-member.member c.load_number.result ∙ places;
       noted =
-          acks_more c.loop-member.acks c.loop-member.member c.load_number.result (g.H.Hall.noted c.loop-member.hall 0)
-          (g.H.Hall.noted c.load_number.new.hall 0) (omega (arith, places, below)) was.noted one.more_noted one.noted;
-      seen = g.met.H.Hall.goes_on_seen _ _ 0 goes_on;
-      taken = λ number. one.taken number ∙ was.taken number;
-      home = λ number may. one.home number (was.home number may);
-      part = λ who heap. one.part who heap ∙ was.part who heap;
-      own = λ who. one.own who ∙ was.own who;
-      did = subst (g.H.Hall.did c.args.hall.now c.load_number.new.hall 0)
-          (loads_more (g.H.Hall.count c.args.hall.now) c.loop-member.acks c.loop-member.member c.load_number.result _
-          (omega (arith, places, below)) (omega arith))
-          (g.met.H.Hall.did_then _ _ _ 0 _ _ was.did
-          (subst (λ (count : ℕ). g.H.Hall.did c.loop-member.hall c.load_number.new.hall 0
-          (if nat_lt c.loop-member.member count then Notes (Loaded c.loop-member.member c.load_number.result) ∷ [] else []))
+          acks_more c.loop-member.acks c.loop-member.member c.load_number.result (known_to 0 mid).noted (known_to 0 new).noted (omega (arith, places, below))
+          was.noted (λ k. (one.stays.others.later.noted 0 k).number) one.noted;
+      did = subst (λ (steps : List MailStep). Did 0 steps old new)
+          (loads_more old.count c.loop-member.acks c.loop-member.member c.load_number.result _ (omega (arith, places, below)) (omega arith))
+          (did_then was.did
+          (subst (λ (count : ℕ). Did 0 (if nat_lt c.loop-member.member count then Notes (Loaded c.loop-member.member c.load_number.result) ∷ [] else []) mid new)
           c.participants-count.ensures one.did));
       nobody =
-          nobody_more (g.H.Hall.count c.args.hall.now) c.loop-member.acks c.loop-member.member c.load_number.result
-          (omega (arith, places, below)) was.nobody
+          nobody_more old.count c.loop-member.acks c.loop-member.member c.load_number.result (omega (arith, places, below)) was.nobody
           (λ past. one.nobody (subst (λ (count : ℕ). count ≤ c.loop-member.member) (sym c.participants-count.ensures) past));
-      did_others = λ who apart. g.met.H.Hall.did_then _ _ _ who [] [] (was.did_others who apart) (one.did_others who apart);
+      stays = stays_then was.stays one.stays;
       weight =
           let lighter = one.weight in
           let so_far = was.weight in
           omega (arith, lighter, so_far);
-      clock = one.clock ∙ was.clock;
-      count = one.count ∙ was.count;
-      still = one.still;
-      goes_on = goes_on;
+      goes_on = g.met.H.Hall.goes_on_then _ _ _ was.goes_on one.goes_on;
     }
 
 pub returns-clause-did : goal.returns-clause-did
 returns-clause-did g c =
     let was = c.loop-member.invariant in
     let all : c.loop-member.member ≡ 16 = omega (arith, c.loop-member-test.false, c.loop-member.auto.member-end) in (
-      loads_of (g.H.Hall.count c.args.hall.now) c.loop-member.acks c.loop-member.member,
+      loads_of (g.H.Hall.state c.args.hall.now).count c.loop-member.acks c.loop-member.member,
       was.did,
-      record { looked_up = ap (loads_of (g.H.Hall.count c.args.hall.now) c.loop-member.acks) all; nobody = was.nobody },
+      record { looked_up = ap (loads_of (g.H.Hall.state c.args.hall.now).count c.loop-member.acks) all; nobody = was.nobody },
     )

@@ -1,7 +1,7 @@
 use Rattle.std.proofs.Common.{List, length, ap, subst}
 use Rattle.std.specs.Result.{result_ok}
 use Rattle.hp_base.specs.declared.limits.TheConstants.{MAX_HEAPS}
-use Rattle.hp_hall.specs.HallView.{HasDone, slot_at}
+use Rattle.hp_plain.specs.HallView.{HasDone, slot_at}
 use Rattle.hp_hall.specs.Mail.{MailStep}
 use Rattle.hp_solo.proofs.Looked.{found_nothing, has_rested}
 use Rattle.hp_solo.proofs.SoloTies.{free_home}

@@ -83,14 +83,14 @@ returns-in-Resize-clause-does g c =
     let me = party.me in
     let hall = c.args.hall.now in
     let is =
-    is_resized (g.H.Hall.count hall) (g.H.Hall.did hall hall me) (g.met.H.Hall.did_same hall me) (g.H.Hall.taken hall) c.in-Resize.size
-    c.args.addr c.args.place.now c.resize_held.result party c.resize_held.new.self (g.H.Hall.part hall me) (g.H.Hall.seen hall me)
-    (g.H.Hall.heard hall me) c.args.heap.now c.resize_held.new.heap c.requires.its c.requires.in_hand c.in-Resize.zone
+    is_resized (g.H.Hall.state hall).count (did_in me (g.H.Hall.state hall) (g.H.Hall.state hall)) (did_same me (g.H.Hall.state hall)) (g.H.Hall.state hall).taken c.in-Resize.size
+    c.args.addr c.args.place.now c.resize_held.result party c.resize_held.new.self ((g.H.Hall.state hall).part me) ((g.H.Hall.state hall).seen me)
+    ((g.H.Hall.state hall).heard me) c.args.heap.now c.resize_held.new.heap c.requires.its c.requires.in_hand c.in-Resize.zone
     c.resize_held.ensures.zone c.resize_held.ensures.resized in
-    subst (λ (action : ElementAct). Does (g.H.Hall.count hall) (g.H.Hall.did hall hall me) (acting action c.args.place.now c.args.addr)
-    (Doing.Ended c.resize_held.result) (in_hand c.args.heap.now (moment_of party (g.H.Hall.part hall me) (g.H.Hall.seen hall me)
-    (g.H.Hall.heard hall me))) (in_hand c.resize_held.new.heap (moment_of c.resize_held.new.self (g.H.Hall.part hall me) (g.H.Hall.seen hall me)
-    (g.H.Hall.heard hall me)))) (sym c.in-Resize.is) is.does
+    subst (λ (action : ElementAct). Does (g.H.Hall.state hall).count (did_in me (g.H.Hall.state hall) (g.H.Hall.state hall)) (acting action c.args.place.now c.args.addr)
+    (Doing.Ended c.resize_held.result) (in_hand c.args.heap.now (moment_of party ((g.H.Hall.state hall).part me) ((g.H.Hall.state hall).seen me)
+    ((g.H.Hall.state hall).heard me))) (in_hand c.resize_held.new.heap (moment_of c.resize_held.new.self ((g.H.Hall.state hall).part me) ((g.H.Hall.state hall).seen me)
+    ((g.H.Hall.state hall).heard me)))) (sym c.in-Resize.is) is.does
 
 pub returns-in-Resize-clause-in_hand : goal.returns-in-Resize-clause-in_hand
 returns-in-Resize-clause-in_hand g c =
@@ -98,9 +98,9 @@ returns-in-Resize-clause-in_hand g c =
     let me = party.me in
     let hall = c.args.hall.now in
     let is =
-    is_resized (g.H.Hall.count hall) (g.H.Hall.did hall hall me) (g.met.H.Hall.did_same hall me) (g.H.Hall.taken hall) c.in-Resize.size
-    c.args.addr c.args.place.now c.resize_held.result party c.resize_held.new.self (g.H.Hall.part hall me) (g.H.Hall.seen hall me)
-    (g.H.Hall.heard hall me) c.args.heap.now c.resize_held.new.heap c.requires.its c.requires.in_hand c.in-Resize.zone
+    is_resized (g.H.Hall.state hall).count (did_in me (g.H.Hall.state hall) (g.H.Hall.state hall)) (did_same me (g.H.Hall.state hall)) (g.H.Hall.state hall).taken c.in-Resize.size
+    c.args.addr c.args.place.now c.resize_held.result party c.resize_held.new.self ((g.H.Hall.state hall).part me) ((g.H.Hall.state hall).seen me)
+    ((g.H.Hall.state hall).heard me) c.args.heap.now c.resize_held.new.heap c.requires.its c.requires.in_hand c.in-Resize.zone
     c.resize_held.ensures.zone c.resize_held.ensures.resized in
     is.in_hand
 
@@ -110,9 +110,9 @@ returns-in-Resize-clause-index g c =
     let me = party.me in
     let hall = c.args.hall.now in
     let is =
-    is_resized (g.H.Hall.count hall) (g.H.Hall.did hall hall me) (g.met.H.Hall.did_same hall me) (g.H.Hall.taken hall) c.in-Resize.size
-    c.args.addr c.args.place.now c.resize_held.result party c.resize_held.new.self (g.H.Hall.part hall me) (g.H.Hall.seen hall me)
-    (g.H.Hall.heard hall me) c.args.heap.now c.resize_held.new.heap c.requires.its c.requires.in_hand c.in-Resize.zone
+    is_resized (g.H.Hall.state hall).count (did_in me (g.H.Hall.state hall) (g.H.Hall.state hall)) (did_same me (g.H.Hall.state hall)) (g.H.Hall.state hall).taken c.in-Resize.size
+    c.args.addr c.args.place.now c.resize_held.result party c.resize_held.new.self ((g.H.Hall.state hall).part me) ((g.H.Hall.state hall).seen me)
+    ((g.H.Hall.state hall).heard me) c.args.heap.now c.resize_held.new.heap c.requires.its c.requires.in_hand c.in-Resize.zone
     c.resize_held.ensures.zone c.resize_held.ensures.resized in
     is.index
 
@@ -122,9 +122,9 @@ returns-in-Resize-clause-its_socket g c =
     let me = party.me in
     let hall = c.args.hall.now in
     let is =
-    is_resized (g.H.Hall.count hall) (g.H.Hall.did hall hall me) (g.met.H.Hall.did_same hall me) (g.H.Hall.taken hall) c.in-Resize.size
-    c.args.addr c.args.place.now c.resize_held.result party c.resize_held.new.self (g.H.Hall.part hall me) (g.H.Hall.seen hall me)
-    (g.H.Hall.heard hall me) c.args.heap.now c.resize_held.new.heap c.requires.its c.requires.in_hand c.in-Resize.zone
+    is_resized (g.H.Hall.state hall).count (did_in me (g.H.Hall.state hall) (g.H.Hall.state hall)) (did_same me (g.H.Hall.state hall)) (g.H.Hall.state hall).taken c.in-Resize.size
+    c.args.addr c.args.place.now c.resize_held.result party c.resize_held.new.self ((g.H.Hall.state hall).part me) ((g.H.Hall.state hall).seen me)
+    ((g.H.Hall.state hall).heard me) c.args.heap.now c.resize_held.new.heap c.requires.its c.requires.in_hand c.in-Resize.zone
     c.resize_held.ensures.zone c.resize_held.ensures.resized in
     is.serves
 
@@ -134,11 +134,11 @@ returns-in-Resize-clause-settled g c =
     let me = party.me in
     let hall = c.args.hall.now in
     let is =
-    is_resized (g.H.Hall.count hall) (g.H.Hall.did hall hall me) (g.met.H.Hall.did_same hall me) (g.H.Hall.taken hall) c.in-Resize.size
-    c.args.addr c.args.place.now c.resize_held.result party c.resize_held.new.self (g.H.Hall.part hall me) (g.H.Hall.seen hall me)
-    (g.H.Hall.heard hall me) c.args.heap.now c.resize_held.new.heap c.requires.its c.requires.in_hand c.in-Resize.zone
+    is_resized (g.H.Hall.state hall).count (did_in me (g.H.Hall.state hall) (g.H.Hall.state hall)) (did_same me (g.H.Hall.state hall)) (g.H.Hall.state hall).taken c.in-Resize.size
+    c.args.addr c.args.place.now c.resize_held.result party c.resize_held.new.self ((g.H.Hall.state hall).part me) ((g.H.Hall.state hall).seen me)
+    ((g.H.Hall.state hall).heard me) c.args.heap.now c.resize_held.new.heap c.requires.its c.requires.in_hand c.in-Resize.zone
     c.resize_held.ensures.zone c.resize_held.ensures.resized in
-    subst (λ (who : ℕ). HasSettledAsks who (g.H.Hall.part hall me) (g.H.Hall.heard hall me)) (sym (ap (λ (party : Party). party.me) is.calls))
+    subst (λ (who : ℕ). HasSettledAsks who ((g.H.Hall.state hall).part me) ((g.H.Hall.state hall).heard me)) (sym (ap (λ (party : Party). party.me) is.calls))
     c.requires.settled
 
 pub returns-in-Resize-clause-tied : goal.returns-in-Resize-clause-tied
@@ -147,8 +147,8 @@ returns-in-Resize-clause-tied g c =
     let me = party.me in
     let hall = c.args.hall.now in
     let is =
-    is_resized (g.H.Hall.count hall) (g.H.Hall.did hall hall me) (g.met.H.Hall.did_same hall me) (g.H.Hall.taken hall) c.in-Resize.size
-    c.args.addr c.args.place.now c.resize_held.result party c.resize_held.new.self (g.H.Hall.part hall me) (g.H.Hall.seen hall me)
-    (g.H.Hall.heard hall me) c.args.heap.now c.resize_held.new.heap c.requires.its c.requires.in_hand c.in-Resize.zone
+    is_resized (g.H.Hall.state hall).count (did_in me (g.H.Hall.state hall) (g.H.Hall.state hall)) (did_same me (g.H.Hall.state hall)) (g.H.Hall.state hall).taken c.in-Resize.size
+    c.args.addr c.args.place.now c.resize_held.result party c.resize_held.new.self ((g.H.Hall.state hall).part me) ((g.H.Hall.state hall).seen me)
+    ((g.H.Hall.state hall).heard me) c.args.heap.now c.resize_held.new.heap c.requires.its c.requires.in_hand c.in-Resize.zone
     c.resize_held.ensures.zone c.resize_held.ensures.resized in
-    subst (λ (party : Party). IsTied (g.H.Hall.seen hall me) (g.H.Hall.own hall me) party.joined party.maps) (sym is.calls) c.requires.tied
+    subst (λ (party : Party). IsTied ((g.H.Hall.state hall).seen me) ((g.H.Hall.state hall).own me) party.joined party.maps) (sym is.calls) c.requires.tied

@@ -41,13 +41,13 @@ returns-in_default-clause-does g c = λ facts known.
     let me = party.me in
     let hall = c.args.hall.now in
     let goes : Tag → List SearchedHeap → Doing = λ (tag : Tag). looking tag (acting (act_for tag.zone c.args.size)) in
-    let moment = moment_of party (g.H.Hall.part hall me) (g.H.Hall.seen hall me) (g.H.Hall.heard hall me) in
+    let moment = moment_of party ((g.H.Hall.state hall).part me) ((g.H.Hall.state hall).seen me) ((g.H.Hall.state hall).heard me) in
     let none : maker_of party.context.lines c.args.label.now.text ≡ None =
     subst (λ (text : List ℕ). maker_of party.context.lines text ≡ None) c.as_bytes.ensures.text
     (subst (λ (party : Party). maker_of party.context.lines c.as_bytes.result.now ≡ None) c.self.view_is (sym c.in_default.ensures)) in
-    subst (λ (doing : Doing). Does (g.H.Hall.count hall) (g.H.Hall.did hall hall me) doing (Doing.Ended answer.NoElement) moment moment)
+    subst (λ (doing : Doing). Does (g.H.Hall.state hall).count (did_in me (g.H.Hall.state hall) (g.H.Hall.state hall)) doing (Doing.Ended answer.NoElement) moment moment)
     (unmade me party.socket party.context c.args.line.now c.args.label.now facts known c.requires.label goes none)
-    (does_same (g.H.Hall.count hall) (g.H.Hall.did hall hall me) (Doing.Ended answer.NoElement) moment (g.met.H.Hall.did_same hall me))
+    (does_same (g.H.Hall.state hall).count (did_in me (g.H.Hall.state hall) (g.H.Hall.state hall)) (Doing.Ended answer.NoElement) moment (did_same me (g.H.Hall.state hall)))
 
 pub look_for-requires-clause-places : goal.look_for-requires-clause-places
 look_for-requires-clause-places g c = λ place among.
@@ -63,8 +63,8 @@ returns-clause-does g c =
     let maker = c.in-Some.maker.now in
     let zone = c.is_zone-zone.result in
     let goes : Tag → List SearchedHeap → Doing = λ (tag : Tag). looking tag (acting (act_for tag.zone c.args.size)) in
-    let first = moment_of party (g.H.Hall.part old me) (g.H.Hall.seen old me) (g.H.Hall.heard old me) in
-    let last = moment_of c.look_for.new.self (g.H.Hall.part new me) (g.H.Hall.seen new me) (g.H.Hall.heard new me) in
+    let first = moment_of party ((g.H.Hall.state old).part me) ((g.H.Hall.state old).seen me) ((g.H.Hall.state old).heard me) in
+    let last = moment_of c.look_for.new.self ((g.H.Hall.state new).part me) ((g.H.Hall.state new).seen me) ((g.H.Hall.state new).heard me) in
     let found : maker_of party.context.lines c.args.label.now.text ≡ Some maker =
     subst (λ (text : List ℕ). maker_of party.context.lines text ≡ Some maker) c.as_bytes.ensures.text
     (subst (λ (party : Party). maker_of party.context.lines c.as_bytes.result.now ≡ Some maker) c.self.view_is (sym c.in-Some.ensures)) in
@@ -73,9 +73,9 @@ returns-clause-does g c =
     (ap (λ (party : Party). party.context) c.self.view_is) c.is_zone-zone.ensures c.act_for-action.ensures c.deref.ensures.value
     c.in_ok-places.ensures.places in
     if_ok _ (λ given. (facts : Facts) → AreFactsOf party.socket party.context c.args.line.now facts
-    → Does (g.H.Hall.count old) (g.H.Hall.did old new me) (on_element me facts goes facts.maker) (Doing.Ended given) first last)
+    → Does (g.H.Hall.state old).count (did_in me (g.H.Hall.state old) (g.H.Hall.state new)) (on_element me facts goes facts.maker) (Doing.Ended given) first last)
     c.look_for.result
     (λ given does facts known.
-    subst (λ (doing : Doing). Does (g.H.Hall.count old) (g.H.Hall.did old new me) doing (Doing.Ended given) first last)
+    subst (λ (doing : Doing). Does (g.H.Hall.state old).count (did_in me (g.H.Hall.state old) (g.H.Hall.state new)) doing (Doing.Ended given) first last)
     (is ∙ made me party.socket party.context c.args.line.now c.args.label.now facts known c.requires.label goes maker found) does)
     c.look_for.ensures.does

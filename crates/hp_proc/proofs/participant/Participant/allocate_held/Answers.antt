@@ -23,30 +23,30 @@ use Rattle.hp_proc.proofs.participant.Participant.allocate_held.Goals as goal
 
 pub grow-requires-clause-serves : goal.grow-requires-clause-serves
 grow-requires-clause-serves g c =
-    subst (λ (party : Party). g.H.Hall.serves c.args.hall.now party.me) (sym c.allocate_in.ensures.counted) c.requires.serves
+    subst (λ (party : Party). (g.H.Hall.state c.args.hall.now).serves party.me) (sym c.allocate_in.ensures.counted) c.requires.serves
 
 pub grow-requires-clause-me : goal.grow-requires-clause-me
 grow-requires-clause-me g c =
-    subst (λ (party : Party). party.me < g.H.Hall.count c.args.hall.now) (sym c.allocate_in.ensures.counted) c.requires.me
+    subst (λ (party : Party). party.me < (g.H.Hall.state c.args.hall.now).count) (sym c.allocate_in.ensures.counted) c.requires.me
 
 pub grow-requires-clause-tied : goal.grow-requires-clause-tied
 grow-requires-clause-tied g c =
-    subst (λ (party : Party). IsTied (g.H.Hall.seen c.args.hall.now party.me) (g.H.Hall.own c.args.hall.now party.me) party.joined party.maps)
+    subst (λ (party : Party). IsTied ((g.H.Hall.state c.args.hall.now).seen party.me) ((g.H.Hall.state c.args.hall.now).own party.me) party.joined party.maps)
     (sym c.allocate_in.ensures.counted) c.requires.tied
 
 pub grow-requires-clause-settled : goal.grow-requires-clause-settled
 grow-requires-clause-settled g c =
-    subst (λ (party : Party). AreSettled (at g.H.Hall.count g.H.Hall.did g.H.Hall.part g.H.Hall.seen g.H.Hall.heard c.args.hall.now party.me party)) (sym c.allocate_in.ensures.counted) c.requires.settled
+    subst (λ (party : Party). AreSettled (moment party.me party (g.H.Hall.state c.args.hall.now))) (sym c.allocate_in.ensures.counted) c.requires.settled
 
 pub grow-requires-clause-in_hand : goal.grow-requires-clause-in_hand
 grow-requires-clause-in_hand g c =
     let hall = c.args.hall.now in
     let me = c.args.self.now.me in
-    subst (λ (who : ℕ). IsInHand (g.H.Hall.taken hall) (at g.H.Hall.count g.H.Hall.did g.H.Hall.part g.H.Hall.seen g.H.Hall.heard hall who c.allocate_in.new.self) c.allocate_in.new.heap)
+    subst (λ (who : ℕ). IsInHand (g.H.Hall.state hall).taken (moment who c.allocate_in.new.self (g.H.Hall.state hall)) c.allocate_in.new.heap)
     (sym (ap (λ (party : Party). party.me) c.allocate_in.ensures.counted))
-    (hand_stays c.args.self.now (g.H.Hall.part hall me) (g.H.Hall.seen hall me) (g.H.Hall.heard hall me)
+    (hand_stays c.args.self.now ((g.H.Hall.state hall).part me) ((g.H.Hall.state hall).seen me) ((g.H.Hall.state hall).heard me)
     (call.Alloc c.with_flags-first.result c.args.tag) (address_answer c.allocate_in.result) c.args.heap.now c.allocate_in.new.heap
-    c.allocate_in.ensures.step (g.H.Hall.taken hall) c.requires.in_hand c.allocate_in.new.self c.allocate_in.ensures.counted
+    c.allocate_in.ensures.step (g.H.Hall.state hall).taken c.requires.in_hand c.allocate_in.new.self c.allocate_in.ensures.counted
     (alloc_pages _ _ _ _ _ _ c.allocate_in.ensures.step))
 
 pub grow-requires-clause-its : goal.grow-requires-clause-its
@@ -59,9 +59,9 @@ pub returns-in-Some-clause-in_hand : goal.returns-in-Some-clause-in_hand
 returns-in-Some-clause-in_hand g c =
     let hall = c.args.hall.now in
     let me = c.args.self.now.me in
-    hand_stays c.args.self.now (g.H.Hall.part hall me) (g.H.Hall.seen hall me) (g.H.Hall.heard hall me)
+    hand_stays c.args.self.now ((g.H.Hall.state hall).part me) ((g.H.Hall.state hall).seen me) ((g.H.Hall.state hall).heard me)
     (call.Alloc c.with_flags-first.result c.args.tag) (address_answer c.allocate_in.result) c.args.heap.now c.allocate_in.new.heap
-    c.allocate_in.ensures.step (g.H.Hall.taken hall) c.requires.in_hand c.allocate_in.new.self c.allocate_in.ensures.counted
+    c.allocate_in.ensures.step (g.H.Hall.state hall).taken c.requires.in_hand c.allocate_in.new.self c.allocate_in.ensures.counted
     (alloc_pages _ _ _ _ _ _ c.allocate_in.ensures.step)
 
 pub returns-in-Some-clause-does : goal.returns-in-Some-clause-does
@@ -76,23 +76,23 @@ returns-in-Some-clause-does g c = λ heaps.
     let otherwise = trying pools request tag heaps in
     let doing = trying pools request tag (named_heap place ∷ heaps) in
     let left = asking place.index place.socket request tag otherwise (page_sizes_for pools place.socket request.flags) in
-    let before = in_hand c.args.heap.now (at g.H.Hall.count g.H.Hall.did g.H.Hall.part g.H.Hall.seen g.H.Hall.heard hall me party) in
+    let before = in_hand c.args.heap.now (moment me party (g.H.Hall.state hall)) in
     let step : IsCall (caller_of party) (call.Alloc (with_flags (without_hint request.flags) request) tag) (address_answer c.allocate_in.result)
     c.args.heap.now c.allocate_in.new.heap =
     subst (λ (first : Request). IsCall (caller_of party) (call.Alloc first tag) (address_answer c.allocate_in.result) c.args.heap.now
     c.allocate_in.new.heap)
     (c.with_flags-first.ensures ∙ ap (λ (flags : ℕ). with_flags flags request) c.without_hint.ensures) c.allocate_in.ensures.step in
-    let searched : DoesIn place.index (g.H.Hall.count hall) (g.H.Hall.did hall hall me) doing
-    (unless_found left (address_answer c.allocate_in.result)) before (in_hand c.allocate_in.new.heap (at g.H.Hall.count g.H.Hall.did g.H.Hall.part g.H.Hall.seen g.H.Hall.heard hall me c.allocate_in.new.self)) =
-    called_then party c.allocate_in.new.self (g.H.Hall.part hall me) (g.H.Hall.seen hall me) (g.H.Hall.heard hall me)
+    let searched : DoesIn place.index (g.H.Hall.state hall).count (did_in me (g.H.Hall.state hall) (g.H.Hall.state hall)) doing
+    (unless_found left (address_answer c.allocate_in.result)) before (in_hand c.allocate_in.new.heap (moment me c.allocate_in.new.self (g.H.Hall.state hall))) =
+    called_then party c.allocate_in.new.self ((g.H.Hall.state hall).part me) ((g.H.Hall.state hall).seen me) ((g.H.Hall.state hall).heard me)
     (call.Alloc (with_flags (without_hint request.flags) request) tag) (address_answer c.allocate_in.result) c.args.heap.now
-    c.allocate_in.new.heap step c.allocate_in.ensures.counted place.index c.requires.its (g.H.Hall.count hall) (g.H.Hall.did hall hall me) doing
+    c.allocate_in.new.heap step c.allocate_in.ensures.counted place.index c.requires.its (g.H.Hall.state hall).count (did_in me (g.H.Hall.state hall) (g.H.Hall.state hall)) doing
     (unless_found left) before (found_whole c.allocate_in.result)
-    (does_same (g.H.Hall.count hall) (g.H.Hall.did hall hall me) doing before (g.met.H.Hall.did_same hall me)) in
-    tries_in place.index (g.H.Hall.count hall) (g.H.Hall.did hall hall me) doing otherwise (gives.Address c.in-Some.addr) before
-    (in_hand c.allocate_in.new.heap (at g.H.Hall.count g.H.Hall.did g.H.Hall.part g.H.Hall.seen g.H.Hall.heard hall me c.allocate_in.new.self))
-    (subst (λ (found : Option ℕ). DoesIn place.index (g.H.Hall.count hall) (g.H.Hall.did hall hall me) doing
-    (unless_found left (address_answer found)) before (in_hand c.allocate_in.new.heap (at g.H.Hall.count g.H.Hall.did g.H.Hall.part g.H.Hall.seen g.H.Hall.heard hall me c.allocate_in.new.self)))
+    (does_same (g.H.Hall.state hall).count (did_in me (g.H.Hall.state hall) (g.H.Hall.state hall)) doing before (did_same me (g.H.Hall.state hall))) in
+    tries_in place.index (g.H.Hall.state hall).count (did_in me (g.H.Hall.state hall) (g.H.Hall.state hall)) doing otherwise (gives.Address c.in-Some.addr) before
+    (in_hand c.allocate_in.new.heap (moment me c.allocate_in.new.self (g.H.Hall.state hall)))
+    (subst (λ (found : Option ℕ). DoesIn place.index (g.H.Hall.state hall).count (did_in me (g.H.Hall.state hall) (g.H.Hall.state hall)) doing
+    (unless_found left (address_answer found)) before (in_hand c.allocate_in.new.heap (moment me c.allocate_in.new.self (g.H.Hall.state hall))))
     c.in-Some.is searched)
 
 pub returns-in-Some-clause-index : goal.returns-in-Some-clause-index
@@ -105,7 +105,7 @@ pub returns-in-Some-clause-settled : goal.returns-in-Some-clause-settled
 returns-in-Some-clause-settled g c =
     let hall = c.args.hall.now in
     let me = c.args.self.now.me in
-    subst (λ (party : Party). AreSettled (at g.H.Hall.count g.H.Hall.did g.H.Hall.part g.H.Hall.seen g.H.Hall.heard hall me party)) (sym c.allocate_in.ensures.counted) c.requires.settled
+    subst (λ (party : Party). AreSettled (moment me party (g.H.Hall.state hall))) (sym c.allocate_in.ensures.counted) c.requires.settled
 
 -- NO PLACE WAS FOUND
 
@@ -127,41 +127,39 @@ returns-then-not-branch-clause-does g c = λ heaps.
     let otherwise = trying pools request tag heaps in
     let doing = trying pools request tag (named_heap place ∷ heaps) in
     let left = asking place.index place.socket request tag otherwise (page_sizes_for pools place.socket request.flags) in
-    let before = in_hand c.args.heap.now (at g.H.Hall.count g.H.Hall.did g.H.Hall.part g.H.Hall.seen g.H.Hall.heard hall me party) in
+    let before = in_hand c.args.heap.now (moment me party (g.H.Hall.state hall)) in
     let step : IsCall (caller_of party) (call.Alloc (with_flags (without_hint request.flags) request) tag) (address_answer c.allocate_in.result)
     c.args.heap.now c.allocate_in.new.heap =
     subst (λ (first : Request). IsCall (caller_of party) (call.Alloc first tag) (address_answer c.allocate_in.result) c.args.heap.now
     c.allocate_in.new.heap)
     (c.with_flags-first.ensures ∙ ap (λ (flags : ℕ). with_flags flags request) c.without_hint.ensures) c.allocate_in.ensures.step in
-    let searched : DoesIn place.index (g.H.Hall.count hall) (g.H.Hall.did hall hall me) doing
-    (unless_found left (address_answer c.allocate_in.result)) before (in_hand c.allocate_in.new.heap (at g.H.Hall.count g.H.Hall.did g.H.Hall.part g.H.Hall.seen g.H.Hall.heard hall me c.allocate_in.new.self)) =
-    called_then party c.allocate_in.new.self (g.H.Hall.part hall me) (g.H.Hall.seen hall me) (g.H.Hall.heard hall me)
+    let searched : DoesIn place.index (g.H.Hall.state hall).count (did_in me (g.H.Hall.state hall) (g.H.Hall.state hall)) doing
+    (unless_found left (address_answer c.allocate_in.result)) before (in_hand c.allocate_in.new.heap (moment me c.allocate_in.new.self (g.H.Hall.state hall))) =
+    called_then party c.allocate_in.new.self ((g.H.Hall.state hall).part me) ((g.H.Hall.state hall).seen me) ((g.H.Hall.state hall).heard me)
     (call.Alloc (with_flags (without_hint request.flags) request) tag) (address_answer c.allocate_in.result) c.args.heap.now
-    c.allocate_in.new.heap step c.allocate_in.ensures.counted place.index c.requires.its (g.H.Hall.count hall) (g.H.Hall.did hall hall me) doing
+    c.allocate_in.new.heap step c.allocate_in.ensures.counted place.index c.requires.its (g.H.Hall.state hall).count (did_in me (g.H.Hall.state hall) (g.H.Hall.state hall)) doing
     (unless_found left) before (found_whole c.allocate_in.result)
-    (does_same (g.H.Hall.count hall) (g.H.Hall.did hall hall me) doing before (g.met.H.Hall.did_same hall me)) in
+    (does_same (g.H.Hall.state hall).count (did_in me (g.H.Hall.state hall) (g.H.Hall.state hall)) doing before (did_same me (g.H.Hall.state hall))) in
     let mine : c.allocate_in.new.self.me ≡ me = ap (λ (party : Party). party.me) c.allocate_in.ensures.counted in
     let third = c.grow.new.hall in
-    let passed : Does (g.H.Hall.count hall) (g.H.Hall.did hall hall me) doing left before
-    (in_hand c.allocate_in.new.heap (at g.H.Hall.count g.H.Hall.did g.H.Hall.part g.H.Hall.seen g.H.Hall.heard hall me c.allocate_in.new.self)) =
-    subst (λ (found : Option ℕ). Does (g.H.Hall.count hall) (g.H.Hall.did hall hall me) doing (unless_found left (address_answer found)) before
-    (in_hand c.allocate_in.new.heap (at g.H.Hall.count g.H.Hall.did g.H.Hall.part g.H.Hall.seen g.H.Hall.heard hall me c.allocate_in.new.self))) c.in_default.is searched.does in
+    let passed : Does (g.H.Hall.state hall).count (did_in me (g.H.Hall.state hall) (g.H.Hall.state hall)) doing left before
+    (in_hand c.allocate_in.new.heap (moment me c.allocate_in.new.self (g.H.Hall.state hall))) =
+    subst (λ (found : Option ℕ). Does (g.H.Hall.state hall).count (did_in me (g.H.Hall.state hall) (g.H.Hall.state hall)) doing (unless_found left (address_answer found)) before
+    (in_hand c.allocate_in.new.heap (moment me c.allocate_in.new.self (g.H.Hall.state hall)))) c.in_default.is searched.does in
     let told =
-    subst (λ (pools : List PoolLine). Does (g.H.Hall.count hall) (g.H.Hall.did hall third c.allocate_in.new.self.me)
+    subst (λ (pools : List PoolLine). Does (g.H.Hall.state hall).count (did_in c.allocate_in.new.self.me (g.H.Hall.state hall) (g.H.Hall.state third))
     (asking place.index place.socket request tag otherwise (page_sizes_for pools place.socket request.flags))
     (behind_asking place.index request tag otherwise c.in_ok-grow.field-0)
-    (in_hand c.allocate_in.new.heap (at g.H.Hall.count g.H.Hall.did g.H.Hall.part g.H.Hall.seen g.H.Hall.heard hall c.allocate_in.new.self.me c.allocate_in.new.self))
-    (in_hand c.grow.new.heap (at g.H.Hall.count g.H.Hall.did g.H.Hall.part g.H.Hall.seen g.H.Hall.heard third c.allocate_in.new.self.me c.grow.new.self)))
+    (in_hand c.allocate_in.new.heap (moment c.allocate_in.new.self.me c.allocate_in.new.self (g.H.Hall.state hall)))
+    (in_hand c.grow.new.heap (moment c.allocate_in.new.self.me c.grow.new.self (g.H.Hall.state third))))
     (ap (λ (party : Party). party.context.pools) c.allocate_in.ensures.counted) (c.in_ok-grow.ensures.does tag otherwise) in
-    let grown : Does (g.H.Hall.count hall) (g.H.Hall.did hall third me) doing (behind_asking place.index request tag otherwise c.in_ok-grow.field-0)
-    before (in_hand c.grow.new.heap (at g.H.Hall.count g.H.Hall.did g.H.Hall.part g.H.Hall.seen g.H.Hall.heard third me c.grow.new.self)) =
-    does_more g.H.Hall.count g.H.Hall.did g.H.Hall.part g.H.Hall.seen g.H.Hall.heard hall hall third c.allocate_in.new.self.me me (in_hand c.allocate_in.new.heap) (in_hand c.grow.new.heap)
-    c.allocate_in.new.self c.grow.new.self before doing left (behind_asking place.index request tag otherwise c.in_ok-grow.field-0)
-    (g.met.H.Hall.did_then hall hall third me) mine refl passed told in
-    let granted : Bool → Type 0 = λ granted. Does (g.H.Hall.count hall) (g.H.Hall.did hall third me) doing
-    (behind_asking place.index request tag otherwise granted) before (in_hand c.grow.new.heap (at g.H.Hall.count g.H.Hall.did g.H.Hall.part g.H.Hall.seen g.H.Hall.heard third me c.grow.new.self)) in
-    tries_on place.index (g.H.Hall.count hall) (g.H.Hall.did hall third me) doing otherwise before
-    (in_hand c.grow.new.heap (at g.H.Hall.count g.H.Hall.did g.H.Hall.part g.H.Hall.seen g.H.Hall.heard third me c.grow.new.self)) (subst granted c.if-not-branch.true grown)
+    let grown : Does (g.H.Hall.state hall).count (did_in me (g.H.Hall.state hall) (g.H.Hall.state third)) doing (behind_asking place.index request tag otherwise c.in_ok-grow.field-0)
+    before (in_hand c.grow.new.heap (moment me c.grow.new.self (g.H.Hall.state third))) =
+    does_more (g.H.Hall.state hall) (g.H.Hall.state hall) (g.H.Hall.state third) c.allocate_in.new.self.me me (in_hand c.allocate_in.new.heap) (in_hand c.grow.new.heap) c.allocate_in.new.self c.grow.new.self before doing left (behind_asking place.index request tag otherwise c.in_ok-grow.field-0) mine refl passed told in
+    let granted : Bool → Type 0 = λ granted. Does (g.H.Hall.state hall).count (did_in me (g.H.Hall.state hall) (g.H.Hall.state third)) doing
+    (behind_asking place.index request tag otherwise granted) before (in_hand c.grow.new.heap (moment me c.grow.new.self (g.H.Hall.state third))) in
+    tries_on place.index (g.H.Hall.state hall).count (did_in me (g.H.Hall.state hall) (g.H.Hall.state third)) doing otherwise before
+    (in_hand c.grow.new.heap (moment me c.grow.new.self (g.H.Hall.state third))) (subst granted c.if-not-branch.true grown)
 
 pub returns-then-not-branch-clause-index : goal.returns-then-not-branch-clause-index
 returns-then-not-branch-clause-index g c = c.grow.ensures.index ∙ call_index _ _ _ _ _ c.allocate_in.ensures.step
@@ -171,7 +169,7 @@ returns-then-not-branch-clause-its_socket g c = c.grow.ensures.its_socket ∙ ca
 
 pub returns-then-not-branch-clause-settled : goal.returns-then-not-branch-clause-settled
 returns-then-not-branch-clause-settled g c =
-    subst (λ (who : ℕ). AreSettled (at g.H.Hall.count g.H.Hall.did g.H.Hall.part g.H.Hall.seen g.H.Hall.heard c.grow.new.hall who c.grow.new.self))
+    subst (λ (who : ℕ). AreSettled (moment who c.grow.new.self (g.H.Hall.state c.grow.new.hall)))
     (ap (λ (party : Party). party.me) c.allocate_in.ensures.counted) c.in_ok-grow.ensures.settled
 
 -- IT IS SEARCHED AGAIN
@@ -188,61 +186,59 @@ returns-in-Some-allocate_in-clause-does g c = λ heaps.
     let otherwise = trying pools request tag heaps in
     let doing = trying pools request tag (named_heap place ∷ heaps) in
     let left = asking place.index place.socket request tag otherwise (page_sizes_for pools place.socket request.flags) in
-    let before = in_hand c.args.heap.now (at g.H.Hall.count g.H.Hall.did g.H.Hall.part g.H.Hall.seen g.H.Hall.heard hall me party) in
+    let before = in_hand c.args.heap.now (moment me party (g.H.Hall.state hall)) in
     let step : IsCall (caller_of party) (call.Alloc (with_flags (without_hint request.flags) request) tag) (address_answer c.allocate_in.result)
     c.args.heap.now c.allocate_in.new.heap =
     subst (λ (first : Request). IsCall (caller_of party) (call.Alloc first tag) (address_answer c.allocate_in.result) c.args.heap.now
     c.allocate_in.new.heap)
     (c.with_flags-first.ensures ∙ ap (λ (flags : ℕ). with_flags flags request) c.without_hint.ensures) c.allocate_in.ensures.step in
-    let searched : DoesIn place.index (g.H.Hall.count hall) (g.H.Hall.did hall hall me) doing
-    (unless_found left (address_answer c.allocate_in.result)) before (in_hand c.allocate_in.new.heap (at g.H.Hall.count g.H.Hall.did g.H.Hall.part g.H.Hall.seen g.H.Hall.heard hall me c.allocate_in.new.self)) =
-    called_then party c.allocate_in.new.self (g.H.Hall.part hall me) (g.H.Hall.seen hall me) (g.H.Hall.heard hall me)
+    let searched : DoesIn place.index (g.H.Hall.state hall).count (did_in me (g.H.Hall.state hall) (g.H.Hall.state hall)) doing
+    (unless_found left (address_answer c.allocate_in.result)) before (in_hand c.allocate_in.new.heap (moment me c.allocate_in.new.self (g.H.Hall.state hall))) =
+    called_then party c.allocate_in.new.self ((g.H.Hall.state hall).part me) ((g.H.Hall.state hall).seen me) ((g.H.Hall.state hall).heard me)
     (call.Alloc (with_flags (without_hint request.flags) request) tag) (address_answer c.allocate_in.result) c.args.heap.now
-    c.allocate_in.new.heap step c.allocate_in.ensures.counted place.index c.requires.its (g.H.Hall.count hall) (g.H.Hall.did hall hall me) doing
+    c.allocate_in.new.heap step c.allocate_in.ensures.counted place.index c.requires.its (g.H.Hall.state hall).count (did_in me (g.H.Hall.state hall) (g.H.Hall.state hall)) doing
     (unless_found left) before (found_whole c.allocate_in.result)
-    (does_same (g.H.Hall.count hall) (g.H.Hall.did hall hall me) doing before (g.met.H.Hall.did_same hall me)) in
+    (does_same (g.H.Hall.state hall).count (did_in me (g.H.Hall.state hall) (g.H.Hall.state hall)) doing before (did_same me (g.H.Hall.state hall))) in
     let mine : c.allocate_in.new.self.me ≡ me = ap (λ (party : Party). party.me) c.allocate_in.ensures.counted in
     let third = c.grow.new.hall in
-    let passed : Does (g.H.Hall.count hall) (g.H.Hall.did hall hall me) doing left before
-    (in_hand c.allocate_in.new.heap (at g.H.Hall.count g.H.Hall.did g.H.Hall.part g.H.Hall.seen g.H.Hall.heard hall me c.allocate_in.new.self)) =
-    subst (λ (found : Option ℕ). Does (g.H.Hall.count hall) (g.H.Hall.did hall hall me) doing (unless_found left (address_answer found)) before
-    (in_hand c.allocate_in.new.heap (at g.H.Hall.count g.H.Hall.did g.H.Hall.part g.H.Hall.seen g.H.Hall.heard hall me c.allocate_in.new.self))) c.in_default.is searched.does in
+    let passed : Does (g.H.Hall.state hall).count (did_in me (g.H.Hall.state hall) (g.H.Hall.state hall)) doing left before
+    (in_hand c.allocate_in.new.heap (moment me c.allocate_in.new.self (g.H.Hall.state hall))) =
+    subst (λ (found : Option ℕ). Does (g.H.Hall.state hall).count (did_in me (g.H.Hall.state hall) (g.H.Hall.state hall)) doing (unless_found left (address_answer found)) before
+    (in_hand c.allocate_in.new.heap (moment me c.allocate_in.new.self (g.H.Hall.state hall)))) c.in_default.is searched.does in
     let told =
-    subst (λ (pools : List PoolLine). Does (g.H.Hall.count hall) (g.H.Hall.did hall third c.allocate_in.new.self.me)
+    subst (λ (pools : List PoolLine). Does (g.H.Hall.state hall).count (did_in c.allocate_in.new.self.me (g.H.Hall.state hall) (g.H.Hall.state third))
     (asking place.index place.socket request tag otherwise (page_sizes_for pools place.socket request.flags))
     (behind_asking place.index request tag otherwise c.in_ok-grow.field-0)
-    (in_hand c.allocate_in.new.heap (at g.H.Hall.count g.H.Hall.did g.H.Hall.part g.H.Hall.seen g.H.Hall.heard hall c.allocate_in.new.self.me c.allocate_in.new.self))
-    (in_hand c.grow.new.heap (at g.H.Hall.count g.H.Hall.did g.H.Hall.part g.H.Hall.seen g.H.Hall.heard third c.allocate_in.new.self.me c.grow.new.self)))
+    (in_hand c.allocate_in.new.heap (moment c.allocate_in.new.self.me c.allocate_in.new.self (g.H.Hall.state hall)))
+    (in_hand c.grow.new.heap (moment c.allocate_in.new.self.me c.grow.new.self (g.H.Hall.state third))))
     (ap (λ (party : Party). party.context.pools) c.allocate_in.ensures.counted) (c.in_ok-grow.ensures.does tag otherwise) in
-    let grown : Does (g.H.Hall.count hall) (g.H.Hall.did hall third me) doing (behind_asking place.index request tag otherwise c.in_ok-grow.field-0)
-    before (in_hand c.grow.new.heap (at g.H.Hall.count g.H.Hall.did g.H.Hall.part g.H.Hall.seen g.H.Hall.heard third me c.grow.new.self)) =
-    does_more g.H.Hall.count g.H.Hall.did g.H.Hall.part g.H.Hall.seen g.H.Hall.heard hall hall third c.allocate_in.new.self.me me (in_hand c.allocate_in.new.heap) (in_hand c.grow.new.heap)
-    c.allocate_in.new.self c.grow.new.self before doing left (behind_asking place.index request tag otherwise c.in_ok-grow.field-0)
-    (g.met.H.Hall.did_then hall hall third me) mine refl passed told in
-    let granted : Bool → Type 0 = λ granted. Does (g.H.Hall.count hall) (g.H.Hall.did hall third me) doing
-    (behind_asking place.index request tag otherwise granted) before (in_hand c.grow.new.heap (at g.H.Hall.count g.H.Hall.did g.H.Hall.part g.H.Hall.seen g.H.Hall.heard third me c.grow.new.self)) in
-    let again : DoesIn place.index (g.H.Hall.count hall) (g.H.Hall.did hall third me) doing
+    let grown : Does (g.H.Hall.state hall).count (did_in me (g.H.Hall.state hall) (g.H.Hall.state third)) doing (behind_asking place.index request tag otherwise c.in_ok-grow.field-0)
+    before (in_hand c.grow.new.heap (moment me c.grow.new.self (g.H.Hall.state third))) =
+    does_more (g.H.Hall.state hall) (g.H.Hall.state hall) (g.H.Hall.state third) c.allocate_in.new.self.me me (in_hand c.allocate_in.new.heap) (in_hand c.grow.new.heap) c.allocate_in.new.self c.grow.new.self before doing left (behind_asking place.index request tag otherwise c.in_ok-grow.field-0) mine refl passed told in
+    let granted : Bool → Type 0 = λ granted. Does (g.H.Hall.state hall).count (did_in me (g.H.Hall.state hall) (g.H.Hall.state third)) doing
+    (behind_asking place.index request tag otherwise granted) before (in_hand c.grow.new.heap (moment me c.grow.new.self (g.H.Hall.state third))) in
+    let again : DoesIn place.index (g.H.Hall.state hall).count (did_in me (g.H.Hall.state hall) (g.H.Hall.state third)) doing
     (unless_found (Doing.Ended gives.None) (address_answer c.allocate_in-2.result)) before
-    (in_hand c.allocate_in-2.new.heap (at g.H.Hall.count g.H.Hall.did g.H.Hall.part g.H.Hall.seen g.H.Hall.heard third me c.allocate_in-2.new.self)) =
-    called_then c.grow.new.self c.allocate_in-2.new.self (g.H.Hall.part third me) (g.H.Hall.seen third me) (g.H.Hall.heard third me)
+    (in_hand c.allocate_in-2.new.heap (moment me c.allocate_in-2.new.self (g.H.Hall.state third))) =
+    called_then c.grow.new.self c.allocate_in-2.new.self ((g.H.Hall.state third).part me) ((g.H.Hall.state third).seen me) ((g.H.Hall.state third).heard me)
     (call.Alloc request tag) (address_answer c.allocate_in-2.result) c.grow.new.heap c.allocate_in-2.new.heap c.allocate_in-2.ensures.step
     c.allocate_in-2.ensures.counted place.index
-    (c.requires.its ∙ sym (c.grow.ensures.index ∙ call_index _ _ _ _ _ c.allocate_in.ensures.step)) (g.H.Hall.count hall)
-    (g.H.Hall.did hall third me) doing (unless_found (Doing.Ended gives.None)) before (found_whole c.allocate_in-2.result)
+    (c.requires.its ∙ sym (c.grow.ensures.index ∙ call_index _ _ _ _ _ c.allocate_in.ensures.step)) (g.H.Hall.state hall).count
+    (did_in me (g.H.Hall.state hall) (g.H.Hall.state third)) doing (unless_found (Doing.Ended gives.None)) before (found_whole c.allocate_in-2.result)
     (subst granted c.if-not-branch.false grown) in
-    tries_in place.index (g.H.Hall.count hall) (g.H.Hall.did hall third me) doing otherwise (gives.Address c.in-Some-allocate_in.addr) before
-    (in_hand c.allocate_in-2.new.heap (at g.H.Hall.count g.H.Hall.did g.H.Hall.part g.H.Hall.seen g.H.Hall.heard third me c.allocate_in-2.new.self))
-    (subst (λ (found : Option ℕ). DoesIn place.index (g.H.Hall.count hall) (g.H.Hall.did hall third me) doing
+    tries_in place.index (g.H.Hall.state hall).count (did_in me (g.H.Hall.state hall) (g.H.Hall.state third)) doing otherwise (gives.Address c.in-Some-allocate_in.addr) before
+    (in_hand c.allocate_in-2.new.heap (moment me c.allocate_in-2.new.self (g.H.Hall.state third)))
+    (subst (λ (found : Option ℕ). DoesIn place.index (g.H.Hall.state hall).count (did_in me (g.H.Hall.state hall) (g.H.Hall.state third)) doing
     (unless_found (Doing.Ended gives.None) (address_answer found)) before
-    (in_hand c.allocate_in-2.new.heap (at g.H.Hall.count g.H.Hall.did g.H.Hall.part g.H.Hall.seen g.H.Hall.heard third me c.allocate_in-2.new.self))) c.in-Some-allocate_in.is again)
+    (in_hand c.allocate_in-2.new.heap (moment me c.allocate_in-2.new.self (g.H.Hall.state third)))) c.in-Some-allocate_in.is again)
 
 pub returns-in-Some-allocate_in-clause-in_hand : goal.returns-in-Some-allocate_in-clause-in_hand
 returns-in-Some-allocate_in-clause-in_hand g c =
     let hall = c.grow.new.hall in
     let me = c.args.self.now.me in
-    hand_stays c.grow.new.self (g.H.Hall.part hall me) (g.H.Hall.seen hall me) (g.H.Hall.heard hall me) (call.Alloc c.args.request.now c.args.tag)
-    (address_answer c.allocate_in-2.result) c.grow.new.heap c.allocate_in-2.new.heap c.allocate_in-2.ensures.step (g.H.Hall.taken hall)
-    (subst (λ (who : ℕ). IsInHand (g.H.Hall.taken hall) (at g.H.Hall.count g.H.Hall.did g.H.Hall.part g.H.Hall.seen g.H.Hall.heard hall who c.grow.new.self) c.grow.new.heap)
+    hand_stays c.grow.new.self ((g.H.Hall.state hall).part me) ((g.H.Hall.state hall).seen me) ((g.H.Hall.state hall).heard me) (call.Alloc c.args.request.now c.args.tag)
+    (address_answer c.allocate_in-2.result) c.grow.new.heap c.allocate_in-2.new.heap c.allocate_in-2.ensures.step (g.H.Hall.state hall).taken
+    (subst (λ (who : ℕ). IsInHand (g.H.Hall.state hall).taken (moment who c.grow.new.self (g.H.Hall.state hall)) c.grow.new.heap)
     (ap (λ (party : Party). party.me) c.allocate_in.ensures.counted) c.grow.ensures.in_hand)
     c.allocate_in-2.new.self c.allocate_in-2.ensures.counted (alloc_pages _ _ _ _ _ _ c.allocate_in-2.ensures.step)
 
@@ -256,8 +252,8 @@ returns-in-Some-allocate_in-clause-its_socket g c =
 
 pub returns-in-Some-allocate_in-clause-settled : goal.returns-in-Some-allocate_in-clause-settled
 returns-in-Some-allocate_in-clause-settled g c =
-    subst (λ (party : Party). AreSettled (at g.H.Hall.count g.H.Hall.did g.H.Hall.part g.H.Hall.seen g.H.Hall.heard c.grow.new.hall c.args.self.now.me party)) (sym c.allocate_in-2.ensures.counted)
-    (subst (λ (who : ℕ). AreSettled (at g.H.Hall.count g.H.Hall.did g.H.Hall.part g.H.Hall.seen g.H.Hall.heard c.grow.new.hall who c.grow.new.self))
+    subst (λ (party : Party). AreSettled (moment c.args.self.now.me party (g.H.Hall.state c.grow.new.hall))) (sym c.allocate_in-2.ensures.counted)
+    (subst (λ (who : ℕ). AreSettled (moment who c.grow.new.self (g.H.Hall.state c.grow.new.hall)))
     (ap (λ (party : Party). party.me) c.allocate_in.ensures.counted) c.in_ok-grow.ensures.settled)
 
 pub returns-in-None-clause-does : goal.returns-in-None-clause-does
@@ -272,61 +268,59 @@ returns-in-None-clause-does g c = λ heaps.
     let otherwise = trying pools request tag heaps in
     let doing = trying pools request tag (named_heap place ∷ heaps) in
     let left = asking place.index place.socket request tag otherwise (page_sizes_for pools place.socket request.flags) in
-    let before = in_hand c.args.heap.now (at g.H.Hall.count g.H.Hall.did g.H.Hall.part g.H.Hall.seen g.H.Hall.heard hall me party) in
+    let before = in_hand c.args.heap.now (moment me party (g.H.Hall.state hall)) in
     let step : IsCall (caller_of party) (call.Alloc (with_flags (without_hint request.flags) request) tag) (address_answer c.allocate_in.result)
     c.args.heap.now c.allocate_in.new.heap =
     subst (λ (first : Request). IsCall (caller_of party) (call.Alloc first tag) (address_answer c.allocate_in.result) c.args.heap.now
     c.allocate_in.new.heap)
     (c.with_flags-first.ensures ∙ ap (λ (flags : ℕ). with_flags flags request) c.without_hint.ensures) c.allocate_in.ensures.step in
-    let searched : DoesIn place.index (g.H.Hall.count hall) (g.H.Hall.did hall hall me) doing
-    (unless_found left (address_answer c.allocate_in.result)) before (in_hand c.allocate_in.new.heap (at g.H.Hall.count g.H.Hall.did g.H.Hall.part g.H.Hall.seen g.H.Hall.heard hall me c.allocate_in.new.self)) =
-    called_then party c.allocate_in.new.self (g.H.Hall.part hall me) (g.H.Hall.seen hall me) (g.H.Hall.heard hall me)
+    let searched : DoesIn place.index (g.H.Hall.state hall).count (did_in me (g.H.Hall.state hall) (g.H.Hall.state hall)) doing
+    (unless_found left (address_answer c.allocate_in.result)) before (in_hand c.allocate_in.new.heap (moment me c.allocate_in.new.self (g.H.Hall.state hall))) =
+    called_then party c.allocate_in.new.self ((g.H.Hall.state hall).part me) ((g.H.Hall.state hall).seen me) ((g.H.Hall.state hall).heard me)
     (call.Alloc (with_flags (without_hint request.flags) request) tag) (address_answer c.allocate_in.result) c.args.heap.now
-    c.allocate_in.new.heap step c.allocate_in.ensures.counted place.index c.requires.its (g.H.Hall.count hall) (g.H.Hall.did hall hall me) doing
+    c.allocate_in.new.heap step c.allocate_in.ensures.counted place.index c.requires.its (g.H.Hall.state hall).count (did_in me (g.H.Hall.state hall) (g.H.Hall.state hall)) doing
     (unless_found left) before (found_whole c.allocate_in.result)
-    (does_same (g.H.Hall.count hall) (g.H.Hall.did hall hall me) doing before (g.met.H.Hall.did_same hall me)) in
+    (does_same (g.H.Hall.state hall).count (did_in me (g.H.Hall.state hall) (g.H.Hall.state hall)) doing before (did_same me (g.H.Hall.state hall))) in
     let mine : c.allocate_in.new.self.me ≡ me = ap (λ (party : Party). party.me) c.allocate_in.ensures.counted in
     let third = c.grow.new.hall in
-    let passed : Does (g.H.Hall.count hall) (g.H.Hall.did hall hall me) doing left before
-    (in_hand c.allocate_in.new.heap (at g.H.Hall.count g.H.Hall.did g.H.Hall.part g.H.Hall.seen g.H.Hall.heard hall me c.allocate_in.new.self)) =
-    subst (λ (found : Option ℕ). Does (g.H.Hall.count hall) (g.H.Hall.did hall hall me) doing (unless_found left (address_answer found)) before
-    (in_hand c.allocate_in.new.heap (at g.H.Hall.count g.H.Hall.did g.H.Hall.part g.H.Hall.seen g.H.Hall.heard hall me c.allocate_in.new.self))) c.in_default.is searched.does in
+    let passed : Does (g.H.Hall.state hall).count (did_in me (g.H.Hall.state hall) (g.H.Hall.state hall)) doing left before
+    (in_hand c.allocate_in.new.heap (moment me c.allocate_in.new.self (g.H.Hall.state hall))) =
+    subst (λ (found : Option ℕ). Does (g.H.Hall.state hall).count (did_in me (g.H.Hall.state hall) (g.H.Hall.state hall)) doing (unless_found left (address_answer found)) before
+    (in_hand c.allocate_in.new.heap (moment me c.allocate_in.new.self (g.H.Hall.state hall)))) c.in_default.is searched.does in
     let told =
-    subst (λ (pools : List PoolLine). Does (g.H.Hall.count hall) (g.H.Hall.did hall third c.allocate_in.new.self.me)
+    subst (λ (pools : List PoolLine). Does (g.H.Hall.state hall).count (did_in c.allocate_in.new.self.me (g.H.Hall.state hall) (g.H.Hall.state third))
     (asking place.index place.socket request tag otherwise (page_sizes_for pools place.socket request.flags))
     (behind_asking place.index request tag otherwise c.in_ok-grow.field-0)
-    (in_hand c.allocate_in.new.heap (at g.H.Hall.count g.H.Hall.did g.H.Hall.part g.H.Hall.seen g.H.Hall.heard hall c.allocate_in.new.self.me c.allocate_in.new.self))
-    (in_hand c.grow.new.heap (at g.H.Hall.count g.H.Hall.did g.H.Hall.part g.H.Hall.seen g.H.Hall.heard third c.allocate_in.new.self.me c.grow.new.self)))
+    (in_hand c.allocate_in.new.heap (moment c.allocate_in.new.self.me c.allocate_in.new.self (g.H.Hall.state hall)))
+    (in_hand c.grow.new.heap (moment c.allocate_in.new.self.me c.grow.new.self (g.H.Hall.state third))))
     (ap (λ (party : Party). party.context.pools) c.allocate_in.ensures.counted) (c.in_ok-grow.ensures.does tag otherwise) in
-    let grown : Does (g.H.Hall.count hall) (g.H.Hall.did hall third me) doing (behind_asking place.index request tag otherwise c.in_ok-grow.field-0)
-    before (in_hand c.grow.new.heap (at g.H.Hall.count g.H.Hall.did g.H.Hall.part g.H.Hall.seen g.H.Hall.heard third me c.grow.new.self)) =
-    does_more g.H.Hall.count g.H.Hall.did g.H.Hall.part g.H.Hall.seen g.H.Hall.heard hall hall third c.allocate_in.new.self.me me (in_hand c.allocate_in.new.heap) (in_hand c.grow.new.heap)
-    c.allocate_in.new.self c.grow.new.self before doing left (behind_asking place.index request tag otherwise c.in_ok-grow.field-0)
-    (g.met.H.Hall.did_then hall hall third me) mine refl passed told in
-    let granted : Bool → Type 0 = λ granted. Does (g.H.Hall.count hall) (g.H.Hall.did hall third me) doing
-    (behind_asking place.index request tag otherwise granted) before (in_hand c.grow.new.heap (at g.H.Hall.count g.H.Hall.did g.H.Hall.part g.H.Hall.seen g.H.Hall.heard third me c.grow.new.self)) in
-    let again : DoesIn place.index (g.H.Hall.count hall) (g.H.Hall.did hall third me) doing
+    let grown : Does (g.H.Hall.state hall).count (did_in me (g.H.Hall.state hall) (g.H.Hall.state third)) doing (behind_asking place.index request tag otherwise c.in_ok-grow.field-0)
+    before (in_hand c.grow.new.heap (moment me c.grow.new.self (g.H.Hall.state third))) =
+    does_more (g.H.Hall.state hall) (g.H.Hall.state hall) (g.H.Hall.state third) c.allocate_in.new.self.me me (in_hand c.allocate_in.new.heap) (in_hand c.grow.new.heap) c.allocate_in.new.self c.grow.new.self before doing left (behind_asking place.index request tag otherwise c.in_ok-grow.field-0) mine refl passed told in
+    let granted : Bool → Type 0 = λ granted. Does (g.H.Hall.state hall).count (did_in me (g.H.Hall.state hall) (g.H.Hall.state third)) doing
+    (behind_asking place.index request tag otherwise granted) before (in_hand c.grow.new.heap (moment me c.grow.new.self (g.H.Hall.state third))) in
+    let again : DoesIn place.index (g.H.Hall.state hall).count (did_in me (g.H.Hall.state hall) (g.H.Hall.state third)) doing
     (unless_found (Doing.Ended gives.None) (address_answer c.allocate_in-2.result)) before
-    (in_hand c.allocate_in-2.new.heap (at g.H.Hall.count g.H.Hall.did g.H.Hall.part g.H.Hall.seen g.H.Hall.heard third me c.allocate_in-2.new.self)) =
-    called_then c.grow.new.self c.allocate_in-2.new.self (g.H.Hall.part third me) (g.H.Hall.seen third me) (g.H.Hall.heard third me)
+    (in_hand c.allocate_in-2.new.heap (moment me c.allocate_in-2.new.self (g.H.Hall.state third))) =
+    called_then c.grow.new.self c.allocate_in-2.new.self ((g.H.Hall.state third).part me) ((g.H.Hall.state third).seen me) ((g.H.Hall.state third).heard me)
     (call.Alloc request tag) (address_answer c.allocate_in-2.result) c.grow.new.heap c.allocate_in-2.new.heap c.allocate_in-2.ensures.step
     c.allocate_in-2.ensures.counted place.index
-    (c.requires.its ∙ sym (c.grow.ensures.index ∙ call_index _ _ _ _ _ c.allocate_in.ensures.step)) (g.H.Hall.count hall)
-    (g.H.Hall.did hall third me) doing (unless_found (Doing.Ended gives.None)) before (found_whole c.allocate_in-2.result)
+    (c.requires.its ∙ sym (c.grow.ensures.index ∙ call_index _ _ _ _ _ c.allocate_in.ensures.step)) (g.H.Hall.state hall).count
+    (did_in me (g.H.Hall.state hall) (g.H.Hall.state third)) doing (unless_found (Doing.Ended gives.None)) before (found_whole c.allocate_in-2.result)
     (subst granted c.if-not-branch.false grown) in
-    tries_in place.index (g.H.Hall.count hall) (g.H.Hall.did hall third me) doing otherwise gives.None before
-    (in_hand c.allocate_in-2.new.heap (at g.H.Hall.count g.H.Hall.did g.H.Hall.part g.H.Hall.seen g.H.Hall.heard third me c.allocate_in-2.new.self))
-    (subst (λ (found : Option ℕ). DoesIn place.index (g.H.Hall.count hall) (g.H.Hall.did hall third me) doing
+    tries_in place.index (g.H.Hall.state hall).count (did_in me (g.H.Hall.state hall) (g.H.Hall.state third)) doing otherwise gives.None before
+    (in_hand c.allocate_in-2.new.heap (moment me c.allocate_in-2.new.self (g.H.Hall.state third)))
+    (subst (λ (found : Option ℕ). DoesIn place.index (g.H.Hall.state hall).count (did_in me (g.H.Hall.state hall) (g.H.Hall.state third)) doing
     (unless_found (Doing.Ended gives.None) (address_answer found)) before
-    (in_hand c.allocate_in-2.new.heap (at g.H.Hall.count g.H.Hall.did g.H.Hall.part g.H.Hall.seen g.H.Hall.heard third me c.allocate_in-2.new.self))) c.in-None.is again)
+    (in_hand c.allocate_in-2.new.heap (moment me c.allocate_in-2.new.self (g.H.Hall.state third)))) c.in-None.is again)
 
 pub returns-in-None-clause-in_hand : goal.returns-in-None-clause-in_hand
 returns-in-None-clause-in_hand g c =
     let hall = c.grow.new.hall in
     let me = c.args.self.now.me in
-    hand_stays c.grow.new.self (g.H.Hall.part hall me) (g.H.Hall.seen hall me) (g.H.Hall.heard hall me) (call.Alloc c.args.request.now c.args.tag)
-    (address_answer c.allocate_in-2.result) c.grow.new.heap c.allocate_in-2.new.heap c.allocate_in-2.ensures.step (g.H.Hall.taken hall)
-    (subst (λ (who : ℕ). IsInHand (g.H.Hall.taken hall) (at g.H.Hall.count g.H.Hall.did g.H.Hall.part g.H.Hall.seen g.H.Hall.heard hall who c.grow.new.self) c.grow.new.heap)
+    hand_stays c.grow.new.self ((g.H.Hall.state hall).part me) ((g.H.Hall.state hall).seen me) ((g.H.Hall.state hall).heard me) (call.Alloc c.args.request.now c.args.tag)
+    (address_answer c.allocate_in-2.result) c.grow.new.heap c.allocate_in-2.new.heap c.allocate_in-2.ensures.step (g.H.Hall.state hall).taken
+    (subst (λ (who : ℕ). IsInHand (g.H.Hall.state hall).taken (moment who c.grow.new.self (g.H.Hall.state hall)) c.grow.new.heap)
     (ap (λ (party : Party). party.me) c.allocate_in.ensures.counted) c.grow.ensures.in_hand)
     c.allocate_in-2.new.self c.allocate_in-2.ensures.counted (alloc_pages _ _ _ _ _ _ c.allocate_in-2.ensures.step)
 
@@ -340,8 +334,8 @@ returns-in-None-clause-its_socket g c =
 
 pub returns-in-None-clause-settled : goal.returns-in-None-clause-settled
 returns-in-None-clause-settled g c =
-    subst (λ (party : Party). AreSettled (at g.H.Hall.count g.H.Hall.did g.H.Hall.part g.H.Hall.seen g.H.Hall.heard c.grow.new.hall c.args.self.now.me party)) (sym c.allocate_in-2.ensures.counted)
-    (subst (λ (who : ℕ). AreSettled (at g.H.Hall.count g.H.Hall.did g.H.Hall.part g.H.Hall.seen g.H.Hall.heard c.grow.new.hall who c.grow.new.self))
+    subst (λ (party : Party). AreSettled (moment c.args.self.now.me party (g.H.Hall.state c.grow.new.hall))) (sym c.allocate_in-2.ensures.counted)
+    (subst (λ (who : ℕ). AreSettled (moment who c.grow.new.self (g.H.Hall.state c.grow.new.hall)))
     (ap (λ (party : Party). party.me) c.allocate_in.ensures.counted) c.in_ok-grow.ensures.settled)
 
 -- BY HOW MUCH IT CARRIES THE CLOCK

@@ -1,6 +1,8 @@
 -- The ask is one step of its line, and where a run comes its growth is the next.
-use Rattle.std.proofs.Common.{◌∙◌, Option, Some, refl, ap, sym, subst}
+use Rattle.std.proofs.Common.{◌∙◌, ◌+◌, ◌<◌, ◌≤◌, ℕ, arith, Option, Some, refl, ap, sym, subst}
+use Rattle.std.specs.Prelude.{◌^◌, IsSome}
 use Rattle.hp_base.specs.declared.row.Run.{Run}
+use Rattle.hp_proc.specs.Contexts.{Context}
 use Rattle.hp_heap.specs.declared.entry.HeapAnswer.TheVariants as gives
 use Rattle.hp_heap.specs.declared.entry.HeapCall.TheVariants as call
 use Rattle.hp_proc.specs.Allocating.{searching_again, with_run}
@@ -8,32 +10,64 @@ use Rattle.hp_proc.specs.Asking.{GrowsHeld, HasSettledAsks}
 use Rattle.hp_proc.specs.Doing.{Doing}
 use Rattle.hp_proc.specs.Party.{Party}
 use Rattle.hp_proc.specs.Progress.{Does, in_hand, moment_of}
-use Rattle.hp_proc.proofs.HandAsked.{asked_entries, asked_serves, can_grow, does_ask, hand_asked, hand_grown, none_asked}
+use Rattle.hp_proc.proofs.HandAsked.{held_some, asked_entries, asked_serves, can_grow, does_ask, hand_asked, hand_grown, none_asked}
 use Rattle.hp_proc.proofs.AskedAlong.{held_same}
 use Rattle.hp_proc.proofs.HandCalls.{call_index, call_serves}
 use Rattle.hp_proc.proofs.HandTried.{called_then}
+use Rattle.hp_proc.specs.InHall.{did_in}
+use Rattle.hp_proc.proofs.Holds.{remains_called, remains_calls}
 use Rattle.hp_proc.proofs.participant.Participant.ask_in.Goals as goal
 
-pub returns-in_err-ask-clause-in_hand : goal.returns-in_err-ask-clause-in_hand
-returns-in_err-ask-clause-in_hand g c =
-    let old = c.args.hall.now in
-    let new = c.ask.new.hall in
-    let me = c.args.self.now.me in
-    hand_asked c.args.self.now c.ask.new.self (g.H.Hall.part old me) (g.H.Hall.part new me) (g.H.Hall.seen old me) (g.H.Hall.seen new me)
-    (g.H.Hall.heard old me) (g.H.Hall.heard new me) c.args.heap.now c.ask.ensures.same (g.H.Hall.taken old) (g.H.Hall.taken new)
-    c.ask.ensures.taken c.requires.in_hand c.in_err-ask.ensures.err
+pub ask-requires-clause-can : goal.ask-requires-clause-can
+ask-requires-clause-can g c = c.requires.holds.can
 
-pub returns-in-None-clause-in_hand : goal.returns-in-None-clause-in_hand
-returns-in-None-clause-in_hand g c =
+pub ask-requires-clause-settled : goal.ask-requires-clause-settled
+ask-requires-clause-settled g c = c.requires.holds.settled
+
+pub ask-requires-clause-holds : goal.ask-requires-clause-holds
+ask-requires-clause-holds g c =
+    subst (λ (index : ℕ). IsSome ((g.H.Hall.state c.args.hall.now).part c.args.self.now.me index).holding) (sym c.requires.its)
+    (held_some c.args.heap.now _ c.requires.holds.in_hand.held)
+
+pub grow_in-requires-clause-spare : goal.grow_in-requires-clause-spare
+grow_in-requires-clause-spare g c =
+    let spare = c.requires.room.spare in
+    omega (arith, spare)
+
+pub grow_in-requires-clause-counted : goal.grow_in-requires-clause-counted
+grow_in-requires-clause-counted g c =
+    subst (λ (context : Context). context.calls + 1 < 2 ^ 64) (sym c.ask.ensures.remains.same.context) c.requires.room.counted
+
+pub returns-in_err-ask-clause-keeps : goal.returns-in_err-ask-clause-keeps
+returns-in_err-ask-clause-keeps g c =
     let old = c.args.hall.now in
     let new = c.ask.new.hall in
     let me = c.args.self.now.me in
-    let grows = subst (λ (run : Option Run). GrowsHeld c.args.asked.now.heap run (g.H.Hall.part old me c.args.asked.now.heap)
-    (g.H.Hall.part new me c.args.asked.now.heap)) c.in-None.is c.in_ok-ask.ensures.grows in
-    hand_asked c.args.self.now c.ask.new.self (g.H.Hall.part old me) (g.H.Hall.part new me) (g.H.Hall.seen old me) (g.H.Hall.seen new me)
-    (g.H.Hall.heard old me) (g.H.Hall.heard new me) c.args.heap.now c.ask.ensures.same (g.H.Hall.taken old) (g.H.Hall.taken new)
-    c.ask.ensures.taken c.requires.in_hand
-    (none_asked c.args.asked.now.heap (g.H.Hall.part old me) (g.H.Hall.part new me) c.ask.ensures.others grows)
+    record {
+      in_hand = hand_asked c.args.self.now c.ask.new.self ((g.H.Hall.state old).part me) ((g.H.Hall.state new).part me) ((g.H.Hall.state old).seen me) ((g.H.Hall.state new).seen me)
+          ((g.H.Hall.state old).heard me) ((g.H.Hall.state new).heard me) c.args.heap.now c.ask.ensures.remains.same (g.H.Hall.state old).taken (g.H.Hall.state new).taken
+          c.ask.ensures.remains.slots.taken c.requires.holds.in_hand c.in_err-ask.ensures.err;
+      index = refl;
+      its_socket = refl;
+      remains = remains_calls c.ask.ensures.remains;
+    }
+
+pub returns-in-None-clause-keeps : goal.returns-in-None-clause-keeps
+returns-in-None-clause-keeps g c =
+    let old = c.args.hall.now in
+    let new = c.ask.new.hall in
+    let me = c.args.self.now.me in
+    let grows = subst (λ (run : Option Run). GrowsHeld c.args.asked.now.heap run ((g.H.Hall.state old).part me c.args.asked.now.heap)
+    ((g.H.Hall.state new).part me c.args.asked.now.heap)) c.in-None.is c.in_ok-ask.ensures.grows in
+    record {
+      in_hand = hand_asked c.args.self.now c.ask.new.self ((g.H.Hall.state old).part me) ((g.H.Hall.state new).part me) ((g.H.Hall.state old).seen me) ((g.H.Hall.state new).seen me)
+          ((g.H.Hall.state old).heard me) ((g.H.Hall.state new).heard me) c.args.heap.now c.ask.ensures.remains.same (g.H.Hall.state old).taken (g.H.Hall.state new).taken
+          c.ask.ensures.remains.slots.taken c.requires.holds.in_hand
+          (none_asked c.args.asked.now.heap ((g.H.Hall.state old).part me) ((g.H.Hall.state new).part me) c.ask.ensures.others grows);
+      index = refl;
+      its_socket = refl;
+      remains = remains_calls c.ask.ensures.remains;
+    }
 
 pub returns-in-None-clause-does : goal.returns-in-None-clause-does
 returns-in-None-clause-does g c = λ tag otherwise.
@@ -42,25 +76,25 @@ returns-in-None-clause-does g c = λ tag otherwise.
     let party = c.args.self.now in
     let asked = c.args.asked.now in
     let ok = c.in_ok-ask.ensures in
-    let seen = g.met.H.Hall.goes_on_seen old new party.me c.ask.ensures.goes_on in
-    let heard = g.met.H.Hall.goes_on_heard old new party.me c.ask.ensures.goes_on in
-    subst (λ (run : Option Run). Does (g.H.Hall.count old) (g.H.Hall.did old new party.me)
+    let seen = (g.met.H.Hall.goes_on_later old new c.ask.ensures.goes_on).seen party.me in
+    let heard = (g.met.H.Hall.goes_on_later old new c.ask.ensures.goes_on).heard party.me in
+    subst (λ (run : Option Run). Does (g.H.Hall.state old).count (did_in party.me (g.H.Hall.state old) (g.H.Hall.state new))
     (Doing.Asks asked (with_run asked.heap asked.request tag otherwise)) (with_run asked.heap asked.request tag otherwise run)
-    (in_hand c.args.heap.now (moment_of party (g.H.Hall.part old party.me) (g.H.Hall.seen old party.me) (g.H.Hall.heard old party.me)))
-    (in_hand c.args.heap.now (moment_of c.ask.new.self (g.H.Hall.part new party.me) (g.H.Hall.seen new party.me) (g.H.Hall.heard new party.me))))
+    (in_hand c.args.heap.now (moment_of party ((g.H.Hall.state old).part party.me) ((g.H.Hall.state old).seen party.me) ((g.H.Hall.state old).heard party.me)))
+    (in_hand c.args.heap.now (moment_of c.ask.new.self ((g.H.Hall.state new).part party.me) ((g.H.Hall.state new).seen party.me) ((g.H.Hall.state new).heard party.me))))
     c.in-None.is
-    (does_ask party c.ask.new.self (g.H.Hall.part old party.me) (g.H.Hall.part new party.me) (g.H.Hall.seen old party.me)
-    (g.H.Hall.seen new party.me) (g.H.Hall.heard old party.me) (g.H.Hall.heard new party.me) c.args.heap.now c.ask.ensures.same
-    (g.H.Hall.count old) (g.H.Hall.did old new party.me) asked (with_run asked.heap asked.request tag otherwise) c.in_ok-ask.field-0
+    (does_ask party c.ask.new.self ((g.H.Hall.state old).part party.me) ((g.H.Hall.state new).part party.me) ((g.H.Hall.state old).seen party.me)
+    ((g.H.Hall.state new).seen party.me) ((g.H.Hall.state old).heard party.me) ((g.H.Hall.state new).heard party.me) c.args.heap.now c.ask.ensures.remains.same
+    (g.H.Hall.state old).count (did_in party.me (g.H.Hall.state old) (g.H.Hall.state new)) asked (with_run asked.heap asked.request tag otherwise) c.in_ok-ask.field-0
     ok.did.0 ok.did.1 ok.did.2 ok.asked
-    (asked_entries asked.heap c.in_ok-ask.field-0 (g.H.Hall.part old party.me) (g.H.Hall.part new party.me) c.ask.ensures.others ok.grows)
-    (asked_serves asked.heap c.in_ok-ask.field-0 (g.H.Hall.part old party.me) (g.H.Hall.part new party.me) c.ask.ensures.others ok.grows)
+    (asked_entries asked.heap c.in_ok-ask.field-0 ((g.H.Hall.state old).part party.me) ((g.H.Hall.state new).part party.me) c.ask.ensures.others ok.grows)
+    (asked_serves asked.heap c.in_ok-ask.field-0 ((g.H.Hall.state old).part party.me) ((g.H.Hall.state new).part party.me) c.ask.ensures.others ok.grows)
     seen.0 seen.1 heard.0 heard.1)
 
 pub returns-in-None-clause-settled : goal.returns-in-None-clause-settled
 returns-in-None-clause-settled g c =
     let me = c.args.self.now.me in
-    subst (λ who. HasSettledAsks who (g.H.Hall.part c.ask.new.hall me) (g.H.Hall.heard c.ask.new.hall me)) (sym c.ask.ensures.same.me)
+    subst (λ who. HasSettledAsks who ((g.H.Hall.state c.ask.new.hall).part me) ((g.H.Hall.state c.ask.new.hall).heard me)) (sym c.ask.ensures.remains.same.me)
     c.in_ok-ask.ensures.settled
 
 pub grow_in-requires-clause-allowed : goal.grow_in-requires-clause-allowed
@@ -69,10 +103,10 @@ grow_in-requires-clause-allowed g c =
     let new = c.ask.new.hall in
     let me = c.args.self.now.me in
     let asked = c.args.asked.now.heap in
-    let grows = subst (λ (run : Option Run). GrowsHeld asked run (g.H.Hall.part old me asked) (g.H.Hall.part new me asked)) c.in-Some.is
+    let grows = subst (λ (run : Option Run). GrowsHeld asked run ((g.H.Hall.state old).part me asked) ((g.H.Hall.state new).part me asked)) c.in-Some.is
     c.in_ok-ask.ensures.grows in
-    can_grow c.args.self.now (g.H.Hall.part old me) (g.H.Hall.part new me) (g.H.Hall.seen old me) (g.H.Hall.seen new me)
-    (g.H.Hall.heard old me) (g.H.Hall.heard new me) c.args.heap.now (g.H.Hall.taken old) c.requires.in_hand asked c.in-Some.run'
+    can_grow c.args.self.now ((g.H.Hall.state old).part me) ((g.H.Hall.state new).part me) ((g.H.Hall.state old).seen me) ((g.H.Hall.state new).seen me)
+    ((g.H.Hall.state old).heard me) ((g.H.Hall.state new).heard me) c.args.heap.now (g.H.Hall.state old).taken c.requires.holds.in_hand asked c.in-Some.run'
     c.requires.its c.ask.ensures.others grows c.requires.of_socket
 
 pub returns-in-Some-clause-does : goal.returns-in-Some-clause-does
@@ -82,53 +116,52 @@ returns-in-Some-clause-does g c = λ tag otherwise.
     let party = c.args.self.now in
     let asked = c.args.asked.now in
     let ok = c.in_ok-ask.ensures in
-    let seen = g.met.H.Hall.goes_on_seen old new party.me c.ask.ensures.goes_on in
-    let heard = g.met.H.Hall.goes_on_heard old new party.me c.ask.ensures.goes_on in
-    let before = in_hand c.args.heap.now (moment_of party (g.H.Hall.part old party.me) (g.H.Hall.seen old party.me)
-    (g.H.Hall.heard old party.me)) in
-    let does : Does (g.H.Hall.count old) (g.H.Hall.did old new party.me)
+    let seen = (g.met.H.Hall.goes_on_later old new c.ask.ensures.goes_on).seen party.me in
+    let heard = (g.met.H.Hall.goes_on_later old new c.ask.ensures.goes_on).heard party.me in
+    let before = in_hand c.args.heap.now (moment_of party ((g.H.Hall.state old).part party.me) ((g.H.Hall.state old).seen party.me)
+    ((g.H.Hall.state old).heard party.me)) in
+    let does : Does (g.H.Hall.state old).count (did_in party.me (g.H.Hall.state old) (g.H.Hall.state new))
     (Doing.Asks asked (with_run asked.heap asked.request tag otherwise))
     (with_run asked.heap asked.request tag otherwise (Some c.in-Some.run')) before
-    (in_hand c.args.heap.now (moment_of c.ask.new.self (g.H.Hall.part new party.me) (g.H.Hall.seen new party.me) (g.H.Hall.heard new party.me))) =
-    subst (λ (run : Option Run). Does (g.H.Hall.count old) (g.H.Hall.did old new party.me)
+    (in_hand c.args.heap.now (moment_of c.ask.new.self ((g.H.Hall.state new).part party.me) ((g.H.Hall.state new).seen party.me) ((g.H.Hall.state new).heard party.me))) =
+    subst (λ (run : Option Run). Does (g.H.Hall.state old).count (did_in party.me (g.H.Hall.state old) (g.H.Hall.state new))
     (Doing.Asks asked (with_run asked.heap asked.request tag otherwise)) (with_run asked.heap asked.request tag otherwise run) before
-    (in_hand c.args.heap.now (moment_of c.ask.new.self (g.H.Hall.part new party.me) (g.H.Hall.seen new party.me) (g.H.Hall.heard new party.me))))
+    (in_hand c.args.heap.now (moment_of c.ask.new.self ((g.H.Hall.state new).part party.me) ((g.H.Hall.state new).seen party.me) ((g.H.Hall.state new).heard party.me))))
     c.in-Some.is
-    (does_ask party c.ask.new.self (g.H.Hall.part old party.me) (g.H.Hall.part new party.me) (g.H.Hall.seen old party.me)
-    (g.H.Hall.seen new party.me) (g.H.Hall.heard old party.me) (g.H.Hall.heard new party.me) c.args.heap.now c.ask.ensures.same
-    (g.H.Hall.count old) (g.H.Hall.did old new party.me) asked (with_run asked.heap asked.request tag otherwise) c.in_ok-ask.field-0
+    (does_ask party c.ask.new.self ((g.H.Hall.state old).part party.me) ((g.H.Hall.state new).part party.me) ((g.H.Hall.state old).seen party.me)
+    ((g.H.Hall.state new).seen party.me) ((g.H.Hall.state old).heard party.me) ((g.H.Hall.state new).heard party.me) c.args.heap.now c.ask.ensures.remains.same
+    (g.H.Hall.state old).count (did_in party.me (g.H.Hall.state old) (g.H.Hall.state new)) asked (with_run asked.heap asked.request tag otherwise) c.in_ok-ask.field-0
     ok.did.0 ok.did.1 ok.did.2 ok.asked
-    (asked_entries asked.heap c.in_ok-ask.field-0 (g.H.Hall.part old party.me) (g.H.Hall.part new party.me) c.ask.ensures.others ok.grows)
-    (asked_serves asked.heap c.in_ok-ask.field-0 (g.H.Hall.part old party.me) (g.H.Hall.part new party.me) c.ask.ensures.others ok.grows)
+    (asked_entries asked.heap c.in_ok-ask.field-0 ((g.H.Hall.state old).part party.me) ((g.H.Hall.state new).part party.me) c.ask.ensures.others ok.grows)
+    (asked_serves asked.heap c.in_ok-ask.field-0 ((g.H.Hall.state old).part party.me) ((g.H.Hall.state new).part party.me) c.ask.ensures.others ok.grows)
     seen.0 seen.1 heard.0 heard.1) in
-    (called_then c.ask.new.self c.grow_in.new.self (g.H.Hall.part new party.me) (g.H.Hall.seen new party.me) (g.H.Hall.heard new party.me)
+    (called_then c.ask.new.self c.grow_in.new.self ((g.H.Hall.state new).part party.me) ((g.H.Hall.state new).seen party.me) ((g.H.Hall.state new).heard party.me)
     (call.Grow c.in-Some.run') gives.Done c.args.heap.now c.grow_in.new.heap c.grow_in.ensures.step c.grow_in.ensures.counted asked.heap
-    c.requires.its (g.H.Hall.count old) (g.H.Hall.did old new party.me) (Doing.Asks asked (with_run asked.heap asked.request tag otherwise))
+    c.requires.its (g.H.Hall.state old).count (did_in party.me (g.H.Hall.state old) (g.H.Hall.state new)) (Doing.Asks asked (with_run asked.heap asked.request tag otherwise))
     (λ answer. searching_again asked.heap asked.request tag) before refl does).does
 
-pub returns-in-Some-clause-in_hand : goal.returns-in-Some-clause-in_hand
-returns-in-Some-clause-in_hand g c =
+pub returns-in-Some-clause-keeps : goal.returns-in-Some-clause-keeps
+returns-in-Some-clause-keeps g c =
     let old = c.args.hall.now in
     let new = c.ask.new.hall in
     let me = c.args.self.now.me in
     let asked = c.args.asked.now.heap in
-    let grows = subst (λ (run : Option Run). GrowsHeld asked run (g.H.Hall.part old me asked) (g.H.Hall.part new me asked)) c.in-Some.is
+    let grows = subst (λ (run : Option Run). GrowsHeld asked run ((g.H.Hall.state old).part me asked) ((g.H.Hall.state new).part me asked)) c.in-Some.is
     c.in_ok-ask.ensures.grows in
-    let hand = hand_asked c.args.self.now c.ask.new.self (g.H.Hall.part old me) (g.H.Hall.part old me) (g.H.Hall.seen old me)
-    (g.H.Hall.seen old me) (g.H.Hall.heard old me) (g.H.Hall.heard old me) c.args.heap.now c.ask.ensures.same (g.H.Hall.taken old)
-    (g.H.Hall.taken new) c.ask.ensures.taken c.requires.in_hand (λ index. held_same _ _ refl) in
-    hand_grown c.ask.new.self (g.H.Hall.part old me) (g.H.Hall.part new me) (g.H.Hall.seen old me) (g.H.Hall.seen new me)
-    (g.H.Hall.heard old me) (g.H.Hall.heard new me) c.args.heap.now (g.H.Hall.taken new) hand asked c.in-Some.run' c.requires.its
-    c.ask.ensures.others grows c.grow_in.new.heap gives.Done c.grow_in.new.self c.grow_in.ensures.counted c.grow_in.ensures.step
-
-pub returns-in-Some-clause-index : goal.returns-in-Some-clause-index
-returns-in-Some-clause-index g c = call_index _ _ _ _ _ c.grow_in.ensures.step
-
-pub returns-in-Some-clause-its_socket : goal.returns-in-Some-clause-its_socket
-returns-in-Some-clause-its_socket g c = call_serves _ _ _ _ _ c.grow_in.ensures.step
+    let hand = hand_asked c.args.self.now c.ask.new.self ((g.H.Hall.state old).part me) ((g.H.Hall.state old).part me) ((g.H.Hall.state old).seen me)
+    ((g.H.Hall.state old).seen me) ((g.H.Hall.state old).heard me) ((g.H.Hall.state old).heard me) c.args.heap.now c.ask.ensures.remains.same (g.H.Hall.state old).taken
+    (g.H.Hall.state new).taken c.ask.ensures.remains.slots.taken c.requires.holds.in_hand (λ index. held_same _ _ refl) in
+    record {
+      in_hand = hand_grown c.ask.new.self ((g.H.Hall.state old).part me) ((g.H.Hall.state new).part me) ((g.H.Hall.state old).seen me) ((g.H.Hall.state new).seen me)
+          ((g.H.Hall.state old).heard me) ((g.H.Hall.state new).heard me) c.args.heap.now (g.H.Hall.state new).taken hand asked c.in-Some.run' c.requires.its
+          c.ask.ensures.others grows c.grow_in.new.heap gives.Done c.grow_in.new.self c.grow_in.ensures.counted c.grow_in.ensures.step;
+      index = call_index _ _ _ _ _ c.grow_in.ensures.step;
+      its_socket = call_serves _ _ _ _ _ c.grow_in.ensures.step;
+      remains = remains_called c.ask.ensures.remains c.grow_in.ensures.counted;
+    }
 
 pub returns-in-Some-clause-settled : goal.returns-in-Some-clause-settled
 returns-in-Some-clause-settled g c =
     let me = c.args.self.now.me in
-    subst (λ who. HasSettledAsks who (g.H.Hall.part c.ask.new.hall me) (g.H.Hall.heard c.ask.new.hall me))
-    (sym (ap (λ (party : Party). party.me) c.grow_in.ensures.counted ∙ c.ask.ensures.same.me)) c.in_ok-ask.ensures.settled
+    subst (λ who. HasSettledAsks who ((g.H.Hall.state c.ask.new.hall).part me) ((g.H.Hall.state c.ask.new.hall).heard me))
+    (sym (ap (λ (party : Party). party.me) c.grow_in.ensures.counted ∙ c.ask.ensures.remains.same.me)) c.in_ok-ask.ensures.settled

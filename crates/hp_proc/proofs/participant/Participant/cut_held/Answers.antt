@@ -43,15 +43,15 @@ returns-then-is_none-clause-does g c =
     let hall = c.args.hall.now in
     let heap = c.args.heap.now in
     let place = c.args.place.now in
-    let moment = in_hand heap (moment_of party (g.H.Hall.part hall me) (g.H.Hall.seen hall me) (g.H.Hall.heard hall me)) in
-    subst (λ (doing : Doing). Does (g.H.Hall.count hall) (g.H.Hall.did hall hall me) doing (Doing.Ended answer.Done) moment moment)
+    let moment = in_hand heap (moment_of party ((g.H.Hall.state hall).part me) ((g.H.Hall.state hall).seen me) ((g.H.Hall.state hall).heard me)) in
+    subst (λ (doing : Doing). Does (g.H.Hall.state hall).count (did_in me (g.H.Hall.state hall) (g.H.Hall.state hall)) doing (Doing.Ended answer.Done) moment moment)
     (sym (external_ends place c.args.addr c.is_none.result c.if-is_none.true c.is_none.ensures))
-    (does_same (g.H.Hall.count hall) (g.H.Hall.did hall hall me) (Doing.Ended answer.Done) moment (g.met.H.Hall.did_same hall me))
+    (does_same (g.H.Hall.state hall).count (did_in me (g.H.Hall.state hall) (g.H.Hall.state hall)) (Doing.Ended answer.Done) moment (did_same me (g.H.Hall.state hall)))
 
 pub retire-requires-clause-cut : goal.retire-requires-clause-cut
 retire-requires-clause-cut g c =
     let me = c.args.self.now.me in
-    let part = g.H.Hall.part c.args.hall.now in
+    let part = (g.H.Hall.state c.args.hall.now).part in
     let heap = c.args.heap.now in
     let place = c.args.place.now in
     let held = subst (λ (index : ℕ). IsHeldWith heap (part me index).holding) (sym c.requires.its) c.requires.in_hand.held in
@@ -66,15 +66,15 @@ returns-in-None-clause-does g c =
     let hall = c.args.hall.now in
     let heap = c.args.heap.now in
     let place = c.args.place.now in
-    let part = g.H.Hall.part hall me in
-    let seen = g.H.Hall.seen hall me in
-    let heard = g.H.Hall.heard hall me in
-    subst (λ (doing : Doing). Does (g.H.Hall.count hall) (g.H.Hall.did hall hall me) doing (Doing.Ended answer.Done)
+    let part = (g.H.Hall.state hall).part me in
+    let seen = (g.H.Hall.state hall).seen me in
+    let heard = (g.H.Hall.state hall).heard me in
+    subst (λ (doing : Doing). Does (g.H.Hall.state hall).count (did_in me (g.H.Hall.state hall) (g.H.Hall.state hall)) doing (Doing.Ended answer.Done)
     (in_hand heap (moment_of party part seen heard)) (in_hand c.cut_in.new.heap (moment_of c.cut_in.new.self part seen heard)))
     (sym (socket_cuts place c.args.addr heap.plain.index c.is_none.result c.if-is_none.false c.is_none.ensures c.requires.its))
     (does_call party part seen heard (call.Cut c.args.addr) gives.Nothing heap c.cut_in.new.heap c.in-None.ensures.step
-    (g.H.Hall.count hall) (g.H.Hall.did hall hall me) (giving_up place.index) c.cut_in.new.self c.cut_in.ensures.counted
-    (g.met.H.Hall.did_same hall me) refl)
+    (g.H.Hall.state hall).count (did_in me (g.H.Hall.state hall) (g.H.Hall.state hall)) (giving_up place.index) c.cut_in.new.self c.cut_in.ensures.counted
+    (did_same me (g.H.Hall.state hall)) refl)
 
 pub returns-in-None-clause-in_hand : goal.returns-in-None-clause-in_hand
 returns-in-None-clause-in_hand g c =
@@ -82,8 +82,8 @@ returns-in-None-clause-in_hand g c =
     let hall = c.args.hall.now in
     let heap = c.args.heap.now in
     let step = c.in-None.ensures.step in
-    hand_stays party (g.H.Hall.part hall party.me) (g.H.Hall.seen hall party.me) (g.H.Hall.heard hall party.me) (call.Cut c.args.addr)
-    gives.Nothing heap c.cut_in.new.heap step (g.H.Hall.taken hall) c.requires.in_hand c.cut_in.new.self c.cut_in.ensures.counted
+    hand_stays party ((g.H.Hall.state hall).part party.me) ((g.H.Hall.state hall).seen party.me) ((g.H.Hall.state hall).heard party.me) (call.Cut c.args.addr)
+    gives.Nothing heap c.cut_in.new.heap step (g.H.Hall.state hall).taken c.requires.in_hand c.cut_in.new.self c.cut_in.ensures.counted
     (ap (λ (heap : PlainHeap). heap.pages) (cut_nothing (caller_of party) c.args.addr heap c.cut_in.new.heap step))
 
 pub returns-in-None-clause-index : goal.returns-in-None-clause-index
@@ -96,7 +96,7 @@ pub returns-in-None-clause-settled : goal.returns-in-None-clause-settled
 returns-in-None-clause-settled g c =
     let me = c.args.self.now.me in
     let hall = c.args.hall.now in
-    subst (λ (who : ℕ). HasSettledAsks who (g.H.Hall.part hall me) (g.H.Hall.heard hall me))
+    subst (λ (who : ℕ). HasSettledAsks who ((g.H.Hall.state hall).part me) ((g.H.Hall.state hall).heard me))
     (sym (ap (λ (party : Party). party.me) c.cut_in.ensures.counted)) c.requires.settled
 
 pub returns-in-Some-clause-does : goal.returns-in-Some-clause-does
@@ -109,37 +109,37 @@ returns-in-Some-clause-does g c =
     let heap = c.args.heap.now in
     let cut = c.cut_in.new.heap in
     let place = c.args.place.now in
-    let part = g.H.Hall.part old me in
-    let later = g.H.Hall.part new me in
-    let seen = g.H.Hall.seen old me in
-    let heard = g.H.Hall.heard old me in
+    let part = (g.H.Hall.state old).part me in
+    let later = (g.H.Hall.state new).part me in
+    let seen = (g.H.Hall.state old).seen me in
+    let heard = (g.H.Hall.state old).heard me in
     let run = c.in-Some.run' in
     let is_me = ap (λ (party : Party). party.me) c.cut_in.ensures.counted in
-    let count = g.H.Hall.count old in
-    let gives_up = subst (λ (who : ℕ). GivesUp place.index run (g.H.Hall.part old who place.index) (g.H.Hall.part new who place.index)) is_me
+    let count = (g.H.Hall.state old).count in
+    let gives_up = subst (λ (who : ℕ). GivesUp place.index run ((g.H.Hall.state old).part who place.index) ((g.H.Hall.state new).part who place.index)) is_me
     c.retire.ensures.gives_up in
-    let others = subst (λ (who : ℕ). (other : ℕ) → other ≢ place.index → g.H.Hall.part new who other ≡ g.H.Hall.part old who other) is_me
+    let others = subst (λ (who : ℕ). (other : ℕ) → other ≢ place.index → (g.H.Hall.state new).part who other ≡ (g.H.Hall.state old).part who other) is_me
     c.retire.ensures.others in
     let did = c.retire.ensures.did in
-    let more = g.met.H.Hall.goes_on_seen old new me c.retire.ensures.goes_on in
-    let outcomes = g.met.H.Hall.goes_on_heard old new me c.retire.ensures.goes_on in
+    let more = (g.met.H.Hall.goes_on_later old new c.retire.ensures.goes_on).seen me in
+    let outcomes = (g.met.H.Hall.goes_on_later old new c.retire.ensures.goes_on).heard me in
     let same = hand_same after.me cut part later (given_up_part place.index run part later gives_up others) in
     let left : Doing = left_of place.index (GaveUp run) in
-    subst (λ (doing : Doing). Does count (g.H.Hall.did old new me) doing left (in_hand heap (moment_of party part seen heard))
-    (in_hand cut (moment_of after later (g.H.Hall.seen new me) (g.H.Hall.heard new me))))
+    subst (λ (doing : Doing). Does count (did_in me (g.H.Hall.state old) (g.H.Hall.state new)) doing left (in_hand heap (moment_of party part seen heard))
+    (in_hand cut (moment_of after later ((g.H.Hall.state new).seen me) ((g.H.Hall.state new).heard me))))
     (sym (socket_cuts place c.args.addr heap.plain.index c.is_none.result c.if-is_none.false c.is_none.ensures c.requires.its))
-    (does_then count (g.H.Hall.did old new me) (g.H.Hall.did new new me) (g.H.Hall.did old new me)
+    (does_then count (did_in me (g.H.Hall.state old) (g.H.Hall.state new)) (did_in me (g.H.Hall.state new) (g.H.Hall.state new)) (did_in me (g.H.Hall.state old) (g.H.Hall.state new))
     (Doing.Calls heap.plain.index (call.Cut c.args.addr) (giving_up place.index)) left left (in_hand heap (moment_of party part seen heard))
-    (in_hand cut (moment_of after part seen heard)) (in_hand cut (moment_of after later (g.H.Hall.seen new me) (g.H.Hall.heard new me)))
-    (λ first second. g.met.H.Hall.did_then old new new me first second)
+    (in_hand cut (moment_of after part seen heard)) (in_hand cut (moment_of after later ((g.H.Hall.state new).seen me) ((g.H.Hall.state new).heard me)))
+    (λ first second. did_then)
     (does_acted party part seen heard (call.Cut c.args.addr) (gives.Pages run) heap cut c.in-Some.ensures.step count
-    (g.H.Hall.did old new me) (giving_up place.index) after (takes_segments did.0 ∷ gives_segments (after_retire heap.plain.index run did.0) ∷ [])
+    (did_in me (g.H.Hall.state old) (g.H.Hall.state new)) (giving_up place.index) after (takes_segments did.0 ∷ gives_segments (after_retire heap.plain.index run did.0) ∷ [])
     c.cut_in.ensures.counted
-    (subst (λ (index : ℕ). g.H.Hall.did old new me (takes_segments did.0 ∷ gives_segments (after_retire index run did.0) ∷ [])) c.requires.its
-    (subst (λ (who : ℕ). g.H.Hall.did old new who (takes_segments did.0 ∷ gives_segments (after_retire place.index run did.0) ∷ [])) is_me did.1))
+    (subst (λ (index : ℕ). Did me (takes_segments did.0 ∷ gives_segments (after_retire index run did.0) ∷ []) (g.H.Hall.state old) (g.H.Hall.state new)) c.requires.its
+    (subst (λ (who : ℕ). Did who (takes_segments did.0 ∷ gives_segments (after_retire place.index run did.0) ∷ []) (g.H.Hall.state old) (g.H.Hall.state new)) is_me did.1))
     (Acts.cuts_run party heap.plain.index c.args.addr run did.0))
-    (does_still count (g.H.Hall.did new new me) left (in_hand cut (moment_of after part seen heard))
-    (in_hand cut (moment_of after later (g.H.Hall.seen new me) (g.H.Hall.heard new me))) [] (g.met.H.Hall.did_same new me)
+    (does_still count (did_in me (g.H.Hall.state new) (g.H.Hall.state new)) left (in_hand cut (moment_of after part seen heard))
+    (in_hand cut (moment_of after later ((g.H.Hall.state new).seen me) ((g.H.Hall.state new).heard me))) [] (did_same me (g.H.Hall.state new))
     (Acts.nothing after) (λ at. (same at).entries) (λ at. (same at).serves) (same_party after) refl more.0 more.1 outcomes.0
     outcomes.1))
 
@@ -151,18 +151,18 @@ returns-in-Some-clause-in_hand g c =
     let new = c.retire.new.hall in
     let heap = c.args.heap.now in
     let place = c.args.place.now in
-    let part = g.H.Hall.part old me in
-    let later = g.H.Hall.part new me in
+    let part = (g.H.Hall.state old).part me in
+    let later = (g.H.Hall.state new).part me in
     let run = c.in-Some.run' in
     let step = c.in-Some.ensures.step in
     let is_me = ap (λ (party : Party). party.me) c.cut_in.ensures.counted in
-    let gives_up = subst (λ (who : ℕ). GivesUp place.index run (g.H.Hall.part old who place.index) (g.H.Hall.part new who place.index)) is_me
+    let gives_up = subst (λ (who : ℕ). GivesUp place.index run ((g.H.Hall.state old).part who place.index) ((g.H.Hall.state new).part who place.index)) is_me
     c.retire.ensures.gives_up in
-    let others = subst (λ (who : ℕ). (other : ℕ) → other ≢ place.index → g.H.Hall.part new who other ≡ g.H.Hall.part old who other) is_me
+    let others = subst (λ (who : ℕ). (other : ℕ) → other ≢ place.index → (g.H.Hall.state new).part who other ≡ (g.H.Hall.state old).part who other) is_me
     c.retire.ensures.others in
     let held = subst (λ (index : ℕ). IsHeldWith heap (part index).holding) (sym c.requires.its) c.requires.in_hand.held in
-    hand_moved party part (g.H.Hall.seen old me) (g.H.Hall.heard old me) (call.Cut c.args.addr) (gives.Pages run) heap c.cut_in.new.heap step
-    (g.H.Hall.taken old) c.requires.in_hand (g.H.Hall.taken new) c.cut_in.new.self later (g.H.Hall.seen new me) (g.H.Hall.heard new me)
+    hand_moved party part ((g.H.Hall.state old).seen me) ((g.H.Hall.state old).heard me) (call.Cut c.args.addr) (gives.Pages run) heap c.cut_in.new.heap step
+    (g.H.Hall.state old).taken c.requires.in_hand (g.H.Hall.state new).taken c.cut_in.new.self later ((g.H.Hall.state new).seen me) ((g.H.Hall.state new).heard me)
     c.retire.ensures.taken
     (subst (λ (after : Party). IsSameParty (after_call party) after) (sym c.cut_in.ensures.counted) (same_party (after_call party)))
     (given_up_part place.index run part later gives_up others)
@@ -185,19 +185,19 @@ returns-in-Some-clause-settled g c =
     let place = c.args.place.now in
     let run = c.in-Some.run' in
     let is_me = ap (λ (party : Party). party.me) c.cut_in.ensures.counted in
-    let gives_up = subst (λ (who : ℕ). GivesUp place.index run (g.H.Hall.part old who place.index) (g.H.Hall.part new who place.index)) is_me
+    let gives_up = subst (λ (who : ℕ). GivesUp place.index run ((g.H.Hall.state old).part who place.index) ((g.H.Hall.state new).part who place.index)) is_me
     c.retire.ensures.gives_up in
-    let others = subst (λ (who : ℕ). (other : ℕ) → other ≢ place.index → g.H.Hall.part new who other ≡ g.H.Hall.part old who other) is_me
+    let others = subst (λ (who : ℕ). (other : ℕ) → other ≢ place.index → (g.H.Hall.state new).part who other ≡ (g.H.Hall.state old).part who other) is_me
     c.retire.ensures.others in
-    let outcomes = g.met.H.Hall.goes_on_heard old new me c.retire.ensures.goes_on in
-    subst (λ (who : ℕ). HasSettledAsks who (g.H.Hall.part new me) (g.H.Hall.heard new me)) (sym is_me)
-    (settled_more me (g.H.Hall.part old me) (g.H.Hall.part new me) (g.H.Hall.heard old me) (g.H.Hall.heard new me) outcomes.0 outcomes.1
-    (given_up_armed place.index run (g.H.Hall.part old me) (g.H.Hall.part new me) gives_up others) c.requires.settled)
+    let outcomes = (g.met.H.Hall.goes_on_later old new c.retire.ensures.goes_on).heard me in
+    subst (λ (who : ℕ). HasSettledAsks who ((g.H.Hall.state new).part me) ((g.H.Hall.state new).heard me)) (sym is_me)
+    (settled_more me ((g.H.Hall.state old).part me) ((g.H.Hall.state new).part me) ((g.H.Hall.state old).heard me) ((g.H.Hall.state new).heard me) outcomes.0 outcomes.1
+    (given_up_armed place.index run ((g.H.Hall.state old).part me) ((g.H.Hall.state new).part me) gives_up others) c.requires.settled)
 
 pub returns-in-Some-clause-tied : goal.returns-in-Some-clause-tied
 returns-in-Some-clause-tied g c =
     let me = c.args.self.now.me in
     let new = c.retire.new.hall in
-    let grown = g.met.H.Hall.goes_on_seen _ _ me c.retire.ensures.goes_on in
-    subst (λ (party : Party). IsTied (g.H.Hall.seen new me) (g.H.Hall.own new me) party.joined party.maps) (sym c.cut_in.ensures.counted)
+    let grown = (g.met.H.Hall.goes_on_later _ _ c.retire.ensures.goes_on).seen me in
+    subst (λ (party : Party). IsTied ((g.H.Hall.state new).seen me) ((g.H.Hall.state new).own me) party.joined party.maps) (sym c.cut_in.ensures.counted)
     (tied_since _ _ grown.0 _ _ _ _ grown.1 (c.retire.ensures.own me) c.requires.tied)

@@ -9,10 +9,10 @@ returns-in-Err-clause-does g c =
     let party = c.args.self.now in
     let hall = c.args.hall.now in
     let me = party.me in
-    let moment = moment_of party (g.H.Hall.part hall me) (g.H.Hall.seen hall me) (g.H.Hall.heard hall me) in
+    let moment = moment_of party ((g.H.Hall.state hall).part me) ((g.H.Hall.state hall).seen me) ((g.H.Hall.state hall).heard me) in
     let label = c.requires.act in
-    line_refused c.args.line.now label.0 c.args.size c.args.options.now label.1 moment c.requires.attached (g.H.Hall.count hall)
-    (g.H.Hall.did hall hall me) c.in-Err.kind (sym c.in-Err.ensures.refused) (g.met.H.Hall.did_same hall me)
+    line_refused c.args.line.now label.0 c.args.size c.args.options.now label.1 moment c.requires.attached (g.H.Hall.state hall).count
+    (did_in me (g.H.Hall.state hall) (g.H.Hall.state hall)) c.in-Err.kind (sym c.in-Err.ensures.refused) (did_same me (g.H.Hall.state hall))
 
 pub serve_line-requires-clause-asks : goal.serve_line-requires-clause-asks
 serve_line-requires-clause-asks g c = record {

@@ -11,10 +11,10 @@ returns-then-self-clause-does g c =
     let party = c.args.self.now in
     let me = party.me in
     let hall = c.args.hall.now in
-    line_already (g.H.Hall.count hall) (g.H.Hall.did hall hall me) c.args.line.now party (g.H.Hall.part hall me) (g.H.Hall.seen hall me)
-    (g.H.Hall.heard hall me) c.requires.act
+    line_already (g.H.Hall.state hall).count (did_in me (g.H.Hall.state hall) (g.H.Hall.state hall)) c.args.line.now party ((g.H.Hall.state hall).part me) ((g.H.Hall.state hall).seen me)
+    ((g.H.Hall.state hall).heard me) c.requires.act
     (ap (λ (party : Party). party.context.standing.attached) (sym c.self.view_is)
-    ∙ ap (λ inside. inside.context.standing.attached) (sym c.self-inside.view_is) ∙ c.if-self.true) (g.met.H.Hall.did_same hall me)
+    ∙ ap (λ inside. inside.context.standing.attached) (sym c.self-inside.view_is) ∙ c.if-self.true) (did_same me (g.H.Hall.state hall))
 
 pub returns-clause-does : goal.returns-clause-does
 returns-clause-does g c =
@@ -23,11 +23,11 @@ returns-clause-does g c =
     let old = c.args.hall.now in
     let new = c.attach-caught.new.hall in
     let is = c.attach-caught.ensures in
-    let more = g.met.H.Hall.goes_on_seen old new me is.goes_on in
-    let others = g.met.H.Hall.goes_on_heard old new me is.goes_on in
-    line_tried (g.H.Hall.count old) (g.H.Hall.did old new me) c.args.line.now party (g.H.Hall.part old me) (g.H.Hall.seen old me)
-    (g.H.Hall.heard old me) c.attach-caught.new.self c.note_attached.new.self (g.H.Hall.part new me) (g.H.Hall.seen new me) more.0
-    (g.H.Hall.heard new me) others.0 (is.part me) more.1 others.1 c.requires.act
+    let more = (g.met.H.Hall.goes_on_later old new is.goes_on).seen me in
+    let others = (g.met.H.Hall.goes_on_later old new is.goes_on).heard me in
+    line_tried (g.H.Hall.state old).count (did_in me (g.H.Hall.state old) (g.H.Hall.state new)) c.args.line.now party ((g.H.Hall.state old).part me) ((g.H.Hall.state old).seen me)
+    ((g.H.Hall.state old).heard me) c.attach-caught.new.self c.note_attached.new.self ((g.H.Hall.state new).part me) ((g.H.Hall.state new).seen me) more.0
+    ((g.H.Hall.state new).heard me) others.0 (is.part me) more.1 others.1 c.requires.act
     (ap (λ (party : Party). party.context.standing.attached) (sym c.self.view_is)
     ∙ ap (λ inside. inside.context.standing.attached) (sym c.self-inside.view_is) ∙ c.if-self.false) is.did.0 c.attach-caught.result is.did.1
     is.did.2 c.note_attached.result c.note_attached.ensures.given c.note_attached.ensures.noted
@@ -40,11 +40,11 @@ returns-clause-ready g c = λ ready.
     let new = c.attach-caught.new.hall in
     let mid = c.attach-caught.new.self in
     let is = c.attach-caught.ensures in
-    let others = g.met.H.Hall.goes_on_heard old new me is.goes_on in
-    ready_noted mid c.note_attached.new.self (g.H.Hall.part new me) (g.H.Hall.seen new me) (g.H.Hall.heard new me)
+    let others = (g.met.H.Hall.goes_on_later old new is.goes_on).heard me in
+    ready_noted mid c.note_attached.new.self ((g.H.Hall.state new).part me) ((g.H.Hall.state new).seen me) ((g.H.Hall.state new).heard me)
     (standing_tried mid.maps.number c.attach-caught.result mid.context.standing) c.note_attached.ensures.noted
-    (ready_still party mid (g.H.Hall.part old me) (g.H.Hall.part new me) (g.H.Hall.seen old me) (g.H.Hall.seen new me) (g.H.Hall.heard old me)
-    (g.H.Hall.heard new me) others.0 (attached_same party mid is.did.0.log c.attach-caught.result is.did.1) (is.part me) others.1 ready)
+    (ready_still party mid ((g.H.Hall.state old).part me) ((g.H.Hall.state new).part me) ((g.H.Hall.state old).seen me) ((g.H.Hall.state new).seen me) ((g.H.Hall.state old).heard me)
+    ((g.H.Hall.state new).heard me) others.0 (attached_same party mid is.did.0.log c.attach-caught.result is.did.1) (is.part me) others.1 ready)
 
 pub returns-clause-failed : goal.returns-clause-failed
 returns-clause-failed g c = λ call refused.

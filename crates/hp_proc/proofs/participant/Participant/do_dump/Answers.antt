@@ -85,16 +85,16 @@ returns-in_default-clause-does g c =
     let hall = c.args.hall.now in
     let line = c.args.line.now in
     let name = c.args.name.now in
-    let moment = moment_of party (g.H.Hall.part hall me) (g.H.Hall.seen hall me) (g.H.Hall.heard hall me) in
+    let moment = moment_of party ((g.H.Hall.state hall).part me) ((g.H.Hall.state hall).seen me) ((g.H.Hall.state hall).heard me) in
     let facts = facts_for party.socket party.context line.act None in
     let known = facts_known party.socket party.context line None
     (subst (λ (deed : Act). HasRequest deed None) (sym c.requires.act) tt) in
     let is = subst (λ (party : Party). None ≡ option_map (λ (heap : NamedHeap). heap.index) (find (has_name name.text) (socket_heaps party.context.pools)))
     c.self.view_is c.in_default.ensures in
-    line_done (g.H.Hall.count hall) (g.H.Hall.did hall hall me) line answer.NotFound moment moment facts (act.Dump name) known
-    (subst (λ (doing : Doing). Does (g.H.Hall.count hall) (g.H.Hall.did hall hall me) doing (Doing.Ended answer.NotFound) moment moment)
+    line_done (g.H.Hall.state hall).count (did_in me (g.H.Hall.state hall) (g.H.Hall.state hall)) line answer.NotFound moment moment facts (act.Dump name) known
+    (subst (λ (doing : Doing). Does (g.H.Hall.state hall).count (did_in me (g.H.Hall.state hall) (g.H.Hall.state hall)) doing (Doing.Ended answer.NotFound) moment moment)
     (sym (dumps_none (find (has_name name.text) facts.named) is) ∙ dumps line name facts c.requires.act c.requires.attached)
-    (does_same (g.H.Hall.count hall) (g.H.Hall.did hall hall me) (Doing.Ended answer.NotFound) moment (g.met.H.Hall.did_same hall me)))
+    (does_same (g.H.Hall.state hall).count (did_in me (g.H.Hall.state hall) (g.H.Hall.state hall)) (Doing.Ended answer.NotFound) moment (did_same me (g.H.Hall.state hall))))
     (same_party party) c.requires.act tt
 
 pub hold-requires-clause-few : goal.hold-requires-clause-few
@@ -107,9 +107,9 @@ hold-requires-clause-few g c =
 
 pub put-requires-clause-serves : goal.put-requires-clause-serves
 put-requires-clause-serves g c =
-    subst (λ (who : ℕ). g.H.Hall.serves c.hold.new.hall who)
+    subst (λ (who : ℕ). (g.H.Hall.state c.hold.new.hall).serves who)
     (sym (ap (λ (party : Party). party.me) c.stats_in-stats.ensures.counted ∙ c.hold.ensures.same.me))
-    (g.met.H.Hall.goes_on_serves _ _ _ c.hold.ensures.goes_on c.requires.serves)
+    ((g.met.H.Hall.goes_on_later _ _ c.hold.ensures.goes_on).serves _ c.requires.serves)
 
 pub put-requires-clause-in_hand : goal.put-requires-clause-in_hand
 put-requires-clause-in_hand g c =
@@ -121,9 +121,9 @@ put-requires-clause-in_hand g c =
     let next = c.stats_in-stats.new.heap in
     let given = gives.Statistics c.stats_in-stats.result in
     let step = c.stats_in-stats.ensures.step in
-    subst (λ (who : ℕ). IsInHand (g.H.Hall.taken mid) (moment_of after (g.H.Hall.part mid who) (g.H.Hall.seen mid who) (g.H.Hall.heard mid who)) next)
+    subst (λ (who : ℕ). IsInHand (g.H.Hall.state mid).taken (moment_of after ((g.H.Hall.state mid).part who) ((g.H.Hall.state mid).seen who) ((g.H.Hall.state mid).heard who)) next)
     (sym (ap (λ (party : Party). party.me) c.stats_in-stats.ensures.counted ∙ c.hold.ensures.same.me))
-    (hand_stays party (g.H.Hall.part mid me) (g.H.Hall.seen mid me) (g.H.Hall.heard mid me) call.Stats given heap next step (g.H.Hall.taken mid)
+    (hand_stays party ((g.H.Hall.state mid).part me) ((g.H.Hall.state mid).seen me) ((g.H.Hall.state mid).heard me) call.Stats given heap next step (g.H.Hall.state mid).taken
     c.in_ok-heap.ensures.in_hand after c.stats_in-stats.ensures.counted (stats_pages (caller_of party) given heap next step))
 
 pub returns-clause-does : goal.returns-clause-does
@@ -139,38 +139,38 @@ returns-clause-does g c =
     let next = c.stats_in-stats.new.heap in
     let stats = c.stats_in-stats.result in
     let counted = c.stats_in-stats.ensures.counted in
-    let count = g.H.Hall.count old in
+    let count = (g.H.Hall.state old).count in
     let line = c.args.line.now in
     let name = c.args.name.now in
-    let first = moment_of before (g.H.Hall.part old me) (g.H.Hall.seen old me) (g.H.Hall.heard old me) in
-    let second = in_hand heap (moment_of party (g.H.Hall.part mid me) (g.H.Hall.seen mid me) (g.H.Hall.heard mid me)) in
-    let third = in_hand next (moment_of after (g.H.Hall.part mid me) (g.H.Hall.seen mid me) (g.H.Hall.heard mid me)) in
-    let fourth = moment_of after (g.H.Hall.part new me) (g.H.Hall.seen new me) (g.H.Hall.heard new me) in
+    let first = moment_of before ((g.H.Hall.state old).part me) ((g.H.Hall.state old).seen me) ((g.H.Hall.state old).heard me) in
+    let second = in_hand heap (moment_of party ((g.H.Hall.state mid).part me) ((g.H.Hall.state mid).seen me) ((g.H.Hall.state mid).heard me)) in
+    let third = in_hand next (moment_of after ((g.H.Hall.state mid).part me) ((g.H.Hall.state mid).seen me) ((g.H.Hall.state mid).heard me)) in
+    let fourth = moment_of after ((g.H.Hall.state new).part me) ((g.H.Hall.state new).seen me) ((g.H.Hall.state new).heard me) in
     let doing = Doing.Calls heap.plain.index call.Stats with_statistics in
     let ended = Doing.Ended (answer.Statistics stats) in
-    let called : Does count (g.H.Hall.did mid mid me) doing ended second third =
-    does_call party (g.H.Hall.part mid me) (g.H.Hall.seen mid me) (g.H.Hall.heard mid me) call.Stats (gives.Statistics stats) heap next
-    c.stats_in-stats.ensures.step count (g.H.Hall.did mid mid me) with_statistics after counted (g.met.H.Hall.did_same mid me) refl in
-    let put : Does count (g.H.Hall.did mid new me) ended ended third fourth =
-    subst (λ (count : ℕ). Does count (g.H.Hall.did mid new me) ended ended third fourth)
-    (g.met.H.Hall.goes_on_count _ _ c.hold.ensures.goes_on)
-    (subst (λ (who : ℕ). Does (g.H.Hall.count mid) (g.H.Hall.did mid new who) ended ended
-    (in_hand next (moment_of after (g.H.Hall.part mid who) (g.H.Hall.seen mid who) (g.H.Hall.heard mid who)))
-    (moment_of after (g.H.Hall.part new who) (g.H.Hall.seen new who) (g.H.Hall.heard new who)))
+    let called : Does count (did_in me (g.H.Hall.state mid) (g.H.Hall.state mid)) doing ended second third =
+    does_call party ((g.H.Hall.state mid).part me) ((g.H.Hall.state mid).seen me) ((g.H.Hall.state mid).heard me) call.Stats (gives.Statistics stats) heap next
+    c.stats_in-stats.ensures.step count (did_in me (g.H.Hall.state mid) (g.H.Hall.state mid)) with_statistics after counted (did_same me (g.H.Hall.state mid)) refl in
+    let put : Does count (did_in me (g.H.Hall.state mid) (g.H.Hall.state new)) ended ended third fourth =
+    subst (λ (count : ℕ). Does count (did_in me (g.H.Hall.state mid) (g.H.Hall.state new)) ended ended third fourth)
+    ((g.met.H.Hall.goes_on_later _ _ c.hold.ensures.goes_on).count)
+    (subst (λ (who : ℕ). Does (g.H.Hall.state mid).count (did_in who (g.H.Hall.state mid) (g.H.Hall.state new)) ended ended
+    (in_hand next (moment_of after ((g.H.Hall.state mid).part who) ((g.H.Hall.state mid).seen who) ((g.H.Hall.state mid).heard who)))
+    (moment_of after ((g.H.Hall.state new).part who) ((g.H.Hall.state new).seen who) ((g.H.Hall.state new).heard who)))
     (ap (λ (party : Party). party.me) counted ∙ c.hold.ensures.same.me) (c.put.ensures.does ended)) in
-    let does : Does count (g.H.Hall.did old new me) doing ended first fourth =
-    does_then count (g.H.Hall.did old mid me) (g.H.Hall.did mid new me) (g.H.Hall.did old new me) doing doing ended first second fourth
-    (λ one other. g.met.H.Hall.did_then old mid new me one other) (c.in_ok-heap.ensures.did doing)
-    (does_then count (g.H.Hall.did mid mid me) (g.H.Hall.did mid new me) (g.H.Hall.did mid new me) doing ended ended second third fourth
-    (λ one other. g.met.H.Hall.did_then mid mid new me one other) called put) in
+    let does : Does count (did_in me (g.H.Hall.state old) (g.H.Hall.state new)) doing ended first fourth =
+    does_then count (did_in me (g.H.Hall.state old) (g.H.Hall.state mid)) (did_in me (g.H.Hall.state mid) (g.H.Hall.state new)) (did_in me (g.H.Hall.state old) (g.H.Hall.state new)) doing doing ended first second fourth
+    (λ one other. did_then) (c.in_ok-heap.ensures.did doing)
+    (does_then count (did_in me (g.H.Hall.state mid) (g.H.Hall.state mid)) (did_in me (g.H.Hall.state mid) (g.H.Hall.state new)) (did_in me (g.H.Hall.state mid) (g.H.Hall.state new)) doing ended ended second third fourth
+    (λ one other. did_then) called put) in
     let facts = facts_for before.socket before.context line.act None in
     let known = facts_known before.socket before.context line None
     (subst (λ (deed : Act). HasRequest deed None) (sym c.requires.act) tt) in
     let index = c.in-Some.index in
     let is = subst (λ (party : Party). Some index ≡ option_map (λ (heap : NamedHeap). heap.index) (find (has_name name.text) (socket_heaps party.context.pools)))
     c.self.view_is c.in-Some.ensures in
-    line_done count (g.H.Hall.did old new me) line (answer.Statistics stats) first fourth facts (act.Dump name) known
-    (subst (λ (doing : Doing). Does count (g.H.Hall.did old new me) doing ended first fourth)
+    line_done count (did_in me (g.H.Hall.state old) (g.H.Hall.state new)) line (answer.Statistics stats) first fourth facts (act.Dump name) known
+    (subst (λ (doing : Doing). Does count (did_in me (g.H.Hall.state old) (g.H.Hall.state new)) doing ended first fourth)
     (ap (λ (index : ℕ). Doing.Calls index call.Stats with_statistics) c.in_ok-heap.ensures.index
     ∙ dumps_some (find (has_name name.text) facts.named) index is ∙ dumps line name facts c.requires.act c.requires.attached) does)
     (same_called before party after c.hold.ensures.same counted) c.requires.act tt
@@ -183,11 +183,11 @@ returns-clause-ready g c =
     let party = c.hold.new.self in
     let after = c.stats_in-stats.new.self in
     let counted = c.stats_in-stats.ensures.counted in
-    let settled : AreSettled (moment_of after (g.H.Hall.part mid me) (g.H.Hall.seen mid me) (g.H.Hall.heard mid me)) =
-    subst (λ (party : Party). AreSettled (moment_of party (g.H.Hall.part mid me) (g.H.Hall.seen mid me) (g.H.Hall.heard mid me))) (sym counted)
+    let settled : AreSettled (moment_of after ((g.H.Hall.state mid).part me) ((g.H.Hall.state mid).seen me) ((g.H.Hall.state mid).heard me)) =
+    subst (λ (party : Party). AreSettled (moment_of party ((g.H.Hall.state mid).part me) ((g.H.Hall.state mid).seen me) ((g.H.Hall.state mid).heard me))) (sym counted)
     c.in_ok-heap.ensures.settled in
-    subst (λ (who : ℕ). AreSettled (moment_of after (g.H.Hall.part mid who) (g.H.Hall.seen mid who) (g.H.Hall.heard mid who))
-    → MayDo (moment_of after (g.H.Hall.part new who) (g.H.Hall.seen new who) (g.H.Hall.heard new who)))
+    subst (λ (who : ℕ). AreSettled (moment_of after ((g.H.Hall.state mid).part who) ((g.H.Hall.state mid).seen who) ((g.H.Hall.state mid).heard who))
+    → MayDo (moment_of after ((g.H.Hall.state new).part who) ((g.H.Hall.state new).seen who) ((g.H.Hall.state new).heard who)))
     (ap (λ (party : Party). party.me) counted ∙ c.hold.ensures.same.me) c.put.ensures.ready settled
 
 pub returns-clause-tied : goal.returns-clause-tied
@@ -197,10 +197,10 @@ returns-clause-tied g c =
     let new = c.put.new.hall in
     let after = c.stats_in-stats.new.self in
     let counted = c.stats_in-stats.ensures.counted in
-    let tied : IsTied (g.H.Hall.seen mid me) (g.H.Hall.own mid me) after.joined after.maps =
-    subst (λ (party : Party). IsTied (g.H.Hall.seen mid me) (g.H.Hall.own mid me) party.joined party.maps) (sym counted) c.hold.ensures.tied in
-    subst (λ (who : ℕ). IsTied (g.H.Hall.seen mid who) (g.H.Hall.own mid who) after.joined after.maps
-    → IsTied (g.H.Hall.seen new who) (g.H.Hall.own new who) after.joined after.maps)
+    let tied : IsTied ((g.H.Hall.state mid).seen me) ((g.H.Hall.state mid).own me) after.joined after.maps =
+    subst (λ (party : Party). IsTied ((g.H.Hall.state mid).seen me) ((g.H.Hall.state mid).own me) party.joined party.maps) (sym counted) c.hold.ensures.tied in
+    subst (λ (who : ℕ). IsTied ((g.H.Hall.state mid).seen who) ((g.H.Hall.state mid).own who) after.joined after.maps
+    → IsTied ((g.H.Hall.state new).seen who) ((g.H.Hall.state new).own who) after.joined after.maps)
     (ap (λ (party : Party). party.me) counted ∙ c.hold.ensures.same.me) c.put.ensures.tied tied
 
 pub returns-clause-free : goal.returns-clause-free
@@ -210,7 +210,7 @@ returns-clause-free g c = λ number.
     let index = call_index (caller_of c.hold.new.self) call.Stats (gives.Statistics c.stats_in-stats.result) heap next c.stats_in-stats.ensures.step
     ∙ c.in_ok-heap.ensures.index in
     ⊎_elim
-    (λ its. ap (g.H.Hall.taken c.put.new.hall) (its.1 ∙ sym index) ∙ c.put.ensures.taken)
+    (λ its. ap (g.H.Hall.state c.put.new.hall).taken (its.1 ∙ sym index) ∙ c.put.ensures.taken)
     (λ other.
     c.put.ensures.others number (λ same. other.1 (same ∙ index)) ∙ c.hold.ensures.taken number other.1)
     (eqb_tells number c.in-Some.index)
@@ -222,7 +222,7 @@ returns-clause-home g c = λ number few.
     let index = call_index (caller_of c.hold.new.self) call.Stats (gives.Statistics c.stats_in-stats.result) heap next c.stats_in-stats.ensures.step
     ∙ c.in_ok-heap.ensures.index in
     ⊎_elim
-    (λ its. subst (g.H.Hall.may_take c.put.new.hall) (index ∙ sym its.1) c.put.ensures.home)
+    (λ its. subst (g.H.Hall.state c.put.new.hall).may_take (index ∙ sym its.1) c.put.ensures.home)
     (λ other.
     c.put.ensures.home_of_others number (λ same. other.1 (same ∙ index)) (c.hold.ensures.home number few other.1))
     (eqb_tells number c.in-Some.index)

@@ -30,13 +30,13 @@ returns-clause-does g c =
     let new = c.act_on.new.hall in
     let after = c.act_on.new.self in
     let line = c.args.line.now in
-    let before = moment_of party (g.H.Hall.part old me) (g.H.Hall.seen old me) (g.H.Hall.heard old me) in
-    let behind = moment_of after (g.H.Hall.part new me) (g.H.Hall.seen new me) (g.H.Hall.heard new me) in
+    let before = moment_of party ((g.H.Hall.state old).part me) ((g.H.Hall.state old).seen me) ((g.H.Hall.state old).heard me) in
+    let behind = moment_of after ((g.H.Hall.state new).part me) ((g.H.Hall.state new).seen me) ((g.H.Hall.state new).heard me) in
     let facts = facts_for party.socket party.context line.act None in
     let known = facts_known party.socket party.context line None
     (subst (λ (deed : Act). HasRequest deed None) (sym c.requires.act) tt) in
-    if_ok _ (λ given. DoesLine (g.H.Hall.count old) (g.H.Hall.did old new me) line given before behind) c.act_on.result
-    (λ given does. line_done (g.H.Hall.count old) (g.H.Hall.did old new me) line given before behind facts (act.Free c.args.label.now) known
-    (subst (λ (doing : Doing). Does (g.H.Hall.count old) (g.H.Hall.did old new me) doing (Doing.Ended given) before behind)
+    if_ok _ (λ given. DoesLine (g.H.Hall.state old).count (did_in me (g.H.Hall.state old) (g.H.Hall.state new)) line given before behind) c.act_on.result
+    (λ given does. line_done (g.H.Hall.state old).count (did_in me (g.H.Hall.state old) (g.H.Hall.state new)) line given before behind facts (act.Free c.args.label.now) known
+    (subst (λ (doing : Doing). Does (g.H.Hall.state old).count (did_in me (g.H.Hall.state old) (g.H.Hall.state new)) doing (Doing.Ended given) before behind)
     (frees line me c.args.label.now facts c.requires.own c.requires.act c.requires.attached) (does facts known))
     c.act_on.ensures.same c.requires.act tt) c.act_on.ensures.does

@@ -75,14 +75,14 @@ returns-in-Ok-clause-does g c =
     let deed = act.Resize c.args.label.now c.args.size in
     let rounded = c.in-Ok.size in
     let is = c.in-Ok.ensures in
-    let before = moment_of party (g.H.Hall.part old me) (g.H.Hall.seen old me) (g.H.Hall.heard old me) in
-    let behind = moment_of after (g.H.Hall.part new me) (g.H.Hall.seen new me) (g.H.Hall.heard new me) in
+    let before = moment_of party ((g.H.Hall.state old).part me) ((g.H.Hall.state old).seen me) ((g.H.Hall.state old).heard me) in
+    let behind = moment_of after ((g.H.Hall.state new).part me) ((g.H.Hall.state new).seen me) ((g.H.Hall.state new).heard me) in
     let facts = facts_for party.socket party.context line.act None in
     let known = facts_known party.socket party.context line None
     (subst (λ (deed : Act). HasRequest deed None) (sym c.requires.act) tt) in
-    if_ok _ (λ given. DoesLine (g.H.Hall.count old) (g.H.Hall.did old new me) line given before behind) c.act_on.result
-    (λ given does. line_done (g.H.Hall.count old) (g.H.Hall.did old new me) line given before behind facts deed known
-    (subst (λ (doing : Doing). Does (g.H.Hall.count old) (g.H.Hall.did old new me) doing (Doing.Ended given) before behind)
+    if_ok _ (λ given. DoesLine (g.H.Hall.state old).count (did_in me (g.H.Hall.state old) (g.H.Hall.state new)) line given before behind) c.act_on.result
+    (λ given does. line_done (g.H.Hall.state old).count (did_in me (g.H.Hall.state old) (g.H.Hall.state new)) line given before behind facts deed known
+    (subst (λ (doing : Doing). Does (g.H.Hall.state old).count (did_in me (g.H.Hall.state old) (g.H.Hall.state new)) doing (Doing.Ended given) before behind)
     (resizes line me c.args.label.now c.args.size facts c.requires.own c.requires.act c.requires.attached rounded is.0
     (not_refused c.args.size rounded is.0 is.1 is.2)) (does facts known)) c.act_on.ensures.same c.requires.act tt) c.act_on.ensures.does
 
@@ -94,12 +94,12 @@ returns-in-Err-clause-does g c =
     let line = c.args.line.now in
     let deed = act.Resize c.args.label.now c.args.size in
     let given = answer.BadRequest c.in-Err.kind in
-    let moment = moment_of party (g.H.Hall.part hall me) (g.H.Hall.seen hall me) (g.H.Hall.heard hall me) in
+    let moment = moment_of party ((g.H.Hall.state hall).part me) ((g.H.Hall.state hall).seen me) ((g.H.Hall.state hall).heard me) in
     let facts = facts_for party.socket party.context line.act None in
     let known = facts_known party.socket party.context line None
     (subst (λ (deed : Act). HasRequest deed None) (sym c.requires.act) tt) in
-    line_done (g.H.Hall.count hall) (g.H.Hall.did hall hall me) line given moment moment facts deed known
-    (subst (λ (doing : Doing). Does (g.H.Hall.count hall) (g.H.Hall.did hall hall me) doing (Doing.Ended given) moment moment)
+    line_done (g.H.Hall.state hall).count (did_in me (g.H.Hall.state hall) (g.H.Hall.state hall)) line given moment moment facts deed known
+    (subst (λ (doing : Doing). Does (g.H.Hall.state hall).count (did_in me (g.H.Hall.state hall) (g.H.Hall.state hall)) doing (Doing.Ended given) moment moment)
     (refuses line me c.args.label.now c.args.size facts c.requires.own c.requires.act c.requires.attached c.in-Err.kind c.in-Err.ensures)
-    (does_same (g.H.Hall.count hall) (g.H.Hall.did hall hall me) (Doing.Ended given) moment (g.met.H.Hall.did_same hall me)))
+    (does_same (g.H.Hall.state hall).count (did_in me (g.H.Hall.state hall) (g.H.Hall.state hall)) (Doing.Ended given) moment (did_same me (g.H.Hall.state hall))))
     (same_party party) c.requires.act tt

@@ -2,7 +2,6 @@
 use Rattle.std.proofs.Common.{◌≡◌, ◌∙◌, ℕ, false, [], List, Option, Some, None, refl, ap, sym, subst}
 use Rattle.hp_hall.specs.Holding.{HeapPart}
 use Rattle.hp_hall.specs.Mail.{MailStep}
-use Rattle.hp_hall.specs.declared.kept.Kept.{Kept}
 use Rattle.hp_heap.specs.Freeing.{fault_answer}
 use Rattle.hp_heap.specs.History.{HeapView, IsCall}
 use Rattle.hp_heap.specs.declared.entry.HeapAnswer.{HeapAnswer}
@@ -11,16 +10,18 @@ use Rattle.hp_heap.specs.declared.entry.HeapCall.TheVariants as call
 use Rattle.hp_heap.specs.declared.freeing.FreeFault.{FreeFault}
 use Rattle.hp_log.specs.declared.log_record.LogRecord.{LogRecord}
 use Rattle.hp_segs.specs.declared.outcome.AskLog.{AskLog}
-use Rattle.hp_proc.specs.Asking.{HasSettledAsks}
 use Rattle.hp_proc.specs.Doing.{Doing}
-use Rattle.hp_proc.specs.Freeing.{cutting, freed, freeing, left_of}
+use Rattle.hp_proc.specs.Freeing.{freed, freeing}
 use Rattle.hp_proc.specs.Party.{Party, after_call}
-use Rattle.hp_proc.specs.Progress.{Does, IsInHand, caller_of, in_hand, moment_of}
+use Rattle.hp_proc.specs.Progress.{AreSettled, Does, caller_of, in_hand, moment_of}
 use Rattle.hp_proc.specs.declared.searched_heap.SearchedHeap.{SearchedHeap}
-use Rattle.hp_proc.proofs.HandCalls.{call_index, call_serves, does_call, hand_stays}
+use Rattle.hp_proc.proofs.HandCalls.{call_index, call_serves, does_call}
 use Rattle.hp_proc.proofs.HandCut.{freed_whole}
-use Rattle.hp_proc.proofs.Joining.{does_then}
 use Rattle.hp_proc.proofs.PagesStay.{free_pages}
+use Rattle.hp_hall.specs.HallState.{OthersStay}
+use Rattle.hp_hall.proofs.HallStates.{did_same, others_same}
+use Rattle.hp_proc.specs.InHall.{did_in, moment, moment_with}
+use Rattle.hp_proc.proofs.Holds.{does_next, holds_on, keeps_called, keeps_then, room_called, settled_called}
 use Rattle.hp_proc.proofs.participant.Participant.free_held.Goals as goal
 
 -- the free was called, with what comes of it
@@ -38,133 +39,83 @@ freed_here count did party after parts log asks heap next place addr fault step 
     (does_call party parts log asks (call.Free addr false) (fault_answer fault) heap next step count did (freed place addr) after counted
     none (freed_whole fault)))
 
--- the heap is in hand with it
-hand_freed : (taken : ℕ → Option Kept) (party after : Party) (parts : ℕ → HeapPart) (log : List LogRecord) (asks : List AskLog)
-    (heap next : HeapView) (addr : ℕ) (given : HeapAnswer) → IsCall (caller_of party) (call.Free addr false) given heap next
-    → after ≡ after_call party → IsInHand taken (moment_of party parts log asks) heap → IsInHand taken (moment_of after parts log asks) next
-hand_freed taken party after parts log asks heap next addr given step counted hand =
-    hand_stays party parts log asks (call.Free addr false) given heap next step taken hand after counted
-    (free_pages (caller_of party) addr false given heap next step)
-
-pub cut_held-requires-clause-in_hand : goal.cut_held-requires-clause-in_hand
-cut_held-requires-clause-in_hand g c =
+pub cut_held-requires : goal.cut_held-requires
+cut_held-requires g c =
     let party = c.args.self.now in
-    let me = party.me in
-    let hall = c.args.hall.now in
-    let after = c.free_in.new.self in
-    let next = c.free_in.new.heap in
-    subst (λ (who : ℕ). IsInHand (g.H.Hall.taken hall) (moment_of after (g.H.Hall.part hall who) (g.H.Hall.seen hall who)
-    (g.H.Hall.heard hall who)) next) (sym (ap (λ (party : Party). party.me) c.free_in.ensures.counted))
-    (hand_freed (g.H.Hall.taken hall) party after (g.H.Hall.part hall me) (g.H.Hall.seen hall me) (g.H.Hall.heard hall me) c.args.heap.now next
-    c.args.addr _ c.free_in.ensures.step c.free_in.ensures.counted c.requires.in_hand)
-
-pub cut_held-requires-clause-settled : goal.cut_held-requires-clause-settled
-cut_held-requires-clause-settled g c =
-    let hall = c.args.hall.now in
-    subst (λ (who : ℕ). HasSettledAsks who (g.H.Hall.part hall who) (g.H.Hall.heard hall who))
-    (sym (ap (λ (party : Party). party.me) c.free_in.ensures.counted)) c.requires.settled
-
-pub cut_held-requires-clause-its : goal.cut_held-requires-clause-its
-cut_held-requires-clause-its g c = c.requires.its ∙ sym (call_index _ _ _ _ _ c.free_in.ensures.step)
-
-pub cut_held-requires-clause-of_socket : goal.cut_held-requires-clause-of_socket
-cut_held-requires-clause-of_socket g c = c.requires.of_socket ∙ sym (call_serves _ _ _ _ _ c.free_in.ensures.step)
-
-pub returns-in-Err-NotAnElement-clause-does : goal.returns-in-Err-NotAnElement-clause-does
-returns-in-Err-NotAnElement-clause-does g c =
-    let party = c.args.self.now in
-    let hall = c.args.hall.now in
-    freed_here (g.H.Hall.count hall) (g.H.Hall.did hall hall party.me) party c.free_in.new.self (g.H.Hall.part hall party.me)
-    (g.H.Hall.seen hall party.me) (g.H.Hall.heard hall party.me) c.args.heap.now c.free_in.new.heap c.args.place.now c.args.addr
-    (Some c.in-Err-NotAnElement.field-0) c.in-Err-NotAnElement.ensures.step c.free_in.ensures.counted (g.met.H.Hall.did_same hall party.me)
-    c.requires.its gives.NotAnElement (ap (λ (fault : FreeFault). fault_answer (Some fault)) c.in-Err-NotAnElement.field-0-is)
-
-pub returns-in-Err-NotAnElement-clause-in_hand : goal.returns-in-Err-NotAnElement-clause-in_hand
-returns-in-Err-NotAnElement-clause-in_hand g c =
-    let party = c.args.self.now in
-    let hall = c.args.hall.now in
-    hand_freed (g.H.Hall.taken hall) party c.free_in.new.self (g.H.Hall.part hall party.me) (g.H.Hall.seen hall party.me)
-    (g.H.Hall.heard hall party.me) c.args.heap.now c.free_in.new.heap c.args.addr _ c.free_in.ensures.step c.free_in.ensures.counted
-    c.requires.in_hand
-
-pub returns-in-Err-NotAnElement-clause-index : goal.returns-in-Err-NotAnElement-clause-index
-returns-in-Err-NotAnElement-clause-index g c = call_index _ _ _ _ _ c.free_in.ensures.step
-
-pub returns-in-Err-NotAnElement-clause-its_socket : goal.returns-in-Err-NotAnElement-clause-its_socket
-returns-in-Err-NotAnElement-clause-its_socket g c = call_serves _ _ _ _ _ c.free_in.ensures.step
-
-pub returns-in-Err-NotAnElement-clause-settled : goal.returns-in-Err-NotAnElement-clause-settled
-returns-in-Err-NotAnElement-clause-settled g c =
-    let me = c.args.self.now.me in
-    let hall = c.args.hall.now in
-    subst (λ (who : ℕ). HasSettledAsks who (g.H.Hall.part hall me) (g.H.Hall.heard hall me))
-    (sym (ap (λ (party : Party). party.me) c.free_in.ensures.counted)) c.requires.settled
-
-pub returns-in-Err-IsZone-clause-does : goal.returns-in-Err-IsZone-clause-does
-returns-in-Err-IsZone-clause-does g c =
-    let party = c.args.self.now in
-    let hall = c.args.hall.now in
-    freed_here (g.H.Hall.count hall) (g.H.Hall.did hall hall party.me) party c.free_in.new.self (g.H.Hall.part hall party.me)
-    (g.H.Hall.seen hall party.me) (g.H.Hall.heard hall party.me) c.args.heap.now c.free_in.new.heap c.args.place.now c.args.addr
-    (Some c.in-Err-IsZone.field-0) c.in-Err-IsZone.ensures.step c.free_in.ensures.counted (g.met.H.Hall.did_same hall party.me)
-    c.requires.its gives.IsZone (ap (λ (fault : FreeFault). fault_answer (Some fault)) c.in-Err-IsZone.field-0-is)
-
-pub returns-in-Err-IsZone-clause-in_hand : goal.returns-in-Err-IsZone-clause-in_hand
-returns-in-Err-IsZone-clause-in_hand g c =
-    let party = c.args.self.now in
-    let hall = c.args.hall.now in
-    hand_freed (g.H.Hall.taken hall) party c.free_in.new.self (g.H.Hall.part hall party.me) (g.H.Hall.seen hall party.me)
-    (g.H.Hall.heard hall party.me) c.args.heap.now c.free_in.new.heap c.args.addr _ c.free_in.ensures.step c.free_in.ensures.counted
-    c.requires.in_hand
-
-pub returns-in-Err-IsZone-clause-index : goal.returns-in-Err-IsZone-clause-index
-returns-in-Err-IsZone-clause-index g c = call_index _ _ _ _ _ c.free_in.ensures.step
-
-pub returns-in-Err-IsZone-clause-its_socket : goal.returns-in-Err-IsZone-clause-its_socket
-returns-in-Err-IsZone-clause-its_socket g c = call_serves _ _ _ _ _ c.free_in.ensures.step
-
-pub returns-in-Err-IsZone-clause-settled : goal.returns-in-Err-IsZone-clause-settled
-returns-in-Err-IsZone-clause-settled g c =
-    let me = c.args.self.now.me in
-    let hall = c.args.hall.now in
-    subst (λ (who : ℕ). HasSettledAsks who (g.H.Hall.part hall me) (g.H.Hall.heard hall me))
-    (sym (ap (λ (party : Party). party.me) c.free_in.ensures.counted)) c.requires.settled
-
-pub returns-in-Ok-clause-does : goal.returns-in-Ok-clause-does
-returns-in-Ok-clause-does g c =
-    let party = c.args.self.now in
-    let me = party.me in
-    let old = c.args.hall.now in
-    let new = c.cut_held.new.hall in
+    let mid = c.free_in.new.self in
     let heap = c.args.heap.now in
     let next = c.free_in.new.heap in
+    let step = c.free_in.ensures.step in
+    let counted = c.free_in.ensures.counted in
+    record {
+      holds = holds_on (keeps_called party mid heap next step counted (free_pages _ _ false _ heap next step) c.requires.holds)
+          (settled_called party mid counted c.requires.holds.settled) c.requires.holds.can.may;
+      its = c.requires.its ∙ sym (call_index _ _ _ _ _ step);
+      of_socket = c.requires.of_socket ∙ sym (call_serves _ _ _ _ _ step);
+      room = room_called 1 party mid heap next step.spare counted c.requires.room;
+    }
+
+pub returns-in-Err-NotAnElement : goal.returns-in-Err-NotAnElement
+returns-in-Err-NotAnElement g c =
+    let party = c.args.self.now in
+    let me = party.me in
+    let hall = g.H.Hall.state c.args.hall.now in
+    let after = c.free_in.new.self in
+    let heap = c.args.heap.now in
+    let next = c.free_in.new.heap in
+    let step = c.free_in.ensures.step in
+    let counted = c.free_in.ensures.counted in
+    record {
+      does = freed_here hall.count (did_in me hall hall) party after (hall.part me) (hall.seen me) (hall.heard me) heap next c.args.place.now
+          c.args.addr (Some c.in-Err-NotAnElement.field-0) c.in-Err-NotAnElement.ensures.step counted (did_same me hall) c.requires.its gives.NotAnElement
+          (ap (λ (fault : FreeFault). fault_answer (Some fault)) c.in-Err-NotAnElement.field-0-is);
+      settled = settled_called party after counted c.requires.holds.settled;
+      keeps = keeps_called party after heap next step counted (free_pages _ _ false _ heap next step) c.requires.holds;
+      others = others_same me hall;
+      goes_on = g.met.H.Hall.goes_on_same _;
+    }
+
+pub returns-in-Err-IsZone : goal.returns-in-Err-IsZone
+returns-in-Err-IsZone g c =
+    let party = c.args.self.now in
+    let me = party.me in
+    let hall = g.H.Hall.state c.args.hall.now in
+    let after = c.free_in.new.self in
+    let heap = c.args.heap.now in
+    let next = c.free_in.new.heap in
+    let step = c.free_in.ensures.step in
+    let counted = c.free_in.ensures.counted in
+    record {
+      does = freed_here hall.count (did_in me hall hall) party after (hall.part me) (hall.seen me) (hall.heard me) heap next c.args.place.now
+          c.args.addr (Some c.in-Err-IsZone.field-0) c.in-Err-IsZone.ensures.step counted (did_same me hall) c.requires.its gives.IsZone
+          (ap (λ (fault : FreeFault). fault_answer (Some fault)) c.in-Err-IsZone.field-0-is);
+      settled = settled_called party after counted c.requires.holds.settled;
+      keeps = keeps_called party after heap next step counted (free_pages _ _ false _ heap next step) c.requires.holds;
+      others = others_same me hall;
+      goes_on = g.met.H.Hall.goes_on_same _;
+    }
+
+pub returns-in-Ok : goal.returns-in-Ok
+returns-in-Ok g c =
+    let party = c.args.self.now in
+    let me = party.me in
+    let old = g.H.Hall.state c.args.hall.now in
+    let new = g.H.Hall.state c.cut_held.new.hall in
+    let heap = c.args.heap.now in
+    let next = c.free_in.new.heap in
+    let last = c.cut_held.new.heap in
     let mid = c.free_in.new.self in
     let after = c.cut_held.new.self in
-    let place = c.args.place.now in
-    let addr = c.args.addr in
-    let count = g.H.Hall.count old in
-    let left : Doing = left_of place.index c.cut_held.result in
-    does_then count (g.H.Hall.did old old me) (g.H.Hall.did old new me) (g.H.Hall.did old new me) (freeing place addr) (cutting place addr) left
-    (in_hand heap (moment_of party (g.H.Hall.part old me) (g.H.Hall.seen old me) (g.H.Hall.heard old me)))
-    (in_hand next (moment_of mid (g.H.Hall.part old me) (g.H.Hall.seen old me) (g.H.Hall.heard old me)))
-    (in_hand c.cut_held.new.heap (moment_of after (g.H.Hall.part new me) (g.H.Hall.seen new me) (g.H.Hall.heard new me)))
-    (λ first second. g.met.H.Hall.did_then old old new me first second)
-    (freed_here count (g.H.Hall.did old old me) party mid (g.H.Hall.part old me) (g.H.Hall.seen old me) (g.H.Hall.heard old me) heap next place
-    addr None c.in-Ok.ensures.step c.free_in.ensures.counted (g.met.H.Hall.did_same old me) c.requires.its gives.Done refl)
-    (subst (λ (who : ℕ). Does count (g.H.Hall.did old new who) (cutting place addr) left
-    (in_hand next (moment_of mid (g.H.Hall.part old who) (g.H.Hall.seen old who) (g.H.Hall.heard old who)))
-    (in_hand c.cut_held.new.heap (moment_of after (g.H.Hall.part new who) (g.H.Hall.seen new who) (g.H.Hall.heard new who))))
-    (ap (λ (party : Party). party.me) c.free_in.ensures.counted) c.cut_held.ensures.does)
-
-pub returns-in-Ok-clause-index : goal.returns-in-Ok-clause-index
-returns-in-Ok-clause-index g c = c.cut_held.ensures.index ∙ call_index _ _ _ _ _ c.free_in.ensures.step
-
-pub returns-in-Ok-clause-its_socket : goal.returns-in-Ok-clause-its_socket
-returns-in-Ok-clause-its_socket g c = c.cut_held.ensures.its_socket ∙ call_serves _ _ _ _ _ c.free_in.ensures.step
-
-pub returns-in-Ok-clause-settled : goal.returns-in-Ok-clause-settled
-returns-in-Ok-clause-settled g c =
-    let new = c.cut_held.new.hall in
-    let after = c.cut_held.new.self in
-    subst (λ (who : ℕ). HasSettledAsks after.me (g.H.Hall.part new who) (g.H.Hall.heard new who))
-    (ap (λ (party : Party). party.me) c.free_in.ensures.counted) c.cut_held.ensures.settled
+    let step = c.free_in.ensures.step in
+    let counted = c.free_in.ensures.counted in
+    let here = ap (λ (party : Party). party.me) counted in
+    let is = c.cut_held.ensures in
+    record {
+      does = does_next me (moment_with heap me party old) (λ who. moment_with next who mid old) (λ who. moment_with last who after new) here refl
+          (freed_here old.count (did_in me old old) party mid (old.part me) (old.seen me) (old.heard me) heap next c.args.place.now c.args.addr None
+          c.in-Ok.ensures.step counted (did_same me old) c.requires.its gives.Done refl) is.does;
+      settled = subst (λ (who : ℕ). AreSettled (moment who after new)) here is.settled;
+      keeps = keeps_then (keeps_called party mid heap next step counted (free_pages _ _ false _ heap next step) c.requires.holds) is.keeps;
+      others = subst (λ (who : ℕ). OthersStay who old new) here is.others;
+      goes_on = is.goes_on;
+    }

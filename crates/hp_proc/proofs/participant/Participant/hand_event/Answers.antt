@@ -1,14 +1,13 @@
 -- The table is as it was, and the log has grown.
-use Rattle.std.proofs.Common.{sym, subst}
-use Rattle.hp_proc.specs.Party.{Party}
-use Rattle.hp_proc.specs.Tied.{IsTied}
-use Rattle.hp_proc.proofs.Handed.{tied_still}
+use Rattle.std.proofs.Common.{refl}
+use Rattle.hp_proc.proofs.InHalls.{alone_with}
+use Rattle.hp_proc.proofs.SegmentSlots.{may_hold}
 use Rattle.hp_proc.proofs.participant.Participant.hand_event.Goals as goal
 
-pub returns-clause-tied : goal.returns-clause-tied
-returns-clause-tied g c =
-    let seen = c.take_and_hand.ensures.seen in
-    subst (λ (party : Party). IsTied (g.H.Hall.seen c.take_and_hand.new.hall 0) (g.H.Hall.own c.take_and_hand.new.hall 0) party.joined party.maps)
-    (sym c.self.view_is)
-    (tied_still (g.H.Hall.seen c.args.hall.now 0) (g.H.Hall.seen c.take_and_hand.new.hall 0) seen.0 (g.H.Hall.own c.args.hall.now 0)
-    (g.H.Hall.own c.take_and_hand.new.hall 0) c.args.self.now.joined c.args.self.now.maps seen.1 (c.take_and_hand.ensures.own 0) c.requires.tied)
+pub take_and_hand-requires-clause-may : goal.take_and_hand-requires-clause-may
+take_and_hand-requires-clause-may g c = may_hold c.requires.can.may
+
+pub returns-clause-alone : goal.returns-clause-alone
+returns-clause-alone g c =
+    alone_with c.self.view_is (record { me = refl; socket = refl; plan = refl; deadline = refl; context = refl }) refl refl
+    c.take_and_hand.ensures.stays c.requires.can.tied

@@ -54,8 +54,8 @@ loop-place-init g c =
     let me = party.me in
     let hall = c.args.hall.now in
     record {
-      does = does_same (g.H.Hall.count hall) (g.H.Hall.did hall hall me) (looking c.args.tag (acting c.args.action) c.args.places.now)
-          (moment_of party (g.H.Hall.part hall me) (g.H.Hall.seen hall me) (g.H.Hall.heard hall me)) (g.met.H.Hall.did_same hall me);
+      does = does_same (g.H.Hall.state hall).count (did_in me (g.H.Hall.state hall) (g.H.Hall.state hall)) (looking c.args.tag (acting c.args.action) c.args.places.now)
+          (moment_of party ((g.H.Hall.state hall).part me) ((g.H.Hall.state hall).seen me) ((g.H.Hall.state hall).heard me)) (did_same me (g.H.Hall.state hall));
       ready = c.requires.ready;
       tied = c.requires.tied;
       same = same_party party;
@@ -79,30 +79,30 @@ loop-place-preserved g c =
     let found = acting c.args.action in
     let places = c.args.places.now in
     let index = c.loop-place.place-index in
-    let count = g.H.Hall.count old in
-    let first = moment_of party (g.H.Hall.part old me) (g.H.Hall.seen old me) (g.H.Hall.heard old me) in
-    let between = moment_of looked (g.H.Hall.part mid me) (g.H.Hall.seen mid me) (g.H.Hall.heard mid me) in
-    let last = moment_of after (g.H.Hall.part new me) (g.H.Hall.seen new me) (g.H.Hall.heard new me) in
-    let looks : (others : List SearchedHeap) → Does count (g.H.Hall.did mid new me) (looking tag found (get_or places index nowhere ∷ others))
+    let count = (g.H.Hall.state old).count in
+    let first = moment_of party ((g.H.Hall.state old).part me) ((g.H.Hall.state old).seen me) ((g.H.Hall.state old).heard me) in
+    let between = moment_of looked ((g.H.Hall.state mid).part me) ((g.H.Hall.state mid).seen me) ((g.H.Hall.state mid).heard me) in
+    let last = moment_of after ((g.H.Hall.state new).part me) ((g.H.Hall.state new).seen me) ((g.H.Hall.state new).heard me) in
+    let looks : (others : List SearchedHeap) → Does count (did_in me (g.H.Hall.state mid) (g.H.Hall.state new)) (looking tag found (get_or places index nowhere ∷ others))
     (unless_answered (looking tag found others) c.in_ok-answer.field-0) between last =
-    λ others. subst (λ (count : ℕ). Does count (g.H.Hall.did mid new me) (looking tag found (get_or places index nowhere ∷ others))
-    (unless_answered (looking tag found others) c.in_ok-answer.field-0) between last) (g.met.H.Hall.goes_on_count _ _ was.goes_on)
-    (subst (λ (who : ℕ). Does (g.H.Hall.count mid) (g.H.Hall.did mid new who) (looking tag found (get_or places index nowhere ∷ others))
+    λ others. subst (λ (count : ℕ). Does count (did_in me (g.H.Hall.state mid) (g.H.Hall.state new)) (looking tag found (get_or places index nowhere ∷ others))
+    (unless_answered (looking tag found others) c.in_ok-answer.field-0) between last) ((g.met.H.Hall.goes_on_later _ _ was.goes_on).count)
+    (subst (λ (who : ℕ). Does (g.H.Hall.state mid).count (did_in who (g.H.Hall.state mid) (g.H.Hall.state new)) (looking tag found (get_or places index nowhere ∷ others))
     (unless_answered (looking tag found others) c.in_ok-answer.field-0)
-    (moment_of looked (g.H.Hall.part mid who) (g.H.Hall.seen mid who) (g.H.Hall.heard mid who))
-    (moment_of after (g.H.Hall.part new who) (g.H.Hall.seen new who) (g.H.Hall.heard new who))) was.same.me
+    (moment_of looked ((g.H.Hall.state mid).part who) ((g.H.Hall.state mid).seen who) ((g.H.Hall.state mid).heard who))
+    (moment_of after ((g.H.Hall.state new).part who) ((g.H.Hall.state new).seen who) ((g.H.Hall.state new).heard who))) was.same.me
     (c.in_ok-answer.ensures.does others)) in
     let does =
-    subst (λ (given : Option Answer). Does count (g.H.Hall.did old new me) (looking tag found places)
+    subst (λ (given : Option Answer). Does count (did_in me (g.H.Hall.state old) (g.H.Hall.state new)) (looking tag found places)
     (unless_answered (looking tag found (drop (index + 1) places)) given) first last) c.in_default.is
-    (looked_on count (g.H.Hall.did old mid me) (g.H.Hall.did mid new me) (g.H.Hall.did old new me) tag found places index first between last
-    (λ one two. g.met.H.Hall.did_then old mid new me one two) was.does nowhere c.loop-place-test.true c.in_ok-answer.field-0 looks) in
+    (looked_on count (did_in me (g.H.Hall.state old) (g.H.Hall.state mid)) (did_in me (g.H.Hall.state mid) (g.H.Hall.state new)) (did_in me (g.H.Hall.state old) (g.H.Hall.state new)) tag found places index first between last
+    (λ one two. did_then) was.does nowhere c.loop-place-test.true c.in_ok-answer.field-0 looks) in
     let one = c.in_ok-answer.ensures in
     record {
       does = does;
-      ready = subst (λ (who : ℕ). MayDo (moment_of after (g.H.Hall.part new who) (g.H.Hall.seen new who) (g.H.Hall.heard new who))) was.same.me
+      ready = subst (λ (who : ℕ). MayDo (moment_of after ((g.H.Hall.state new).part who) ((g.H.Hall.state new).seen who) ((g.H.Hall.state new).heard who))) was.same.me
           one.ready;
-      tied = subst (λ (who : ℕ). IsTied (g.H.Hall.seen new who) (g.H.Hall.own new who) after.joined after.maps) was.same.me one.tied;
+      tied = subst (λ (who : ℕ). IsTied ((g.H.Hall.state new).seen who) ((g.H.Hall.state new).own who) after.joined after.maps) was.same.me one.tied;
       same = same_on party looked after was.same one.same;
       free = one.free;
       home = one.home;
@@ -133,24 +133,24 @@ returns-in-Some-clause-does g c =
     let found = acting c.args.action in
     let places = c.args.places.now in
     let index = c.loop-place.place-index in
-    let count = g.H.Hall.count old in
-    let first = moment_of party (g.H.Hall.part old me) (g.H.Hall.seen old me) (g.H.Hall.heard old me) in
-    let between = moment_of looked (g.H.Hall.part mid me) (g.H.Hall.seen mid me) (g.H.Hall.heard mid me) in
-    let last = moment_of after (g.H.Hall.part new me) (g.H.Hall.seen new me) (g.H.Hall.heard new me) in
-    let looks : (others : List SearchedHeap) → Does count (g.H.Hall.did mid new me) (looking tag found (get_or places index nowhere ∷ others))
+    let count = (g.H.Hall.state old).count in
+    let first = moment_of party ((g.H.Hall.state old).part me) ((g.H.Hall.state old).seen me) ((g.H.Hall.state old).heard me) in
+    let between = moment_of looked ((g.H.Hall.state mid).part me) ((g.H.Hall.state mid).seen me) ((g.H.Hall.state mid).heard me) in
+    let last = moment_of after ((g.H.Hall.state new).part me) ((g.H.Hall.state new).seen me) ((g.H.Hall.state new).heard me) in
+    let looks : (others : List SearchedHeap) → Does count (did_in me (g.H.Hall.state mid) (g.H.Hall.state new)) (looking tag found (get_or places index nowhere ∷ others))
     (unless_answered (looking tag found others) c.in_ok-answer.field-0) between last =
-    λ others. subst (λ (count : ℕ). Does count (g.H.Hall.did mid new me) (looking tag found (get_or places index nowhere ∷ others))
-    (unless_answered (looking tag found others) c.in_ok-answer.field-0) between last) (g.met.H.Hall.goes_on_count _ _ was.goes_on)
-    (subst (λ (who : ℕ). Does (g.H.Hall.count mid) (g.H.Hall.did mid new who) (looking tag found (get_or places index nowhere ∷ others))
+    λ others. subst (λ (count : ℕ). Does count (did_in me (g.H.Hall.state mid) (g.H.Hall.state new)) (looking tag found (get_or places index nowhere ∷ others))
+    (unless_answered (looking tag found others) c.in_ok-answer.field-0) between last) ((g.met.H.Hall.goes_on_later _ _ was.goes_on).count)
+    (subst (λ (who : ℕ). Does (g.H.Hall.state mid).count (did_in who (g.H.Hall.state mid) (g.H.Hall.state new)) (looking tag found (get_or places index nowhere ∷ others))
     (unless_answered (looking tag found others) c.in_ok-answer.field-0)
-    (moment_of looked (g.H.Hall.part mid who) (g.H.Hall.seen mid who) (g.H.Hall.heard mid who))
-    (moment_of after (g.H.Hall.part new who) (g.H.Hall.seen new who) (g.H.Hall.heard new who))) was.same.me
+    (moment_of looked ((g.H.Hall.state mid).part who) ((g.H.Hall.state mid).seen who) ((g.H.Hall.state mid).heard who))
+    (moment_of after ((g.H.Hall.state new).part who) ((g.H.Hall.state new).seen who) ((g.H.Hall.state new).heard who))) was.same.me
     (c.in_ok-answer.ensures.does others)) in
     let does =
-    subst (λ (given : Option Answer). Does count (g.H.Hall.did old new me) (looking tag found places)
+    subst (λ (given : Option Answer). Does count (did_in me (g.H.Hall.state old) (g.H.Hall.state new)) (looking tag found places)
     (unless_answered (looking tag found (drop (index + 1) places)) given) first last) c.in-Some.is
-    (looked_on count (g.H.Hall.did old mid me) (g.H.Hall.did mid new me) (g.H.Hall.did old new me) tag found places index first between last
-    (λ one two. g.met.H.Hall.did_then old mid new me one two) was.does nowhere c.loop-place-test.true c.in_ok-answer.field-0 looks) in
+    (looked_on count (did_in me (g.H.Hall.state old) (g.H.Hall.state mid)) (did_in me (g.H.Hall.state mid) (g.H.Hall.state new)) (did_in me (g.H.Hall.state old) (g.H.Hall.state new)) tag found places index first between last
+    (λ one two. did_then) was.does nowhere c.loop-place-test.true c.in_ok-answer.field-0 looks) in
     does
 
 -- BY HOW MUCH IT CARRIES THE CLOCK

@@ -51,23 +51,23 @@ returns-in_err-addr-clause-does g c = λ places.
     let hall = c.args.hall.now in
     let heap = c.args.heap.now in
     let place = c.args.place.now in
-    let part = g.H.Hall.part hall party.me in
-    let seen = g.H.Hall.seen hall party.me in
-    let heard = g.H.Hall.heard hall party.me in
+    let part = (g.H.Hall.state hall).part party.me in
+    let seen = (g.H.Hall.state hall).seen party.me in
+    let heard = (g.H.Hall.state hall).heard party.me in
     let found = acting c.args.action in
-    subst (λ (result : Option Left). Does (g.H.Hall.count hall) (g.H.Hall.did hall hall party.me) (looking c.args.tag found (place ∷ places))
+    subst (λ (result : Option Left). Does (g.H.Hall.state hall).count (did_in party.me (g.H.Hall.state hall) (g.H.Hall.state hall)) (looking c.args.tag found (place ∷ places))
     (behind_looking place.index (looking c.args.tag found places) result) (in_hand heap (moment_of party part seen heard))
     (in_hand c.find_in.new.heap (moment_of c.find_in.new.self part seen heard))) (sym c.from_residual.ensures)
-    (looked_here (g.H.Hall.count hall) (g.H.Hall.did hall hall party.me) party c.find_in.new.self part seen heard heap c.find_in.new.heap place
-    c.args.tag gives.Nothing c.in_err-addr.ensures.step c.find_in.ensures.counted (g.met.H.Hall.did_same hall party.me) refl c.requires.its
+    (looked_here (g.H.Hall.state hall).count (did_in party.me (g.H.Hall.state hall) (g.H.Hall.state hall)) party c.find_in.new.self part seen heard heap c.find_in.new.heap place
+    c.args.tag gives.Nothing c.in_err-addr.ensures.step c.find_in.ensures.counted (did_same party.me (g.H.Hall.state hall)) refl c.requires.its
     found places)
 
 pub returns-in_err-addr-clause-in_hand : goal.returns-in_err-addr-clause-in_hand
 returns-in_err-addr-clause-in_hand g c =
     let party = c.args.self.now in
     let hall = c.args.hall.now in
-    hand_looked (g.H.Hall.taken hall) party c.find_in.new.self (g.H.Hall.part hall party.me) (g.H.Hall.seen hall party.me)
-    (g.H.Hall.heard hall party.me) c.args.heap.now c.find_in.new.heap c.args.tag _ c.find_in.ensures.step c.find_in.ensures.counted
+    hand_looked (g.H.Hall.state hall).taken party c.find_in.new.self ((g.H.Hall.state hall).part party.me) ((g.H.Hall.state hall).seen party.me)
+    ((g.H.Hall.state hall).heard party.me) c.args.heap.now c.find_in.new.heap c.args.tag _ c.find_in.ensures.step c.find_in.ensures.counted
     c.requires.in_hand
 
 pub returns-in_err-addr-clause-index : goal.returns-in_err-addr-clause-index
@@ -80,7 +80,7 @@ pub returns-in_err-addr-clause-settled : goal.returns-in_err-addr-clause-settled
 returns-in_err-addr-clause-settled g c =
     let me = c.args.self.now.me in
     let hall = c.args.hall.now in
-    subst (λ (who : ℕ). HasSettledAsks who (g.H.Hall.part hall me) (g.H.Hall.heard hall me))
+    subst (λ (who : ℕ). HasSettledAsks who ((g.H.Hall.state hall).part me) ((g.H.Hall.state hall).heard me))
     (sym (ap (λ (party : Party). party.me) c.find_in.ensures.counted)) c.requires.settled
 
 pub act_held-requires-clause-in_hand : goal.act_held-requires-clause-in_hand
@@ -90,15 +90,15 @@ act_held-requires-clause-in_hand g c =
     let hall = c.args.hall.now in
     let after = c.find_in.new.self in
     let next = c.find_in.new.heap in
-    subst (λ (who : ℕ). IsInHand (g.H.Hall.taken hall) (moment_of after (g.H.Hall.part hall who) (g.H.Hall.seen hall who)
-    (g.H.Hall.heard hall who)) next) (sym (ap (λ (party : Party). party.me) c.find_in.ensures.counted))
-    (hand_looked (g.H.Hall.taken hall) party after (g.H.Hall.part hall me) (g.H.Hall.seen hall me) (g.H.Hall.heard hall me) c.args.heap.now next
+    subst (λ (who : ℕ). IsInHand (g.H.Hall.state hall).taken (moment_of after ((g.H.Hall.state hall).part who) ((g.H.Hall.state hall).seen who)
+    ((g.H.Hall.state hall).heard who)) next) (sym (ap (λ (party : Party). party.me) c.find_in.ensures.counted))
+    (hand_looked (g.H.Hall.state hall).taken party after ((g.H.Hall.state hall).part me) ((g.H.Hall.state hall).seen me) ((g.H.Hall.state hall).heard me) c.args.heap.now next
     c.args.tag _ c.find_in.ensures.step c.find_in.ensures.counted c.requires.in_hand)
 
 pub act_held-requires-clause-settled : goal.act_held-requires-clause-settled
 act_held-requires-clause-settled g c =
     let hall = c.args.hall.now in
-    subst (λ (who : ℕ). HasSettledAsks who (g.H.Hall.part hall who) (g.H.Hall.heard hall who))
+    subst (λ (who : ℕ). HasSettledAsks who ((g.H.Hall.state hall).part who) ((g.H.Hall.state hall).heard who))
     (sym (ap (λ (party : Party). party.me) c.find_in.ensures.counted)) c.requires.settled
 
 pub act_held-requires-clause-its : goal.act_held-requires-clause-its
@@ -121,20 +121,20 @@ returns-clause-does g c = λ places.
     let tag = c.args.tag in
     let action = c.args.action in
     let addr = c.in_ok-addr.addr in
-    let count = g.H.Hall.count old in
+    let count = (g.H.Hall.state old).count in
     let left : Doing = left_of place.index c.act_held.result in
-    does_then count (g.H.Hall.did old old me) (g.H.Hall.did old new me) (g.H.Hall.did old new me)
+    does_then count (did_in me (g.H.Hall.state old) (g.H.Hall.state old)) (did_in me (g.H.Hall.state old) (g.H.Hall.state new)) (did_in me (g.H.Hall.state old) (g.H.Hall.state new))
     (looking tag (acting action) (place ∷ places)) (acting action place addr) left
-    (in_hand heap (moment_of party (g.H.Hall.part old me) (g.H.Hall.seen old me) (g.H.Hall.heard old me)))
-    (in_hand next (moment_of mid (g.H.Hall.part old me) (g.H.Hall.seen old me) (g.H.Hall.heard old me)))
-    (in_hand c.act_held.new.heap (moment_of after (g.H.Hall.part new me) (g.H.Hall.seen new me) (g.H.Hall.heard new me)))
-    (λ first second. g.met.H.Hall.did_then old old new me first second)
-    (looked_here count (g.H.Hall.did old old me) party mid (g.H.Hall.part old me) (g.H.Hall.seen old me) (g.H.Hall.heard old me) heap next place
-    tag (gives.Address addr) c.in_ok-addr.ensures.step c.find_in.ensures.counted (g.met.H.Hall.did_same old me) refl c.requires.its
+    (in_hand heap (moment_of party ((g.H.Hall.state old).part me) ((g.H.Hall.state old).seen me) ((g.H.Hall.state old).heard me)))
+    (in_hand next (moment_of mid ((g.H.Hall.state old).part me) ((g.H.Hall.state old).seen me) ((g.H.Hall.state old).heard me)))
+    (in_hand c.act_held.new.heap (moment_of after ((g.H.Hall.state new).part me) ((g.H.Hall.state new).seen me) ((g.H.Hall.state new).heard me)))
+    (λ first second. did_then)
+    (looked_here count (did_in me (g.H.Hall.state old) (g.H.Hall.state old)) party mid ((g.H.Hall.state old).part me) ((g.H.Hall.state old).seen me) ((g.H.Hall.state old).heard me) heap next place
+    tag (gives.Address addr) c.in_ok-addr.ensures.step c.find_in.ensures.counted (did_same me (g.H.Hall.state old)) refl c.requires.its
     (acting action) places)
-    (subst (λ (who : ℕ). Does count (g.H.Hall.did old new who) (acting action place addr) left
-    (in_hand next (moment_of mid (g.H.Hall.part old who) (g.H.Hall.seen old who) (g.H.Hall.heard old who)))
-    (in_hand c.act_held.new.heap (moment_of after (g.H.Hall.part new who) (g.H.Hall.seen new who) (g.H.Hall.heard new who))))
+    (subst (λ (who : ℕ). Does count (did_in who (g.H.Hall.state old) (g.H.Hall.state new)) (acting action place addr) left
+    (in_hand next (moment_of mid ((g.H.Hall.state old).part who) ((g.H.Hall.state old).seen who) ((g.H.Hall.state old).heard who)))
+    (in_hand c.act_held.new.heap (moment_of after ((g.H.Hall.state new).part who) ((g.H.Hall.state new).seen who) ((g.H.Hall.state new).heard who))))
     (ap (λ (party : Party). party.me) c.find_in.ensures.counted) c.act_held.ensures.does)
 
 pub returns-clause-index : goal.returns-clause-index
@@ -147,5 +147,5 @@ pub returns-clause-settled : goal.returns-clause-settled
 returns-clause-settled g c =
     let new = c.act_held.new.hall in
     let after = c.act_held.new.self in
-    subst (λ (who : ℕ). HasSettledAsks after.me (g.H.Hall.part new who) (g.H.Hall.heard new who))
+    subst (λ (who : ℕ). HasSettledAsks after.me ((g.H.Hall.state new).part who) ((g.H.Hall.state new).heard who))
     (ap (λ (party : Party). party.me) c.find_in.ensures.counted) c.act_held.ensures.settled

@@ -15,10 +15,10 @@ returns-in_default-clause-does g c = λ places.
     let new = c.look_there.new.hall in
     let place = c.args.place.now in
     let found = acting c.args.action in
-    subst (λ (left : Option Left). Does (g.H.Hall.count old) (g.H.Hall.did old new me) (looking c.args.tag found (place ∷ places))
+    subst (λ (left : Option Left). Does (g.H.Hall.state old).count (did_in me (g.H.Hall.state old) (g.H.Hall.state new)) (looking c.args.tag found (place ∷ places))
     (behind_looking place.index (looking c.args.tag found places) left)
-    (moment_of party (g.H.Hall.part old me) (g.H.Hall.seen old me) (g.H.Hall.heard old me))
-    (moment_of c.look_there.new.self (g.H.Hall.part new me) (g.H.Hall.seen new me) (g.H.Hall.heard new me))) c.in_default.is
+    (moment_of party ((g.H.Hall.state old).part me) ((g.H.Hall.state old).seen me) ((g.H.Hall.state old).heard me))
+    (moment_of c.look_there.new.self ((g.H.Hall.state new).part me) ((g.H.Hall.state new).seen me) ((g.H.Hall.state new).heard me))) c.in_default.is
     (c.in_ok-left.ensures.does places)
 
 pub returns-in_err-answer-clause-goes_on : goal.returns-in_err-answer-clause-goes_on
@@ -35,23 +35,23 @@ returns-clause-does g c = λ places.
     let after = c.tell.new.self in
     let place = c.args.place.now in
     let found = acting c.args.action in
-    let count = g.H.Hall.count old in
+    let count = (g.H.Hall.state old).count in
     let left = c.in-Some.left in
     let answer = c.in_ok-answer.answer in
-    let first = moment_of party (g.H.Hall.part old me) (g.H.Hall.seen old me) (g.H.Hall.heard old me) in
-    let between = moment_of looked (g.H.Hall.part mid me) (g.H.Hall.seen mid me) (g.H.Hall.heard mid me) in
-    let last = moment_of after (g.H.Hall.part new me) (g.H.Hall.seen new me) (g.H.Hall.heard new me) in
+    let first = moment_of party ((g.H.Hall.state old).part me) ((g.H.Hall.state old).seen me) ((g.H.Hall.state old).heard me) in
+    let between = moment_of looked ((g.H.Hall.state mid).part me) ((g.H.Hall.state mid).seen me) ((g.H.Hall.state mid).heard me) in
+    let last = moment_of after ((g.H.Hall.state new).part me) ((g.H.Hall.state new).seen me) ((g.H.Hall.state new).heard me) in
     let doing : Doing = looking c.args.tag found (place ∷ places) in
     let rest : Doing = left_of place.index left in
-    does_then count (g.H.Hall.did old mid me) (g.H.Hall.did mid new me) (g.H.Hall.did old new me) doing rest (Doing.Ended answer) first between last
-    (λ before behind. g.met.H.Hall.did_then old mid new me before behind)
-    (subst (λ (left : Option Left). Does count (g.H.Hall.did old mid me) doing
+    does_then count (did_in me (g.H.Hall.state old) (g.H.Hall.state mid)) (did_in me (g.H.Hall.state mid) (g.H.Hall.state new)) (did_in me (g.H.Hall.state old) (g.H.Hall.state new)) doing rest (Doing.Ended answer) first between last
+    (λ before behind. did_then)
+    (subst (λ (left : Option Left). Does count (did_in me (g.H.Hall.state old) (g.H.Hall.state mid)) doing
     (behind_looking place.index (looking c.args.tag found places) left) first between) c.in-Some.is (c.in_ok-left.ensures.does places))
-    (subst (λ (count : ℕ). Does count (g.H.Hall.did mid new me) rest (Doing.Ended answer) between last)
-    (g.met.H.Hall.goes_on_count _ _ c.look_there.ensures.goes_on)
-    (subst (λ (who : ℕ). Does (g.H.Hall.count mid) (g.H.Hall.did mid new who) rest (Doing.Ended answer)
-    (moment_of looked (g.H.Hall.part mid who) (g.H.Hall.seen mid who) (g.H.Hall.heard mid who))
-    (moment_of after (g.H.Hall.part new who) (g.H.Hall.seen new who) (g.H.Hall.heard new who))) c.look_there.ensures.same.me
+    (subst (λ (count : ℕ). Does count (did_in me (g.H.Hall.state mid) (g.H.Hall.state new)) rest (Doing.Ended answer) between last)
+    ((g.met.H.Hall.goes_on_later _ _ c.look_there.ensures.goes_on).count)
+    (subst (λ (who : ℕ). Does (g.H.Hall.state mid).count (did_in who (g.H.Hall.state mid) (g.H.Hall.state new)) rest (Doing.Ended answer)
+    (moment_of looked ((g.H.Hall.state mid).part who) ((g.H.Hall.state mid).seen who) ((g.H.Hall.state mid).heard who))
+    (moment_of after ((g.H.Hall.state new).part who) ((g.H.Hall.state new).seen who) ((g.H.Hall.state new).heard who))) c.look_there.ensures.same.me
     c.in_ok-answer.ensures.does))
 
 pub returns-clause-goes_on : goal.returns-clause-goes_on

@@ -42,47 +42,47 @@ module _ (count : ℕ) (taking acting_there putting taken_acted all : List MailS
 
 pub look_held-left-requires-clause-serves : goal.look_held-left-requires-clause-serves
 look_held-left-requires-clause-serves g c =
-    subst (λ (who : ℕ). g.H.Hall.serves c.hold.new.hall who) (sym c.hold.ensures.same.me)
-    (g.met.H.Hall.goes_on_serves _ _ _ c.hold.ensures.goes_on c.requires.serves)
+    subst (λ (who : ℕ). (g.H.Hall.state c.hold.new.hall).serves who) (sym c.hold.ensures.same.me)
+    ((g.met.H.Hall.goes_on_later _ _ c.hold.ensures.goes_on).serves _ c.requires.serves)
 
 pub look_held-left-requires-clause-me : goal.look_held-left-requires-clause-me
 look_held-left-requires-clause-me g c =
-    subst (λ (who : ℕ). who < g.H.Hall.count c.hold.new.hall) (sym c.hold.ensures.same.me)
-    (subst (λ (count : ℕ). c.args.self.now.me < count) (sym (g.met.H.Hall.goes_on_count _ _ c.hold.ensures.goes_on)) c.requires.me)
+    subst (λ (who : ℕ). who < (g.H.Hall.state c.hold.new.hall).count) (sym c.hold.ensures.same.me)
+    (subst (λ (count : ℕ). c.args.self.now.me < count) (sym ((g.met.H.Hall.goes_on_later _ _ c.hold.ensures.goes_on).count)) c.requires.me)
 
 pub look_held-left-requires-clause-in_hand : goal.look_held-left-requires-clause-in_hand
 look_held-left-requires-clause-in_hand g c =
     let hall = c.hold.new.hall in
     let party = c.hold.new.self in
-    subst (λ (who : ℕ). IsInHand (g.H.Hall.taken hall) (moment_of party (g.H.Hall.part hall who) (g.H.Hall.seen hall who) (g.H.Hall.heard hall who))
+    subst (λ (who : ℕ). IsInHand (g.H.Hall.state hall).taken (moment_of party ((g.H.Hall.state hall).part who) ((g.H.Hall.state hall).seen who) ((g.H.Hall.state hall).heard who))
     c.in_ok-heap.heap) (sym c.hold.ensures.same.me) c.in_ok-heap.ensures.in_hand
 
 pub look_held-left-requires-clause-settled : goal.look_held-left-requires-clause-settled
 look_held-left-requires-clause-settled g c =
     let hall = c.hold.new.hall in
     let party = c.hold.new.self in
-    subst (λ (who : ℕ). HasSettledAsks party.me (g.H.Hall.part hall who) (g.H.Hall.heard hall who)) (sym c.hold.ensures.same.me)
+    subst (λ (who : ℕ). HasSettledAsks party.me ((g.H.Hall.state hall).part who) ((g.H.Hall.state hall).heard who)) (sym c.hold.ensures.same.me)
     c.in_ok-heap.ensures.settled
 
 pub look_held-left-requires-clause-of_socket : goal.look_held-left-requires-clause-of_socket
 look_held-left-requires-clause-of_socket g c =
     let me = c.args.self.now.me in
     let hall = c.hold.new.hall in
-    socket_is (g.H.Hall.taken hall) c.args.self.now c.hold.new.self (g.H.Hall.part hall me) (g.H.Hall.seen hall me) (g.H.Hall.heard hall me)
+    socket_is (g.H.Hall.state hall).taken c.args.self.now c.hold.new.self ((g.H.Hall.state hall).part me) ((g.H.Hall.state hall).seen me) ((g.H.Hall.state hall).heard me)
     c.in_ok-heap.heap c.args.place.now c.hold.ensures.same c.requires.place c.in_ok-heap.ensures.index c.in_ok-heap.ensures.in_hand
 
 pub put-requires-clause-in_hand : goal.put-requires-clause-in_hand
 put-requires-clause-in_hand g c =
     let hall = c.look_held-left.new.hall in
     let party = c.look_held-left.new.self in
-    subst (λ (who : ℕ). IsInHand (g.H.Hall.taken hall) (moment_of party (g.H.Hall.part hall who) (g.H.Hall.seen hall who) (g.H.Hall.heard hall who))
+    subst (λ (who : ℕ). IsInHand (g.H.Hall.state hall).taken (moment_of party ((g.H.Hall.state hall).part who) ((g.H.Hall.state hall).seen who) ((g.H.Hall.state hall).heard who))
     c.look_held-left.new.heap) (sym c.look_held-left.ensures.same.me) c.look_held-left.ensures.in_hand
 
 pub put-requires-clause-serves : goal.put-requires-clause-serves
 put-requires-clause-serves g c =
     let me : c.look_held-left.new.self.me ≡ c.args.self.now.me = c.look_held-left.ensures.same.me ∙ c.hold.ensures.same.me in
-    subst (λ (who : ℕ). g.H.Hall.serves c.look_held-left.new.hall who) (sym me)
-    (g.met.H.Hall.goes_on_serves _ _ _ (g.met.H.Hall.goes_on_then _ _ _ c.hold.ensures.goes_on c.look_held-left.ensures.goes_on)
+    subst (λ (who : ℕ). (g.H.Hall.state c.look_held-left.new.hall).serves who) (sym me)
+    ((g.met.H.Hall.goes_on_later _ _ (g.met.H.Hall.goes_on_then _ _ _ c.hold.ensures.goes_on c.look_held-left.ensures.goes_on)).serves _
     c.requires.serves)
 
 pub returns-clause-does : goal.returns-clause-does
@@ -99,35 +99,35 @@ returns-clause-does g c = λ places.
     let next = c.look_held-left.new.heap in
     let place = c.args.place.now in
     let found = acting c.args.action in
-    let count = g.H.Hall.count first in
+    let count = (g.H.Hall.state first).count in
     let doing : Doing = looking c.args.tag found (place ∷ places) in
     let rest : Doing = behind_looking place.index (looking c.args.tag found places) c.look_held-left.result in
     let held_me : holds.me ≡ me = c.hold.ensures.same.me in
     let after_me : after.me ≡ me = c.look_held-left.ensures.same.me ∙ held_me in
-    let held_count : g.H.Hall.count second ≡ count = g.met.H.Hall.goes_on_count _ _ c.hold.ensures.goes_on in
-    let acted_count : g.H.Hall.count third ≡ count = g.met.H.Hall.goes_on_count _ _ c.look_held-left.ensures.goes_on ∙ held_count in
-    does_held count (g.H.Hall.did first second me) (g.H.Hall.did second third me) (g.H.Hall.did third last me) (g.H.Hall.did first third me)
-    (g.H.Hall.did first last me) doing rest
-    (moment_of party (g.H.Hall.part first me) (g.H.Hall.seen first me) (g.H.Hall.heard first me))
-    (in_hand heap (moment_of holds (g.H.Hall.part second me) (g.H.Hall.seen second me) (g.H.Hall.heard second me)))
-    (in_hand next (moment_of after (g.H.Hall.part third me) (g.H.Hall.seen third me) (g.H.Hall.heard third me)))
-    (moment_of after (g.H.Hall.part last me) (g.H.Hall.seen last me) (g.H.Hall.heard last me))
-    (λ before behind. g.met.H.Hall.did_then first second third me before behind)
-    (λ before behind. g.met.H.Hall.did_then first third last me before behind)
+    let held_count : (g.H.Hall.state second).count ≡ count = (g.met.H.Hall.goes_on_later _ _ c.hold.ensures.goes_on).count in
+    let acted_count : (g.H.Hall.state third).count ≡ count = (g.met.H.Hall.goes_on_later _ _ c.look_held-left.ensures.goes_on).count ∙ held_count in
+    does_held count (did_in me (g.H.Hall.state first) (g.H.Hall.state second)) (did_in me (g.H.Hall.state second) (g.H.Hall.state third)) (did_in me (g.H.Hall.state third) (g.H.Hall.state last)) (did_in me (g.H.Hall.state first) (g.H.Hall.state third))
+    (did_in me (g.H.Hall.state first) (g.H.Hall.state last)) doing rest
+    (moment_of party ((g.H.Hall.state first).part me) ((g.H.Hall.state first).seen me) ((g.H.Hall.state first).heard me))
+    (in_hand heap (moment_of holds ((g.H.Hall.state second).part me) ((g.H.Hall.state second).seen me) ((g.H.Hall.state second).heard me)))
+    (in_hand next (moment_of after ((g.H.Hall.state third).part me) ((g.H.Hall.state third).seen me) ((g.H.Hall.state third).heard me)))
+    (moment_of after ((g.H.Hall.state last).part me) ((g.H.Hall.state last).seen me) ((g.H.Hall.state last).heard me))
+    (λ before behind. did_then)
+    (λ before behind. did_then)
     (c.in_ok-heap.ensures.did doing)
-    (subst (λ (count : ℕ). Does count (g.H.Hall.did second third me) doing rest
-    (in_hand heap (moment_of holds (g.H.Hall.part second me) (g.H.Hall.seen second me) (g.H.Hall.heard second me)))
-    (in_hand next (moment_of after (g.H.Hall.part third me) (g.H.Hall.seen third me) (g.H.Hall.heard third me)))) held_count
-    (subst (λ (who : ℕ). Does (g.H.Hall.count second) (g.H.Hall.did second third who) doing rest
-    (in_hand heap (moment_of holds (g.H.Hall.part second who) (g.H.Hall.seen second who) (g.H.Hall.heard second who)))
-    (in_hand next (moment_of after (g.H.Hall.part third who) (g.H.Hall.seen third who) (g.H.Hall.heard third who)))) held_me
+    (subst (λ (count : ℕ). Does count (did_in me (g.H.Hall.state second) (g.H.Hall.state third)) doing rest
+    (in_hand heap (moment_of holds ((g.H.Hall.state second).part me) ((g.H.Hall.state second).seen me) ((g.H.Hall.state second).heard me)))
+    (in_hand next (moment_of after ((g.H.Hall.state third).part me) ((g.H.Hall.state third).seen me) ((g.H.Hall.state third).heard me)))) held_count
+    (subst (λ (who : ℕ). Does (g.H.Hall.state second).count (did_in who (g.H.Hall.state second) (g.H.Hall.state third)) doing rest
+    (in_hand heap (moment_of holds ((g.H.Hall.state second).part who) ((g.H.Hall.state second).seen who) ((g.H.Hall.state second).heard who)))
+    (in_hand next (moment_of after ((g.H.Hall.state third).part who) ((g.H.Hall.state third).seen who) ((g.H.Hall.state third).heard who)))) held_me
     (c.look_held-left.ensures.does places)))
-    (subst (λ (count : ℕ). Does count (g.H.Hall.did third last me) rest rest
-    (in_hand next (moment_of after (g.H.Hall.part third me) (g.H.Hall.seen third me) (g.H.Hall.heard third me)))
-    (moment_of after (g.H.Hall.part last me) (g.H.Hall.seen last me) (g.H.Hall.heard last me))) acted_count
-    (subst (λ (who : ℕ). Does (g.H.Hall.count third) (g.H.Hall.did third last who) rest rest
-    (in_hand next (moment_of after (g.H.Hall.part third who) (g.H.Hall.seen third who) (g.H.Hall.heard third who)))
-    (moment_of after (g.H.Hall.part last who) (g.H.Hall.seen last who) (g.H.Hall.heard last who))) after_me (c.put.ensures.does rest)))
+    (subst (λ (count : ℕ). Does count (did_in me (g.H.Hall.state third) (g.H.Hall.state last)) rest rest
+    (in_hand next (moment_of after ((g.H.Hall.state third).part me) ((g.H.Hall.state third).seen me) ((g.H.Hall.state third).heard me)))
+    (moment_of after ((g.H.Hall.state last).part me) ((g.H.Hall.state last).seen me) ((g.H.Hall.state last).heard me))) acted_count
+    (subst (λ (who : ℕ). Does (g.H.Hall.state third).count (did_in who (g.H.Hall.state third) (g.H.Hall.state last)) rest rest
+    (in_hand next (moment_of after ((g.H.Hall.state third).part who) ((g.H.Hall.state third).seen who) ((g.H.Hall.state third).heard who)))
+    (moment_of after ((g.H.Hall.state last).part who) ((g.H.Hall.state last).seen who) ((g.H.Hall.state last).heard who))) after_me (c.put.ensures.does rest)))
 
 pub returns-clause-ready : goal.returns-clause-ready
 returns-clause-ready g c =
@@ -136,9 +136,9 @@ returns-clause-ready g c =
     let after = c.look_held-left.new.self in
     let held_me = c.hold.ensures.same.me in
     let after_me = c.look_held-left.ensures.same.me ∙ held_me in
-    subst (λ (who : ℕ). HasSettledAsks after.me (g.H.Hall.part third who) (g.H.Hall.heard third who)
-    → MayDo (moment_of after (g.H.Hall.part last who) (g.H.Hall.seen last who) (g.H.Hall.heard last who))) after_me c.put.ensures.ready
-    (subst (λ (who : ℕ). HasSettledAsks after.me (g.H.Hall.part third who) (g.H.Hall.heard third who)) held_me
+    subst (λ (who : ℕ). HasSettledAsks after.me ((g.H.Hall.state third).part who) ((g.H.Hall.state third).heard who)
+    → MayDo (moment_of after ((g.H.Hall.state last).part who) ((g.H.Hall.state last).seen who) ((g.H.Hall.state last).heard who))) after_me c.put.ensures.ready
+    (subst (λ (who : ℕ). HasSettledAsks after.me ((g.H.Hall.state third).part who) ((g.H.Hall.state third).heard who)) held_me
     c.look_held-left.ensures.settled)
 
 pub returns-clause-tied : goal.returns-clause-tied
@@ -148,9 +148,9 @@ returns-clause-tied g c =
     let after = c.look_held-left.new.self in
     let held_me = c.hold.ensures.same.me in
     let after_me = c.look_held-left.ensures.same.me ∙ held_me in
-    subst (λ (who : ℕ). IsTied (g.H.Hall.seen third who) (g.H.Hall.own third who) after.joined after.maps
-    → IsTied (g.H.Hall.seen last who) (g.H.Hall.own last who) after.joined after.maps) after_me c.put.ensures.tied
-    (subst (λ (who : ℕ). IsTied (g.H.Hall.seen third who) (g.H.Hall.own third who) after.joined after.maps) held_me
+    subst (λ (who : ℕ). IsTied ((g.H.Hall.state third).seen who) ((g.H.Hall.state third).own who) after.joined after.maps
+    → IsTied ((g.H.Hall.state last).seen who) ((g.H.Hall.state last).own who) after.joined after.maps) after_me c.put.ensures.tied
+    (subst (λ (who : ℕ). IsTied ((g.H.Hall.state third).seen who) ((g.H.Hall.state third).own who) after.joined after.maps) held_me
     c.look_held-left.ensures.tied)
 
 -- a participant that is the same but for its calls
@@ -171,14 +171,14 @@ returns-clause-same g c =
 pub returns-clause-free : goal.returns-clause-free
 returns-clause-free g c = λ number.
     let index = c.look_held-left.ensures.index ∙ c.in_ok-heap.ensures.index in
-    ⊎_elim (λ its. ap (g.H.Hall.taken c.put.new.hall) (its.1 ∙ sym index) ∙ c.put.ensures.taken)
+    ⊎_elim (λ its. ap (g.H.Hall.state c.put.new.hall).taken (its.1 ∙ sym index) ∙ c.put.ensures.taken)
     (λ other. c.put.ensures.others number (λ same. other.1 (same ∙ index)) ∙ c.look_held-left.ensures.taken number
     ∙ c.hold.ensures.taken number other.1) (eqb_tells number c.args.place.now.index)
 
 pub returns-clause-home : goal.returns-clause-home
 returns-clause-home g c = λ number few.
     let index = c.look_held-left.ensures.index ∙ c.in_ok-heap.ensures.index in
-    ⊎_elim (λ its. subst (g.H.Hall.may_take c.put.new.hall) (index ∙ sym its.1) c.put.ensures.home)
+    ⊎_elim (λ its. subst (g.H.Hall.state c.put.new.hall).may_take (index ∙ sym its.1) c.put.ensures.home)
     (λ other. c.put.ensures.home_of_others number (λ same. other.1 (same ∙ index))
     (c.look_held-left.ensures.home number (c.hold.ensures.home number few other.1))) (eqb_tells number c.args.place.now.index)
 

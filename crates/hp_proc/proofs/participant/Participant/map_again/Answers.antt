@@ -1,11 +1,19 @@
 -- It has caught up with its own coordinator and table.
-use Rattle.std.proofs.Common.{◌≡◌, ◌∙◌, subst}
+use Rattle.std.proofs.Common.{◌≡◌, ◌∙◌, refl, sym, subst}
 use Rattle.std.specs.Prelude.{Some}
 use Rattle.std.specs.Result.{result_ok}
 use Rattle.hp_proc.specs.Coordinating.{IsMapped}
 use Rattle.hp_proc.specs.Party.{Party, with_table}
 use Rattle.hp_proc.proofs.Posted.{table_back}
+use Rattle.hp_proc.specs.InHall.{IsTiedIn}
+use Rattle.hp_proc.proofs.InHalls.{alone_of}
 use Rattle.hp_proc.proofs.participant.Participant.map_again.Goals as goal
+
+pub map_self-requires : goal.map_self-requires
+map_self-requires g c = record {
+  may = c.requires.can.may;
+  tied = subst (λ (party : Party). IsTiedIn 0 party (g.H.Hall.state c.args.hall.now)) (sym c.self.view_is) c.requires.can.tied;
+}
 
 pub returns-clause-mapped : goal.returns-clause-mapped
 returns-clause-mapped g c =
@@ -30,3 +38,12 @@ returns-clause-mapped g c =
           (λ (party : Party). IsMapped party (with_table c.map_self.new.core c.map_self.new.maps c.map_self.new.joined inside) mapped.0
           (result_ok c.map_self.result)) (table_back inside c.in-Some.core is ∙ c.self.view_is) (mapped.2 inside),
     )
+
+pub returns-clause-weight : goal.returns-clause-weight
+returns-clause-weight g c = c.map_self.ensures.stays.weight
+
+pub returns-clause-alone : goal.returns-clause-alone
+returns-clause-alone g c =
+    let stays = c.map_self.ensures.stays in
+    alone_of c.self.view_is (record { me = refl; socket = refl; plan = refl; deadline = refl; context = refl }) c.map_self.ensures.tied
+    stays.slots stays.parts stays.others

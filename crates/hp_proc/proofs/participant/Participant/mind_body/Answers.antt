@@ -1,5 +1,6 @@
 -- An ask is handed over, and pays for what it brings.
 use Rattle.std.proofs.Common.{◌+◌, ◌*◌, subst, arith}
+use Rattle.hp_hall.specs.HallState.{known_to}
 use Rattle.hp_hall.specs.Weights.{frame_weight}
 use Rattle.hp_proc.specs.Coordinating.{IsAskIn, IsNoAsk, IsObeyed}
 use Rattle.hp_proc.specs.Falling.{own_weight}
@@ -15,7 +16,7 @@ handle-requires-clause-outside g c = ask_outside c.participants-count.result c.a
 
 pub handle-requires-clause-known : goal.handle-requires-clause-known
 handle-requires-clause-known g c =
-    ask_true (g.H.Hall.noted c.args.hall.now 0) 0 c.participants-count.result c.args.body.now c.in-Some.event c.in-Some.ensures.ask
+    ask_true (known_to 0 (g.H.Hall.state c.args.hall.now)).noted 0 c.participants-count.result c.args.body.now c.in-Some.event c.in-Some.ensures.ask
 
 pub returns-in-Some-clause-obeyed : goal.returns-in-Some-clause-obeyed
 returns-in-Some-clause-obeyed g c =
@@ -28,10 +29,10 @@ returns-in-Some-clause-obeyed g c =
 
 pub returns-in-Some-clause-weight : goal.returns-in-Some-clause-weight
 returns-in-Some-clause-weight g c =
-    let old = g.H.Hall.weight c.args.hall.now in
-    let new = g.H.Hall.weight c.handle.new.hall in
-    let own = own_weight g.H.Hall.scale (g.H.Hall.pending (g.H.Hall.clock c.args.hall.now)) c.args.self.now.core in
-    let own_then = own_weight g.H.Hall.scale (g.H.Hall.pending (g.H.Hall.clock c.handle.new.hall)) c.handle.new.self.core in
+    let old = (g.H.Hall.state c.args.hall.now).weight in
+    let new = (g.H.Hall.state c.handle.new.hall).weight in
+    let own = own_weight g.H.Hall.scale (g.H.Hall.pending (g.H.Hall.state c.args.hall.now).clock) c.args.self.now.core in
+    let own_then = own_weight g.H.Hall.scale (g.H.Hall.pending (g.H.Hall.state c.handle.new.hall).clock) c.handle.new.self.core in
     let paid =
     ask_served g.H.Hall.scale (old + g.H.Hall.scale * frame_weight c.args.frame.now) old new own own_then c.participants-count.result
     c.args.frame.now c.args.body.now c.in-Some.event c.requires.says c.in-Some.ensures.ask (omega arith) c.handle.ensures.weight
@@ -49,10 +50,10 @@ returns-in-None-clause-obeyed g c =
 
 pub returns-in-None-clause-weight : goal.returns-in-None-clause-weight
 returns-in-None-clause-weight g c =
-    let old = g.H.Hall.weight c.args.hall.now in
-    let new = g.H.Hall.weight c.mind_answer.new.hall in
-    let own = own_weight g.H.Hall.scale (g.H.Hall.pending (g.H.Hall.clock c.args.hall.now)) c.args.self.now.core in
-    let own_then = own_weight g.H.Hall.scale (g.H.Hall.pending (g.H.Hall.clock c.mind_answer.new.hall)) c.mind_answer.new.self.core in
+    let old = (g.H.Hall.state c.args.hall.now).weight in
+    let new = (g.H.Hall.state c.mind_answer.new.hall).weight in
+    let own = own_weight g.H.Hall.scale (g.H.Hall.pending (g.H.Hall.state c.args.hall.now).clock) c.args.self.now.core in
+    let own_then = own_weight g.H.Hall.scale (g.H.Hall.pending (g.H.Hall.state c.mind_answer.new.hall).clock) c.mind_answer.new.self.core in
     let paid =
     frame_served g.H.Hall.scale (old + g.H.Hall.scale * frame_weight c.args.frame.now) old new own own_then c.args.frame.now (omega arith)
     c.mind_answer.ensures.weight

@@ -4,15 +4,20 @@ use Rattle.hp_hall.specs.Weights.{frame_weight}
 use Rattle.hp_proc.specs.Coordinating.{IsObeyed}
 use Rattle.hp_proc.specs.Falling.{own_weight}
 use Rattle.hp_proc.proofs.Scaled.{frame_served}
+use Rattle.hp_hall.proofs.HallStates.{did_same}
+use Rattle.hp_proc.proofs.InHalls.{alone_same}
 use Rattle.hp_proc.proofs.participant.Participant.obey.Goals as goal
 
+pub returns-in-None-clause-alone : goal.returns-in-None-clause-alone
+returns-in-None-clause-alone g c = alone_same 0 c.args.self.now (g.H.Hall.state c.args.hall.now) c.requires.can.tied
+
 pub returns-in-None-clause-obeyed : goal.returns-in-None-clause-obeyed
-returns-in-None-clause-obeyed g c = ([], g.met.H.Hall.did_same _ 0, IsObeyed.drops c.in-None.ensures refl refl refl)
+returns-in-None-clause-obeyed g c = ([], did_same 0 _, IsObeyed.drops c.in-None.ensures refl refl refl)
 
 pub returns-in-None-clause-weight : goal.returns-in-None-clause-weight
 returns-in-None-clause-weight g c =
-    let old = g.H.Hall.weight c.args.hall.now in
-    let own = own_weight g.H.Hall.scale (g.H.Hall.pending (g.H.Hall.clock c.args.hall.now)) c.args.self.now.core in
+    let old = (g.H.Hall.state c.args.hall.now).weight in
+    let own = own_weight g.H.Hall.scale (g.H.Hall.pending (g.H.Hall.state c.args.hall.now).clock) c.args.self.now.core in
     let paid =
     frame_served g.H.Hall.scale (old + g.H.Hall.scale * frame_weight c.args.frame.now) old old own own c.args.frame.now (omega arith) (omega arith)
     in

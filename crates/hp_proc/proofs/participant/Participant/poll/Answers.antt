@@ -1,26 +1,31 @@
 -- The numbers are loaded, and handed over.
-use Rattle.std.proofs.Common.{◌++◌, [], refl, subst, arith}
+use Rattle.std.proofs.Common.{◌++◌, refl, subst, arith}
 use Rattle.std.specs.Prelude.{is_ok}
 use Rattle.hp_core.specs.declared.event.CoreEvent.TheVariants.{Poll}
 use Rattle.hp_proc.specs.Coordinating.{IsHandled}
 use Rattle.hp_proc.specs.Falling.{own_weight}
 use Rattle.hp_proc.proofs.Carrying.{due_before}
-use Rattle.hp_proc.proofs.Handed.{tied_still}
 use Rattle.hp_proc.proofs.Scaled.{own_weight_still}
+use Rattle.hp_hall.proofs.HallStates.{did_then}
+use Rattle.hp_proc.proofs.InHalls.{alone_by, alone_then, coordinates_still}
 use Rattle.hp_proc.proofs.participant.Participant.poll.Goals as goal
 
-pub handle-requires-clause-tied : goal.handle-requires-clause-tied
-handle-requires-clause-tied g c =
-    let seen = c.load_acks-acks.ensures.seen in
-    tied_still (g.H.Hall.seen c.args.hall.now 0) (g.H.Hall.seen c.load_acks-acks.new.hall 0) seen.0 (g.H.Hall.own c.args.hall.now 0)
-    (g.H.Hall.own c.load_acks-acks.new.hall 0) c.args.self.now.joined c.args.self.now.maps seen.1 (c.load_acks-acks.ensures.own 0) c.requires.tied
+pub load_acks-acks-requires : goal.load_acks-acks-requires
+load_acks-acks-requires g c = record { serves = c.requires.can.may.serves }
+
+pub handle-requires-clause-can : goal.handle-requires-clause-can
+handle-requires-clause-can g c = coordinates_still c.load_acks-acks.ensures.stays c.requires.can
+
+pub returns-clause-alone : goal.returns-clause-alone
+returns-clause-alone g c =
+    alone_then (alone_by 0 c.args.self.now c.load_acks-acks.ensures.stays c.requires.can.tied) c.handle.ensures.alone
 
 pub returns-clause-polled : goal.returns-clause-polled
 returns-clause-polled g c =
     let looked = c.load_acks-acks.ensures.did in
     let handled = c.handle.ensures.handled in (
       looked.0 ++ handled.0,
-      g.met.H.Hall.did_then _ _ _ 0 _ _ looked.1 handled.1,
+      did_then looked.1 handled.1,
       record {
         acks = c.load_acks-acks.result;
         looks = looked.0;
@@ -28,7 +33,7 @@ returns-clause-polled g c =
         looked_up = looked.2;
         handled = subst
             (λ n. IsHandled n (Poll c.args.now c.load_acks-acks.result) c.args.self.now c.handle.new.self handled.0 (is_ok c.handle.result))
-            c.load_acks-acks.ensures.count handled.2;
+            c.load_acks-acks.ensures.stays.others.later.count handled.2;
         are = refl;
       },
     )
@@ -36,8 +41,8 @@ returns-clause-polled g c =
 pub returns-clause-weight : goal.returns-clause-weight
 returns-clause-weight g c =
     let own =
-    own_weight_still g.H.Hall.scale g.H.Hall.pending (g.H.Hall.clock c.args.hall.now) (g.H.Hall.clock c.load_acks-acks.new.hall) c.args.self.now.core
-    c.load_acks-acks.ensures.clock
+    own_weight_still g.H.Hall.scale g.H.Hall.pending (g.H.Hall.state c.args.hall.now).clock (g.H.Hall.state c.load_acks-acks.new.hall).clock c.args.self.now.core
+    c.load_acks-acks.ensures.stays.others.clock
     in
     let lighter = c.load_acks-acks.ensures.weight in
     let falls = c.handle.ensures.weight in
@@ -45,14 +50,10 @@ returns-clause-weight g c =
 
 pub returns-clause-due : goal.returns-clause-due
 returns-clause-due g c = λ due.
-    due_before c.handle.result g.H.Hall.scale g.H.Hall.pending (g.H.Hall.clock c.args.hall.now) (g.H.Hall.clock c.load_acks-acks.new.hall)
-    c.args.self.now.core (g.H.Hall.weight c.args.hall.now) (g.H.Hall.weight c.load_acks-acks.new.hall) (g.H.Hall.weight c.handle.new.hall)
-    (own_weight g.H.Hall.scale (g.H.Hall.pending (g.H.Hall.clock c.handle.new.hall)) c.handle.new.self.core) c.load_acks-acks.ensures.clock
+    due_before c.handle.result g.H.Hall.scale g.H.Hall.pending (g.H.Hall.state c.args.hall.now).clock (g.H.Hall.state c.load_acks-acks.new.hall).clock
+    c.args.self.now.core (g.H.Hall.state c.args.hall.now).weight (g.H.Hall.state c.load_acks-acks.new.hall).weight (g.H.Hall.state c.handle.new.hall).weight
+    (own_weight g.H.Hall.scale (g.H.Hall.pending (g.H.Hall.state c.handle.new.hall).clock) c.handle.new.self.core) c.load_acks-acks.ensures.stays.others.clock
     c.load_acks-acks.ensures.weight (c.handle.ensures.due (due c.load_acks-acks.result))
-
-pub returns-clause-did_others : goal.returns-clause-did_others
-returns-clause-did_others g c = λ who apart.
-    g.met.H.Hall.did_then _ _ _ who [] [] (c.load_acks-acks.ensures.did_others who apart) (c.handle.ensures.did_others who apart)
 
 pub returns-clause-goes_on : goal.returns-clause-goes_on
 returns-clause-goes_on g c = g.met.H.Hall.goes_on_then _ _ _ c.load_acks-acks.ensures.goes_on c.handle.ensures.goes_on

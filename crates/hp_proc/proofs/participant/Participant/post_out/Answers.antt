@@ -4,7 +4,19 @@ use Rattle.hp_core.specs.declared.out.Out.{Out}
 use Rattle.hp_proc.specs.Party.{Party}
 use Rattle.hp_proc.specs.Posting.{IsPosted}
 use Rattle.hp_proc.proofs.Posted.{posted_syncs, with_syncs}
+use Rattle.hp_proc.proofs.InHalls.{alone_same, alone_with}
 use Rattle.hp_proc.proofs.participant.Participant.post_out.Goals as goal
+
+pub tell_all-requires-clause-serves : goal.tell_all-requires-clause-serves
+tell_all-requires-clause-serves g c = c.requires.can.may.serves
+
+pub returns-in-Nothing-clause-alone : goal.returns-in-Nothing-clause-alone
+returns-in-Nothing-clause-alone g c = alone_same 0 c.args.self.now (g.H.Hall.state c.args.hall.now) c.requires.can.tied
+
+pub returns-in-Sync-clause-alone : goal.returns-in-Sync-clause-alone
+returns-in-Sync-clause-alone g c =
+    alone_with c.self.view_is (record { me = refl; socket = refl; plan = refl; deadline = refl; context = refl }) refl refl
+    c.tell_all.ensures.stays c.requires.can.tied
 
 pub returns-in-Sync-clause-posted : goal.returns-in-Sync-clause-posted
 returns-in-Sync-clause-posted g c =
@@ -25,9 +37,9 @@ returns-in-Sync-clause-posted g c =
       told.1,
       told.2,
       subst
-          (λ (party : Party). IsPosted (g.H.Hall.count c.args.hall.now) party (with_syncs c.tell_all.new.syncs inside) c.args.answer told.1)
+          (λ (party : Party). IsPosted (g.H.Hall.state c.args.hall.now).count party (with_syncs c.tell_all.new.syncs inside) c.args.answer told.1)
           c.self.view_is
-          (posted_syncs (g.H.Hall.count c.args.hall.now) inside (with_syncs c.tell_all.new.syncs inside) c.args.answer c.in-Sync.generation c.in-Sync.round
+          (posted_syncs (g.H.Hall.state c.args.hall.now).count inside (with_syncs c.tell_all.new.syncs inside) c.args.answer c.in-Sync.generation c.in-Sync.round
           c.in-Sync.members told.0 told.1 c.tell_all.new.syncs c.in-Sync.is told.3 told.4 c.tell_all.ensures.counted refl),
     )
 
@@ -36,6 +48,6 @@ returns-in-Answer-clause-posted g c =
     let posted = c.post_answer.ensures.posted in (
       posted.0,
       posted.1,
-      subst (λ (answer : Out). IsPosted (g.H.Hall.count c.args.hall.now) c.args.self.now c.post_answer.new.self answer posted.0)
+      subst (λ (answer : Out). IsPosted (g.H.Hall.state c.args.hall.now).count c.args.self.now c.post_answer.new.self answer posted.0)
           (sym c.in-Answer.is) posted.2,
     )

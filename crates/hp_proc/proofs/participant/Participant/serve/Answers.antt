@@ -3,53 +3,32 @@ use Rattle.std.proofs.Common.{◌≡◌, ◌∙◌, ℕ, ap, sym, subst, eqb-tru
 use Rattle.hp_proc.specs.Coordinating.{IsServed}
 use Rattle.hp_proc.specs.Falling.{own_weight}
 use Rattle.hp_proc.specs.Party.{Party, due_in}
-use Rattle.hp_proc.specs.Tied.{IsTied}
 use Rattle.hp_proc.proofs.Scaled.{own_weight_still}
-use Rattle.hp_proc.proofs.Served.{apart_from, none_due, served_moved}
+use Rattle.hp_proc.proofs.Served.{none_due, served_moved}
+use Rattle.hp_hall.specs.HallState.{Did}
+use Rattle.hp_proc.specs.InHall.{CanServe, StaysAlone}
 use Rattle.hp_proc.proofs.participant.Participant.serve.Goals as goal
 
-pub serve_core-requires-clause-primary : goal.serve_core-requires-clause-primary
-serve_core-requires-clause-primary g c = eqb-true c.args.self.now.me 0 (sym c.is_primary.ensures.primary ∙ c.if-is_primary.true)
+pub serve_core-requires : goal.serve_core-requires
+serve_core-requires g c =
+    let me = eqb-true c.args.self.now.me 0 (sym c.is_primary.ensures.primary ∙ c.if-is_primary.true) in
+    let can : CanServe 0 c.args.self.now (g.H.Hall.state c.args.hall.now) =
+    subst (λ (who : ℕ). CanServe who c.args.self.now (g.H.Hall.state c.args.hall.now)) me c.requires.can in
+    record { can = record { primary = me; may = can.may; tied = can.tied } }
 
-pub serve_core-requires-clause-serves : goal.serve_core-requires-clause-serves
-serve_core-requires-clause-serves g c =
-    subst (λ (who : ℕ). g.H.Hall.serves c.args.hall.now who)
-    (eqb-true c.args.self.now.me 0 (sym c.is_primary.ensures.primary ∙ c.if-is_primary.true)) c.requires.serves
-
-pub serve_core-requires-clause-declared : goal.serve_core-requires-clause-declared
-serve_core-requires-clause-declared g c =
-    let below = c.requires.me in
-    omega (arith, below)
-
-pub serve_core-requires-clause-tied : goal.serve_core-requires-clause-tied
-serve_core-requires-clause-tied g c =
-    subst (λ (who : ℕ). IsTied (g.H.Hall.seen c.args.hall.now who) (g.H.Hall.own c.args.hall.now who) c.args.self.now.joined c.args.self.now.maps)
-    (eqb-true c.args.self.now.me 0 (sym c.is_primary.ensures.primary ∙ c.if-is_primary.true)) c.requires.tied
+pub returns-then-is_primary-clause-alone : goal.returns-then-is_primary-clause-alone
+returns-then-is_primary-clause-alone g c =
+    subst (λ (who : ℕ). StaysAlone who c.args.self.now c.serve_core.new.self (g.H.Hall.state c.args.hall.now) (g.H.Hall.state c.serve_core.new.hall))
+    (sym (eqb-true c.args.self.now.me 0 (sym c.is_primary.ensures.primary ∙ c.if-is_primary.true))) c.serve_core.ensures.alone
 
 pub returns-then-is_primary-clause-served : goal.returns-then-is_primary-clause-served
 returns-then-is_primary-clause-served g c =
     let me = eqb-true c.args.self.now.me 0 (sym c.is_primary.ensures.primary ∙ c.if-is_primary.true) in
     let served = c.serve_core.ensures.served in (
       served.0,
-      subst (λ (who : ℕ). g.H.Hall.did c.args.hall.now c.serve_core.new.hall who served.0) (sym me) served.1,
+      subst (λ (who : ℕ). Did who served.0 (g.H.Hall.state c.args.hall.now) (g.H.Hall.state c.serve_core.new.hall)) (sym me) served.1,
       IsServed.coordinates me served.2,
     )
-
-pub returns-then-is_primary-clause-tied : goal.returns-then-is_primary-clause-tied
-returns-then-is_primary-clause-tied g c =
-    subst (λ (who : ℕ). IsTied (g.H.Hall.seen c.serve_core.new.hall who) (g.H.Hall.own c.serve_core.new.hall who) c.serve_core.new.self.joined
-    c.serve_core.new.self.maps) (sym (eqb-true c.args.self.now.me 0 (sym c.is_primary.ensures.primary ∙ c.if-is_primary.true)))
-    c.serve_core.ensures.tied
-
-pub returns-then-is_primary-clause-own : goal.returns-then-is_primary-clause-own
-returns-then-is_primary-clause-own g c = λ who apart.
-    let me = eqb-true c.args.self.now.me 0 (sym c.is_primary.ensures.primary ∙ c.if-is_primary.true) in
-    c.serve_core.ensures.own who (apart_from who c.args.self.now.me me apart)
-
-pub returns-then-is_primary-clause-did_others : goal.returns-then-is_primary-clause-did_others
-returns-then-is_primary-clause-did_others g c = λ who apart.
-    let me = eqb-true c.args.self.now.me 0 (sym c.is_primary.ensures.primary ∙ c.if-is_primary.true) in
-    c.serve_core.ensures.did_others who (apart_from who c.args.self.now.me me apart)
 
 pub returns-else-is_primary-clause-served : goal.returns-else-is_primary-clause-served
 returns-else-is_primary-clause-served g c =
@@ -66,12 +45,12 @@ returns-else-is_primary-clause-served g c =
 pub returns-else-is_primary-clause-weight : goal.returns-else-is_primary-clause-weight
 returns-else-is_primary-clause-weight g c =
     let core =
-    ap (λ (party : Party). own_weight g.H.Hall.scale (g.H.Hall.pending (g.H.Hall.clock c.serve_member.new.hall)) party.core)
-    c.serve_member.ensures.stays
+    ap (λ (party : Party). own_weight g.H.Hall.scale (g.H.Hall.pending (g.H.Hall.state c.serve_member.new.hall).clock) party.core)
+    c.serve_member.ensures.party
     in
     let clock =
-    own_weight_still g.H.Hall.scale g.H.Hall.pending (g.H.Hall.clock c.args.hall.now) (g.H.Hall.clock c.serve_member.new.hall)
-    c.args.self.now.core c.serve_member.ensures.clock
+    own_weight_still g.H.Hall.scale g.H.Hall.pending (g.H.Hall.state c.args.hall.now).clock (g.H.Hall.state c.serve_member.new.hall).clock
+    c.args.self.now.core c.serve_member.ensures.alone.others.clock
     in
     let moved = mul-le-mul_left g.H.Hall.scale (served_moved c.serve_member.result) in
     let falls = c.serve_member.ensures.weight in
@@ -80,4 +59,4 @@ returns-else-is_primary-clause-weight g c =
 pub returns-else-is_primary-clause-rests : goal.returns-else-is_primary-clause-rests
 returns-else-is_primary-clause-rests g c = λ is deadline due early.
     absurd (none_due deadline
-    (c.is_primary.ensures.other c.if-is_primary.false) (sym (ap (λ (party : Party). due_in party.core) c.serve_member.ensures.stays) ∙ due))
+    (c.is_primary.ensures.other c.if-is_primary.false) (sym (ap (λ (party : Party). due_in party.core) c.serve_member.ensures.party) ∙ due))

@@ -1,39 +1,45 @@
 -- It heeds the frame that it fetched, or rests.
-use Rattle.std.proofs.Common.{[], ◌∷◌, refl, subst, arith}
+use Rattle.std.proofs.Common.{◌∷◌, refl, subst, arith}
 use Rattle.std.specs.Prelude.{Some, None}
 use Rattle.std.specs.Result.{result_ok}
 use Rattle.hp_hall.specs.Mail.{Fetches}
 use Rattle.hp_proc.specs.Coordinating.{IsCoreServed, IsObeyed, IsRested}
-use Rattle.hp_proc.proofs.Handed.{tied_still}
 use Rattle.hp_proc.proofs.Scaled.{own_weight_still}
+use Rattle.hp_hall.proofs.HallStates.{did_then}
+use Rattle.hp_proc.proofs.InHalls.{alone_by, alone_then, coordinates_still}
 use Rattle.hp_proc.proofs.participant.Participant.serve_core.Goals as goal
 
-pub heed_frame-requires-clause-tied : goal.heed_frame-requires-clause-tied
-heed_frame-requires-clause-tied g c =
-    let seen = c.in-Some.ensures.seen in
-    tied_still (g.H.Hall.seen c.args.hall.now 0) (g.H.Hall.seen c.fetch.new.hall 0) seen.0 (g.H.Hall.own c.args.hall.now 0)
-    (g.H.Hall.own c.fetch.new.hall 0) c.args.self.now.joined c.args.self.now.maps seen.1 (c.in-Some.ensures.own 0) c.requires.tied
+pub fetch-requires : goal.fetch-requires
+fetch-requires g c = record { serves = c.requires.can.may.serves }
 
-pub rest-requires-clause-tied : goal.rest-requires-clause-tied
-rest-requires-clause-tied g c =
-    let seen = c.in-None.ensures.seen in
-    tied_still (g.H.Hall.seen c.args.hall.now 0) (g.H.Hall.seen c.fetch.new.hall 0) seen.0 (g.H.Hall.own c.args.hall.now 0)
-    (g.H.Hall.own c.fetch.new.hall 0) c.args.self.now.joined c.args.self.now.maps seen.1 (c.in-None.ensures.own 0) c.requires.tied
+pub heed_frame-requires : goal.heed_frame-requires
+heed_frame-requires g c = record { can = coordinates_still c.in-Some.ensures.stays c.requires.can }
+
+pub rest-requires : goal.rest-requires
+rest-requires g c = record { can = coordinates_still c.in-None.ensures.stays c.requires.can }
+
+pub returns-in-Some-clause-alone : goal.returns-in-Some-clause-alone
+returns-in-Some-clause-alone g c =
+    alone_then (alone_by 0 c.args.self.now c.in-Some.ensures.stays c.requires.can.tied) c.heed_frame.ensures.alone
+
+pub returns-in-None-clause-alone : goal.returns-in-None-clause-alone
+returns-in-None-clause-alone g c =
+    alone_then (alone_by 0 c.args.self.now c.in-None.ensures.stays c.requires.can.tied) c.rest.ensures.alone
 
 pub returns-in-Some-clause-served : goal.returns-in-Some-clause-served
 returns-in-Some-clause-served g c =
     let obeyed = c.heed_frame.ensures.obeyed in (
       Fetches (Some c.in-Some.frame) ∷ obeyed.1,
-      g.met.H.Hall.did_then _ _ _ 0 _ _ c.in-Some.ensures.did obeyed.2,
+      did_then c.in-Some.ensures.did obeyed.2,
       IsCoreServed.heeds c.in-Some.frame obeyed.1 obeyed.0 refl
-          (subst (λ n. IsObeyed n c.args.self.now c.heed_frame.new.self c.in-Some.frame obeyed.1 obeyed.0) c.in-Some.ensures.count obeyed.3) obeyed.4,
+          (subst (λ n. IsObeyed n c.args.self.now c.heed_frame.new.self c.in-Some.frame obeyed.1 obeyed.0) c.in-Some.ensures.stays.others.later.count obeyed.3) obeyed.4,
     )
 
 pub returns-in-Some-clause-weight : goal.returns-in-Some-clause-weight
 returns-in-Some-clause-weight g c =
     let own =
-    own_weight_still g.H.Hall.scale g.H.Hall.pending (g.H.Hall.clock c.args.hall.now) (g.H.Hall.clock c.fetch.new.hall) c.args.self.now.core
-    c.in-Some.ensures.clock
+    own_weight_still g.H.Hall.scale g.H.Hall.pending (g.H.Hall.state c.args.hall.now).clock (g.H.Hall.state c.fetch.new.self).clock c.args.self.now.core
+    c.in-Some.ensures.stays.others.clock
     in
     let fetched = c.in-Some.ensures.weight in
     let heeded = c.heed_frame.ensures.weight in
@@ -46,31 +52,23 @@ pub returns-in-None-clause-served : goal.returns-in-None-clause-served
 returns-in-None-clause-served g c =
     let rested = c.rest.ensures.rested in (
       Fetches None ∷ rested.0,
-      g.met.H.Hall.did_then _ _ _ 0 _ _ c.in-None.ensures.did rested.1,
+      did_then c.in-None.ensures.did rested.1,
       IsCoreServed.rests rested.0 refl
-          (subst (λ n. IsRested n c.args.self.now c.rest.new.self rested.0 (result_ok c.rest.result)) c.in-None.ensures.count rested.2),
+          (subst (λ n. IsRested n c.args.self.now c.rest.new.self rested.0 (result_ok c.rest.result)) c.in-None.ensures.stays.others.later.count rested.2),
     )
 
 pub returns-in-None-clause-weight : goal.returns-in-None-clause-weight
 returns-in-None-clause-weight g c =
     let own =
-    own_weight_still g.H.Hall.scale g.H.Hall.pending (g.H.Hall.clock c.args.hall.now) (g.H.Hall.clock c.fetch.new.hall) c.args.self.now.core
-    c.in-None.ensures.clock
+    own_weight_still g.H.Hall.scale g.H.Hall.pending (g.H.Hall.state c.args.hall.now).clock (g.H.Hall.state c.fetch.new.self).clock c.args.self.now.core
+    c.in-None.ensures.stays.others.clock
     in
     let fetched = c.in-None.ensures.weight in
     let rested = c.rest.ensures.weight in
     omega (arith, own, fetched, rested)
 
-pub returns-in-Some-clause-did_others : goal.returns-in-Some-clause-did_others
-returns-in-Some-clause-did_others g c = λ who apart.
-    g.met.H.Hall.did_then _ _ _ who [] [] (c.in-Some.ensures.did_others who apart) (c.heed_frame.ensures.did_others who apart)
-
 pub returns-in-Some-clause-goes_on : goal.returns-in-Some-clause-goes_on
 returns-in-Some-clause-goes_on g c = g.met.H.Hall.goes_on_then _ _ _ c.in-Some.ensures.goes_on c.heed_frame.ensures.goes_on
-
-pub returns-in-None-clause-did_others : goal.returns-in-None-clause-did_others
-returns-in-None-clause-did_others g c = λ who apart.
-    g.met.H.Hall.did_then _ _ _ who [] [] (c.in-None.ensures.did_others who apart) (c.rest.ensures.did_others who apart)
 
 pub returns-in-None-clause-goes_on : goal.returns-in-None-clause-goes_on
 returns-in-None-clause-goes_on g c = g.met.H.Hall.goes_on_then _ _ _ c.in-None.ensures.goes_on c.rest.ensures.goes_on

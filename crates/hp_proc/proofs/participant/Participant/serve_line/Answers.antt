@@ -66,22 +66,22 @@ returns-clause-does g c =
     let heap = c.in_ok-answer.heap in
     let same = c.reserve_element.ensures in
     let told = subst
-    (λ (places : List NamedHeap). Brings heap (g.H.Hall.count old) (g.H.Hall.did old new start.me)
+    (λ (places : List NamedHeap). Brings heap (g.H.Hall.state old).count (did_in start.me (g.H.Hall.state old) (g.H.Hall.state new))
     (serving start.context.pools request (tag_of line) places) answer
-    (moment_of start (g.H.Hall.part old start.me) (g.H.Hall.seen old start.me) (g.H.Hall.heard old start.me))
-    (moment_of mid (g.H.Hall.part new start.me) (g.H.Hall.seen new start.me) (g.H.Hall.heard new start.me)))
+    (moment_of start ((g.H.Hall.state old).part start.me) ((g.H.Hall.state old).seen start.me) ((g.H.Hall.state old).heard start.me))
+    (moment_of mid ((g.H.Hall.state new).part start.me) ((g.H.Hall.state new).seen start.me) ((g.H.Hall.state new).heard start.me)))
     (ap (map named_heap) c.deref.ensures.value ∙ c.in_ok-places.ensures.heaps) c.in_ok-answer.ensures.does in
     let brings = subst
-    (λ (who : Party). Brings heap (g.H.Hall.count old) (g.H.Hall.did old new who.me)
+    (λ (who : Party). Brings heap (g.H.Hall.state old).count (did_in who.me (g.H.Hall.state old) (g.H.Hall.state new))
     (serving who.context.pools request (tag_of line)
     (heaps_for who.socket (socket_heaps who.context.pools) (option_map (λ name. name.text) options.heap) options.socket)) answer
-    (moment_of who (g.H.Hall.part old who.me) (g.H.Hall.seen old who.me) (g.H.Hall.heard old who.me))
-    (moment_of mid (g.H.Hall.part new who.me) (g.H.Hall.seen new who.me) (g.H.Hall.heard new who.me)))
+    (moment_of who ((g.H.Hall.state old).part who.me) ((g.H.Hall.state old).seen who.me) ((g.H.Hall.state old).heard who.me))
+    (moment_of mid ((g.H.Hall.state new).part who.me) ((g.H.Hall.state new).seen who.me) ((g.H.Hall.state new).heard who.me)))
     same told in
     line_answered line asks.label asks.size options asks.its_act
-    (moment_of party (g.H.Hall.part old party.me) (g.H.Hall.seen old party.me) (g.H.Hall.heard old party.me)) c.requires.attached
-    (g.H.Hall.count old) (g.H.Hall.did old new party.me) request asks.accepted (λ accepted. (request, refl, asks.is)) heap answer
-    (moment_of mid (g.H.Hall.part new party.me) (g.H.Hall.seen new party.me) (g.H.Hall.heard new party.me)) brings c.note_answer.new.self
+    (moment_of party ((g.H.Hall.state old).part party.me) ((g.H.Hall.state old).seen party.me) ((g.H.Hall.state old).heard party.me)) c.requires.attached
+    (g.H.Hall.state old).count (did_in party.me (g.H.Hall.state old) (g.H.Hall.state new)) request asks.accepted (λ accepted. (request, refl, asks.is)) heap answer
+    (moment_of mid ((g.H.Hall.state new).part party.me) ((g.H.Hall.state new).seen party.me) ((g.H.Hall.state new).heard party.me)) brings c.note_answer.new.self
     (ap (λ (context : Context). context.standing) c.in_ok-answer.ensures.same.context ∙ ap (λ (who : Party). who.context.standing) same)
     c.in_ok-note_answer.ensures.noted
 
@@ -92,23 +92,23 @@ returns-clause-ready g c =
     let line = c.args.line.now in
     let who = c.args.self.now.me in
     let ready = subst
-    (λ (party : Party). MayDo (moment_of mid (g.H.Hall.part new party.me) (g.H.Hall.seen new party.me) (g.H.Hall.heard new party.me)))
+    (λ (party : Party). MayDo (moment_of mid ((g.H.Hall.state new).part party.me) ((g.H.Hall.state new).seen party.me) ((g.H.Hall.state new).heard party.me)))
     c.reserve_element.ensures c.in_ok-answer.ensures.ready in
-    subst (λ (after : Party). MayDo (moment_of after (g.H.Hall.part new who) (g.H.Hall.seen new who) (g.H.Hall.heard new who)))
+    subst (λ (after : Party). MayDo (moment_of after ((g.H.Hall.state new).part who) ((g.H.Hall.state new).seen who) ((g.H.Hall.state new).heard who)))
     (sym c.in_ok-note_answer.ensures.noted)
-    (ready_answered line.line c.in_ok-answer.heap c.in_ok-answer.answer mid (g.H.Hall.part new who) (g.H.Hall.seen new who)
-    (g.H.Hall.heard new who) ready)
+    (ready_answered line.line c.in_ok-answer.heap c.in_ok-answer.answer mid ((g.H.Hall.state new).part who) ((g.H.Hall.state new).seen who)
+    ((g.H.Hall.state new).heard who) ready)
 
 pub returns-clause-tied : goal.returns-clause-tied
 returns-clause-tied g c =
     let mid = c.serve_request.new.self in
     let new = c.serve_request.new.hall in
     let who = c.args.self.now.me in
-    let tied = subst (λ (party : Party). IsTied (g.H.Hall.seen new party.me) (g.H.Hall.own new party.me) mid.joined mid.maps)
+    let tied = subst (λ (party : Party). IsTied ((g.H.Hall.state new).seen party.me) ((g.H.Hall.state new).own party.me) mid.joined mid.maps)
     c.reserve_element.ensures c.in_ok-answer.ensures.tied in
-    subst (λ (after : Party). IsTied (g.H.Hall.seen new who) (g.H.Hall.own new who) after.joined after.maps)
+    subst (λ (after : Party). IsTied ((g.H.Hall.state new).seen who) ((g.H.Hall.state new).own who) after.joined after.maps)
     (sym c.in_ok-note_answer.ensures.noted)
-    (tied_answered c.args.line.now.line c.in_ok-answer.heap c.in_ok-answer.answer mid (g.H.Hall.seen new who) (g.H.Hall.own new who) tied)
+    (tied_answered c.args.line.now.line c.in_ok-answer.heap c.in_ok-answer.answer mid ((g.H.Hall.state new).seen who) ((g.H.Hall.state new).own who) tied)
 
 -- BY HOW MUCH IT CARRIES THE CLOCK
 
@@ -118,14 +118,14 @@ returns-in_err-answer-clause-clock g c =
     let start = c.reserve_element.new.self in
     let places = c.in_ok-places.places.items in
     let options = c.args.options.now in
-    let old = g.H.Hall.clock c.args.hall.now in
-    let new = g.H.Hall.clock c.serve_request.new.hall in
-    rises_within g.H.Hall.pending g.H.Hall.is_busy (length places) MAX_HEAPS (longest_growth party.deadline) old new
+    let old = (g.H.Hall.state c.args.hall.now).clock in
+    let new = (g.H.Hall.state c.serve_request.new.hall).clock in
+    rises_within g.H.Hall.pending (λ hall. IsBusy (g.H.Hall.state hall)) (length places) MAX_HEAPS (longest_growth party.deadline) old new
     (few_places start.context.pools start.socket (option_map (λ name. name.text) options.heap) options.socket places
     c.in_ok-places.ensures.heaps)
-    (subst (λ (party : Party). RisesWithin g.H.Hall.pending g.H.Hall.is_busy (length places * longest_growth party.deadline) old new)
+    (subst (λ (party : Party). RisesWithin g.H.Hall.pending (λ hall. IsBusy (g.H.Hall.state hall)) (length places * longest_growth party.deadline) old new)
     c.reserve_element.ensures
-    (subst (λ (places : List SocketHeap). RisesWithin g.H.Hall.pending g.H.Hall.is_busy
+    (subst (λ (places : List SocketHeap). RisesWithin g.H.Hall.pending (λ hall. IsBusy (g.H.Hall.state hall))
     (length places * longest_growth start.deadline) old new) c.deref.ensures.value c.serve_request.ensures.clock))
 
 pub returns-in_err-note_answer-clause-clock : goal.returns-in_err-note_answer-clause-clock
@@ -134,14 +134,14 @@ returns-in_err-note_answer-clause-clock g c =
     let start = c.reserve_element.new.self in
     let places = c.in_ok-places.places.items in
     let options = c.args.options.now in
-    let old = g.H.Hall.clock c.args.hall.now in
-    let new = g.H.Hall.clock c.serve_request.new.hall in
-    rises_within g.H.Hall.pending g.H.Hall.is_busy (length places) MAX_HEAPS (longest_growth party.deadline) old new
+    let old = (g.H.Hall.state c.args.hall.now).clock in
+    let new = (g.H.Hall.state c.serve_request.new.hall).clock in
+    rises_within g.H.Hall.pending (λ hall. IsBusy (g.H.Hall.state hall)) (length places) MAX_HEAPS (longest_growth party.deadline) old new
     (few_places start.context.pools start.socket (option_map (λ name. name.text) options.heap) options.socket places
     c.in_ok-places.ensures.heaps)
-    (subst (λ (party : Party). RisesWithin g.H.Hall.pending g.H.Hall.is_busy (length places * longest_growth party.deadline) old new)
+    (subst (λ (party : Party). RisesWithin g.H.Hall.pending (λ hall. IsBusy (g.H.Hall.state hall)) (length places * longest_growth party.deadline) old new)
     c.reserve_element.ensures
-    (subst (λ (places : List SocketHeap). RisesWithin g.H.Hall.pending g.H.Hall.is_busy
+    (subst (λ (places : List SocketHeap). RisesWithin g.H.Hall.pending (λ hall. IsBusy (g.H.Hall.state hall))
     (length places * longest_growth start.deadline) old new) c.deref.ensures.value c.serve_request.ensures.clock))
 
 pub returns-clause-clock : goal.returns-clause-clock
@@ -150,12 +150,12 @@ returns-clause-clock g c =
     let start = c.reserve_element.new.self in
     let places = c.in_ok-places.places.items in
     let options = c.args.options.now in
-    let old = g.H.Hall.clock c.args.hall.now in
-    let new = g.H.Hall.clock c.serve_request.new.hall in
-    rises_within g.H.Hall.pending g.H.Hall.is_busy (length places) MAX_HEAPS (longest_growth party.deadline) old new
+    let old = (g.H.Hall.state c.args.hall.now).clock in
+    let new = (g.H.Hall.state c.serve_request.new.hall).clock in
+    rises_within g.H.Hall.pending (λ hall. IsBusy (g.H.Hall.state hall)) (length places) MAX_HEAPS (longest_growth party.deadline) old new
     (few_places start.context.pools start.socket (option_map (λ name. name.text) options.heap) options.socket places
     c.in_ok-places.ensures.heaps)
-    (subst (λ (party : Party). RisesWithin g.H.Hall.pending g.H.Hall.is_busy (length places * longest_growth party.deadline) old new)
+    (subst (λ (party : Party). RisesWithin g.H.Hall.pending (λ hall. IsBusy (g.H.Hall.state hall)) (length places * longest_growth party.deadline) old new)
     c.reserve_element.ensures
-    (subst (λ (places : List SocketHeap). RisesWithin g.H.Hall.pending g.H.Hall.is_busy
+    (subst (λ (places : List SocketHeap). RisesWithin g.H.Hall.pending (λ hall. IsBusy (g.H.Hall.state hall))
     (length places * longest_growth start.deadline) old new) c.deref.ensures.value c.serve_request.ensures.clock))

@@ -26,7 +26,7 @@ use Rattle.hp_proc.proofs.participant.Participant.serve_request.Goals as goal
 
 pub loop-place-init : goal.loop-place-init
 loop-place-init g c = record {
-  passed = does_same _ _ _ _ (g.met.H.Hall.did_same _ _);
+  passed = does_same _ _ _ _ (did_same _ _);
   few = omega arith;
   ready = c.requires.ready;
   tied = c.requires.tied;
@@ -41,13 +41,13 @@ loop-place-init g c = record {
 pub try_heap-requires-clause-serves : goal.try_heap-requires-clause-serves
 try_heap-requires-clause-serves g c =
     let was = c.loop-place.invariant in
-    subst (λ (who : ℕ). g.H.Hall.serves c.loop-place.hall who) (sym was.same.me)
-    (g.met.H.Hall.goes_on_serves _ _ _ was.goes_on c.requires.serves)
+    subst (λ (who : ℕ). (g.H.Hall.state c.loop-place.hall).serves who) (sym was.same.me)
+    ((g.met.H.Hall.goes_on_later _ _ was.goes_on).serves _ c.requires.serves)
 
 pub try_heap-requires-clause-me : goal.try_heap-requires-clause-me
 try_heap-requires-clause-me g c =
     let was = c.loop-place.invariant in
-    omega (arith, g.met.H.Hall.goes_on_count _ _ was.goes_on, was.same.me, c.requires.me)
+    omega (arith, (g.met.H.Hall.goes_on_later _ _ was.goes_on).count, was.same.me, c.requires.me)
 
 -- it made calls one after another
 same_calls : (first second third : Party) → IsSameParty (with_calls second.context.calls first) second
@@ -113,45 +113,44 @@ loop-place-preserved g c =
     let doing = trying pools request tag (map named_heap places) in
     let left = trying pools request tag (map named_heap (item ∷ drop (i + 1) places)) in
     let otherwise = trying pools request tag (map named_heap (drop (i + 1) places)) in
-    let before = at g.H.Hall.count g.H.Hall.did g.H.Hall.part g.H.Hall.seen g.H.Hall.heard first me c.args.self.now in
-    let here : Does (g.H.Hall.count first) (g.H.Hall.did first second me) doing left before (at g.H.Hall.count g.H.Hall.did g.H.Hall.part g.H.Hall.seen g.H.Hall.heard second me c.loop-place.self) =
-    subst (λ (rest : List SocketHeap). Does (g.H.Hall.count first) (g.H.Hall.did first second me) doing
-    (trying pools request tag (map named_heap rest)) before (at g.H.Hall.count g.H.Hall.did g.H.Hall.part g.H.Hall.seen g.H.Hall.heard second me c.loop-place.self))
+    let before = moment me c.args.self.now (g.H.Hall.state first) in
+    let here : Does (g.H.Hall.state first).count (did_in me (g.H.Hall.state first) (g.H.Hall.state second)) doing left before (moment me c.loop-place.self (g.H.Hall.state second)) =
+    subst (λ (rest : List SocketHeap). Does (g.H.Hall.state first).count (did_in me (g.H.Hall.state first) (g.H.Hall.state second)) doing
+    (trying pools request tag (map named_heap rest)) before (moment me c.loop-place.self (g.H.Hall.state second)))
     (drop_more places i none_at c.loop-place-test.true) was.passed in
-    let tried : Tries item.index (g.H.Hall.count first) (g.H.Hall.did second third me) left otherwise None
-    (at g.H.Hall.count g.H.Hall.did g.H.Hall.part g.H.Hall.seen g.H.Hall.heard second me c.loop-place.self) (at g.H.Hall.count g.H.Hall.did g.H.Hall.part g.H.Hall.seen g.H.Hall.heard third me c.try_heap.new.self) =
-    subst (λ (context : Context). Tries item.index (g.H.Hall.count first) (g.H.Hall.did second third me)
+    let tried : Tries item.index (g.H.Hall.state first).count (did_in me (g.H.Hall.state second) (g.H.Hall.state third)) left otherwise None
+    (moment me c.loop-place.self (g.H.Hall.state second)) (moment me c.try_heap.new.self (g.H.Hall.state third)) =
+    subst (λ (context : Context). Tries item.index (g.H.Hall.state first).count (did_in me (g.H.Hall.state second) (g.H.Hall.state third))
     (trying context.pools request tag (map named_heap (item ∷ drop (i + 1) places)))
     (trying context.pools request tag (map named_heap (drop (i + 1) places))) None
-    (at g.H.Hall.count g.H.Hall.did g.H.Hall.part g.H.Hall.seen g.H.Hall.heard second me c.loop-place.self) (at g.H.Hall.count g.H.Hall.did g.H.Hall.part g.H.Hall.seen g.H.Hall.heard third me c.try_heap.new.self)) was.same.context
-    (told_alike g.H.Hall.count g.H.Hall.did g.H.Hall.part g.H.Hall.seen g.H.Hall.heard (λ count did old new. Tries item.index count did
+    (moment me c.loop-place.self (g.H.Hall.state second)) (moment me c.try_heap.new.self (g.H.Hall.state third))) was.same.context
+    (told_alike (λ count did old new. Tries item.index count did
     (trying c.loop-place.self.context.pools request tag (map named_heap (item ∷ drop (i + 1) places)))
-    (trying c.loop-place.self.context.pools request tag (map named_heap (drop (i + 1) places))) None old new)
-    (g.H.Hall.count second) (g.H.Hall.count first) second third c.loop-place.self.me me (λ moment. moment) (λ moment. moment) c.loop-place.self
-    c.try_heap.new.self was.same.me (g.met.H.Hall.goes_on_count _ _ was.goes_on)
-    (subst (λ (given : Option Answer). Tries item.index (g.H.Hall.count second) (g.H.Hall.did second third c.loop-place.self.me)
+    (trying c.loop-place.self.context.pools request tag (map named_heap (drop (i + 1) places))) None old new) (g.H.Hall.state second).count (g.H.Hall.state first).count (g.H.Hall.state second) (g.H.Hall.state third) c.loop-place.self.me me (λ moment. moment) (λ moment. moment) c.loop-place.self
+    c.try_heap.new.self was.same.me ((g.met.H.Hall.goes_on_later _ _ was.goes_on).count)
+    (subst (λ (given : Option Answer). Tries item.index (g.H.Hall.state second).count (did_in c.loop-place.self.me (g.H.Hall.state second) (g.H.Hall.state third))
     (trying c.loop-place.self.context.pools request tag (map named_heap (item ∷ drop (i + 1) places)))
     (trying c.loop-place.self.context.pools request tag (map named_heap (drop (i + 1) places))) given
-    (at g.H.Hall.count g.H.Hall.did g.H.Hall.part g.H.Hall.seen g.H.Hall.heard second c.loop-place.self.me c.loop-place.self) (at g.H.Hall.count g.H.Hall.did g.H.Hall.part g.H.Hall.seen g.H.Hall.heard third c.loop-place.self.me c.try_heap.new.self))
+    (moment c.loop-place.self.me c.loop-place.self (g.H.Hall.state second)) (moment c.loop-place.self.me c.try_heap.new.self (g.H.Hall.state third)))
     c.in_default.is (c.in_ok-answer.ensures.does (map named_heap (drop (i + 1) places))))) in
     let one = c.try_heap.ensures in
     let party = c.try_heap.new.self in
     record {
-      passed = does_then (g.H.Hall.count first) (g.H.Hall.did first second me) (g.H.Hall.did second third me) (g.H.Hall.did first third me) doing
-          left otherwise before (at g.H.Hall.count g.H.Hall.did g.H.Hall.part g.H.Hall.seen g.H.Hall.heard second me c.loop-place.self) (at g.H.Hall.count g.H.Hall.did g.H.Hall.part g.H.Hall.seen g.H.Hall.heard third me party) (g.met.H.Hall.did_then first second third me) here
+      passed = does_then (g.H.Hall.state first).count (did_in me (g.H.Hall.state first) (g.H.Hall.state second)) (did_in me (g.H.Hall.state second) (g.H.Hall.state third)) (did_in me (g.H.Hall.state first) (g.H.Hall.state third)) doing
+          left otherwise before (moment me c.loop-place.self (g.H.Hall.state second)) (moment me party (g.H.Hall.state third)) (did_then) here
           tried.does;
       few = socket_few c.args.self.now.context.pools (get_or c.args.places.now c.loop-place.place-index none_at)
           (c.requires.places (get_or c.args.places.now c.loop-place.place-index none_at)
           (Contains-get_or c.args.places.now c.loop-place.place-index none_at c.loop-place-test.true));
-      ready = subst (λ (who : ℕ). MayDo (at g.H.Hall.count g.H.Hall.did g.H.Hall.part g.H.Hall.seen g.H.Hall.heard third who party)) (sym one.same.me) c.in_ok-answer.ensures.ready;
-      tied = subst (λ (who : ℕ). IsTied (g.H.Hall.seen third who) (g.H.Hall.own third who) party.joined party.maps) (sym one.same.me) one.tied;
+      ready = subst (λ (who : ℕ). MayDo (moment who party (g.H.Hall.state third))) (sym one.same.me) c.in_ok-answer.ensures.ready;
+      tied = subst (λ (who : ℕ). IsTied ((g.H.Hall.state third).seen who) ((g.H.Hall.state third).own who) party.joined party.maps) (sym one.same.me) one.tied;
       same = same_calls c.args.self.now c.loop-place.self party was.same one.same;
       free = one.free;
       home = one.home;
       goes_on = g.met.H.Hall.goes_on_then _ _ _ was.goes_on one.goes_on;
       along = omega (arith, c.loop-place-test.true);
-      clock = rises_more g.H.Hall.pending g.H.Hall.is_busy i (longest_growth c.args.self.now.deadline)
-          (longest_growth c.loop-place.self.deadline) (g.H.Hall.clock first) (g.H.Hall.clock second) (g.H.Hall.clock third)
+      clock = rises_more g.H.Hall.pending (λ hall. IsBusy (g.H.Hall.state hall)) i (longest_growth c.args.self.now.deadline)
+          (longest_growth c.loop-place.self.deadline) (g.H.Hall.state first).clock (g.H.Hall.state second).clock (g.H.Hall.state third).clock
           (ap longest_growth was.same.deadline) was.clock one.clock;
     }
 
@@ -171,31 +170,30 @@ returns-in-Some-clause-does g c =
     let doing = trying pools request tag (map named_heap places) in
     let left = trying pools request tag (map named_heap (item ∷ drop (i + 1) places)) in
     let otherwise = trying pools request tag (map named_heap (drop (i + 1) places)) in
-    let before = at g.H.Hall.count g.H.Hall.did g.H.Hall.part g.H.Hall.seen g.H.Hall.heard first me c.args.self.now in
-    let here : Does (g.H.Hall.count first) (g.H.Hall.did first second me) doing left before (at g.H.Hall.count g.H.Hall.did g.H.Hall.part g.H.Hall.seen g.H.Hall.heard second me c.loop-place.self) =
-    subst (λ (rest : List SocketHeap). Does (g.H.Hall.count first) (g.H.Hall.did first second me) doing
-    (trying pools request tag (map named_heap rest)) before (at g.H.Hall.count g.H.Hall.did g.H.Hall.part g.H.Hall.seen g.H.Hall.heard second me c.loop-place.self))
+    let before = moment me c.args.self.now (g.H.Hall.state first) in
+    let here : Does (g.H.Hall.state first).count (did_in me (g.H.Hall.state first) (g.H.Hall.state second)) doing left before (moment me c.loop-place.self (g.H.Hall.state second)) =
+    subst (λ (rest : List SocketHeap). Does (g.H.Hall.state first).count (did_in me (g.H.Hall.state first) (g.H.Hall.state second)) doing
+    (trying pools request tag (map named_heap rest)) before (moment me c.loop-place.self (g.H.Hall.state second)))
     (drop_more places i none_at c.loop-place-test.true) was.passed in
-    let tried : Tries item.index (g.H.Hall.count first) (g.H.Hall.did second third me) left otherwise (Some c.in-Some.answer)
-    (at g.H.Hall.count g.H.Hall.did g.H.Hall.part g.H.Hall.seen g.H.Hall.heard second me c.loop-place.self) (at g.H.Hall.count g.H.Hall.did g.H.Hall.part g.H.Hall.seen g.H.Hall.heard third me c.try_heap.new.self) =
-    subst (λ (context : Context). Tries item.index (g.H.Hall.count first) (g.H.Hall.did second third me)
+    let tried : Tries item.index (g.H.Hall.state first).count (did_in me (g.H.Hall.state second) (g.H.Hall.state third)) left otherwise (Some c.in-Some.answer)
+    (moment me c.loop-place.self (g.H.Hall.state second)) (moment me c.try_heap.new.self (g.H.Hall.state third)) =
+    subst (λ (context : Context). Tries item.index (g.H.Hall.state first).count (did_in me (g.H.Hall.state second) (g.H.Hall.state third))
     (trying context.pools request tag (map named_heap (item ∷ drop (i + 1) places)))
     (trying context.pools request tag (map named_heap (drop (i + 1) places))) (Some c.in-Some.answer)
-    (at g.H.Hall.count g.H.Hall.did g.H.Hall.part g.H.Hall.seen g.H.Hall.heard second me c.loop-place.self) (at g.H.Hall.count g.H.Hall.did g.H.Hall.part g.H.Hall.seen g.H.Hall.heard third me c.try_heap.new.self)) was.same.context
-    (told_alike g.H.Hall.count g.H.Hall.did g.H.Hall.part g.H.Hall.seen g.H.Hall.heard (λ count did old new. Tries item.index count did
+    (moment me c.loop-place.self (g.H.Hall.state second)) (moment me c.try_heap.new.self (g.H.Hall.state third))) was.same.context
+    (told_alike (λ count did old new. Tries item.index count did
     (trying c.loop-place.self.context.pools request tag (map named_heap (item ∷ drop (i + 1) places)))
-    (trying c.loop-place.self.context.pools request tag (map named_heap (drop (i + 1) places))) (Some c.in-Some.answer) old new)
-    (g.H.Hall.count second) (g.H.Hall.count first) second third c.loop-place.self.me me (λ moment. moment) (λ moment. moment) c.loop-place.self
-    c.try_heap.new.self was.same.me (g.met.H.Hall.goes_on_count _ _ was.goes_on)
-    (subst (λ (given : Option Answer). Tries item.index (g.H.Hall.count second) (g.H.Hall.did second third c.loop-place.self.me)
+    (trying c.loop-place.self.context.pools request tag (map named_heap (drop (i + 1) places))) (Some c.in-Some.answer) old new) (g.H.Hall.state second).count (g.H.Hall.state first).count (g.H.Hall.state second) (g.H.Hall.state third) c.loop-place.self.me me (λ moment. moment) (λ moment. moment) c.loop-place.self
+    c.try_heap.new.self was.same.me ((g.met.H.Hall.goes_on_later _ _ was.goes_on).count)
+    (subst (λ (given : Option Answer). Tries item.index (g.H.Hall.state second).count (did_in c.loop-place.self.me (g.H.Hall.state second) (g.H.Hall.state third))
     (trying c.loop-place.self.context.pools request tag (map named_heap (item ∷ drop (i + 1) places)))
     (trying c.loop-place.self.context.pools request tag (map named_heap (drop (i + 1) places))) given
-    (at g.H.Hall.count g.H.Hall.did g.H.Hall.part g.H.Hall.seen g.H.Hall.heard second c.loop-place.self.me c.loop-place.self) (at g.H.Hall.count g.H.Hall.did g.H.Hall.part g.H.Hall.seen g.H.Hall.heard third c.loop-place.self.me c.try_heap.new.self))
+    (moment c.loop-place.self.me c.loop-place.self (g.H.Hall.state second)) (moment c.loop-place.self.me c.try_heap.new.self (g.H.Hall.state third)))
     c.in-Some.is (c.in_ok-answer.ensures.does (map named_heap (drop (i + 1) places))))) in
-    subst (λ (doing : Doing). Brings item.index (g.H.Hall.count first) (g.H.Hall.did first third me) doing c.in-Some.answer before
-    (at g.H.Hall.count g.H.Hall.did g.H.Hall.part g.H.Hall.seen g.H.Hall.heard third me c.try_heap.new.self)) (served_within pools request tag places i c.loop-place-test.true)
-    (brings_then (g.H.Hall.count first) (g.H.Hall.did first second me) (g.H.Hall.did second third me) (g.H.Hall.did first third me) doing left
-    before (at g.H.Hall.count g.H.Hall.did g.H.Hall.part g.H.Hall.seen g.H.Hall.heard second me c.loop-place.self) (at g.H.Hall.count g.H.Hall.did g.H.Hall.part g.H.Hall.seen g.H.Hall.heard third me c.try_heap.new.self) (g.met.H.Hall.did_then first second third me) otherwise
+    subst (λ (doing : Doing). Brings item.index (g.H.Hall.state first).count (did_in me (g.H.Hall.state first) (g.H.Hall.state third)) doing c.in-Some.answer before
+    (moment me c.try_heap.new.self (g.H.Hall.state third))) (served_within pools request tag places i c.loop-place-test.true)
+    (brings_then (g.H.Hall.state first).count (did_in me (g.H.Hall.state first) (g.H.Hall.state second)) (did_in me (g.H.Hall.state second) (g.H.Hall.state third)) (did_in me (g.H.Hall.state first) (g.H.Hall.state third)) doing left
+    before (moment me c.loop-place.self (g.H.Hall.state second)) (moment me c.try_heap.new.self (g.H.Hall.state third)) (did_then) otherwise
     c.in-Some.answer item.index here tried)
 
 pub returns-in-Some-clause-few : goal.returns-in-Some-clause-few
@@ -205,7 +203,7 @@ returns-in-Some-clause-few g c = socket_few c.args.self.now.context.pools (get_o
 
 pub returns-in-Some-clause-ready : goal.returns-in-Some-clause-ready
 returns-in-Some-clause-ready g c =
-    subst (λ (who : ℕ). MayDo (at g.H.Hall.count g.H.Hall.did g.H.Hall.part g.H.Hall.seen g.H.Hall.heard c.try_heap.new.hall who c.try_heap.new.self)) c.loop-place.invariant.same.me
+    subst (λ (who : ℕ). MayDo (moment who c.try_heap.new.self (g.H.Hall.state c.try_heap.new.hall))) c.loop-place.invariant.same.me
     c.in_ok-answer.ensures.ready
 
 pub returns-clause-does : goal.returns-clause-does
@@ -215,15 +213,15 @@ returns-clause-does g c =
     let hall = c.loop-place.hall in
     let pools = c.args.self.now.context.pools in
     let places = c.args.places.now in
-    brings_none c.loop-place.last (g.H.Hall.count first) (g.H.Hall.did first hall me)
-    (serving pools c.args.request.now c.args.tag (map named_heap places)) gives.None (at g.H.Hall.count g.H.Hall.did g.H.Hall.part g.H.Hall.seen g.H.Hall.heard first me c.args.self.now)
-    (at g.H.Hall.count g.H.Hall.did g.H.Hall.part g.H.Hall.seen g.H.Hall.heard hall me c.loop-place.self) none_differs
-    (subst (λ (doing : Doing). Does (g.H.Hall.count first) (g.H.Hall.did first hall me) doing (Doing.Ended gives.None)
-    (at g.H.Hall.count g.H.Hall.did g.H.Hall.part g.H.Hall.seen g.H.Hall.heard first me c.args.self.now) (at g.H.Hall.count g.H.Hall.did g.H.Hall.part g.H.Hall.seen g.H.Hall.heard hall me c.loop-place.self))
+    brings_none c.loop-place.last (g.H.Hall.state first).count (did_in me (g.H.Hall.state first) (g.H.Hall.state hall))
+    (serving pools c.args.request.now c.args.tag (map named_heap places)) gives.None (moment me c.args.self.now (g.H.Hall.state first))
+    (moment me c.loop-place.self (g.H.Hall.state hall)) none_differs
+    (subst (λ (doing : Doing). Does (g.H.Hall.state first).count (did_in me (g.H.Hall.state first) (g.H.Hall.state hall)) doing (Doing.Ended gives.None)
+    (moment me c.args.self.now (g.H.Hall.state first)) (moment me c.loop-place.self (g.H.Hall.state hall)))
     (served_some pools c.args.request.now c.args.tag places c.if-is_empty.ensures)
-    (subst (λ (rest : List SocketHeap). Does (g.H.Hall.count first) (g.H.Hall.did first hall me)
+    (subst (λ (rest : List SocketHeap). Does (g.H.Hall.state first).count (did_in me (g.H.Hall.state first) (g.H.Hall.state hall))
     (trying pools c.args.request.now c.args.tag (map named_heap places)) (trying pools c.args.request.now c.args.tag (map named_heap rest))
-    (at g.H.Hall.count g.H.Hall.did g.H.Hall.part g.H.Hall.seen g.H.Hall.heard first me c.args.self.now) (at g.H.Hall.count g.H.Hall.did g.H.Hall.part g.H.Hall.seen g.H.Hall.heard hall me c.loop-place.self))
+    (moment me c.args.self.now (g.H.Hall.state first)) (moment me c.loop-place.self (g.H.Hall.state hall)))
     (drop_all c.loop-place.place-index places c.loop-place-test.false) c.loop-place.invariant.passed))
 
 pub returns-in_err-answer-clause-goes_on : goal.returns-in_err-answer-clause-goes_on
@@ -237,16 +235,16 @@ returns-then-is_empty-clause-does g c =
     let me = c.args.self.now.me in
     let first = c.args.hall.now in
     let pools = c.args.self.now.context.pools in
-    let moment = at g.H.Hall.count g.H.Hall.did g.H.Hall.part g.H.Hall.seen g.H.Hall.heard first me c.args.self.now in
-    brings_none 0 (g.H.Hall.count first) (g.H.Hall.did first first me)
+    let moment = moment me c.args.self.now (g.H.Hall.state first) in
+    brings_none 0 (g.H.Hall.state first).count (did_in me (g.H.Hall.state first) (g.H.Hall.state first))
     (serving pools c.args.request.now c.args.tag (map named_heap c.args.places.now)) gives.NoHeap moment moment no_heap_differs
-    (subst (λ (doing : Doing). Does (g.H.Hall.count first) (g.H.Hall.did first first me) doing (Doing.Ended gives.NoHeap) moment moment)
+    (subst (λ (doing : Doing). Does (g.H.Hall.state first).count (did_in me (g.H.Hall.state first) (g.H.Hall.state first)) doing (Doing.Ended gives.NoHeap) moment moment)
     (served_none pools c.args.request.now c.args.tag c.args.places.now c.if-is_empty.ensures)
-    (does_same (g.H.Hall.count first) (g.H.Hall.did first first me) (Doing.Ended gives.NoHeap) moment (g.met.H.Hall.did_same first me)))
+    (does_same (g.H.Hall.state first).count (did_in me (g.H.Hall.state first) (g.H.Hall.state first)) (Doing.Ended gives.NoHeap) moment (did_same me (g.H.Hall.state first))))
 
 pub returns-clause-ready : goal.returns-clause-ready
 returns-clause-ready g c =
-    subst (λ (who : ℕ). MayDo (at g.H.Hall.count g.H.Hall.did g.H.Hall.part g.H.Hall.seen g.H.Hall.heard c.loop-place.hall who c.loop-place.self)) c.loop-place.invariant.same.me c.loop-place.invariant.ready
+    subst (λ (who : ℕ). MayDo (moment who c.loop-place.self (g.H.Hall.state c.loop-place.hall))) c.loop-place.invariant.same.me c.loop-place.invariant.ready
 
 -- BY HOW MUCH IT CARRIES THE CLOCK
 
@@ -254,28 +252,28 @@ pub returns-in_err-answer-clause-clock : goal.returns-in_err-answer-clause-clock
 returns-in_err-answer-clause-clock g c =
     let was = c.loop-place.invariant in
     let party = c.args.self.now in
-    let old = g.H.Hall.clock c.args.hall.now in
-    let new = g.H.Hall.clock c.try_heap.new.hall in
+    let old = (g.H.Hall.state c.args.hall.now).clock in
+    let new = (g.H.Hall.state c.try_heap.new.hall).clock in
     let index = c.loop-place.place-index in
-    rises_within g.H.Hall.pending g.H.Hall.is_busy (index + 1) (length c.args.places.now) (longest_growth party.deadline) old new
+    rises_within g.H.Hall.pending (λ hall. IsBusy (g.H.Hall.state hall)) (index + 1) (length c.args.places.now) (longest_growth party.deadline) old new
     (omega (arith, c.loop-place-test.true))
-    (rises_more g.H.Hall.pending g.H.Hall.is_busy index (longest_growth party.deadline) (longest_growth c.loop-place.self.deadline) old
-    (g.H.Hall.clock c.loop-place.hall) new (ap longest_growth was.same.deadline) was.clock c.try_heap.ensures.clock)
+    (rises_more g.H.Hall.pending (λ hall. IsBusy (g.H.Hall.state hall)) index (longest_growth party.deadline) (longest_growth c.loop-place.self.deadline) old
+    (g.H.Hall.state c.loop-place.hall).clock new (ap longest_growth was.same.deadline) was.clock c.try_heap.ensures.clock)
 
 pub returns-in-Some-clause-clock : goal.returns-in-Some-clause-clock
 returns-in-Some-clause-clock g c =
     let was = c.loop-place.invariant in
     let party = c.args.self.now in
-    let old = g.H.Hall.clock c.args.hall.now in
-    let new = g.H.Hall.clock c.try_heap.new.hall in
+    let old = (g.H.Hall.state c.args.hall.now).clock in
+    let new = (g.H.Hall.state c.try_heap.new.hall).clock in
     let index = c.loop-place.place-index in
-    rises_within g.H.Hall.pending g.H.Hall.is_busy (index + 1) (length c.args.places.now) (longest_growth party.deadline) old new
+    rises_within g.H.Hall.pending (λ hall. IsBusy (g.H.Hall.state hall)) (index + 1) (length c.args.places.now) (longest_growth party.deadline) old new
     (omega (arith, c.loop-place-test.true))
-    (rises_more g.H.Hall.pending g.H.Hall.is_busy index (longest_growth party.deadline) (longest_growth c.loop-place.self.deadline) old
-    (g.H.Hall.clock c.loop-place.hall) new (ap longest_growth was.same.deadline) was.clock c.try_heap.ensures.clock)
+    (rises_more g.H.Hall.pending (λ hall. IsBusy (g.H.Hall.state hall)) index (longest_growth party.deadline) (longest_growth c.loop-place.self.deadline) old
+    (g.H.Hall.state c.loop-place.hall).clock new (ap longest_growth was.same.deadline) was.clock c.try_heap.ensures.clock)
 
 pub returns-clause-clock : goal.returns-clause-clock
 returns-clause-clock g c =
     let was = c.loop-place.invariant in
-    rises_within g.H.Hall.pending g.H.Hall.is_busy c.loop-place.place-index (length c.args.places.now)
-    (longest_growth c.args.self.now.deadline) (g.H.Hall.clock c.args.hall.now) (g.H.Hall.clock c.loop-place.hall) was.along was.clock
+    rises_within g.H.Hall.pending (λ hall. IsBusy (g.H.Hall.state hall)) c.loop-place.place-index (length c.args.places.now)
+    (longest_growth c.args.self.now.deadline) (g.H.Hall.state c.args.hall.now).clock (g.H.Hall.state c.loop-place.hall).clock was.along was.clock

@@ -12,19 +12,19 @@ use Rattle.hp_proc.proofs.participant.Participant.serve_request.Given as goal
 -- the heaps so far were passed
 abbrev pub invariant-loop-place : goal.invariant-loop-place
 invariant-loop-place g l = record {
-  passed : Does (g.H.Hall.count l.fn.hall) (g.H.Hall.did l.fn.hall l.hall l.fn.self.me)
+  passed : Does (g.H.Hall.state l.fn.hall).count (did_in l.fn.self.me (g.H.Hall.state l.fn.hall) (g.H.Hall.state l.hall))
       (trying l.fn.self.context.pools l.fn.request l.fn.tag (map named_heap l.fn.places))
       (trying l.fn.self.context.pools l.fn.request l.fn.tag (map named_heap (drop l.place-index l.fn.places)))
-      (at g.H.Hall.count g.H.Hall.did g.H.Hall.part g.H.Hall.seen g.H.Hall.heard l.fn.hall l.fn.self.me l.fn.self)
-      (at g.H.Hall.count g.H.Hall.did g.H.Hall.part g.H.Hall.seen g.H.Hall.heard l.hall l.fn.self.me l.self);
+      (moment l.fn.self.me l.fn.self (g.H.Hall.state l.fn.hall))
+      (moment l.fn.self.me l.self (g.H.Hall.state l.hall));
   few : l.last < MAX_HEAPS;
-  ready : MayDo (at g.H.Hall.count g.H.Hall.did g.H.Hall.part g.H.Hall.seen g.H.Hall.heard l.hall l.self.me l.self);
-  tied : IsTied (g.H.Hall.seen l.hall l.self.me) (g.H.Hall.own l.hall l.self.me) l.self.joined l.self.maps;
+  ready : MayDo (moment l.self.me l.self (g.H.Hall.state l.hall));
+  tied : IsTied ((g.H.Hall.state l.hall).seen l.self.me) ((g.H.Hall.state l.hall).own l.self.me) l.self.joined l.self.maps;
   same : IsSameParty (with_calls l.self.context.calls l.fn.self) l.self;
-  free : (number : ℕ) → g.H.Hall.taken l.hall number ≡ None;
-  home : (number : ℕ) → number ≤ MAX_HEAPS → g.H.Hall.may_take l.hall number;
+  free : (number : ℕ) → (g.H.Hall.state l.hall).taken number ≡ None;
+  home : (number : ℕ) → number ≤ MAX_HEAPS → (g.H.Hall.state l.hall).may_take number;
   goes_on : g.H.Hall.goes_on l.fn.hall l.hall;
   along : l.place-index ≤ length l.fn.places;
-  clock : RisesWithin g.H.Hall.pending g.H.Hall.is_busy (l.place-index * longest_growth l.fn.self.deadline) (g.H.Hall.clock l.fn.hall)
-      (g.H.Hall.clock l.hall);
+  clock : RisesWithin g.H.Hall.pending (λ hall. IsBusy (g.H.Hall.state hall)) (l.place-index * longest_growth l.fn.self.deadline) (g.H.Hall.state l.fn.hall).clock
+      (g.H.Hall.state l.hall).clock;
 }

@@ -3,7 +3,12 @@ use Rattle.std.proofs.Common.{[], ◌∷◌, refl, sym}
 use Rattle.hp_hall.specs.Mail.{Notes}
 use Rattle.hp_hall.specs.declared.note.Note.TheVariants.{Read}
 use Rattle.hp_proc.specs.Coordinating.{IsAnswered}
+use Rattle.hp_hall.proofs.HallStates.{did_same}
+use Rattle.hp_proc.proofs.InHalls.{alone_same}
 use Rattle.hp_proc.proofs.participant.Participant.take_reply.Goals as goal
+
+pub returns-in-None-clause-alone : goal.returns-in-None-clause-alone
+returns-in-None-clause-alone g c = alone_same 0 c.args.self.now (g.H.Hall.state c.args.hall.now) c.requires.can.tied
 
 pub returns-in-Some-clause-answered : goal.returns-in-Some-clause-answered
 returns-in-Some-clause-answered g c =
@@ -15,4 +20,4 @@ returns-in-Some-clause-answered g c =
 
 pub returns-in-None-clause-answered : goal.returns-in-None-clause-answered
 returns-in-None-clause-answered g c =
-    ([], g.met.H.Hall.did_same _ 0, IsAnswered.rests c.requires.reply (sym c.in-None.ensures) refl refl refl)
+    ([], did_same 0 _, IsAnswered.rests c.requires.reply (sym c.in-None.ensures) refl refl refl)

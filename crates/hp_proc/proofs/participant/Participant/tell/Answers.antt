@@ -48,10 +48,10 @@ returns-in-Answered-clause-does g c =
     let party = c.args.self.now in
     let me = party.me in
     let hall = c.args.hall.now in
-    let moment = moment_of party (g.H.Hall.part hall me) (g.H.Hall.seen hall me) (g.H.Hall.heard hall me) in
-    subst (λ (left : Left). Does (g.H.Hall.count hall) (g.H.Hall.did hall hall me) (left_of c.args.heap left)
+    let moment = moment_of party ((g.H.Hall.state hall).part me) ((g.H.Hall.state hall).seen me) ((g.H.Hall.state hall).heard me) in
+    subst (λ (left : Left). Does (g.H.Hall.state hall).count (did_in me (g.H.Hall.state hall) (g.H.Hall.state hall)) (left_of c.args.heap left)
     (Doing.Ended c.in-Answered.answer) moment moment) (sym c.in-Answered.is)
-    (does_same (g.H.Hall.count hall) (g.H.Hall.did hall hall me) (Doing.Ended c.in-Answered.answer) moment (g.met.H.Hall.did_same hall me))
+    (does_same (g.H.Hall.state hall).count (did_in me (g.H.Hall.state hall) (g.H.Hall.state hall)) (Doing.Ended c.in-Answered.answer) moment (did_same me (g.H.Hall.state hall)))
 
 pub returns-in_ok-notify-in-GaveUp-clause-does : goal.returns-in_ok-notify-in-GaveUp-clause-does
 returns-in_ok-notify-in-GaveUp-clause-does g c =
@@ -62,14 +62,14 @@ returns-in_ok-notify-in-GaveUp-clause-does g c =
     let after = c.notify.new.self in
     let told = c.in_ok-notify-in-GaveUp.ensures in
     let run = c.in-GaveUp.run' in
-    let more = g.met.H.Hall.goes_on_seen _ _ me c.notify.ensures.goes_on in
-    let others = g.met.H.Hall.goes_on_heard _ _ me c.notify.ensures.goes_on in
-    subst (λ (left : Left). Does (g.H.Hall.count old) (g.H.Hall.did old new me) (left_of c.args.heap left) (Doing.Ended answer.Done)
-    (moment_of party (g.H.Hall.part old me) (g.H.Hall.seen old me) (g.H.Hall.heard old me))
-    (moment_of after (g.H.Hall.part new me) (g.H.Hall.seen new me) (g.H.Hall.heard new me))) (sym c.in-GaveUp.is)
-    (does_tell (g.H.Hall.count old) party after c.args.heap run (g.H.Hall.part old me) (g.H.Hall.part new me) (g.H.Hall.seen old me)
-    (g.H.Hall.seen new me) more.0 (g.H.Hall.heard old me) (g.H.Hall.heard new me) others.0 c.notify.ensures.part c.notify.ensures.same more.1
-    others.1 (g.H.Hall.did old new me) told.did.0 told.did.1 told.did.2 told.asked)
+    let more = (g.met.H.Hall.goes_on_later _ _ c.notify.ensures.goes_on).seen me in
+    let others = (g.met.H.Hall.goes_on_later _ _ c.notify.ensures.goes_on).heard me in
+    subst (λ (left : Left). Does (g.H.Hall.state old).count (did_in me (g.H.Hall.state old) (g.H.Hall.state new)) (left_of c.args.heap left) (Doing.Ended answer.Done)
+    (moment_of party ((g.H.Hall.state old).part me) ((g.H.Hall.state old).seen me) ((g.H.Hall.state old).heard me))
+    (moment_of after ((g.H.Hall.state new).part me) ((g.H.Hall.state new).seen me) ((g.H.Hall.state new).heard me))) (sym c.in-GaveUp.is)
+    (does_tell (g.H.Hall.state old).count party after c.args.heap run ((g.H.Hall.state old).part me) ((g.H.Hall.state new).part me) ((g.H.Hall.state old).seen me)
+    ((g.H.Hall.state new).seen me) more.0 ((g.H.Hall.state old).heard me) ((g.H.Hall.state new).heard me) others.0 c.notify.ensures.part c.notify.ensures.same more.1
+    others.1 (did_in me (g.H.Hall.state old) (g.H.Hall.state new)) told.did.0 told.did.1 told.did.2 told.asked)
 
 pub returns-in_ok-notify-in-GaveUp-clause-ready : goal.returns-in_ok-notify-in-GaveUp-clause-ready
 returns-in_ok-notify-in-GaveUp-clause-ready g c =
@@ -77,6 +77,6 @@ returns-in_ok-notify-in-GaveUp-clause-ready g c =
     let me = party.me in
     let old = c.args.hall.now in
     let new = c.notify.new.hall in
-    let others = g.met.H.Hall.goes_on_heard _ _ me c.notify.ensures.goes_on in
-    ready_still party c.notify.new.self (g.H.Hall.part old me) (g.H.Hall.part new me) (g.H.Hall.seen old me) (g.H.Hall.seen new me)
-    (g.H.Hall.heard old me) (g.H.Hall.heard new me) others.0 c.notify.ensures.same c.notify.ensures.part others.1 c.requires.ready
+    let others = (g.met.H.Hall.goes_on_later _ _ c.notify.ensures.goes_on).heard me in
+    ready_still party c.notify.new.self ((g.H.Hall.state old).part me) ((g.H.Hall.state new).part me) ((g.H.Hall.state old).seen me) ((g.H.Hall.state new).seen me)
+    ((g.H.Hall.state old).heard me) ((g.H.Hall.state new).heard me) others.0 c.notify.ensures.same c.notify.ensures.part others.1 c.requires.ready

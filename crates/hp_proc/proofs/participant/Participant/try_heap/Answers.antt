@@ -23,7 +23,7 @@ hold-requires-clause-few g c = socket_few c.args.self.now.context.pools c.args.p
 
 pub returns-in_err-heap-clause-free : goal.returns-in_err-heap-clause-free
 returns-in_err-heap-clause-free g c = λ number. ⊎_elim
-    (λ here. ap (g.H.Hall.taken c.hold.new.hall) here.1 ∙ c.in_err-heap.ensures.err)
+    (λ here. ap (g.H.Hall.state c.hold.new.hall).taken here.1 ∙ c.in_err-heap.ensures.err)
     (λ other. c.hold.ensures.taken number other.1) (eqb_tells number c.args.place.now.index)
 
 pub returns-in_err-heap-clause-home : goal.returns-in_err-heap-clause-home
@@ -33,12 +33,12 @@ returns-in_err-heap-clause-home g c = λ number few. c.in_err-heap.ensures.still
 
 pub allocate_held-given-requires-clause-serves : goal.allocate_held-given-requires-clause-serves
 allocate_held-given-requires-clause-serves g c =
-    subst (λ (who : ℕ). g.H.Hall.serves c.hold.new.hall who) (sym c.hold.ensures.same.me)
-    (g.met.H.Hall.goes_on_serves _ _ _ c.hold.ensures.goes_on c.requires.serves)
+    subst (λ (who : ℕ). (g.H.Hall.state c.hold.new.hall).serves who) (sym c.hold.ensures.same.me)
+    ((g.met.H.Hall.goes_on_later _ _ c.hold.ensures.goes_on).serves _ c.requires.serves)
 
 pub allocate_held-given-requires-clause-me : goal.allocate_held-given-requires-clause-me
 allocate_held-given-requires-clause-me g c =
-    omega (arith, g.met.H.Hall.goes_on_count _ _ c.hold.ensures.goes_on, c.hold.ensures.same.me, c.requires.me)
+    omega (arith, (g.met.H.Hall.goes_on_later _ _ c.hold.ensures.goes_on).count, c.hold.ensures.same.me, c.requires.me)
 
 pub allocate_held-given-requires-clause-free : goal.allocate_held-given-requires-clause-free
 allocate_held-given-requires-clause-free g c =
@@ -54,22 +54,22 @@ pub allocate_held-given-requires-clause-tied : goal.allocate_held-given-requires
 allocate_held-given-requires-clause-tied g c =
     let hall = c.hold.new.hall in
     let party = c.hold.new.self in
-    subst (λ (who : ℕ). IsTied (g.H.Hall.seen hall who) (g.H.Hall.own hall who) party.joined party.maps) (sym c.hold.ensures.same.me)
+    subst (λ (who : ℕ). IsTied ((g.H.Hall.state hall).seen who) ((g.H.Hall.state hall).own who) party.joined party.maps) (sym c.hold.ensures.same.me)
     c.hold.ensures.tied
 
 pub allocate_held-given-requires-clause-in_hand : goal.allocate_held-given-requires-clause-in_hand
 allocate_held-given-requires-clause-in_hand g c =
     let hall = c.hold.new.hall in
     let party = c.hold.new.self in
-    subst (λ (who : ℕ). IsInHand (g.H.Hall.taken hall)
-    (at g.H.Hall.count g.H.Hall.did g.H.Hall.part g.H.Hall.seen g.H.Hall.heard hall who party) c.in_ok-heap.heap)
+    subst (λ (who : ℕ). IsInHand (g.H.Hall.state hall).taken
+    (moment who party (g.H.Hall.state hall)) c.in_ok-heap.heap)
     (sym c.hold.ensures.same.me) c.in_ok-heap.ensures.in_hand
 
 pub allocate_held-given-requires-clause-settled : goal.allocate_held-given-requires-clause-settled
 allocate_held-given-requires-clause-settled g c =
     let hall = c.hold.new.hall in
     let party = c.hold.new.self in
-    subst (λ (who : ℕ). AreSettled (at g.H.Hall.count g.H.Hall.did g.H.Hall.part g.H.Hall.seen g.H.Hall.heard hall who party))
+    subst (λ (who : ℕ). AreSettled (moment who party (g.H.Hall.state hall)))
     (sym c.hold.ensures.same.me) c.in_ok-heap.ensures.settled
 
 pub allocate_held-given-requires-clause-its : goal.allocate_held-given-requires-clause-its
@@ -89,17 +89,17 @@ allocate_held-given-requires-clause-of_socket g c =
 pub put-requires-clause-serves : goal.put-requires-clause-serves
 put-requires-clause-serves g c =
     let party = c.hold.new.self in
-    subst (λ (who : ℕ). g.H.Hall.serves c.allocate_held-given.new.hall who)
+    subst (λ (who : ℕ). (g.H.Hall.state c.allocate_held-given.new.hall).serves who)
     (sym (c.allocate_held-given.ensures.same.me ∙ c.hold.ensures.same.me))
-    (g.met.H.Hall.goes_on_serves _ _ _ c.allocate_held-given.ensures.goes_on
-    (g.met.H.Hall.goes_on_serves _ _ _ c.hold.ensures.goes_on c.requires.serves))
+    ((g.met.H.Hall.goes_on_later _ _ c.allocate_held-given.ensures.goes_on).serves _
+    ((g.met.H.Hall.goes_on_later _ _ c.hold.ensures.goes_on).serves _ c.requires.serves))
 
 pub put-requires-clause-in_hand : goal.put-requires-clause-in_hand
 put-requires-clause-in_hand g c =
     let hall = c.allocate_held-given.new.hall in
     let party = c.allocate_held-given.new.self in
-    subst (λ (who : ℕ). IsInHand (g.H.Hall.taken hall)
-    (at g.H.Hall.count g.H.Hall.did g.H.Hall.part g.H.Hall.seen g.H.Hall.heard hall who party) c.allocate_held-given.new.heap)
+    subst (λ (who : ℕ). IsInHand (g.H.Hall.state hall).taken
+    (moment who party (g.H.Hall.state hall)) c.allocate_held-given.new.heap)
     (sym c.allocate_held-given.ensures.same.me) c.allocate_held-given.ensures.in_hand
 
 pub returns-clause-does : goal.returns-clause-does
@@ -118,36 +118,32 @@ returns-clause-does g c =
     let heap = c.in_ok-heap.heap in
     let left = c.allocate_held-given.new.heap in
     let pools = old.context.pools in
-    let here_count = g.met.H.Hall.goes_on_count _ _ c.hold.ensures.goes_on in
-    let there_count = g.met.H.Hall.goes_on_count _ _ c.allocate_held-given.ensures.goes_on ∙ here_count in
+    let here_count = (g.met.H.Hall.goes_on_later _ _ c.hold.ensures.goes_on).count in
+    let there_count = (g.met.H.Hall.goes_on_later _ _ c.allocate_held-given.ensures.goes_on).count ∙ here_count in
     let mine = c.hold.ensures.same.me in
     if_ok _ _ c.allocate_held-given.result (λ given tried heaps.
     let doing = trying pools request tag (named_heap place ∷ heaps) in
     let otherwise = trying pools request tag heaps in
-    let tries : Tries place.index (g.H.Hall.count first) (g.H.Hall.did second third me) doing otherwise given
-    (in_hand heap (at g.H.Hall.count g.H.Hall.did g.H.Hall.part g.H.Hall.seen g.H.Hall.heard second me mid))
-    (in_hand left (at g.H.Hall.count g.H.Hall.did g.H.Hall.part g.H.Hall.seen g.H.Hall.heard third me new)) =
-    subst (λ (pools : List PoolLine). Tries place.index (g.H.Hall.count first) (g.H.Hall.did second third me)
+    let tries : Tries place.index (g.H.Hall.state first).count (did_in me (g.H.Hall.state second) (g.H.Hall.state third)) doing otherwise given
+    (in_hand heap (moment me mid (g.H.Hall.state second)))
+    (in_hand left (moment me new (g.H.Hall.state third))) =
+    subst (λ (pools : List PoolLine). Tries place.index (g.H.Hall.state first).count (did_in me (g.H.Hall.state second) (g.H.Hall.state third))
     (trying pools request tag (named_heap place ∷ heaps)) (trying pools request tag heaps) given
-    (in_hand heap (at g.H.Hall.count g.H.Hall.did g.H.Hall.part g.H.Hall.seen g.H.Hall.heard second me mid))
-    (in_hand left (at g.H.Hall.count g.H.Hall.did g.H.Hall.part g.H.Hall.seen g.H.Hall.heard third me new)))
+    (in_hand heap (moment me mid (g.H.Hall.state second)))
+    (in_hand left (moment me new (g.H.Hall.state third))))
     (ap (λ (context : Context). context.pools) c.hold.ensures.same.context)
-    (told_alike g.H.Hall.count g.H.Hall.did g.H.Hall.part g.H.Hall.seen g.H.Hall.heard
-    (λ count did before behind. Tries place.index count did (trying mid.context.pools request tag (named_heap place ∷ heaps))
-    (trying mid.context.pools request tag heaps) given before behind)
-    (g.H.Hall.count second) (g.H.Hall.count first) second third mid.me me (in_hand heap) (in_hand left) mid new mine here_count (tried heaps)) in
+    (told_alike (λ count did before behind. Tries place.index count did (trying mid.context.pools request tag (named_heap place ∷ heaps))
+    (trying mid.context.pools request tag heaps) given before behind) (g.H.Hall.state second).count (g.H.Hall.state first).count (g.H.Hall.state second) (g.H.Hall.state third) mid.me me (in_hand heap) (in_hand left) mid new mine here_count (tried heaps)) in
     let gone = unless_answered otherwise given in
-    let back : Does (g.H.Hall.count first) (g.H.Hall.did third last me) gone gone
-    (in_hand left (at g.H.Hall.count g.H.Hall.did g.H.Hall.part g.H.Hall.seen g.H.Hall.heard third me new))
-    (at g.H.Hall.count g.H.Hall.did g.H.Hall.part g.H.Hall.seen g.H.Hall.heard last me new) =
-    told_alike g.H.Hall.count g.H.Hall.did g.H.Hall.part g.H.Hall.seen g.H.Hall.heard
-    (λ count did before behind. Does count did gone gone before behind)
-    (g.H.Hall.count third) (g.H.Hall.count first) third last new.me me (in_hand left) (λ moment. moment) new new
+    let back : Does (g.H.Hall.state first).count (did_in me (g.H.Hall.state third) (g.H.Hall.state last)) gone gone
+    (in_hand left (moment me new (g.H.Hall.state third)))
+    (moment me new (g.H.Hall.state last)) =
+    told_alike (λ count did before behind. Does count did gone gone before behind) (g.H.Hall.state third).count (g.H.Hall.state first).count (g.H.Hall.state third) (g.H.Hall.state last) new.me me (in_hand left) (λ moment. moment) new new
     (c.allocate_held-given.ensures.same.me ∙ mine) there_count (c.put.ensures.does gone) in
-    tries_passed (g.H.Hall.count first) (g.H.Hall.did first third me) (g.H.Hall.did third last me) (g.H.Hall.did first last me) doing otherwise
-    given place.index _ _ _ (g.met.H.Hall.did_then first third last me)
-    (tries_then (g.H.Hall.count first) (g.H.Hall.did first second me) (g.H.Hall.did second third me) (g.H.Hall.did first third me) doing doing
-    _ _ _ (g.met.H.Hall.did_then first second third me) otherwise given place.index (c.in_ok-heap.ensures.did doing) tries)
+    tries_passed (g.H.Hall.state first).count (did_in me (g.H.Hall.state first) (g.H.Hall.state third)) (did_in me (g.H.Hall.state third) (g.H.Hall.state last)) (did_in me (g.H.Hall.state first) (g.H.Hall.state last)) doing otherwise
+    given place.index _ _ _ (did_then)
+    (tries_then (g.H.Hall.state first).count (did_in me (g.H.Hall.state first) (g.H.Hall.state second)) (did_in me (g.H.Hall.state second) (g.H.Hall.state third)) (did_in me (g.H.Hall.state first) (g.H.Hall.state third)) doing doing
+    _ _ _ (did_then) otherwise given place.index (c.in_ok-heap.ensures.did doing) tries)
     back refl) c.allocate_held-given.ensures.does
 
 pub returns-clause-ready : goal.returns-clause-ready
@@ -158,12 +154,12 @@ returns-clause-ready g c =
     let mine = c.allocate_held-given.ensures.same.me in
     let whole = mine ∙ c.hold.ensures.same.me in
     on_ok_then c.allocate_held-given.result
-    (AreSettled (at g.H.Hall.count g.H.Hall.did g.H.Hall.part g.H.Hall.seen g.H.Hall.heard hall c.hold.new.self.me new))
-    (MayDo (at g.H.Hall.count g.H.Hall.did g.H.Hall.part g.H.Hall.seen g.H.Hall.heard last c.args.self.now.me new))
+    (AreSettled (moment c.hold.new.self.me new (g.H.Hall.state hall)))
+    (MayDo (moment c.args.self.now.me new (g.H.Hall.state last)))
     (λ settled.
-    subst (λ (who : ℕ). MayDo (at g.H.Hall.count g.H.Hall.did g.H.Hall.part g.H.Hall.seen g.H.Hall.heard last who new)) whole
+    subst (λ (who : ℕ). MayDo (moment who new (g.H.Hall.state last))) whole
     (c.put.ensures.ready
-    (subst (λ (who : ℕ). AreSettled (at g.H.Hall.count g.H.Hall.did g.H.Hall.part g.H.Hall.seen g.H.Hall.heard hall who new)) (sym mine) settled)))
+    (subst (λ (who : ℕ). AreSettled (moment who new (g.H.Hall.state hall))) (sym mine) settled)))
     c.allocate_held-given.ensures.settled
 
 pub returns-clause-tied : goal.returns-clause-tied
@@ -172,9 +168,9 @@ returns-clause-tied g c =
     let hall = c.allocate_held-given.new.hall in
     let last = c.put.new.hall in
     let mine = c.allocate_held-given.ensures.same.me in
-    subst (λ (who : ℕ). IsTied (g.H.Hall.seen last who) (g.H.Hall.own last who) new.joined new.maps) (mine ∙ c.hold.ensures.same.me)
+    subst (λ (who : ℕ). IsTied ((g.H.Hall.state last).seen who) ((g.H.Hall.state last).own who) new.joined new.maps) (mine ∙ c.hold.ensures.same.me)
     (c.put.ensures.tied
-    (subst (λ (who : ℕ). IsTied (g.H.Hall.seen hall who) (g.H.Hall.own hall who) new.joined new.maps) (sym mine)
+    (subst (λ (who : ℕ). IsTied ((g.H.Hall.state hall).seen who) ((g.H.Hall.state hall).own who) new.joined new.maps) (sym mine)
     c.allocate_held-given.ensures.tied))
 
 pub returns-clause-same : goal.returns-clause-same
@@ -195,7 +191,7 @@ returns-clause-free g c = λ number.
     let its = c.allocate_held-given.ensures.index in
     let index = its ∙ c.in_ok-heap.ensures.index in
     ⊎_elim
-    (λ here. ap (g.H.Hall.taken c.put.new.hall) here.1 ∙ c.put.ensures.taken)
+    (λ here. ap (g.H.Hall.state c.put.new.hall).taken here.1 ∙ c.put.ensures.taken)
     (λ other.
     c.put.ensures.others number other.1 ∙ c.allocate_held-given.ensures.taken number
     ∙ c.hold.ensures.taken number (λ same. other.1 (same ∙ sym index)))
@@ -205,7 +201,7 @@ pub returns-clause-home : goal.returns-clause-home
 returns-clause-home g c = λ number few.
     let index = c.allocate_held-given.ensures.index ∙ c.in_ok-heap.ensures.index in
     ⊎_elim
-    (λ here. subst (λ (number : ℕ). g.H.Hall.may_take c.put.new.hall number) (sym here.1) c.put.ensures.home)
+    (λ here. subst (λ (number : ℕ). (g.H.Hall.state c.put.new.hall).may_take number) (sym here.1) c.put.ensures.home)
     (λ other.
     c.put.ensures.home_of_others number other.1
     (c.allocate_held-given.ensures.home number (c.hold.ensures.home number few (λ same. other.1 (same ∙ sym index)))))

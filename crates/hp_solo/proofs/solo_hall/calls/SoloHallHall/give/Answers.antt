@@ -1,5 +1,5 @@
 use Rattle.std.proofs.Common.{subst, sym}
-use Rattle.hp_hall.proofs.Given.{known}
+use Rattle.hp_plain.proofs.Given.{known}
 use Rattle.hp_hall.specs.Giving.{IsGiveOf}
 use Rattle.hp_hall.specs.Mail.{Gives}
 use Rattle.hp_hall.specs.Slots.{slot_number}

@@ -1,5 +1,5 @@
 -- Those on one side have served, and then that was noted.
-use Rattle.hp_hall.specs.Course.{course_then}
+use Rattle.hp_plain.specs.Course.{course_then}
 use Rattle.hp_solo.specs.SoloCourse.{later_then}
 use Rattle.hp_solo.proofs.Sequenced.{yielded}
 use Rattle.hp_solo.proofs.solo_hall.waiting.SoloHallWaiting.others.Goals as goal

@@ -1,8 +1,8 @@
 -- The clock stands, or jumps to a deadline that is still to come, and that is noted.
 use Rattle.std.proofs.Common.{ap, ◌∙◌, arith}
 use Rattle.hp_hall.proofs.Pending.{pending_falls}
-use Rattle.hp_hall.specs.HallSteps.{after_pause}
-use Rattle.hp_hall.specs.HallView.{HallView}
+use Rattle.hp_plain.specs.HallSteps.{after_pause}
+use Rattle.hp_plain.specs.HallView.{HallView}
 use Rattle.hp_hall.specs.Mail.{Notes}
 use Rattle.hp_hall.specs.declared.note.Note.TheVariants.{Paused}
 use Rattle.hp_solo.specs.Solo.{SoloView}

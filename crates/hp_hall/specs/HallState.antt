@@ -1,0 +1,130 @@
+-- A hall as its callers see it, and what stays of it from one state to a later one: the rule "Halls" of docs/PARTICIPANTS.md.
+use Rattle.std.specs.Prelude.{◌≡◌, ◌≢◌, ℕ, ◌<◌, ◌≤◌, Bool, true, List, ◌++◌, Option, None}
+use Rattle.hp_base.specs.declared.limits.TheConstants.{MAX_HEAPS}
+use Rattle.hp_log.specs.declared.log_record.LogRecord.{LogRecord}
+use Rattle.hp_segs.specs.declared.outcome.AskLog.{AskLog}
+use Rattle.hp_hall.specs.declared.kept.Kept.{Kept}
+use Rattle.hp_hall.specs.Giving.{Knows}
+use Rattle.hp_hall.specs.Holding.{HeapPart}
+use Rattle.hp_hall.specs.Mail.{MailStep}
+use Rattle.hp_hall.specs.Own.{Own}
+
+-- what a participant knows of another: its number
+pub record Noted : Type 0 where
+  pub number : ℕ
+
+-- slots go by their numbers
+pub record HallState : Type 1 where
+  -- how many participants there are
+  pub count : ℕ
+  -- whose calls the hall takes: a hall of plain values those of all, a seat at a board those of one
+  pub serves : ℕ → Type 0
+  -- the value that is out of a slot, as it was taken
+  pub taken : ℕ → Option Kept
+  -- a slot may be taken without a try: over plain values, where its value is there
+  pub may_take : ℕ → Type 0
+  -- a slot was found held, with that lock word; plain values are held by nobody else
+  pub found : ℕ → ℕ → Type 0
+  -- a participant's part in the heap of an index, beside which stands the ask with which it armed itself last
+  pub part : ℕ → ℕ → HeapPart
+  -- a participant is in the roster, by the segment value that it gave back last
+  pub joined : ℕ → Bool
+  -- a participant's own part: its number, and up to which record it has unmapped
+  pub own : ℕ → Own
+  -- all that a participant did; a seat knows that of its own participant
+  pub done : ℕ → List MailStep
+  -- what a participant has seen of the log and of the logged outcomes
+  pub seen : ℕ → List LogRecord
+  pub heard : ℕ → List AskLog
+  -- what a participant knows of another
+  pub noted : ℕ → ℕ → Noted
+  -- how often a mailbox was full
+  pub fulls : ℕ
+  -- one of those who serve in the hall has met a refusal of memory
+  pub stopped : Bool
+  -- the number that falls, beside the deadlines that are pending
+  pub weight : ℕ
+  -- the clock of one thread; threads have none in common, and there it stands still
+  pub clock : ℕ
+
+-- what is known of another later on: its number does not fall
+pub record IsNotedLater (old new : Noted) : Type 0 where
+  pub number : old.number ≤ new.number
+
+-- later on: the same participants, whoever was served is, what was seen, noted and counted grows, and who stopped has
+pub record IsLater (old new : HallState) : Type 0 where
+  pub count : new.count ≡ old.count
+  pub serves : (who : ℕ) → old.serves who → new.serves who
+  pub seen : (who : ℕ) → (more : List LogRecord) × (new.seen who ≡ old.seen who ++ more)
+  pub heard : (who : ℕ) → (more : List AskLog) × (new.heard who ≡ old.heard who ++ more)
+  pub noted : (who other : ℕ) → IsNotedLater (old.noted who other) (new.noted who other)
+  pub fulls : old.fulls ≤ new.fulls
+  pub stopped : old.stopped ≡ true → new.stopped ≡ true
+
+-- what is out of the slots stays, and what may be taken may be still
+pub record SlotsStay (old new : HallState) : Type 0 where
+  pub taken : (number : ℕ) → new.taken number ≡ old.taken number
+  pub home : (number : ℕ) → old.may_take number → new.may_take number
+
+-- so it is with all slots but one
+pub record SlotsStayBut (slot : ℕ) (old new : HallState) : Type 0 where
+  pub taken : (number : ℕ) → number ≢ slot → new.taken number ≡ old.taken number
+  pub home : (number : ℕ) → number ≢ slot → old.may_take number → new.may_take number
+
+-- a participant's parts in the heaps stay, and whether it is in the roster
+pub record PartsStay (me : ℕ) (old new : HallState) : Type 0 where
+  pub part : (heap : ℕ) → new.part me heap ≡ old.part me heap
+  pub joined : new.joined me ≡ old.joined me
+
+-- so does its own part
+pub record MineStay (me : ℕ) (old new : HallState) : Type 0 where
+  pub parts : PartsStay me old new
+  pub own : new.own me ≡ old.own me
+
+-- nobody but a participant did anything, the clock stands, and the rest is later on
+pub record OthersStay (me : ℕ) (old new : HallState) : Type 0 where
+  pub part : (who heap : ℕ) → who ≢ me → new.part who heap ≡ old.part who heap
+  pub joined : (who : ℕ) → who ≢ me → new.joined who ≡ old.joined who
+  pub own : (who : ℕ) → who ≢ me → new.own who ≡ old.own who
+  pub done : (who : ℕ) → who ≢ me → new.done who ≡ old.done who
+  pub clock : new.clock ≡ old.clock
+  pub later : IsLater old new
+
+-- a participant made these steps
+pub record Did (me : ℕ) (steps : List MailStep) (old new : HallState) : Type 0 where
+  pub made : new.done me ≡ old.done me ++ steps
+
+-- a participant did something that leaves slots and parts
+pub record Stays (me : ℕ) (old new : HallState) : Type 0 where
+  pub slots : SlotsStay old new
+  pub mine : MineStay me old new
+  pub others : OthersStay me old new
+
+-- it waited, while others did what they do: slots and its parts in heaps stay, and the rest is later on
+pub record Waits (me : ℕ) (old new : HallState) : Type 0 where
+  pub slots : SlotsStay old new
+  pub parts : PartsStay me old new
+  pub later : IsLater old new
+
+-- a participant may serve: the hall takes its calls, and the segment value may be taken
+pub record MayServe (me : ℕ) (state : HallState) : Type 0 where
+  pub serves : state.serves me
+  pub declared : me < state.count
+  pub free : state.taken MAX_HEAPS ≡ None
+  pub home : state.may_take MAX_HEAPS
+
+-- some slot was found held
+abbrev pub IsBusy : HallState → Type 0
+IsBusy state = (slot word : ℕ) × state.found slot word
+
+-- what a participant knows
+abbrev pub known_to : ℕ → HallState → Knows
+known_to me state = record {
+  who = me;
+  taken = state.taken;
+  part = state.part me;
+  number = (state.own me).number;
+  noted = λ other. (state.noted me other).number;
+  seen = state.seen me;
+  heard = state.heard me;
+}

@@ -1,6 +1,0 @@
-use Rattle.std.proofs.Common.{◌≡◌, length}
-use Rattle.hp_hall.specs.Opening.{AreHome}
-use Rattle.hp_hall_tests.proofs.tests.steps.do_steps.Given as goal
-
-abbrev pub invariant-loop-place : goal.invariant-loop-place
-invariant-loop-place l = (length l.hall.owns ≡ 2) × AreHome l.hall

@@ -1,0 +1,170 @@
+-- What the trait says of a give, over what it leaves: the giver's part and the parts of the others.
+use Rattle.std.proofs.Common.{◌≡◌, ◌≢◌, ℕ, Bool, true, false, ne_eqb, List, [], Option, Some, None, refl, sym, ap, subst, ◌∙◌, if◌then◌else◌}
+use Rattle.std.specs.Option.{option_map}
+use Rattle.std.proofs.lemmas.Bool.{eqb-true}
+use Rattle.std.proofs.lemmas.Option.{same_Some}
+use Rattle.hp_base.specs.declared.limits.TheConstants.{MAX_HEAPS}
+use Rattle.hp_heap.specs.declared.entry.Entry.{Entry}
+use Rattle.hp_heap.specs.History.{HeapView, entries_of}
+use Rattle.hp_segs.specs.LaterSteps.{armed_ask}
+use Rattle.hp_segs.specs.SegsView.{SegsView}
+use Rattle.hp_segs.specs.Sound.{IsSound}
+use Rattle.hp_segs.specs.declared.ask.Ask.{Ask}
+use Rattle.hp_hall.specs.declared.kept.Kept.{Kept}
+use Rattle.hp_hall.specs.declared.kept.Kept.TheVariants.{Heap, Segments}
+use Rattle.hp_hall.specs.Giving.{GivesFor}
+use Rattle.hp_plain.specs.HallSteps.{heap_slot, home_slot}
+use Rattle.hp_plain.specs.HallView.{HallView, IsHall, SlotView, history_in, is_held_by, is_held_heap, is_joined, joined_in, part_in, part_of, segs_in, segs_of, serves_in, serves_of, slot_at}
+use Rattle.hp_hall.specs.Holding.{Holding, IsGivenAs, IsHeldWith, part_behind, standing_of}
+use Rattle.hp_hall.specs.Mail.{MailStep}
+use Rattle.hp_hall.specs.Values.{Fits, history_of, joined_behind}
+use Rattle.hp_hall.proofs.Formed.{asks_given, members_given, standing_given}
+use Rattle.hp_plain.proofs.Given.{known, same_for_others}
+use Rattle.hp_plain.proofs.Slotted.{MovesSlot, read_alike}
+use Rattle.hp_plain.proofs.Taking.{part_apart, part_by, parts_still, segs_still}
+
+-- what one participant holds no other does
+apart_by : (who other : ℕ) (kept : Kept) (holder : Option ℕ) → other ≢ who → is_held_heap who kept holder ≡ true
+    → is_held_heap other kept holder ≡ false
+apart_by who other (Heap heap) None apart held = cc
+apart_by who other (Heap heap) (Some holder) apart held = ne_eqb holder other (λ same. apart (sym same ∙ eqb-true holder who held))
+apart_by who other (Segments segs) holder apart held = cc
+
+held_apart : (who other : ℕ) (slot : Option SlotView) → other ≢ who → is_held_by who slot ≡ true → is_held_by other slot ≡ false
+held_apart who other None apart held = cc
+held_apart who other (Some slot) apart held = apart_by who other slot.kept slot.holder apart held
+
+-- who gives a heap with its pages holds it
+is_held : (heap : HeapView) (holding : Option Holding) (held : Bool) → IsHeldWith heap (if held then holding else None) → held ≡ true
+is_held heap holding true is = refl
+is_held heap holding false is = absurd is
+
+module _ (me number : ℕ) (before : SlotView) (step : MailStep) (old new : HallView) (hall : IsHall old) (there : slot_at old number ≡ Some before) where
+  module _ (was kept : HeapView) (is : before.kept ≡ Heap was) (fits : Fits number (Heap kept))
+      (gives : GivesFor (known old me) (Some (Heap was)) (Heap kept)) (moves : MovesSlot number (heap_slot kept) me step old new) where
+    same_segs : segs_in (slot_at new MAX_HEAPS) ≡ segs_in (slot_at old MAX_HEAPS)
+    same_segs = segs_still number (heap_slot kept) me step old new moves (sym (ap segs_in there ∙ ap segs_of is))
+
+    heap_part : IsGivenAs me (Heap kept) (part_in old me) (part_in new me)
+    heap_part =
+        let index = kept.plain.index in
+        let at : slot_at new index ≡ Some (heap_slot kept) = ap (slot_at new) fits.0 ∙ moves.here in (
+          ap (λ (s : Option SlotView). part_of me index s (segs_in (slot_at new MAX_HEAPS))) at ∙ ap (part_of me index (Some (heap_slot kept))) same_segs
+              ∙ ap (λ (serves : Option ℕ). part_by me index (entries_of me kept.history) serves (segs_in (slot_at old MAX_HEAPS)) false)
+              (gives.serves ∙ sym (ap (λ (n : ℕ). serves_in (slot_at old n)) fits.0 ∙ ap serves_in there ∙ ap serves_of is)),
+          λ other apart. part_apart number (heap_slot kept) me step old new moves me same_segs other (λ same. apart (same ∙ sym fits.0)),
+        )
+
+    -- the slot's heap was held by the giver
+    held_here : is_held_by me (Some before) ≡ true
+    held_here =
+        let index = kept.plain.index in
+        sym (ap (is_held_by me) (ap (slot_at old) fits.0 ∙ there))
+        ∙ is_held kept (option_map (standing_of index) (segs_in (slot_at old MAX_HEAPS))) (is_held_by me (slot_at old index)) gives.held
+
+    heap_alike : (who heap : ℕ) (segs : Option SegsView) → who ≢ me
+        → part_of who heap (Some (heap_slot kept)) segs ≡ part_of who heap (slot_at old number) segs
+    heap_alike who heap segs apart =
+        ap (λ (entries : List Entry). part_by who heap entries kept.plain.serves segs false)
+        (same_for_others (known old me) (Heap was) (Heap kept) who apart gives ∙ ap (λ (k : Kept). entries_of who (history_of k)) (sym is))
+        ∙ ap (λ (serves : Option ℕ). part_by who heap (entries_of who (history_of before.kept)) serves segs false)
+        (gives.serves ∙ sym (ap serves_of is))
+        ∙ ap (part_by who heap (entries_of who (history_of before.kept)) (serves_of before.kept) segs) (sym (held_apart me who (Some before) apart held_here))
+        ∙ ap (λ (s : Option SlotView). part_of who heap s segs) (sym there)
+
+    heap_others : (who heap : ℕ) → who ≢ me → part_in new who heap ≡ part_in old who heap
+    heap_others who heap apart =
+        parts_still number (heap_slot kept) me step old new moves who same_segs (λ heap segs. heap_alike who heap segs apart) heap
+
+  module _ (was kept : SegsView) (is : before.kept ≡ Segments was) (fits : Fits number (Segments kept))
+      (gives : GivesFor (known old me) (Some (Segments was)) (Segments kept)) (moves : MovesSlot number (home_slot (Segments kept)) me step old new) where
+    segs_were : segs_in (slot_at old MAX_HEAPS) ≡ Some was
+    segs_were = ap (λ (n : ℕ). segs_in (slot_at old n)) (sym fits) ∙ ap segs_in there ∙ ap segs_of is
+
+    segs_are : segs_in (slot_at new MAX_HEAPS) ≡ Some kept
+    segs_are = ap (λ (n : ℕ). segs_in (slot_at new n)) (sym fits) ∙ ap segs_in moves.here
+
+    -- the slots are as they were, as far as a part reads them
+    part_now : (who heap : ℕ) → part_in new who heap ≡ part_of who heap (slot_at old heap) (Some kept)
+    part_now who heap =
+        ap (part_of who heap (slot_at new heap)) segs_are
+        ∙ read_alike (λ (s : Option SlotView). part_of who heap s (Some kept)) number (home_slot (Segments kept)) old new moves.here moves.elsewhere
+        (sym (ap (λ (s : Option SlotView). part_of who heap s (Some kept)) there
+        ∙ ap (λ (k : Kept). part_by who heap (entries_of who (history_of k)) (serves_of k) (Some kept) (is_held_heap who k before.holder)) is)) heap
+
+    behind_by : (who heap : ℕ) (slot : Option SlotView) (held : Bool)
+        → part_by who heap (entries_of who (history_in slot)) (serves_in slot) (Some kept) held
+        ≡ part_behind who kept heap (part_by who heap (entries_of who (history_in slot)) (serves_in slot) (Some was) held)
+    behind_by who heap slot true = refl
+    behind_by who heap slot false = refl
+
+    segs_part : IsGivenAs me (Segments kept) (part_in old me) (part_in new me)
+    segs_part heap =
+        part_now me heap ∙ behind_by me heap (slot_at old heap) (is_held_by me (slot_at old heap))
+        ∙ ap (λ (s : Option SegsView). part_behind me kept heap (part_of me heap (slot_at old heap) s)) (sym segs_were)
+
+    -- what nobody but a holder knows stays
+    stays_by : (who heap : ℕ) (slot : Option SlotView) (held : Bool) → armed_ask kept who ≡ armed_ask was who
+        → (held ≡ true → standing_of heap kept ≡ standing_of heap was)
+        → part_by who heap (entries_of who (history_in slot)) (serves_in slot) (Some kept) held ≡ part_by who heap (entries_of who (history_in slot)) (serves_in slot) (Some was) held
+    stays_by who heap slot true armed stays =
+        ap (λ (holding : Holding). record (part_by who heap (entries_of who (history_in slot)) (serves_in slot) (Some kept) true) { holding = Some holding }) (stays refl)
+        ∙ ap (λ (ask : Option Ask). record (part_by who heap (entries_of who (history_in slot)) (serves_in slot) (Some was) true) { armed = ask }) armed
+    stays_by who heap slot false armed stays =
+        ap (λ (ask : Option Ask). record (part_by who heap (entries_of who (history_in slot)) (serves_in slot) (Some was) false) { armed = ask }) armed
+
+    segs_others : (who heap : ℕ) → who ≢ me → part_in new who heap ≡ part_in old who heap
+    segs_others who heap apart =
+        let sound : IsSound was = subst IsSound (same_Some hall.segs was (sym hall.there ∙ segs_were)) hall.sound in
+        part_now who heap
+        ∙ stays_by who heap (slot_at old heap) (is_held_by who (slot_at old heap)) (asks_given (known old me) was kept gives.form who apart) (λ held.
+        standing_given (known old me) was kept sound gives.form heap
+        (ap (λ (b : Bool). (part_by me heap [] None (segs_in (slot_at old MAX_HEAPS)) b).holding)
+        (held_apart who me (slot_at old heap) (λ same. apart (sym same)) held)))
+        ∙ ap (part_of who heap (slot_at old heap)) (sym segs_were)
+
+  module _ (kept : Kept) (fits : Fits number kept) (moves : MovesSlot number (home_slot kept) me step old new) where
+    given_by : (was value : Kept) → before.kept ≡ was → kept ≡ value → GivesFor (known old me) (Some was) value
+        → IsGivenAs me value (part_in old me) (part_in new me) × ((who heap : ℕ) → who ≢ me → part_in new who heap ≡ part_in old who heap)
+    given_by (Heap was) (Heap value) is same gives =
+        let fit = subst (Fits number) same fits in
+        let move = subst (λ (k : Kept). MovesSlot number (home_slot k) me step old new) same moves in
+        (heap_part was value is fit gives move, heap_others was value is fit gives move)
+    given_by (Heap was) (Segments value) is same gives = absurd gives
+    given_by (Segments was) (Heap value) is same gives = absurd gives
+    given_by (Segments was) (Segments value) is same gives =
+        let fit = subst (Fits number) same fits in
+        let move = subst (λ (k : Kept). MovesSlot number (home_slot k) me step old new) same moves in
+        (segs_part was value is fit gives move, segs_others was value is fit gives move)
+
+    pub part_given : GivesFor (known old me) (Some before.kept) kept → IsGivenAs me kept (part_in old me) (part_in new me)
+    part_given gives = (given_by before.kept kept refl refl gives).0
+
+    pub others_given : GivesFor (known old me) (Some before.kept) kept → (who heap : ℕ) → who ≢ me → part_in new who heap ≡ part_in old who heap
+    others_given gives = (given_by before.kept kept refl refl gives).1
+
+    joined_by : (was value : Kept) → before.kept ≡ was → kept ≡ value → GivesFor (known old me) (Some was) value
+        → (joined_in new me ≡ joined_behind me value (joined_in old me)) × ((who : ℕ) → who ≢ me → joined_in new who ≡ joined_in old who)
+    joined_by (Heap was) (Heap value) is same gives =
+        let fit = subst (Fits number) same fits in
+        let move = subst (λ (k : Kept). MovesSlot number (home_slot k) me step old new) same moves in
+        let segs = same_segs was value is fit gives move in
+        (ap (is_joined me) segs, λ who apart. ap (is_joined who) segs)
+    joined_by (Heap was) (Segments value) is same gives = absurd gives
+    joined_by (Segments was) (Heap value) is same gives = absurd gives
+    joined_by (Segments was) (Segments value) is same gives =
+        let fit = subst (Fits number) same fits in
+        let move = subst (λ (k : Kept). MovesSlot number (home_slot k) me step old new) same moves in
+        let now = segs_are was value is fit gives move in
+        let before = segs_were was value is fit gives move in (
+          ap (is_joined me) now,
+          λ who apart.
+              ap (is_joined who) now ∙ members_given (known old me) was value gives.form who apart ∙ sym (ap (is_joined who) before),
+        )
+
+    -- the giver is in the roster as the value says, and the others as they were
+    pub joined_given : GivesFor (known old me) (Some before.kept) kept → joined_in new me ≡ joined_behind me kept (joined_in old me)
+    joined_given gives = (joined_by before.kept kept refl refl gives).0
+
+    pub others_joined : GivesFor (known old me) (Some before.kept) kept → (who : ℕ) → who ≢ me → joined_in new who ≡ joined_in old who
+    others_joined gives = (joined_by before.kept kept refl refl gives).1

@@ -1,0 +1,16 @@
+pub mod Agreeing
+pub mod Given
+pub mod Giver
+pub mod Halls
+pub mod Homes
+pub mod Mailed
+pub mod Opened
+pub mod Owned
+pub mod PlainStates
+pub mod Read
+pub mod Slotted
+pub mod Stepped
+pub mod Taking
+pub mod Walks
+mod WorkedKeeping
+mod WorkedMeters

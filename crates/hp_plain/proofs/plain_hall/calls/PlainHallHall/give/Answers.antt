@@ -1,0 +1,64 @@
+use Rattle.std.proofs.Common.{ℕ, refl, ap, subst, sym, arith}
+use Rattle.std.proofs.lemmas.Option.{slice_get_within}
+use Rattle.hp_hall.specs.Giving.{Knows}
+use Rattle.hp_plain.specs.HallSteps.{after_give, home_slot}
+use Rattle.hp_plain.specs.HallView.{IsHome, slot_at, taken_from}
+use Rattle.hp_hall.specs.Mail.{Gives, MailStep}
+use Rattle.hp_hall.specs.Slots.{slot_number}
+use Rattle.hp_hall.specs.Values.{Fits}
+use Rattle.hp_hall.specs.Weights.{boxes_weight}
+use Rattle.hp_plain.proofs.Agreeing.{agreed_given, given_by}
+use Rattle.hp_plain.proofs.Given.{IsGivenFor, given, known, later_given, still_fit}
+use Rattle.hp_plain.proofs.Giver.{joined_given, others_given, others_joined, part_given}
+use Rattle.hp_plain.proofs.Halls.{hall_given}
+use Rattle.hp_plain.proofs.PlainStates.{did_one, others_one, slots_one}
+use Rattle.hp_plain.proofs.Read.{has_asks, has_log}
+use Rattle.hp_plain.proofs.Slotted.{gave}
+use Rattle.hp_plain.proofs.plain_hall.calls.PlainHallHall.give.Goals as goal
+
+pub give_at-requires-clause-hall : goal.give_at-requires-clause-hall
+give_at-requires-clause-hall c =
+    let old = c.args.self.now in
+    let kept = c.args.kept in
+    let number : ℕ = slot_number c.args.slot in
+    let knows : Knows = known old c.args.me in
+    let was : IsGivenFor knows (slot_at old number) kept = given knows (slot_at old number) kept c.requires.gives in
+    let hall = c.sound.ensures in
+    let fits : Fits number kept = still_fit knows number was.before.kept kept (hall.fits number was.before was.there) was.gives in
+    hall_given c.args.me number old (after_give c.args.me number kept old) hall was.before was.before.kept kept refl was.there fits was.gives
+    c.sound-2.ensures (record { below = slice_get_within old.slots number was.before was.there; slots = refl; boxes = refl; owns = refl })
+
+pub returns : goal.returns
+returns c =
+    let old = c.args.self.now in
+    let new = c.give_at.new.self in
+    let me = c.args.me in
+    let kept = c.args.kept in
+    let number : ℕ = slot_number c.args.slot in
+    let knows : Knows = known old me in
+    let was : IsGivenFor knows (slot_at old number) kept = given knows (slot_at old number) kept c.requires.gives in
+    let before = was.before in
+    let step : MailStep = Gives number kept in
+    let hall = c.sound.ensures in
+    let fits : Fits number kept = still_fit knows number before.kept kept (hall.fits number before was.there) was.gives in
+    let later = later_given knows before.kept kept was.gives in
+    let by = given_by knows before.kept kept was.gives in
+    let agreed = agreed_given me number old hall before was.there kept fits was.gives in
+    let moves = gave old new me number c.requires.serves before kept was.there was.out later by c.sound-2.ensures agreed c.give_at.ensures in
+    record {
+      gave = record {
+        taken = ap taken_from moves.here;
+        home = subst IsHome (sym moves.here) refl;
+        part = part_given me number before step old new hall was.there kept fits moves was.gives;
+        joined = joined_given me number before step old new hall was.there kept fits moves was.gives;
+        own = moves.makes.own me;
+        log = has_log new number (home_slot kept) moves.here kept refl fits;
+        asks = has_asks new number (home_slot kept) moves.here kept refl fits;
+        did = did_one me step old new moves.makes;
+      };
+      slots = slots_one me step old new number (home_slot kept) moves;
+      others = others_one me step old new moves.makes (others_given me number before step old new hall was.there kept fits moves was.gives)
+          (others_joined me number before step old new hall was.there kept fits moves was.gives);
+      weight = omega (arith, ap boxes_weight moves.boxes);
+      goes_on = moves.makes.course;
+    }

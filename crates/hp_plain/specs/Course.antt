@@ -1,0 +1,215 @@
+-- The course of a hall of plain values: what later states keep of earlier ones, and that this joins. The rule "Halls" of
+-- docs/PARTICIPANTS.md.
+use Rattle.std.specs.Prelude.{◌≡◌, ℕ, Bool, ◌≤◌, ◌<◌, List, [], ◌∷◌, ◌++◌, length, Option, Some, None, refl, ⊤}
+use Rattle.std.proofs.Common.{sym, ap, subst, ◌∙◌, arith}
+use Rattle.std.proofs.lemmas.List.{append-nil, append_assoc}
+use Rattle.std.proofs.lemmas.List.Sums.{sum_by-append}
+use Rattle.hp_base.specs.declared.limits.TheConstants.{MAX_HEAPS}
+use Rattle.hp_frame.specs.declared.frame.Frame.{Frame}
+use Rattle.hp_heap.specs.declared.entry.Entry.{Entry}
+use Rattle.hp_heap.specs.History.{HeapView}
+use Rattle.hp_log.specs.declared.log_record.LogRecord.{LogRecord}
+use Rattle.hp_segs.specs.Moved.{SegsCall, Leads, after}
+use Rattle.hp_segs.specs.SegsView.{SegsView}
+use Rattle.hp_segs.specs.declared.outcome.AskLog.{AskLog}
+use Rattle.hp_hall.specs.declared.kept.Kept.{Kept}
+use Rattle.hp_hall.specs.declared.kept.Kept.TheVariants.{Heap, Segments}
+use Rattle.hp_plain.specs.HallView.{HallView, SlotView, slot_at, asks_in, heard_in, log_in, seen_in, own_at, HasDone}
+use Rattle.hp_plain.specs.InTurn.{AreTakenInTurn, homes_after, homes_in}
+use Rattle.hp_plain.specs.Keeping.{AreAgreed, IsKeptBy, values_after, values_in}
+use Rattle.hp_hall.specs.Mail.{MailStep, counted_on, full_post, steps_of}
+use Rattle.hp_plain.specs.Boxes.{IsMail, after_step, fulls_among}
+use Rattle.hp_plain.specs.Meters.{AreMetered, Meters, meters_in}
+use Rattle.hp_hall.specs.Values.{asks_of, log_of}
+
+-- a heap later on: it opened alike, and its history begins with the earlier one
+pub record IsLaterHeap (old new : HeapView) : Type 0 where
+  pub index : new.plain.index ≡ old.plain.index
+  pub serves : new.plain.serves ≡ old.plain.serves
+  pub more : List Entry
+  pub history : new.history ≡ old.history ++ more
+
+-- a segment value later on: it moved by calls under their conditions, and its log and its outcomes begin with the earlier ones
+pub record IsLaterSegs (old new : SegsView) : Type 0 where
+  pub calls : List SegsCall
+  pub leads : Leads calls old new
+  pub more : List LogRecord
+  pub log : new.log ≡ old.log ++ more
+  pub outcomes : List AskLog
+  pub asks : new.asks ≡ old.asks ++ outcomes
+
+abbrev pub IsLaterKept : Kept → Kept → Type 0
+IsLaterKept (Heap old) (Heap new) = IsLaterHeap old new
+IsLaterKept (Heap old) (Segments new) = ⊥
+IsLaterKept (Segments old) (Heap new) = ⊥
+IsLaterKept (Segments old) (Segments new) = IsLaterSegs old new
+
+-- a slot later on: its value is one of later on
+abbrev pub IsLater : Option SlotView → Option SlotView → Type 0
+IsLater None None = ⊤
+IsLater None (Some new) = ⊥
+IsLater (Some old) None = ⊥
+IsLater (Some old) (Some new) = IsLaterKept old.kept new.kept
+
+-- from one state of a hall to a later one: the same participants; each slot's value is one of later on; numbers and the clock do not fall;
+-- the mailboxes and the count of full ones, the values in the slots, the clock and the numbers are those that the steps made on the way
+-- leave, and by these each slot was taken and given back in turn; and granted records that all members have taken in stay so
+pub record IsCourse (old new : HallView) : Type 0 where
+  pub count : length new.owns ≡ length old.owns
+  pub slots : (number : ℕ) → IsLater (slot_at old number) (slot_at new number)
+  pub numbers : (who : ℕ) → (own_at old who).number ≤ (own_at new who).number
+  pub clock : old.clock ≤ new.clock
+  pub steps : List (ℕ × MailStep)
+  pub mail : new.mail ≡ old.mail ++ steps
+  pub fulls : new.fulls ≡ counted_on (fulls_among steps) old.fulls
+  pub boxes : IsMail steps old.boxes new.boxes
+  pub kept : IsKeptBy (length old.owns) steps (values_in old) (values_in new)
+  pub turns : AreTakenInTurn steps (homes_in old) (homes_in new)
+  pub meters : AreMetered steps (meters_in old) (meters_in new)
+  pub agreed : AreAgreed old → AreAgreed new
+
+leads_then : (first second : List SegsCall) (a b c : SegsView) → Leads first a b → Leads second b c → Leads (first ++ second) a c
+leads_then [] second a b c here next = subst (λ (x : SegsView). Leads second x c) here next
+leads_then (call ∷ calls) second a b c here next = (here.0, leads_then calls second (after call a) b c here.1 next)
+
+mail_then : (first second : List (ℕ × MailStep)) (a b c : List (List Frame)) → IsMail first a b → IsMail second b c
+    → IsMail (first ++ second) a c
+mail_then [] second a b c here next = subst (λ (x : List (List Frame)). IsMail second x c) here next
+mail_then (step ∷ steps) second a b c here next = (here.0, mail_then steps second (after_step step.0 step.1 a) b c here.1 next)
+
+values_then : (count : ℕ) (first second : List (ℕ × MailStep)) (a b c : List Kept) → IsKeptBy count first a b → IsKeptBy count second b c
+    → IsKeptBy count (first ++ second) a c
+values_then count [] second a b c here next = subst (λ (values : List Kept). IsKeptBy count second values c) here next
+values_then count (step ∷ steps) second a b c here next =
+    (here.0, values_then count steps second (values_after step.1 a) b c here.1 next)
+
+turns_then : (first second : List (ℕ × MailStep)) (a b c : List Bool) → AreTakenInTurn first a b → AreTakenInTurn second b c
+    → AreTakenInTurn (first ++ second) a c
+turns_then [] second a b c here next = subst (λ (homes : List Bool). AreTakenInTurn second homes c) here next
+turns_then (step ∷ steps) second a b c here next = (here.0, turns_then steps second (homes_after step.1 a) b c here.1 next)
+
+meters_then : (first second : List (ℕ × MailStep)) (a b c : Meters) → AreMetered first a b → AreMetered second b c
+    → AreMetered (first ++ second) a c
+meters_then [] second a b c here next = subst (λ (meters : Meters). AreMetered second meters c) here next
+meters_then (step ∷ steps) second a b c here next = (here.0, here.1, meters_then steps second here.0 b c here.2 next)
+
+-- two lists that each go on from the one before
+goes_on_by : {X : Type 0} (a b c first second : List X) → b ≡ a ++ first → c ≡ b ++ second → c ≡ a ++ (first ++ second)
+goes_on_by a b c first second here next = next ∙ ap (λ x. x ++ second) here ∙ append_assoc a first second
+
+pub kept_same : (kept : Kept) → IsLaterKept kept kept
+kept_same (Heap heap) = record { index = refl; serves = refl; more = []; history = sym (append-nil heap.history) }
+kept_same (Segments segs) = record {
+  calls = [];
+  leads = refl;
+  more = [];
+  log = sym (append-nil segs.log);
+  outcomes = [];
+  asks = sym (append-nil segs.asks);
+}
+
+pub slot_same : (slot : Option SlotView) → IsLater slot slot
+slot_same None = tt
+slot_same (Some slot) = kept_same slot.kept
+
+kept_then : (a b c : Kept) → IsLaterKept a b → IsLaterKept b c → IsLaterKept a c
+kept_then (Heap a) (Heap b) (Heap c) here next = record {
+  index = next.index ∙ here.index;
+  serves = next.serves ∙ here.serves;
+  more = here.more ++ next.more;
+  history = goes_on_by a.history b.history c.history here.more next.more here.history next.history;
+}
+kept_then (Segments a) (Segments b) (Segments c) here next = record {
+  calls = here.calls ++ next.calls;
+  leads = leads_then here.calls next.calls a b c here.leads next.leads;
+  more = here.more ++ next.more;
+  log = goes_on_by a.log b.log c.log here.more next.more here.log next.log;
+  outcomes = here.outcomes ++ next.outcomes;
+  asks = goes_on_by a.asks b.asks c.asks here.outcomes next.outcomes here.asks next.asks;
+}
+kept_then (Heap a) (Heap b) (Segments c) here next = absurd next
+kept_then (Heap a) (Segments b) c here next = absurd here
+kept_then (Segments a) (Heap b) c here next = absurd here
+kept_then (Segments a) (Segments b) (Heap c) here next = absurd next
+
+slot_then : (a b c : Option SlotView) → IsLater a b → IsLater b c → IsLater a c
+slot_then None None None here next = tt
+slot_then None None (Some c) here next = absurd next
+slot_then None (Some b) c here next = absurd here
+slot_then (Some a) None c here next = absurd here
+slot_then (Some a) (Some b) None here next = absurd next
+slot_then (Some a) (Some b) (Some c) here next = kept_then a.kept b.kept c.kept here next
+
+kept_log : (a b : Kept) → IsLaterKept a b → (more : List LogRecord) × (log_of b ≡ log_of a ++ more)
+kept_log (Heap a) (Heap b) later = ([], refl)
+kept_log (Heap a) (Segments b) later = absurd later
+kept_log (Segments a) (Heap b) later = absurd later
+kept_log (Segments a) (Segments b) later = (later.more, later.log)
+
+log_later : (a b : Option SlotView) → IsLater a b → (more : List LogRecord) × (log_in b ≡ log_in a ++ more)
+log_later None None later = ([], refl)
+log_later None (Some b) later = absurd later
+log_later (Some a) None later = absurd later
+log_later (Some a) (Some b) later = kept_log a.kept b.kept later
+
+kept_asks : (a b : Kept) → IsLaterKept a b → (more : List AskLog) × (asks_of b ≡ asks_of a ++ more)
+kept_asks (Heap a) (Heap b) later = ([], refl)
+kept_asks (Heap a) (Segments b) later = absurd later
+kept_asks (Segments a) (Heap b) later = absurd later
+kept_asks (Segments a) (Segments b) later = (later.outcomes, later.asks)
+
+asks_later : (a b : Option SlotView) → IsLater a b → (more : List AskLog) × (asks_in b ≡ asks_in a ++ more)
+asks_later None None later = ([], refl)
+asks_later None (Some b) later = absurd later
+asks_later (Some a) None later = absurd later
+asks_later (Some a) (Some b) later = kept_asks a.kept b.kept later
+
+pub course_same : (a : HallView) → IsCourse a a
+course_same a = record {
+  count = refl;
+  slots = λ number. slot_same (slot_at a number);
+  numbers = λ who. omega arith;
+  fulls = omega arith;
+  clock = omega arith;
+  steps = [];
+  mail = sym (append-nil a.mail);
+  boxes = refl;
+  kept = refl;
+  turns = refl;
+  meters = refl;
+  agreed = λ agreed. agreed;
+}
+
+pub course_then : (a b c : HallView) → IsCourse a b → IsCourse b c → IsCourse a c
+course_then a b c here next = record {
+  count = next.count ∙ here.count;
+  slots = λ number. slot_then (slot_at a number) (slot_at b number) (slot_at c number) (here.slots number) (next.slots number);
+  numbers = λ who. omega (arith, here.numbers who, next.numbers who);
+  fulls = omega (arith, here.fulls, next.fulls, sum_by-append (λ (step : ℕ × MailStep). full_post step.1) here.steps next.steps);
+  clock = omega (arith, here.clock, next.clock);
+  steps = here.steps ++ next.steps;
+  mail = goes_on_by a.mail b.mail c.mail here.steps next.steps here.mail next.mail;
+  boxes = mail_then here.steps next.steps a.boxes b.boxes c.boxes here.boxes next.boxes;
+  kept = values_then (length a.owns) here.steps next.steps (values_in a) (values_in b) (values_in c) here.kept
+      (subst (λ (n : ℕ). IsKeptBy n next.steps (values_in b) (values_in c)) here.count next.kept);
+  turns = turns_then here.steps next.steps (homes_in a) (homes_in b) (homes_in c) here.turns next.turns;
+  meters = meters_then here.steps next.steps (meters_in a) (meters_in b) (meters_in c) here.meters next.meters;
+  agreed = λ agreed. next.agreed (here.agreed agreed);
+}
+
+pub course_serves : (a b : HallView) (who : ℕ) → IsCourse a b → who < length a.owns → who < length b.owns
+course_serves a b who course below = omega (arith, course.count)
+
+pub course_seen : (a b : HallView) → IsCourse a b → (more : List LogRecord) × (seen_in b ≡ seen_in a ++ more)
+course_seen a b course = log_later (slot_at a MAX_HEAPS) (slot_at b MAX_HEAPS) (course.slots MAX_HEAPS)
+
+pub course_heard : (a b : HallView) → IsCourse a b → (more : List AskLog) × (heard_in b ≡ heard_in a ++ more)
+course_heard a b course = asks_later (slot_at a MAX_HEAPS) (slot_at b MAX_HEAPS) (course.slots MAX_HEAPS)
+
+pub done_same : (a : HallView) (who : ℕ) → HasDone a a who []
+done_same a who = sym (append-nil (steps_of who a.mail))
+
+pub done_then : (a b c : HallView) (who : ℕ) (first second : List MailStep) → HasDone a b who first → HasDone b c who second
+    → HasDone a c who (first ++ second)
+done_then a b c who first second here next =
+    goes_on_by (steps_of who a.mail) (steps_of who b.mail) (steps_of who c.mail) first second here next

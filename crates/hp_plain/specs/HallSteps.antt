@@ -1,0 +1,80 @@
+-- What the calls of a hall of plain values leave: the rules "Halls" and "Messages" of docs/PARTICIPANTS.md.
+use Rattle.std.specs.Prelude.{ℕ, Bool, List, [], ◌∷◌, ◌++◌, Option, Some, None, map, replicate, slice_set}
+use Rattle.hp_base.specs.declared.plan.Action.{Action}
+use Rattle.hp_frame.specs.declared.frame.Frame.{Frame}
+use Rattle.hp_heap.specs.History.{HeapView}
+use Rattle.hp_segs.specs.SegsView.{SegsView}
+use Rattle.hp_hall.specs.declared.kept.Kept.{Kept}
+use Rattle.hp_hall.specs.declared.kept.Kept.TheVariants.{Heap, Segments}
+use Rattle.hp_hall.specs.declared.note.Note.{Note}
+use Rattle.hp_hall.specs.declared.note.Note.TheVariants.{Acked, Paused}
+use Rattle.hp_mail.specs.declared.posted.Posted.{Posted}
+use Rattle.hp_plain.specs.HallView.{HallView, SlotView}
+use Rattle.hp_hall.specs.Mail.{MailStep, Posts, Takes, Gives, Notes, counted_on, full_of}
+use Rattle.hp_plain.specs.Boxes.{after_step}
+use Rattle.hp_hall.specs.Own.{Own, after_ack}
+
+-- a value at home in its slot, and one that a participant has taken
+abbrev pub home_slot : Kept → SlotView
+home_slot kept = record { kept = kept; holder = None }
+
+abbrev pub out_slot : ℕ → Kept → SlotView
+out_slot who kept = record { kept = kept; holder = Some who }
+
+abbrev pub heap_slot : HeapView → SlotView
+heap_slot heap = home_slot (Heap heap)
+
+-- the slots of these values, all at home: the heaps in their order, and behind them the segment value
+abbrev pub slots_of : List HeapView → SegsView → List SlotView
+slots_of heaps segs = map heap_slot heaps ++ home_slot (Segments segs) ∷ []
+
+-- a hall as it opens: every value at home, empty mailboxes, no number acknowledged, the clock at 0, and nothing done with mailboxes
+abbrev pub opening_hall : ℕ → List HeapView → SegsView → HallView
+opening_hall participants heaps segs = record {
+  slots = slots_of heaps segs;
+  boxes = replicate participants [];
+  owns = replicate participants (after_ack 0);
+  clock = 0;
+  fulls = 0;
+  mail = [];
+}
+
+-- a slot has come to this, and nothing else has changed
+abbrev pub with_slot : ℕ → SlotView → HallView → HallView
+with_slot number slot hall = record hall { slots = slice_set hall.slots number slot }
+
+-- a participant's own part has come to this, and nothing else has changed
+abbrev pub with_own : ℕ → Own → HallView → HallView
+with_own who own hall = record hall { owns = slice_set hall.owns who own }
+
+-- after a step, with so many full mailboxes counted
+abbrev pub with_mail : ℕ → MailStep → ℕ → HallView → HallView
+with_mail who step fulls hall = record hall {
+  boxes = after_step who step hall.boxes;
+  fulls = fulls;
+  mail = hall.mail ++ (who, step) ∷ [];
+}
+
+-- after a value was taken out of a slot
+abbrev pub after_take : ℕ → ℕ → Kept → HallView → HallView
+after_take who number kept hall = with_mail who (Takes number kept) hall.fulls (with_slot number (out_slot who kept) hall)
+
+-- after a value was given back to its slot
+abbrev pub after_give : ℕ → ℕ → Kept → HallView → HallView
+after_give who number kept hall = with_mail who (Gives number kept) hall.fulls (with_slot number (home_slot kept) hall)
+
+-- after a frame was posted
+abbrev pub after_post : ℕ → ℕ → Frame → Action → Posted → HallView → HallView
+after_post who to frame action posted hall = with_mail who (Posts to frame action posted) (counted_on (full_of posted) hall.fulls) hall
+
+-- after a note was made
+abbrev pub with_note : ℕ → Note → HallView → HallView
+with_note who note hall = with_mail who (Notes note) hall.fulls hall
+
+-- after a participant has acknowledged so many records
+abbrev pub after_acking : ℕ → ℕ → HallView → HallView
+after_acking who number hall = with_note who (Acked number) (with_own who (after_ack number) hall)
+
+-- after a turn ended with the clock at a reading
+abbrev pub after_pause : ℕ → Bool → Option ℕ → ℕ → HallView → HallView
+after_pause who moved until reading hall = record (with_note who (Paused moved until) hall) { clock = reading }

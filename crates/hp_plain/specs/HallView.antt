@@ -1,0 +1,149 @@
+-- A hall of plain values, as contracts see it: the rule "Halls" of docs/PARTICIPANTS.md.
+use Rattle.std.specs.Prelude.{◌≡◌, ℕ, ◌≤◌, Bool, false, ◌==◌, List, [], ◌++◌, length, Option, Some, None, slice_get, slice_index_or, if◌then◌else◌}
+use Rattle.std.specs.Option.{option_and_then, option_map}
+use Rattle.hp_base.specs.declared.limits.TheConstants.{MAX_HEAPS, MAX_PARTICIPANTS}
+use Rattle.hp_frame.specs.declared.frame.Frame.{Frame}
+use Rattle.hp_heap.specs.declared.entry.Entry.{Entry}
+use Rattle.hp_heap.specs.History.{HeapView, entries_of}
+use Rattle.hp_log.specs.declared.log_record.LogRecord.{LogRecord}
+use Rattle.hp_segs.specs.LaterSteps.{armed_ask}
+use Rattle.hp_segs.specs.SegsView.{SegsView, is_member}
+use Rattle.hp_segs.specs.Sound.{IsSound}
+use Rattle.hp_segs.specs.declared.outcome.AskLog.{AskLog}
+use Rattle.hp_hall.specs.declared.kept.Kept.{Kept}
+use Rattle.hp_hall.specs.declared.kept.Kept.TheVariants.{Heap, Segments}
+use Rattle.hp_hall.specs.declared.slot.TheConstants.{SLOTS}
+use Rattle.hp_hall.specs.Holding.{HasPages, HeapPart}
+use Rattle.hp_segs.specs.Standing.{IsArmed, owned_by, standing_of}
+use Rattle.hp_hall.specs.Mail.{MailStep, steps_of}
+use Rattle.hp_hall.specs.Own.{Own, after_ack}
+use Rattle.hp_hall.specs.Values.{Fits, asks_of, history_of, log_of}
+
+-- a slot: its value, and who holds that, where it is out; while it is out, the value is the one that was taken
+pub record SlotView : Type 0 where
+  pub kept : Kept
+  pub holder : Option ℕ
+
+pub record HallView : Type 0 where
+  -- the slots, by number
+  pub slots : List SlotView
+  -- the mailboxes, by participant
+  pub boxes : List (List Frame)
+  -- the own parts, by participant
+  pub owns : List Own
+  -- milliseconds
+  pub clock : ℕ
+  -- how often a mailbox was full
+  pub fulls : ℕ
+  -- all that was done: taken, given back, posted, fetched and noted, each step with the participant that made it
+  pub mail : List (ℕ × MailStep)
+
+abbrev pub slot_at : HallView → ℕ → Option SlotView
+slot_at hall number = slice_get hall.slots number
+
+-- the value that is out of a slot, as it was taken
+abbrev pub taken_from : Option SlotView → Option Kept
+taken_from None = None
+taken_from (Some slot) = option_map (λ holder. slot.kept) slot.holder
+
+-- the value of a slot is there
+abbrev pub IsHome : Option SlotView → Type 0
+IsHome None = ⊥
+IsHome (Some slot) = slot.holder ≡ None
+
+-- the history of a heap's slot, as far as it was given back
+abbrev pub history_in : Option SlotView → List Entry
+history_in None = []
+history_in (Some slot) = history_of slot.kept
+
+-- the socket whose pages a heap takes
+abbrev pub serves_of : Kept → Option ℕ
+serves_of (Heap heap) = heap.plain.serves
+serves_of (Segments segs) = None
+
+abbrev pub serves_in : Option SlotView → Option ℕ
+serves_in None = None
+serves_in (Some slot) = serves_of slot.kept
+
+-- the log of the segment value's slot, as far as it was given back
+abbrev pub log_in : Option SlotView → List LogRecord
+log_in None = []
+log_in (Some slot) = log_of slot.kept
+
+-- the outcomes of the segment value's slot, as far as it was given back
+abbrev pub asks_in : Option SlotView → List AskLog
+asks_in None = []
+asks_in (Some slot) = asks_of slot.kept
+
+abbrev pub segs_of : Kept → Option SegsView
+segs_of (Heap heap) = None
+segs_of (Segments segs) = Some segs
+
+-- the segment value of its slot, at home or as it was taken
+abbrev pub segs_in : Option SlotView → Option SegsView
+segs_in None = None
+segs_in (Some slot) = segs_of slot.kept
+
+-- a value that this holder has is a heap, and the participant is the holder
+abbrev pub is_held_heap : ℕ → Kept → Option ℕ → Bool
+is_held_heap who (Heap heap) None = false
+is_held_heap who (Heap heap) (Some holder) = holder == who
+is_held_heap who (Segments segs) holder = false
+
+-- the participant holds the heap of the slot
+abbrev pub is_held_by : ℕ → Option SlotView → Bool
+is_held_by who None = false
+is_held_by who (Some slot) = is_held_heap who slot.kept slot.holder
+
+-- a participant's part in the heap of an index, by the heap's slot and the segment value
+abbrev pub part_of : ℕ → ℕ → Option SlotView → Option SegsView → HeapPart
+part_of who heap slot segs = record {
+  entries = entries_of who (history_in slot);
+  serves = serves_in slot;
+  holding = if is_held_by who slot then option_map (standing_of heap) segs else None;
+  armed = option_and_then (λ segs. armed_ask segs who) segs;
+}
+
+abbrev pub part_in : HallView → ℕ → ℕ → HeapPart
+part_in hall who heap = part_of who heap (slot_at hall heap) (segs_in (slot_at hall MAX_HEAPS))
+
+-- the log and the outcomes, which everybody sees
+abbrev pub seen_in : HallView → List LogRecord
+seen_in hall = log_in (slot_at hall MAX_HEAPS)
+
+abbrev pub heard_in : HallView → List AskLog
+heard_in hall = asks_in (slot_at hall MAX_HEAPS)
+
+-- a participant is in the roster of a segment value
+abbrev pub is_joined : ℕ → Option SegsView → Bool
+is_joined who None = false
+is_joined who (Some segs) = is_member segs.roster who
+
+-- a participant is in the roster, as far as the segment value was given back
+abbrev pub joined_in : HallView → ℕ → Bool
+joined_in hall who = is_joined who (segs_in (slot_at hall MAX_HEAPS))
+
+-- a participant's own part
+abbrev pub own_at : HallView → ℕ → Own
+own_at hall who = slice_index_or hall.owns who (after_ack 0)
+
+-- from one state to another a participant made these steps
+abbrev pub HasDone : HallView → HallView → ℕ → List MailStep → Type 0
+HasDone old new who steps = steps_of who new.mail ≡ steps_of who old.mail ++ steps
+
+-- a heap is at home in the slot of that number
+abbrev pub IsHeapAtHome : HallView → ℕ → HeapView → Type 0
+IsHeapAtHome hall number heap = slot_at hall number ≡ Some (record { kept = Heap heap; holder = None })
+
+-- what holds of every hall: each value is one of its slot, and each participant has a mailbox and an own part; the segment value is sound,
+-- its open growth and its outcomes are of armed asks; and each heap at home has the pages that it owns
+pub record IsHall (hall : HallView) : Type 0 where
+  pub slots : length hall.slots ≡ SLOTS
+  pub fits : (number : ℕ) (slot : SlotView) → slot_at hall number ≡ Some slot → Fits number slot.kept
+  pub boxes : length hall.boxes ≡ length hall.owns
+  pub few : length hall.owns ≤ MAX_PARTICIPANTS
+  pub segs : SegsView
+  pub there : segs_in (slot_at hall MAX_HEAPS) ≡ Some segs
+  pub sound : IsSound segs
+  pub armed : IsArmed segs
+  pub pages : (number : ℕ) (heap : HeapView) → IsHeapAtHome hall number heap → HasPages heap.plain.pages (owned_by number segs)

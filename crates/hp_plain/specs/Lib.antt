@@ -1,0 +1,15 @@
+pub mod Boxes
+pub mod HallView
+pub mod Keeping
+pub mod InTurn
+pub mod Meters
+pub mod Course
+pub mod CourseLaws
+pub mod HallSteps
+pub mod PlainState
+pub mod PlainPosts
+pub mod SlotStates
+pub mod MailKept
+pub mod HallInside
+pub mod Opening
+pub mod Moved

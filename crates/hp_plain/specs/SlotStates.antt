@@ -1,0 +1,15 @@
+-- How a slot is kept. No public clause cites this module.
+use Rattle.std.specs.Prelude.{◌≡◌, Some, None, length, ⊤}
+use Rattle.hp_plain.specs.declared.slot_state.State.{State}
+use Rattle.hp_plain.specs.declared.slot_state.State.TheVariants.{Home, Out}
+use Rattle.hp_plain.specs.HallView.{SlotView}
+use Rattle.hp_hall.specs.Values.{log_of}
+
+abbrev pub slot_view : State → SlotView
+slot_view (Home kept) = record { kept = kept; holder = None }
+slot_view (Out taken records holder) = record { kept = taken.value; holder = Some holder }
+
+-- while the value is out, the number of its records is kept
+abbrev pub IsCounted : State → Type 0
+IsCounted (Home kept) = ⊤
+IsCounted (Out taken records holder) = records ≡ length (log_of taken.value)

@@ -1,0 +1,131 @@
+//! A hall of plain values, in one thread.
+ghost use Rattle.std.specs.Prelude.{◌≡◌, ◌≤◌, ℕ, [], IfOk, None};
+ghost use Rattle.hp_base.specs.declared.limits.TheConstants.{MAX_PARTICIPANTS};
+ghost use Rattle.hp_hall.specs.Holding.{IsArmed};
+ghost use Rattle.hp_plain.specs.HallView.{IsHall, part_in};
+ghost use Rattle.hp_plain.specs.HallSteps.{opening_hall, slots_of};
+ghost use Rattle.hp_plain.specs.Opening.{AreHome, AreInOrder, AreUnused, HavePages};
+
+mod calls;
+mod messages;
+mod moving;
+mod notes;
+mod owns;
+mod slots;
+
+use crate::mail_log::MailLog;
+use crate::mailbox::Mailbox;
+use crate::own_part::OwnPart;
+use crate::slot_state::SlotState;
+use hp_heap::Heap;
+use hp_segs::Segs;
+use messages::empty_boxes;
+use moving::{from_slots, into_slots};
+use owns::first_parts;
+use std::alloc::{AllocError, Global};
+use std::marker::Model;
+
+/// A hall of plain values: the heaps and the segment value in their slots, a mailbox of 64 frames for each participant, and one
+/// clock in milliseconds. Its participants take turns in one thread, so a slot whose value is there can be taken. Contracts see it
+/// as a `HallView`. Own.
+#[derive(Drop)]
+pub struct PlainHall {
+    pub(crate) slots: Vec<SlotState>,
+    pub(crate) boxes: Vec<Mailbox>,
+    pub(crate) owns: Vec<OwnPart>,
+    pub(crate) clock: u64,
+    pub(crate) fulls: u64,
+    pub(crate) mail: MailLog,
+    // Emptied when the hall opened; `into_parts` fills it again.
+    pub(crate) heaps: Vec<Heap>,
+}
+
+/// What a hall hands out at its end. Own.
+#[derive(Drop)]
+pub struct HallParts {
+    /// The heaps, by index.
+    pub heaps: Vec<Heap>,
+    /// The segment value.
+    pub segs: Segs,
+}
+
+impl Model for PlainHall {
+    ghost use Rattle.hp_hall.specs.Holding.{IsArmed};
+    ghost use Rattle.hp_plain.specs.HallView.{HallView};
+
+    ghost Value = { HallView };
+
+    ghost use Rattle.hp_plain.specs.HallInside.{hall_view, IsInside};
+
+    ghost view = { hall_view };
+
+    ghost invariant = { IsInside };
+}
+
+impl PlainHall {
+    /// A hall of these values for so many participants: the heap at each place in the slot of that number. Each heap has the pages
+    /// that the segment value has for it, and that value's growth and outcomes are of armed asks. Nothing is out, the mailboxes are
+    /// empty, nobody has acknowledged a record, and the clock stands at 0. Own.
+    pub fn new(
+        alloc: Global,
+        participants: u8,
+        heaps: Vec<Heap>,
+        segs: Segs,
+    ) -> Result<PlainHall, AllocError>
+        requires few { participants ≤ MAX_PARTICIPANTS }
+        requires heaps { AreInOrder heaps.items }
+        requires pages { HavePages heaps.items segs }
+        requires armed { IsArmed segs }
+        ensures hall { IfOk result (λ hall. hall ≡ opening_hall participants heaps.items segs) }
+
+        // Over heaps without a call nobody has made an entry, and nobody holds a heap.
+        ensures unused { IfOk result (λ hall. AreUnused heaps.items → (who number : ℕ) → (part_in hall who number).entries ≡ []) }
+        ensures unheld { IfOk result (λ hall. (who number : ℕ) → (part_in hall who number).holding ≡ None) }
+    {
+        let _records = segs.records();
+        let mut heaps = heaps;
+        let slots = into_slots(alloc, &mut heaps, segs)?;
+        Ok(PlainHall {
+            slots,
+            boxes: empty_boxes(alloc, participants)?,
+            owns: first_parts(alloc, participants)?,
+            clock: 0,
+            fulls: 0,
+            mail: MailLog::new(),
+            heaps,
+        })
+    }
+
+    /// Ends the hall, and hands out its values: the heaps in the vector in which they came, so it takes no memory. Own.
+    pub fn into_parts(self) -> HallParts
+        requires home { AreHome self }
+        ensures { self.slots ≡ slots_of result.heaps.items result.segs }
+    {
+        let PlainHall { slots, heaps, .. } = self;
+        let mut heaps = heaps;
+        let segs = from_slots(slots, &mut heaps);
+        HallParts { heaps, segs }
+    }
+
+    /// The reading of its clock, in milliseconds.
+    pub fn clock(&self) -> u64
+        ensures { result ≡ self.now.clock }
+    {
+        self.clock
+    }
+
+    /// How often a mailbox was full. At its type's end the count stands still.
+    pub fn fulls(&self) -> u64
+        ensures { result ≡ self.now.fulls }
+    {
+        self.fulls
+    }
+
+    /// What holds of every hall: each value is one of its slot, each participant has a mailbox and its own part, the segment value is
+    /// sound with its growth and outcomes of armed asks, and each heap at home has the pages that it owns. It does nothing.
+    pub fn sound(&self)
+        ensures { IsHall self.now }
+    {
+        let _ = &self.slots;
+    }
+}
