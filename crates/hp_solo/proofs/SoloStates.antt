@@ -1,5 +1,5 @@
 -- What a call of the plain values leaves, the hall of one thread over them leaves.
-use Rattle.std.proofs.Common.{◌≡◌, ◌≢◌, ℕ, ◌+◌, ◌≤◌, List, ap, subst, arith}
+use Rattle.std.proofs.Common.{◌≡◌, ◌≢◌, ℕ, ◌+◌, ◌≤◌, List, ap, arith}
 use Rattle.hp_hall.specs.HallCalls.{HasComeTo, HasFoundHeld, HasGiven, HasTaken}
 use Rattle.hp_hall.specs.HallState.{Did, MineStay, OthersStay, SlotsStay, SlotsStayBut, Stays}
 use Rattle.hp_hall.specs.Mail.{MailStep}
@@ -20,19 +20,19 @@ module _ (me : ℕ) (old new : HallView) (servers : List ServerView) where
   abbrev after : SoloView
   after = record { plain = new; servers = servers }
 
-  did_over : (steps : List MailStep) → Did me steps (plain_state old) (plain_state new) → Did me steps (solo_state before) (solo_state after)
+  pub did_over : (steps : List MailStep) → Did me steps (plain_state old) (plain_state new) → Did me steps (solo_state before) (solo_state after)
   did_over steps did = record { made = did.made }
 
-  slots_over : SlotsStay (plain_state old) (plain_state new) → SlotsStay (solo_state before) (solo_state after)
+  pub slots_over : SlotsStay (plain_state old) (plain_state new) → SlotsStay (solo_state before) (solo_state after)
   slots_over slots = record { taken = slots.taken; home = slots.home }
 
-  but_over : (slot : ℕ) → SlotsStayBut slot (plain_state old) (plain_state new) → SlotsStayBut slot (solo_state before) (solo_state after)
+  pub but_over : (slot : ℕ) → SlotsStayBut slot (plain_state old) (plain_state new) → SlotsStayBut slot (solo_state before) (solo_state after)
   but_over slot but = record { taken = but.taken; home = but.home }
 
-  mine_over : MineStay me (plain_state old) (plain_state new) → MineStay me (solo_state before) (solo_state after)
+  pub mine_over : MineStay me (plain_state old) (plain_state new) → MineStay me (solo_state before) (solo_state after)
   mine_over mine = record { parts = record { part = mine.parts.part; joined = mine.parts.joined }; own = mine.own }
 
-  others_over : IsSoloCourse before after → OthersStay me (plain_state old) (plain_state new)
+  pub others_over : IsSoloCourse before after → OthersStay me (plain_state old) (plain_state new)
       → OthersStay me (solo_state before) (solo_state after)
   others_over course others = record {
     part = others.part;
@@ -43,14 +43,14 @@ module _ (me : ℕ) (old new : HallView) (servers : List ServerView) where
     later = solo_later before after course;
   }
 
-  stays_over : IsSoloCourse before after → Stays me (plain_state old) (plain_state new) → Stays me (solo_state before) (solo_state after)
+  pub stays_over : IsSoloCourse before after → Stays me (plain_state old) (plain_state new) → Stays me (solo_state before) (solo_state after)
   stays_over course stays = record {
     slots = slots_over stays.slots;
     mine = mine_over stays.mine;
     others = others_over course stays.others;
   }
 
-  taken_over : (slot : ℕ) (kept : Kept) → HasTaken me slot kept (plain_state old) (plain_state new)
+  pub taken_over : (slot : ℕ) (kept : Kept) → HasTaken me slot kept (plain_state old) (plain_state new)
       → HasTaken me slot kept (solo_state before) (solo_state after)
   taken_over slot kept took = record {
     fits = took.fits;
@@ -67,7 +67,7 @@ module _ (me : ℕ) (old new : HallView) (servers : List ServerView) where
     did = record { made = took.did.made };
   }
 
-  given_over : (slot : ℕ) (kept : Kept) → HasGiven me slot kept (plain_state old) (plain_state new)
+  pub given_over : (slot : ℕ) (kept : Kept) → HasGiven me slot kept (plain_state old) (plain_state new)
       → HasGiven me slot kept (solo_state before) (solo_state after)
   given_over slot kept gave = record {
     taken = gave.taken;
@@ -80,7 +80,7 @@ module _ (me : ℕ) (old new : HallView) (servers : List ServerView) where
     did = record { made = gave.did.made };
   }
 
-  comes_over : (part : Own) (steps : List MailStep) → IsSoloCourse before after → HasComeTo me part steps (plain_state old) (plain_state new)
+  pub comes_over : (part : Own) (steps : List MailStep) → IsSoloCourse before after → HasComeTo me part steps (plain_state old) (plain_state new)
       → HasComeTo me part steps (solo_state before) (solo_state after)
   comes_over part steps course comes = record {
     own = comes.own;
@@ -90,22 +90,13 @@ module _ (me : ℕ) (old new : HallView) (servers : List ServerView) where
     did = did_over steps comes.did;
   }
 
-  weight_over : (more : ℕ) → new.clock ≡ old.clock → boxes_weight new.boxes ≤ boxes_weight old.boxes + more
+  pub weight_over : (more : ℕ) → new.clock ≡ old.clock → boxes_weight new.boxes ≤ boxes_weight old.boxes + more
       → solo_weight after ≤ solo_weight before + more
   weight_over more clock less = omega (arith, less, ap (λ (at : ℕ). servers_weight (pending_at at) servers) clock)
 
-  weight_less : (less : ℕ) → new.clock ≡ old.clock → boxes_weight new.boxes + less ≤ boxes_weight old.boxes
+  pub weight_less : (less : ℕ) → new.clock ≡ old.clock → boxes_weight new.boxes + less ≤ boxes_weight old.boxes
       → solo_weight after + less ≤ solo_weight before
   weight_less less clock falls = omega (arith, falls, ap (λ (at : ℕ). servers_weight (pending_at at) servers) clock)
 
--- so it is from the value that a hall was opened at
-module _ (value : SoloView) (old new : HallView) (servers : List ServerView)
-    (value_is : ◌≡◌ {A = SoloView} (record { plain = old; servers = servers }) value) where
-  abbrev next : SoloView
-  next = record { plain = new; servers = servers }
-
-  pub from_value : (P : SoloView → Type 0) → P (record { plain = old; servers = servers }) → P value
-  from_value P is = subst P value_is is
-
-  back_to : (P : SoloView → Type 0) → P value → P (record { plain = old; servers = servers })
-  back_to P is = subst P (sym value_is) is
+  pub weight_same : new.clock ≡ old.clock → boxes_weight new.boxes ≤ boxes_weight old.boxes → solo_weight after ≤ solo_weight before
+  weight_same clock less = omega (arith, less, ap (λ (at : ℕ). servers_weight (pending_at at) servers) clock)
