@@ -1,6 +1,6 @@
 -- A participant with a heap in hand, over what calls leave.
 use Rattle.std.proofs.Common.{◌≡◌, ◌+◌, ◌∙◌, ℕ, refl, sym, ap, subst, arith}
-use Rattle.hp_hall.specs.HallState.{HallState, MayServe}
+use Rattle.hp_hall.specs.HallState.{HallState, MayServe, OthersStay, SlotsStay, SlotsStayBut}
 use Rattle.hp_hall.proofs.HallStates.{did_then, later_same, later_then, may_still, slots_same, slots_then}
 use Rattle.hp_heap.specs.History.{HeapView, IsCall}
 use Rattle.hp_heap.specs.declared.entry.HeapAnswer.{HeapAnswer}
@@ -8,11 +8,11 @@ use Rattle.hp_heap.specs.declared.entry.HeapCall.{HeapCall}
 use Rattle.hp_proc.specs.Asking.{HasSettledAsks}
 use Rattle.hp_proc.specs.Contexts.{Context}
 use Rattle.hp_proc.specs.Doing.{Doing}
-use Rattle.hp_proc.specs.InHall.{HasRoom, HoldsIn, IsIdleAgain, IsIdleIn, IsTiedIn, KeepsHeld, RemainsIn, StaysIn, did_in, moment}
+use Rattle.hp_proc.specs.InHall.{AreFreeBut, HasRoom, HoldsIn, IsFreeAt, IsIdleAgain, IsIdleIn, IsTiedIn, KeepsHeld, RemainsIn, StaysIn, did_in, moment}
 use Rattle.hp_proc.specs.Party.{IsSameParty, Party, after_call, with_calls}
 use Rattle.hp_proc.specs.Progress.{AreSettled, Does, Moment, caller_of}
 use Rattle.hp_proc.proofs.HandCalls.{call_index, call_serves, hand_stays}
-use Rattle.hp_proc.proofs.InHalls.{idle_in, in_same, remains_by}
+use Rattle.hp_proc.proofs.InHalls.{idle_again, idle_in, in_same, remains_by}
 use Rattle.hp_proc.proofs.Joining.{does_then}
 
 -- who is the same is so but for the number of its calls
@@ -195,3 +195,34 @@ again_same party idle = record { same = record { me = refl; socket = refl; plan 
 pub again_by : {me : ℕ} (old new : Party) {a b : HallState} → StaysIn me old new a b → IsIdleIn me old a
     → IsIdleAgain me (with_calls new.context.calls old) new b
 again_by old new stays idle = record { same = same_to_calls old new stays.same; idle = idle_in stays idle }
+
+-- the other slots are free while a heap is in hand
+pub but_kept : {slot index : ℕ} {a b : HallState} → index ≡ slot → AreFreeBut slot a → SlotsStay a b → AreFreeBut index b
+but_kept {slot} {index} {a} {b} same free slots =
+    subst (λ (slot : ℕ). AreFreeBut slot b) (sym same)
+    (record {
+      taken = λ number apart. slots.taken number ∙ free.taken number apart;
+      home = λ number few apart. slots.home number (free.home number few apart);
+    })
+
+-- it is given back, and its holder holds no slot again
+pub idle_put : (party : Party) (heap : HeapView) {a b : HallState} → HoldsIn party.me party heap a → AreFreeBut heap.plain.index a
+    → (IsTiedIn party.me party a → IsTiedIn party.me party b) → IsFreeAt heap.plain.index b → SlotsStayBut heap.plain.index a b
+    → OthersStay party.me a b → IsIdleIn party.me party b
+idle_put party heap {a} {b} holds free tied at slots others =
+    let may = holds.can.may in
+    let declared = may.declared in
+    let count = others.later.count in
+    let but : AreFreeBut heap.plain.index b = record {
+      taken = λ number apart. slots.taken number apart ∙ free.taken number apart;
+      home = λ number few apart. slots.home number apart (free.home number few apart);
+    } in
+    idle_again (others.later.serves party.me may.serves) (omega (arith, declared, count)) (tied holds.can.tied) but at
+
+-- so it is behind what it did with the heap that it took
+pub again_put : {first mid last : Party} {one two : HeapView} {a b : HallState} {c : HallState} → IsSameParty first mid
+    → KeepsHeld mid.me mid last one two a b → IsIdleIn last.me last c → IsIdleAgain first.me (with_calls last.context.calls first) last c
+again_put {first} {mid} {last} {one} {two} {a} {b} {c} same keeps idle = record {
+  same = calls_after first mid last same keeps.remains.same;
+  idle = subst (λ (who : ℕ). IsIdleIn who last c) (keeps.remains.same.me ∙ same.me) idle;
+}
