@@ -64,7 +64,7 @@ module _ (party : Party) (hall : HallState) (heap : HeapView) (size addr : ℕ) 
             (resized (resize_answer is.0)) (moment_with heap me party hall) (moment_with next me after hall)) (sym its)
             (does_call party (hall.part me) (hall.seen me) (hall.heard me) (call.Resize addr size) (resize_answer is.0) heap next is.3 hall.count
             (did_in me hall hall) resized after is.2 (did_same me hall) (resized_whole is.0)));
-        settled = settled_called party after is.2 holds.settled;
+        settled = settled_called party after hall is.2 holds.settled;
         keeps = keeps_called party after heap next is.3 is.2 (resize_pages (caller_of party) addr size (resize_answer is.0) heap next is.3) holds;
       }
 

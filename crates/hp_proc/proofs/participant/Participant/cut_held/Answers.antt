@@ -93,7 +93,7 @@ returns-in-None g c =
           (sym (socket_cuts place c.args.addr heap.plain.index c.is_none.result c.if-is_none.false c.is_none.ensures c.requires.its))
           (does_call party part seen heard (call.Cut c.args.addr) gives.Nothing heap next step hall.count (did_in me hall hall)
           (giving_up place.index) after counted (did_same me hall) refl);
-      settled = settled_called party after counted c.requires.holds.settled;
+      settled = settled_called party after hall counted c.requires.holds.settled;
       keeps = keeps_called party after heap next step counted
           (ap (λ (heap : PlainHeap). heap.pages) (cut_nothing (caller_of party) c.args.addr heap next step)) c.requires.holds;
       others = others_same me hall;

@@ -57,7 +57,7 @@ returns-in_err-addr g c =
           (sym c.from_residual.ensures)
           (looked_here hall.count (did_in me hall hall) party after (hall.part me) (hall.seen me) (hall.heard me) heap next place c.args.tag
           gives.Nothing c.in_err-addr.ensures.step counted (did_same me hall) refl c.requires.its found places);
-      settled = settled_called party after counted c.requires.holds.settled;
+      settled = settled_called party after hall counted c.requires.holds.settled;
       keeps = keeps_called party after heap next step counted (find_pages _ c.args.tag _ heap next step) c.requires.holds;
       others = others_same me hall;
       goes_on = g.met.H.Hall.goes_on_same _;
@@ -72,7 +72,7 @@ act_held-requires-clause-holds g c =
     let step = c.find_in.ensures.step in
     let counted = c.find_in.ensures.counted in
     holds_on (keeps_called party mid heap next step counted (find_pages _ c.args.tag _ heap next step) c.requires.holds)
-    (settled_called party mid counted c.requires.holds.settled) c.requires.holds.can.may
+    (settled_called party mid (g.H.Hall.state c.args.hall.now) counted c.requires.holds.settled) c.requires.holds.can.may
 
 pub act_held-requires-clause-its : goal.act_held-requires-clause-its
 act_held-requires-clause-its g c = c.requires.its ∙ sym (call_index _ _ _ _ _ c.find_in.ensures.step)

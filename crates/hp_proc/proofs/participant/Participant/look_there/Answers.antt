@@ -67,7 +67,7 @@ returns g c =
     let may = subst (λ (who : ℕ). MayServe who second) (sym here) took.holds.can.may in
     let held = holds_on is.keeps is.settled may in
     let idle =
-    idle_put after next held (but_kept (is.keeps.index ∙ took.index) c.hold.ensures.slots is.keeps.remains.slots) put.tied put.free put.slots
+    idle_put after next held.can (but_kept (is.keeps.index ∙ took.index) c.hold.ensures.slots is.keeps.remains.slots) put.tied put.free put.slots
     put.others in
     record {
       does = λ places.
