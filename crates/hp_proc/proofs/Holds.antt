@@ -121,9 +121,9 @@ holds_on {first} {last} {before} {behind} {a} {b} keeps settled may = record {
 }
 
 -- lines of which each goes on from where the one before ended
-pub again_then : {first mid last : Party} {a b : HallState} → IsIdleAgain first.me (with_calls mid.context.calls first) mid a
+pub again_then : (first mid last : Party) {a b : HallState} → IsIdleAgain first.me (with_calls mid.context.calls first) mid a
     → IsIdleAgain mid.me (with_calls last.context.calls mid) last b → IsIdleAgain first.me (with_calls last.context.calls first) last b
-again_then {first} {mid} {last} {a} {b} here next = record {
+again_then first mid last {a} {b} here next = record {
   same = calls_then first mid last here.same next.same;
   idle = subst (λ (who : ℕ). IsIdleIn who last b) here.same.me next.idle;
 }

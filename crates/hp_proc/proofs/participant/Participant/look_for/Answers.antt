@@ -1,5 +1,5 @@
 -- Heap after heap is looked into, until one has the element.
-use Rattle.std.proofs.Common.{ℕ, ◌+◌, ◌<◌, List, ◌∷◌, ◌++◌, length, get_or, drop, Option, None, sym, subst, arith}
+use Rattle.std.proofs.Common.{◌≡◌, ℕ, ◌+◌, ◌<◌, List, ◌∷◌, ◌++◌, length, get_or, drop, Option, None, sym, subst, arith}
 use Rattle.std.proofs.lemmas.List.{drop_more}
 use Rattle.std.proofs.lemmas.List.Elements.{Contains-get_or}
 use Rattle.hp_base.specs.declared.tag.Tag.{Tag}
@@ -106,7 +106,7 @@ loop-place-preserved g c =
           (looked_here party looked after old mid new c.args.tag found c.args.places.now index was.idle.same.me
           ((g.met.H.Hall.goes_on_later _ _ was.goes_on).count) was.does c.loop-place-test.true c.in_ok-answer.field-0 one.does);
       ready = subst (λ (who : ℕ). MayDo (moment who after new)) was.idle.same.me one.ready;
-      idle = again_then was.idle c.look_in.ensures.idle;
+      idle = again_then party looked after was.idle c.look_in.ensures.idle;
       goes_on = g.met.H.Hall.goes_on_then _ _ _ was.goes_on c.look_in.ensures.goes_on;
       clock = λ thread. omega (arith, was.clock thread, one.passed c.in_default.is thread);
     }
@@ -117,7 +117,7 @@ returns-in_err-answer-clause-clock g c = λ one.
     omega (arith, was.clock one, c.look_in.ensures.clock one, was.idle.same.deadline)
 
 pub returns-in_err-answer-clause-idle : goal.returns-in_err-answer-clause-idle
-returns-in_err-answer-clause-idle g c = again_then c.loop-place.invariant.idle c.look_in.ensures.idle
+returns-in_err-answer-clause-idle g c = again_then c.args.self.now c.loop-place.self c.look_in.new.self c.loop-place.invariant.idle c.look_in.ensures.idle
 
 pub returns-in_err-answer-clause-goes_on : goal.returns-in_err-answer-clause-goes_on
 returns-in_err-answer-clause-goes_on g c = g.met.H.Hall.goes_on_then _ _ _ c.loop-place.invariant.goes_on c.look_in.ensures.goes_on
@@ -142,7 +142,7 @@ returns-in-Some g c =
           ((g.met.H.Hall.goes_on_later _ _ was.goes_on).count) was.does c.loop-place-test.true c.in_ok-answer.field-0 one.does);
       ready = subst (λ (who : ℕ). MayDo (moment who after new)) was.idle.same.me one.ready;
       clock = λ thread. omega (arith, was.clock thread, c.look_in.ensures.clock thread, was.idle.same.deadline);
-      idle = again_then was.idle c.look_in.ensures.idle;
+      idle = again_then party looked after was.idle c.look_in.ensures.idle;
       goes_on = g.met.H.Hall.goes_on_then _ _ _ was.goes_on c.look_in.ensures.goes_on;
     }
 

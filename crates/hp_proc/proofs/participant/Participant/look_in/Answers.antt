@@ -1,5 +1,5 @@
 -- The element is not in the heap, or it was acted on and the coordinator is told where it has to be.
-use Rattle.std.proofs.Common.{ℕ, ◌∷◌, Option, subst, arith}
+use Rattle.std.proofs.Common.{sym, ℕ, ◌∷◌, Option, subst, arith}
 use Rattle.hp_proc.specs.Freeing.{acting, behind_looking, looking}
 use Rattle.hp_proc.specs.Progress.{Does, MayDo}
 use Rattle.hp_proc.specs.declared.element_act.Left.{Left}
@@ -36,7 +36,7 @@ returns-in_err-answer-clause-clock g c = λ one.
     omega (arith, c.look_there.ensures.clock one, c.tell.ensures.clock one, c.look_there.ensures.idle.same.deadline)
 
 pub returns-in_err-answer-clause-idle : goal.returns-in_err-answer-clause-idle
-returns-in_err-answer-clause-idle g c = again_then c.look_there.ensures.idle c.tell.ensures.idle
+returns-in_err-answer-clause-idle g c = again_then c.args.self.now c.look_there.new.self c.tell.new.self c.look_there.ensures.idle c.tell.ensures.idle
 
 pub returns-in_err-answer-clause-goes_on : goal.returns-in_err-answer-clause-goes_on
 returns-in_err-answer-clause-goes_on g c = g.met.H.Hall.goes_on_then _ _ _ c.look_there.ensures.goes_on c.tell.ensures.goes_on
@@ -67,7 +67,7 @@ returns-clause-clock g c = λ one.
     omega (arith, c.look_there.ensures.clock one, c.tell.ensures.clock one, c.look_there.ensures.idle.same.deadline)
 
 pub returns-clause-idle : goal.returns-clause-idle
-returns-clause-idle g c = again_then c.look_there.ensures.idle c.tell.ensures.idle
+returns-clause-idle g c = again_then c.args.self.now c.look_there.new.self c.tell.new.self c.look_there.ensures.idle c.tell.ensures.idle
 
 pub returns-clause-goes_on : goal.returns-clause-goes_on
 returns-clause-goes_on g c = g.met.H.Hall.goes_on_then _ _ _ c.look_there.ensures.goes_on c.tell.ensures.goes_on

@@ -130,7 +130,7 @@ loop-place-preserved g c =
           (c.requires.places (get_or c.args.places.now c.loop-place.place-index none_at)
           (Contains-get_or c.args.places.now c.loop-place.place-index none_at c.loop-place-test.true));
       ready = subst (λ (who : ℕ). MayDo (moment who party third)) was.idle.same.me c.in_ok-answer.ensures.ready;
-      idle = again_then was.idle one.idle;
+      idle = again_then c.args.self.now c.loop-place.self party was.idle one.idle;
       goes_on = g.met.H.Hall.goes_on_then _ _ _ was.goes_on one.goes_on;
       along = omega (arith, c.loop-place-test.true);
       clock = rises_more g.H.Hall.pending (λ hall. IsBusy hall) i (longest_growth c.args.self.now.deadline)
@@ -232,10 +232,10 @@ pub returns-then-is_empty-clause-idle : goal.returns-then-is_empty-clause-idle
 returns-then-is_empty-clause-idle g c = again_same c.args.self.now c.requires.ready.idle
 
 pub returns-in_err-answer-clause-idle : goal.returns-in_err-answer-clause-idle
-returns-in_err-answer-clause-idle g c = again_then c.loop-place.invariant.idle c.try_heap.ensures.idle
+returns-in_err-answer-clause-idle g c = again_then c.args.self.now c.loop-place.self c.try_heap.new.self c.loop-place.invariant.idle c.try_heap.ensures.idle
 
 pub returns-in-Some-clause-idle : goal.returns-in-Some-clause-idle
-returns-in-Some-clause-idle g c = again_then c.loop-place.invariant.idle c.try_heap.ensures.idle
+returns-in-Some-clause-idle g c = again_then c.args.self.now c.loop-place.self c.try_heap.new.self c.loop-place.invariant.idle c.try_heap.ensures.idle
 
 -- BY HOW MUCH IT CARRIES THE CLOCK
 
