@@ -6,14 +6,14 @@ use Rattle.std.proofs.lemmas.List.Elements.{All-contains}
 use Rattle.std.proofs.lemmas.Option.{same_Some, slice_get_within}
 use Rattle.hp_base.specs.declared.limits.TheConstants.{MAX_HEAPS}
 use Rattle.hp_base.specs.declared.row.Row.{Row}
-use Rattle.hp_hall.specs.HallView.{HallView, SlotView, log_in, own_at, seen_in, segs_in, segs_of, slot_at}
-use Rattle.hp_hall.specs.Keeping.{AreAgreed}
+use Rattle.hp_plain.specs.HallView.{HallView, SlotView, log_in, own_at, seen_in, segs_in, segs_of, slot_at}
+use Rattle.hp_plain.specs.Keeping.{AreAgreed}
 use Rattle.hp_hall.specs.Own.{Own}
 use Rattle.hp_hall.specs.Values.{log_of}
 use Rattle.hp_hall.specs.declared.kept.Kept.{Kept}
 use Rattle.hp_hall.specs.declared.kept.Kept.TheVariants.{Heap, Segments}
 use Rattle.hp_hall.proofs.Gives.{has_nothing}
-use Rattle.hp_hall.proofs.Opened.{opened_segs}
+use Rattle.hp_plain.proofs.Opened.{opened_segs}
 use Rattle.hp_hall.proofs.StandingLists.{contains_unkept, found_in}
 use Rattle.hp_heap.proofs.Members.{Contains-image}
 use Rattle.hp_log.specs.Log.{table_of}

@@ -5,7 +5,7 @@ use Rattle.hp_base.specs.declared.limits.TheConstants.{MAX_HEAPS}
 use Rattle.hp_base.specs.declared.row.Row.{Row}
 use Rattle.hp_heap.specs.History.{HeapView}
 use Rattle.hp_heap.specs.PlainHeap.{HeapPage}
-use Rattle.hp_hall.specs.HallView.{HallView, IsHall, IsHeapAtHome, segs_in, slot_at}
+use Rattle.hp_plain.specs.HallView.{HallView, IsHall, IsHeapAtHome, segs_in, slot_at}
 use Rattle.hp_hall.specs.Holding.{is_page_of, owned_by}
 use Rattle.hp_maps.specs.declared.table.Table.{Table}
 use Rattle.hp_script.specs.declared.answer.Answer.{Answer}

@@ -4,7 +4,7 @@ use Rattle.std.specs.Prelude.{slice_get, slice_index_or, slice_set}
 use Rattle.std.specs.List.{All}
 use Rattle.std.proofs.lemmas.List.Elements.{All-drop, All-head}
 use Rattle.hp_frame.specs.declared.frame.Frame.{Frame}
-use Rattle.hp_hall.specs.Mail.{box_after, box_of}
+use Rattle.hp_plain.specs.Boxes.{box_after, box_of}
 use Rattle.hp_mail.specs.declared.posted.Posted.{Posted}
 use Rattle.hp_proc.specs.Doing.{Done}
 use Rattle.hp_joint.proofs.Made.{IsPost}

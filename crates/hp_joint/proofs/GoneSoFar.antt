@@ -3,7 +3,7 @@ use Rattle.std.proofs.Common.{◌≡◌, ◌==◌, ℕ, ◌<◌, ◌≤◌, List
 use Rattle.std.specs.List.{All, slice_get}
 use Rattle.hp_segs.proofs.ListFacts.{filter_drops}
 use Rattle.std.proofs.lemmas.Option.{slice_get_within}
-use Rattle.hp_hall.specs.HallView.{HallView}
+use Rattle.hp_plain.specs.HallView.{HallView}
 use Rattle.hp_heap.specs.History.{HeapView}
 use Rattle.hp_script.specs.declared.workload.Workload.{Workload}
 use Rattle.hp_proc.specs.Courses.{calls_in}

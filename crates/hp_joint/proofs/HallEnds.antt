@@ -3,11 +3,11 @@ use Rattle.std.proofs.Common.{◌≡◌, ◌∙◌, ℕ, zero, suc, ◌<◌, ◌
 use Rattle.std.specs.List.{slice_get}
 use Rattle.std.proofs.lemmas.Option.{same_Some, slice_get_past, slice_get_within}
 use Rattle.hp_base.specs.declared.limits.TheConstants.{MAX_HEAPS}
-use Rattle.hp_hall.specs.Course.{IsCourse, IsLater}
-use Rattle.hp_hall.specs.CourseLaws.{AreSegsOf}
-use Rattle.hp_hall.specs.HallSteps.{slots_of}
-use Rattle.hp_hall.specs.HallView.{HallView, SlotView, segs_in, slot_at}
-use Rattle.hp_hall.proofs.Opened.{opened_length, opened_segs}
+use Rattle.hp_plain.specs.Course.{IsCourse, IsLater}
+use Rattle.hp_plain.specs.CourseLaws.{AreSegsOf}
+use Rattle.hp_plain.specs.HallSteps.{slots_of}
+use Rattle.hp_plain.specs.HallView.{HallView, SlotView, segs_in, slot_at}
+use Rattle.hp_plain.proofs.Opened.{opened_length, opened_segs}
 use Rattle.hp_heap.specs.History.{HeapView}
 use Rattle.hp_script.specs.declared.workload.Workload.{Workload}
 use Rattle.hp_segs.specs.SegsView.{SegsView}

@@ -4,15 +4,15 @@ use Rattle.std.specs.List.{All, slice_get}
 use Rattle.std.specs.Option.{option_map}
 use Rattle.std.proofs.lemmas.List.Elements.{All-head, All-tail}
 use Rattle.std.proofs.lemmas.Option.{same_Some, slice_get-get_or, slice_get_within}
-use Rattle.hp_hall.specs.Course.{IsLater, IsLaterHeap}
-use Rattle.hp_hall.specs.CourseLaws.{IsSoundAndArmed}
-use Rattle.hp_hall.specs.HallSteps.{heap_slot, slots_of}
-use Rattle.hp_hall.specs.HallView.{HallView, IsHeapAtHome, SlotView, slot_at}
+use Rattle.hp_plain.specs.Course.{IsLater, IsLaterHeap}
+use Rattle.hp_plain.specs.CourseLaws.{IsSoundAndArmed}
+use Rattle.hp_plain.specs.HallSteps.{heap_slot, slots_of}
+use Rattle.hp_plain.specs.HallView.{HallView, IsHeapAtHome, SlotView, slot_at}
 use Rattle.hp_hall.specs.Holding.{IsArmed}
 use Rattle.hp_hall.specs.declared.kept.Kept.{Kept}
 use Rattle.hp_hall.specs.declared.kept.Kept.TheVariants.{Heap, Segments}
-use Rattle.hp_hall.proofs.Slotted.{value_at}
-use Rattle.hp_hall.proofs.Walks.{values_stay_sound}
+use Rattle.hp_plain.proofs.Slotted.{value_at}
+use Rattle.hp_plain.proofs.Walks.{values_stay_sound}
 use Rattle.hp_heap.specs.History.{HeapView, IsSound}
 use Rattle.hp_script.specs.declared.workload.Workload.{Workload}
 use Rattle.hp_segs.specs.SegsView.{SegsView}

@@ -5,12 +5,12 @@ use Rattle.std.proofs.lemmas.Bool.{cases_lt}
 use Rattle.std.proofs.lemmas.List.{length-replicate}
 use Rattle.std.proofs.lemmas.Option.{slice_get_within}
 use Rattle.hp_base.specs.declared.limits.TheConstants.{MAX_HEAPS}
-use Rattle.hp_hall.specs.HallSteps.{slots_of}
-use Rattle.hp_hall.specs.HallView.{HallView, SlotView, history_in, slot_at}
+use Rattle.hp_plain.specs.HallSteps.{slots_of}
+use Rattle.hp_plain.specs.HallView.{HallView, SlotView, history_in, slot_at}
 use Rattle.hp_hall.specs.Mail.{steps_of}
 use Rattle.hp_hall.specs.Own.{after_ack}
-use Rattle.hp_hall.proofs.Opened.{opened_unused}
-use Rattle.hp_hall.proofs.Walks.{idle_add_no_entries, undeclared_do_nothing}
+use Rattle.hp_plain.proofs.Opened.{opened_unused}
+use Rattle.hp_plain.proofs.Walks.{idle_add_no_entries, undeclared_do_nothing}
 use Rattle.hp_heap.specs.History.{HeapView, entries_of}
 use Rattle.hp_script.specs.declared.workload.Workload.{Workload}
 use Rattle.hp_segs.specs.SegsView.{SegsView}

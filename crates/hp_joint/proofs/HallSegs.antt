@@ -5,12 +5,12 @@ use Rattle.std.specs.Option.{option_and_then}
 use Rattle.std.proofs.lemmas.Bool.{cases_lt}
 use Rattle.std.proofs.lemmas.Option.{same_Some}
 use Rattle.hp_base.specs.declared.limits.TheConstants.{MAX_HEAPS}
-use Rattle.hp_hall.specs.Course.{IsLater, IsLaterKept, IsLaterSegs}
-use Rattle.hp_hall.specs.CourseLaws.{IsLeftTo}
-use Rattle.hp_hall.specs.HallView.{HallView, SlotView, heard_in, part_in, segs_in, segs_of, slot_at}
+use Rattle.hp_plain.specs.Course.{IsLater, IsLaterKept, IsLaterSegs}
+use Rattle.hp_plain.specs.CourseLaws.{IsLeftTo}
+use Rattle.hp_plain.specs.HallView.{HallView, SlotView, heard_in, part_in, segs_in, segs_of, slot_at}
 use Rattle.hp_hall.specs.declared.kept.Kept.{Kept}
 use Rattle.hp_hall.specs.declared.kept.Kept.TheVariants.{Heap, Segments}
-use Rattle.hp_hall.proofs.Walks.{idle_stay_in_place, ranges_stay}
+use Rattle.hp_plain.proofs.Walks.{idle_stay_in_place, ranges_stay}
 use Rattle.hp_script.specs.declared.workload.Workload.{Workload}
 use Rattle.hp_segs.specs.GrowthLaws.{IsOfArmed}
 use Rattle.hp_segs.specs.LaterSteps.{armed_ask}

@@ -6,8 +6,8 @@ use Rattle.std.proofs.lemmas.Bool.{eqb-true}
 use Rattle.std.proofs.lemmas.List.Elements.{All-contains_itself}
 use Rattle.std.proofs.lemmas.Option.{same_Some, slice_get_within}
 use Rattle.hp_base.specs.declared.row.Row.{Row}
-use Rattle.hp_hall.specs.HallView.{HallView, own_at}
-use Rattle.hp_hall.specs.Keeping.{AreAgreed}
+use Rattle.hp_plain.specs.HallView.{HallView, own_at}
+use Rattle.hp_plain.specs.Keeping.{AreAgreed}
 use Rattle.hp_hall.specs.Own.{Own}
 use Rattle.hp_hall.proofs.Gives.{has_nothing}
 use Rattle.hp_hall.proofs.StandingLists.{found_in}

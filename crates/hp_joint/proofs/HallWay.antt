@@ -5,14 +5,14 @@ use Rattle.std.specs.Option.{option_map}
 use Rattle.std.proofs.lemmas.Option.{slice_get-map}
 use Rattle.hp_base.specs.declared.limits.TheConstants.{MAX_HEAPS}
 use Rattle.hp_frame.specs.declared.frame.Frame.{Frame}
-use Rattle.hp_hall.specs.Course.{IsCourse}
-use Rattle.hp_hall.specs.HallView.{HallView, IsHome, SlotView, segs_in, segs_of, slot_at}
-use Rattle.hp_hall.specs.InTurn.{homes_in}
-use Rattle.hp_hall.specs.Keeping.{IsKeptBy, values_in}
-use Rattle.hp_hall.specs.Mail.{IsMail}
+use Rattle.hp_plain.specs.Course.{IsCourse}
+use Rattle.hp_plain.specs.HallView.{HallView, IsHome, SlotView, segs_in, segs_of, slot_at}
+use Rattle.hp_plain.specs.InTurn.{homes_in}
+use Rattle.hp_plain.specs.Keeping.{IsKeptBy, values_in}
+use Rattle.hp_plain.specs.Boxes.{IsMail}
 use Rattle.hp_hall.specs.declared.kept.Kept.{Kept}
 use Rattle.hp_hall.specs.declared.kept.Kept.TheVariants.{Heap, Segments}
-use Rattle.hp_hall.proofs.Slotted.{value_at}
+use Rattle.hp_plain.proofs.Slotted.{value_at}
 use Rattle.hp_segs.specs.SegsView.{SegsView}
 use Rattle.hp_joint.specs.Seats.{Seat}
 use Rattle.hp_joint.specs.Together.{Joint, Runs}

@@ -5,12 +5,12 @@ use Rattle.std.specs.List.{AllByRecursion}
 use Rattle.std.proofs.lemmas.Bool.{cases_eq}
 use Rattle.std.proofs.lemmas.Option.{slice_get_within}
 use Rattle.hp_heap.specs.declared.entry.Entry.{Entry}
-use Rattle.hp_hall.specs.Keeping.{IsGivenBy, IsKeptBy, ShowsValues, values_after}
+use Rattle.hp_plain.specs.Keeping.{IsGivenBy, IsKeptBy, ShowsValues, values_after}
 use Rattle.hp_hall.specs.Mail.{Fetches, Gives, MailStep, Notes, Posts, Takes, steps_of}
 use Rattle.hp_hall.specs.Values.{history_of}
 use Rattle.hp_hall.specs.declared.kept.Kept.{Kept}
 use Rattle.hp_hall.specs.declared.kept.Kept.TheVariants.{Heap, Segments}
-use Rattle.hp_hall.proofs.Slotted.{slice_get-set_other, slice_get-set_same}
+use Rattle.hp_plain.proofs.Slotted.{slice_get-set_other, slice_get-set_same}
 use Rattle.hp_joint.proofs.Walk.{steps_elsewhere, steps_here}
 
 some_same : {X : Type 0} (x y : X) → Some x ≡ Some y → x ≡ y

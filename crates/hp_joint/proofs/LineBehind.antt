@@ -8,8 +8,8 @@ use Rattle.std.proofs.lemmas.List.Elements.{All-push}
 use Rattle.std.proofs.lemmas.Option.{same_Some, slice_get_within}
 use Rattle.hp_heap.specs.declared.entry.Entry.{Entry}
 use Rattle.hp_heap.specs.History.{entries_of}
-use Rattle.hp_hall.proofs.Given.{entries_of-append}
-use Rattle.hp_hall.specs.HallView.{HallView, heard_in, history_in, part_in, seen_in, slot_at}
+use Rattle.hp_plain.proofs.Given.{entries_of-append}
+use Rattle.hp_plain.specs.HallView.{HallView, heard_in, history_in, part_in, seen_in, slot_at}
 use Rattle.hp_script.specs.declared.answer.Answer.{Answer}
 use Rattle.hp_script.specs.declared.line.Line.{Line}
 use Rattle.hp_script.specs.declared.workload.Workload.{Workload}

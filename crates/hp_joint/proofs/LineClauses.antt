@@ -4,7 +4,7 @@ use Rattle.std.specs.List.{All}
 use Rattle.std.proofs.lemmas.Bool.{cases_lt}
 use Rattle.std.proofs.lemmas.List.Elements.{All-cons, All-filter, All-head, All-nil, All-tail}
 use Rattle.hp_heap.specs.History.{HeapView}
-use Rattle.hp_hall.specs.HallView.{HallView, seen_in}
+use Rattle.hp_plain.specs.HallView.{HallView, seen_in}
 use Rattle.hp_log.specs.declared.log_record.LogRecord.{LogRecord}
 use Rattle.hp_script.specs.declared.line.Act.{Act}
 use Rattle.hp_script.specs.declared.line.Act.TheVariants as act

@@ -1,7 +1,7 @@
 -- The run of a line, or of servings: behind it each ask has its answer, no growth is open, and none but the doer took a number.
 use Rattle.std.proofs.Common.{◌≡◌, ◌≢◌, ◌∙◌, ℕ, ◌≤◌, List, [], ◌++◌, append-nil, length, Option, Some, None, refl, ap, sym, subst, arith}
 use Rattle.std.specs.Prelude.{slice_get}
-use Rattle.hp_hall.specs.HallView.{HallView, heard_in, seen_in}
+use Rattle.hp_plain.specs.HallView.{HallView, heard_in, seen_in}
 use Rattle.hp_log.specs.declared.log_record.LogRecord.{LogRecord}
 use Rattle.hp_script.specs.declared.workload.Workload.{Workload}
 use Rattle.hp_segs.specs.declared.outcome.AskLog.{AskLog}

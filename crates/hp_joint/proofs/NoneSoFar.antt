@@ -2,7 +2,7 @@
 use Rattle.std.proofs.Common.{ℕ, List, sym, subst}
 use Rattle.std.specs.List.{All}
 use Rattle.hp_heap.specs.declared.entry.Entry.{Entry}
-use Rattle.hp_hall.specs.HallView.{HallView, history_in, slot_at}
+use Rattle.hp_plain.specs.HallView.{HallView, history_in, slot_at}
 use Rattle.hp_script.specs.declared.workload.Workload.{Workload}
 use Rattle.hp_proc.specs.LinesDone.{Course, IsNoneUngranted}
 use Rattle.hp_proc.specs.Ends.{history_by, none_made}

@@ -10,13 +10,13 @@ use Rattle.std.proofs.lemmas.List.Sums.{count_by-le-length, length-filter}
 use Rattle.std.proofs.lemmas.Option.{slice_get-map, slice_get_past, slice_get_within}
 use Rattle.hp_base.specs.declared.limits.TheConstants.{MAX_HEAPS, MAX_SEGMENTS}
 use Rattle.hp_base.specs.declared.pool_line.PoolLine.{PoolLine}
-use Rattle.hp_hall.specs.Course.{course_same}
-use Rattle.hp_hall.specs.HallSteps.{slots_of}
-use Rattle.hp_hall.specs.HallView.{HallView, history_in, own_at, part_in, seen_in, heard_in, segs_in, serves_in, slot_at}
-use Rattle.hp_hall.specs.Opening.{AreUnused}
+use Rattle.hp_plain.specs.Course.{course_same}
+use Rattle.hp_plain.specs.HallSteps.{slots_of}
+use Rattle.hp_plain.specs.HallView.{HallView, history_in, own_at, part_in, seen_in, heard_in, segs_in, serves_in, slot_at}
+use Rattle.hp_plain.specs.Opening.{AreUnused}
 use Rattle.hp_hall.specs.Own.{Own, after_ack}
 use Rattle.hp_hall.proofs.Gives.{entries_made-none}
-use Rattle.hp_hall.proofs.Opened.{opened_home, opened_segs, opened_unheld, opened_unused}
+use Rattle.hp_plain.proofs.Opened.{opened_home, opened_segs, opened_unheld, opened_unused}
 use Rattle.hp_heap.specs.History.{HeapView}
 use Rattle.hp_log.specs.declared.log_record.LogRecord.{LogRecord}
 use Rattle.hp_maps.specs.Catching.{Lags}

@@ -4,9 +4,9 @@ use Rattle.std.specs.Prelude.{slice_get}
 use Rattle.std.specs.List.{range_with_len}
 use Rattle.std.specs.Option.{option_and_then}
 use Rattle.hp_base.specs.declared.limits.TheConstants.{MAX_HEAPS}
-use Rattle.hp_hall.specs.Course.{IsCourse, course_heard, course_seen}
-use Rattle.hp_hall.specs.HallView.{HallView, heard_in, own_at, part_in, seen_in, segs_in, slot_at}
-use Rattle.hp_hall.specs.Opening.{AreHome}
+use Rattle.hp_plain.specs.Course.{IsCourse, course_heard, course_seen}
+use Rattle.hp_plain.specs.HallView.{HallView, heard_in, own_at, part_in, seen_in, segs_in, slot_at}
+use Rattle.hp_plain.specs.Opening.{AreHome}
 use Rattle.hp_hall.specs.declared.slot.TheConstants.{SLOTS}
 use Rattle.hp_log.specs.declared.log_record.LogRecord.{LogRecord}
 use Rattle.hp_script.specs.declared.workload.Workload.{Workload}

@@ -8,17 +8,17 @@ use Rattle.std.proofs.lemmas.List.Sums.{sum_by-cons}
 use Rattle.hp_base.specs.declared.limits.TheConstants.{MAX_HEAPS}
 use Rattle.hp_heap.specs.declared.entry.Entry.{Entry}
 use Rattle.hp_heap.specs.History.{entries_of}
-use Rattle.hp_hall.specs.Course.{IsCourse, IsLater, IsLaterKept}
-use Rattle.hp_hall.specs.HallView.{HallView, IsHome, SlotView, asks_in, heard_in, history_in, is_held_by, is_held_heap, log_in, part_in, seen_in, segs_in, segs_of, serves_in, serves_of, slot_at}
+use Rattle.hp_plain.specs.Course.{IsCourse, IsLater, IsLaterKept}
+use Rattle.hp_plain.specs.HallView.{HallView, IsHome, SlotView, asks_in, heard_in, history_in, is_held_by, is_held_heap, log_in, part_in, seen_in, segs_in, segs_of, serves_in, serves_of, slot_at}
 use Rattle.hp_hall.specs.Holding.{HeapPart, standing_of}
-use Rattle.hp_hall.specs.Opening.{AreHome}
+use Rattle.hp_plain.specs.Opening.{AreHome}
 use Rattle.hp_hall.specs.Values.{asks_of, log_of}
-use Rattle.hp_hall.specs.Keeping.{values_in}
+use Rattle.hp_plain.specs.Keeping.{values_in}
 use Rattle.hp_hall.specs.declared.kept.Kept.{Kept}
 use Rattle.hp_hall.specs.declared.kept.Kept.TheVariants.{Heap, Segments}
 use Rattle.hp_hall.specs.declared.slot.TheConstants.{SLOTS}
-use Rattle.hp_hall.proofs.Given.{entries_of-append}
-use Rattle.hp_hall.proofs.Slotted.{unheld_heap, value_at}
+use Rattle.hp_plain.proofs.Given.{entries_of-append}
+use Rattle.hp_plain.proofs.Slotted.{unheld_heap, value_at}
 use Rattle.hp_segs.specs.SegsView.{SegsView}
 use Rattle.hp_joint.proofs.HeapGivers.{HasMoreOf, NoOtherGives, kept_more, same_more}
 

@@ -8,7 +8,7 @@ use Rattle.hp_frame.specs.declared.message.Body.{Body}
 use Rattle.hp_frame.specs.declared.message.Body.TheVariants.{Alloc, Free}
 use Rattle.hp_frame.specs.declared.message.Message.{Message}
 use Rattle.hp_frame.proofs.SpellingLemmas.{same_message}
-use Rattle.hp_hall.specs.Mail.{box_after, copies}
+use Rattle.hp_plain.specs.Boxes.{box_after, copies}
 use Rattle.hp_mail.specs.declared.posted.Posted.{Posted}
 use Rattle.hp_segs.specs.declared.ask.Ask.{Ask}
 use Rattle.hp_proc.specs.Asking.{alloc_body, free_body}

@@ -4,9 +4,9 @@ use Rattle.std.specs.Prelude.{slice_get}
 use Rattle.std.specs.List.{AllByRecursion}
 use Rattle.std.proofs.lemmas.Option.{same_Some, slice_get_within}
 use Rattle.hp_heap.specs.declared.entry.Entry.{Entry}
-use Rattle.hp_hall.specs.Course.{IsCourse}
-use Rattle.hp_hall.specs.HallView.{HallView, history_in, slot_at}
-use Rattle.hp_hall.specs.Opening.{AreHome}
+use Rattle.hp_plain.specs.Course.{IsCourse}
+use Rattle.hp_plain.specs.HallView.{HallView, history_in, slot_at}
+use Rattle.hp_plain.specs.Opening.{AreHome}
 use Rattle.hp_script.specs.declared.workload.Workload.{Workload}
 use Rattle.hp_proc.specs.Doing.{Done}
 use Rattle.hp_proc.specs.Ends.{history_by, none_made}

@@ -1,15 +1,15 @@
 -- The histories that a hall keeps at any time: each is that of a sound heap, or there is none.
 use Rattle.std.proofs.Common.{◌≡◌, ℕ, List, [], Option, Some, None, refl}
 use Rattle.std.specs.List.{slice_get}
-use Rattle.hp_hall.specs.Course.{IsCourse}
-use Rattle.hp_hall.specs.CourseLaws.{IsSoundAndArmed}
-use Rattle.hp_hall.specs.HallView.{HallView, SlotView, history_in, slot_at}
-use Rattle.hp_hall.specs.Keeping.{values_in}
+use Rattle.hp_plain.specs.Course.{IsCourse}
+use Rattle.hp_plain.specs.CourseLaws.{IsSoundAndArmed}
+use Rattle.hp_plain.specs.HallView.{HallView, SlotView, history_in, slot_at}
+use Rattle.hp_plain.specs.Keeping.{values_in}
 use Rattle.hp_hall.specs.Values.{history_of}
 use Rattle.hp_hall.specs.declared.kept.Kept.{Kept}
 use Rattle.hp_hall.specs.declared.kept.Kept.TheVariants.{Heap, Segments}
-use Rattle.hp_hall.proofs.Slotted.{value_at}
-use Rattle.hp_hall.proofs.Walks.{values_stay_sound}
+use Rattle.hp_plain.proofs.Slotted.{value_at}
+use Rattle.hp_plain.proofs.Walks.{values_stay_sound}
 use Rattle.hp_heap.specs.History.{HeapView, IsSound}
 use Rattle.hp_heap.specs.declared.entry.Entry.{Entry}
 use Rattle.hp_script.specs.declared.workload.Workload.{Workload}

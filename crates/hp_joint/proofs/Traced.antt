@@ -9,7 +9,7 @@ use Rattle.hp_core.specs.Core.{Core}
 use Rattle.hp_core.specs.declared.asked.Asked as wanted
 use Rattle.hp_core.specs.declared.asked.Asked.TheVariants as want
 use Rattle.hp_frame.specs.declared.frame.Frame.{Frame}
-use Rattle.hp_hall.specs.Mail.{box_of}
+use Rattle.hp_plain.specs.Boxes.{box_of}
 use Rattle.hp_segs.specs.SegsView.{SegsView, closed_number, is_stale}
 use Rattle.hp_segs.specs.declared.ask.Ask.{Ask}
 use Rattle.hp_segs.specs.declared.outcome.AskLog.{AskLog}

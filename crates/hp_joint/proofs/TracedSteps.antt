@@ -6,7 +6,8 @@ use Rattle.hp_base.specs.declared.caught.Caught.{Caught}
 use Rattle.hp_base.specs.declared.caught.Caught.TheVariants as caught
 use Rattle.hp_core.proofs.GivingLemmas.{catches_note}
 use Rattle.hp_core.specs.declared.event.CoreEvent.TheVariants.{SelfMapped}
-use Rattle.hp_hall.specs.Mail.{IsMailStep, MailStep}
+use Rattle.hp_hall.specs.Mail.{MailStep}
+use Rattle.hp_plain.specs.Boxes.{IsMailStep}
 use Rattle.hp_log.specs.declared.log_record.LogRecord.{LogRecord}
 use Rattle.hp_segs.specs.Causes.{AllCaused}
 use Rattle.hp_segs.specs.GrowthLaws.{HasArmedGrowth}

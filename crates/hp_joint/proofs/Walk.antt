@@ -6,13 +6,14 @@ use Rattle.std.proofs.lemmas.Bool.{cond-false, cond-true, eq-eqb}
 use Rattle.hp_base.specs.declared.limits.TheConstants.{MAX_HEAPS}
 use Rattle.hp_frame.specs.declared.frame.Frame.{Frame}
 use Rattle.hp_hall.specs.Holding.{IsArmed}
-use Rattle.hp_hall.specs.InTurn.{homes_after}
-use Rattle.hp_hall.specs.Keeping.{IsGivenBy, ShowsValues, values_after}
-use Rattle.hp_hall.specs.Mail.{MailStep, Posts, Fetches, Takes, Gives, Notes, after_step, steps_of}
+use Rattle.hp_plain.specs.InTurn.{homes_after}
+use Rattle.hp_plain.specs.Keeping.{IsGivenBy, ShowsValues, values_after}
+use Rattle.hp_hall.specs.Mail.{MailStep, Posts, Fetches, Takes, Gives, Notes, steps_of}
+use Rattle.hp_plain.specs.Boxes.{after_step}
 use Rattle.hp_hall.specs.declared.kept.Kept.{Kept}
 use Rattle.hp_hall.specs.declared.kept.Kept.TheVariants.{Heap, Segments}
 use Rattle.hp_hall.specs.declared.note.Note.{Note}
-use Rattle.hp_hall.proofs.Slotted.{slice_get-set_other}
+use Rattle.hp_plain.proofs.Slotted.{slice_get-set_other}
 use Rattle.hp_proc.specs.Serving.{gives_segments}
 use Rattle.hp_segs.specs.SegsView.{SegsView}
 use Rattle.hp_segs.specs.Sound.{IsSound}

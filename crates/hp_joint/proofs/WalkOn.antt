@@ -6,14 +6,15 @@ use Rattle.std.proofs.lemmas.List.{length-set}
 use Rattle.std.proofs.lemmas.Option.{slice_get_within}
 use Rattle.hp_base.specs.declared.limits.TheConstants.{MAX_HEAPS}
 use Rattle.hp_frame.specs.declared.frame.Frame.{Frame}
-use Rattle.hp_hall.specs.InTurn.{ShowsHome, homes_after}
-use Rattle.hp_hall.specs.Keeping.{IsGivenBy, ShowsValues, values_after}
-use Rattle.hp_hall.specs.Mail.{IsMailStep, MailStep, Notes, after_step, steps_of}
+use Rattle.hp_plain.specs.InTurn.{ShowsHome, homes_after}
+use Rattle.hp_plain.specs.Keeping.{IsGivenBy, ShowsValues, values_after}
+use Rattle.hp_hall.specs.Mail.{MailStep, Notes, steps_of}
+use Rattle.hp_plain.specs.Boxes.{IsMailStep, after_step}
 use Rattle.hp_hall.specs.Values.{IsSoundKept}
 use Rattle.hp_hall.specs.declared.kept.Kept.{Kept}
 use Rattle.hp_hall.specs.declared.kept.Kept.TheVariants.{Segments}
 use Rattle.hp_hall.specs.declared.note.Note.{Note}
-use Rattle.hp_hall.proofs.Slotted.{slice_get-set_same}
+use Rattle.hp_plain.proofs.Slotted.{slice_get-set_same}
 use Rattle.hp_proc.specs.Serving.{gives_segments, takes_segments}
 use Rattle.hp_segs.specs.SegsView.{SegsView}
 use Rattle.hp_joint.specs.Seats.{Handles, Mails, Path, Seat}

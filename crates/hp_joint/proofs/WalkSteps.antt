@@ -2,7 +2,8 @@
 use Rattle.std.proofs.Common.{◌≡◌, ◌≢◌, ◌∙◌, ℕ, List, [], ◌∷◌, ◌++◌, length, map, Some, refl, sym, ap, subst}
 use Rattle.std.specs.Prelude.{slice_get}
 use Rattle.hp_frame.specs.declared.frame.Frame.{Frame}
-use Rattle.hp_hall.specs.Mail.{IsMailStep, MailStep, Notes, after_step}
+use Rattle.hp_hall.specs.Mail.{MailStep, Notes}
+use Rattle.hp_plain.specs.Boxes.{IsMailStep, after_step}
 use Rattle.hp_hall.specs.declared.note.Note.{Note}
 use Rattle.hp_proc.specs.Serving.{gives_segments, takes_segments}
 use Rattle.hp_segs.specs.SegsView.{SegsView}

@@ -4,9 +4,10 @@ use Rattle.std.specs.Prelude.{slice_get}
 use Rattle.std.proofs.lemmas.Bool.{cases_eq}
 use Rattle.std.proofs.lemmas.Option.{none-some, slice_get_past}
 use Rattle.hp_frame.specs.declared.frame.Frame.{Frame}
-use Rattle.hp_hall.specs.InTurn.{AreTakenInTurn, homes_after}
-use Rattle.hp_hall.specs.Keeping.{IsKeptBy, values_after}
-use Rattle.hp_hall.specs.Mail.{IsMail, MailStep, Notes, steps_of}
+use Rattle.hp_plain.specs.InTurn.{AreTakenInTurn, homes_after}
+use Rattle.hp_plain.specs.Keeping.{IsKeptBy, values_after}
+use Rattle.hp_hall.specs.Mail.{MailStep, Notes, steps_of}
+use Rattle.hp_plain.specs.Boxes.{IsMail}
 use Rattle.hp_hall.specs.declared.kept.Kept.{Kept}
 use Rattle.hp_hall.specs.declared.note.Note.{Note}
 use Rattle.hp_proc.specs.Serving.{gives_segments}

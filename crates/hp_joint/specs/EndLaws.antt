@@ -9,10 +9,10 @@ use Rattle.hp_base.specs.PoolLines.{ArePoolLines}
 use Rattle.hp_base.specs.declared.limits.TheConstants.{MAX_DEADLINE, MAX_HEAPS, MAX_PARTICIPANTS, MAX_SEGMENTS}
 use Rattle.hp_base.specs.declared.plan_entry.PlanEntry.{PlanEntry}
 use Rattle.hp_heap.specs.History.{HeapView}
-use Rattle.hp_hall.specs.Course.{IsCourse}
-use Rattle.hp_hall.specs.HallSteps.{slots_of}
-use Rattle.hp_hall.specs.HallView.{HallView, HasDone, IsHall, heard_in, own_at, part_in, seen_in, segs_in, slot_at}
-use Rattle.hp_hall.specs.Opening.{AreHome}
+use Rattle.hp_plain.specs.Course.{IsCourse}
+use Rattle.hp_plain.specs.HallSteps.{slots_of}
+use Rattle.hp_plain.specs.HallView.{HallView, HasDone, IsHall, heard_in, own_at, part_in, seen_in, segs_in, slot_at}
+use Rattle.hp_plain.specs.Opening.{AreHome}
 use Rattle.hp_maps.specs.MapsView.{MapsView}
 use Rattle.hp_maps.specs.declared.table.Table.{Table}
 use Rattle.hp_script.specs.declared.answer.Answer.{Answer}

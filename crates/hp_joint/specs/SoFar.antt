@@ -3,10 +3,10 @@
 use Rattle.std.specs.Prelude.{◌≡◌, ℕ, ◌<◌, ◌≤◌, true, List, length, Some, slice_get, slice_index}
 use Rattle.std.specs.List.{All}
 use Rattle.hp_base.specs.declared.limits.TheConstants.{MAX_HEAPS}
-use Rattle.hp_hall.specs.Course.{IsCourse}
-use Rattle.hp_hall.specs.HallSteps.{opening_hall}
-use Rattle.hp_hall.specs.HallView.{HallView, heard_in, history_in, own_at, part_in, seen_in, segs_in, slot_at}
-use Rattle.hp_hall.specs.Opening.{AreHome, AreInOrder, AreUnused}
+use Rattle.hp_plain.specs.Course.{IsCourse}
+use Rattle.hp_plain.specs.HallSteps.{opening_hall}
+use Rattle.hp_plain.specs.HallView.{HallView, heard_in, history_in, own_at, part_in, seen_in, segs_in, slot_at}
+use Rattle.hp_plain.specs.Opening.{AreHome, AreInOrder, AreUnused}
 use Rattle.hp_heap.specs.History.{HeapView, IsSound}
 use Rattle.hp_script.specs.declared.workload.Workload.{Workload}
 use Rattle.hp_segs.specs.Opening.{opening}

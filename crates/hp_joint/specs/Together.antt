@@ -4,7 +4,8 @@ use Rattle.std.specs.Prelude.{◌≡◌, ℕ, List, [], length, replicate, Some,
 use Rattle.hp_base.specs.declared.pool_line.PoolLine.{PoolLine}
 use Rattle.hp_frame.specs.declared.frame.Frame.{Frame}
 use Rattle.hp_hall.specs.Holding.{IsArmed}
-use Rattle.hp_hall.specs.Mail.{IsMailStep, MailStep, after_step}
+use Rattle.hp_hall.specs.Mail.{MailStep}
+use Rattle.hp_plain.specs.Boxes.{IsMailStep, after_step}
 use Rattle.hp_segs.specs.Opening.{opening}
 use Rattle.hp_segs.specs.SegsView.{SegsView, is_member}
 use Rattle.hp_segs.specs.Sound.{IsSound}

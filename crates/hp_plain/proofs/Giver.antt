@@ -13,11 +13,11 @@ use Rattle.hp_hall.specs.declared.kept.Kept.{Kept}
 use Rattle.hp_hall.specs.declared.kept.Kept.TheVariants.{Heap, Segments}
 use Rattle.hp_hall.specs.Giving.{GivesFor}
 use Rattle.hp_plain.specs.HallSteps.{heap_slot, home_slot}
-use Rattle.hp_plain.specs.HallView.{HallView, IsHall, SlotView, history_in, is_held_by, is_held_heap, part_in, part_of, segs_in, segs_of, serves_in, serves_of, slot_at}
+use Rattle.hp_plain.specs.HallView.{HallView, IsHall, SlotView, history_in, is_held_by, is_held_heap, is_joined, joined_in, part_in, part_of, segs_in, segs_of, serves_in, serves_of, slot_at}
 use Rattle.hp_hall.specs.Holding.{Holding, IsGivenAs, IsHeldWith, part_behind, standing_of}
 use Rattle.hp_hall.specs.Mail.{MailStep}
-use Rattle.hp_hall.specs.Values.{Fits, history_of}
-use Rattle.hp_hall.proofs.Formed.{asks_given, standing_given}
+use Rattle.hp_hall.specs.Values.{Fits, history_of, joined_behind}
+use Rattle.hp_hall.proofs.Formed.{asks_given, members_given, standing_given}
 use Rattle.hp_plain.proofs.Given.{known, same_for_others}
 use Rattle.hp_plain.proofs.Slotted.{MovesSlot, read_alike}
 use Rattle.hp_plain.proofs.Taking.{part_apart, part_by, parts_still, segs_still}
@@ -144,3 +144,29 @@ module _ (me number : ℕ) (before : SlotView) (step : MailStep) (old new : Hall
 
     pub others_given : GivesFor (known old me) (Some before.kept) kept → (who heap : ℕ) → who ≢ me → part_in new who heap ≡ part_in old who heap
     others_given gives = (given_by before.kept kept refl refl gives).1
+
+    joined_by : (was value : Kept) → before.kept ≡ was → kept ≡ value → GivesFor (known old me) (Some was) value
+        → (joined_in new me ≡ joined_behind me value (joined_in old me)) × ((who : ℕ) → who ≢ me → joined_in new who ≡ joined_in old who)
+    joined_by (Heap was) (Heap value) is same gives =
+        let fit = subst (Fits number) same fits in
+        let move = subst (λ (k : Kept). MovesSlot number (home_slot k) me step old new) same moves in
+        let segs = same_segs was value is fit gives move in
+        (ap (is_joined me) segs, λ who apart. ap (is_joined who) segs)
+    joined_by (Heap was) (Segments value) is same gives = absurd gives
+    joined_by (Segments was) (Heap value) is same gives = absurd gives
+    joined_by (Segments was) (Segments value) is same gives =
+        let fit = subst (Fits number) same fits in
+        let move = subst (λ (k : Kept). MovesSlot number (home_slot k) me step old new) same moves in
+        let now = segs_are was value is fit gives move in
+        let before = segs_were was value is fit gives move in (
+          ap (is_joined me) now,
+          λ who apart.
+              ap (is_joined who) now ∙ members_given (known old me) was value gives.form who apart ∙ sym (ap (is_joined who) before),
+        )
+
+    -- the giver is in the roster as the value says, and the others as they were
+    pub joined_given : GivesFor (known old me) (Some before.kept) kept → joined_in new me ≡ joined_behind me kept (joined_in old me)
+    joined_given gives = (joined_by before.kept kept refl refl gives).0
+
+    pub others_joined : GivesFor (known old me) (Some before.kept) kept → (who : ℕ) → who ≢ me → joined_in new who ≡ joined_in old who
+    others_joined gives = (joined_by before.kept kept refl refl gives).1

@@ -4,20 +4,18 @@ use Rattle.std.specs.List.{filter, slice_get, sum_by}
 use Rattle.std.proofs.lemmas.List.{map-append}
 use Rattle.std.proofs.lemmas.List.Elements.{filter-append}
 use Rattle.std.proofs.lemmas.List.Sums.{sum_by-set, sum_by-append, sum_by-cons}
-use Rattle.hp_base.specs.declared.plan.Action.{Action}
-use Rattle.hp_base.specs.declared.plan.Action.TheVariants.{Lose, Repeat, Deliver}
-use Rattle.hp_base.specs.Streams.{HasRisen}
 use Rattle.hp_frame.specs.declared.frame.Frame.{Frame}
 use Rattle.hp_mail.specs.declared.posted.Posted.{Posted}
 use Rattle.hp_mail.specs.declared.posted.Posted.TheVariants.{Sent, Twice, Lost, Full}
 use Rattle.hp_plain.specs.Course.{IsCourse, slot_same}
-use Rattle.hp_plain.specs.HallSteps.{fulls_after, with_mail}
+use Rattle.hp_plain.specs.HallSteps.{with_mail}
 use Rattle.hp_plain.specs.HallView.{HallView, HasDone, slot_at}
 use Rattle.hp_plain.specs.InTurn.{ShowsHome, homes_after, homes_in}
 use Rattle.hp_plain.specs.Keeping.{ShowsValues, values_after, values_in}
-use Rattle.hp_hall.specs.Mail.{MailStep, steps_of}
+use Rattle.hp_hall.specs.Mail.{MailStep, counted_on, full_post, steps_of}
 use Rattle.hp_plain.specs.Boxes.{IsMailStep, box_after, box_of, copies, posted_as}
 use Rattle.hp_plain.specs.Meters.{IsMetered, meters_in}
+use Rattle.hp_plain.specs.PlainPosts.{steps_of-append}
 use Rattle.hp_hall.specs.Weights.{box_weight, boxes_weight, fetched_weight, frame_weight}
 
 copies_weigh : (weight : Frame → ℕ) (frame : Frame) (posted : Posted) → sum_by weight (replicate (copies posted) frame) ≤ 2 * weight frame
@@ -49,56 +47,26 @@ fetch_weighs boxes who below =
     let box : List Frame = box_of boxes who in
     omega (arith, sum_by-set box_weight boxes who (drop 1 box) [] below, front_weighs box)
 
--- what is noted last is the last of its maker's steps
-pub steps_of-push : (who me : ℕ) (step : MailStep) (mail : List (ℕ × MailStep))
-    → steps_of who (mail ++ (me, step) ∷ []) ≡ steps_of who mail ++ steps_of who ((me, step) ∷ [])
-steps_of-push who me step mail =
-    let by : (ℕ × MailStep) → Bool = λ (s : ℕ × MailStep). eqb s.0 who in
-    let what : (ℕ × MailStep) → MailStep = λ (s : ℕ × MailStep). s.1 in
-    ap (map what) (filter-append by mail ((me, step) ∷ [])) ∙ map-append what (filter by mail) (filter by ((me, step) ∷ []))
-
 -- of two states with such a step between them, each participant did what it made
 pub noted_last : (old new : HallView) (me : ℕ) (step : MailStep) → new.mail ≡ old.mail ++ (me, step) ∷ [] → (who : ℕ)
     → HasDone old new who (steps_of who ((me, step) ∷ []))
-noted_last old new me step is who = ap (steps_of who) is ∙ steps_of-push who me step old.mail
+noted_last old new me step is who = ap (steps_of who) is ∙ steps_of-append who old.mail ((me, step) ∷ [])
 
 pub course_mail : (hall : HallView) (who : ℕ) (step : MailStep) (fulls : ℕ) → who < length hall.owns → IsMailStep who step hall.boxes
     → ShowsValues who step (values_in hall) → values_after step (values_in hall) ≡ values_in hall → ShowsHome step (homes_in hall)
-    → homes_after step (homes_in hall) ≡ homes_in hall → IsMetered who step (meters_in hall) (meters_in hall) → hall.fulls ≤ fulls
+    → homes_after step (homes_in hall) ≡ homes_in hall → IsMetered who step (meters_in hall) (meters_in hall) → fulls ≡ counted_on (full_post step) hall.fulls
     → IsCourse hall (with_mail who step fulls hall)
-course_mail hall who step fulls declared is shows still shows_home still_home metered more = record {
+course_mail hall who step fulls declared is shows still shows_home still_home metered counts = record {
   count = refl;
   slots = λ number. slot_same (slot_at hall number);
   numbers = λ other. omega arith;
-  fulls = more;
   clock = omega arith;
   steps = (who, step) ∷ [];
   mail = refl;
+  fulls = omega (arith, counts);
   boxes = (is, refl);
   kept = (record { declared = declared; shows = shows }, sym still);
   turns = (shows_home, sym still_home);
   meters = (meters_in hall, metered, refl);
   agreed = λ agreed. agreed;
 }
-
--- how a delivered frame comes out is never that it was lost
-sent_not_lost : (room : Bool) (line : ℕ) → (cond room Sent Full) ≢ Lost line
-sent_not_lost true line same = cc
-sent_not_lost false line same = cc
-
-twice_not_lost : (more room : Bool) (line : ℕ) → cond more Twice (cond room Sent Full) ≢ Lost line
-twice_not_lost true room line same = cc
-twice_not_lost false room line same = sent_not_lost room line same
-
--- a message is lost exactly where that is planned
-pub lost_as : (action : Action) (count line : ℕ) → (posted_as action count ≡ Lost line) ↔ (action ≡ Lose line)
-lost_as (Lose planned) count line = (λ same. cc, λ same. cc)
-lost_as (Repeat planned) count line = (λ same. absurd (twice_not_lost _ _ line same), λ same. cc)
-lost_as Deliver count line = (λ same. absurd (sent_not_lost _ line same), λ same. cc)
-
--- a full mailbox is counted
-pub full_rises : (posted : Posted) (fulls : ℕ) → posted ≡ Full → HasRisen fulls (fulls_after posted fulls)
-full_rises Full fulls is = omega arith
-full_rises Sent fulls is = cc
-full_rises Twice fulls is = cc
-full_rises (Lost line) fulls is = cc

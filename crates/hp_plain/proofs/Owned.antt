@@ -58,10 +58,10 @@ course_own hall who own below same =
       count = length-set hall.owns who own;
       slots = λ number. slot_same (slot_at hall number);
       numbers = rises;
-      fulls = omega arith;
       clock = omega arith;
       steps = [];
       mail = sym (append-nil hall.mail);
+      fulls = omega arith;
       boxes = refl;
       kept = refl;
       turns = refl;
@@ -82,10 +82,10 @@ module _ (hall : HallView) (who : ℕ) (note : Note) (owns : List Own) (clock : 
     count = count;
     slots = λ number. slot_same (slot_at hall number);
     numbers = rises;
-    fulls = omega arith;
     clock = later;
     steps = (who, Notes note) ∷ [];
     mail = refl;
+    fulls = omega arith;
     boxes = (tt, refl);
     kept = (record { declared = declared; shows = tt }, refl);
     turns = (tt, refl);

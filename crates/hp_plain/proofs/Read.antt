@@ -6,9 +6,9 @@ use Rattle.hp_hall.specs.declared.kept.Kept.TheVariants.{Heap, Segments}
 use Rattle.hp_hall.specs.declared.slot.Slot.{Slot}
 use Rattle.hp_hall.specs.declared.slot.Slot.TheVariants as slots
 use Rattle.hp_hall.specs.declared.slot.TheConstants.{SLOTS}
-use Rattle.hp_plain.specs.HallView.{HallView, SlotView, slot_at, asks_in, heard_in, history_in, log_in, part_in, seen_in}
+use Rattle.hp_plain.specs.HallView.{HallView, SlotView, slot_at, asks_in, heard_in, history_in, is_joined, joined_in, log_in, part_in, seen_in, segs_in, segs_of}
 use Rattle.hp_hall.specs.Slots.{IsSlot, slot_number}
-use Rattle.hp_hall.specs.Values.{Fits, HasAsks, HasEntries, HasLog, asks_of, history_of, log_of}
+use Rattle.hp_hall.specs.Values.{Fits, HasAsks, HasEntries, HasLog, HasMember, asks_of, history_of, log_of}
 
 pub slot_below : (slot : Slot) → IsSlot slot → slot_number slot < SLOTS
 slot_below (slots.Heap index) is = omega (arith, is)
@@ -34,3 +34,8 @@ module _ (hall : HallView) (number : ℕ) (slot : SlotView) (there : slot_at hal
   has_asks (Heap heap) is fits = tt
   has_asks (Segments segs) is fits =
       sym (ap (λ (n : ℕ). asks_in (slot_at hall n)) (sym fits) ∙ ap asks_in there ∙ ap asks_of is)
+
+  pub has_member : (who : ℕ) (kept : Kept) → slot.kept ≡ kept → Fits number kept → HasMember who (joined_in hall who) kept
+  has_member who (Heap heap) is fits = tt
+  has_member who (Segments segs) is fits =
+      sym (ap (is_joined who) (ap (λ (n : ℕ). segs_in (slot_at hall n)) (sym fits) ∙ ap segs_in there ∙ ap segs_of is))

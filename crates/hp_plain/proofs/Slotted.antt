@@ -15,7 +15,7 @@ use Rattle.hp_plain.specs.HallSteps.{after_give, after_take, heap_slot, home_slo
 use Rattle.hp_plain.specs.HallView.{HallView, IsHome, SlotView, is_held_heap, own_at, segs_in, slot_at, taken_from}
 use Rattle.hp_plain.specs.InTurn.{ShowsHome, homes_after, homes_in}
 use Rattle.hp_plain.specs.Keeping.{AreAgreed, IsGivenBy, ShowsValues, values_after, values_in}
-use Rattle.hp_hall.specs.Mail.{MailStep, Gives, Takes}
+use Rattle.hp_hall.specs.Mail.{MailStep, Gives, Takes, full_post}
 use Rattle.hp_plain.specs.Boxes.{IsMailStep, after_step}
 use Rattle.hp_plain.specs.Meters.{IsMetered, meters_in}
 use Rattle.hp_hall.specs.Values.{IsSoundKept}
@@ -84,16 +84,16 @@ module _ (hall : HallView) (number : ℕ) (before slot : SlotView) (there : slot
   course_slot : (who : ℕ) (step : MailStep) → who < length hall.owns → IsMailStep who step hall.boxes → ShowsValues who step (values_in hall)
       → values_in (with_slot number slot hall) ≡ values_after step (values_in hall) → ShowsHome step (homes_in hall)
       → homes_in (with_slot number slot hall) ≡ homes_after step (homes_in hall) → IsMetered who step (meters_in hall) (meters_in hall)
-      → (AreAgreed hall → AreAgreed (with_slot number slot hall))
+      → (AreAgreed hall → AreAgreed (with_slot number slot hall)) → full_post step ≡ 0
       → IsCourse hall (with_mail who step hall.fulls (with_slot number slot hall))
-  course_slot who step declared mailed shows values shows_home homes metered agreed = record {
+  course_slot who step declared mailed shows values shows_home homes metered agreed unfull = record {
     count = refl;
     slots = later_slots;
     numbers = λ other. omega arith;
-    fulls = omega arith;
     clock = omega arith;
     steps = (who, step) ∷ [];
     mail = refl;
+    fulls = omega (arith, unfull);
     boxes = (mailed, refl);
     kept = (record { declared = declared; shows = shows }, values);
     turns = (shows_home, homes);
@@ -165,7 +165,7 @@ module _ (old new : HallView) (who number : ℕ) (declared : who < length old.ow
       (agreed_alike old slotted
       (read_alike segs_in number out old slotted (slice_get-set_same old.slots number out below)
       (λ other apart. slice_get-set_other old.slots number other out apart) (ap segs_in (sym there)) MAX_HEAPS)
-      (λ other. omega arith)))
+      (λ other. omega arith)) refl)
 
   -- and what a give does
   pub gave : (before : SlotView) (kept : Kept) → slot_at old number ≡ Some before → is_none before.holder ≡ false
@@ -176,4 +176,4 @@ module _ (old new : HallView) (who number : ℕ) (declared : who < length old.ow
       (course_slot old number before (home_slot kept) there later who (Gives number kept) declared tt
       (record { before = before.kept; there = value_at old number before there; by = by; sound = sound })
       (map-set (λ (s : SlotView). s.kept) old.slots number (home_slot kept)) (home_at old number before there ∙ ap Some out)
-      (map-set (λ (s : SlotView). is_none s.holder) old.slots number (home_slot kept)) refl agreed)
+      (map-set (λ (s : SlotView). is_none s.holder) old.slots number (home_slot kept)) refl agreed refl)

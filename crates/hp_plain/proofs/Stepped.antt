@@ -3,10 +3,10 @@ use Rattle.std.proofs.Common.{◌≡◌, ℕ, List, [], ◌∷◌, ◌++◌, ◌
 use Rattle.std.specs.List.{slice_index_or}
 use Rattle.hp_plain.specs.Course.{IsCourse}
 use Rattle.hp_plain.specs.HallSteps.{with_mail, with_note}
-use Rattle.hp_plain.specs.HallView.{HallView, HasDone, IsHome, own_at, part_in, slot_at, taken_from}
+use Rattle.hp_plain.specs.HallView.{HallView, HasDone, IsHome, joined_in, own_at, part_in, slot_at, taken_from}
 use Rattle.hp_plain.specs.InTurn.{ShowsHome, homes_after, homes_in}
 use Rattle.hp_plain.specs.Keeping.{ShowsValues, values_after, values_in}
-use Rattle.hp_hall.specs.Mail.{MailStep, Notes, steps_of}
+use Rattle.hp_hall.specs.Mail.{MailStep, Notes, counted_on, full_post, steps_of}
 use Rattle.hp_plain.specs.Boxes.{IsMailStep}
 use Rattle.hp_plain.specs.Meters.{IsMetered, IsNoted, meters_in}
 use Rattle.hp_hall.specs.Own.{Own, after_ack}
@@ -35,18 +35,20 @@ pub record MakesMail (who : ℕ) (step : MailStep) (old new : HallView) : Type 0
   pub taken : (number : ℕ) → taken_from (slot_at new number) ≡ taken_from (slot_at old number)
   pub home : (number : ℕ) → IsHome (slot_at old number) → IsHome (slot_at new number)
   pub part : (other heap : ℕ) → part_in new other heap ≡ part_in old other heap
+  pub joined : (other : ℕ) → joined_in new other ≡ joined_in old other
 
 pub makes_mail : (old new : HallView) (who : ℕ) (step : MailStep) (fulls : ℕ) → new ≡ with_mail who step fulls old
     → who < length old.owns → IsMailStep who step old.boxes → ShowsValues who step (values_in old)
     → values_after step (values_in old) ≡ values_in old → ShowsHome step (homes_in old) → homes_after step (homes_in old) ≡ homes_in old
-    → IsMetered who step (meters_in old) (meters_in old) → old.fulls ≤ fulls → MakesMail who step old new
-makes_mail old new who step fulls is declared mailed shows still shows_home still_home metered rises = record {
+    → IsMetered who step (meters_in old) (meters_in old) → fulls ≡ counted_on (full_post step) old.fulls → MakesMail who step old new
+makes_mail old new who step fulls is declared mailed shows still shows_home still_home metered counts = record {
   makes = makes_step old new who step (ap (λ (h : HallView). h.mail) is) (ap (λ (h : HallView). h.owns) is)
       (ap (λ (h : HallView). h.clock) is)
-      (subst (IsCourse old) (sym is) (course_mail old who step fulls declared mailed shows still shows_home still_home metered rises));
+      (subst (IsCourse old) (sym is) (course_mail old who step fulls declared mailed shows still shows_home still_home metered counts));
   taken = λ number. ap (λ (h : HallView). taken_from (slot_at h number)) is;
   home = λ number home. subst (λ (h : HallView). IsHome (slot_at h number)) (sym is) home;
   part = λ other heap. ap (λ (h : HallView). part_in h other heap) is;
+  joined = λ other. ap (λ (h : HallView). joined_in h other) is;
 }
 
 -- a note alone: the mailboxes are as they were too

@@ -10,7 +10,7 @@ use Rattle.hp_segs.specs.SegsView.{SegsView}
 use Rattle.hp_hall.specs.declared.kept.Kept.{Kept}
 use Rattle.hp_hall.specs.declared.kept.Kept.TheVariants.{Heap, Segments}
 use Rattle.hp_plain.specs.HallSteps.{home_slot, out_slot}
-use Rattle.hp_plain.specs.HallView.{HallView, IsHall, SlotView, history_in, part_in, part_of, segs_in, serves_in, slot_at}
+use Rattle.hp_plain.specs.HallView.{HallView, IsHall, SlotView, history_in, is_joined, joined_in, part_in, part_of, segs_in, serves_in, slot_at}
 use Rattle.hp_hall.specs.Holding.{HasPages, HeapPart, Holding, IsArmed, IsHeldWith, IsTakenAs, StandsFor, owned_by, standing_of}
 use Rattle.hp_hall.specs.Mail.{MailStep}
 use Rattle.hp_hall.specs.Values.{Fits}
@@ -65,6 +65,10 @@ module _ (me number : ℕ) (kept : Kept) (step : MailStep) (old new : HallView) 
     (moves : MovesSlot number (out_slot me kept) me step old new) where
   still : segs_in (slot_at new MAX_HEAPS) ≡ segs_in (slot_at old MAX_HEAPS)
   still = segs_still number (out_slot me kept) me step old new moves (ap segs_in (sym there))
+
+  -- nobody joins or leaves
+  pub joined_taken : (who : ℕ) → joined_in new who ≡ joined_in old who
+  joined_taken who = ap (is_joined who) still
 
   pub others_taken : (who heap : ℕ) → who ≢ me → part_in new who heap ≡ part_in old who heap
   others_taken who heap apart =

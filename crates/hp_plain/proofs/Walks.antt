@@ -18,6 +18,7 @@ use Rattle.hp_hall.specs.declared.kept.Kept.TheVariants.{Heap, Segments}
 use Rattle.hp_plain.specs.Course.{IsCourse, IsLater}
 use Rattle.hp_plain.specs.CourseLaws.{AreSegsOf, IdleAddNoEntries, IdleStayInPlace, IsSoundAndArmed, MovesSound, RangesStay, SoloStepsAreItsOwn, UndeclaredDoNothing, ValuesStaySound}
 use Rattle.hp_plain.specs.HallView.{HallView, SlotView, history_in, segs_in, segs_of, slot_at}
+use Rattle.hp_plain.specs.PlainPosts.{undeclared}
 use Rattle.hp_plain.specs.Keeping.{IsGivenBy, IsKeptBy, ShowsValues, values_after, values_in}
 use Rattle.hp_hall.specs.Mail.{MailStep, Posts, Fetches, Takes, Gives, Notes, steps_of}
 use Rattle.hp_hall.specs.Values.{IsSoundKept, history_of}
@@ -69,14 +70,6 @@ module _ (who : ℕ) where
   idle_apart (step ∷ steps) none =
       let apart = apart_by step (filter (λ (s : ℕ × MailStep). eqb s.0 who) steps) (eqb step.0 who) refl none in
       (apart.0, idle_apart steps apart.1)
-
-  undeclared : (count : ℕ) → count ≤ who → (steps : List (ℕ × MailStep)) (old new : List Kept) → IsKeptBy count steps old new → steps_of who steps ≡ []
-  undeclared count past [] old new by = refl
-  undeclared count past (step ∷ steps) old new by =
-      ap (map (λ (s : ℕ × MailStep). s.1))
-      (cond-false (eqb step.0 who) (step ∷ filter (λ (s : ℕ × MailStep). eqb s.0 who) steps) (filter (λ (s : ℕ × MailStep). eqb s.0 who) steps)
-      (ne_eqb step.0 who (λ same. let below = by.0.declared in absurd (omega (arith, same, past, below)))))
-      ∙ undeclared count past steps (values_after step.1 old) new by.1
 
   entries_left : (maker : ℕ) (before kept : Kept) → maker ≢ who → IsGivenBy maker before kept
       → entries_of who (history_of kept) ≡ entries_of who (history_of before)

@@ -1,9 +1,9 @@
 -- Mailboxes of a hall of plain values: the rule "Messages" of docs/PARTICIPANTS.md.
-use Rattle.std.specs.Prelude.{◌≡◌, ℕ, ◌+◌, nat_lt, List, [], ◌∷◌, ◌++◌, length, drop, replicate, slice_get, slice_index_or, slice_set, if◌then◌else◌, ⊤}
+use Rattle.std.specs.Prelude.{◌≡◌, ℕ, ◌+◌, nat_lt, sum_by, List, [], ◌∷◌, ◌++◌, length, drop, replicate, slice_get, slice_index_or, slice_set, if◌then◌else◌, ⊤}
 use Rattle.hp_base.specs.declared.plan.Action.{Action}
 use Rattle.hp_base.specs.declared.plan.Action.TheVariants.{Lose, Repeat, Deliver}
 use Rattle.hp_frame.specs.declared.frame.Frame.{Frame}
-use Rattle.hp_hall.specs.Mail.{Fetches, Gives, MailStep, Notes, Posts, Takes}
+use Rattle.hp_hall.specs.Mail.{Fetches, Gives, MailStep, Notes, Posts, Takes, full_post}
 use Rattle.hp_mail.specs.declared.posted.Posted.{Posted}
 use Rattle.hp_mail.specs.declared.posted.Posted.TheVariants.{Sent, Twice, Lost, Full}
 use Rattle.hp_plain.specs.declared.mailbox.TheConstants.{MAILBOX_FRAMES}
@@ -50,3 +50,7 @@ IsMailStep who (Notes note) boxes = ⊤
 abbrev pub IsMail : List (ℕ × MailStep) → List (List Frame) → List (List Frame) → Type 0
 IsMail [] old new = new ≡ old
 IsMail (step ∷ steps) old new = IsMailStep step.0 step.1 old × IsMail steps (after_step step.0 step.1 old) new
+
+-- how many of these steps are posts that found a mailbox full
+abbrev pub fulls_among : List (ℕ × MailStep) → ℕ
+fulls_among steps = sum_by (λ step. full_post step.1) steps

@@ -3,6 +3,7 @@
 use Rattle.std.specs.Prelude.{◌≡◌, ℕ, Bool, ◌≤◌, ◌<◌, List, [], ◌∷◌, ◌++◌, length, Option, Some, None, refl, ⊤}
 use Rattle.std.proofs.Common.{sym, ap, subst, ◌∙◌, arith}
 use Rattle.std.proofs.lemmas.List.{append-nil, append_assoc}
+use Rattle.std.proofs.lemmas.List.Sums.{sum_by-append}
 use Rattle.hp_base.specs.declared.limits.TheConstants.{MAX_HEAPS}
 use Rattle.hp_frame.specs.declared.frame.Frame.{Frame}
 use Rattle.hp_heap.specs.declared.entry.Entry.{Entry}
@@ -16,8 +17,8 @@ use Rattle.hp_hall.specs.declared.kept.Kept.TheVariants.{Heap, Segments}
 use Rattle.hp_plain.specs.HallView.{HallView, SlotView, slot_at, asks_in, heard_in, log_in, seen_in, own_at, HasDone}
 use Rattle.hp_plain.specs.InTurn.{AreTakenInTurn, homes_after, homes_in}
 use Rattle.hp_plain.specs.Keeping.{AreAgreed, IsKeptBy, values_after, values_in}
-use Rattle.hp_hall.specs.Mail.{MailStep, steps_of}
-use Rattle.hp_plain.specs.Boxes.{IsMail, after_step}
+use Rattle.hp_hall.specs.Mail.{MailStep, counted_on, full_post, steps_of}
+use Rattle.hp_plain.specs.Boxes.{IsMail, after_step, fulls_among}
 use Rattle.hp_plain.specs.Meters.{AreMetered, Meters, meters_in}
 use Rattle.hp_hall.specs.Values.{asks_of, log_of}
 
@@ -50,17 +51,17 @@ IsLater None (Some new) = ⊥
 IsLater (Some old) None = ⊥
 IsLater (Some old) (Some new) = IsLaterKept old.kept new.kept
 
--- from one state of a hall to a later one: the same participants; each slot's value is one of later on; numbers, the count of full
--- mailboxes and the clock do not fall; the mailboxes, the values in the slots, the clock and the numbers are those that the steps made on
--- the way leave, and by these each slot was taken and given back in turn; and granted records that all members have taken in stay so
+-- from one state of a hall to a later one: the same participants; each slot's value is one of later on; numbers and the clock do not fall;
+-- the mailboxes and the count of full ones, the values in the slots, the clock and the numbers are those that the steps made on the way
+-- leave, and by these each slot was taken and given back in turn; and granted records that all members have taken in stay so
 pub record IsCourse (old new : HallView) : Type 0 where
   pub count : length new.owns ≡ length old.owns
   pub slots : (number : ℕ) → IsLater (slot_at old number) (slot_at new number)
   pub numbers : (who : ℕ) → (own_at old who).number ≤ (own_at new who).number
-  pub fulls : old.fulls ≤ new.fulls
   pub clock : old.clock ≤ new.clock
   pub steps : List (ℕ × MailStep)
   pub mail : new.mail ≡ old.mail ++ steps
+  pub fulls : new.fulls ≡ counted_on (fulls_among steps) old.fulls
   pub boxes : IsMail steps old.boxes new.boxes
   pub kept : IsKeptBy (length old.owns) steps (values_in old) (values_in new)
   pub turns : AreTakenInTurn steps (homes_in old) (homes_in new)
@@ -184,7 +185,7 @@ course_then a b c here next = record {
   count = next.count ∙ here.count;
   slots = λ number. slot_then (slot_at a number) (slot_at b number) (slot_at c number) (here.slots number) (next.slots number);
   numbers = λ who. omega (arith, here.numbers who, next.numbers who);
-  fulls = omega (arith, here.fulls, next.fulls);
+  fulls = omega (arith, here.fulls, next.fulls, sum_by-append (λ (step : ℕ × MailStep). full_post step.1) here.steps next.steps);
   clock = omega (arith, here.clock, next.clock);
   steps = here.steps ++ next.steps;
   mail = goes_on_by a.mail b.mail c.mail here.steps next.steps here.mail next.mail;

@@ -1,5 +1,5 @@
 -- What the calls of a hall of plain values leave: the rules "Halls" and "Messages" of docs/PARTICIPANTS.md.
-use Rattle.std.specs.Prelude.{ℕ, ◌+◌, ◌-◌, ◌^◌, min, Bool, List, [], ◌∷◌, ◌++◌, Option, Some, None, map, replicate, slice_set}
+use Rattle.std.specs.Prelude.{ℕ, Bool, List, [], ◌∷◌, ◌++◌, Option, Some, None, map, replicate, slice_set}
 use Rattle.hp_base.specs.declared.plan.Action.{Action}
 use Rattle.hp_frame.specs.declared.frame.Frame.{Frame}
 use Rattle.hp_heap.specs.History.{HeapView}
@@ -9,9 +9,8 @@ use Rattle.hp_hall.specs.declared.kept.Kept.TheVariants.{Heap, Segments}
 use Rattle.hp_hall.specs.declared.note.Note.{Note}
 use Rattle.hp_hall.specs.declared.note.Note.TheVariants.{Acked, Paused}
 use Rattle.hp_mail.specs.declared.posted.Posted.{Posted}
-use Rattle.hp_mail.specs.declared.posted.Posted.TheVariants.{Sent, Twice, Lost, Full}
 use Rattle.hp_plain.specs.HallView.{HallView, SlotView}
-use Rattle.hp_hall.specs.Mail.{MailStep, Posts, Takes, Gives, Notes}
+use Rattle.hp_hall.specs.Mail.{MailStep, Posts, Takes, Gives, Notes, counted_on, full_of}
 use Rattle.hp_plain.specs.Boxes.{after_step}
 use Rattle.hp_hall.specs.Own.{Own, after_ack}
 
@@ -48,13 +47,6 @@ with_slot number slot hall = record hall { slots = slice_set hall.slots number s
 abbrev pub with_own : ℕ → Own → HallView → HallView
 with_own who own hall = record hall { owns = slice_set hall.owns who own }
 
--- a count of full mailboxes after a post; at its type's end it stands still
-abbrev pub fulls_after : Posted → ℕ → ℕ
-fulls_after Sent fulls = fulls
-fulls_after Twice fulls = fulls
-fulls_after (Lost line) fulls = fulls
-fulls_after Full fulls = min (fulls + 1) (2 ^ 64 - 1)
-
 -- after a step, with so many full mailboxes counted
 abbrev pub with_mail : ℕ → MailStep → ℕ → HallView → HallView
 with_mail who step fulls hall = record hall {
@@ -73,7 +65,7 @@ after_give who number kept hall = with_mail who (Gives number kept) hall.fulls (
 
 -- after a frame was posted
 abbrev pub after_post : ℕ → ℕ → Frame → Action → Posted → HallView → HallView
-after_post who to frame action posted hall = with_mail who (Posts to frame action posted) (fulls_after posted hall.fulls) hall
+after_post who to frame action posted hall = with_mail who (Posts to frame action posted) (counted_on (full_of posted) hall.fulls) hall
 
 -- after a note was made
 abbrev pub with_note : ℕ → Note → HallView → HallView

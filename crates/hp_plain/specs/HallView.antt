@@ -7,7 +7,7 @@ use Rattle.hp_heap.specs.declared.entry.Entry.{Entry}
 use Rattle.hp_heap.specs.History.{HeapView, entries_of}
 use Rattle.hp_log.specs.declared.log_record.LogRecord.{LogRecord}
 use Rattle.hp_segs.specs.LaterSteps.{armed_ask}
-use Rattle.hp_segs.specs.SegsView.{SegsView}
+use Rattle.hp_segs.specs.SegsView.{SegsView, is_member}
 use Rattle.hp_segs.specs.Sound.{IsSound}
 use Rattle.hp_segs.specs.declared.outcome.AskLog.{AskLog}
 use Rattle.hp_hall.specs.declared.kept.Kept.{Kept}
@@ -112,6 +112,15 @@ seen_in hall = log_in (slot_at hall MAX_HEAPS)
 
 abbrev pub heard_in : HallView → List AskLog
 heard_in hall = asks_in (slot_at hall MAX_HEAPS)
+
+-- a participant is in the roster of a segment value
+abbrev pub is_joined : ℕ → Option SegsView → Bool
+is_joined who None = false
+is_joined who (Some segs) = is_member segs.roster who
+
+-- a participant is in the roster, as far as the segment value was given back
+abbrev pub joined_in : HallView → ℕ → Bool
+joined_in hall who = is_joined who (segs_in (slot_at hall MAX_HEAPS))
 
 -- a participant's own part
 abbrev pub own_at : HallView → ℕ → Own

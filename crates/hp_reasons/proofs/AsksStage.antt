@@ -14,7 +14,7 @@ use Rattle.hp_core.specs.declared.asked.Asked.TheVariants as want
 use Rattle.hp_core.specs.declared.phase.Phase.TheVariants.{Idle}
 use Rattle.hp_frame.specs.declared.frame.Frame.{Frame}
 use Rattle.hp_frame.specs.declared.message.Body.{Body}
-use Rattle.hp_hall.specs.Mail.{box_after, box_of, copies, posted_as}
+use Rattle.hp_plain.specs.Boxes.{box_after, box_of, copies, posted_as}
 use Rattle.hp_hall.specs.Weights.{box_weight, boxes_weight, pending_at}
 use Rattle.hp_mail.specs.declared.posted.Posted.{Posted}
 use Rattle.hp_log.proofs.Counts.{count_cons}

@@ -7,7 +7,7 @@ use Rattle.hp_core.specs.declared.asked.Asked.{Asked}
 use Rattle.hp_core.specs.declared.phase.Phase.{Phase}
 use Rattle.hp_core.specs.declared.phase.Phase.TheVariants.{Idle}
 use Rattle.hp_frame.specs.declared.frame.Frame.{Frame}
-use Rattle.hp_hall.specs.Mail.{box_of, copies}
+use Rattle.hp_plain.specs.Boxes.{box_of, copies}
 use Rattle.hp_hall.specs.Weights.{box_weight, boxes_weight, counted, frame_weight}
 use Rattle.hp_mail.specs.declared.posted.Posted.{Posted}
 use Rattle.hp_mail.specs.declared.posted.Posted.TheVariants.{Full, Lost, Sent, Twice}

@@ -6,7 +6,7 @@ use Rattle.std.proofs.lemmas.Bool.{cases_eq}
 use Rattle.hp_core.specs.declared.asked.Asked.{Asked}
 use Rattle.hp_core.specs.declared.asked.Asked.TheVariants as want
 use Rattle.hp_frame.specs.declared.message.Body.{Body}
-use Rattle.hp_hall.specs.declared.mailbox.TheConstants.{MAILBOX_FRAMES}
+use Rattle.hp_plain.specs.declared.mailbox.TheConstants.{MAILBOX_FRAMES}
 use Rattle.hp_log.specs.declared.log_record.LogRecord.{LogRecord}
 use Rattle.hp_segs.specs.SegsView.{is_member}
 use Rattle.hp_reasons.specs.Episode.{AreAnswersOrCopies, AreLevel, EndsLevel, GrowsLevel, IsGoneBefore, Setting, SettlesLevel, StartsLevel, World, is_sync, mail_of, number_of_party}

@@ -13,7 +13,7 @@ use Rattle.hp_core.specs.declared.phase.Phase.{Phase}
 use Rattle.hp_core.specs.declared.phase.Phase.TheVariants.{Waiting}
 use Rattle.hp_frame.specs.declared.frame.Frame.{Frame}
 use Rattle.hp_frame.specs.declared.message.Body.{Body}
-use Rattle.hp_hall.specs.Mail.{box_of}
+use Rattle.hp_plain.specs.Boxes.{box_of}
 use Rattle.hp_proc.specs.Coordinating.{IsAskIn, IsNoAsk, is_sync_reply}
 use Rattle.hp_proc.specs.Falling.{HasPassedAt, IsDue}
 use Rattle.hp_proc.specs.Frames.{Says}

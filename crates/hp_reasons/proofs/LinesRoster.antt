@@ -6,12 +6,12 @@ use Rattle.std.proofs.lemmas.Option.{same_Some, slice_get-map, slice_get_within}
 use Rattle.hp_base.specs.declared.limits.TheConstants.{MAX_HEAPS}
 use Rattle.hp_frame.specs.declared.frame.Frame.{Frame}
 use Rattle.hp_frame.specs.declared.message.Body.{Body}
-use Rattle.hp_hall.specs.HallView.{HallView, SlotView, slot_at}
-use Rattle.hp_hall.specs.Keeping.{AreSegsGivenBy, GivesInto, IsGivenBy, IsKeptBy, ShowsValues, values_after, values_in}
+use Rattle.hp_plain.specs.HallView.{HallView, SlotView, slot_at}
+use Rattle.hp_plain.specs.Keeping.{AreSegsGivenBy, GivesInto, IsGivenBy, IsKeptBy, ShowsValues, values_after, values_in}
 use Rattle.hp_hall.specs.Mail.{Fetches, Gives, MailStep, Notes, Posts, Takes}
 use Rattle.hp_hall.specs.declared.kept.Kept.{Kept}
 use Rattle.hp_hall.specs.declared.kept.Kept.TheVariants.{Heap, Segments}
-use Rattle.hp_hall.proofs.Slotted.{slice_get-set_other, slice_get-set_same}
+use Rattle.hp_plain.proofs.Slotted.{slice_get-set_other, slice_get-set_same}
 use Rattle.hp_segs.specs.SegsView.{SegsView, is_member}
 use Rattle.hp_proc.specs.Acting.{Acts}
 use Rattle.hp_proc.specs.Coordinating.{IsServed}

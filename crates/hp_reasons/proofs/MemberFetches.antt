@@ -8,7 +8,7 @@ use Rattle.hp_core.specs.declared.asked.Asked.{Asked}
 use Rattle.hp_frame.specs.declared.frame.Frame.{Frame}
 use Rattle.hp_frame.specs.declared.message.Body.{Body}
 use Rattle.hp_frame.specs.declared.message.Body.TheVariants.{Alloc, Answer, Free, Sync}
-use Rattle.hp_hall.specs.Mail.{box_of}
+use Rattle.hp_plain.specs.Boxes.{box_of}
 use Rattle.hp_maps.specs.MapsView.{MapsView, calls_of}
 use Rattle.hp_segs.proofs.ListFacts.{or_off_parts}
 use Rattle.hp_segs.specs.SegsView.{is_member}

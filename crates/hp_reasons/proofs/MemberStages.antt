@@ -15,7 +15,7 @@ use Rattle.hp_core.specs.declared.phase.Phase.TheVariants.{Idle, Waiting}
 use Rattle.hp_core.specs.declared.phase.Round.{Round}
 use Rattle.hp_frame.specs.declared.message.Body.{Body}
 use Rattle.hp_frame.specs.declared.message.Body.TheVariants.{Answer}
-use Rattle.hp_hall.proofs.Slotted.{slice_get-set_other}
+use Rattle.hp_plain.proofs.Slotted.{slice_get-set_other}
 use Rattle.hp_segs.specs.SegsView.{SegsView, closed_number, grants_or_refuses, is_member}
 use Rattle.hp_segs.specs.Sound.{IsSound}
 use Rattle.hp_segs.specs.declared.growth.Growth.{Growth}

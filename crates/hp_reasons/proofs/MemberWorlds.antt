@@ -5,7 +5,7 @@ use Rattle.hp_base.specs.declared.plan_entry.MsgKind.TheVariants as message
 use Rattle.hp_frame.specs.declared.message.Body.{Body}
 use Rattle.hp_hall.specs.Holding.{IsArmed}
 use Rattle.hp_maps.specs.MapsView.{calls_of}
-use Rattle.hp_hall.proofs.Slotted.{slice_get-set_other}
+use Rattle.hp_plain.proofs.Slotted.{slice_get-set_other}
 use Rattle.hp_segs.specs.LaterSteps.{has_failed_from, noted_failure}
 use Rattle.hp_segs.specs.SegsView.{closed_number, is_member}
 use Rattle.hp_segs.specs.Sound.{IsSound}

@@ -11,11 +11,11 @@ use Rattle.hp_frame.specs.declared.frame.Frame.{Frame}
 use Rattle.hp_frame.specs.declared.message.Body.{Body}
 use Rattle.hp_frame.specs.declared.message.Message.{Message}
 use Rattle.hp_frame.proofs.SpellingLemmas.{same_message}
-use Rattle.hp_hall.specs.Mail.{box_after, box_of, copies, posted_as}
-use Rattle.hp_hall.specs.declared.mailbox.TheConstants.{MAILBOX_FRAMES}
+use Rattle.hp_plain.specs.Boxes.{box_after, box_of, copies, posted_as}
+use Rattle.hp_plain.specs.declared.mailbox.TheConstants.{MAILBOX_FRAMES}
 use Rattle.hp_mail.specs.declared.posted.Posted.{Posted}
 use Rattle.hp_mail.specs.declared.posted.Posted.TheVariants.{Full, Sent, Twice}
-use Rattle.hp_hall.proofs.Slotted.{slice_get-set_other, slice_get-set_same}
+use Rattle.hp_plain.proofs.Slotted.{slice_get-set_other, slice_get-set_same}
 use Rattle.hp_proc.specs.Frames.{Says, SaysNothing, to_handler}
 use Rattle.hp_reasons.specs.Counting.{is_lost}
 use Rattle.hp_reasons.specs.Episode.{AreSaid}

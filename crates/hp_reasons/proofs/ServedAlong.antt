@@ -1,8 +1,8 @@
 -- What one serving makes of a hall in which that participant alone did something: of what all share, and of the participant.
 use Rattle.std.proofs.Common.{◌≡◌, ◌∙◌, ℕ, ◌<◌, Bool, List, length, Some, ap, subst, arith}
 use Rattle.std.proofs.lemmas.List.{length-map}
-use Rattle.hp_hall.specs.Course.{IsCourse}
-use Rattle.hp_hall.specs.HallView.{HallView}
+use Rattle.hp_plain.specs.Course.{IsCourse}
+use Rattle.hp_plain.specs.HallView.{HallView}
 use Rattle.hp_hall.specs.Mail.{MailStep}
 use Rattle.hp_proc.specs.Coordinating.{IsCoreServed}
 use Rattle.hp_proc.specs.Party.{Party}

@@ -7,17 +7,18 @@ use Rattle.std.proofs.lemmas.Option.{same_Some, slice_get-map}
 use Rattle.hp_base.specs.declared.limits.TheConstants.{MAX_HEAPS, MAX_PARTICIPANTS}
 use Rattle.hp_frame.specs.declared.frame.Frame.{Frame}
 use Rattle.hp_segs.specs.SegsView.{SegsView}
-use Rattle.hp_hall.specs.Course.{IsCourse}
-use Rattle.hp_hall.specs.HallView.{HallView, IsHall, SlotView, segs_in, segs_of, slot_at}
-use Rattle.hp_hall.specs.Keeping.{IsKeptBy, values_in}
-use Rattle.hp_hall.specs.Mail.{Fetches, Gives, IsMail, MailStep, Notes, Posts, Takes, after_step, box_after, box_of}
-use Rattle.hp_hall.specs.Meters.{AreMetered, meters_in}
+use Rattle.hp_plain.specs.Course.{IsCourse}
+use Rattle.hp_plain.specs.HallView.{HallView, IsHall, SlotView, segs_in, segs_of, slot_at}
+use Rattle.hp_plain.specs.Keeping.{IsKeptBy, values_in}
+use Rattle.hp_hall.specs.Mail.{Fetches, Gives, MailStep, Notes, Posts, Takes}
+use Rattle.hp_plain.specs.Boxes.{IsMail, after_step, box_after, box_of}
+use Rattle.hp_plain.specs.Meters.{AreMetered, meters_in}
 use Rattle.hp_hall.specs.Values.{Fits}
 use Rattle.hp_hall.specs.declared.kept.Kept.{Kept}
 use Rattle.hp_hall.specs.declared.kept.Kept.TheVariants.{Heap, Segments}
 use Rattle.hp_hall.specs.declared.note.Note.{Note}
 use Rattle.hp_hall.specs.declared.note.Note.TheVariants.{Acked, Loaded, Paused, Read, Yielded}
-use Rattle.hp_hall.proofs.Slotted.{value_at}
+use Rattle.hp_plain.proofs.Slotted.{value_at}
 use Rattle.hp_solo.specs.Sequence.{IsCall, IsCallNote}
 use Rattle.hp_reasons.specs.Shared.{IsSharedIn, Shared}
 use Rattle.hp_reasons.specs.Worlds.{AreCalls, CoursesGoAlong, GoesAlong, IsInOrder}

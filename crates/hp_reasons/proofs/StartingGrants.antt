@@ -19,7 +19,7 @@ use Rattle.hp_core.specs.declared.phase.Round.{Round}
 use Rattle.hp_core.proofs.GivingLemmas.{primary_alone}
 use Rattle.hp_core.proofs.RoundLemmas.{grant_has_outcome, grant_of_round, growth_of, none_below}
 use Rattle.hp_frame.specs.declared.message.Body.{Body}
-use Rattle.hp_hall.specs.declared.mailbox.TheConstants.{MAILBOX_FRAMES}
+use Rattle.hp_plain.specs.declared.mailbox.TheConstants.{MAILBOX_FRAMES}
 use Rattle.hp_segs.specs.LaterSteps.{noted_failure}
 use Rattle.hp_segs.specs.SegsView.{SegsView, is_member}
 use Rattle.hp_segs.specs.Steps.{after_grant}

@@ -15,7 +15,7 @@ use Rattle.hp_core.specs.declared.out.Out.TheVariants as out
 use Rattle.hp_core.specs.declared.phase.Phase.TheVariants.{Idle}
 use Rattle.hp_frame.specs.declared.frame.Frame.{Frame}
 use Rattle.hp_frame.specs.declared.message.Body.{Body}
-use Rattle.hp_hall.specs.Mail.{box_after, box_of, copies, posted_as}
+use Rattle.hp_plain.specs.Boxes.{box_after, box_of, copies, posted_as}
 use Rattle.hp_log.proofs.Counts.{count_append, count_none}
 use Rattle.hp_segs.specs.SegsView.{grants_or_refuses}
 use Rattle.hp_proc.specs.Frames.{Says}

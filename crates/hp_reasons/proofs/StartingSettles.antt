@@ -17,7 +17,7 @@ use Rattle.hp_core.specs.declared.phase.Round.{Round}
 use Rattle.hp_core.proofs.GivingLemmas.{primary_alone}
 use Rattle.hp_frame.specs.declared.frame.Frame.{Frame}
 use Rattle.hp_frame.specs.declared.message.Body.TheVariants.{Sync}
-use Rattle.hp_hall.specs.declared.mailbox.TheConstants.{MAILBOX_FRAMES}
+use Rattle.hp_plain.specs.declared.mailbox.TheConstants.{MAILBOX_FRAMES}
 use Rattle.hp_segs.specs.LaterSteps.{noted_failure}
 use Rattle.hp_segs.specs.SegsView.{SegsView, closed_number, is_member, outcome_of}
 use Rattle.hp_segs.specs.declared.growth.Growth.{Growth}

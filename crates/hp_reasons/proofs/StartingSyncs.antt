@@ -12,8 +12,8 @@ use Rattle.hp_core.specs.Mapped.{other_members}
 use Rattle.hp_frame.specs.declared.frame.Frame.{Frame}
 use Rattle.hp_frame.specs.declared.message.Body.{Body}
 use Rattle.hp_frame.specs.declared.message.Body.TheVariants.{Sync}
-use Rattle.hp_hall.specs.Mail.{box_of, posted_as}
-use Rattle.hp_hall.specs.declared.mailbox.TheConstants.{MAILBOX_FRAMES}
+use Rattle.hp_plain.specs.Boxes.{box_of, posted_as}
+use Rattle.hp_plain.specs.declared.mailbox.TheConstants.{MAILBOX_FRAMES}
 use Rattle.hp_heap.specs.Choice.{has_bit}
 use Rattle.hp_segs.proofs.QueryLemmas.{get_within}
 use Rattle.hp_segs.specs.SegsView.{is_member}

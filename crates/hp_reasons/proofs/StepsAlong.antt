@@ -9,16 +9,17 @@ use Rattle.hp_base.specs.declared.plan.Action.{Action}
 use Rattle.hp_frame.specs.declared.frame.Frame.{Frame}
 use Rattle.hp_heap.specs.History.{HeapView}
 use Rattle.hp_segs.specs.SegsView.{SegsView}
-use Rattle.hp_hall.specs.Keeping.{GivesInto, IsGivenBy, IsKeptBy, ShowsValues, values_after}
-use Rattle.hp_hall.specs.Mail.{Fetches, Gives, IsMail, IsMailStep, MailStep, Notes, Posts, Takes, after_step, box_after, box_of, posted_as}
-use Rattle.hp_hall.specs.Meters.{AreMetered, IsMetered, IsNoted, Meters}
+use Rattle.hp_plain.specs.Keeping.{GivesInto, IsGivenBy, IsKeptBy, ShowsValues, values_after}
+use Rattle.hp_hall.specs.Mail.{Fetches, Gives, MailStep, Notes, Posts, Takes}
+use Rattle.hp_plain.specs.Boxes.{IsMail, IsMailStep, after_step, box_after, box_of, posted_as}
+use Rattle.hp_plain.specs.Meters.{AreMetered, IsMetered, IsNoted, Meters}
 use Rattle.hp_hall.specs.Values.{Fits}
 use Rattle.hp_hall.specs.declared.kept.Kept.{Kept}
 use Rattle.hp_hall.specs.declared.kept.Kept.TheVariants.{Heap, Segments}
 use Rattle.hp_hall.specs.declared.note.Note.{Note}
 use Rattle.hp_hall.specs.declared.note.Note.TheVariants.{Acked, Loaded, Paused, Read, Yielded}
 use Rattle.hp_mail.specs.declared.posted.Posted.{Posted}
-use Rattle.hp_hall.proofs.Slotted.{slice_get-set_other, slice_get-set_same}
+use Rattle.hp_plain.proofs.Slotted.{slice_get-set_other, slice_get-set_same}
 use Rattle.hp_reasons.specs.Shared.{Makes, MakesAll, Shared, fetched_by, posted_to, with_boxes, with_number, with_segs}
 
 -- the clock stands by a step

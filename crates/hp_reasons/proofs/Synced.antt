@@ -7,7 +7,7 @@ use Rattle.hp_base.specs.declared.plan.Action.{Action}
 use Rattle.hp_base.specs.declared.plan_entry.MsgKind.TheVariants as message
 use Rattle.hp_frame.specs.declared.frame.Frame.{Frame}
 use Rattle.hp_frame.specs.declared.message.Body.{Body}
-use Rattle.hp_hall.specs.Mail.{box_after, box_of, copies, posted_as}
+use Rattle.hp_plain.specs.Boxes.{box_after, box_of, copies, posted_as}
 use Rattle.hp_proc.specs.Frames.{Says}
 use Rattle.hp_proc.specs.Party.{Party, one_more}
 use Rattle.hp_proc.specs.Posting.{sent_once_more, syncs_after, times_sent}

@@ -2,7 +2,7 @@
 use Rattle.std.proofs.Common.{◌≡◌, ◌∙◌, ◌+◌, ◌*◌, ◌≤◌, ◌^◌, ◌++◌, List, [], ◌∷◌, length, Some, sym, ap, arith, length-append}
 use Rattle.std.proofs.lemmas.Option.{same_Some}
 use Rattle.hp_base.specs.declared.limits.TheConstants.{MAX_HEAPS}
-use Rattle.hp_hall.specs.HallView.{segs_in, slot_at}
+use Rattle.hp_plain.specs.HallView.{segs_in, slot_at}
 use Rattle.hp_script.specs.declared.answer.Answer.{Answer}
 use Rattle.hp_script.specs.declared.line.Line.{Line}
 use Rattle.hp_script.specs.declared.workload.Workload.{Workload}

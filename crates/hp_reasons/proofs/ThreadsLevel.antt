@@ -1,7 +1,7 @@
 -- In every run in one thread in which no message is lost nothing is left to do behind the last line.
 use Rattle.std.proofs.Common.{◌≡◌, ◌∙◌, ℕ, true, [], length, Some, refl, ap, subst}
 use Rattle.hp_base.specs.declared.limits.TheConstants.{MAX_HEAPS}
-use Rattle.hp_hall.specs.HallView.{segs_in, slot_at}
+use Rattle.hp_plain.specs.HallView.{segs_in, slot_at}
 use Rattle.hp_segs.specs.SegsView.{SegsView}
 use Rattle.hp_proc.specs.Party.{Party}
 use Rattle.hp_solo.specs.Solo.{SoloView, party_at}

@@ -6,7 +6,7 @@ use Rattle.std.proofs.lemmas.Bool.{and_left}
 use Rattle.std.proofs.lemmas.List.Elements.{All-cons, All-head, All-nil, All-tail, All-weaker}
 use Rattle.std.proofs.lemmas.Option.{slice_get_past}
 use Rattle.hp_base.specs.declared.pool_line.PoolLine.{PoolLine}
-use Rattle.hp_hall.specs.HallView.{HallView}
+use Rattle.hp_plain.specs.HallView.{HallView}
 use Rattle.hp_log.specs.declared.log_record.LogRecord.{LogRecord}
 use Rattle.hp_script.specs.declared.workload.Workload.{Workload}
 use Rattle.hp_segs.specs.Causes.{AllCaused, HasCause}

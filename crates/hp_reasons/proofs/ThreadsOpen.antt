@@ -11,11 +11,11 @@ use Rattle.hp_core.specs.Core.{Core}
 use Rattle.hp_core.specs.declared.phase.Phase.TheVariants.{Idle}
 use Rattle.hp_frame.specs.declared.frame.Frame.{Frame}
 use Rattle.hp_frame.specs.declared.message.Body.{Body}
-use Rattle.hp_hall.specs.HallView.{HallView}
-use Rattle.hp_hall.specs.Mail.{box_of}
+use Rattle.hp_plain.specs.HallView.{HallView}
+use Rattle.hp_plain.specs.Boxes.{box_of}
 use Rattle.hp_hall.specs.Own.{Own, after_ack}
 use Rattle.hp_hall.proofs.Gives.{has_nothing}
-use Rattle.hp_hall.proofs.Opened.{opened_fits, opened_segs}
+use Rattle.hp_plain.proofs.Opened.{opened_fits, opened_segs}
 use Rattle.hp_heap.specs.History.{HeapView}
 use Rattle.hp_script.specs.declared.workload.Workload.{Workload}
 use Rattle.hp_segs.specs.Opening.{opening_roster}

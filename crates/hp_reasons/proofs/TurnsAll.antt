@@ -4,8 +4,9 @@ use Rattle.std.specs.Prelude.{slice_get}
 use Rattle.std.proofs.lemmas.Bool.{cases_eq, or_parts}
 use Rattle.std.proofs.lemmas.Option.{none-some, slice_get_past}
 use Rattle.hp_frame.specs.declared.frame.Frame.{Frame}
-use Rattle.hp_hall.specs.HallSteps.{with_note}
-use Rattle.hp_hall.specs.Mail.{MailStep, Notes, box_of}
+use Rattle.hp_plain.specs.HallSteps.{with_note}
+use Rattle.hp_hall.specs.Mail.{MailStep, Notes}
+use Rattle.hp_plain.specs.Boxes.{box_of}
 use Rattle.hp_hall.specs.declared.note.Note.{Note}
 use Rattle.hp_hall.specs.declared.note.Note.TheVariants.{Read, Yielded}
 use Rattle.hp_proc.specs.Party.{Party}

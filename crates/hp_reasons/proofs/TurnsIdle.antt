@@ -2,7 +2,8 @@
 use Rattle.std.proofs.Common.{◌≡◌, ◌≢◌, ◌∙◌, ◌<◌, ℕ, zero, suc, Bool, List, [], ◌∷◌, length, Some, refl, sym, ap, subst, arith}
 use Rattle.std.specs.Prelude.{slice_get}
 use Rattle.std.proofs.lemmas.Option.{none-some}
-use Rattle.hp_hall.specs.Mail.{MailStep, box_of}
+use Rattle.hp_hall.specs.Mail.{MailStep}
+use Rattle.hp_plain.specs.Boxes.{box_of}
 use Rattle.hp_hall.specs.Weights.{pending_at}
 use Rattle.hp_proc.specs.Falling.{if_moved, own_weight}
 use Rattle.hp_proc.specs.Party.{Party}

@@ -13,7 +13,7 @@ use Rattle.hp_core.specs.declared.phase.Round.{Round}
 use Rattle.hp_frame.specs.declared.frame.Frame.{Frame}
 use Rattle.hp_frame.specs.declared.message.Body.{Body}
 use Rattle.hp_frame.specs.declared.message.Body.TheVariants.{Alloc, Answer, Free, Sync}
-use Rattle.hp_hall.specs.Mail.{box_of}
+use Rattle.hp_plain.specs.Boxes.{box_of}
 use Rattle.hp_segs.specs.SegsView.{closed_number}
 use Rattle.hp_proc.specs.Party.{Party}
 use Rattle.hp_proc.specs.Serving as serving

@@ -5,9 +5,10 @@ use Rattle.std.proofs.lemmas.Bool.{cases_eq, cases_lt}
 use Rattle.std.proofs.lemmas.List.{get_or_past}
 use Rattle.std.proofs.lemmas.Option.{none-some}
 use Rattle.hp_core.specs.declared.asked.Asked.{Asked}
-use Rattle.hp_hall.specs.HallSteps.{after_pause}
-use Rattle.hp_hall.specs.HallView.{HallView}
-use Rattle.hp_hall.specs.Mail.{MailStep, Notes, box_of}
+use Rattle.hp_plain.specs.HallSteps.{after_pause}
+use Rattle.hp_plain.specs.HallView.{HallView}
+use Rattle.hp_hall.specs.Mail.{MailStep, Notes}
+use Rattle.hp_plain.specs.Boxes.{box_of}
 use Rattle.hp_hall.specs.declared.note.Note.TheVariants.{Paused, Read}
 use Rattle.hp_proc.specs.Party.{Party, due_in}
 use Rattle.hp_proc.specs.Waiting.{HaveServed, IsTurned, PausesAt}

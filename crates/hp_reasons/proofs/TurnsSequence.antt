@@ -1,7 +1,7 @@
 -- Sequences of calls, taken apart: what one that is away does in a row, and what it does next.
 use Rattle.std.proofs.Common.{◌≡◌, ◌∙◌, ℕ, Bool, true, false, List, [], ◌∷◌, ◌++◌, Option, Some, refl, ap, subst}
 use Rattle.std.specs.Prelude.{IfSome}
-use Rattle.hp_hall.specs.HallSteps.{after_pause, with_note}
+use Rattle.hp_plain.specs.HallSteps.{after_pause, with_note}
 use Rattle.hp_hall.specs.Mail.{MailStep, Notes}
 use Rattle.hp_hall.specs.declared.note.Note.TheVariants.{Paused, Yielded}
 use Rattle.hp_solo.specs.Sequence.{IsCall, IsMadeBy, Makes, Sequence, VisitsBeside}

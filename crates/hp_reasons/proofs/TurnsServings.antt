@@ -7,7 +7,7 @@ use Rattle.hp_core.specs.Core.{Core}
 use Rattle.hp_core.specs.declared.asked.Asked.{Asked}
 use Rattle.hp_core.specs.declared.phase.Phase.TheVariants.{Idle, Waiting}
 use Rattle.hp_frame.specs.declared.message.Body.{Body}
-use Rattle.hp_hall.specs.Mail.{box_of}
+use Rattle.hp_plain.specs.Boxes.{box_of}
 use Rattle.hp_proc.specs.Coordinating.{IsToComeAt, core_holds}
 use Rattle.hp_proc.specs.Falling.{if_moved}
 use Rattle.hp_proc.specs.Party.{Party, due_in}

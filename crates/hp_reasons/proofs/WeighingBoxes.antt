@@ -9,9 +9,9 @@ use Rattle.hp_base.specs.declared.plan_entry.MsgKind.TheVariants as message
 use Rattle.hp_core.specs.Core.{Core}
 use Rattle.hp_frame.specs.declared.frame.Frame.{Frame}
 use Rattle.hp_frame.specs.declared.message.Body.TheVariants.{Sync}
-use Rattle.hp_hall.specs.Mail.{box_after, box_of, posted_as}
+use Rattle.hp_plain.specs.Boxes.{box_after, box_of, posted_as}
 use Rattle.hp_hall.specs.Weights.{boxes_weight, fetched_weight, frame_weight}
-use Rattle.hp_hall.proofs.Mailed.{fetch_weighs, post_weighs}
+use Rattle.hp_plain.proofs.Mailed.{fetch_weighs, post_weighs}
 use Rattle.hp_proc.specs.Frames.{Says}
 use Rattle.hp_proc.specs.Party.{Party, one_more}
 use Rattle.hp_proc.specs.Posting.{syncs_after, times_sent}

@@ -12,7 +12,7 @@ use Rattle.hp_core.specs.declared.out.Out.{Out}
 use Rattle.hp_frame.specs.declared.frame.Frame.{Frame}
 use Rattle.hp_frame.specs.declared.message.Body.{Body}
 use Rattle.hp_frame.specs.declared.message.Body.TheVariants.{Alloc, Answer, Free, Sync}
-use Rattle.hp_hall.specs.Mail.{box_of}
+use Rattle.hp_plain.specs.Boxes.{box_of}
 use Rattle.hp_hall.specs.Weights.{frame_weight, pending_at, pending_most_one}
 use Rattle.hp_proc.specs.Coordinating.{nobody_denies, stepping, with_core, with_room}
 use Rattle.hp_proc.specs.Falling.{Falls, IsDue, IsDueAt, UsesUp, brought, out_weight, used_up}

@@ -14,7 +14,8 @@ use Rattle.hp_frame.specs.declared.frame.Frame.{Frame}
 use Rattle.hp_frame.specs.declared.message.Body.{Body}
 use Rattle.hp_frame.specs.declared.message.Body.TheVariants.{Sync}
 use Rattle.hp_hall.specs.Holding.{IsArmed}
-use Rattle.hp_hall.specs.Mail.{MailStep, box_of}
+use Rattle.hp_hall.specs.Mail.{MailStep}
+use Rattle.hp_plain.specs.Boxes.{box_of}
 use Rattle.hp_maps.specs.MapsView.{MapsView}
 use Rattle.hp_segs.specs.SegsView.{is_member}
 use Rattle.hp_segs.specs.Sound.{IsSound}

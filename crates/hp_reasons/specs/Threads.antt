@@ -5,7 +5,7 @@ use Rattle.hp_base.specs.declared.limits.TheConstants.{MAX_HEAPS}
 use Rattle.hp_base.specs.declared.plan_entry.MsgKind.TheVariants as message
 use Rattle.hp_base.specs.declared.plan_entry.PlanEntry.{PlanEntry}
 use Rattle.hp_heap.specs.History.{HeapView}
-use Rattle.hp_hall.specs.HallView.{HasDone, heard_in, part_in, seen_in, segs_in, slot_at}
+use Rattle.hp_plain.specs.HallView.{HasDone, heard_in, part_in, seen_in, segs_in, slot_at}
 use Rattle.hp_proc.specs.LinesDone.{Course}
 use Rattle.hp_proc.specs.Party.{Party}
 use Rattle.hp_proc.specs.Progress.{DoesLine, moment_of}

@@ -2,7 +2,7 @@
 use Rattle.std.specs.Prelude.{◌≡◌, ◌≢◌, ◌≤◌, ℕ, false, List, Some, length, slice_get}
 use Rattle.std.specs.List.{AllByRecursion}
 use Rattle.hp_base.specs.declared.limits.TheConstants.{MAX_PARTICIPANTS}
-use Rattle.hp_hall.specs.HallView.{HallView, SlotView, slot_at}
+use Rattle.hp_plain.specs.HallView.{HallView, SlotView, slot_at}
 use Rattle.hp_hall.specs.Mail.{MailStep}
 use Rattle.hp_hall.specs.Values.{Fits}
 use Rattle.hp_proc.specs.Party.{Party}

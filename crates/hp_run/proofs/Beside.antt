@@ -3,7 +3,7 @@ use Rattle.std.proofs.Common.{◌≡◌, ◌∙◌, ℕ, false, List, length, Op
 use Rattle.std.specs.List.{slice_get}
 use Rattle.std.specs.Option.{option_map}
 use Rattle.std.proofs.lemmas.Option.{same_Some}
-use Rattle.hp_hall.specs.HallView.{HallView}
+use Rattle.hp_plain.specs.HallView.{HallView}
 use Rattle.hp_proc.specs.Party.{IsSameParty, Party}
 use Rattle.hp_solo.specs.Served.{HasServed}
 use Rattle.hp_solo.specs.Solo.{AreLater, IsLaterAt, IsLaterParty, IsLaterServer, ServerView, SoloView, server_at, with_party}

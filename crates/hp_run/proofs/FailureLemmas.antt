@@ -7,7 +7,7 @@ use Rattle.std.proofs.lemmas.Option.{get_or_from_slice_get, same_Some, slice_get
 use Rattle.hp_base.specs.Mapping.{may_fail_at}
 use Rattle.hp_base.specs.declared.limits.TheConstants.{MAX_HEAPS}
 use Rattle.hp_base.specs.declared.plan_entry.PlanEntry.{PlanEntry}
-use Rattle.hp_hall.specs.HallView.{segs_in, slot_at}
+use Rattle.hp_plain.specs.HallView.{segs_in, slot_at}
 use Rattle.hp_maps.specs.PlannedView.{may_fail_by}
 use Rattle.hp_maps.proofs.PlannedLemmas.{fails_by_plan}
 use Rattle.hp_script.specs.declared.answer.Answer.{Answer}

@@ -7,12 +7,12 @@ use Rattle.std.proofs.lemmas.List.{get_or_default, length-replicate, length-take
 use Rattle.std.proofs.lemmas.List.Elements.{All-append, All-cons, All-filter, All-get_or, All-head, All-nil, All-tail}
 use Rattle.std.proofs.lemmas.Option.{slice_get_past}
 use Rattle.hp_base.specs.declared.limits.TheConstants.{MAX_HEAPS}
-use Rattle.hp_hall.specs.Course.{IsLater}
-use Rattle.hp_hall.specs.HallSteps.{slots_of}
-use Rattle.hp_hall.specs.HallView.{HallView, IsHome, SlotView, slot_at, taken_from}
+use Rattle.hp_plain.specs.Course.{IsLater}
+use Rattle.hp_plain.specs.HallSteps.{slots_of}
+use Rattle.hp_plain.specs.HallView.{HallView, IsHome, SlotView, slot_at, taken_from}
 use Rattle.hp_hall.specs.Own.{after_ack}
 use Rattle.hp_hall.specs.declared.slot.TheConstants.{SLOTS}
-use Rattle.hp_hall.proofs.Opened.{opened_length}
+use Rattle.hp_plain.proofs.Opened.{opened_length}
 use Rattle.hp_script.specs.Built.{IsBuiltAct}
 use Rattle.hp_script.specs.Facts.{IsActOf, IsLineOf}
 use Rattle.hp_script.specs.Limits.{AreDeclared}

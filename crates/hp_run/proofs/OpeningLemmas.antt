@@ -14,10 +14,10 @@ use Rattle.hp_heap.specs.PlainHeap.{PlainHeap}
 use Rattle.hp_heap.specs.declared.entry.Entry.{Entry}
 use Rattle.hp_script.specs.declared.workload.Workload.{Workload}
 use Rattle.hp_hall.proofs.Gives.{bare_pages}
-use Rattle.hp_hall.specs.HallSteps.{opening_hall}
-use Rattle.hp_hall.specs.HallView.{HallView}
+use Rattle.hp_plain.specs.HallSteps.{opening_hall}
+use Rattle.hp_plain.specs.HallView.{HallView}
 use Rattle.hp_hall.specs.Holding.{owned_by}
-use Rattle.hp_hall.specs.Opening.{HavePages}
+use Rattle.hp_plain.specs.Opening.{HavePages}
 use Rattle.hp_hall.specs.Own.{after_ack}
 use Rattle.hp_segs.specs.SegsView.{SegsView}
 use Rattle.hp_proc.specs.Heaps.{names_socket, sockets_of}

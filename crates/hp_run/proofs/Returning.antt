@@ -5,9 +5,9 @@ use Rattle.std.specs.Option.{option_map}
 use Rattle.std.proofs.lemmas.Bool.{cases_eq}
 use Rattle.std.proofs.lemmas.List.{append_cancel_left}
 use Rattle.std.proofs.lemmas.Option.{slice_get_within}
-use Rattle.hp_hall.specs.HallView.{HallView, HasDone, own_at, seen_in}
+use Rattle.hp_plain.specs.HallView.{HallView, HasDone, own_at, seen_in}
 use Rattle.hp_hall.specs.Mail.{MailStep, steps_of}
-use Rattle.hp_hall.proofs.Slotted.{slice_get-set_other, slice_get-set_same}
+use Rattle.hp_plain.proofs.Slotted.{slice_get-set_other, slice_get-set_same}
 use Rattle.hp_proc.specs.Party.{Party}
 use Rattle.hp_proc.specs.Tied.{IsTied}
 use Rattle.hp_solo.specs.Sequence.{IsAloneAway, Sequence}

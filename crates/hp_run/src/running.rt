@@ -14,7 +14,7 @@ use crate::doing::{do_lines, do_rest};
 use crate::opening::{first_heaps, plan_of};
 use hp_agreed::{alike_law, restoring_law};
 use hp_base::{MAX_SEGMENTS, Mapper, Plan};
-use hp_hall::{HallParts, PlainHall};
+use hp_plain::{HallParts, PlainHall};
 use hp_heap::Heap;
 use hp_joint::{end_law, failure_law, line_law, refusal_law};
 use hp_maps::{LocalMaps, Planned, Table};

@@ -4,6 +4,8 @@ pub mod SoloSeats
 pub mod Sequenced
 pub mod SoloTies
 pub mod SoloCalls
+pub mod SoloStates
+pub mod SoloIdles
 pub mod SoloWeights
 pub mod SoloTurns
 pub mod SoloQuiet

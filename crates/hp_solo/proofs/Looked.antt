@@ -3,10 +3,11 @@ use Rattle.std.proofs.Common.{◌≡◌, ◌≢◌, ℕ, zero, suc, Bool, true, 
 use Rattle.std.specs.List.{slice_get}
 use Rattle.std.proofs.lemmas.List.{set-get_or}
 use Rattle.hp_frame.specs.declared.frame.Frame.{Frame}
-use Rattle.hp_hall.specs.Course.{IsCourse}
-use Rattle.hp_hall.specs.HallView.{HallView, HasDone}
-use Rattle.hp_hall.specs.Mail.{MailStep, Fetches, IsMail, box_of}
-use Rattle.hp_hall.specs.Meters.{AreMetered, Meters, meters_in}
+use Rattle.hp_plain.specs.Course.{IsCourse}
+use Rattle.hp_plain.specs.HallView.{HallView, HasDone}
+use Rattle.hp_hall.specs.Mail.{MailStep, Fetches}
+use Rattle.hp_plain.specs.Boxes.{IsMail, box_of}
+use Rattle.hp_plain.specs.Meters.{AreMetered, Meters, meters_in}
 use Rattle.hp_proc.specs.Coordinating.{IsCoreServed, IsRested, IsServed}
 use Rattle.hp_proc.specs.Party.{Party}
 use Rattle.hp_proc.specs.Serving.{IsMemberServed, answer_behind}

@@ -1,9 +1,9 @@
 -- A call of one that is away in a hall of one thread, as one of its sequence.
 use Rattle.std.proofs.Common.{◌≡◌, ◌≢◌, ℕ, Bool, true, false, List, [], ◌∷◌, Option, Some, ap, subst, ◌∙◌}
 use Rattle.std.specs.Prelude.{IfSome}
-use Rattle.hp_hall.specs.Course.{IsCourse, done_then}
-use Rattle.hp_hall.specs.HallSteps.{after_pause, with_note}
-use Rattle.hp_hall.specs.HallView.{HallView, HasDone}
+use Rattle.hp_plain.specs.Course.{IsCourse, done_then}
+use Rattle.hp_plain.specs.HallSteps.{after_pause, with_note}
+use Rattle.hp_plain.specs.HallView.{HallView, HasDone}
 use Rattle.hp_hall.specs.Mail.{MailStep, Notes}
 use Rattle.hp_hall.specs.declared.note.Note.TheVariants.{Paused, Yielded}
 use Rattle.hp_solo.proofs.Steps.{done_between}

@@ -1,12 +1,13 @@
 -- A hall of one thread over a call of one that is away: it goes on, by one call more of its sequence, and what holds of it holds after it.
-use Rattle.std.proofs.Common.{◌≡◌, ◌≢◌, ℕ, ◌<◌, List, [], ◌∷◌, length, Option, Some, None, Result, Ok, Err, IfOk, IfErr, IsSome, refl, sym, ap, subst, ◌∙◌, arith}
+use Rattle.std.proofs.Common.{◌≡◌, ◌≢◌, ℕ, ◌<◌, List, [], ◌∷◌, length, Option, Some, None, IsSome, refl, sym, ap, subst, ◌∙◌, arith}
+use Rattle.std.proofs.lemmas.List.{append-nil}
 use Rattle.std.proofs.lemmas.Option.{slice_get_within}
-use Rattle.hp_hall.specs.Course.{IsCourse}
-use Rattle.hp_hall.specs.HallView.{HallView, HasDone, own_at}
-use Rattle.hp_hall.specs.Mail.{MailStep, Takes, steps_of}
-use Rattle.hp_hall.specs.declared.kept.Kept.{Kept}
+use Rattle.hp_plain.specs.Course.{IsCourse}
+use Rattle.hp_plain.specs.HallView.{HallView, HasDone, own_at}
+use Rattle.hp_hall.specs.HallState.{Did, OthersStay}
+use Rattle.hp_hall.specs.Mail.{MailStep, steps_of}
+use Rattle.hp_plain.specs.PlainState.{plain_state}
 use Rattle.hp_proc.specs.Party.{Party}
-use Rattle.hp_solo.proofs.Steps.{other_step, own_step}
 use Rattle.hp_solo.specs.Sequence.{IsCall, IsInSequence, Makes}
 use Rattle.hp_solo.specs.Solo.{AreLater, AreTied, IsAway, IsSolo, ServerView, SoloView, party_at, party_in, server_at}
 use Rattle.hp_solo.specs.SoloCourse.{IsSoloCourse, server_stays}
@@ -66,33 +67,24 @@ module _ (value : SoloView) (old : HallView) (servers : List ServerView)
   }
 
   -- by a step of the one that calls
-  pub goes_on_by : (new : HallView) (step : MailStep) → IsCall step → IsCourse old new
-      → ((who : ℕ) → HasDone old new who (steps_of who ((me, step) ∷ []))) → new.clock ≡ old.clock
-      → IsSoloCourse value (record { plain = new; servers = servers })
-  goes_on_by new step call course did clock =
-      let own : HasDone old new me (step ∷ []) = subst (λ (steps : List MailStep). HasDone old new me steps) (own_step me step) (did me) in
-      let nothing : (who : ℕ) → who ≢ me → HasDone old new who [] =
-      λ who apart. subst (λ (steps : List MailStep). HasDone old new who steps) (other_step who me step apart) (did who) in
+  pub goes_on_by : (new : HallView) (step : MailStep) → IsCall step → IsCourse old new → Did me (step ∷ []) (plain_state old) (plain_state new)
+      → OthersStay me (plain_state old) (plain_state new) → IsSoloCourse value (record { plain = new; servers = servers })
+  goes_on_by new step call course did others =
+      let nothing : (who : ℕ) → who ≢ me → HasDone old new who [] = λ who apart. others.done who apart ∙ sym (append-nil (steps_of who old.mail)) in
       goes_on new course nothing
       (subst (λ (hall : SoloView). IsInSequence hall (record { plain = new; servers = servers })) value_is
-      (one_call me (record { plain = old; servers = servers }) (record { plain = new; servers = servers }) away_here step own
-      (λ going. Makes.calls step call (made_by me (step ∷ []) old new course own nothing) refl clock)))
+      (one_call me (record { plain = old; servers = servers }) (record { plain = new; servers = servers }) away_here step did.made
+      (λ going. Makes.calls step call (made_by me (step ∷ []) old new course did.made nothing) refl others.clock)))
 
   -- by what it tells without a step
-  pub goes_on_told : (new : HallView) → IsCourse old new → ((who : ℕ) → HasDone old new who []) → new.clock ≡ old.clock
-      → IsSoloCourse value (record { plain = new; servers = servers })
-  goes_on_told new course did clock =
-      goes_on new course (λ who apart. did who)
+  pub goes_on_told : (new : HallView) → IsCourse old new → Did me [] (plain_state old) (plain_state new)
+      → OthersStay me (plain_state old) (plain_state new) → IsSoloCourse value (record { plain = new; servers = servers })
+  goes_on_told new course did others =
+      let nothing : (who : ℕ) → who ≢ me → HasDone old new who [] = λ who apart. others.done who apart ∙ sym (append-nil (steps_of who old.mail)) in
+      goes_on new course nothing
       (subst (λ (hall : SoloView). IsInSequence hall (record { plain = new; servers = servers })) value_is
       (told me (record { plain = old; servers = servers }) (record { plain = new; servers = servers }) away_here
-      (made_by me [] old new course (did me) (λ who apart. did who)) (did me) refl clock))
-
-  -- by a try, which comes out well
-  pub goes_on_tried : {E : Type 0} (new : HallView) (number : ℕ) (result : Result Kept E) → IsCourse old new
-      → IfOk result (λ kept. (who : ℕ) → HasDone old new who (steps_of who ((me, Takes number kept) ∷ []))) → IfErr result (λ busy. ⊥)
-      → new.clock ≡ old.clock → IsSoloCourse value (record { plain = new; servers = servers })
-  goes_on_tried new number (Ok kept) course took busy clock = goes_on_by new (Takes number kept) tt course took clock
-  goes_on_tried new number (Err error) course took busy clock = absurd busy
+      (made_by me [] old new course did.made nothing) did.made refl others.clock))
 
   module _ (is : IsSolo (record { plain = old; servers = servers })) where
     pub may_call : me < length old.owns

@@ -3,8 +3,8 @@ use Rattle.std.proofs.Common.{◌≡◌, ◌≢◌, ℕ, ◌+◌, ◌<◌, ◌�
 use Rattle.std.specs.Prelude.{IsSome}
 use Rattle.std.proofs.lemmas.List.{append-nil, append_assoc}
 use Rattle.std.proofs.lemmas.Option.{slice_get_within}
-use Rattle.hp_hall.specs.Course.{done_then}
-use Rattle.hp_hall.specs.HallView.{HallView, HasDone}
+use Rattle.hp_plain.specs.Course.{done_then}
+use Rattle.hp_plain.specs.HallView.{HallView, HasDone}
 use Rattle.hp_hall.specs.Mail.{MailStep}
 use Rattle.hp_proc.specs.Party.{Party}
 use Rattle.hp_solo.specs.Solo.{HasLookedLast, IsLaterParty, LooksLast, LooksLastAt, ServerView, looks_in_vain, server_at}

@@ -5,11 +5,12 @@ use Rattle.std.specs.List.{slice_get}
 use Rattle.std.proofs.lemmas.Bool.{cases_lt}
 use Rattle.std.proofs.lemmas.List.{append-nil}
 use Rattle.std.proofs.lemmas.Option.{same_Some, slice_get_within}
-use Rattle.hp_hall.proofs.Slotted.{slice_get-set_same}
+use Rattle.hp_plain.proofs.Slotted.{slice_get-set_same}
 use Rattle.hp_frame.specs.declared.frame.Frame.{Frame}
-use Rattle.hp_hall.specs.Course.{done_then}
-use Rattle.hp_hall.specs.HallView.{HallView, HasDone}
-use Rattle.hp_hall.specs.Mail.{MailStep, box_of}
+use Rattle.hp_plain.specs.Course.{done_then}
+use Rattle.hp_plain.specs.HallView.{HallView, HasDone}
+use Rattle.hp_hall.specs.Mail.{MailStep}
+use Rattle.hp_plain.specs.Boxes.{box_of}
 use Rattle.hp_proc.specs.Party.{Party}
 use Rattle.hp_solo.specs.Solo.{FindsNothing, HasNothingToDo, HaveNotStopped, IsBetween, IsIdle, IsQuiet, ServerView, SoloView, looks_in_vain, party_in, server_at}
 

@@ -2,8 +2,8 @@
 use Rattle.std.proofs.Common.{◌≡◌, ℕ, zero, suc, ◌<◌, List, length, replicate, set, Option, Some, None, refl, sym, ap, ◌∙◌, subst, length-set}
 use Rattle.std.specs.Option.{IfSome}
 use Rattle.std.proofs.lemmas.List.{length-replicate}
-use Rattle.hp_hall.proofs.Slotted.{slice_get-set_other, slice_get-set_same}
-use Rattle.hp_hall.specs.HallView.{HallView}
+use Rattle.hp_plain.proofs.Slotted.{slice_get-set_other, slice_get-set_same}
+use Rattle.hp_plain.specs.HallView.{HallView}
 use Rattle.hp_proc.proofs.MemberLemmas.{at_each}
 use Rattle.hp_proc.specs.Party.{Party}
 use Rattle.hp_solo.specs.Solo.{AreTied, IsSolo, IsTiedAt, ServerView, nobody, party_at, party_in}

@@ -2,8 +2,8 @@
 use Rattle.std.proofs.Common.{◌≡◌, ◌≢◌, ℕ, ◌⊎◌, eqb, cond, Bool, true, false, true≢false, List, [], ◌∷◌, ◌++◌, map, refl, sym, ap, ◌∙◌, ⊎_elim}
 use Rattle.std.specs.List.{AllByRecursion, filter}
 use Rattle.std.proofs.lemmas.Bool.{cases_eq, eq-eqb}
-use Rattle.hp_hall.proofs.Mailed.{steps_of-push}
-use Rattle.hp_hall.specs.HallView.{HallView, HasDone}
+use Rattle.hp_plain.specs.PlainPosts.{steps_of-append}
+use Rattle.hp_plain.specs.HallView.{HallView, HasDone}
 use Rattle.hp_hall.specs.Mail.{MailStep, steps_of}
 use Rattle.hp_solo.proofs.Steps.{other_step, own_step}
 
@@ -55,7 +55,7 @@ sole_steps me did steps own others =
 -- one step of one: who made it, and who made none
 module _ (old new : HallView) (me : ℕ) (step : MailStep) (mail : new.mail ≡ old.mail ++ (me, step) ∷ []) where
   did_one : (who : ℕ) → HasDone old new who (steps_of who ((me, step) ∷ []))
-  did_one who = ap (steps_of who) mail ∙ steps_of-push who me step old.mail
+  did_one who = ap (steps_of who) mail ∙ steps_of-append who old.mail ((me, step) ∷ [])
 
   pub did_itself : HasDone old new me (step ∷ [])
   did_itself = did_one me ∙ ap (λ (did : List MailStep). steps_of me old.mail ++ did) (own_step me step)

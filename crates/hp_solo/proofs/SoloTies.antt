@@ -4,9 +4,9 @@ use Rattle.std.specs.List.{slice_get}
 use Rattle.std.specs.Option.{option_map}
 use Rattle.std.proofs.lemmas.Bool.{cases_eq}
 use Rattle.std.proofs.lemmas.Option.{same_Some, slice_get_within}
-use Rattle.hp_hall.proofs.Slotted.{slice_get-set_other, slice_get-set_same}
-use Rattle.hp_hall.specs.Course.{IsCourse, course_same, course_seen, course_then, done_same, done_then}
-use Rattle.hp_hall.specs.HallView.{HallView, HasDone, SlotView, IsHome, own_at, seen_in, taken_from}
+use Rattle.hp_plain.proofs.Slotted.{slice_get-set_other, slice_get-set_same}
+use Rattle.hp_plain.specs.Course.{IsCourse, course_same, course_seen, course_then, done_same, done_then}
+use Rattle.hp_plain.specs.HallView.{HallView, HasDone, SlotView, IsHome, own_at, seen_in, taken_from}
 use Rattle.hp_hall.specs.Mail.{MailStep}
 use Rattle.hp_hall.specs.Own.{Own}
 use Rattle.hp_maps.specs.MapsView.{MapsView}
@@ -47,6 +47,7 @@ serving_same apart hall = record {
   taken = λ number. refl;
   home = λ number home. home;
   part = λ who heap. refl;
+  joined = λ who. refl;
   own = λ who is. refl;
   did = λ who is. done_same hall who;
   clock = refl;
@@ -58,6 +59,7 @@ serving_then apart a b c here next = record {
   taken = λ number. next.taken number ∙ here.taken number;
   home = λ number home. next.home number (here.home number home);
   part = λ who heap. next.part who heap ∙ here.part who heap;
+  joined = λ who. next.joined who ∙ here.joined who;
   own = λ who is. next.own who is ∙ here.own who is;
   did = λ who is. done_then a b c who [] [] (here.did who is) (next.did who is);
   clock = next.clock ∙ here.clock;
@@ -70,6 +72,7 @@ serving_narrow apart fewer old new narrow is = record {
   taken = is.taken;
   home = is.home;
   part = is.part;
+  joined = is.joined;
   own = λ who few. is.own who (narrow who few);
   did = λ who few. is.did who (narrow who few);
   clock = is.clock;

@@ -1,7 +1,7 @@
 -- One that does a line in a hall of one thread may wait when it goes, and still after a call or a serving.
 use Rattle.std.proofs.Common.{◌≡◌, ◌<◌, ℕ, List, length, refl, sym, subst}
 use Rattle.hp_base.specs.declared.limits.TheConstants.{MAX_HEAPS}
-use Rattle.hp_hall.specs.HallView.{HallView, IsHome, own_at, seen_in, slot_at}
+use Rattle.hp_plain.specs.HallView.{HallView, IsHome, own_at, seen_in, slot_at}
 use Rattle.hp_hall.specs.Own.{Own}
 use Rattle.hp_log.specs.declared.log_record.LogRecord.{LogRecord}
 use Rattle.hp_proc.specs.Party.{Party}

@@ -4,7 +4,7 @@ use Rattle.std.specs.List.{filter}
 use Rattle.std.proofs.lemmas.Bool.{cases_eq}
 use Rattle.std.proofs.lemmas.List.{append_cancel_left, map-append}
 use Rattle.std.proofs.lemmas.List.Elements.{filter-append}
-use Rattle.hp_hall.specs.HallView.{HallView, HasDone}
+use Rattle.hp_plain.specs.HallView.{HallView, HasDone}
 use Rattle.hp_hall.specs.Mail.{MailStep, steps_of}
 use Rattle.hp_proc.proofs.MemberLemmas.{at_each}
 

@@ -4,8 +4,8 @@ use Rattle.std.specs.Prelude.{if◌then◌else◌}
 use Rattle.std.specs.List.{slice_get}
 use Rattle.std.proofs.lemmas.List.{set-get_or}
 use Rattle.std.proofs.lemmas.Option.{get_or_from_slice_get, slice_get_within}
-use Rattle.hp_hall.proofs.Slotted.{slice_get-set_same}
-use Rattle.hp_hall.specs.HallView.{HallView, HasDone}
+use Rattle.hp_plain.proofs.Slotted.{slice_get-set_same}
+use Rattle.hp_plain.specs.HallView.{HallView, HasDone}
 use Rattle.hp_hall.specs.Mail.{MailStep}
 use Rattle.hp_proc.specs.Coordinating.{IsServed}
 use Rattle.hp_proc.specs.Party.{Party}

@@ -1,6 +1,6 @@
 -- What those beside one that waits do for it: the rule "Turns in one thread" of docs/PARTICIPANTS.md.
 use Rattle.std.specs.Prelude.{◌≡◌, ℕ, Bool, false, Some}
-use Rattle.hp_hall.specs.HallSteps.{with_note}
+use Rattle.hp_plain.specs.HallSteps.{with_note}
 use Rattle.hp_hall.specs.declared.note.Note.TheVariants.{Yielded}
 use Rattle.hp_solo.specs.Served.{IsInRisingNumber}
 use Rattle.hp_solo.specs.Solo.{IsBeside, IsNotBeside, IsQuiet, IsServerAtRest, IsServing, LooksLastAt, SoloView, server_at}

@@ -1,9 +1,9 @@
 -- Turns of all participants in one thread, behind the last line: the rule "Turns in one thread" of docs/PARTICIPANTS.md.
 use Rattle.std.specs.Prelude.{◌≡◌, ℕ, ◌-◌, ◌^◌, ◌≤◌, false, List, [], length, Option, Some, None, IsSome, ⊤}
-use Rattle.hp_hall.specs.Course.{IsCourse}
-use Rattle.hp_hall.specs.HallSteps.{after_pause}
-use Rattle.hp_hall.specs.HallView.{IsHome, part_in, slot_at, taken_from}
-use Rattle.hp_hall.specs.Mail.{box_of}
+use Rattle.hp_plain.specs.Course.{IsCourse}
+use Rattle.hp_plain.specs.HallSteps.{after_pause}
+use Rattle.hp_plain.specs.HallView.{IsHome, part_in, slot_at, taken_from}
+use Rattle.hp_plain.specs.Boxes.{box_of}
 use Rattle.hp_solo.specs.Sequence.{Visits}
 use Rattle.hp_solo.specs.Solo.{AreLater, IsPendingDue, IsQuiet, ServerView, SoloView, due_at, has_stopped, party_at, server_at}
 

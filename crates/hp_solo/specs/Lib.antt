@@ -6,3 +6,4 @@ pub mod Served
 pub mod Solo
 pub mod SoloAsks
 pub mod SoloCourse
+pub mod SoloState

@@ -1,7 +1,7 @@
 -- How participants serve while others do their lines: the rule "Turns in one thread" of docs/PARTICIPANTS.md.
 use Rattle.std.specs.Prelude.{◌≡◌, ℕ, Bool, false, List, [], ◌∷◌, ◌++◌, length, Option, Some, None, ⊤}
 use Rattle.std.specs.List.Sorted.{IsNonDecreasingBy}
-use Rattle.hp_hall.specs.HallView.{HallView, HasDone}
+use Rattle.hp_plain.specs.HallView.{HallView, HasDone}
 use Rattle.hp_hall.specs.Mail.{MailStep, Notes}
 use Rattle.hp_hall.specs.declared.note.Note.TheVariants.{Paused}
 use Rattle.hp_proc.specs.Coordinating.{IsServed}

@@ -2,9 +2,10 @@
 use Rattle.std.specs.Prelude.{◌≡◌, ◌≢◌, ℕ, zero, suc, ◌+◌, ◌<◌, ◌≤◌, ◌⊎◌, ◌^◌, ◌-◌, Bool, true, false, List, [], ◌∷◌, ◌++◌, length, Option, Some, None, IsSome, slice_get, sum_by, if◌then◌else◌, ⊤}
 use Rattle.std.specs.List.{list_any}
 use Rattle.hp_base.specs.declared.limits.TheConstants.{MAX_HEAPS}
-use Rattle.hp_hall.specs.Course.{IsCourse}
-use Rattle.hp_hall.specs.HallView.{HallView, HasDone, IsHome, part_in, own_at, seen_in, slot_at, taken_from}
-use Rattle.hp_hall.specs.Mail.{Fetches, MailStep, Notes, box_of}
+use Rattle.hp_plain.specs.Course.{IsCourse}
+use Rattle.hp_plain.specs.HallView.{HallView, HasDone, IsHome, joined_in, part_in, own_at, seen_in, slot_at, taken_from}
+use Rattle.hp_hall.specs.Mail.{Fetches, MailStep, Notes}
+use Rattle.hp_plain.specs.Boxes.{box_of}
 use Rattle.hp_hall.specs.Weights.{boxes_weight, pending_at}
 use Rattle.hp_hall.specs.declared.note.Note.TheVariants.{Read}
 use Rattle.hp_proc.specs.Falling.{own_weight}
@@ -112,6 +113,7 @@ pub record IsServing (apart : ℕ → Type 0) (old new : HallView) : Type 0 wher
   pub taken : (number : ℕ) → taken_from (slot_at new number) ≡ taken_from (slot_at old number)
   pub home : (number : ℕ) → IsHome (slot_at old number) → IsHome (slot_at new number)
   pub part : (who heap : ℕ) → part_in new who heap ≡ part_in old who heap
+  pub joined : (who : ℕ) → joined_in new who ≡ joined_in old who
   pub own : (who : ℕ) → apart who → own_at new who ≡ own_at old who
   pub did : (who : ℕ) → apart who → HasDone old new who []
   pub clock : new.clock ≡ old.clock

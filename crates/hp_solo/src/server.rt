@@ -2,7 +2,7 @@
 ghost use Rattle.std.specs.Prelude.{◌≡◌, ◌+◌, ◌<◌, ◌≤◌, List, false, None, Ok, Some, true, IfOk, IsSome, is_none, length, replicate};
 ghost use Rattle.std.specs.Result.{result_ok};
 ghost use Rattle.hp_base.specs.declared.limits.TheConstants.{MAX_HEAPS};
-ghost use Rattle.hp_hall.specs.HallView.{HasDone, IsHome, own_at, seen_in, slot_at};
+ghost use Rattle.hp_plain.specs.HallView.{HasDone, IsHome, own_at, seen_in, slot_at};
 ghost use Rattle.hp_hall.specs.Mail.{MailStep};
 ghost use Rattle.hp_hall.specs.Weights.{boxes_weight, pending_at};
 ghost use Rattle.hp_proc.specs.Coordinating.{IsServed};
@@ -28,7 +28,7 @@ ghost use Rattle.hp_solo.specs.Solo.{
 };
 
 use hp_base::Mapper;
-use hp_hall::PlainHall;
+use hp_plain::PlainHall;
 use hp_maps::Table;
 use hp_proc::Participant;
 use std::alloc::{AllocError, Global};

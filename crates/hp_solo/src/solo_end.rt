@@ -1,4 +1,4 @@
-use hp_hall::PlainHall;
+use hp_plain::PlainHall;
 use hp_maps::Table;
 
 /// What a hall in which participants take turns in one thread leaves at its end. Own.

@@ -11,7 +11,8 @@ mod waiting;
 
 use crate::server::{Server, places};
 use hp_base::Mapper;
-use hp_hall::{Hall, PlainHall};
+use hp_hall::Hall;
+use hp_plain::PlainHall;
 use hp_proc::Participant;
 use std::alloc::{AllocError, Global};
 use std::marker::Model;

@@ -20,15 +20,15 @@ use Rattle.hp_segs.specs.LaterSteps.{armed_ask}
 use Rattle.hp_segs.specs.SegsView.{SegsView}
 use Rattle.hp_segs.specs.declared.ask.Ask.{Ask}
 use Rattle.hp_segs.specs.declared.outcome.AskLog.{AskLog}
-use Rattle.hp_hall.specs.HallSteps.{opening_hall, slots_of}
-use Rattle.hp_hall.specs.HallView.{HallView, heard_in, own_at, part_in, serves_in}
+use Rattle.hp_plain.specs.HallSteps.{opening_hall, slots_of}
+use Rattle.hp_plain.specs.HallView.{HallView, heard_in, own_at, part_in, serves_in}
 use Rattle.hp_hall.specs.Holding.{HasPages, HeapPart, Holding, IsAsPart, IsHeldWith, IsPartTaken, IsTakenAs, StandsFor}
-use Rattle.hp_hall.specs.Opening.{AreHome}
+use Rattle.hp_plain.specs.Opening.{AreHome}
 use Rattle.hp_hall.specs.Own.{after_ack}
 use Rattle.hp_hall.specs.Values.{Fits, IsHeap, IsSoundKept}
 use Rattle.hp_hall.specs.declared.kept.Kept.{Kept}
 use Rattle.hp_hall.specs.declared.kept.Kept.TheVariants.{Heap, Segments}
-use Rattle.hp_hall.proofs.Opened.{opened_home, opened_segs}
+use Rattle.hp_plain.proofs.Opened.{opened_home, opened_segs}
 use Rattle.hp_proc.specs.Asking.{GrowsHeld, HasSettledAsks}
 use Rattle.hp_proc.specs.Party.{Party}
 use Rattle.hp_proc.specs.Tied.{nothing_yet}

@@ -2,7 +2,7 @@
 ghost use Rattle.std.specs.Prelude.{◌≡◌, ◌<◌, ℕ, List, [], ◌∷◌, Some, IfOk, IsSome, slice_get};
 ghost use Rattle.hp_base.specs.declared.limits.TheConstants.{MAX_PARTICIPANTS};
 ghost use Rattle.hp_hall.specs.Holding.{IsArmed, owned_by};
-ghost use Rattle.hp_hall.specs.Opening.{AreInOrder};
+ghost use Rattle.hp_plain.specs.Opening.{AreInOrder};
 ghost use Rattle.hp_heap.specs.History.{HeapView};
 ghost use Rattle.hp_log.specs.declared.log_record.LogRecord.{LogRecord};
 ghost use Rattle.hp_segs.specs.Opening.{opening};
@@ -21,7 +21,7 @@ pub(crate) mod shown;
 mod stage;
 
 use hp_base::{MAX_HEAPS, MAX_SEGMENTS, MemMapper, MsgKind, Plan, PlanEntry, PoolLine, Request};
-use hp_hall::PlainHall;
+use hp_plain::PlainHall;
 use hp_heap::Heap;
 use hp_maps::{LocalMaps, Planned};
 use hp_proc::{LineContext, Participant};

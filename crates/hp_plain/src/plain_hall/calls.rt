@@ -9,6 +9,7 @@ use hp_mail::Posted;
 
 impl Hall for PlainHall {
     ghost use Rattle.hp_plain.specs.Course.{IsCourse, course_same, course_then};
+    ghost use Rattle.hp_plain.specs.PlainPosts.{plain_posts};
     ghost use Rattle.hp_plain.specs.PlainState.{plain_later, plain_state};
     ghost use Rattle.hp_hall.specs.Weights.{pending_at, pending_most_one};
 
@@ -74,7 +75,9 @@ impl Hall for PlainHall {
 
     ghost goes_on_later = { plain_later };
 
+    ghost goes_on_posts = { plain_posts };
+
     ghost pending_most = { pending_most_one };
 
-    ghost busy_pending = { λ a deadline busy. absurd busy };
+    ghost busy_pending = { λ a deadline busy. absurd busy.2 };
 }

@@ -1,6 +1,6 @@
 ghost use Rattle.std.specs.Prelude.{◌≡◌, ◌<◌, ◌≤◌, [], IfOk, length, replicate, slice_get};
-ghost use Rattle.hp_plain.specs.HallSteps.{after_post, fulls_after, with_mail};
-ghost use Rattle.hp_hall.specs.Mail.{Fetches};
+ghost use Rattle.hp_plain.specs.HallSteps.{after_post, with_mail};
+ghost use Rattle.hp_hall.specs.Mail.{Fetches, counted_on, full_of};
 ghost use Rattle.hp_plain.specs.Boxes.{box_of, posted_as};
 
 use super::PlainHall;
@@ -27,7 +27,6 @@ impl PlainHall {
         requires { to < length self.old.owns }
         ensures posted { result ≡ posted_as action (length (box_of self.old.boxes to)) }
         ensures hall { self.new ≡ after_post me to frame action result self.old }
-        ensures rises { self.old.fulls ≤ self.new.fulls }
     {
         let posted = self.boxes[to as usize].post(frame, action);
         self.mail = self.mail.with_post(me, to, &frame, action, posted);
@@ -49,8 +48,7 @@ impl PlainHall {
 
 // The count of full mailboxes after a post.
 fn counted(posted: Posted, fulls: u64) -> u64
-    ensures count { result ≡ fulls_after posted fulls }
-    ensures rises { fulls ≤ result }
+    ensures { result ≡ counted_on (full_of posted) fulls }
 {
     match posted {
         Posted::Full => fulls.saturating_add(1),

@@ -1,7 +1,7 @@
 //! What a hall hands out at its end.
 
 use hp_base::MAX_HEAPS;
-use hp_hall::HallParts;
+use hp_plain::HallParts;
 use hp_heap::Heap;
 
 // Whether these participants called a heap, one after another.

@@ -4,7 +4,8 @@ ghost use Rattle.hp_plain.specs.Opening.{AreHome};
 
 use hp_base::Action;
 use hp_frame::Frame;
-use hp_hall::{Hall, PlainHall, Posted};
+use hp_hall::{Hall, Posted};
+use hp_plain::PlainHall;
 
 // A frame whose first byte is that.
 fn frame(kind: u8) -> Frame {

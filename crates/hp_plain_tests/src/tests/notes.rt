@@ -1,11 +1,14 @@
 //! What is noted of a participant, and the clock of a hall.
 ghost use Rattle.std.specs.Prelude.{◌≡◌, ◌<◌, ◌≤◌, ℕ, false, true, [], ◌∷◌, Some, length};
+ghost use Rattle.hp_hall.specs.HallState.{Did, OthersStay};
 ghost use Rattle.hp_plain.specs.HallView.{HasDone, own_at, seen_in};
 ghost use Rattle.hp_hall.specs.Mail.{Notes, steps_of};
 ghost use Rattle.hp_plain.specs.Opening.{AreHome};
+ghost use Rattle.hp_plain.specs.PlainState.{plain_state};
 
 use super::values::number_of;
-use hp_hall::{Hall, Note, PlainHall};
+use hp_hall::{Hall, Note};
+use hp_plain::PlainHall;
 
 /// A reading of a participant's clock, through the trait.
 pub fn read(hall: &mut PlainHall, me: u8) -> u64
@@ -13,8 +16,8 @@ pub fn read(hall: &mut PlainHall, me: u8) -> u64
     requires home { AreHome hall.old }
     ensures count { length hall.new.owns ≡ length hall.old.owns }
     ensures home { AreHome hall.new }
-    ensures clock { hall.new.clock ≡ hall.old.clock }
-    ensures did { (who : ℕ) → HasDone hall.old hall.new who (steps_of who ((me, Notes (Note.Read result)) ∷ [])) }
+    ensures did { Did me (Notes (Note.Read result) ∷ []) (plain_state hall.old) (plain_state hall.new) }
+    ensures others { OthersStay me (plain_state hall.old) (plain_state hall.new) }
 {
     hall.now(me)
 }
@@ -55,11 +58,10 @@ pub fn note_each(hall: &mut PlainHall) -> (u64, u64, u64)
     requires home { AreHome hall.old }
     ensures count { length hall.new.owns ≡ 2 }
     ensures home { AreHome hall.new }
-    ensures did { HasDone hall.old hall.new 1
+    ensures did { Did 1
         (Notes (Note.Acked 1) ∷ Notes (Note.Loaded 1 result.0) ∷ Notes (Note.Loaded 0 result.1)
-        ∷ Notes (Note.Yielded true (Some false)) ∷ Notes (Note.Read result.2) ∷ []) }
-    ensures other { HasDone hall.old hall.new 0 [] }
-    ensures clock { hall.new.clock ≡ hall.old.clock }
+        ∷ Notes (Note.Yielded true (Some false)) ∷ Notes (Note.Read result.2) ∷ []) (plain_state hall.old) (plain_state hall.new) }
+    ensures others { OthersStay 1 (plain_state hall.old) (plain_state hall.new) }
 {
     hall.ack(1, 1);
     let own = number_of(hall, 1, 1);

@@ -11,7 +11,8 @@ use super::values::{
     call_across, call_first, join_first, numbers, partial, take_and_leave, try_roster,
 };
 use hp_base::Action;
-use hp_hall::{Busy, Hall, PlainHall, Posted};
+use hp_hall::{Busy, Hall, Posted};
+use hp_plain::PlainHall;
 use std::alloc::{AllocError, Global};
 use std::test::Fail;
 

@@ -2,12 +2,15 @@
 ghost use Rattle.std.specs.Prelude.{◌≡◌, ◌≢◌, ◌<◌, ℕ, [], ◌∷◌, OnOk, length};
 ghost use Rattle.hp_base.specs.declared.limits.TheConstants.{MAX_HEAPS};
 ghost use Rattle.hp_hall.specs.Giving.{GivesSegments, Knows};
-ghost use Rattle.hp_plain.specs.HallView.{HasDone, IsHome, own_at, part_in, slot_at, taken_from};
-ghost use Rattle.hp_hall.specs.Mail.{Notes, steps_of};
+ghost use Rattle.hp_hall.specs.HallState.{Did, OthersStay, SlotsStayBut};
+ghost use Rattle.hp_hall.specs.Mail.{Notes};
+ghost use Rattle.hp_plain.specs.HallView.{IsHome, own_at, part_in, slot_at};
 ghost use Rattle.hp_plain.specs.Opening.{AreHome};
+ghost use Rattle.hp_plain.specs.PlainState.{plain_state};
 
 use hp_base::Caller;
-use hp_hall::{Busy, Hall, Kept, Note, PlainHall, Slot};
+use hp_hall::{Busy, Hall, Kept, Note, Slot};
+use hp_plain::PlainHall;
 use hp_segs::Segs;
 use std::alloc::AllocError;
 
@@ -19,7 +22,7 @@ pub fn call_first(hall: &mut PlainHall, me: u8, index: u32) -> Result<(), AllocE
     requires first { (heap : ℕ) → (part_in hall.old me heap).entries ≡ [] }
     ensures home { OnOk result (AreHome hall.new) }
     ensures count { length hall.new.owns ≡ length hall.old.owns }
-    ensures others { OnOk result ((who heap : ℕ) → who ≢ me → part_in hall.new who heap ≡ part_in hall.old who heap) }
+    ensures others { OnOk result (OthersStay me (plain_state hall.old) (plain_state hall.new)) }
 {
     let mut heap = hall.take(me, Slot::Heap(index)).into_heap();
     heap.reserve(1)?;
@@ -60,11 +63,10 @@ pub fn take_and_leave(hall: &mut PlainHall, me: u8)
     requires me { me < length hall.old.owns }
     requires secondary { 0 < me }
     requires there { IsHome (slot_at hall.old MAX_HEAPS) }
-    ensures home { AreHome hall.old → AreHome hall.new }
-    ensures taken { (number : ℕ) → number ≢ MAX_HEAPS → taken_from (slot_at hall.new number) ≡ taken_from (slot_at hall.old number) }
-    ensures home_of_others { (number : ℕ) → IsHome (slot_at hall.old number) → IsHome (slot_at hall.new number) }
-    ensures others { (who heap : ℕ) → who ≢ me → part_in hall.new who heap ≡ part_in hall.old who heap }
-    ensures own { (other : ℕ) → own_at hall.new other ≡ own_at hall.old other }
+    ensures home { (number : ℕ) → IsHome (slot_at hall.old number) → IsHome (slot_at hall.new number) }
+    ensures slots { SlotsStayBut MAX_HEAPS (plain_state hall.old) (plain_state hall.new) }
+    ensures own { own_at hall.new me ≡ own_at hall.old me }
+    ensures others { OthersStay me (plain_state hall.old) (plain_state hall.new) }
     ensures count { length hall.new.owns ≡ length hall.old.owns }
 {
     hall.sound();
@@ -120,7 +122,8 @@ pub fn try_roster(hall: &mut PlainHall, me: u8, who: u8) -> Result<bool, Busy>
     requires who { who < 16 }
     requires home { AreHome hall.old }
     ensures home { OnOk result (AreHome hall.new) }
-    ensures own { (other : ℕ) → own_at hall.new other ≡ own_at hall.old other }
+    ensures own { own_at hall.new me ≡ own_at hall.old me }
+    ensures others { OthersStay me (plain_state hall.old) (plain_state hall.new) }
     ensures count { length hall.new.owns ≡ length hall.old.owns }
 {
     let segs = hall.try_take(me, Slot::Segments)?.into_segments();
@@ -137,8 +140,8 @@ pub fn number_of(hall: &mut PlainHall, me: u8, other: u8) -> u64
     ensures home { AreHome hall.new }
     ensures count { length hall.new.owns ≡ length hall.old.owns }
     ensures number { (own_at hall.new other).number ≡ result }
-    ensures clock { hall.new.clock ≡ hall.old.clock }
-    ensures did { (who : ℕ) → HasDone hall.old hall.new who (steps_of who ((me, Notes (Note.Loaded other result)) ∷ [])) }
+    ensures did { Did me (Notes (Note.Loaded other result) ∷ []) (plain_state hall.old) (plain_state hall.new) }
+    ensures others { OthersStay me (plain_state hall.old) (plain_state hall.new) }
 {
     hall.load_ack(me, other)
 }

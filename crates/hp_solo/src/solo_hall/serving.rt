@@ -1,7 +1,7 @@
 //! Participants that serve, one after another.
 ghost use Rattle.std.specs.Prelude.{◌≡◌, ◌≢◌, ℕ, ◌+◌, ◌≤◌, ◌<◌, ◌||◌, false, length};
 ghost use Rattle.hp_base.specs.declared.limits.TheConstants.{MAX_HEAPS};
-ghost use Rattle.hp_hall.specs.HallView.{IsHome, slot_at};
+ghost use Rattle.hp_plain.specs.HallView.{IsHome, slot_at};
 ghost use Rattle.hp_hall.specs.Weights.{boxes_weight, pending_at};
 ghost use Rattle.hp_proc.specs.Falling.{if_moved};
 ghost use Rattle.hp_solo.specs.Sequence.{Visit, Visits};
@@ -22,7 +22,7 @@ ghost use Rattle.hp_solo.specs.Solo.{
 
 use crate::server::Server;
 use hp_base::Mapper;
-use hp_hall::PlainHall;
+use hp_plain::PlainHall;
 
 // Serves those from one number to below another, in rising number, each until nothing is left for it, and tells whether something moved.
 pub fn serve_range<M: Mapper>(

@@ -1,8 +1,8 @@
 ghost use Rattle.std.specs.Prelude.{◌≡◌, ◌<◌, ◌≤◌, ◌+◌, ℕ, Some, false, true, IfSome, if◌then◌else◌};
 ghost use Rattle.hp_base.specs.declared.limits.TheConstants.{MAX_HEAPS};
-ghost use Rattle.hp_hall.specs.Course.{IsCourse};
-ghost use Rattle.hp_hall.specs.HallSteps.{with_note};
-ghost use Rattle.hp_hall.specs.HallView.{IsHome, slot_at};
+ghost use Rattle.hp_plain.specs.Course.{IsCourse};
+ghost use Rattle.hp_plain.specs.HallSteps.{with_note};
+ghost use Rattle.hp_plain.specs.HallView.{IsHome, slot_at};
 ghost use Rattle.hp_hall.specs.Weights.{IsPending, pending_at};
 ghost use Rattle.hp_hall.specs.declared.note.Note.{Note};
 ghost use Rattle.hp_proc.specs.Falling.{if_moved};
@@ -70,27 +70,24 @@ impl<'p, M: Mapper> SoloHall<'p, M> {
 }
 
 impl<'p, M: Mapper> Waiting for SoloHall<'p, M> {
-    ghost use Rattle.std.specs.Prelude.{◌≡◌, ◌+◌, ◌*◌, ◌≤◌, ◌⊎◌, ℕ, [], ◌∷◌, None, IfOk, IfSome, IsOk, IsSomeAnd, false, true};
+    ghost use Rattle.std.specs.Prelude.{◌≡◌, ◌+◌, ◌*◌, ◌≤◌, ◌⊎◌, ℕ, None, IfOk, IfSome, IsOk, IsSomeAnd, false, true};
     ghost use Rattle.std.specs.Result.{result_ok};
     ghost use Rattle.hp_base.specs.declared.limits.TheConstants.{MAX_HEAPS};
-    ghost use Rattle.hp_hall.specs.HallSteps.{after_pause};
-    ghost use Rattle.hp_hall.specs.HallView.{HasDone, IsHome, part_in, own_at, slot_at, taken_from};
-    ghost use Rattle.hp_hall.specs.Mail.{Notes};
+    ghost use Rattle.hp_hall.specs.HallCalls.{Idles};
     ghost use Rattle.hp_hall.specs.Weights.{IsPending, counted, moved_of, pause_weight, pending_at};
     ghost use Rattle.hp_hall.specs.declared.note.Note.{Note};
+    ghost use Rattle.hp_plain.specs.HallSteps.{after_pause};
+    ghost use Rattle.hp_plain.specs.HallView.{IsHome, slot_at, taken_from};
     ghost use Rattle.hp_solo.specs.Beside.{HasYielded};
     ghost use Rattle.hp_solo.specs.Solo.{IsAway, IsNextDue, has_stopped, server_at, solo_weight};
     ghost use Rattle.hp_solo.specs.SoloCourse.{IsSoloCourse};
+    ghost use Rattle.hp_solo.specs.SoloState.{solo_state};
 
     fn others(&mut self, me: u8, above: bool) -> Result<bool, AllocError>
         requires serves { IsAway (server_at self.old.servers me) }
         requires free { taken_from (slot_at self.old.plain MAX_HEAPS) ≡ None }
         requires home { IsHome (slot_at self.old.plain MAX_HEAPS) }
-        ensures taken { (number : ℕ) → taken_from (slot_at self.new.plain number) ≡ taken_from (slot_at self.old.plain number) }
-        ensures home { (number : ℕ) → IsHome (slot_at self.old.plain number) → IsHome (slot_at self.new.plain number) }
-        ensures part { (heap : ℕ) → part_in self.new.plain me heap ≡ part_in self.old.plain me heap }
-        ensures own { own_at self.new.plain me ≡ own_at self.old.plain me }
-        ensures did { HasDone self.old.plain self.new.plain me (Notes (Note.Yielded above (result_ok result)) ∷ []) }
+        ensures idles { Idles me (Note.Yielded above (result_ok result)) (solo_state self.old) (solo_state self.new) }
         ensures weight { solo_weight self.new + 1 * moved_of result ≤ solo_weight self.old }
         ensures clock { self.new.plain.clock ≡ self.old.plain.clock }
         ensures goes_on { IsSoloCourse self.old self.new }
@@ -108,15 +105,11 @@ impl<'p, M: Mapper> Waiting for SoloHall<'p, M> {
     fn pause(&mut self, me: u8, moved: bool, until: Option<u64>)
         requires serves { IsAway (server_at self.old.servers me) }
         requires before { IsPending 1 (pending_at self.old.plain.clock) moved until }
+        ensures idles { Idles me (Note.Paused moved until) (solo_state self.old) (solo_state self.new) }
         ensures falls { solo_weight self.new + counted (pending_at self.new.plain.clock) until + pause_weight 1 moved
             ≤ solo_weight self.old + counted (pending_at self.old.plain.clock) until }
         ensures lower { (deadline : ℕ) → pending_at self.new.plain.clock deadline ≤ pending_at self.old.plain.clock deadline }
         ensures clock { (self.new.plain.clock ≡ self.old.plain.clock) ⊎ IsSomeAnd until (λ deadline. self.new.plain.clock ≤ deadline) }
-        ensures taken { (number : ℕ) → taken_from (slot_at self.new.plain number) ≡ taken_from (slot_at self.old.plain number) }
-        ensures home { (number : ℕ) → IsHome (slot_at self.old.plain number) → IsHome (slot_at self.new.plain number) }
-        ensures part { (heap : ℕ) → part_in self.new.plain me heap ≡ part_in self.old.plain me heap }
-        ensures own { own_at self.new.plain me ≡ own_at self.old.plain me }
-        ensures did { HasDone self.old.plain self.new.plain me (Notes (Note.Paused moved until) ∷ []) }
         ensures goes_on { IsSoloCourse self.old self.new }
 
         // Where something moved the clock stands. Else it jumps to the least deadline that is still to come. That is noted, and nothing

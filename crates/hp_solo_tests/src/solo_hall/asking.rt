@@ -2,7 +2,7 @@
 ghost use Rattle.std.specs.Prelude.{◌≡◌, ◌≤◌, IfOk, IfSome};
 ghost use Rattle.hp_heap.specs.Growing.{CanGrow, after_grow};
 ghost use Rattle.hp_heap.specs.Laws.{IsRunCut};
-ghost use Rattle.hp_hall.specs.HallView.{part_in};
+ghost use Rattle.hp_plain.specs.HallView.{part_in};
 ghost use Rattle.hp_proc.specs.Asking.{GrowsHeld};
 ghost use Rattle.hp_solo.specs.Solo.{MayWait};
 ghost use Rattle.hp_solo.specs.SoloAsks.{IsInHand, MayAsk, MayBeginToAsk, MayGiveUp};

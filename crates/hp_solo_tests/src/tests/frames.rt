@@ -7,7 +7,8 @@ use super::playing::play;
 use super::stage::Shown;
 use Act::*;
 use hp_frame::Body;
-use hp_hall::{MAILBOX_FRAMES, Posted};
+use hp_hall::Posted;
+use hp_plain::MAILBOX_FRAMES;
 use std::test::Fail;
 
 // Nothing has happened.

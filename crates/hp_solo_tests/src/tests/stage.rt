@@ -6,7 +6,8 @@ use super::shown::{End, SegsShown, shown_in};
 use super::{member, plain_hall};
 use hp_base::{Action, MemMapper, Plan, Row};
 use hp_frame::Frame;
-use hp_hall::{Hall, PlainHall, Posted};
+use hp_hall::{Hall, Posted};
+use hp_plain::PlainHall;
 use hp_proc::{Participant, put_back, take_segments};
 use hp_script::{Act, Answer, Line};
 use hp_segs::Segs;
@@ -25,8 +26,8 @@ pub(super) struct Stage<'p> {
 
 impl<'p> Model for Stage<'p> {
     ghost use Rattle.std.specs.Prelude.{◌≡◌, length};
-    ghost use Rattle.hp_hall.specs.HallView.{HallView};
-    ghost use Rattle.hp_hall.specs.Opening.{AreHome};
+    ghost use Rattle.hp_plain.specs.HallView.{HallView};
+    ghost use Rattle.hp_plain.specs.Opening.{AreHome};
     ghost use Rattle.hp_solo.specs.Solo.{IsTiedAt};
 
     ghost Value = { HallView };

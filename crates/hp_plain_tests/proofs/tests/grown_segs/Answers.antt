@@ -17,7 +17,7 @@ use Rattle.hp_log.specs.declared.log_record.LogRecord.TheVariants.{Add}
 use Rattle.hp_segs.proofs.OnePool.{one_pool}
 use Rattle.hp_hall.specs.Holding.{IsArmed, owned_by}
 use Rattle.hp_hall.proofs.Gives.{has_nothing}
-use Rattle.hp_hall_tests.proofs.tests.grown_segs.Goals as goal
+use Rattle.hp_plain_tests.proofs.tests.grown_segs.Goals as goal
 
 pub new-requires-2-clause-pools : goal.new-requires-2-clause-pools
 new-requires-2-clause-pools c =

@@ -6,7 +6,7 @@ use Rattle.hp_plain.specs.Opening.{AreHome}
 use Rattle.hp_hall.specs.Own.{after_ack}
 use Rattle.hp_plain.proofs.Opened.{opened_home, opened_log}
 use Rattle.hp_hall.proofs.Gives.{bare_pages}
-use Rattle.hp_hall_tests.proofs.tests.hall_of_two.Goals as goal
+use Rattle.hp_plain_tests.proofs.tests.hall_of_two.Goals as goal
 
 pub new-requires-clause-pages : goal.new-requires-clause-pages
 new-requires-clause-pages c = λ number heap there.

@@ -3,7 +3,7 @@ use Rattle.std.specs.List.{slice_get}
 use Rattle.std.proofs.lemmas.Option.{slice_get_within}
 use Rattle.hp_heap.specs.History.{HeapView}
 use Rattle.hp_heap.specs.PlainHeap.{PlainHeap}
-use Rattle.hp_hall_tests.proofs.tests.vacant_heaps.Goals as goal
+use Rattle.hp_plain_tests.proofs.tests.vacant_heaps.Goals as goal
 
 some_same : (a b : HeapView) → Some a ≡ Some b → a ≡ b
 some_same a b same = cc

@@ -1,7 +1,7 @@
 use Rattle.std.proofs.Common.{◌≡◌, ℕ, ◌≤◌, [], Some, slice_get, vec_len, vec_capacity}
 use Rattle.hp_base.specs.declared.limits.TheConstants.{MAX_HEAPS}
 use Rattle.hp_heap.specs.History.{HeapView}
-use Rattle.hp_hall_tests.proofs.tests.vacant_heaps.Given as goal
+use Rattle.hp_plain_tests.proofs.tests.vacant_heaps.Given as goal
 
 abbrev pub invariant-loop-index : goal.invariant-loop-index
 invariant-loop-index l = record {

@@ -1,8 +1,8 @@
 -- The end, from what the lines and the servings behind them leave.
 use Rattle.std.proofs.Common.{◌≡◌, ◌∙◌, List, [], ap, sym, subst}
-use Rattle.hp_hall.specs.HallSteps.{slots_of}
-use Rattle.hp_hall.specs.HallView.{HallView, IsHall}
-use Rattle.hp_hall.specs.Opening.{AreHome}
+use Rattle.hp_plain.specs.HallSteps.{slots_of}
+use Rattle.hp_plain.specs.HallView.{HallView, IsHall}
+use Rattle.hp_plain.specs.Opening.{AreHome}
 use Rattle.hp_proc.specs.LinesDone.{Course}
 use Rattle.hp_reasons.specs.Notices.{NoticesAreHeard}
 use Rattle.hp_run.specs.Running.{HaveDoneLines}

@@ -1,8 +1,8 @@
 use Rattle.std.proofs.Common.{◌≡◌, ℕ, Bool, true, false, Result, Ok, Err, [], refl, sym, ap, subst, ◌∙◌, arith}
 use Rattle.std.specs.Result.{result_ok}
 use Rattle.hp_base.specs.declared.limits.TheConstants.{MAX_HEAPS}
-use Rattle.hp_hall.specs.Course.{done_same}
-use Rattle.hp_hall.specs.HallView.{HallView, HasDone, own_at, seen_in}
+use Rattle.hp_plain.specs.Course.{done_same}
+use Rattle.hp_plain.specs.HallView.{HallView, HasDone, own_at, seen_in}
 use Rattle.hp_proc.specs.Falling.{served_of}
 use Rattle.hp_proc.specs.Party.{Party}
 use Rattle.hp_proc.specs.Tied.{IsTied}

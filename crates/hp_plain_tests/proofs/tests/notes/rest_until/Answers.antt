@@ -4,7 +4,7 @@ use Rattle.hp_plain.specs.HallView.{HallView}
 use Rattle.hp_hall.specs.Mail.{Notes}
 use Rattle.hp_plain.specs.Opening.{AreHome}
 use Rattle.hp_plain.proofs.Mailed.{noted_last}
-use Rattle.hp_hall_tests.proofs.tests.notes.rest_until.Goals as goal
+use Rattle.hp_plain_tests.proofs.tests.notes.rest_until.Goals as goal
 
 pub pause-requires-clause-goes_on : goal.pause-requires-clause-goes_on
 pause-requires-clause-goes_on c = inr (refl, c.requires.later, omega arith)

@@ -9,8 +9,9 @@ use Rattle.hp_base.specs.declared.limits.TheConstants.{MAX_HEAPS}
 use Rattle.hp_plain.specs.HallView.{part_in}
 use Rattle.hp_hall.specs.Holding.{HeapPart, IsAsPart, StandsFor}
 use Rattle.hp_plain.proofs.Given.{known}
-use Rattle.hp_hall.proofs.Gives.{entries_made-none, entries_taken, gives_call, gives_taken, held_alike, home_again}
-use Rattle.hp_hall_tests.proofs.tests.values.call_across.Goals as goal
+use Rattle.hp_hall.proofs.Gives.{entries_made-none, entries_taken, gives_call, gives_taken, held_alike}
+use Rattle.hp_plain.proofs.Homes.{home_again}
+use Rattle.hp_plain_tests.proofs.tests.values.call_across.Goals as goal
 
 after_stats : (who : ℕ) (heap : PlainHeap) → after who call.Stats heap ≡ heap
 unfolding after
@@ -22,7 +23,7 @@ apart_from_segs index below same = omega (arith, below, same)
 
 pub take_and_leave-requires-clause-there : goal.take_and_leave-requires-clause-there
 take_and_leave-requires-clause-there c =
-    c.take.ensures.home_of_others MAX_HEAPS (λ same. apart_from_segs c.args.index c.requires.index (sym same)) (c.requires.home MAX_HEAPS (omega arith))
+    c.take.ensures.slots.home MAX_HEAPS (λ same. apart_from_segs c.args.index c.requires.index (sym same)) (c.requires.home MAX_HEAPS (omega arith))
 
 pub give-requires-clause-gives : goal.give-requires-clause-gives
 give-requires-clause-gives c =
@@ -35,22 +36,22 @@ give-requires-clause-gives c =
     let is = c.stats-stats.ensures in
     let same : given.plain ≡ mid.plain = is.heap ∙ after_stats me mid.plain in
     let none : entries_made knows.part ≡ 0 =
-    entries_made-none knows.part (λ heap. ap (λ (part : HeapPart). part.entries) (left.others me heap c.requires.apart)
-    ∙ entries_taken c.take.result _ _ c.take.ensures.part heap ∙ c.requires.first heap) in
+    entries_made-none knows.part (λ heap. ap (λ (part : HeapPart). part.entries) (left.others.part me heap c.requires.apart)
+    ∙ entries_taken c.take.result _ _ c.take.ensures.took.part heap ∙ c.requires.first heap) in
     let next : ◌≡◌ {A = Caller} (record { participant = me; number = 1 }) (record { participant = me; number = entries_made knows.part + 1 }) =
     ap (λ (n : ℕ). record { participant = me; number = n + 1 }) (sym none) in
     let stood : StandsFor me (part_in c.take.new.self me) (Heap taken) =
-    subst (StandsFor me (part_in c.take.new.self me)) c.into_heap-heap.ensures c.take.ensures.stands in
+    subst (StandsFor me (part_in c.take.new.self me)) c.into_heap-heap.ensures c.take.ensures.took.stands in
     let stands : StandsFor me knows.part (Heap taken) =
-    subst (λ (part : HeapPart). IsAsPart part taken) (sym (left.others me taken.plain.index c.requires.apart)) stood in
+    subst (λ (part : HeapPart). IsAsPart part taken) (sym (left.others.part me taken.plain.index c.requires.apart)) stood in
     let plain : given.plain ≡ taken.plain = same ∙ c.reserve.ensures.same.plain in
     gives_taken knows c.args.index (Heap taken) (Heap given)
-    (left.taken c.args.index (apart_from_segs c.args.index c.requires.index) ∙ c.take.ensures.taken ∙ ap Some c.into_heap-heap.ensures)
+    (left.slots.taken c.args.index (apart_from_segs c.args.index c.requires.index) ∙ c.take.ensures.took.taken ∙ ap Some c.into_heap-heap.ensures)
     (gives_call knows (knows.part given.plain.index).holding taken mid given _ call.Stats _ c.reserve.ensures.same is
     (ap (λ (p : PlainHeap). p.index) same) (ap (λ (p : PlainHeap). p.serves) same) next (held_alike taken given knows.part plain stands.held))
 
 pub returns-clause-home : goal.returns-clause-home
 returns-clause-home c =
     home_again c.args.hall.now c.take_and_leave.new.hall c.give.new.self c.args.index c.requires.home
-    (λ other apart home. c.take_and_leave.ensures.home_of_others other (c.take.ensures.home_of_others other apart home))
-    c.give.ensures.home_of_others c.give.ensures.home
+    (λ other apart home. c.take_and_leave.ensures.home other (c.take.ensures.slots.home other apart home))
+    c.give.ensures.slots.home c.give.ensures.gave.home

@@ -7,8 +7,10 @@ use Rattle.hp_hall.specs.declared.kept.Kept.TheVariants.{Heap}
 use Rattle.hp_hall.specs.Giving.{Knows, entries_made}
 use Rattle.hp_hall.specs.Holding.{StandsFor}
 use Rattle.hp_plain.proofs.Given.{known}
-use Rattle.hp_hall.proofs.Gives.{entries_made-none, entries_taken, gives_call, gives_taken, held_alike, home_again}
-use Rattle.hp_hall_tests.proofs.tests.values.call_first.Goals as goal
+use Rattle.hp_hall.proofs.Gives.{entries_made-none, entries_taken, gives_call, gives_taken, held_alike}
+use Rattle.hp_hall.proofs.HallStates.{others_then}
+use Rattle.hp_plain.proofs.Homes.{home_again}
+use Rattle.hp_plain_tests.proofs.tests.values.call_first.Goals as goal
 
 after_stats : (who : ℕ) (heap : PlainHeap) → after who call.Stats heap ≡ heap
 unfolding after
@@ -24,19 +26,19 @@ give-requires-clause-gives c =
     let is = c.stats-stats.ensures in
     let same : given.plain ≡ mid.plain = is.heap ∙ after_stats me mid.plain in
     let none : entries_made knows.part ≡ 0 =
-    entries_made-none knows.part (λ heap. entries_taken c.take.result _ _ c.take.ensures.part heap ∙ c.requires.first heap) in
+    entries_made-none knows.part (λ heap. entries_taken c.take.result _ _ c.take.ensures.took.part heap ∙ c.requires.first heap) in
     let next : ◌≡◌ {A = Caller} (record { participant = me; number = 1 }) (record { participant = me; number = entries_made knows.part + 1 }) =
     ap (λ (n : ℕ). record { participant = me; number = n + 1 }) (sym none) in
-    let stands : StandsFor me knows.part (Heap taken) = subst (StandsFor me knows.part) c.into_heap-heap.ensures c.take.ensures.stands in
+    let stands : StandsFor me knows.part (Heap taken) = subst (StandsFor me knows.part) c.into_heap-heap.ensures c.take.ensures.took.stands in
     let plain : given.plain ≡ taken.plain = same ∙ c.reserve.ensures.same.plain in
-    gives_taken knows c.args.index (Heap taken) (Heap given) (c.take.ensures.taken ∙ ap Some c.into_heap-heap.ensures)
+    gives_taken knows c.args.index (Heap taken) (Heap given) (c.take.ensures.took.taken ∙ ap Some c.into_heap-heap.ensures)
     (gives_call knows (knows.part given.plain.index).holding taken mid given _ call.Stats _ c.reserve.ensures.same is (ap (λ (p : PlainHeap). p.index) same)
     (ap (λ (p : PlainHeap). p.serves) same) next (held_alike taken given knows.part plain stands.held))
 
 pub returns-clause-home : goal.returns-clause-home
 returns-clause-home c =
-    home_again c.args.hall.now c.take.new.self c.give.new.self c.args.index c.requires.home c.take.ensures.home_of_others
-    c.give.ensures.home_of_others c.give.ensures.home
+    home_again c.args.hall.now c.take.new.self c.give.new.self c.args.index c.requires.home c.take.ensures.slots.home
+    c.give.ensures.slots.home c.give.ensures.gave.home
 
 pub returns-clause-others : goal.returns-clause-others
-returns-clause-others c = λ who heap apart. c.give.ensures.part_of_others who heap apart ∙ c.take.ensures.part_of_others who heap apart
+returns-clause-others c = others_then c.take.ensures.others c.give.ensures.others

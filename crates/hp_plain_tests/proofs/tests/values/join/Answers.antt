@@ -3,7 +3,7 @@ use Rattle.hp_segs.specs.Calls.{MayJoin}
 use Rattle.hp_segs.specs.LaterSteps.{after_join}
 use Rattle.hp_hall.specs.Giving.{GivesSegments}
 use Rattle.hp_hall.proofs.Gives.{gives_join}
-use Rattle.hp_hall_tests.proofs.tests.values.join.Goals as goal
+use Rattle.hp_plain_tests.proofs.tests.values.join.Goals as goal
 
 pub returns : goal.returns
 returns c = λ knows same all.

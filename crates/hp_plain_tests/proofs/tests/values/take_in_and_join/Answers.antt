@@ -1,6 +1,6 @@
 use Rattle.std.proofs.Common.{ap, arith}
 use Rattle.hp_hall.specs.Own.{Own}
-use Rattle.hp_hall_tests.proofs.tests.values.take_in_and_join.Goals as goal
+use Rattle.hp_plain_tests.proofs.tests.values.take_in_and_join.Goals as goal
 
 pub ack-requires-clause-rises : goal.ack-requires-clause-rises
-ack-requires-clause-rises c = omega (arith, ap (λ (o : Own). o.number) (c.take.ensures.own c.args.me), c.requires.nothing_yet)
+ack-requires-clause-rises c = omega (arith, ap (λ (o : Own). o.number) c.take.ensures.took.own, c.requires.nothing_yet)

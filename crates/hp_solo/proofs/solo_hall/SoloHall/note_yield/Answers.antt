@@ -1,7 +1,7 @@
 -- A note alone.
 use Rattle.std.proofs.Common.{Some, ap, subst}
-use Rattle.hp_hall.specs.Course.{IsCourse}
-use Rattle.hp_hall.specs.HallView.{HallView, own_at}
+use Rattle.hp_plain.specs.Course.{IsCourse}
+use Rattle.hp_plain.specs.HallView.{HallView, own_at}
 use Rattle.hp_hall.specs.Mail.{Notes}
 use Rattle.hp_hall.specs.declared.note.Note.TheVariants.{Yielded}
 use Rattle.hp_solo.specs.Solo.{SoloView}

@@ -2,7 +2,7 @@
 use Rattle.std.proofs.Common.{◌≡◌, length, Some, refl, sym, ap, subst, ◌∙◌, arith, length-set}
 use Rattle.std.specs.List.{slice_get}
 use Rattle.std.proofs.lemmas.Option.{slice_get_read}
-use Rattle.hp_hall.proofs.Slotted.{slice_get-set_other, slice_get-set_same}
+use Rattle.hp_plain.proofs.Slotted.{slice_get-set_other, slice_get-set_same}
 use Rattle.hp_proc.specs.Party.{Party}
 use Rattle.hp_solo.specs.Solo.{IsServerAtRest, LooksLastAt, party_in}
 use Rattle.hp_solo.proofs.SoloLooks.{last_one}

@@ -2,7 +2,7 @@
 use Rattle.std.proofs.Common.{◌≡◌, ◌≢◌, ℕ, ◌+◌, ◌<◌, ◌≤◌, ◌⊎◌, Bool, true, false, ◌||◌, List, inl, inr, refl, sym, ap, subst, ◌∙◌, ⊎_elim, arith, below_more}
 use Rattle.std.proofs.lemmas.Bool.{cases_lt}
 use Rattle.hp_base.specs.declared.limits.TheConstants.{MAX_HEAPS}
-use Rattle.hp_hall.specs.Course.{done_same}
+use Rattle.hp_plain.specs.Course.{done_same}
 use Rattle.hp_proc.specs.Falling.{if_moved}
 use Rattle.hp_solo.specs.Sequence.{Visits}
 use Rattle.hp_solo.specs.Solo.{IsBetween, IsOutside, IsServerAtRest, ServerView, SoloView, server_at}

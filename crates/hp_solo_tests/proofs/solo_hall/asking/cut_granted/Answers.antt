@@ -1,7 +1,7 @@
 -- What was granted came to the heap in hand, and was cut from there.
 use Rattle.std.proofs.Common.{ℕ, Option, Some, sym, subst, IfSome}
 use Rattle.hp_base.specs.declared.row.Run.{Run}
-use Rattle.hp_hall.specs.HallView.{part_in}
+use Rattle.hp_plain.specs.HallView.{part_in}
 use Rattle.hp_proc.specs.Asking.{GrowsHeld}
 use Rattle.hp_solo.specs.SoloAsks.{MayGiveUp}
 use Rattle.hp_solo_tests.proofs.SoloOpened.{cuts_may}

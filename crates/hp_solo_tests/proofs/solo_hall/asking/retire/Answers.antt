@@ -1,5 +1,5 @@
 use Rattle.hp_base.specs.declared.limits.TheConstants.{MAX_HEAPS}
-use Rattle.hp_hall.specs.HallView.{slot_at}
+use Rattle.hp_plain.specs.HallView.{slot_at}
 use Rattle.hp_solo.proofs.SoloTies.{free_home}
 use Rattle.hp_solo.proofs.SoloWaits.{waits_on}
 use Rattle.hp_solo_tests.proofs.solo_hall.asking.retire.Goals as goal

@@ -1,7 +1,7 @@
 -- What was taken is heap 0, and the slot of the segment value is as it was.
 use Rattle.std.proofs.Common.{◌≡◌, ℕ, sym, subst}
 use Rattle.hp_base.specs.declared.limits.TheConstants.{MAX_HEAPS}
-use Rattle.hp_hall.specs.HallView.{heard_in}
+use Rattle.hp_plain.specs.HallView.{heard_in}
 use Rattle.hp_hall.specs.declared.kept.Kept.TheVariants.{Heap}
 use Rattle.hp_solo.specs.Solo.{IsAway, server_at}
 use Rattle.hp_solo_tests.proofs.SoloOpened.{IsTakenFirst, heap_of_first, in_hand, may_ask, settled_first}

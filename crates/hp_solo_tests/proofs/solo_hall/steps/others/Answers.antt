@@ -1,6 +1,6 @@
 use Rattle.std.proofs.Common.{◌≡◌, ℕ, sym, subst}
 use Rattle.hp_base.specs.declared.limits.TheConstants.{MAX_HEAPS}
-use Rattle.hp_hall.specs.HallView.{own_at, slot_at}
+use Rattle.hp_plain.specs.HallView.{own_at, slot_at}
 use Rattle.hp_solo.specs.Solo.{IsAway, server_at}
 use Rattle.hp_solo.proofs.SoloTies.{free_home}
 use Rattle.hp_solo.proofs.SoloWaits.{waits_on}

@@ -1,5 +1,5 @@
 use Rattle.hp_base.specs.declared.limits.TheConstants.{MAX_HEAPS}
-use Rattle.hp_hall.specs.HallView.{slot_at}
+use Rattle.hp_plain.specs.HallView.{slot_at}
 use Rattle.hp_solo.proofs.SoloTies.{free_home}
 use Rattle.hp_solo.proofs.SoloWaits.{waits_after}
 use Rattle.hp_solo_tests.proofs.solo_hall.steps.turn_until.Goals as goal

@@ -9,7 +9,7 @@ use Rattle.hp_hall.specs.Values.{Fits}
 use Rattle.hp_hall.specs.Weights.{boxes_weight}
 use Rattle.hp_plain.proofs.Agreeing.{agreed_given, given_by}
 use Rattle.hp_plain.proofs.Given.{IsGivenFor, given, known, later_given, still_fit}
-use Rattle.hp_plain.proofs.Giver.{others_given, part_given}
+use Rattle.hp_plain.proofs.Giver.{joined_given, others_given, others_joined, part_given}
 use Rattle.hp_plain.proofs.Halls.{hall_given}
 use Rattle.hp_plain.proofs.PlainStates.{did_one, others_one, slots_one}
 use Rattle.hp_plain.proofs.Read.{has_asks, has_log}
@@ -46,15 +46,19 @@ returns c =
     let agreed = agreed_given me number old hall before was.there kept fits was.gives in
     let moves = gave old new me number c.requires.serves before kept was.there was.out later by c.sound-2.ensures agreed c.give_at.ensures in
     record {
-      taken = ap taken_from moves.here;
-      home = subst IsHome (sym moves.here) refl;
-      part = part_given me number before step old new hall was.there kept fits moves was.gives;
-      log = has_log new number (home_slot kept) moves.here kept refl fits;
-      asks = has_asks new number (home_slot kept) moves.here kept refl fits;
-      did = did_one me step old new moves.makes;
+      gave = record {
+        taken = ap taken_from moves.here;
+        home = subst IsHome (sym moves.here) refl;
+        part = part_given me number before step old new hall was.there kept fits moves was.gives;
+        joined = joined_given me number before step old new hall was.there kept fits moves was.gives;
+        own = moves.makes.own me;
+        log = has_log new number (home_slot kept) moves.here kept refl fits;
+        asks = has_asks new number (home_slot kept) moves.here kept refl fits;
+        did = did_one me step old new moves.makes;
+      };
       slots = slots_one me step old new number (home_slot kept) moves;
-      own = moves.makes.own me;
-      others = others_one me step old new moves.makes (others_given me number before step old new hall was.there kept fits moves was.gives);
+      others = others_one me step old new moves.makes (others_given me number before step old new hall was.there kept fits moves was.gives)
+          (others_joined me number before step old new hall was.there kept fits moves was.gives);
       weight = omega (arith, ap boxes_weight moves.boxes);
       goes_on = moves.makes.course;
     }

@@ -1,4 +1,4 @@
-use Rattle.std.proofs.Common.{ℕ, ◌<◌, ◌≤◌, refl, ap, subst, ◌∙◌, arith}
+use Rattle.std.proofs.Common.{ℕ, ◌^◌, ◌<◌, ◌≤◌, refl, sym, ap, subst, ◌∙◌, arith}
 use Rattle.hp_hall.specs.declared.note.Note.TheVariants.{Read}
 use Rattle.hp_plain.specs.HallView.{HallView}
 use Rattle.hp_hall.specs.Weights.{boxes_weight, pending_at}
@@ -19,6 +19,7 @@ returns c =
     (record { shows = reading; clock = refl; numbers = refl }) in
     let clock = makes.makes.clock in
     record {
+      most = λ early. subst (λ (n : ℕ). n ≤ 2 ^ 63) (sym reading) early;
       before = λ deadline later.
           ap (λ (n : ℕ). pending_at n deadline) clock ∙ pending_later old.clock deadline (subst (λ (n : ℕ). n < deadline) reading later);
       reached = λ deadline past.

@@ -4,10 +4,10 @@ use Rattle.hp_plain.specs.HallView.{taken_from}
 use Rattle.hp_hall.specs.Mail.{MailStep, Takes}
 use Rattle.hp_hall.specs.Slots.{slot_number}
 use Rattle.hp_hall.specs.Weights.{boxes_weight}
-use Rattle.hp_plain.proofs.Read.{has_asks, has_entries, has_log}
+use Rattle.hp_plain.proofs.Read.{has_asks, has_entries, has_log, has_member}
 use Rattle.hp_plain.proofs.PlainStates.{did_one, others_one, slots_one}
 use Rattle.hp_plain.proofs.Slotted.{took}
-use Rattle.hp_plain.proofs.Taking.{others_taken, part_taken, stands_taken}
+use Rattle.hp_plain.proofs.Taking.{joined_taken, others_taken, part_taken, stands_taken}
 use Rattle.hp_plain.proofs.plain_hall.calls.PlainHallHall.take.Goals as goal
 
 pub returns : goal.returns
@@ -29,14 +29,17 @@ returns c =
         entries = has_entries old number (home_slot kept) there me kept refl fits;
         log = has_log new number (out_slot me kept) moves.here kept refl fits;
         asks = has_asks new number (out_slot me kept) moves.here kept refl fits;
+        roster = has_member old number (home_slot kept) there me kept refl fits;
         stands = stands_taken me number kept step old new hall there moves kept refl fits;
         part = part_taken me number kept step old new hall there moves kept refl fits;
+        joined = joined_taken me number kept step old new hall there moves me;
+        own = moves.makes.own me;
         taken = ap taken_from moves.here;
         did = did_one me step old new moves.makes;
       };
       slots = slots_one me step old new number (out_slot me kept) moves;
-      own = moves.makes.own me;
-      others = others_one me step old new moves.makes (others_taken me number kept step old new hall there moves);
+      others = others_one me step old new moves.makes (others_taken me number kept step old new hall there moves)
+          (λ who apart. joined_taken me number kept step old new hall there moves who);
       weight = omega (arith, ap boxes_weight moves.boxes);
       goes_on = moves.makes.course;
     }

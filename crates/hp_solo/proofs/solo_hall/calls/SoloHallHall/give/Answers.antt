@@ -1,10 +1,15 @@
-use Rattle.std.proofs.Common.{subst, sym}
-use Rattle.hp_hall.proofs.Given.{known}
+use Rattle.std.proofs.Common.{ℕ, ◌≤◌, sym, subst}
+use Rattle.hp_hall.specs.HallCalls.{HasGiven}
+use Rattle.hp_hall.specs.HallState.{OthersStay, SlotsStayBut}
 use Rattle.hp_hall.specs.Giving.{IsGiveOf}
 use Rattle.hp_hall.specs.Mail.{Gives}
 use Rattle.hp_hall.specs.Slots.{slot_number}
-use Rattle.hp_solo.specs.Solo.{SoloView}
+use Rattle.hp_plain.proofs.Given.{known}
+use Rattle.hp_solo.specs.Solo.{SoloView, solo_weight}
+use Rattle.hp_solo.specs.SoloCourse.{IsSoloCourse}
+use Rattle.hp_solo.specs.SoloState.{solo_state}
 use Rattle.hp_solo.proofs.SoloCalls.{goes_on_by, holds_after}
+use Rattle.hp_solo.proofs.SoloStates.{but_over, given_over, others_over, weight_same}
 use Rattle.hp_solo.proofs.solo_hall.calls.SoloHallHall.give.Goals as goal
 
 pub give-requires-clause-gives : goal.give-requires-clause-gives
@@ -14,9 +19,24 @@ give-requires-clause-gives g c =
 pub invariant_of-self : goal.invariant_of-self
 invariant_of-self g c =
     holds_after c.args.self.now c.self.inside.plain c.self.inside.servers.items c.self.view_is c.args.me c.requires.serves c.self.invariant
-    c.give.new.self c.give.ensures.goes_on (λ who apart. c.give.ensures.own who)
+    c.give.new.self c.give.ensures.goes_on c.give.ensures.others.own
 
-pub returns-clause-goes_on : goal.returns-clause-goes_on
-returns-clause-goes_on g c =
-    goes_on_by c.args.self.now c.self.inside.plain c.self.inside.servers.items c.self.view_is c.args.me c.requires.serves c.give.new.self
-    (Gives (slot_number c.args.slot) c.args.kept) tt c.give.ensures.goes_on c.give.ensures.did c.give.ensures.clock
+pub returns : goal.returns
+returns g c =
+    let value = c.args.self.now in
+    let old = c.self.inside.plain in
+    let new = c.give.new.self in
+    let servers = c.self.inside.servers.items in
+    let me = c.args.me in
+    let is = c.give.ensures in
+    let after : SoloView = record { plain = new; servers = servers } in
+    let number : ℕ = slot_number c.args.slot in
+    let goes = goes_on_by value old servers c.self.view_is me c.requires.serves new (Gives number c.args.kept) tt is.goes_on is.gave.did is.others in
+    let here = subst (λ (hall : SoloView). IsSoloCourse hall after) (sym c.self.view_is) goes in
+    record {
+      gave = subst (λ (hall : SoloView). HasGiven me number c.args.kept (solo_state hall) (solo_state after)) c.self.view_is (given_over me old new servers number c.args.kept is.gave);
+      slots = subst (λ (hall : SoloView). SlotsStayBut number (solo_state hall) (solo_state after)) c.self.view_is (but_over me old new servers number is.slots);
+      others = subst (λ (hall : SoloView). OthersStay me (solo_state hall) (solo_state after)) c.self.view_is (others_over me old new servers here is.others);
+      weight = subst (λ (hall : SoloView). solo_weight after ≤ solo_weight hall) c.self.view_is (weight_same me old new servers is.others.clock is.weight);
+      goes_on = goes;
+    }

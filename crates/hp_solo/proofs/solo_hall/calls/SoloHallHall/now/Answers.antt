@@ -1,14 +1,36 @@
+use Rattle.std.proofs.Common.{[], ◌∷◌, ◌≤◌, sym, subst, ap, arith}
+use Rattle.hp_hall.specs.HallState.{Did, Stays}
 use Rattle.hp_hall.specs.Mail.{Notes}
 use Rattle.hp_hall.specs.declared.note.Note.TheVariants.{Read}
+use Rattle.hp_solo.specs.Solo.{SoloView, solo_weight}
+use Rattle.hp_solo.specs.SoloCourse.{IsSoloCourse}
+use Rattle.hp_solo.specs.SoloState.{solo_state}
 use Rattle.hp_solo.proofs.SoloCalls.{goes_on_by, holds_after}
+use Rattle.hp_solo.proofs.SoloStates.{did_over, stays_over, weight_same}
 use Rattle.hp_solo.proofs.solo_hall.calls.SoloHallHall.now.Goals as goal
 
 pub invariant_of-self : goal.invariant_of-self
 invariant_of-self g c =
     holds_after c.args.self.now c.self.inside.plain c.self.inside.servers.items c.self.view_is c.args.me c.requires.serves c.self.invariant
-    c.now.new.self c.now.ensures.goes_on (λ who apart. c.now.ensures.own who)
+    c.now.new.self c.now.ensures.goes_on c.now.ensures.stays.others.own
 
-pub returns-clause-goes_on : goal.returns-clause-goes_on
-returns-clause-goes_on g c =
-    goes_on_by c.args.self.now c.self.inside.plain c.self.inside.servers.items c.self.view_is c.args.me c.requires.serves c.now.new.self
-    (Notes (Read c.now.result)) tt c.now.ensures.goes_on c.now.ensures.did c.now.ensures.clock
+pub returns : goal.returns
+returns g c =
+    let value = c.args.self.now in
+    let old = c.self.inside.plain in
+    let new = c.now.new.self in
+    let servers = c.self.inside.servers.items in
+    let me = c.args.me in
+    let is = c.now.ensures in
+    let after : SoloView = record { plain = new; servers = servers } in
+    let goes = goes_on_by value old servers c.self.view_is me c.requires.serves new (Notes (Read c.now.result)) tt is.goes_on is.did is.stays.others in
+    let here = subst (λ (hall : SoloView). IsSoloCourse hall after) (sym c.self.view_is) goes in
+    record {
+      most = λ early. is.most (omega (arith, early, ap (λ (hall : SoloView). hall.plain.clock) c.self.view_is));
+      before = is.before;
+      reached = is.reached;
+      did = subst (λ (hall : SoloView). Did me (Notes (Read c.now.result) ∷ []) (solo_state hall) (solo_state after)) c.self.view_is (did_over me old new servers (Notes (Read c.now.result) ∷ []) is.did);
+      stays = subst (λ (hall : SoloView). Stays me (solo_state hall) (solo_state after)) c.self.view_is (stays_over me old new servers here is.stays);
+      weight = subst (λ (hall : SoloView). solo_weight after ≤ solo_weight hall) c.self.view_is (weight_same me old new servers is.stays.others.clock is.weight);
+      goes_on = goes;
+    }

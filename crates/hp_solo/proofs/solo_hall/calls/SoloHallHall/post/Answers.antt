@@ -1,13 +1,33 @@
+use Rattle.std.proofs.Common.{[], ◌∷◌, ◌≤◌, sym, subst, ◌+◌, ◌*◌}
+use Rattle.hp_hall.specs.HallState.{Did, Stays}
 use Rattle.hp_hall.specs.Mail.{Posts}
+use Rattle.hp_hall.specs.Weights.{frame_weight}
+use Rattle.hp_solo.specs.Solo.{SoloView, solo_weight}
+use Rattle.hp_solo.specs.SoloCourse.{IsSoloCourse}
+use Rattle.hp_solo.specs.SoloState.{solo_state}
 use Rattle.hp_solo.proofs.SoloCalls.{goes_on_by, holds_after}
+use Rattle.hp_solo.proofs.SoloStates.{did_over, stays_over, weight_over}
 use Rattle.hp_solo.proofs.solo_hall.calls.SoloHallHall.post.Goals as goal
 
 pub invariant_of-self : goal.invariant_of-self
 invariant_of-self g c =
     holds_after c.args.self.now c.self.inside.plain c.self.inside.servers.items c.self.view_is c.args.me c.requires.serves c.self.invariant
-    c.post.new.self c.post.ensures.goes_on (λ who apart. c.post.ensures.own who)
+    c.post.new.self c.post.ensures.goes_on c.post.ensures.stays.others.own
 
-pub returns-clause-goes_on : goal.returns-clause-goes_on
-returns-clause-goes_on g c =
-    goes_on_by c.args.self.now c.self.inside.plain c.self.inside.servers.items c.self.view_is c.args.me c.requires.serves c.post.new.self
-    (Posts c.args.to c.args.frame c.args.action c.post.result) tt c.post.ensures.goes_on c.post.ensures.did c.post.ensures.clock
+pub returns : goal.returns
+returns g c =
+    let value = c.args.self.now in
+    let old = c.self.inside.plain in
+    let new = c.post.new.self in
+    let servers = c.self.inside.servers.items in
+    let me = c.args.me in
+    let is = c.post.ensures in
+    let after : SoloView = record { plain = new; servers = servers } in
+    let goes = goes_on_by value old servers c.self.view_is me c.requires.serves new (Posts c.args.to c.args.frame c.args.action c.post.result) tt is.goes_on is.did is.stays.others in
+    let here = subst (λ (hall : SoloView). IsSoloCourse hall after) (sym c.self.view_is) goes in
+    record {
+      did = subst (λ (hall : SoloView). Did me (Posts c.args.to c.args.frame c.args.action c.post.result ∷ []) (solo_state hall) (solo_state after)) c.self.view_is (did_over me old new servers (Posts c.args.to c.args.frame c.args.action c.post.result ∷ []) is.did);
+      stays = subst (λ (hall : SoloView). Stays me (solo_state hall) (solo_state after)) c.self.view_is (stays_over me old new servers here is.stays);
+      weight = subst (λ (hall : SoloView). solo_weight after ≤ solo_weight hall + 1 * (2 * frame_weight c.args.frame)) c.self.view_is (weight_over me old new servers (1 * (2 * frame_weight c.args.frame)) is.stays.others.clock is.weight);
+      goes_on = goes;
+    }

@@ -1,7 +1,7 @@
 -- Participant 1 does its line, and participant 0 stays as it was.
 use Rattle.std.proofs.Common.{refl, arith}
 use Rattle.hp_base.specs.declared.limits.TheConstants.{MAX_HEAPS}
-use Rattle.hp_hall.specs.HallView.{slot_at}
+use Rattle.hp_plain.specs.HallView.{slot_at}
 use Rattle.hp_solo.proofs.SoloTies.{free_home}
 use Rattle.hp_solo_tests.proofs.StageLemmas.{is_declared, staged_attached, tied_own}
 use Rattle.hp_solo_tests.proofs.tests.stage.Stage.attach.Goals as goal

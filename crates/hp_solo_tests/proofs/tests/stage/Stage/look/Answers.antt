@@ -1,8 +1,8 @@
 -- What was taken comes back as it was.
 use Rattle.std.proofs.Common.{◌∙◌}
 use Rattle.hp_base.specs.declared.limits.TheConstants.{MAX_HEAPS}
-use Rattle.hp_hall.proofs.Gives.{home_again}
-use Rattle.hp_hall.specs.Course.{course_then}
+use Rattle.hp_plain.proofs.Homes.{home_again}
+use Rattle.hp_plain.specs.Course.{course_then}
 use Rattle.hp_solo_tests.proofs.StageLemmas.{staged_to}
 use Rattle.hp_solo_tests.proofs.tests.stage.Stage.look.Goals as goal
 

@@ -1,7 +1,7 @@
 -- One of the two serves, and the other stays as it was.
 use Rattle.std.proofs.Common.{arith}
 use Rattle.hp_base.specs.declared.limits.TheConstants.{MAX_HEAPS}
-use Rattle.hp_hall.specs.HallView.{slot_at}
+use Rattle.hp_plain.specs.HallView.{slot_at}
 use Rattle.hp_solo.proofs.SoloTies.{free_home}
 use Rattle.hp_solo_tests.proofs.StageLemmas.{is_declared, staged_secondary, tied_own}
 use Rattle.hp_solo_tests.proofs.tests.stage.Stage.serve_secondary.Goals as goal

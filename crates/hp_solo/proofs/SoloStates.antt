@@ -1,0 +1,102 @@
+-- What a call of the plain values leaves, the hall of one thread over them leaves.
+use Rattle.std.proofs.Common.{◌≡◌, ◌≢◌, ℕ, ◌+◌, ◌≤◌, List, ap, arith}
+use Rattle.hp_hall.specs.HallCalls.{HasComeTo, HasFoundHeld, HasGiven, HasTaken}
+use Rattle.hp_hall.specs.HallState.{Did, MineStay, OthersStay, SlotsStay, SlotsStayBut, Stays}
+use Rattle.hp_hall.specs.Mail.{MailStep}
+use Rattle.hp_hall.specs.Own.{Own}
+use Rattle.hp_hall.specs.Weights.{boxes_weight, pending_at}
+use Rattle.hp_hall.specs.declared.kept.Kept.{Kept}
+use Rattle.hp_plain.specs.HallView.{HallView}
+use Rattle.hp_plain.specs.PlainState.{plain_state}
+use Rattle.hp_solo.specs.Solo.{ServerView, SoloView, servers_weight, solo_weight}
+use Rattle.hp_solo.specs.SoloCourse.{IsSoloCourse}
+use Rattle.hp_solo.specs.SoloState.{solo_later, solo_state}
+
+-- the values went from one state to another, and those who serve stayed
+module _ (me : ℕ) (old new : HallView) (servers : List ServerView) where
+  abbrev before : SoloView
+  before = record { plain = old; servers = servers }
+
+  abbrev after : SoloView
+  after = record { plain = new; servers = servers }
+
+  pub did_over : (steps : List MailStep) → Did me steps (plain_state old) (plain_state new) → Did me steps (solo_state before) (solo_state after)
+  did_over steps did = record { made = did.made }
+
+  pub slots_over : SlotsStay (plain_state old) (plain_state new) → SlotsStay (solo_state before) (solo_state after)
+  slots_over slots = record { taken = slots.taken; home = slots.home }
+
+  pub but_over : (slot : ℕ) → SlotsStayBut slot (plain_state old) (plain_state new) → SlotsStayBut slot (solo_state before) (solo_state after)
+  but_over slot but = record { taken = but.taken; home = but.home }
+
+  pub mine_over : MineStay me (plain_state old) (plain_state new) → MineStay me (solo_state before) (solo_state after)
+  mine_over mine = record { parts = record { part = mine.parts.part; joined = mine.parts.joined }; own = mine.own }
+
+  pub others_over : IsSoloCourse before after → OthersStay me (plain_state old) (plain_state new)
+      → OthersStay me (solo_state before) (solo_state after)
+  others_over course others = record {
+    part = others.part;
+    joined = others.joined;
+    own = others.own;
+    done = others.done;
+    clock = others.clock;
+    later = solo_later before after course;
+  }
+
+  pub stays_over : IsSoloCourse before after → Stays me (plain_state old) (plain_state new) → Stays me (solo_state before) (solo_state after)
+  stays_over course stays = record {
+    slots = slots_over stays.slots;
+    mine = mine_over stays.mine;
+    others = others_over course stays.others;
+  }
+
+  pub taken_over : (slot : ℕ) (kept : Kept) → HasTaken me slot kept (plain_state old) (plain_state new)
+      → HasTaken me slot kept (solo_state before) (solo_state after)
+  taken_over slot kept took = record {
+    fits = took.fits;
+    sound = took.sound;
+    entries = took.entries;
+    log = took.log;
+    asks = took.asks;
+    roster = took.roster;
+    stands = took.stands;
+    part = took.part;
+    joined = took.joined;
+    own = took.own;
+    taken = took.taken;
+    did = record { made = took.did.made };
+  }
+
+  pub given_over : (slot : ℕ) (kept : Kept) → HasGiven me slot kept (plain_state old) (plain_state new)
+      → HasGiven me slot kept (solo_state before) (solo_state after)
+  given_over slot kept gave = record {
+    taken = gave.taken;
+    home = gave.home;
+    part = gave.part;
+    joined = gave.joined;
+    own = gave.own;
+    log = gave.log;
+    asks = gave.asks;
+    did = record { made = gave.did.made };
+  }
+
+  pub comes_over : (part : Own) (steps : List MailStep) → IsSoloCourse before after → HasComeTo me part steps (plain_state old) (plain_state new)
+      → HasComeTo me part steps (solo_state before) (solo_state after)
+  comes_over part steps course comes = record {
+    own = comes.own;
+    parts = record { part = comes.parts.part; joined = comes.parts.joined };
+    slots = slots_over comes.slots;
+    others = others_over course comes.others;
+    did = did_over steps comes.did;
+  }
+
+  pub weight_over : (more : ℕ) → new.clock ≡ old.clock → boxes_weight new.boxes ≤ boxes_weight old.boxes + more
+      → solo_weight after ≤ solo_weight before + more
+  weight_over more clock less = omega (arith, less, ap (λ (at : ℕ). servers_weight (pending_at at) servers) clock)
+
+  pub weight_less : (less : ℕ) → new.clock ≡ old.clock → boxes_weight new.boxes + less ≤ boxes_weight old.boxes
+      → solo_weight after + less ≤ solo_weight before
+  weight_less less clock falls = omega (arith, falls, ap (λ (at : ℕ). servers_weight (pending_at at) servers) clock)
+
+  pub weight_same : new.clock ≡ old.clock → boxes_weight new.boxes ≤ boxes_weight old.boxes → solo_weight after ≤ solo_weight before
+  weight_same clock less = omega (arith, less, ap (λ (at : ℕ). servers_weight (pending_at at) servers) clock)
