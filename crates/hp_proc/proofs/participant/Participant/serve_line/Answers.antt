@@ -1,5 +1,5 @@
 -- An allocation line is served from the first of its heaps that has or gets memory for it, and its element is noted.
-use Rattle.std.proofs.Common.{◌∙◌, ◌*◌, ℕ, List, length, map, refl, ap, sym, subst}
+use Rattle.std.proofs.Common.{◌≡◌, ◌∙◌, ◌*◌, ℕ, List, length, map, refl, ap, sym, subst}
 use Rattle.std.specs.Option.{option_map}
 use Rattle.hp_base.specs.declared.limits.TheConstants.{MAX_HEAPS}
 use Rattle.hp_hall.specs.Holding.{HeapPart}
@@ -147,12 +147,12 @@ returns-in_err-answer-clause-clock g c =
     let options = c.args.options.now in
     let old = (g.H.Hall.state c.args.hall.now).clock in
     let new = (g.H.Hall.state c.serve_request.new.hall).clock in
-    rises_within g.H.Hall.pending (λ hall. IsBusy hall) (length places) MAX_HEAPS (longest_growth party.deadline) old new
+    rises_within g.H.Hall.pending (λ hall. IsBusy (g.H.Hall.state hall)) (length places) MAX_HEAPS (longest_growth party.deadline) old new
     (few_places start.context.pools start.socket (option_map (λ name. name.text) options.heap) options.socket places
     c.in_ok-places.ensures.heaps)
-    (subst (λ (party : Party). RisesWithin g.H.Hall.pending (λ hall. IsBusy hall) (length places * longest_growth party.deadline) old new)
+    (subst (λ (party : Party). RisesWithin g.H.Hall.pending (λ hall. IsBusy (g.H.Hall.state hall)) (length places * longest_growth party.deadline) old new)
     c.reserve_element.ensures
-    (subst (λ (places : List SocketHeap). RisesWithin g.H.Hall.pending (λ hall. IsBusy hall)
+    (subst (λ (places : List SocketHeap). RisesWithin g.H.Hall.pending (λ hall. IsBusy (g.H.Hall.state hall))
     (length places * longest_growth start.deadline) old new) c.deref.ensures.value c.serve_request.ensures.clock))
 
 pub returns-in_err-note_answer-clause-clock : goal.returns-in_err-note_answer-clause-clock
@@ -163,12 +163,12 @@ returns-in_err-note_answer-clause-clock g c =
     let options = c.args.options.now in
     let old = (g.H.Hall.state c.args.hall.now).clock in
     let new = (g.H.Hall.state c.serve_request.new.hall).clock in
-    rises_within g.H.Hall.pending (λ hall. IsBusy hall) (length places) MAX_HEAPS (longest_growth party.deadline) old new
+    rises_within g.H.Hall.pending (λ hall. IsBusy (g.H.Hall.state hall)) (length places) MAX_HEAPS (longest_growth party.deadline) old new
     (few_places start.context.pools start.socket (option_map (λ name. name.text) options.heap) options.socket places
     c.in_ok-places.ensures.heaps)
-    (subst (λ (party : Party). RisesWithin g.H.Hall.pending (λ hall. IsBusy hall) (length places * longest_growth party.deadline) old new)
+    (subst (λ (party : Party). RisesWithin g.H.Hall.pending (λ hall. IsBusy (g.H.Hall.state hall)) (length places * longest_growth party.deadline) old new)
     c.reserve_element.ensures
-    (subst (λ (places : List SocketHeap). RisesWithin g.H.Hall.pending (λ hall. IsBusy hall)
+    (subst (λ (places : List SocketHeap). RisesWithin g.H.Hall.pending (λ hall. IsBusy (g.H.Hall.state hall))
     (length places * longest_growth start.deadline) old new) c.deref.ensures.value c.serve_request.ensures.clock))
 
 pub returns-clause-clock : goal.returns-clause-clock
@@ -179,10 +179,10 @@ returns-clause-clock g c =
     let options = c.args.options.now in
     let old = (g.H.Hall.state c.args.hall.now).clock in
     let new = (g.H.Hall.state c.serve_request.new.hall).clock in
-    rises_within g.H.Hall.pending (λ hall. IsBusy hall) (length places) MAX_HEAPS (longest_growth party.deadline) old new
+    rises_within g.H.Hall.pending (λ hall. IsBusy (g.H.Hall.state hall)) (length places) MAX_HEAPS (longest_growth party.deadline) old new
     (few_places start.context.pools start.socket (option_map (λ name. name.text) options.heap) options.socket places
     c.in_ok-places.ensures.heaps)
-    (subst (λ (party : Party). RisesWithin g.H.Hall.pending (λ hall. IsBusy hall) (length places * longest_growth party.deadline) old new)
+    (subst (λ (party : Party). RisesWithin g.H.Hall.pending (λ hall. IsBusy (g.H.Hall.state hall)) (length places * longest_growth party.deadline) old new)
     c.reserve_element.ensures
-    (subst (λ (places : List SocketHeap). RisesWithin g.H.Hall.pending (λ hall. IsBusy hall)
+    (subst (λ (places : List SocketHeap). RisesWithin g.H.Hall.pending (λ hall. IsBusy (g.H.Hall.state hall))
     (length places * longest_growth start.deadline) old new) c.deref.ensures.value c.serve_request.ensures.clock))

@@ -133,7 +133,7 @@ loop-place-preserved g c =
       idle = again_then c.args.self.now c.loop-place.self party was.idle one.idle;
       goes_on = g.met.H.Hall.goes_on_then _ _ _ was.goes_on one.goes_on;
       along = omega (arith, c.loop-place-test.true);
-      clock = rises_more g.H.Hall.pending (λ hall. IsBusy hall) i (longest_growth c.args.self.now.deadline)
+      clock = rises_more g.H.Hall.pending (λ hall. IsBusy (g.H.Hall.state hall)) i (longest_growth c.args.self.now.deadline)
           (longest_growth c.loop-place.self.deadline) first.clock second.clock third.clock
           (ap longest_growth was.idle.same.deadline) was.clock one.clock;
     }
@@ -246,9 +246,9 @@ returns-in_err-answer-clause-clock g c =
     let old = (g.H.Hall.state c.args.hall.now).clock in
     let new = (g.H.Hall.state c.try_heap.new.hall).clock in
     let index = c.loop-place.place-index in
-    rises_within g.H.Hall.pending (λ hall. IsBusy hall) (index + 1) (length c.args.places.now) (longest_growth party.deadline) old new
+    rises_within g.H.Hall.pending (λ hall. IsBusy (g.H.Hall.state hall)) (index + 1) (length c.args.places.now) (longest_growth party.deadline) old new
     (omega (arith, c.loop-place-test.true))
-    (rises_more g.H.Hall.pending (λ hall. IsBusy hall) index (longest_growth party.deadline) (longest_growth c.loop-place.self.deadline) old
+    (rises_more g.H.Hall.pending (λ hall. IsBusy (g.H.Hall.state hall)) index (longest_growth party.deadline) (longest_growth c.loop-place.self.deadline) old
     (g.H.Hall.state c.loop-place.hall).clock new (ap longest_growth was.idle.same.deadline) was.clock c.try_heap.ensures.clock)
 
 pub returns-in-Some-clause-clock : goal.returns-in-Some-clause-clock
@@ -258,13 +258,13 @@ returns-in-Some-clause-clock g c =
     let old = (g.H.Hall.state c.args.hall.now).clock in
     let new = (g.H.Hall.state c.try_heap.new.hall).clock in
     let index = c.loop-place.place-index in
-    rises_within g.H.Hall.pending (λ hall. IsBusy hall) (index + 1) (length c.args.places.now) (longest_growth party.deadline) old new
+    rises_within g.H.Hall.pending (λ hall. IsBusy (g.H.Hall.state hall)) (index + 1) (length c.args.places.now) (longest_growth party.deadline) old new
     (omega (arith, c.loop-place-test.true))
-    (rises_more g.H.Hall.pending (λ hall. IsBusy hall) index (longest_growth party.deadline) (longest_growth c.loop-place.self.deadline) old
+    (rises_more g.H.Hall.pending (λ hall. IsBusy (g.H.Hall.state hall)) index (longest_growth party.deadline) (longest_growth c.loop-place.self.deadline) old
     (g.H.Hall.state c.loop-place.hall).clock new (ap longest_growth was.idle.same.deadline) was.clock c.try_heap.ensures.clock)
 
 pub returns-clause-clock : goal.returns-clause-clock
 returns-clause-clock g c =
     let was = c.loop-place.invariant in
-    rises_within g.H.Hall.pending (λ hall. IsBusy hall) c.loop-place.place-index (length c.args.places.now)
+    rises_within g.H.Hall.pending (λ hall. IsBusy (g.H.Hall.state hall)) c.loop-place.place-index (length c.args.places.now)
     (longest_growth c.args.self.now.deadline) (g.H.Hall.state c.args.hall.now).clock (g.H.Hall.state c.loop-place.hall).clock was.along was.clock
