@@ -1,6 +1,6 @@
 -- What a serving comes to, by cases on what it did: the rules "Serving" and "Coordinating" of docs/PARTICIPANTS.md.
 use Rattle.std.proofs.Common.{◌≡◌, ◌≢◌, ◌∙◌, ℕ, zero, suc, Bool, true, false, List, [], ◌∷◌, ◌++◌, length, Option, Some, None, inl, inr, append-nil, refl, ap, sym, subst, arith}
-use Rattle.std.specs.Prelude.{nat_lt, slice_index, take}
+use Rattle.std.specs.Prelude.{nat_lt, slice_index, take, if◌then◌else◌}
 use Rattle.hp_base.specs.declared.caught.Caught.{Caught}
 use Rattle.hp_base.specs.declared.caught.Caught.TheVariants as caught
 use Rattle.hp_base.specs.declared.plan_entry.PlanEntry.{PlanEntry}
@@ -205,8 +205,7 @@ asks_of : (count : ℕ) (party after : Party) (frame : Frame) (steps : List Mail
     → (handed : CoreEvent) × IsAskIn count body handed × HandsOver party handed steps answer
 asks_of count party after frame steps goes answer behind (IsObeyed.drops nothing did after_is goes_is) body event says ask = absurd (nothing body says)
 asks_of count party after frame steps goes answer behind (IsObeyed.asks told handed speaks asked handled) body event says ask =
-    let stops : goes ≡ false → answer ≡ None = λ is. behind ∙ ap answer_behind is in
-    (
+    let stops : goes ≡ false → answer ≡ None = λ is. behind ∙ ap answer_behind is in (
       handed,
       subst (λ (body : Body). IsAskIn count body handed) (says_one frame told body speaks says) asked,
       asked_over count party after handed steps goes answer stops handled,

@@ -151,12 +151,12 @@ returns-in-Some g c =
           c.requires.holds.settled);
       keeps = record {
         in_hand = hand_moved party part seen heard (call.Cut c.args.addr) (gives.Pages run) heap cut step old.taken c.requires.holds.in_hand new.taken
-              after later (new.seen me) (new.heard me) is.stays.slots.taken
-              (subst (λ (after : Party). IsSameParty (after_call party) after) (sym counted) (same_party (after_call party))) parts
-              (λ other far. ap (λ (part : HeapPart). part.holding) (apart other (λ same. far (same ∙ c.requires.its))))
-              (subst (λ (index : ℕ). IsHeldWith cut (later index).holding) c.requires.its
-              (held_behind_cut c.args.addr place.index run heap cut (part place.index) (later place.index) c.requires.its held
-              c.in-Some.ensures.pages (cut_leaves (caller_of party) c.args.addr (gives.Pages run) heap cut step) gives_up));
+            after later (new.seen me) (new.heard me) is.stays.slots.taken
+            (subst (λ (after : Party). IsSameParty (after_call party) after) (sym counted) (same_party (after_call party))) parts
+            (λ other far. ap (λ (part : HeapPart). part.holding) (apart other (λ same. far (same ∙ c.requires.its))))
+            (subst (λ (index : ℕ). IsHeldWith cut (later index).holding) c.requires.its
+            (held_behind_cut c.args.addr place.index run heap cut (part place.index) (later place.index) c.requires.its held
+            c.in-Some.ensures.pages (cut_leaves (caller_of party) c.args.addr (gives.Pages run) heap cut step) gives_up));
         index = call_index _ _ _ _ _ step;
         its_socket = call_serves _ _ _ _ _ step;
         remains = record {

@@ -19,7 +19,7 @@ use Rattle.hp_proc.specs.Doing.{Doing}
 use Rattle.hp_proc.specs.Heaps.{NamedHeap, has_name, socket_heaps}
 use Rattle.hp_proc.specs.Lines.{Facts, doing_of, dumping, if_attached, with_statistics}
 use Rattle.hp_proc.specs.Party.{IsSameParty, Party, after_call, with_calls}
-use Rattle.hp_proc.specs.Progress.{Does, MayDo, caller_of, in_hand}
+use Rattle.hp_proc.specs.Progress.{Does, MayDo, caller_of}
 use Rattle.hp_proc.proofs.Carrying.{same_party}
 use Rattle.hp_proc.proofs.HandCalls.{call_index, does_call}
 use Rattle.hp_proc.proofs.Joining.{does_same, does_then}

@@ -11,7 +11,7 @@ use Rattle.hp_proc.specs.Doing.{Doing}
 use Rattle.hp_proc.specs.Freeing.{acting, behind_looking, looking}
 use Rattle.hp_proc.specs.Heaps.{sockets_of}
 use Rattle.hp_proc.specs.Party.{IsSameParty, Party}
-use Rattle.hp_proc.specs.Progress.{IsInHand, MayDo, in_hand, moment_of}
+use Rattle.hp_proc.specs.Progress.{IsInHand, MayDo, moment_of}
 use Rattle.hp_proc.specs.declared.searched_heap.SearchedHeap.{SearchedHeap}
 use Rattle.hp_hall.specs.HallState.{MayServe}
 use Rattle.hp_proc.specs.InHall.{HoldsIn, moment, moment_with}
