@@ -30,6 +30,7 @@ use Rattle.hp_segs.proofs.GrantedRows.{rows_are_granted}
 use Rattle.hp_proc.specs.LinesDone.{Course}
 use Rattle.hp_proc.specs.Party.{Party}
 use Rattle.hp_proc.specs.Tied.{HasTable, part_of}
+use Rattle.hp_proc.proofs.RowsKnown.{has_lags}
 use Rattle.hp_joint.specs.SoFar.{SoFar, first_hall, first_segs}
 use Rattle.hp_joint.proofs.SeatsAlong.{count_along}
 use Rattle.hp_joint.proofs.SegsAlong.{sound_along}
@@ -118,7 +119,7 @@ module _ (workload : Workload) (courses : List Course) (parties : List Party) (h
     has_mapped : (segment : Segment) → Contains segs.segments segment → IsInUse segment → HasSegment party.maps.rows segment
     has_mapped segment among in_use =
         contains_unkept is_of_log party.maps.rows segment.row
-        (in_lagging segs.log own.number own.unmapped (table_in party.maps.rows) segment.row its_own.lags
+        (in_lagging segs.log own.number own.unmapped (table_in party.maps.rows) segment.row (has_lags segs.log own party.maps its_own)
         (has_taken_in segment among in_use) (in_use_logged segs segment sound_now among))
 
     has_all : HasAllInUse segs party

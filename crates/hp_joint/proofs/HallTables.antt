@@ -29,6 +29,7 @@ use Rattle.hp_proc.specs.LinesDone.{Course, courses_of, opening_standing, standi
 use Rattle.hp_proc.specs.Party.{Party}
 use Rattle.hp_proc.specs.Seen.{HasTakenIn}
 use Rattle.hp_proc.specs.Tied.{HasTable, part_of, nothing_yet}
+use Rattle.hp_proc.proofs.RowsKnown.{has_lags}
 use Rattle.hp_joint.specs.SoFar.{SoFar, first_hall, first_segs}
 use Rattle.hp_joint.proofs.HallEnds.{are_segs, party_of}
 use Rattle.hp_joint.proofs.HallSegs.{is_enrolled, segs_sound}
@@ -127,7 +128,8 @@ module _ (workload : Workload) (courses : List Course) (parties : List Party) (h
           record {
             lags = subst (λ (rows : List Row). Lags segs.log table.number (length segs.log) (table_in rows)) (sym leaves.rows)
                 (subst (λ (number : ℕ). Lags segs.log number (length segs.log) (table_in party.maps.rows)) (sym number_is)
-                (lags_further segs.log own.number own.unmapped (length segs.log) (table_in party.maps.rows) its_own.seen its_own.lags));
+                (lags_further segs.log own.number own.unmapped (length segs.log) (table_in party.maps.rows) its_own.seen
+                (has_lags segs.log own party.maps its_own)));
             since = omega (arith, leaves.number, (so.each who party at).since joined);
             own = all_from_contained (HasTakenIn who table.number) segs.asks (λ entry has mine.
                 if_there (λ (generation : ℕ). generation ≤ table.number) (granted_by entry.outcome) (λ generation grant.
@@ -141,7 +143,7 @@ module _ (workload : Workload) (courses : List Course) (parties : List Party) (h
     none_left out table leaves =
         let none : HasTable segs.log nothing_yet party.maps =
         subst (λ (joined : Bool). HasTable segs.log (part_of joined own) party.maps) out has_table in
-        (leaves.number ∙ none.number, leaves.rows ∙ no_rows segs.log party.maps.rows none.lags none.chunks)
+        (leaves.number ∙ none.number, leaves.rows ∙ no_rows segs.log party.maps.rows (has_lags segs.log nothing_yet party.maps none) none.chunks)
 
     table_by : (joined : Bool) (table : Table) → party.joined ≡ joined → LeavesTable party table → IsTableOf segs who records joined table
     table_by true table is leaves = members_table is table leaves

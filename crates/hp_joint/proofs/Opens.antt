@@ -14,12 +14,11 @@ use Rattle.hp_plain.specs.Course.{course_same}
 use Rattle.hp_plain.specs.HallSteps.{slots_of}
 use Rattle.hp_plain.specs.HallView.{HallView, history_in, own_at, part_in, seen_in, heard_in, segs_in, serves_in, slot_at}
 use Rattle.hp_plain.specs.Opening.{AreUnused}
-use Rattle.hp_hall.specs.Own.{Own, after_ack}
+use Rattle.hp_hall.specs.Own.{Own, after_ack, rows_known}
 use Rattle.hp_hall.proofs.Gives.{entries_made-none}
 use Rattle.hp_plain.proofs.Opened.{opened_home, opened_segs, opened_unheld, opened_unused}
 use Rattle.hp_heap.specs.History.{HeapView}
 use Rattle.hp_log.specs.declared.log_record.LogRecord.{LogRecord}
-use Rattle.hp_maps.specs.Catching.{Lags}
 use Rattle.hp_maps.specs.MapsView.{MapsView, chunk_rows, table_in}
 use Rattle.hp_script.specs.declared.workload.Workload.{Workload}
 use Rattle.hp_segs.specs.LaterSteps.{armed_ask}
@@ -87,10 +86,8 @@ tied_first log own joined maps none nothing empty first room =
       within = omega (arith, ap (λ (own : Own). own.number) nothing);
       table = record {
         number = first ∙ sym (ap (λ (own : Own). own.number) part);
-        lags =
-            subst (λ (own : Own). Lags log own.number own.unmapped (table_in maps.rows)) (sym part)
-            (subst (λ (log : List LogRecord). Lags log 0 0 (table_in maps.rows)) (sym none)
-            (record { reached = 0; from = omega arith; up_to = omega arith; left = ap table_in empty }));
+        rows = subst (λ (own : Own). table_in maps.rows ≡ rows_known log own) (sym part) (ap table_in empty);
+        behind = omega (arith, ap (λ (own : Own). own.number) part, ap (λ (own : Own). own.unmapped) part);
         seen = omega (arith, ap (λ (own : Own). own.unmapped) part);
         chunks = ap chunk_rows empty;
         room = room;

@@ -84,7 +84,7 @@ none_asked asked old new others grows heap = ⊎_elim
 -- what is held is held
 pub held_some : (heap : HeapView) (held : Option Holding) → IsHeldWith heap held → IsSome held
 held_some heap None held = absurd held
-held_some heap (Some holding) held = tt
+held_some heap (Some holding) held = refl
 
 held_holding : (heap : HeapView) (holding : Option Holding) (one : Holding) → holding ≡ Some one → IsHeldWith heap holding
     → HasPages heap.plain.pages one.owned

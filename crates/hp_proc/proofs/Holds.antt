@@ -1,18 +1,19 @@
 -- A participant with a heap in hand, over what calls leave.
 use Rattle.std.proofs.Common.{◌≡◌, ◌+◌, ◌∙◌, ℕ, refl, sym, ap, subst, arith}
-use Rattle.hp_hall.specs.HallState.{HallState, MayServe}
-use Rattle.hp_hall.proofs.HallStates.{did_then, later_same, later_then, may_still, slots_same, slots_then}
+use Rattle.hp_hall.specs.HallState.{HallState, MayServe, OthersStay, SlotsStay, SlotsStayBut}
+use Rattle.hp_hall.proofs.HallStates.{did_then, later_same, later_then, may_still, others_same, slots_same, slots_then}
 use Rattle.hp_heap.specs.History.{HeapView, IsCall}
 use Rattle.hp_heap.specs.declared.entry.HeapAnswer.{HeapAnswer}
 use Rattle.hp_heap.specs.declared.entry.HeapCall.{HeapCall}
 use Rattle.hp_proc.specs.Asking.{HasSettledAsks}
 use Rattle.hp_proc.specs.Contexts.{Context}
+use Rattle.hp_proc.specs.Courses.{Standing}
 use Rattle.hp_proc.specs.Doing.{Doing}
-use Rattle.hp_proc.specs.InHall.{HasRoom, HoldsIn, IsIdleAgain, IsIdleIn, IsTiedIn, KeepsHeld, RemainsIn, StaysIn, did_in, moment}
-use Rattle.hp_proc.specs.Party.{IsSameParty, Party, after_call, with_calls}
-use Rattle.hp_proc.specs.Progress.{AreSettled, Does, Moment, caller_of}
+use Rattle.hp_proc.specs.InHall.{AreFreeBut, CanServe, ChangesRoster, HasRoom, HoldsIn, IsFreeAt, IsIdleAgain, IsIdleIn, IsTiedIn, KeepsHeld, RemainsIn, StaysIn, did_in, moment}
+use Rattle.hp_proc.specs.Party.{IsSameParty, Party, after_call, with_calls, with_context, with_standing}
+use Rattle.hp_proc.specs.Progress.{AreSettled, Does, IsInHand, Moment, caller_of}
 use Rattle.hp_proc.proofs.HandCalls.{call_index, call_serves, hand_stays}
-use Rattle.hp_proc.proofs.InHalls.{idle_in, in_same, remains_by}
+use Rattle.hp_proc.proofs.InHalls.{idle_again, idle_in, idle_still, in_same, remains_by}
 use Rattle.hp_proc.proofs.Joining.{does_then}
 
 -- who is the same is so but for the number of its calls
@@ -102,20 +103,27 @@ keeps_after {first} {mid} {last} {one} {two} {three} {a} {b} {c} here heap next 
     }
 
 -- it may go on with the heap in its hand
+pub can_on : {first last : Party} {before behind : HeapView} {a b : HallState} → KeepsHeld first.me first last before behind a b
+    → MayServe first.me a → CanServe last.me last b
+can_on {first} {last} {before} {behind} {a} {b} keeps may =
+    let here : CanServe first.me last b = record {
+      may = may_still keeps.remains.slots keeps.remains.later may;
+      tied = keeps.remains.tied;
+    } in
+    subst (λ (who : ℕ). CanServe who last b) (sym keeps.remains.same.me) here
+
 pub holds_on : {first last : Party} {before behind : HeapView} {a b : HallState} → KeepsHeld first.me first last before behind a b
     → AreSettled (moment first.me last b) → MayServe first.me a → HoldsIn last.me last behind b
-holds_on {first} {last} {before} {behind} {a} {b} keeps settled may =
-    let here : HoldsIn first.me last behind b = record {
-      can = record { may = may_still keeps.remains.slots keeps.remains.later may; tied = keeps.remains.tied };
-      in_hand = keeps.in_hand;
-      settled = settled;
-    } in
-    subst (λ (who : ℕ). HoldsIn who last behind b) (sym keeps.remains.same.me) here
+holds_on {first} {last} {before} {behind} {a} {b} keeps settled may = record {
+  can = can_on keeps may;
+  in_hand = subst (λ (who : ℕ). IsInHand b.taken (moment who last b) behind) (sym keeps.remains.same.me) keeps.in_hand;
+  settled = subst (λ (who : ℕ). AreSettled (moment who last b)) (sym keeps.remains.same.me) settled;
+}
 
 -- lines of which each goes on from where the one before ended
-pub again_then : {first mid last : Party} {a b : HallState} → IsIdleAgain first.me (with_calls mid.context.calls first) mid a
+pub again_then : (first mid last : Party) {a b : HallState} → IsIdleAgain first.me (with_calls mid.context.calls first) mid a
     → IsIdleAgain mid.me (with_calls last.context.calls mid) last b → IsIdleAgain first.me (with_calls last.context.calls first) last b
-again_then {first} {mid} {last} {a} {b} here next = record {
+again_then first mid last {a} {b} here next = record {
   same = calls_then first mid last here.same next.same;
   idle = subst (λ (who : ℕ). IsIdleIn who last b) here.same.me next.idle;
 }
@@ -165,9 +173,9 @@ keeps_called party after heap next {call} {answer} {a} step counted pages holds 
       remains = remains_called (remains_by (in_same me party a holds.can.tied)) counted;
     }
 
-pub settled_called : (party after : Party) {a : HallState} → after ≡ after_call party → AreSettled (moment party.me party a)
+pub settled_called : (party after : Party) (a : HallState) → after ≡ after_call party → AreSettled (moment party.me party a)
     → AreSettled (moment party.me after a)
-settled_called party after {a} counted settled =
+settled_called party after a counted settled =
     subst (λ (who : ℕ). HasSettledAsks who (a.part party.me) (a.heard party.me)) (sym (ap (λ (party : Party). party.me) counted)) settled
 
 pub room_called : (calls : ℕ) (party after : Party) (heap next : HeapView) → next.spare + 1 ≡ heap.spare → after ≡ after_call party
@@ -195,3 +203,70 @@ again_same party idle = record { same = record { me = refl; socket = refl; plan 
 pub again_by : {me : ℕ} (old new : Party) {a b : HallState} → StaysIn me old new a b → IsIdleIn me old a
     → IsIdleAgain me (with_calls new.context.calls old) new b
 again_by old new stays idle = record { same = same_to_calls old new stays.same; idle = idle_in stays idle }
+
+-- the other slots are free while a heap is in hand
+pub but_kept : {slot index : ℕ} {a b : HallState} → index ≡ slot → AreFreeBut slot a → SlotsStay a b → AreFreeBut index b
+but_kept {slot} {index} {a} {b} same free slots =
+    subst (λ (slot : ℕ). AreFreeBut slot b) (sym same)
+    (record {
+      taken = λ number apart. slots.taken number ∙ free.taken number apart;
+      home = λ number few apart. slots.home number (free.home number few apart);
+    })
+
+-- it is given back, and its holder holds no slot again
+pub idle_put : (party : Party) (heap : HeapView) {a b : HallState} → CanServe party.me party a → AreFreeBut heap.plain.index a
+    → (IsTiedIn party.me party a → IsTiedIn party.me party b) → IsFreeAt heap.plain.index b → SlotsStayBut heap.plain.index a b
+    → OthersStay party.me a b → IsIdleIn party.me party b
+idle_put party heap {a} {b} can free tied at slots others =
+    let may = can.may in
+    let declared = may.declared in
+    let count = others.later.count in
+    let but : AreFreeBut heap.plain.index b = record {
+      taken = λ number apart. slots.taken number apart ∙ free.taken number apart;
+      home = λ number few apart. slots.home number apart (free.home number few apart);
+    } in
+    idle_again (others.later.serves party.me may.serves) (omega (arith, declared, count)) (tied can.tied) but at
+
+-- so it is behind what it did with the heap that it took
+pub again_put : {first mid last : Party} {one two : HeapView} {a b : HallState} {c : HallState} → IsSameParty first mid
+    → KeepsHeld mid.me mid last one two a b → IsIdleIn last.me last c → IsIdleAgain first.me (with_calls last.context.calls first) last c
+again_put {first} {mid} {last} {one} {two} {a} {b} {c} same keeps idle = record {
+  same = calls_after first mid last same keeps.remains.same;
+  idle = subst (λ (who : ℕ). IsIdleIn who last c) (keeps.remains.same.me ∙ same.me) idle;
+}
+
+-- so it is to a whole line, behind which it knows other things
+pub again_line : (party : Party) {a : HallState} → IsIdleIn party.me party a → IsIdleAgain party.me (with_context party.context party) party a
+again_line party idle = record { same = record { me = refl; socket = refl; plan = refl; deadline = refl; context = refl }; idle = idle }
+
+pub line_by : {me : ℕ} (old new : Party) {a : HallState} → IsSameParty (with_calls new.context.calls old) new → IsIdleIn me new a
+    → IsIdleAgain me (with_context new.context old) new a
+line_by old new same idle = record {
+  same = record { me = same.me; socket = same.socket; plan = same.plan; deadline = same.deadline; context = refl };
+  idle = idle;
+}
+
+-- it attached or detached, and noted that
+pub changes_same : (party : Party) {a : HallState} → IsTiedIn party.me party a → ChangesRoster party.me party party a a
+changes_same party {a} tied = record {
+  same = record { me = refl; socket = refl; plan = refl; deadline = refl; context = refl };
+  tied = tied;
+  slots = slots_same a;
+  others = others_same party.me a;
+}
+
+pub changes_noted : (party mid : Party) (standing : Standing) {after : Party} {a b : HallState} → IsSameParty party mid
+    → after ≡ with_standing standing mid → IsTiedIn party.me mid b → SlotsStay a b → OthersStay party.me a b
+    → ChangesRoster party.me party after a b
+changes_noted party mid standing {after} {a} {b} same noted tied slots others =
+    subst (λ (after : Party). ChangesRoster party.me party after a b) (sym noted)
+    (record {
+      same = record { me = same.me; socket = same.socket; plan = same.plan; deadline = same.deadline; context = refl };
+      tied = tied;
+      slots = slots;
+      others = others;
+    })
+
+pub idle_changed : {me : ℕ} {old new : Party} {a b : HallState} → ChangesRoster me old new a b → IsIdleIn me old a
+    → IsIdleAgain me (with_context new.context old) new b
+idle_changed changes idle = record { same = changes.same; idle = idle_still changes.slots changes.others.later changes.tied idle }

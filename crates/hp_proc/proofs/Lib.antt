@@ -53,3 +53,4 @@ pub mod SegmentSlots
 pub mod InHalls
 pub mod Holds
 pub mod AttachedLines
+mod ServingLemmas

@@ -1,5 +1,5 @@
 -- A segment value in which nobody is armed yet.
-use Rattle.std.proofs.Common.{◌≡◌, ◌∙◌, ℕ, zero, suc, List, [], replicate, slice_index_or, Option, Some, None, refl, sym, ap, subst, IfSome}
+use Rattle.std.proofs.Common.{◌≡◌, ◌∙◌, ℕ, zero, suc, List, [], replicate, slice_index_or, Option, None, refl, sym, ap, subst, IfSome}
 use Rattle.std.specs.Prelude.{Contains}
 use Rattle.hp_segs.specs.GrowthLaws.{IsOfArmed}
 use Rattle.hp_segs.specs.LaterSteps.{armed_ask}

@@ -1,5 +1,5 @@
 -- A participant in a hall: the rules "Tables" and "Lines" of docs/PARTICIPANTS.md.
-use Rattle.std.specs.Prelude.{◌≡◌, ◌≢◌, ℕ, ◌+◌, ◌<◌, ◌≤◌, ◌^◌, List, Option, None}
+use Rattle.std.specs.Prelude.{◌≡◌, ◌≢◌, ℕ, ◌+◌, ◌<◌, ◌≤◌, ◌^◌, List, None}
 use Rattle.hp_base.specs.declared.limits.TheConstants.{MAX_HEAPS}
 use Rattle.hp_hall.specs.HallState.{Did, HallState, IsLater, MayServe, OthersStay, SlotsStay, Waits}
 use Rattle.hp_hall.specs.Mail.{MailStep}

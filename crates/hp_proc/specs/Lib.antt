@@ -27,6 +27,7 @@ pub mod Progress
 pub mod Seen
 pub mod SegmentSlot
 pub mod Serving
+pub mod Servings
 pub mod Tied
 pub mod Waiting
 pub mod Ending

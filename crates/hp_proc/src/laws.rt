@@ -7,6 +7,7 @@ ghost use Rattle.hp_proc.specs.Coordinating.{IsServed};
 ghost use Rattle.hp_proc.specs.Doing.{Doing};
 ghost use Rattle.hp_proc.specs.Laws.{AnswersInTurn, GoesOnNumbered, LeadsOn, StaysAnswered};
 ghost use Rattle.hp_proc.specs.Party.{Party};
+ghost use Rattle.hp_proc.specs.Servings.{ServesSo};
 ghost use Rattle.hp_proc.specs.Waiting.{LeavesAsked};
 
 /// The outcome of an ask that a segment value has stays, whatever is logged after it. So what was said of a line stays true in
@@ -35,4 +36,11 @@ pub fn numbering_law()
 pub fn asking_law()
     ensures { (count : ℕ) (old new : Party) (steps : List MailStep) (answer : Option Bool) → IsServed count old new steps answer
         → LeavesAsked old new }
+{}
+
+/// What one serving comes to. A member that fetches a SYNC follows it, and posts nothing but its reply to one. Participant 0 hands each ask
+/// that it fetches to its coordinator, and posts nothing but SYNCs and RESULTs to participants that the hall has. Own.
+pub fn served_law()
+    ensures { (count : ℕ) (old new : Party) (steps : List MailStep) (answer : Option Bool) → IsServed count old new steps answer
+        → ServesSo count old steps answer }
 {}

@@ -34,7 +34,7 @@ mod workload_facts;
 pub use calls::{put_back, take_segments};
 pub use end::End;
 pub use framing::framed;
-pub use laws::{answer_law, asking_law, leading_law, numbering_law, outcomes_law};
+pub use laws::{answer_law, asking_law, leading_law, numbering_law, outcomes_law, served_law};
 pub use line_context::LineContext;
 pub use own_element::OwnElement;
 pub use pages_asked::PagesAsked;

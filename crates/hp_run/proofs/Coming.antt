@@ -161,7 +161,8 @@ module _ (workload : Workload) (who : ℕ) (may_fail : Option (List ℕ)) (party
           table = subst (λ (own : Own). HasTable log own party.maps) (sym part)
               (record {
                 number = ap (λ (maps : MapsView). maps.number) maps_are ∙ planned.table.number;
-                lags = record { reached = 0; from = omega arith; up_to = omega arith; left = ap table_in empty };
+                rows = ap table_in empty;
+                behind = omega arith;
                 seen = omega arith;
                 chunks = ap chunk_rows empty;
                 room = omega (arith, ap (λ (maps : MapsView). maps.capacity) maps_are, planned.table.room);

@@ -1,5 +1,5 @@
 //! The lines by which a participant attaches and detaches.
-ghost use Rattle.std.specs.Prelude.{◌≡◌, ℕ, ◌^◌, ◌<◌, ◌≤◌, ◌∷◌, ◌++◌, [], IfOk, OnErr, false, true, length};
+ghost use Rattle.std.specs.Prelude.{◌≡◌, ℕ, ◌^◌, ◌<◌, ◌≤◌, ◌∷◌, ◌++◌, ◌||◌, [], IfOk, OnErr, false, true, length};
 ghost use Rattle.hp_base.specs.Mapping.{is_done};
 ghost use Rattle.hp_maps.specs.MapsView.{calls_of};
 ghost use Rattle.hp_script.specs.declared.answer.Answer.TheVariants as answer;

@@ -170,7 +170,7 @@ impl<'p, M: Mapper> Participant<'p, M> {
             ≤ left_to_do H.scale H.pending self.old (H.state hall.old) + H.scale * brought event }
 
         // A poll that is due uses up 1.
-        ensures due { IsDue self.old.core event → OnOk result ( left_to_do H.scale H.pending self.new (H.state hall.new)
+        ensures due { IsDue self.old.core event → OnOk result (left_to_do H.scale H.pending self.new (H.state hall.new)
             + H.scale * 1 ≤ left_to_do H.scale H.pending self.old (H.state hall.old) + H.scale * brought event) }
         ensures alone { StaysAlone 0 self.old self.new (H.state hall.old) (H.state hall.new) }
         ensures goes_on { H.goes_on hall.old hall.new }

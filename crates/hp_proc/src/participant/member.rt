@@ -128,8 +128,13 @@ impl<'p, M: Mapper> Participant<'p, M> {
         ensures served { (steps : List MailStep) × Did self.old.me steps (H.state hall.old) (H.state hall.new)
             × IsMemberServed self.old self.new steps (result_ok result) }
         ensures weight { (H.state hall.new).weight + H.scale * moved_of result ≤ (H.state hall.old).weight }
-        ensures party { self.new ≡ record self.old { joined = self.new.joined; maps = self.new.maps; answered =
-            self.new.answered; sent = self.new.sent; } }
+        ensures party { self.new ≡ record self.old {
+          joined = self.new.joined;
+          maps = self.new.maps;
+          answered =
+              self.new.answered;
+          sent = self.new.sent;
+        } }
         ensures alone { StaysAlone self.old.me self.old self.new (H.state hall.old) (H.state hall.new) }
         ensures goes_on { H.goes_on hall.old hall.new }
     {

@@ -27,7 +27,7 @@ impl<'p, M: Mapper> Participant<'p, M> {
         ensures weight { left_to_do H.scale H.pending self.new (H.state hall.new)
             ≤ left_to_do H.scale H.pending self.old (H.state hall.old) }
         ensures due { ((acks : List ℕ) → IsDue self.old.core (Poll now acks))
-            → OnOk result ( left_to_do H.scale H.pending self.new (H.state hall.new) + H.scale * 1
+            → OnOk result (left_to_do H.scale H.pending self.new (H.state hall.new) + H.scale * 1
             ≤ left_to_do H.scale H.pending self.old (H.state hall.old)) }
         ensures alone { StaysAlone 0 self.old self.new (H.state hall.old) (H.state hall.new) }
         ensures goes_on { H.goes_on hall.old hall.new }

@@ -1,5 +1,5 @@
 -- The steps follow one another: the value is taken, the log is taken in, and the value is given back.
-use Rattle.std.proofs.Common.{◌∙◌, ◌<◌, ◌≤◌, ◌||◌, sym, ap, subst, arith}
+use Rattle.std.proofs.Common.{◌∙◌, ◌||◌, sym, ap, subst, arith}
 use Rattle.hp_base.specs.Mapping.{is_done}
 use Rattle.hp_hall.proofs.HallStates.{but_then, did_then, others_then, slots_but}
 use Rattle.hp_proc.specs.Tied.{IsTied}

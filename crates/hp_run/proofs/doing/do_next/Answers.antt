@@ -2,19 +2,59 @@
 use Rattle.std.proofs.Common.{◌≡◌, ◌∙◌, ℕ, ◌+◌, List, [], ◌∷◌, ◌++◌, length, take, Some, ap, sym, subst, arith}
 use Rattle.std.specs.List.{slice_get}
 use Rattle.std.proofs.lemmas.List.{take_more}
-use Rattle.hp_plain.specs.HallView.{HallView, heard_in, part_in, seen_in}
+use Rattle.hp_hall.specs.HallState.{Did, HallState, IsBusy}
+use Rattle.hp_hall.specs.Weights.{pending_at}
+use Rattle.hp_plain.specs.HallView.{HallView, heard_in, own_at, part_in, seen_in}
 use Rattle.hp_script.specs.declared.answer.Answer.{Answer}
 use Rattle.hp_script.specs.declared.line.Line.{Line}
-use Rattle.hp_proc.specs.Progress.{IsLineBuilt, MayDo, moment_of}
+use Rattle.hp_proc.specs.Clocks.{IsOneClock}
+use Rattle.hp_proc.specs.Progress.{DoesLine, IsLineBuilt, MayDo, Moment, moment_of}
+use Rattle.hp_proc.specs.Tied.{IsTied}
 use Rattle.hp_proc.proofs.Rising.{one_clock}
+use Rattle.hp_solo.specs.Solo.{IsAway, SoloView, server_at}
+use Rattle.hp_solo.specs.SoloState.{solo_state}
 use Rattle.hp_joint.specs.SoFar.{SoFar}
 use Rattle.hp_run.specs.Running.{HaveDoneLines}
 use Rattle.hp_run.proofs.Coming.{given_by}
-use Rattle.hp_run.proofs.NextLine.{all_count, line_can, line_declared, next_line, nothing_out}
+use Rattle.hp_run.proofs.NextLine.{all_count, all_there, line_can, line_declared, next_line, nothing_out}
 use Rattle.hp_run.proofs.OneMore.{HasDoneIts, done_more}
 use Rattle.hp_run.proofs.Places.{party_there, there_below}
 use Rattle.hp_run.proofs.Returning.{IsBackFrom}
 use Rattle.hp_run.proofs.doing.do_next.Goals as goal
+
+-- the clock of one thread
+solo_clock : IsOneClock {T = SoloView} pending_at (λ hall. IsBusy (solo_state hall))
+solo_clock =
+    let one : IsOneClock {T = SoloView} pending_at (λ hall. ⊥) = one_clock in
+    record { reads = one.reads; free = λ hall busy. busy.2 }
+
+-- the steps of a line are those that were added
+line_made : {count me : ℕ} {a b : HallState} {line : Line} {answer : Answer} {old new : Moment}
+    → DoesLine count (λ steps. Did me steps a b) line answer old new
+    → DoesLine count (λ steps. b.done me ≡ a.done me ++ steps) line answer old new
+line_made does =
+    let it = does.does in
+    record {
+      facts = does.facts;
+      known = does.known;
+      does = record {
+        trace = it.trace;
+        steps = it.steps;
+        leads = it.leads;
+        made = it.made.made;
+        acts = it.acts;
+        entries = it.entries;
+        serves = it.serves;
+        counted = it.counted;
+        same = it.same;
+        asked = it.asked;
+        more = it.more;
+        log = it.log;
+        outcomes = it.outcomes;
+        asks = it.asks;
+      };
+      left = does.left;
+    }
 
 pub unreachable-requires : goal.unreachable-requires
 unreachable-requires g c =
@@ -42,26 +82,31 @@ do_line-answer-requires-clause-built g c =
     subst (λ (me : ℕ). IsLineBuilt me line.act) (sym c.in-Some.ensures.tied.number)
     (line_can c.args.workload.now c.args.place line c.requires.runnable c.requires.within c.index-line.ensures)
 
-pub do_line-answer-requires-clause-free : goal.do_line-answer-requires-clause-free
-do_line-answer-requires-clause-free g c =
-    let workload = c.args.workload.now in
-    let was = c.requires.so_far in
-    nothing_out workload was.courses was.parties c.away.new.self.plain
-    (subst (λ (plain : HallView). SoFar workload was.courses was.parties plain) (sym c.away.ensures.plain) was.so_far)
-
 pub do_line-answer-requires-clause-ready : goal.do_line-answer-requires-clause-ready
 do_line-answer-requires-clause-ready g c =
     let workload = c.args.workload.now in
     let line = c.index-line.result.now in
     let was = c.requires.so_far in
     let party = c.in-Some.participant in
-    let plain = c.away.new.self.plain in
+    let away = c.away.new.self in
+    let plain = away.plain in
     let so_far : SoFar workload was.courses was.parties plain =
     subst (λ (plain : HallView). SoFar workload was.courses was.parties plain) (sym c.away.ensures.plain) was.so_far in
     let there : slice_get was.parties line.participant ≡ Some party =
     sym (party_there c.args.hall.now.servers was.parties was.are line.participant) ∙ sym c.away.ensures.party ∙ c.in-Some.is in
-    subst (λ (me : ℕ). MayDo (moment_of party (part_in plain me) (seen_in plain) (heard_in plain))) (sym c.in-Some.ensures.tied.number)
-    (so_far.each line.participant party there).ready
+    let number = c.in-Some.ensures.tied.number in
+    let its = so_far.each line.participant party there in
+    let declared = line_declared workload c.args.place line c.requires.runnable c.requires.within c.index-line.ensures in
+    record {
+      idle = record {
+        serves = subst (λ (me : ℕ). IsAway (server_at away.servers me)) (sym number) c.away.ensures.away;
+        declared = omega (arith, number, declared, all_count workload was.courses was.parties plain so_far);
+        free = nothing_out workload was.courses was.parties plain so_far;
+        home = all_there workload was.courses was.parties plain so_far;
+        tied = subst (λ (me : ℕ). IsTied (seen_in plain) (own_at plain me) party.joined party.maps) (sym number) its.tied;
+      };
+      ready = subst (λ (me : ℕ). MayDo (moment_of party (part_in plain me) (seen_in plain) (heard_in plain))) (sym number) its.ready;
+    }
 
 pub back-requires-clause-declared : goal.back-requires-clause-declared
 back-requires-clause-declared g c =
@@ -72,7 +117,7 @@ back-requires-clause-declared g c =
     let declared = line_declared workload c.args.place line c.requires.runnable c.requires.within c.index-line.ensures in
     omega (
       arith,
-      did.same.me,
+      did.idle.same.me,
       c.in-Some.ensures.tied.number,
       declared,
       did.goes_on.plain.count,
@@ -103,11 +148,11 @@ returns g c =
     record {
       built = line_can workload place line c.requires.runnable c.requires.within c.index-line.ensures;
       me = number;
-      does = did.does;
+      does = line_made did.does;
       ready = did.ready;
-      tied = always.tied;
-      same = always.same;
-      home = always.home;
+      tied = always.idle.idle.tied;
+      same = always.idle.same;
+      home = always.idle.idle.home;
     } in
     let comes : IsBackFrom line.participant after was.parties first away back last =
     record {
@@ -116,8 +161,8 @@ returns g c =
       gone_here = c.away.ensures.place;
       gone_plain = c.away.ensures.plain;
       course = always.goes_on;
-      rises = always.clock one_clock;
-      me = always.same.me ∙ number;
+      rises = always.clock solo_clock;
+      me = always.idle.same.me ∙ number;
       here = c.back.ensures.party;
       came = c.back.ensures.place;
       came_others = c.back.ensures.others;

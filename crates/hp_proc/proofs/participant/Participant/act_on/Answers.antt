@@ -11,12 +11,15 @@ use Rattle.hp_proc.specs.Doing.{Doing}
 use Rattle.hp_proc.specs.Freeing.{act_for, acting, looking}
 use Rattle.hp_proc.specs.Lines.{Facts, on_element, tag_made}
 use Rattle.hp_proc.specs.Party.{Party}
-use Rattle.hp_proc.specs.Progress.{Does, moment_of}
+use Rattle.hp_proc.specs.Progress.{Does}
 use Rattle.hp_proc.specs.declared.element_act.ElementAct.{ElementAct}
 use Rattle.hp_proc.specs.declared.searched_heap.SearchedHeap.{SearchedHeap}
 use Rattle.hp_proc.proofs.AskedAlong.{if_ok}
 use Rattle.hp_proc.proofs.Joining.{does_same}
 use Rattle.hp_proc.proofs.Makers.{made, unmade}
+use Rattle.hp_hall.proofs.HallStates.{did_same}
+use Rattle.hp_proc.specs.InHall.{DoesHere, did_in, moment}
+use Rattle.hp_proc.proofs.Holds.{again_same}
 use Rattle.hp_proc.proofs.participant.Participant.act_on.Goals as goal
 
 -- the tag, the act and the heaps by which the code looks are those of the line's maker
@@ -39,15 +42,21 @@ pub returns-in_default-clause-does : goal.returns-in_default-clause-does
 returns-in_default-clause-does g c = λ facts known.
     let party = c.args.self.now in
     let me = party.me in
-    let hall = c.args.hall.now in
+    let hall = g.H.Hall.state c.args.hall.now in
     let goes : Tag → List SearchedHeap → Doing = λ (tag : Tag). looking tag (acting (act_for tag.zone c.args.size)) in
-    let moment = moment_of party ((g.H.Hall.state hall).part me) ((g.H.Hall.state hall).seen me) ((g.H.Hall.state hall).heard me) in
+    let at = moment me party hall in
     let none : maker_of party.context.lines c.args.label.now.text ≡ None =
     subst (λ (text : List ℕ). maker_of party.context.lines text ≡ None) c.as_bytes.ensures.text
     (subst (λ (party : Party). maker_of party.context.lines c.as_bytes.result.now ≡ None) c.self.view_is (sym c.in_default.ensures)) in
-    subst (λ (doing : Doing). Does (g.H.Hall.state hall).count (did_in me (g.H.Hall.state hall) (g.H.Hall.state hall)) doing (Doing.Ended answer.NoElement) moment moment)
+    subst (λ (doing : Doing). Does hall.count (did_in me hall hall) doing (Doing.Ended answer.NoElement) at at)
     (unmade me party.socket party.context c.args.line.now c.args.label.now facts known c.requires.label goes none)
-    (does_same (g.H.Hall.state hall).count (did_in me (g.H.Hall.state hall) (g.H.Hall.state hall)) (Doing.Ended answer.NoElement) moment (did_same me (g.H.Hall.state hall)))
+    (does_same hall.count (did_in me hall hall) (Doing.Ended answer.NoElement) at (did_same me hall))
+
+pub returns-in_default-clause-idle : goal.returns-in_default-clause-idle
+returns-in_default-clause-idle g c = again_same c.args.self.now c.requires.ready.idle
+
+pub returns-in_err-places-clause-idle : goal.returns-in_err-places-clause-idle
+returns-in_err-places-clause-idle g c = again_same c.args.self.now c.requires.ready.idle
 
 pub look_for-requires-clause-places : goal.look_for-requires-clause-places
 look_for-requires-clause-places g c = λ place among.
@@ -58,13 +67,12 @@ pub returns-clause-does : goal.returns-clause-does
 returns-clause-does g c =
     let party = c.args.self.now in
     let me = party.me in
-    let old = c.args.hall.now in
-    let new = c.look_for.new.hall in
+    let old = g.H.Hall.state c.args.hall.now in
+    let new = g.H.Hall.state c.look_for.new.hall in
+    let after = c.look_for.new.self in
     let maker = c.in-Some.maker.now in
     let zone = c.is_zone-zone.result in
     let goes : Tag → List SearchedHeap → Doing = λ (tag : Tag). looking tag (acting (act_for tag.zone c.args.size)) in
-    let first = moment_of party ((g.H.Hall.state old).part me) ((g.H.Hall.state old).seen me) ((g.H.Hall.state old).heard me) in
-    let last = moment_of c.look_for.new.self ((g.H.Hall.state new).part me) ((g.H.Hall.state new).seen me) ((g.H.Hall.state new).heard me) in
     let found : maker_of party.context.lines c.args.label.now.text ≡ Some maker =
     subst (λ (text : List ℕ). maker_of party.context.lines text ≡ Some maker) c.as_bytes.ensures.text
     (subst (λ (party : Party). maker_of party.context.lines c.as_bytes.result.now ≡ Some maker) c.self.view_is (sym c.in-Some.ensures)) in
@@ -73,9 +81,9 @@ returns-clause-does g c =
     (ap (λ (party : Party). party.context) c.self.view_is) c.is_zone-zone.ensures c.act_for-action.ensures c.deref.ensures.value
     c.in_ok-places.ensures.places in
     if_ok _ (λ given. (facts : Facts) → AreFactsOf party.socket party.context c.args.line.now facts
-    → Does (g.H.Hall.state old).count (did_in me (g.H.Hall.state old) (g.H.Hall.state new)) (on_element me facts goes facts.maker) (Doing.Ended given) first last)
+    → DoesHere me party after old new (on_element me facts goes facts.maker) (Doing.Ended given))
     c.look_for.result
     (λ given does facts known.
-    subst (λ (doing : Doing). Does (g.H.Hall.state old).count (did_in me (g.H.Hall.state old) (g.H.Hall.state new)) doing (Doing.Ended given) first last)
+    subst (λ (doing : Doing). DoesHere me party after old new doing (Doing.Ended given))
     (is ∙ made me party.socket party.context c.args.line.now c.args.label.now facts known c.requires.label goes maker found) does)
     c.look_for.ensures.does

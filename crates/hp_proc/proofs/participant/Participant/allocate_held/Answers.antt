@@ -1,361 +1,264 @@
 -- The heap is searched, gets pages where that found nothing, and is searched again.
-use Rattle.std.proofs.Common.{◌≡◌, ◌∙◌, ◌<◌, ◌∷◌, ℕ, Bool, List, Option, refl, ap, sym, subst, arith}
+use Rattle.std.proofs.Common.{◌≡◌, ◌∙◌, ◌∷◌, ℕ, Bool, false, true, None, Some, List, Option, refl, ap, sym, subst, arith}
 use Rattle.hp_base.specs.declared.pool_line.PoolLine.{PoolLine}
 use Rattle.hp_base.specs.declared.request.Request.{Request}
-use Rattle.hp_heap.specs.History.{IsCall}
+use Rattle.hp_base.specs.declared.tag.Tag.{Tag}
+use Rattle.hp_hall.specs.HallState.{HallState}
+use Rattle.hp_hall.proofs.HallStates.{did_same}
+use Rattle.hp_heap.specs.History.{HeapView, IsCall}
 use Rattle.hp_heap.specs.Step.{address_answer}
 use Rattle.hp_heap.specs.declared.entry.HeapCall.TheVariants as call
 use Rattle.hp_script.specs.declared.answer.Answer.TheVariants as gives
 use Rattle.hp_proc.specs.Allocating.{asking, behind_asking, trying, unless_found, with_flags, without_hint}
 use Rattle.hp_proc.specs.Contexts.{named_heap}
 use Rattle.hp_proc.specs.Doing.{Doing}
-use Rattle.hp_proc.specs.Heaps.{page_sizes_for}
-use Rattle.hp_proc.specs.Party.{Party}
-use Rattle.hp_proc.specs.Progress.{AreSettled, Does, DoesIn, IsInHand, caller_of, in_hand}
-use Rattle.hp_proc.specs.Tied.{IsTied}
-use Rattle.hp_proc.proofs.HallMoments.{at, does_more}
-use Rattle.hp_proc.proofs.HandCalls.{call_index, call_serves, hand_stays}
+use Rattle.hp_proc.specs.Heaps.{NamedHeap, page_sizes_for}
+use Rattle.hp_proc.specs.InHall.{HoldsIn, KeepsHeld, DoesHeld, did_in, moment, moment_with}
+use Rattle.hp_proc.specs.Party.{Party, after_call}
+use Rattle.hp_proc.specs.Progress.{AreSettled, DoesIn, Tries, caller_of}
+use Rattle.hp_proc.specs.declared.socket_heap.SocketHeap.{SocketHeap}
+use Rattle.hp_proc.proofs.HandCalls.{call_index, call_serves}
 use Rattle.hp_proc.proofs.HandCut.{found_whole}
 use Rattle.hp_proc.proofs.HandTried.{called_then, tries_in, tries_on}
+use Rattle.hp_proc.proofs.Holds.{does_next, holds_on, keeps_called, keeps_then, settled_called}
 use Rattle.hp_proc.proofs.Joining.{does_same}
 use Rattle.hp_proc.proofs.PagesStay.{alloc_pages}
 use Rattle.hp_proc.proofs.participant.Participant.allocate_held.Goals as goal
 
-pub grow-requires-clause-serves : goal.grow-requires-clause-serves
-grow-requires-clause-serves g c =
-    subst (λ (party : Party). (g.H.Hall.state c.args.hall.now).serves party.me) (sym c.allocate_in.ensures.counted) c.requires.serves
+module _ (party mid : Party) (first : HallState) (heap next : HeapView) (place : SocketHeap) (request asked : Request) (tag : Tag)
+    (found : Option ℕ) (is : asked ≡ with_flags (without_hint request.flags) request)
+    (step : IsCall (caller_of party) (call.Alloc asked tag) (address_answer found) heap next) (counted : mid ≡ after_call party)
+    (its : place.index ≡ heap.plain.index) (heaps : List NamedHeap) where
+  abbrev otherwise : Doing
+  otherwise = trying party.context.pools request tag heaps
 
-pub grow-requires-clause-me : goal.grow-requires-clause-me
-grow-requires-clause-me g c =
-    subst (λ (party : Party). party.me < (g.H.Hall.state c.args.hall.now).count) (sym c.allocate_in.ensures.counted) c.requires.me
+  abbrev doing : Doing
+  doing = trying party.context.pools request tag (named_heap place ∷ heaps)
 
-pub grow-requires-clause-tied : goal.grow-requires-clause-tied
-grow-requires-clause-tied g c =
-    subst (λ (party : Party). IsTied ((g.H.Hall.state c.args.hall.now).seen party.me) ((g.H.Hall.state c.args.hall.now).own party.me) party.joined party.maps)
-    (sym c.allocate_in.ensures.counted) c.requires.tied
+  abbrev left : Doing
+  left = asking place.index place.socket request tag otherwise (page_sizes_for party.context.pools place.socket request.flags)
 
-pub grow-requires-clause-settled : goal.grow-requires-clause-settled
-grow-requires-clause-settled g c =
-    subst (λ (party : Party). AreSettled (moment party.me party (g.H.Hall.state c.args.hall.now))) (sym c.allocate_in.ensures.counted) c.requires.settled
+  -- the first search
+  searched : DoesIn place.index first.count (did_in party.me first first) doing (unless_found left (address_answer found))
+      (moment_with heap party.me party first) (moment_with next party.me mid first)
+  searched =
+      let me = party.me in
+      called_then party mid (first.part me) (first.seen me) (first.heard me) (call.Alloc (with_flags (without_hint request.flags) request) tag)
+      (address_answer found) heap next
+      (subst (λ (asked : Request). IsCall (caller_of party) (call.Alloc asked tag) (address_answer found) heap next) is step) counted place.index its
+      first.count (did_in me first first) doing (unless_found left) (moment_with heap me party first) (found_whole found)
+      (does_same first.count (did_in me first first) doing (moment_with heap me party first) (did_same me first))
 
-pub grow-requires-clause-in_hand : goal.grow-requires-clause-in_hand
-grow-requires-clause-in_hand g c =
-    let hall = c.args.hall.now in
-    let me = c.args.self.now.me in
-    subst (λ (who : ℕ). IsInHand (g.H.Hall.state hall).taken (moment who c.allocate_in.new.self (g.H.Hall.state hall)) c.allocate_in.new.heap)
-    (sym (ap (λ (party : Party). party.me) c.allocate_in.ensures.counted))
-    (hand_stays c.args.self.now ((g.H.Hall.state hall).part me) ((g.H.Hall.state hall).seen me) ((g.H.Hall.state hall).heard me)
-    (call.Alloc c.with_flags-first.result c.args.tag) (address_answer c.allocate_in.result) c.args.heap.now c.allocate_in.new.heap
-    c.allocate_in.ensures.step (g.H.Hall.state hall).taken c.requires.in_hand c.allocate_in.new.self c.allocate_in.ensures.counted
-    (alloc_pages _ _ _ _ _ _ c.allocate_in.ensures.step))
+  -- it gave an address
+  found_first : (addr : ℕ) → found ≡ Some addr → Tries place.index first.count (did_in party.me first first) doing otherwise
+      (Some (gives.Address addr)) (moment_with heap party.me party first) (moment_with next party.me mid first)
+  found_first addr some =
+      let me = party.me in
+      tries_in place.index first.count (did_in me first first) doing otherwise (gives.Address addr) (moment_with heap me party first)
+      (moment_with next me mid first)
+      (subst (λ (found : Option ℕ). DoesIn place.index first.count (did_in me first first) doing (unless_found left (address_answer found))
+      (moment_with heap me party first) (moment_with next me mid first)) some searched)
 
-pub grow-requires-clause-its : goal.grow-requires-clause-its
-grow-requires-clause-its g c = c.requires.its ∙ sym (call_index _ _ _ _ _ c.allocate_in.ensures.step)
+  module _ (grown : Party) (third : HallState) (more : HeapView) (granted : Bool) (none : found ≡ None)
+      (asks : (tag : Tag) (otherwise : Doing) → DoesHeld mid.me mid grown next more first third
+      (asking place.index place.socket request tag otherwise (page_sizes_for mid.context.pools place.socket request.flags))
+      (behind_asking place.index request tag otherwise granted)) where
+    -- it found none, and pages were asked for
+    asked_for : DoesHeld party.me party grown heap more first third doing (behind_asking place.index request tag otherwise granted)
+    asked_for =
+        let me = party.me in
+        does_next me (moment_with heap me party first) (λ who. moment_with next who mid first) (λ who. moment_with more who grown third)
+        (ap (λ (party : Party). party.me) counted) refl
+        (subst (λ (found : Option ℕ). DoesHeld me party mid heap next first first doing (unless_found left (address_answer found))) none
+        searched.does)
+        (subst (λ (pools : List PoolLine). DoesHeld mid.me mid grown next more first third
+        (asking place.index place.socket request tag otherwise (page_sizes_for pools place.socket request.flags))
+        (behind_asking place.index request tag otherwise granted)) (ap (λ (party : Party). party.context.pools) counted) (asks tag otherwise))
 
-pub grow-requires-clause-of_socket : goal.grow-requires-clause-of_socket
-grow-requires-clause-of_socket g c = call_serves _ _ _ _ _ c.allocate_in.ensures.step ∙ c.requires.of_socket
+    -- none were granted
+    passed : granted ≡ false → Tries place.index first.count (did_in party.me first third) doing otherwise None (moment_with heap party.me party first)
+        (moment_with more party.me grown third)
+    passed is_not =
+        let me = party.me in
+        tries_on place.index first.count (did_in me first third) doing otherwise (moment_with heap me party first) (moment_with more me grown third)
+        (subst (λ (granted : Bool). DoesHeld me party grown heap more first third doing (behind_asking place.index request tag otherwise granted))
+        is_not asked_for)
 
-pub returns-in-Some-clause-in_hand : goal.returns-in-Some-clause-in_hand
-returns-in-Some-clause-in_hand g c =
-    let hall = c.args.hall.now in
-    let me = c.args.self.now.me in
-    hand_stays c.args.self.now ((g.H.Hall.state hall).part me) ((g.H.Hall.state hall).seen me) ((g.H.Hall.state hall).heard me)
-    (call.Alloc c.with_flags-first.result c.args.tag) (address_answer c.allocate_in.result) c.args.heap.now c.allocate_in.new.heap
-    c.allocate_in.ensures.step (g.H.Hall.state hall).taken c.requires.in_hand c.allocate_in.new.self c.allocate_in.ensures.counted
-    (alloc_pages _ _ _ _ _ _ c.allocate_in.ensures.step)
+    module _ (last : Party) (again : HeapView) (twice : Option ℕ)
+        (second : IsCall (caller_of grown) (call.Alloc request tag) (address_answer twice) more again) (called : last ≡ after_call grown)
+        (grown_its : place.index ≡ more.plain.index) (is_so : granted ≡ true) where
+      -- some were, and it was searched again
+      searched_again : DoesIn place.index first.count (did_in party.me first third) doing (unless_found (Doing.Ended gives.None) (address_answer twice))
+          (moment_with heap party.me party first) (moment_with again party.me last third)
+      searched_again =
+          let me = party.me in
+          called_then grown last (third.part me) (third.seen me) (third.heard me) (call.Alloc request tag) (address_answer twice) more again second
+          called place.index grown_its first.count (did_in me first third) doing (unless_found (Doing.Ended gives.None))
+          (moment_with heap me party first) (found_whole twice)
+          (subst (λ (granted : Bool). DoesHeld me party grown heap more first third doing (behind_asking place.index request tag otherwise granted))
+          is_so asked_for)
 
-pub returns-in-Some-clause-does : goal.returns-in-Some-clause-does
-returns-in-Some-clause-does g c = λ heaps.
-    let hall = c.args.hall.now in
+      found_again : (addr : ℕ) → twice ≡ Some addr → Tries place.index first.count (did_in party.me first third) doing otherwise
+          (Some (gives.Address addr)) (moment_with heap party.me party first) (moment_with again party.me last third)
+      found_again addr some =
+          let me = party.me in
+          tries_in place.index first.count (did_in me first third) doing otherwise (gives.Address addr) (moment_with heap me party first)
+          (moment_with again me last third)
+          (subst (λ (twice : Option ℕ). DoesIn place.index first.count (did_in me first third) doing
+          (unless_found (Doing.Ended gives.None) (address_answer twice)) (moment_with heap me party first) (moment_with again me last third)) some
+          searched_again)
+
+      found_none : twice ≡ None → Tries place.index first.count (did_in party.me first third) doing otherwise (Some gives.None)
+          (moment_with heap party.me party first) (moment_with again party.me last third)
+      found_none missing =
+          let me = party.me in
+          tries_in place.index first.count (did_in me first third) doing otherwise gives.None (moment_with heap me party first)
+          (moment_with again me last third)
+          (subst (λ (twice : Option ℕ). DoesIn place.index first.count (did_in me first third) doing
+          (unless_found (Doing.Ended gives.None) (address_answer twice)) (moment_with heap me party first) (moment_with again me last third)) missing
+          searched_again)
+
+-- an allocation in the heap in hand
+keeps_alloc : (party after : Party) (heap next : HeapView) (asked : Request) (tag : Tag) (found : Option ℕ) {a : HallState}
+    → IsCall (caller_of party) (call.Alloc asked tag) (address_answer found) heap next → after ≡ after_call party → HoldsIn party.me party heap a
+    → KeepsHeld party.me party after heap next a a
+keeps_alloc party after heap next asked tag found step counted holds =
+    keeps_called party after heap next step counted (alloc_pages _ _ _ _ _ _ step) holds
+
+pub grow-requires : goal.grow-requires
+grow-requires g c =
     let party = c.args.self.now in
-    let me = party.me in
-    let place = c.args.place.now in
-    let request = c.args.request.now in
-    let tag = c.args.tag in
-    let pools = party.context.pools in
-    let otherwise = trying pools request tag heaps in
-    let doing = trying pools request tag (named_heap place ∷ heaps) in
-    let left = asking place.index place.socket request tag otherwise (page_sizes_for pools place.socket request.flags) in
-    let before = in_hand c.args.heap.now (moment me party (g.H.Hall.state hall)) in
-    let step : IsCall (caller_of party) (call.Alloc (with_flags (without_hint request.flags) request) tag) (address_answer c.allocate_in.result)
-    c.args.heap.now c.allocate_in.new.heap =
-    subst (λ (first : Request). IsCall (caller_of party) (call.Alloc first tag) (address_answer c.allocate_in.result) c.args.heap.now
-    c.allocate_in.new.heap)
-    (c.with_flags-first.ensures ∙ ap (λ (flags : ℕ). with_flags flags request) c.without_hint.ensures) c.allocate_in.ensures.step in
-    let searched : DoesIn place.index (g.H.Hall.state hall).count (did_in me (g.H.Hall.state hall) (g.H.Hall.state hall)) doing
-    (unless_found left (address_answer c.allocate_in.result)) before (in_hand c.allocate_in.new.heap (moment me c.allocate_in.new.self (g.H.Hall.state hall))) =
-    called_then party c.allocate_in.new.self ((g.H.Hall.state hall).part me) ((g.H.Hall.state hall).seen me) ((g.H.Hall.state hall).heard me)
-    (call.Alloc (with_flags (without_hint request.flags) request) tag) (address_answer c.allocate_in.result) c.args.heap.now
-    c.allocate_in.new.heap step c.allocate_in.ensures.counted place.index c.requires.its (g.H.Hall.state hall).count (did_in me (g.H.Hall.state hall) (g.H.Hall.state hall)) doing
-    (unless_found left) before (found_whole c.allocate_in.result)
-    (does_same (g.H.Hall.state hall).count (did_in me (g.H.Hall.state hall) (g.H.Hall.state hall)) doing before (did_same me (g.H.Hall.state hall))) in
-    tries_in place.index (g.H.Hall.state hall).count (did_in me (g.H.Hall.state hall) (g.H.Hall.state hall)) doing otherwise (gives.Address c.in-Some.addr) before
-    (in_hand c.allocate_in.new.heap (moment me c.allocate_in.new.self (g.H.Hall.state hall)))
-    (subst (λ (found : Option ℕ). DoesIn place.index (g.H.Hall.state hall).count (did_in me (g.H.Hall.state hall) (g.H.Hall.state hall)) doing
-    (unless_found left (address_answer found)) before (in_hand c.allocate_in.new.heap (moment me c.allocate_in.new.self (g.H.Hall.state hall))))
-    c.in-Some.is searched)
+    let mid = c.allocate_in.new.self in
+    let heap = c.args.heap.now in
+    let next = c.allocate_in.new.heap in
+    let step = c.allocate_in.ensures.step in
+    let counted = c.allocate_in.ensures.counted in
+    record {
+      holds = holds_on (keeps_alloc party mid heap next c.with_flags-first.result c.args.tag c.allocate_in.result step counted c.requires.holds)
+          (settled_called party mid (g.H.Hall.state c.args.hall.now) counted c.requires.holds.settled) c.requires.holds.can.may;
+      its = c.requires.its ∙ sym (call_index _ _ _ _ _ step);
+      of_socket = call_serves _ _ _ _ _ step ∙ c.requires.of_socket;
+      room = record {
+        spare = omega (arith, c.requires.room.spare, step.spare);
+        counted = omega (arith, c.requires.room.counted, ap (λ (party : Party). party.context.calls) counted);
+      };
+    }
 
-pub returns-in-Some-clause-index : goal.returns-in-Some-clause-index
-returns-in-Some-clause-index g c = call_index _ _ _ _ _ c.allocate_in.ensures.step
-
-pub returns-in-Some-clause-its_socket : goal.returns-in-Some-clause-its_socket
-returns-in-Some-clause-its_socket g c = call_serves _ _ _ _ _ c.allocate_in.ensures.step
-
-pub returns-in-Some-clause-settled : goal.returns-in-Some-clause-settled
-returns-in-Some-clause-settled g c =
-    let hall = c.args.hall.now in
-    let me = c.args.self.now.me in
-    subst (λ (party : Party). AreSettled (moment me party (g.H.Hall.state hall))) (sym c.allocate_in.ensures.counted) c.requires.settled
+pub returns-in-Some : goal.returns-in-Some
+returns-in-Some g c =
+    let party = c.args.self.now in
+    let mid = c.allocate_in.new.self in
+    let heap = c.args.heap.now in
+    let next = c.allocate_in.new.heap in
+    let step = c.allocate_in.ensures.step in
+    let counted = c.allocate_in.ensures.counted in
+    record {
+      does = λ heaps.
+          found_first party mid (g.H.Hall.state c.args.hall.now) heap next c.args.place.now c.args.request.now c.with_flags-first.result c.args.tag
+          c.allocate_in.result (c.with_flags-first.ensures ∙ ap (λ (flags : ℕ). with_flags flags c.args.request.now) c.without_hint.ensures) step
+          counted c.requires.its heaps c.in-Some.addr c.in-Some.is;
+      settled = settled_called party mid (g.H.Hall.state c.args.hall.now) counted c.requires.holds.settled;
+      clock = λ one. omega arith;
+      keeps = keeps_alloc party mid heap next c.with_flags-first.result c.args.tag c.allocate_in.result step counted c.requires.holds;
+      goes_on = g.met.H.Hall.goes_on_same _;
+    }
 
 -- NO PLACE WAS FOUND
 
-pub returns-in_err-grow-clause-index : goal.returns-in_err-grow-clause-index
-returns-in_err-grow-clause-index g c = c.grow.ensures.index ∙ call_index _ _ _ _ _ c.allocate_in.ensures.step
+pub returns-in_err-grow-clause-clock : goal.returns-in_err-grow-clause-clock
+returns-in_err-grow-clause-clock g c = λ one.
+    omega (arith, c.grow.ensures.clock one, ap (λ (party : Party). party.deadline) c.allocate_in.ensures.counted)
 
-pub returns-in_err-grow-clause-its_socket : goal.returns-in_err-grow-clause-its_socket
-returns-in_err-grow-clause-its_socket g c = c.grow.ensures.its_socket ∙ call_serves _ _ _ _ _ c.allocate_in.ensures.step
+pub returns-in_err-grow-clause-keeps : goal.returns-in_err-grow-clause-keeps
+returns-in_err-grow-clause-keeps g c =
+    keeps_then
+    (keeps_alloc c.args.self.now c.allocate_in.new.self c.args.heap.now c.allocate_in.new.heap c.with_flags-first.result c.args.tag
+    c.allocate_in.result c.allocate_in.ensures.step c.allocate_in.ensures.counted c.requires.holds) c.grow.ensures.keeps
 
-pub returns-then-not-branch-clause-does : goal.returns-then-not-branch-clause-does
-returns-then-not-branch-clause-does g c = λ heaps.
-    let hall = c.args.hall.now in
+pub returns-then-not-branch : goal.returns-then-not-branch
+returns-then-not-branch g c =
     let party = c.args.self.now in
-    let me = party.me in
-    let place = c.args.place.now in
-    let request = c.args.request.now in
-    let tag = c.args.tag in
-    let pools = party.context.pools in
-    let otherwise = trying pools request tag heaps in
-    let doing = trying pools request tag (named_heap place ∷ heaps) in
-    let left = asking place.index place.socket request tag otherwise (page_sizes_for pools place.socket request.flags) in
-    let before = in_hand c.args.heap.now (moment me party (g.H.Hall.state hall)) in
-    let step : IsCall (caller_of party) (call.Alloc (with_flags (without_hint request.flags) request) tag) (address_answer c.allocate_in.result)
-    c.args.heap.now c.allocate_in.new.heap =
-    subst (λ (first : Request). IsCall (caller_of party) (call.Alloc first tag) (address_answer c.allocate_in.result) c.args.heap.now
-    c.allocate_in.new.heap)
-    (c.with_flags-first.ensures ∙ ap (λ (flags : ℕ). with_flags flags request) c.without_hint.ensures) c.allocate_in.ensures.step in
-    let searched : DoesIn place.index (g.H.Hall.state hall).count (did_in me (g.H.Hall.state hall) (g.H.Hall.state hall)) doing
-    (unless_found left (address_answer c.allocate_in.result)) before (in_hand c.allocate_in.new.heap (moment me c.allocate_in.new.self (g.H.Hall.state hall))) =
-    called_then party c.allocate_in.new.self ((g.H.Hall.state hall).part me) ((g.H.Hall.state hall).seen me) ((g.H.Hall.state hall).heard me)
-    (call.Alloc (with_flags (without_hint request.flags) request) tag) (address_answer c.allocate_in.result) c.args.heap.now
-    c.allocate_in.new.heap step c.allocate_in.ensures.counted place.index c.requires.its (g.H.Hall.state hall).count (did_in me (g.H.Hall.state hall) (g.H.Hall.state hall)) doing
-    (unless_found left) before (found_whole c.allocate_in.result)
-    (does_same (g.H.Hall.state hall).count (did_in me (g.H.Hall.state hall) (g.H.Hall.state hall)) doing before (did_same me (g.H.Hall.state hall))) in
-    let mine : c.allocate_in.new.self.me ≡ me = ap (λ (party : Party). party.me) c.allocate_in.ensures.counted in
-    let third = c.grow.new.hall in
-    let passed : Does (g.H.Hall.state hall).count (did_in me (g.H.Hall.state hall) (g.H.Hall.state hall)) doing left before
-    (in_hand c.allocate_in.new.heap (moment me c.allocate_in.new.self (g.H.Hall.state hall))) =
-    subst (λ (found : Option ℕ). Does (g.H.Hall.state hall).count (did_in me (g.H.Hall.state hall) (g.H.Hall.state hall)) doing (unless_found left (address_answer found)) before
-    (in_hand c.allocate_in.new.heap (moment me c.allocate_in.new.self (g.H.Hall.state hall)))) c.in_default.is searched.does in
-    let told =
-    subst (λ (pools : List PoolLine). Does (g.H.Hall.state hall).count (did_in c.allocate_in.new.self.me (g.H.Hall.state hall) (g.H.Hall.state third))
-    (asking place.index place.socket request tag otherwise (page_sizes_for pools place.socket request.flags))
-    (behind_asking place.index request tag otherwise c.in_ok-grow.field-0)
-    (in_hand c.allocate_in.new.heap (moment c.allocate_in.new.self.me c.allocate_in.new.self (g.H.Hall.state hall)))
-    (in_hand c.grow.new.heap (moment c.allocate_in.new.self.me c.grow.new.self (g.H.Hall.state third))))
-    (ap (λ (party : Party). party.context.pools) c.allocate_in.ensures.counted) (c.in_ok-grow.ensures.does tag otherwise) in
-    let grown : Does (g.H.Hall.state hall).count (did_in me (g.H.Hall.state hall) (g.H.Hall.state third)) doing (behind_asking place.index request tag otherwise c.in_ok-grow.field-0)
-    before (in_hand c.grow.new.heap (moment me c.grow.new.self (g.H.Hall.state third))) =
-    does_more (g.H.Hall.state hall) (g.H.Hall.state hall) (g.H.Hall.state third) c.allocate_in.new.self.me me (in_hand c.allocate_in.new.heap) (in_hand c.grow.new.heap) c.allocate_in.new.self c.grow.new.self before doing left (behind_asking place.index request tag otherwise c.in_ok-grow.field-0) mine refl passed told in
-    let granted : Bool → Type 0 = λ granted. Does (g.H.Hall.state hall).count (did_in me (g.H.Hall.state hall) (g.H.Hall.state third)) doing
-    (behind_asking place.index request tag otherwise granted) before (in_hand c.grow.new.heap (moment me c.grow.new.self (g.H.Hall.state third))) in
-    tries_on place.index (g.H.Hall.state hall).count (did_in me (g.H.Hall.state hall) (g.H.Hall.state third)) doing otherwise before
-    (in_hand c.grow.new.heap (moment me c.grow.new.self (g.H.Hall.state third))) (subst granted c.if-not-branch.true grown)
-
-pub returns-then-not-branch-clause-index : goal.returns-then-not-branch-clause-index
-returns-then-not-branch-clause-index g c = c.grow.ensures.index ∙ call_index _ _ _ _ _ c.allocate_in.ensures.step
-
-pub returns-then-not-branch-clause-its_socket : goal.returns-then-not-branch-clause-its_socket
-returns-then-not-branch-clause-its_socket g c = c.grow.ensures.its_socket ∙ call_serves _ _ _ _ _ c.allocate_in.ensures.step
-
-pub returns-then-not-branch-clause-settled : goal.returns-then-not-branch-clause-settled
-returns-then-not-branch-clause-settled g c =
-    subst (λ (who : ℕ). AreSettled (moment who c.grow.new.self (g.H.Hall.state c.grow.new.hall)))
-    (ap (λ (party : Party). party.me) c.allocate_in.ensures.counted) c.in_ok-grow.ensures.settled
+    let mid = c.allocate_in.new.self in
+    let heap = c.args.heap.now in
+    let next = c.allocate_in.new.heap in
+    let step = c.allocate_in.ensures.step in
+    let counted = c.allocate_in.ensures.counted in
+    record {
+      does = λ heaps.
+          passed party mid (g.H.Hall.state c.args.hall.now) heap next c.args.place.now c.args.request.now c.with_flags-first.result c.args.tag
+          c.allocate_in.result (c.with_flags-first.ensures ∙ ap (λ (flags : ℕ). with_flags flags c.args.request.now) c.without_hint.ensures) step
+          counted c.requires.its heaps c.grow.new.self (g.H.Hall.state c.grow.new.hall) c.grow.new.heap c.in_ok-grow.field-0 c.in_default.is
+          c.in_ok-grow.ensures.does c.if-not-branch.true;
+      settled = subst (λ (who : ℕ). AreSettled (moment who c.grow.new.self (g.H.Hall.state c.grow.new.hall)))
+          (ap (λ (party : Party). party.me) counted) c.in_ok-grow.ensures.settled;
+      clock = λ one. omega (arith, c.grow.ensures.clock one, ap (λ (party : Party). party.deadline) counted);
+      keeps = keeps_then (keeps_alloc party mid heap next c.with_flags-first.result c.args.tag c.allocate_in.result step counted c.requires.holds)
+          c.grow.ensures.keeps;
+      goes_on = c.grow.ensures.goes_on;
+    }
 
 -- IT IS SEARCHED AGAIN
 
-pub returns-in-Some-allocate_in-clause-does : goal.returns-in-Some-allocate_in-clause-does
-returns-in-Some-allocate_in-clause-does g c = λ heaps.
-    let hall = c.args.hall.now in
+pub returns-in-Some-allocate_in : goal.returns-in-Some-allocate_in
+returns-in-Some-allocate_in g c =
     let party = c.args.self.now in
     let me = party.me in
-    let place = c.args.place.now in
-    let request = c.args.request.now in
-    let tag = c.args.tag in
-    let pools = party.context.pools in
-    let otherwise = trying pools request tag heaps in
-    let doing = trying pools request tag (named_heap place ∷ heaps) in
-    let left = asking place.index place.socket request tag otherwise (page_sizes_for pools place.socket request.flags) in
-    let before = in_hand c.args.heap.now (moment me party (g.H.Hall.state hall)) in
-    let step : IsCall (caller_of party) (call.Alloc (with_flags (without_hint request.flags) request) tag) (address_answer c.allocate_in.result)
-    c.args.heap.now c.allocate_in.new.heap =
-    subst (λ (first : Request). IsCall (caller_of party) (call.Alloc first tag) (address_answer c.allocate_in.result) c.args.heap.now
-    c.allocate_in.new.heap)
-    (c.with_flags-first.ensures ∙ ap (λ (flags : ℕ). with_flags flags request) c.without_hint.ensures) c.allocate_in.ensures.step in
-    let searched : DoesIn place.index (g.H.Hall.state hall).count (did_in me (g.H.Hall.state hall) (g.H.Hall.state hall)) doing
-    (unless_found left (address_answer c.allocate_in.result)) before (in_hand c.allocate_in.new.heap (moment me c.allocate_in.new.self (g.H.Hall.state hall))) =
-    called_then party c.allocate_in.new.self ((g.H.Hall.state hall).part me) ((g.H.Hall.state hall).seen me) ((g.H.Hall.state hall).heard me)
-    (call.Alloc (with_flags (without_hint request.flags) request) tag) (address_answer c.allocate_in.result) c.args.heap.now
-    c.allocate_in.new.heap step c.allocate_in.ensures.counted place.index c.requires.its (g.H.Hall.state hall).count (did_in me (g.H.Hall.state hall) (g.H.Hall.state hall)) doing
-    (unless_found left) before (found_whole c.allocate_in.result)
-    (does_same (g.H.Hall.state hall).count (did_in me (g.H.Hall.state hall) (g.H.Hall.state hall)) doing before (did_same me (g.H.Hall.state hall))) in
-    let mine : c.allocate_in.new.self.me ≡ me = ap (λ (party : Party). party.me) c.allocate_in.ensures.counted in
-    let third = c.grow.new.hall in
-    let passed : Does (g.H.Hall.state hall).count (did_in me (g.H.Hall.state hall) (g.H.Hall.state hall)) doing left before
-    (in_hand c.allocate_in.new.heap (moment me c.allocate_in.new.self (g.H.Hall.state hall))) =
-    subst (λ (found : Option ℕ). Does (g.H.Hall.state hall).count (did_in me (g.H.Hall.state hall) (g.H.Hall.state hall)) doing (unless_found left (address_answer found)) before
-    (in_hand c.allocate_in.new.heap (moment me c.allocate_in.new.self (g.H.Hall.state hall)))) c.in_default.is searched.does in
-    let told =
-    subst (λ (pools : List PoolLine). Does (g.H.Hall.state hall).count (did_in c.allocate_in.new.self.me (g.H.Hall.state hall) (g.H.Hall.state third))
-    (asking place.index place.socket request tag otherwise (page_sizes_for pools place.socket request.flags))
-    (behind_asking place.index request tag otherwise c.in_ok-grow.field-0)
-    (in_hand c.allocate_in.new.heap (moment c.allocate_in.new.self.me c.allocate_in.new.self (g.H.Hall.state hall)))
-    (in_hand c.grow.new.heap (moment c.allocate_in.new.self.me c.grow.new.self (g.H.Hall.state third))))
-    (ap (λ (party : Party). party.context.pools) c.allocate_in.ensures.counted) (c.in_ok-grow.ensures.does tag otherwise) in
-    let grown : Does (g.H.Hall.state hall).count (did_in me (g.H.Hall.state hall) (g.H.Hall.state third)) doing (behind_asking place.index request tag otherwise c.in_ok-grow.field-0)
-    before (in_hand c.grow.new.heap (moment me c.grow.new.self (g.H.Hall.state third))) =
-    does_more (g.H.Hall.state hall) (g.H.Hall.state hall) (g.H.Hall.state third) c.allocate_in.new.self.me me (in_hand c.allocate_in.new.heap) (in_hand c.grow.new.heap) c.allocate_in.new.self c.grow.new.self before doing left (behind_asking place.index request tag otherwise c.in_ok-grow.field-0) mine refl passed told in
-    let granted : Bool → Type 0 = λ granted. Does (g.H.Hall.state hall).count (did_in me (g.H.Hall.state hall) (g.H.Hall.state third)) doing
-    (behind_asking place.index request tag otherwise granted) before (in_hand c.grow.new.heap (moment me c.grow.new.self (g.H.Hall.state third))) in
-    let again : DoesIn place.index (g.H.Hall.state hall).count (did_in me (g.H.Hall.state hall) (g.H.Hall.state third)) doing
-    (unless_found (Doing.Ended gives.None) (address_answer c.allocate_in-2.result)) before
-    (in_hand c.allocate_in-2.new.heap (moment me c.allocate_in-2.new.self (g.H.Hall.state third))) =
-    called_then c.grow.new.self c.allocate_in-2.new.self ((g.H.Hall.state third).part me) ((g.H.Hall.state third).seen me) ((g.H.Hall.state third).heard me)
-    (call.Alloc request tag) (address_answer c.allocate_in-2.result) c.grow.new.heap c.allocate_in-2.new.heap c.allocate_in-2.ensures.step
-    c.allocate_in-2.ensures.counted place.index
-    (c.requires.its ∙ sym (c.grow.ensures.index ∙ call_index _ _ _ _ _ c.allocate_in.ensures.step)) (g.H.Hall.state hall).count
-    (did_in me (g.H.Hall.state hall) (g.H.Hall.state third)) doing (unless_found (Doing.Ended gives.None)) before (found_whole c.allocate_in-2.result)
-    (subst granted c.if-not-branch.false grown) in
-    tries_in place.index (g.H.Hall.state hall).count (did_in me (g.H.Hall.state hall) (g.H.Hall.state third)) doing otherwise (gives.Address c.in-Some-allocate_in.addr) before
-    (in_hand c.allocate_in-2.new.heap (moment me c.allocate_in-2.new.self (g.H.Hall.state third)))
-    (subst (λ (found : Option ℕ). DoesIn place.index (g.H.Hall.state hall).count (did_in me (g.H.Hall.state hall) (g.H.Hall.state third)) doing
-    (unless_found (Doing.Ended gives.None) (address_answer found)) before
-    (in_hand c.allocate_in-2.new.heap (moment me c.allocate_in-2.new.self (g.H.Hall.state third)))) c.in-Some-allocate_in.is again)
+    let mid = c.allocate_in.new.self in
+    let grown = c.grow.new.self in
+    let last = c.allocate_in-2.new.self in
+    let heap = c.args.heap.now in
+    let next = c.allocate_in.new.heap in
+    let third = g.H.Hall.state c.grow.new.hall in
+    let step = c.allocate_in.ensures.step in
+    let counted = c.allocate_in.ensures.counted in
+    let first = keeps_alloc party mid heap next c.with_flags-first.result c.args.tag c.allocate_in.result step counted c.requires.holds in
+    let here = keeps_then first c.grow.ensures.keeps in
+    let same = here.remains.same.me in
+    let settled = subst (λ (who : ℕ). AreSettled (moment who grown third)) (ap (λ (party : Party). party.me) counted) c.in_ok-grow.ensures.settled in
+    let holds = holds_on here settled c.requires.holds.can.may in
+    record {
+      does = λ heaps.
+          found_again party mid (g.H.Hall.state c.args.hall.now) heap next c.args.place.now c.args.request.now c.with_flags-first.result c.args.tag
+          c.allocate_in.result (c.with_flags-first.ensures ∙ ap (λ (flags : ℕ). with_flags flags c.args.request.now) c.without_hint.ensures) step
+          counted c.requires.its heaps grown third c.grow.new.heap c.in_ok-grow.field-0 c.in_default.is c.in_ok-grow.ensures.does last
+          c.allocate_in-2.new.heap c.allocate_in-2.result c.allocate_in-2.ensures.step c.allocate_in-2.ensures.counted
+          (c.requires.its ∙ sym here.index) c.if-not-branch.false c.in-Some-allocate_in.addr c.in-Some-allocate_in.is;
+      settled = subst (λ (who : ℕ). AreSettled (moment who last third)) same (settled_called grown last third c.allocate_in-2.ensures.counted holds.settled);
+      clock = λ one. omega (arith, c.grow.ensures.clock one, ap (λ (party : Party). party.deadline) counted);
+      keeps = keeps_then here
+          (keeps_alloc grown last c.grow.new.heap c.allocate_in-2.new.heap c.args.request.now c.args.tag c.allocate_in-2.result
+          c.allocate_in-2.ensures.step c.allocate_in-2.ensures.counted holds);
+      goes_on = c.grow.ensures.goes_on;
+    }
 
-pub returns-in-Some-allocate_in-clause-in_hand : goal.returns-in-Some-allocate_in-clause-in_hand
-returns-in-Some-allocate_in-clause-in_hand g c =
-    let hall = c.grow.new.hall in
-    let me = c.args.self.now.me in
-    hand_stays c.grow.new.self ((g.H.Hall.state hall).part me) ((g.H.Hall.state hall).seen me) ((g.H.Hall.state hall).heard me) (call.Alloc c.args.request.now c.args.tag)
-    (address_answer c.allocate_in-2.result) c.grow.new.heap c.allocate_in-2.new.heap c.allocate_in-2.ensures.step (g.H.Hall.state hall).taken
-    (subst (λ (who : ℕ). IsInHand (g.H.Hall.state hall).taken (moment who c.grow.new.self (g.H.Hall.state hall)) c.grow.new.heap)
-    (ap (λ (party : Party). party.me) c.allocate_in.ensures.counted) c.grow.ensures.in_hand)
-    c.allocate_in-2.new.self c.allocate_in-2.ensures.counted (alloc_pages _ _ _ _ _ _ c.allocate_in-2.ensures.step)
-
-pub returns-in-Some-allocate_in-clause-index : goal.returns-in-Some-allocate_in-clause-index
-returns-in-Some-allocate_in-clause-index g c =
-    call_index _ _ _ _ _ c.allocate_in-2.ensures.step ∙ c.grow.ensures.index ∙ call_index _ _ _ _ _ c.allocate_in.ensures.step
-
-pub returns-in-Some-allocate_in-clause-its_socket : goal.returns-in-Some-allocate_in-clause-its_socket
-returns-in-Some-allocate_in-clause-its_socket g c =
-    call_serves _ _ _ _ _ c.allocate_in-2.ensures.step ∙ c.grow.ensures.its_socket ∙ call_serves _ _ _ _ _ c.allocate_in.ensures.step
-
-pub returns-in-Some-allocate_in-clause-settled : goal.returns-in-Some-allocate_in-clause-settled
-returns-in-Some-allocate_in-clause-settled g c =
-    subst (λ (party : Party). AreSettled (moment c.args.self.now.me party (g.H.Hall.state c.grow.new.hall))) (sym c.allocate_in-2.ensures.counted)
-    (subst (λ (who : ℕ). AreSettled (moment who c.grow.new.self (g.H.Hall.state c.grow.new.hall)))
-    (ap (λ (party : Party). party.me) c.allocate_in.ensures.counted) c.in_ok-grow.ensures.settled)
-
-pub returns-in-None-clause-does : goal.returns-in-None-clause-does
-returns-in-None-clause-does g c = λ heaps.
-    let hall = c.args.hall.now in
+pub returns-in-None : goal.returns-in-None
+returns-in-None g c =
     let party = c.args.self.now in
     let me = party.me in
-    let place = c.args.place.now in
-    let request = c.args.request.now in
-    let tag = c.args.tag in
-    let pools = party.context.pools in
-    let otherwise = trying pools request tag heaps in
-    let doing = trying pools request tag (named_heap place ∷ heaps) in
-    let left = asking place.index place.socket request tag otherwise (page_sizes_for pools place.socket request.flags) in
-    let before = in_hand c.args.heap.now (moment me party (g.H.Hall.state hall)) in
-    let step : IsCall (caller_of party) (call.Alloc (with_flags (without_hint request.flags) request) tag) (address_answer c.allocate_in.result)
-    c.args.heap.now c.allocate_in.new.heap =
-    subst (λ (first : Request). IsCall (caller_of party) (call.Alloc first tag) (address_answer c.allocate_in.result) c.args.heap.now
-    c.allocate_in.new.heap)
-    (c.with_flags-first.ensures ∙ ap (λ (flags : ℕ). with_flags flags request) c.without_hint.ensures) c.allocate_in.ensures.step in
-    let searched : DoesIn place.index (g.H.Hall.state hall).count (did_in me (g.H.Hall.state hall) (g.H.Hall.state hall)) doing
-    (unless_found left (address_answer c.allocate_in.result)) before (in_hand c.allocate_in.new.heap (moment me c.allocate_in.new.self (g.H.Hall.state hall))) =
-    called_then party c.allocate_in.new.self ((g.H.Hall.state hall).part me) ((g.H.Hall.state hall).seen me) ((g.H.Hall.state hall).heard me)
-    (call.Alloc (with_flags (without_hint request.flags) request) tag) (address_answer c.allocate_in.result) c.args.heap.now
-    c.allocate_in.new.heap step c.allocate_in.ensures.counted place.index c.requires.its (g.H.Hall.state hall).count (did_in me (g.H.Hall.state hall) (g.H.Hall.state hall)) doing
-    (unless_found left) before (found_whole c.allocate_in.result)
-    (does_same (g.H.Hall.state hall).count (did_in me (g.H.Hall.state hall) (g.H.Hall.state hall)) doing before (did_same me (g.H.Hall.state hall))) in
-    let mine : c.allocate_in.new.self.me ≡ me = ap (λ (party : Party). party.me) c.allocate_in.ensures.counted in
-    let third = c.grow.new.hall in
-    let passed : Does (g.H.Hall.state hall).count (did_in me (g.H.Hall.state hall) (g.H.Hall.state hall)) doing left before
-    (in_hand c.allocate_in.new.heap (moment me c.allocate_in.new.self (g.H.Hall.state hall))) =
-    subst (λ (found : Option ℕ). Does (g.H.Hall.state hall).count (did_in me (g.H.Hall.state hall) (g.H.Hall.state hall)) doing (unless_found left (address_answer found)) before
-    (in_hand c.allocate_in.new.heap (moment me c.allocate_in.new.self (g.H.Hall.state hall)))) c.in_default.is searched.does in
-    let told =
-    subst (λ (pools : List PoolLine). Does (g.H.Hall.state hall).count (did_in c.allocate_in.new.self.me (g.H.Hall.state hall) (g.H.Hall.state third))
-    (asking place.index place.socket request tag otherwise (page_sizes_for pools place.socket request.flags))
-    (behind_asking place.index request tag otherwise c.in_ok-grow.field-0)
-    (in_hand c.allocate_in.new.heap (moment c.allocate_in.new.self.me c.allocate_in.new.self (g.H.Hall.state hall)))
-    (in_hand c.grow.new.heap (moment c.allocate_in.new.self.me c.grow.new.self (g.H.Hall.state third))))
-    (ap (λ (party : Party). party.context.pools) c.allocate_in.ensures.counted) (c.in_ok-grow.ensures.does tag otherwise) in
-    let grown : Does (g.H.Hall.state hall).count (did_in me (g.H.Hall.state hall) (g.H.Hall.state third)) doing (behind_asking place.index request tag otherwise c.in_ok-grow.field-0)
-    before (in_hand c.grow.new.heap (moment me c.grow.new.self (g.H.Hall.state third))) =
-    does_more (g.H.Hall.state hall) (g.H.Hall.state hall) (g.H.Hall.state third) c.allocate_in.new.self.me me (in_hand c.allocate_in.new.heap) (in_hand c.grow.new.heap) c.allocate_in.new.self c.grow.new.self before doing left (behind_asking place.index request tag otherwise c.in_ok-grow.field-0) mine refl passed told in
-    let granted : Bool → Type 0 = λ granted. Does (g.H.Hall.state hall).count (did_in me (g.H.Hall.state hall) (g.H.Hall.state third)) doing
-    (behind_asking place.index request tag otherwise granted) before (in_hand c.grow.new.heap (moment me c.grow.new.self (g.H.Hall.state third))) in
-    let again : DoesIn place.index (g.H.Hall.state hall).count (did_in me (g.H.Hall.state hall) (g.H.Hall.state third)) doing
-    (unless_found (Doing.Ended gives.None) (address_answer c.allocate_in-2.result)) before
-    (in_hand c.allocate_in-2.new.heap (moment me c.allocate_in-2.new.self (g.H.Hall.state third))) =
-    called_then c.grow.new.self c.allocate_in-2.new.self ((g.H.Hall.state third).part me) ((g.H.Hall.state third).seen me) ((g.H.Hall.state third).heard me)
-    (call.Alloc request tag) (address_answer c.allocate_in-2.result) c.grow.new.heap c.allocate_in-2.new.heap c.allocate_in-2.ensures.step
-    c.allocate_in-2.ensures.counted place.index
-    (c.requires.its ∙ sym (c.grow.ensures.index ∙ call_index _ _ _ _ _ c.allocate_in.ensures.step)) (g.H.Hall.state hall).count
-    (did_in me (g.H.Hall.state hall) (g.H.Hall.state third)) doing (unless_found (Doing.Ended gives.None)) before (found_whole c.allocate_in-2.result)
-    (subst granted c.if-not-branch.false grown) in
-    tries_in place.index (g.H.Hall.state hall).count (did_in me (g.H.Hall.state hall) (g.H.Hall.state third)) doing otherwise gives.None before
-    (in_hand c.allocate_in-2.new.heap (moment me c.allocate_in-2.new.self (g.H.Hall.state third)))
-    (subst (λ (found : Option ℕ). DoesIn place.index (g.H.Hall.state hall).count (did_in me (g.H.Hall.state hall) (g.H.Hall.state third)) doing
-    (unless_found (Doing.Ended gives.None) (address_answer found)) before
-    (in_hand c.allocate_in-2.new.heap (moment me c.allocate_in-2.new.self (g.H.Hall.state third)))) c.in-None.is again)
-
-pub returns-in-None-clause-in_hand : goal.returns-in-None-clause-in_hand
-returns-in-None-clause-in_hand g c =
-    let hall = c.grow.new.hall in
-    let me = c.args.self.now.me in
-    hand_stays c.grow.new.self ((g.H.Hall.state hall).part me) ((g.H.Hall.state hall).seen me) ((g.H.Hall.state hall).heard me) (call.Alloc c.args.request.now c.args.tag)
-    (address_answer c.allocate_in-2.result) c.grow.new.heap c.allocate_in-2.new.heap c.allocate_in-2.ensures.step (g.H.Hall.state hall).taken
-    (subst (λ (who : ℕ). IsInHand (g.H.Hall.state hall).taken (moment who c.grow.new.self (g.H.Hall.state hall)) c.grow.new.heap)
-    (ap (λ (party : Party). party.me) c.allocate_in.ensures.counted) c.grow.ensures.in_hand)
-    c.allocate_in-2.new.self c.allocate_in-2.ensures.counted (alloc_pages _ _ _ _ _ _ c.allocate_in-2.ensures.step)
-
-pub returns-in-None-clause-index : goal.returns-in-None-clause-index
-returns-in-None-clause-index g c =
-    call_index _ _ _ _ _ c.allocate_in-2.ensures.step ∙ c.grow.ensures.index ∙ call_index _ _ _ _ _ c.allocate_in.ensures.step
-
-pub returns-in-None-clause-its_socket : goal.returns-in-None-clause-its_socket
-returns-in-None-clause-its_socket g c =
-    call_serves _ _ _ _ _ c.allocate_in-2.ensures.step ∙ c.grow.ensures.its_socket ∙ call_serves _ _ _ _ _ c.allocate_in.ensures.step
-
-pub returns-in-None-clause-settled : goal.returns-in-None-clause-settled
-returns-in-None-clause-settled g c =
-    subst (λ (party : Party). AreSettled (moment c.args.self.now.me party (g.H.Hall.state c.grow.new.hall))) (sym c.allocate_in-2.ensures.counted)
-    (subst (λ (who : ℕ). AreSettled (moment who c.grow.new.self (g.H.Hall.state c.grow.new.hall)))
-    (ap (λ (party : Party). party.me) c.allocate_in.ensures.counted) c.in_ok-grow.ensures.settled)
-
--- BY HOW MUCH IT CARRIES THE CLOCK
-
-pub returns-in_err-grow-clause-clock : goal.returns-in_err-grow-clause-clock
-returns-in_err-grow-clause-clock g c = λ one.
-    let same = ap (λ (party : Party). party.deadline) c.allocate_in.ensures.counted in
-    omega (arith, c.grow.ensures.clock one, same)
-
-pub returns-then-not-branch-clause-clock : goal.returns-then-not-branch-clause-clock
-returns-then-not-branch-clause-clock g c = λ one.
-    let same = ap (λ (party : Party). party.deadline) c.allocate_in.ensures.counted in
-    omega (arith, c.grow.ensures.clock one, same)
-
-pub returns-in-Some-allocate_in-clause-clock : goal.returns-in-Some-allocate_in-clause-clock
-returns-in-Some-allocate_in-clause-clock g c = λ one.
-    let same = ap (λ (party : Party). party.deadline) c.allocate_in.ensures.counted in
-    omega (arith, c.grow.ensures.clock one, same)
-
-pub returns-in-None-clause-clock : goal.returns-in-None-clause-clock
-returns-in-None-clause-clock g c = λ one.
-    let same = ap (λ (party : Party). party.deadline) c.allocate_in.ensures.counted in
-    omega (arith, c.grow.ensures.clock one, same)
+    let mid = c.allocate_in.new.self in
+    let grown = c.grow.new.self in
+    let last = c.allocate_in-2.new.self in
+    let heap = c.args.heap.now in
+    let next = c.allocate_in.new.heap in
+    let third = g.H.Hall.state c.grow.new.hall in
+    let step = c.allocate_in.ensures.step in
+    let counted = c.allocate_in.ensures.counted in
+    let first = keeps_alloc party mid heap next c.with_flags-first.result c.args.tag c.allocate_in.result step counted c.requires.holds in
+    let here = keeps_then first c.grow.ensures.keeps in
+    let same = here.remains.same.me in
+    let settled = subst (λ (who : ℕ). AreSettled (moment who grown third)) (ap (λ (party : Party). party.me) counted) c.in_ok-grow.ensures.settled in
+    let holds = holds_on here settled c.requires.holds.can.may in
+    record {
+      does = λ heaps.
+          found_none party mid (g.H.Hall.state c.args.hall.now) heap next c.args.place.now c.args.request.now c.with_flags-first.result c.args.tag
+          c.allocate_in.result (c.with_flags-first.ensures ∙ ap (λ (flags : ℕ). with_flags flags c.args.request.now) c.without_hint.ensures) step
+          counted c.requires.its heaps grown third c.grow.new.heap c.in_ok-grow.field-0 c.in_default.is c.in_ok-grow.ensures.does last
+          c.allocate_in-2.new.heap c.allocate_in-2.result c.allocate_in-2.ensures.step c.allocate_in-2.ensures.counted
+          (c.requires.its ∙ sym here.index) c.if-not-branch.false c.in-None.is;
+      settled = subst (λ (who : ℕ). AreSettled (moment who last third)) same (settled_called grown last third c.allocate_in-2.ensures.counted holds.settled);
+      clock = λ one. omega (arith, c.grow.ensures.clock one, ap (λ (party : Party). party.deadline) counted);
+      keeps = keeps_then here
+          (keeps_alloc grown last c.grow.new.heap c.allocate_in-2.new.heap c.args.request.now c.args.tag c.allocate_in-2.result
+          c.allocate_in-2.ensures.step c.allocate_in-2.ensures.counted holds);
+      goes_on = c.grow.ensures.goes_on;
+    }

@@ -1,5 +1,5 @@
 -- The ask is one step of its line, and where a run comes its growth is the next.
-use Rattle.std.proofs.Common.{◌∙◌, ◌+◌, ◌<◌, ◌≤◌, ℕ, arith, Option, Some, refl, ap, sym, subst}
+use Rattle.std.proofs.Common.{◌∙◌, ◌+◌, ◌<◌, ℕ, arith, Option, Some, refl, ap, sym, subst}
 use Rattle.std.specs.Prelude.{◌^◌, IsSome}
 use Rattle.hp_base.specs.declared.row.Run.{Run}
 use Rattle.hp_proc.specs.Contexts.{Context}

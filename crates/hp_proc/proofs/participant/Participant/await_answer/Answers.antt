@@ -44,9 +44,9 @@ returns-in-Settled-clause-settles g c =
     let old = g.H.Hall.state c.args.hall.now in
     let mid = g.H.Hall.state c.wait.new.hall in
     let late = g.H.Hall.state c.look.new.hall in
-    settles_along (late.seen me) (late.heard me) ask (old.part me) (mid.part me) (late.part me) c.in-Settled.run
+    settles_along (late.seen me) (late.heard me) ask (old.part me) (mid.part me) (late.part me) c.in-Settled.run'
     c.wait.ensures.stays.waits.parts.part
-    (subst (λ (who : ℕ). Settles (late.seen who) (late.heard who) ask (mid.part who) (late.part who) c.in-Settled.run) c.requires.own
+    (subst (λ (who : ℕ). Settles (late.seen who) (late.heard who) ask (mid.part who) (late.part who) c.in-Settled.run') c.requires.own
     c.in-Settled.ensures.found)
 
 pub returns-in-Settled-clause-asked : goal.returns-in-Settled-clause-asked

@@ -13,16 +13,21 @@ use Rattle.hp_proc.specs.Freeing.{cutting, giving_up, left_of}
 use Rattle.hp_proc.specs.Party.{IsSameParty, Party, after_call}
 use Rattle.hp_proc.specs.Progress.{Does, caller_of, in_hand, moment_of}
 use Rattle.hp_proc.specs.Serving.{gives_segments, takes_segments}
-use Rattle.hp_proc.specs.Tied.{IsTied}
 use Rattle.hp_proc.specs.declared.element_act.Left.TheVariants.{GaveUp}
 use Rattle.hp_proc.specs.declared.searched_heap.SearchedHeap.{SearchedHeap}
 use Rattle.hp_proc.proofs.AskedAlong.{settled_more}
 use Rattle.hp_proc.proofs.Carrying.{same_party}
-use Rattle.hp_proc.proofs.HandCalls.{call_index, call_serves, does_acted, does_call, hand_stays}
+use Rattle.hp_proc.proofs.HandCalls.{call_index, call_serves, does_acted, does_call}
 use Rattle.hp_proc.proofs.HandCut.{cut_from_held, cut_leaves, cut_nothing, given_up_armed, given_up_part, held_behind_cut}
 use Rattle.hp_proc.proofs.HandMoved.{hand_moved, hand_same}
 use Rattle.hp_proc.proofs.Joining.{does_same, does_still, does_then}
-use Rattle.hp_proc.proofs.Tying.{tied_since}
+use Rattle.hp_hall.specs.HallState.{Did, OthersStay}
+use Rattle.hp_proc.specs.SegmentSlot.{MayHold}
+use Rattle.hp_hall.proofs.HallStates.{did_same, did_then, others_same}
+use Rattle.hp_proc.specs.InHall.{did_in, moment_with}
+use Rattle.hp_proc.proofs.Holds.{keeps_called, keeps_same, remains_called, settled_called}
+use Rattle.hp_proc.proofs.InHalls.{in_same, remains_by, tied_later}
+use Rattle.hp_proc.proofs.SegmentSlots.{may_hold}
 use Rattle.hp_proc.proofs.participant.Participant.cut_held.Goals as goal
 
 external_ends : (place : SearchedHeap) (addr : ℕ) (none : Bool) → none ≡ true → is_some place.serves ≡ not none
@@ -36,168 +41,132 @@ socket_cuts place addr index none is_not is same =
     ap (λ (has : Bool). cond has (Doing.Calls place.index (call.Cut addr) (giving_up place.index)) (Doing.Ended answer.Done)) (is ∙ ap not is_not)
     ∙ ap (λ (index : ℕ). Doing.Calls index (call.Cut addr) (giving_up place.index)) same
 
-pub returns-then-is_none-clause-does : goal.returns-then-is_none-clause-does
-returns-then-is_none-clause-does g c =
+pub returns-then-is_none : goal.returns-then-is_none
+returns-then-is_none g c =
     let party = c.args.self.now in
     let me = party.me in
-    let hall = c.args.hall.now in
+    let hall = g.H.Hall.state c.args.hall.now in
     let heap = c.args.heap.now in
-    let place = c.args.place.now in
-    let moment = in_hand heap (moment_of party ((g.H.Hall.state hall).part me) ((g.H.Hall.state hall).seen me) ((g.H.Hall.state hall).heard me)) in
-    subst (λ (doing : Doing). Does (g.H.Hall.state hall).count (did_in me (g.H.Hall.state hall) (g.H.Hall.state hall)) doing (Doing.Ended answer.Done) moment moment)
-    (sym (external_ends place c.args.addr c.is_none.result c.if-is_none.true c.is_none.ensures))
-    (does_same (g.H.Hall.state hall).count (did_in me (g.H.Hall.state hall) (g.H.Hall.state hall)) (Doing.Ended answer.Done) moment (did_same me (g.H.Hall.state hall)))
+    let at = moment_with heap me party hall in
+    record {
+      does = subst (λ (doing : Doing). Does hall.count (did_in me hall hall) doing (Doing.Ended answer.Done) at at)
+          (sym (external_ends c.args.place.now c.args.addr c.is_none.result c.if-is_none.true c.is_none.ensures))
+          (does_same hall.count (did_in me hall hall) (Doing.Ended answer.Done) at (did_same me hall));
+      settled = c.requires.holds.settled;
+      keeps = keeps_same me party heap c.requires.holds;
+      others = others_same me hall;
+      goes_on = g.met.H.Hall.goes_on_same _;
+    }
 
-pub retire-requires-clause-cut : goal.retire-requires-clause-cut
-retire-requires-clause-cut g c =
+pub retire-requires : goal.retire-requires
+retire-requires g c =
     let me = c.args.self.now.me in
-    let part = (g.H.Hall.state c.args.hall.now).part in
+    let hall = g.H.Hall.state c.args.hall.now in
+    let part = hall.part in
     let heap = c.args.heap.now in
     let place = c.args.place.now in
-    let held = subst (λ (index : ℕ). IsHeldWith heap (part me index).holding) (sym c.requires.its) c.requires.in_hand.held in
-    cut_from_held c.args.addr place.index c.in-Some.run' heap (part c.cut_in.new.self.me place.index).holding c.requires.its
-    (subst (λ (who : ℕ). IsHeldWith heap (part who place.index).holding) (sym (ap (λ (party : Party). party.me) c.cut_in.ensures.counted)) held)
-    c.in-Some.ensures.pages
+    let is_me = ap (λ (party : Party). party.me) c.cut_in.ensures.counted in
+    let held = subst (λ (index : ℕ). IsHeldWith heap (part me index).holding) (sym c.requires.its) c.requires.holds.in_hand.held in
+    record {
+      may = subst (λ (who : ℕ). MayHold who hall) (sym is_me) (may_hold c.requires.holds.can.may);
+      cut = cut_from_held c.args.addr place.index c.in-Some.run' heap (part c.cut_in.new.self.me place.index).holding c.requires.its
+          (subst (λ (who : ℕ). IsHeldWith heap (part who place.index).holding) (sym is_me) held) c.in-Some.ensures.pages;
+    }
 
-pub returns-in-None-clause-does : goal.returns-in-None-clause-does
-returns-in-None-clause-does g c =
+pub returns-in-None : goal.returns-in-None
+returns-in-None g c =
     let party = c.args.self.now in
     let me = party.me in
-    let hall = c.args.hall.now in
+    let hall = g.H.Hall.state c.args.hall.now in
     let heap = c.args.heap.now in
+    let next = c.cut_in.new.heap in
+    let after = c.cut_in.new.self in
     let place = c.args.place.now in
-    let part = (g.H.Hall.state hall).part me in
-    let seen = (g.H.Hall.state hall).seen me in
-    let heard = (g.H.Hall.state hall).heard me in
-    subst (λ (doing : Doing). Does (g.H.Hall.state hall).count (did_in me (g.H.Hall.state hall) (g.H.Hall.state hall)) doing (Doing.Ended answer.Done)
-    (in_hand heap (moment_of party part seen heard)) (in_hand c.cut_in.new.heap (moment_of c.cut_in.new.self part seen heard)))
-    (sym (socket_cuts place c.args.addr heap.plain.index c.is_none.result c.if-is_none.false c.is_none.ensures c.requires.its))
-    (does_call party part seen heard (call.Cut c.args.addr) gives.Nothing heap c.cut_in.new.heap c.in-None.ensures.step
-    (g.H.Hall.state hall).count (did_in me (g.H.Hall.state hall) (g.H.Hall.state hall)) (giving_up place.index) c.cut_in.new.self c.cut_in.ensures.counted
-    (did_same me (g.H.Hall.state hall)) refl)
-
-pub returns-in-None-clause-in_hand : goal.returns-in-None-clause-in_hand
-returns-in-None-clause-in_hand g c =
-    let party = c.args.self.now in
-    let hall = c.args.hall.now in
-    let heap = c.args.heap.now in
+    let part = hall.part me in
+    let seen = hall.seen me in
+    let heard = hall.heard me in
     let step = c.in-None.ensures.step in
-    hand_stays party ((g.H.Hall.state hall).part party.me) ((g.H.Hall.state hall).seen party.me) ((g.H.Hall.state hall).heard party.me) (call.Cut c.args.addr)
-    gives.Nothing heap c.cut_in.new.heap step (g.H.Hall.state hall).taken c.requires.in_hand c.cut_in.new.self c.cut_in.ensures.counted
-    (ap (λ (heap : PlainHeap). heap.pages) (cut_nothing (caller_of party) c.args.addr heap c.cut_in.new.heap step))
+    let counted = c.cut_in.ensures.counted in
+    record {
+      does = subst (λ (doing : Doing). Does hall.count (did_in me hall hall) doing (Doing.Ended answer.Done) (moment_with heap me party hall)
+          (moment_with next me after hall))
+          (sym (socket_cuts place c.args.addr heap.plain.index c.is_none.result c.if-is_none.false c.is_none.ensures c.requires.its))
+          (does_call party part seen heard (call.Cut c.args.addr) gives.Nothing heap next step hall.count (did_in me hall hall)
+          (giving_up place.index) after counted (did_same me hall) refl);
+      settled = settled_called party after hall counted c.requires.holds.settled;
+      keeps = keeps_called party after heap next step counted
+          (ap (λ (heap : PlainHeap). heap.pages) (cut_nothing (caller_of party) c.args.addr heap next step)) c.requires.holds;
+      others = others_same me hall;
+      goes_on = g.met.H.Hall.goes_on_same _;
+    }
 
-pub returns-in-None-clause-index : goal.returns-in-None-clause-index
-returns-in-None-clause-index g c = call_index _ _ _ _ _ c.in-None.ensures.step
-
-pub returns-in-None-clause-its_socket : goal.returns-in-None-clause-its_socket
-returns-in-None-clause-its_socket g c = call_serves _ _ _ _ _ c.in-None.ensures.step
-
-pub returns-in-None-clause-settled : goal.returns-in-None-clause-settled
-returns-in-None-clause-settled g c =
-    let me = c.args.self.now.me in
-    let hall = c.args.hall.now in
-    subst (λ (who : ℕ). HasSettledAsks who ((g.H.Hall.state hall).part me) ((g.H.Hall.state hall).heard me))
-    (sym (ap (λ (party : Party). party.me) c.cut_in.ensures.counted)) c.requires.settled
-
-pub returns-in-Some-clause-does : goal.returns-in-Some-clause-does
-returns-in-Some-clause-does g c =
+pub returns-in-Some : goal.returns-in-Some
+returns-in-Some g c =
     let party = c.args.self.now in
     let after = c.cut_in.new.self in
     let me = party.me in
-    let old = c.args.hall.now in
-    let new = c.retire.new.hall in
+    let old = g.H.Hall.state c.args.hall.now in
+    let new = g.H.Hall.state c.retire.new.hall in
     let heap = c.args.heap.now in
     let cut = c.cut_in.new.heap in
     let place = c.args.place.now in
-    let part = (g.H.Hall.state old).part me in
-    let later = (g.H.Hall.state new).part me in
-    let seen = (g.H.Hall.state old).seen me in
-    let heard = (g.H.Hall.state old).heard me in
-    let run = c.in-Some.run' in
-    let is_me = ap (λ (party : Party). party.me) c.cut_in.ensures.counted in
-    let count = (g.H.Hall.state old).count in
-    let gives_up = subst (λ (who : ℕ). GivesUp place.index run ((g.H.Hall.state old).part who place.index) ((g.H.Hall.state new).part who place.index)) is_me
-    c.retire.ensures.gives_up in
-    let others = subst (λ (who : ℕ). (other : ℕ) → other ≢ place.index → (g.H.Hall.state new).part who other ≡ (g.H.Hall.state old).part who other) is_me
-    c.retire.ensures.others in
-    let did = c.retire.ensures.did in
-    let more = (g.met.H.Hall.goes_on_later old new c.retire.ensures.goes_on).seen me in
-    let outcomes = (g.met.H.Hall.goes_on_later old new c.retire.ensures.goes_on).heard me in
-    let same = hand_same after.me cut part later (given_up_part place.index run part later gives_up others) in
-    let left : Doing = left_of place.index (GaveUp run) in
-    subst (λ (doing : Doing). Does count (did_in me (g.H.Hall.state old) (g.H.Hall.state new)) doing left (in_hand heap (moment_of party part seen heard))
-    (in_hand cut (moment_of after later ((g.H.Hall.state new).seen me) ((g.H.Hall.state new).heard me))))
-    (sym (socket_cuts place c.args.addr heap.plain.index c.is_none.result c.if-is_none.false c.is_none.ensures c.requires.its))
-    (does_then count (did_in me (g.H.Hall.state old) (g.H.Hall.state new)) (did_in me (g.H.Hall.state new) (g.H.Hall.state new)) (did_in me (g.H.Hall.state old) (g.H.Hall.state new))
-    (Doing.Calls heap.plain.index (call.Cut c.args.addr) (giving_up place.index)) left left (in_hand heap (moment_of party part seen heard))
-    (in_hand cut (moment_of after part seen heard)) (in_hand cut (moment_of after later ((g.H.Hall.state new).seen me) ((g.H.Hall.state new).heard me)))
-    (λ first second. did_then)
-    (does_acted party part seen heard (call.Cut c.args.addr) (gives.Pages run) heap cut c.in-Some.ensures.step count
-    (did_in me (g.H.Hall.state old) (g.H.Hall.state new)) (giving_up place.index) after (takes_segments did.0 ∷ gives_segments (after_retire heap.plain.index run did.0) ∷ [])
-    c.cut_in.ensures.counted
-    (subst (λ (index : ℕ). Did me (takes_segments did.0 ∷ gives_segments (after_retire index run did.0) ∷ []) (g.H.Hall.state old) (g.H.Hall.state new)) c.requires.its
-    (subst (λ (who : ℕ). Did who (takes_segments did.0 ∷ gives_segments (after_retire place.index run did.0) ∷ []) (g.H.Hall.state old) (g.H.Hall.state new)) is_me did.1))
-    (Acts.cuts_run party heap.plain.index c.args.addr run did.0))
-    (does_still count (did_in me (g.H.Hall.state new) (g.H.Hall.state new)) left (in_hand cut (moment_of after part seen heard))
-    (in_hand cut (moment_of after later ((g.H.Hall.state new).seen me) ((g.H.Hall.state new).heard me))) [] (did_same me (g.H.Hall.state new))
-    (Acts.nothing after) (λ at. (same at).entries) (λ at. (same at).serves) (same_party after) refl more.0 more.1 outcomes.0
-    outcomes.1))
-
-pub returns-in-Some-clause-in_hand : goal.returns-in-Some-clause-in_hand
-returns-in-Some-clause-in_hand g c =
-    let party = c.args.self.now in
-    let me = party.me in
-    let old = c.args.hall.now in
-    let new = c.retire.new.hall in
-    let heap = c.args.heap.now in
-    let place = c.args.place.now in
-    let part = (g.H.Hall.state old).part me in
-    let later = (g.H.Hall.state new).part me in
+    let part = old.part me in
+    let later = new.part me in
+    let seen = old.seen me in
+    let heard = old.heard me in
     let run = c.in-Some.run' in
     let step = c.in-Some.ensures.step in
-    let is_me = ap (λ (party : Party). party.me) c.cut_in.ensures.counted in
-    let gives_up = subst (λ (who : ℕ). GivesUp place.index run ((g.H.Hall.state old).part who place.index) ((g.H.Hall.state new).part who place.index)) is_me
-    c.retire.ensures.gives_up in
-    let others = subst (λ (who : ℕ). (other : ℕ) → other ≢ place.index → (g.H.Hall.state new).part who other ≡ (g.H.Hall.state old).part who other) is_me
-    c.retire.ensures.others in
-    let held = subst (λ (index : ℕ). IsHeldWith heap (part index).holding) (sym c.requires.its) c.requires.in_hand.held in
-    hand_moved party part ((g.H.Hall.state old).seen me) ((g.H.Hall.state old).heard me) (call.Cut c.args.addr) (gives.Pages run) heap c.cut_in.new.heap step
-    (g.H.Hall.state old).taken c.requires.in_hand (g.H.Hall.state new).taken c.cut_in.new.self later ((g.H.Hall.state new).seen me) ((g.H.Hall.state new).heard me)
-    c.retire.ensures.taken
-    (subst (λ (after : Party). IsSameParty (after_call party) after) (sym c.cut_in.ensures.counted) (same_party (after_call party)))
-    (given_up_part place.index run part later gives_up others)
-    (λ other apart. ap (λ (part : HeapPart). part.holding) (others other (λ same. apart (same ∙ c.requires.its))))
-    (subst (λ (index : ℕ). IsHeldWith c.cut_in.new.heap (later index).holding) c.requires.its
-    (held_behind_cut c.args.addr place.index run heap c.cut_in.new.heap (part place.index) (later place.index) c.requires.its held
-    c.in-Some.ensures.pages (cut_leaves (caller_of party) c.args.addr (gives.Pages run) heap c.cut_in.new.heap step) gives_up))
-
-pub returns-in-Some-clause-index : goal.returns-in-Some-clause-index
-returns-in-Some-clause-index g c = call_index _ _ _ _ _ c.in-Some.ensures.step
-
-pub returns-in-Some-clause-its_socket : goal.returns-in-Some-clause-its_socket
-returns-in-Some-clause-its_socket g c = call_serves _ _ _ _ _ c.in-Some.ensures.step
-
-pub returns-in-Some-clause-settled : goal.returns-in-Some-clause-settled
-returns-in-Some-clause-settled g c =
-    let me = c.args.self.now.me in
-    let old = c.args.hall.now in
-    let new = c.retire.new.hall in
-    let place = c.args.place.now in
-    let run = c.in-Some.run' in
-    let is_me = ap (λ (party : Party). party.me) c.cut_in.ensures.counted in
-    let gives_up = subst (λ (who : ℕ). GivesUp place.index run ((g.H.Hall.state old).part who place.index) ((g.H.Hall.state new).part who place.index)) is_me
-    c.retire.ensures.gives_up in
-    let others = subst (λ (who : ℕ). (other : ℕ) → other ≢ place.index → (g.H.Hall.state new).part who other ≡ (g.H.Hall.state old).part who other) is_me
-    c.retire.ensures.others in
-    let outcomes = (g.met.H.Hall.goes_on_later old new c.retire.ensures.goes_on).heard me in
-    subst (λ (who : ℕ). HasSettledAsks who ((g.H.Hall.state new).part me) ((g.H.Hall.state new).heard me)) (sym is_me)
-    (settled_more me ((g.H.Hall.state old).part me) ((g.H.Hall.state new).part me) ((g.H.Hall.state old).heard me) ((g.H.Hall.state new).heard me) outcomes.0 outcomes.1
-    (given_up_armed place.index run ((g.H.Hall.state old).part me) ((g.H.Hall.state new).part me) gives_up others) c.requires.settled)
-
-pub returns-in-Some-clause-tied : goal.returns-in-Some-clause-tied
-returns-in-Some-clause-tied g c =
-    let me = c.args.self.now.me in
-    let new = c.retire.new.hall in
-    let grown = (g.met.H.Hall.goes_on_later _ _ c.retire.ensures.goes_on).seen me in
-    subst (λ (party : Party). IsTied ((g.H.Hall.state new).seen me) ((g.H.Hall.state new).own me) party.joined party.maps) (sym c.cut_in.ensures.counted)
-    (tied_since _ _ grown.0 _ _ _ _ grown.1 (c.retire.ensures.own me) c.requires.tied)
+    let counted = c.cut_in.ensures.counted in
+    let is_me = ap (λ (party : Party). party.me) counted in
+    let is = c.retire.ensures in
+    let gives_up = subst (λ (who : ℕ). GivesUp place.index run (old.part who place.index) (new.part who place.index)) is_me is.gives_up in
+    let apart = subst (λ (who : ℕ). (other : ℕ) → other ≢ place.index → new.part who other ≡ old.part who other) is_me is.others in
+    let others = subst (λ (who : ℕ). OthersStay who old new) is_me is.stays.others in
+    let own = subst (λ (who : ℕ). new.own who ≡ old.own who) is_me is.stays.own in
+    let joined = subst (λ (who : ℕ). new.joined who ≡ old.joined who) is_me is.stays.joined in
+    let more = others.later.seen me in
+    let outcomes = others.later.heard me in
+    let parts = given_up_part place.index run part later gives_up apart in
+    let same = hand_same after.me cut part later parts in
+    let left : Doing = left_of place.index (GaveUp run) in
+    let taken = is.did.0 in
+    let held = subst (λ (index : ℕ). IsHeldWith heap (part index).holding) (sym c.requires.its) c.requires.holds.in_hand.held in
+    let called = remains_called (remains_by (in_same me party old c.requires.holds.can.tied)) counted in
+    record {
+      does = subst (λ (doing : Doing). Does old.count (did_in me old new) doing left (moment_with heap me party old) (moment_with cut me after new))
+          (sym (socket_cuts place c.args.addr heap.plain.index c.is_none.result c.if-is_none.false c.is_none.ensures c.requires.its))
+          (does_then old.count (did_in me old new) (did_in me new new) (did_in me old new)
+          (Doing.Calls heap.plain.index (call.Cut c.args.addr) (giving_up place.index)) left left (moment_with heap me party old)
+          (in_hand cut (moment_of after part seen heard)) (moment_with cut me after new) (λ first second. did_then)
+          (does_acted party part seen heard (call.Cut c.args.addr) (gives.Pages run) heap cut step old.count (did_in me old new)
+          (giving_up place.index) after (takes_segments taken ∷ gives_segments (after_retire heap.plain.index run taken) ∷ []) counted
+          (subst (λ (index : ℕ). Did me (takes_segments taken ∷ gives_segments (after_retire index run taken) ∷ []) old new) c.requires.its
+          (subst (λ (who : ℕ). Did who (takes_segments taken ∷ gives_segments (after_retire place.index run taken) ∷ []) old new) is_me is.did.1))
+          (Acts.cuts_run party heap.plain.index c.args.addr run taken))
+          (does_still old.count (did_in me new new) left (in_hand cut (moment_of after part seen heard)) (moment_with cut me after new) []
+          (did_same me new) (Acts.nothing after) (λ at. (same at).entries) (λ at. (same at).serves) (same_party after) refl more.0 more.1 outcomes.0
+          outcomes.1));
+      settled = subst (λ (who : ℕ). HasSettledAsks who later (new.heard me)) (sym is_me)
+          (settled_more me part later heard (new.heard me) outcomes.0 outcomes.1 (given_up_armed place.index run part later gives_up apart)
+          c.requires.holds.settled);
+      keeps = record {
+        in_hand = hand_moved party part seen heard (call.Cut c.args.addr) (gives.Pages run) heap cut step old.taken c.requires.holds.in_hand new.taken
+            after later (new.seen me) (new.heard me) is.stays.slots.taken
+            (subst (λ (after : Party). IsSameParty (after_call party) after) (sym counted) (same_party (after_call party))) parts
+            (λ other far. ap (λ (part : HeapPart). part.holding) (apart other (λ same. far (same ∙ c.requires.its))))
+            (subst (λ (index : ℕ). IsHeldWith cut (later index).holding) c.requires.its
+            (held_behind_cut c.args.addr place.index run heap cut (part place.index) (later place.index) c.requires.its held
+            c.in-Some.ensures.pages (cut_leaves (caller_of party) c.args.addr (gives.Pages run) heap cut step) gives_up));
+        index = call_index _ _ _ _ _ step;
+        its_socket = call_serves _ _ _ _ _ step;
+        remains = record {
+          same = called.same;
+          tied = tied_later me after others.later own called.tied;
+          slots = is.stays.slots;
+          joined = joined;
+          later = others.later;
+        };
+      };
+      others = others;
+      goes_on = is.goes_on;
+    }

@@ -1,18 +1,20 @@
 -- An allocation line whose request is refused, and one whose request is served.
 use Rattle.std.proofs.Common.{sym}
-use Rattle.hp_proc.specs.Progress.{moment_of}
 use Rattle.hp_proc.proofs.AllocFacts.{line_refused}
+use Rattle.hp_hall.proofs.HallStates.{did_same}
+use Rattle.hp_proc.specs.InHall.{did_in, moment}
+use Rattle.hp_proc.proofs.Holds.{again_line}
 use Rattle.hp_proc.proofs.participant.Participant.do_alloc.Goals as goal
 
 pub returns-in-Err-clause-does : goal.returns-in-Err-clause-does
 returns-in-Err-clause-does g c =
     let party = c.args.self.now in
-    let hall = c.args.hall.now in
+    let hall = g.H.Hall.state c.args.hall.now in
     let me = party.me in
-    let moment = moment_of party ((g.H.Hall.state hall).part me) ((g.H.Hall.state hall).seen me) ((g.H.Hall.state hall).heard me) in
+    let at = moment me party hall in
     let label = c.requires.act in
-    line_refused c.args.line.now label.0 c.args.size c.args.options.now label.1 moment c.requires.attached (g.H.Hall.state hall).count
-    (did_in me (g.H.Hall.state hall) (g.H.Hall.state hall)) c.in-Err.kind (sym c.in-Err.ensures.refused) (did_same me (g.H.Hall.state hall))
+    line_refused c.args.line.now label.0 c.args.size c.args.options.now label.1 at c.requires.attached hall.count
+    (did_in me hall hall) c.in-Err.kind (sym c.in-Err.ensures.refused) (did_same me hall)
 
 pub serve_line-requires-clause-asks : goal.serve_line-requires-clause-asks
 serve_line-requires-clause-asks g c = record {
@@ -27,3 +29,6 @@ serve_line-requires-clause-asks g c = record {
     flags_are = c.in-Ok.ensures.flags;
   };
 }
+
+pub returns-in-Err-clause-idle : goal.returns-in-Err-clause-idle
+returns-in-Err-clause-idle g c = again_line c.args.self.now c.requires.ready.idle

@@ -4,30 +4,33 @@ use Rattle.hp_proc.specs.Attaching.{standing_tried}
 use Rattle.hp_proc.specs.Party.{Party}
 use Rattle.hp_proc.proofs.AttachedLines.{attached_same, line_already, line_tried, ready_noted, refused_failed}
 use Rattle.hp_proc.proofs.HandGiven.{ready_still}
+use Rattle.hp_hall.proofs.HallStates.{did_same}
+use Rattle.hp_proc.specs.InHall.{did_in}
+use Rattle.hp_proc.proofs.Holds.{changes_noted, changes_same}
 use Rattle.hp_proc.proofs.participant.Participant.do_attach.Goals as goal
 
 pub returns-then-self-clause-does : goal.returns-then-self-clause-does
 returns-then-self-clause-does g c =
     let party = c.args.self.now in
     let me = party.me in
-    let hall = c.args.hall.now in
-    line_already (g.H.Hall.state hall).count (did_in me (g.H.Hall.state hall) (g.H.Hall.state hall)) c.args.line.now party ((g.H.Hall.state hall).part me) ((g.H.Hall.state hall).seen me)
-    ((g.H.Hall.state hall).heard me) c.requires.act
+    let hall = g.H.Hall.state c.args.hall.now in
+    line_already hall.count (did_in me hall hall) c.args.line.now party (hall.part me) (hall.seen me)
+    (hall.heard me) c.requires.act
     (ap (λ (party : Party). party.context.standing.attached) (sym c.self.view_is)
-    ∙ ap (λ inside. inside.context.standing.attached) (sym c.self-inside.view_is) ∙ c.if-self.true) (did_same me (g.H.Hall.state hall))
+    ∙ ap (λ inside. inside.context.standing.attached) (sym c.self-inside.view_is) ∙ c.if-self.true) (did_same me hall)
 
 pub returns-clause-does : goal.returns-clause-does
 returns-clause-does g c =
     let party = c.args.self.now in
     let me = party.me in
-    let old = c.args.hall.now in
-    let new = c.attach-caught.new.hall in
+    let old = g.H.Hall.state c.args.hall.now in
+    let new = g.H.Hall.state c.attach-caught.new.hall in
     let is = c.attach-caught.ensures in
-    let more = (g.met.H.Hall.goes_on_later old new is.goes_on).seen me in
-    let others = (g.met.H.Hall.goes_on_later old new is.goes_on).heard me in
-    line_tried (g.H.Hall.state old).count (did_in me (g.H.Hall.state old) (g.H.Hall.state new)) c.args.line.now party ((g.H.Hall.state old).part me) ((g.H.Hall.state old).seen me)
-    ((g.H.Hall.state old).heard me) c.attach-caught.new.self c.note_attached.new.self ((g.H.Hall.state new).part me) ((g.H.Hall.state new).seen me) more.0
-    ((g.H.Hall.state new).heard me) others.0 (is.part me) more.1 others.1 c.requires.act
+    let more = is.stays.others.later.seen me in
+    let others = is.stays.others.later.heard me in
+    line_tried old.count (did_in me old new) c.args.line.now party (old.part me) (old.seen me)
+    (old.heard me) c.attach-caught.new.self c.note_attached.new.self (new.part me) (new.seen me) more.0
+    (new.heard me) others.0 is.stays.part more.1 others.1 c.requires.act
     (ap (λ (party : Party). party.context.standing.attached) (sym c.self.view_is)
     ∙ ap (λ inside. inside.context.standing.attached) (sym c.self-inside.view_is) ∙ c.if-self.false) is.did.0 c.attach-caught.result is.did.1
     is.did.2 c.note_attached.result c.note_attached.ensures.given c.note_attached.ensures.noted
@@ -36,17 +39,31 @@ pub returns-clause-ready : goal.returns-clause-ready
 returns-clause-ready g c = λ ready.
     let party = c.args.self.now in
     let me = party.me in
-    let old = c.args.hall.now in
-    let new = c.attach-caught.new.hall in
+    let old = g.H.Hall.state c.args.hall.now in
+    let new = g.H.Hall.state c.attach-caught.new.hall in
     let mid = c.attach-caught.new.self in
     let is = c.attach-caught.ensures in
-    let others = (g.met.H.Hall.goes_on_later old new is.goes_on).heard me in
-    ready_noted mid c.note_attached.new.self ((g.H.Hall.state new).part me) ((g.H.Hall.state new).seen me) ((g.H.Hall.state new).heard me)
+    let others = is.stays.others.later.heard me in
+    ready_noted mid c.note_attached.new.self (new.part me) (new.seen me) (new.heard me)
     (standing_tried mid.maps.number c.attach-caught.result mid.context.standing) c.note_attached.ensures.noted
-    (ready_still party mid ((g.H.Hall.state old).part me) ((g.H.Hall.state new).part me) ((g.H.Hall.state old).seen me) ((g.H.Hall.state new).seen me) ((g.H.Hall.state old).heard me)
-    ((g.H.Hall.state new).heard me) others.0 (attached_same party mid is.did.0.log c.attach-caught.result is.did.1) (is.part me) others.1 ready)
+    (ready_still party mid (old.part me) (new.part me) (old.seen me) (new.seen me) (old.heard me)
+    (new.heard me) others.0 (attached_same party mid is.did.0.log c.attach-caught.result is.did.1) is.stays.part others.1 ready)
 
 pub returns-clause-failed : goal.returns-clause-failed
 returns-clause-failed g c = λ call refused.
     c.attach-caught.ensures.failed
     (refused_failed c.attach-caught.new.self.maps.number c.attach-caught.result c.note_attached.result call c.note_attached.ensures.given refused)
+
+pub returns-then-self-clause-changes : goal.returns-then-self-clause-changes
+returns-then-self-clause-changes g c = changes_same c.args.self.now c.requires.tied
+
+pub returns-then-is_worn-clause-changes : goal.returns-then-is_worn-clause-changes
+returns-then-is_worn-clause-changes g c = changes_same c.args.self.now c.requires.tied
+
+pub returns-clause-changes : goal.returns-clause-changes
+returns-clause-changes g c =
+    let party = c.args.self.now in
+    let mid = c.attach-caught.new.self in
+    let is = c.attach-caught.ensures in
+    changes_noted party mid (standing_tried mid.maps.number c.attach-caught.result mid.context.standing)
+    (attached_same party mid is.did.0.log c.attach-caught.result is.did.1) c.note_attached.ensures.noted is.tied is.stays.slots is.stays.others

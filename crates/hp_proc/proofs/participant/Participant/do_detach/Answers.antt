@@ -3,30 +3,33 @@ use Rattle.std.proofs.Common.{◌∙◌, ap, false, sym}
 use Rattle.hp_proc.specs.Party.{Party}
 use Rattle.hp_proc.proofs.AttachedLines.{detached_same, line_detached, line_left, ready_noted}
 use Rattle.hp_proc.proofs.HandGiven.{ready_still}
+use Rattle.hp_hall.proofs.HallStates.{did_same}
+use Rattle.hp_proc.specs.InHall.{did_in}
+use Rattle.hp_proc.proofs.Holds.{changes_noted, changes_same}
 use Rattle.hp_proc.proofs.participant.Participant.do_detach.Goals as goal
 
 pub returns-then-not-self-clause-does : goal.returns-then-not-self-clause-does
 returns-then-not-self-clause-does g c =
     let party = c.args.self.now in
     let me = party.me in
-    let hall = c.args.hall.now in
-    line_detached (g.H.Hall.state hall).count (did_in me (g.H.Hall.state hall) (g.H.Hall.state hall)) c.args.line.now party ((g.H.Hall.state hall).part me) ((g.H.Hall.state hall).seen me)
-    ((g.H.Hall.state hall).heard me) c.requires.act
+    let hall = g.H.Hall.state c.args.hall.now in
+    line_detached hall.count (did_in me hall hall) c.args.line.now party (hall.part me) (hall.seen me)
+    (hall.heard me) c.requires.act
     (ap (λ (party : Party). party.context.standing.attached) (sym c.self.view_is)
-    ∙ ap (λ inside. inside.context.standing.attached) (sym c.self-inside.view_is) ∙ c.if-not-self.true) (did_same me (g.H.Hall.state hall))
+    ∙ ap (λ inside. inside.context.standing.attached) (sym c.self-inside.view_is) ∙ c.if-not-self.true) (did_same me hall)
 
 pub returns-clause-does : goal.returns-clause-does
 returns-clause-does g c =
     let party = c.args.self.now in
     let me = party.me in
-    let old = c.args.hall.now in
-    let new = c.detach.new.hall in
+    let old = g.H.Hall.state c.args.hall.now in
+    let new = g.H.Hall.state c.detach.new.hall in
     let is = c.detach.ensures in
-    let more = (g.met.H.Hall.goes_on_later old new is.goes_on).seen me in
-    let others = (g.met.H.Hall.goes_on_later old new is.goes_on).heard me in
-    line_left (g.H.Hall.state old).count (did_in me (g.H.Hall.state old) (g.H.Hall.state new)) c.args.line.now party ((g.H.Hall.state old).part me) ((g.H.Hall.state old).seen me)
-    ((g.H.Hall.state old).heard me) c.detach.new.self c.note_detached.new.self ((g.H.Hall.state new).part me) ((g.H.Hall.state new).seen me) more.0
-    ((g.H.Hall.state new).heard me) others.0 (is.part me) more.1 others.1 c.requires.act
+    let more = is.stays.others.later.seen me in
+    let others = is.stays.others.later.heard me in
+    line_left old.count (did_in me old new) c.args.line.now party (old.part me) (old.seen me)
+    (old.heard me) c.detach.new.self c.note_detached.new.self (new.part me) (new.seen me) more.0
+    (new.heard me) others.0 is.stays.part more.1 others.1 c.requires.act
     (ap (λ (party : Party). party.context.standing.attached) (sym c.self.view_is)
     ∙ ap (λ inside. inside.context.standing.attached) (sym c.self-inside.view_is) ∙ c.if-not-self.false) is.did.0 c.requires.secondary
     is.did.1 is.party c.note_detached.ensures.noted
@@ -35,12 +38,23 @@ pub returns-clause-ready : goal.returns-clause-ready
 returns-clause-ready g c = λ ready.
     let party = c.args.self.now in
     let me = party.me in
-    let old = c.args.hall.now in
-    let new = c.detach.new.hall in
+    let old = g.H.Hall.state c.args.hall.now in
+    let new = g.H.Hall.state c.detach.new.hall in
     let mid = c.detach.new.self in
     let is = c.detach.ensures in
-    let others = (g.met.H.Hall.goes_on_later old new is.goes_on).heard me in
-    ready_noted mid c.note_detached.new.self ((g.H.Hall.state new).part me) ((g.H.Hall.state new).seen me) ((g.H.Hall.state new).heard me)
+    let others = is.stays.others.later.heard me in
+    ready_noted mid c.note_detached.new.self (new.part me) (new.seen me) (new.heard me)
     (record mid.context.standing { attached = false }) c.note_detached.ensures.noted
-    (ready_still party mid ((g.H.Hall.state old).part me) ((g.H.Hall.state new).part me) ((g.H.Hall.state old).seen me) ((g.H.Hall.state new).seen me) ((g.H.Hall.state old).heard me)
-    ((g.H.Hall.state new).heard me) others.0 (detached_same party mid is.party) (is.part me) others.1 ready)
+    (ready_still party mid (old.part me) (new.part me) (old.seen me) (new.seen me) (old.heard me)
+    (new.heard me) others.0 (detached_same party mid is.party) is.stays.part others.1 ready)
+
+pub returns-then-not-self-clause-changes : goal.returns-then-not-self-clause-changes
+returns-then-not-self-clause-changes g c = changes_same c.args.self.now c.requires.tied
+
+pub returns-clause-changes : goal.returns-clause-changes
+returns-clause-changes g c =
+    let party = c.args.self.now in
+    let mid = c.detach.new.self in
+    let is = c.detach.ensures in
+    changes_noted party mid (record mid.context.standing { attached = false }) (detached_same party mid is.party) c.note_detached.ensures.noted is.tied
+    is.stays.slots is.stays.others

@@ -1,6 +1,5 @@
 -- What a dump does is what its facts say: the heap of that name is asked for its statistics.
-use Rattle.std.proofs.Common.{◌≡◌, ◌∙◌, ℕ, ◌+◌, ◌<◌, Bool, true, List, [], Option, None, Some, refl, ap, sym, subst, arith, ⊎_elim}
-use Rattle.std.proofs.lemmas.Bool.Decides.{eqb_tells}
+use Rattle.std.proofs.Common.{◌≡◌, ◌∙◌, ℕ, ◌+◌, ◌<◌, Bool, true, List, [], Option, None, Some, refl, ap, sym, subst, arith}
 use Rattle.std.proofs.lemmas.List.Elements.{All-head}
 use Rattle.std.specs.List.{All}
 use Rattle.std.specs.Option.{option_map, option_to_list}
@@ -20,15 +19,20 @@ use Rattle.hp_proc.specs.Doing.{Doing}
 use Rattle.hp_proc.specs.Heaps.{NamedHeap, has_name, socket_heaps}
 use Rattle.hp_proc.specs.Lines.{Facts, doing_of, dumping, if_attached, with_statistics}
 use Rattle.hp_proc.specs.Party.{IsSameParty, Party, after_call, with_calls}
-use Rattle.hp_proc.specs.Progress.{AreSettled, Does, IsInHand, MayDo, caller_of, in_hand, moment_of}
-use Rattle.hp_proc.specs.Tied.{IsTied}
+use Rattle.hp_proc.specs.Progress.{Does, MayDo, caller_of}
 use Rattle.hp_proc.proofs.Carrying.{same_party}
-use Rattle.hp_proc.proofs.HandCalls.{call_index, does_call, hand_stays}
+use Rattle.hp_proc.proofs.HandCalls.{call_index, does_call}
 use Rattle.hp_proc.proofs.Joining.{does_same, does_then}
 use Rattle.hp_proc.proofs.LineFacts.{facts_for, facts_known, line_done}
 use Rattle.hp_proc.proofs.Mapped.{All-found}
 use Rattle.hp_proc.proofs.PagesStay.{stats_pages}
 use Rattle.hp_proc.proofs.SocketHeapLemmas.{IsListed, all_listed}
+use Rattle.hp_hall.proofs.HallStates.{did_same, did_then, slots_same}
+use Rattle.hp_proc.specs.InHall.{HoldsIn, IsIdleIn, did_in, moment, moment_with}
+use Rattle.hp_hall.specs.HallState.{HallState}
+use Rattle.hp_heap.specs.History.{HeapView, IsCall}
+use Rattle.hp_heap.specs.declared.entry.HeapAnswer.{HeapAnswer}
+use Rattle.hp_proc.proofs.Holds.{again_line, line_by, but_kept, does_next, holds_on, idle_put, keeps_called, same_to_calls, settled_called}
 use Rattle.hp_proc.proofs.participant.Participant.do_dump.Goals as goal
 
 -- the tree of a dump, where its participant is attached
@@ -78,23 +82,32 @@ same_called party mid after same counted =
       context = ap (λ (context : Context). record context { calls = mid.context.calls + 1 }) same.context;
     })
 
+-- the heap is in hand behind its call
+held_after : (before party after : Party) (heap next : HeapView) (hall : HallState) (given : HeapAnswer) → party.me ≡ before.me
+    → HoldsIn before.me party heap hall → IsCall (caller_of party) call.Stats given heap next → after ≡ after_call party
+    → HoldsIn after.me after next hall
+held_after before party after heap next hall given me holds step counted =
+    let here : HoldsIn party.me party heap hall = subst (λ (who : ℕ). HoldsIn who party heap hall) (sym me) holds in
+    holds_on (keeps_called party after heap next step counted (stats_pages (caller_of party) given heap next step) here)
+    (settled_called party after hall counted here.settled) here.can.may
+
 pub returns-in_default-clause-does : goal.returns-in_default-clause-does
 returns-in_default-clause-does g c =
     let party = c.args.self.now in
     let me = party.me in
-    let hall = c.args.hall.now in
+    let hall = g.H.Hall.state c.args.hall.now in
     let line = c.args.line.now in
     let name = c.args.name.now in
-    let moment = moment_of party ((g.H.Hall.state hall).part me) ((g.H.Hall.state hall).seen me) ((g.H.Hall.state hall).heard me) in
+    let at = moment me party hall in
     let facts = facts_for party.socket party.context line.act None in
     let known = facts_known party.socket party.context line None
     (subst (λ (deed : Act). HasRequest deed None) (sym c.requires.act) tt) in
     let is = subst (λ (party : Party). None ≡ option_map (λ (heap : NamedHeap). heap.index) (find (has_name name.text) (socket_heaps party.context.pools)))
     c.self.view_is c.in_default.ensures in
-    line_done (g.H.Hall.state hall).count (did_in me (g.H.Hall.state hall) (g.H.Hall.state hall)) line answer.NotFound moment moment facts (act.Dump name) known
-    (subst (λ (doing : Doing). Does (g.H.Hall.state hall).count (did_in me (g.H.Hall.state hall) (g.H.Hall.state hall)) doing (Doing.Ended answer.NotFound) moment moment)
+    line_done hall.count (did_in me hall hall) line answer.NotFound at at facts (act.Dump name) known
+    (subst (λ (doing : Doing). Does hall.count (did_in me hall hall) doing (Doing.Ended answer.NotFound) at at)
     (sym (dumps_none (find (has_name name.text) facts.named) is) ∙ dumps line name facts c.requires.act c.requires.attached)
-    (does_same (g.H.Hall.state hall).count (did_in me (g.H.Hall.state hall) (g.H.Hall.state hall)) (Doing.Ended answer.NotFound) moment (did_same me (g.H.Hall.state hall))))
+    (does_same hall.count (did_in me hall hall) (Doing.Ended answer.NotFound) at (did_same me hall)))
     (same_party party) c.requires.act tt
 
 pub hold-requires-clause-few : goal.hold-requires-clause-few
@@ -105,130 +118,71 @@ hold-requires-clause-few g c =
     (subst (λ (party : Party). Some index ≡ option_map (λ (heap : NamedHeap). heap.index) (find (has_name name.text) (socket_heaps party.context.pools)))
     c.self.view_is c.in-Some.ensures)
 
-pub put-requires-clause-serves : goal.put-requires-clause-serves
-put-requires-clause-serves g c =
-    subst (λ (who : ℕ). (g.H.Hall.state c.hold.new.hall).serves who)
-    (sym (ap (λ (party : Party). party.me) c.stats_in-stats.ensures.counted ∙ c.hold.ensures.same.me))
-    ((g.met.H.Hall.goes_on_later _ _ c.hold.ensures.goes_on).serves _ c.requires.serves)
+pub put-requires : goal.put-requires
+put-requires g c =
+    let held = held_after c.args.self.now c.hold.new.self c.stats_in-stats.new.self c.in_ok-heap.heap c.stats_in-stats.new.heap
+    (g.H.Hall.state c.hold.new.hall) (gives.Statistics c.stats_in-stats.result) c.hold.ensures.same.me c.in_ok-heap.ensures.holds
+    c.stats_in-stats.ensures.step c.stats_in-stats.ensures.counted in
+    record { serves = held.can.may.serves; in_hand = held.in_hand }
 
-pub put-requires-clause-in_hand : goal.put-requires-clause-in_hand
-put-requires-clause-in_hand g c =
-    let me = c.args.self.now.me in
-    let mid = c.hold.new.hall in
-    let party = c.hold.new.self in
-    let after = c.stats_in-stats.new.self in
-    let heap = c.in_ok-heap.heap in
-    let next = c.stats_in-stats.new.heap in
-    let given = gives.Statistics c.stats_in-stats.result in
-    let step = c.stats_in-stats.ensures.step in
-    subst (λ (who : ℕ). IsInHand (g.H.Hall.state mid).taken (moment_of after ((g.H.Hall.state mid).part who) ((g.H.Hall.state mid).seen who) ((g.H.Hall.state mid).heard who)) next)
-    (sym (ap (λ (party : Party). party.me) c.stats_in-stats.ensures.counted ∙ c.hold.ensures.same.me))
-    (hand_stays party ((g.H.Hall.state mid).part me) ((g.H.Hall.state mid).seen me) ((g.H.Hall.state mid).heard me) call.Stats given heap next step (g.H.Hall.state mid).taken
-    c.in_ok-heap.ensures.in_hand after c.stats_in-stats.ensures.counted (stats_pages (caller_of party) given heap next step))
+pub returns-in_default-clause-idle : goal.returns-in_default-clause-idle
+returns-in_default-clause-idle g c = again_line c.args.self.now c.requires.ready.idle
 
-pub returns-clause-does : goal.returns-clause-does
-returns-clause-does g c =
+pub returns-in_err-heap-clause-idle : goal.returns-in_err-heap-clause-idle
+returns-in_err-heap-clause-idle g c =
+    line_by c.args.self.now c.hold.new.self (same_to_calls c.args.self.now c.hold.new.self c.hold.ensures.same) c.in_err-heap.ensures.err
+
+pub returns : goal.returns
+returns g c =
     let before = c.args.self.now in
     let me = before.me in
-    let old = c.args.hall.now in
-    let mid = c.hold.new.hall in
-    let new = c.put.new.hall in
+    let old = g.H.Hall.state c.args.hall.now in
+    let mid = g.H.Hall.state c.hold.new.hall in
+    let new = g.H.Hall.state c.put.new.hall in
     let party = c.hold.new.self in
     let after = c.stats_in-stats.new.self in
     let heap = c.in_ok-heap.heap in
     let next = c.stats_in-stats.new.heap in
     let stats = c.stats_in-stats.result in
+    let step = c.stats_in-stats.ensures.step in
     let counted = c.stats_in-stats.ensures.counted in
-    let count = (g.H.Hall.state old).count in
+    let took = c.in_ok-heap.ensures in
+    let put = c.put.ensures in
+    let count = (g.met.H.Hall.goes_on_later _ _ c.hold.ensures.goes_on).count in
+    let held_me = c.hold.ensures.same.me in
+    let after_me = ap (λ (party : Party). party.me) counted ∙ held_me in
     let line = c.args.line.now in
     let name = c.args.name.now in
-    let first = moment_of before ((g.H.Hall.state old).part me) ((g.H.Hall.state old).seen me) ((g.H.Hall.state old).heard me) in
-    let second = in_hand heap (moment_of party ((g.H.Hall.state mid).part me) ((g.H.Hall.state mid).seen me) ((g.H.Hall.state mid).heard me)) in
-    let third = in_hand next (moment_of after ((g.H.Hall.state mid).part me) ((g.H.Hall.state mid).seen me) ((g.H.Hall.state mid).heard me)) in
-    let fourth = moment_of after ((g.H.Hall.state new).part me) ((g.H.Hall.state new).seen me) ((g.H.Hall.state new).heard me) in
+    let first = moment me before old in
+    let fourth = moment me after new in
     let doing = Doing.Calls heap.plain.index call.Stats with_statistics in
     let ended = Doing.Ended (answer.Statistics stats) in
-    let called : Does count (did_in me (g.H.Hall.state mid) (g.H.Hall.state mid)) doing ended second third =
-    does_call party ((g.H.Hall.state mid).part me) ((g.H.Hall.state mid).seen me) ((g.H.Hall.state mid).heard me) call.Stats (gives.Statistics stats) heap next
-    c.stats_in-stats.ensures.step count (did_in me (g.H.Hall.state mid) (g.H.Hall.state mid)) with_statistics after counted (did_same me (g.H.Hall.state mid)) refl in
-    let put : Does count (did_in me (g.H.Hall.state mid) (g.H.Hall.state new)) ended ended third fourth =
-    subst (λ (count : ℕ). Does count (did_in me (g.H.Hall.state mid) (g.H.Hall.state new)) ended ended third fourth)
-    ((g.met.H.Hall.goes_on_later _ _ c.hold.ensures.goes_on).count)
-    (subst (λ (who : ℕ). Does (g.H.Hall.state mid).count (did_in who (g.H.Hall.state mid) (g.H.Hall.state new)) ended ended
-    (in_hand next (moment_of after ((g.H.Hall.state mid).part who) ((g.H.Hall.state mid).seen who) ((g.H.Hall.state mid).heard who)))
-    (moment_of after ((g.H.Hall.state new).part who) ((g.H.Hall.state new).seen who) ((g.H.Hall.state new).heard who)))
-    (ap (λ (party : Party). party.me) counted ∙ c.hold.ensures.same.me) (c.put.ensures.does ended)) in
-    let does : Does count (did_in me (g.H.Hall.state old) (g.H.Hall.state new)) doing ended first fourth =
-    does_then count (did_in me (g.H.Hall.state old) (g.H.Hall.state mid)) (did_in me (g.H.Hall.state mid) (g.H.Hall.state new)) (did_in me (g.H.Hall.state old) (g.H.Hall.state new)) doing doing ended first second fourth
-    (λ one other. did_then) (c.in_ok-heap.ensures.did doing)
-    (does_then count (did_in me (g.H.Hall.state mid) (g.H.Hall.state mid)) (did_in me (g.H.Hall.state mid) (g.H.Hall.state new)) (did_in me (g.H.Hall.state mid) (g.H.Hall.state new)) doing ended ended second third fourth
-    (λ one other. did_then) called put) in
+    let called : Does old.count (did_in me mid mid) doing ended (moment_with heap me party mid) (moment_with next me after mid) =
+    does_call party (mid.part me) (mid.seen me) (mid.heard me) call.Stats (gives.Statistics stats) heap next step old.count (did_in me mid mid)
+    with_statistics after counted (did_same me mid) refl in
+    let does : Does old.count (did_in me old new) doing ended first fourth =
+    does_next me first (λ who. moment_with next who after mid) (λ who. moment who after new) after_me count
+    (does_then old.count (did_in me old mid) (did_in me mid mid) (did_in me old mid) doing doing ended first (moment_with heap me party mid)
+    (moment_with next me after mid) (λ one other. did_then) (took.did doing) called) (put.does ended) in
     let facts = facts_for before.socket before.context line.act None in
     let known = facts_known before.socket before.context line None
     (subst (λ (deed : Act). HasRequest deed None) (sym c.requires.act) tt) in
     let index = c.in-Some.index in
     let is = subst (λ (party : Party). Some index ≡ option_map (λ (heap : NamedHeap). heap.index) (find (has_name name.text) (socket_heaps party.context.pools)))
     c.self.view_is c.in-Some.ensures in
-    line_done count (did_in me (g.H.Hall.state old) (g.H.Hall.state new)) line (answer.Statistics stats) first fourth facts (act.Dump name) known
-    (subst (λ (doing : Doing). Does count (did_in me (g.H.Hall.state old) (g.H.Hall.state new)) doing ended first fourth)
-    (ap (λ (index : ℕ). Doing.Calls index call.Stats with_statistics) c.in_ok-heap.ensures.index
-    ∙ dumps_some (find (has_name name.text) facts.named) index is ∙ dumps line name facts c.requires.act c.requires.attached) does)
-    (same_called before party after c.hold.ensures.same counted) c.requires.act tt
-
-pub returns-clause-ready : goal.returns-clause-ready
-returns-clause-ready g c =
-    let me = c.args.self.now.me in
-    let mid = c.hold.new.hall in
-    let new = c.put.new.hall in
-    let party = c.hold.new.self in
-    let after = c.stats_in-stats.new.self in
-    let counted = c.stats_in-stats.ensures.counted in
-    let settled : AreSettled (moment_of after ((g.H.Hall.state mid).part me) ((g.H.Hall.state mid).seen me) ((g.H.Hall.state mid).heard me)) =
-    subst (λ (party : Party). AreSettled (moment_of party ((g.H.Hall.state mid).part me) ((g.H.Hall.state mid).seen me) ((g.H.Hall.state mid).heard me))) (sym counted)
-    c.in_ok-heap.ensures.settled in
-    subst (λ (who : ℕ). AreSettled (moment_of after ((g.H.Hall.state mid).part who) ((g.H.Hall.state mid).seen who) ((g.H.Hall.state mid).heard who))
-    → MayDo (moment_of after ((g.H.Hall.state new).part who) ((g.H.Hall.state new).seen who) ((g.H.Hall.state new).heard who)))
-    (ap (λ (party : Party). party.me) counted ∙ c.hold.ensures.same.me) c.put.ensures.ready settled
-
-pub returns-clause-tied : goal.returns-clause-tied
-returns-clause-tied g c =
-    let me = c.args.self.now.me in
-    let mid = c.hold.new.hall in
-    let new = c.put.new.hall in
-    let after = c.stats_in-stats.new.self in
-    let counted = c.stats_in-stats.ensures.counted in
-    let tied : IsTied ((g.H.Hall.state mid).seen me) ((g.H.Hall.state mid).own me) after.joined after.maps =
-    subst (λ (party : Party). IsTied ((g.H.Hall.state mid).seen me) ((g.H.Hall.state mid).own me) party.joined party.maps) (sym counted) c.hold.ensures.tied in
-    subst (λ (who : ℕ). IsTied ((g.H.Hall.state mid).seen who) ((g.H.Hall.state mid).own who) after.joined after.maps
-    → IsTied ((g.H.Hall.state new).seen who) ((g.H.Hall.state new).own who) after.joined after.maps)
-    (ap (λ (party : Party). party.me) counted ∙ c.hold.ensures.same.me) c.put.ensures.tied tied
-
-pub returns-clause-free : goal.returns-clause-free
-returns-clause-free g c = λ number.
-    let heap = c.in_ok-heap.heap in
-    let next = c.stats_in-stats.new.heap in
-    let index = call_index (caller_of c.hold.new.self) call.Stats (gives.Statistics c.stats_in-stats.result) heap next c.stats_in-stats.ensures.step
-    ∙ c.in_ok-heap.ensures.index in
-    ⊎_elim
-    (λ its. ap (g.H.Hall.state c.put.new.hall).taken (its.1 ∙ sym index) ∙ c.put.ensures.taken)
-    (λ other.
-    c.put.ensures.others number (λ same. other.1 (same ∙ index)) ∙ c.hold.ensures.taken number other.1)
-    (eqb_tells number c.in-Some.index)
-
-pub returns-clause-home : goal.returns-clause-home
-returns-clause-home g c = λ number few.
-    let heap = c.in_ok-heap.heap in
-    let next = c.stats_in-stats.new.heap in
-    let index = call_index (caller_of c.hold.new.self) call.Stats (gives.Statistics c.stats_in-stats.result) heap next c.stats_in-stats.ensures.step
-    ∙ c.in_ok-heap.ensures.index in
-    ⊎_elim
-    (λ its. subst (g.H.Hall.state c.put.new.hall).may_take (index ∙ sym its.1) c.put.ensures.home)
-    (λ other.
-    c.put.ensures.home_of_others number (λ same. other.1 (same ∙ index)) (c.hold.ensures.home number few other.1))
-    (eqb_tells number c.in-Some.index)
-
-pub returns-clause-goes_on : goal.returns-clause-goes_on
-returns-clause-goes_on g c = g.met.H.Hall.goes_on_then _ _ _ c.hold.ensures.goes_on c.put.ensures.goes_on
-
-pub returns-clause-clock : goal.returns-clause-clock
-returns-clause-clock g c = λ one. omega (arith, c.hold.ensures.clock one, c.put.ensures.clock)
+    let same = same_called before party after c.hold.ensures.same counted in
+    let its = call_index (caller_of party) call.Stats (gives.Statistics stats) heap next step in
+    let held = held_after before party after heap next mid (gives.Statistics stats) held_me took.holds step counted in
+    record {
+      does = line_done old.count (did_in me old new) line (answer.Statistics stats) first fourth facts (act.Dump name) known
+          (subst (λ (doing : Doing). Does old.count (did_in me old new) doing ended first fourth)
+          (ap (λ (index : ℕ). Doing.Calls index call.Stats with_statistics) took.index
+          ∙ dumps_some (find (has_name name.text) facts.named) index is ∙ dumps line name facts c.requires.act c.requires.attached) does)
+          same c.requires.act tt;
+      ready = subst (λ (who : ℕ). MayDo (moment who after new)) after_me (put.ready held.settled);
+      clock = λ one. omega (arith, c.hold.ensures.clock one, put.others.clock);
+      idle = line_by before after same
+          (subst (λ (who : ℕ). IsIdleIn who after new) after_me
+          (idle_put after next held.can (but_kept (its ∙ took.index) c.hold.ensures.slots (slots_same mid)) put.tied put.free put.slots put.others));
+      goes_on = g.met.H.Hall.goes_on_then _ _ _ c.hold.ensures.goes_on put.goes_on;
+    }

@@ -1,18 +1,37 @@
 -- Who is not attached is answered so at once.
 use Rattle.std.proofs.Common.{◌∙◌, ap, sym}
 use Rattle.hp_proc.specs.Party.{Party}
-use Rattle.hp_proc.specs.Progress.{moment_of}
 use Rattle.hp_proc.proofs.AttachedLines.{one_built}
 use Rattle.hp_proc.proofs.LineFacts.{detached_done}
+use Rattle.hp_hall.proofs.HallStates.{did_same}
+use Rattle.hp_proc.specs.InHall.{did_in, moment}
+use Rattle.hp_proc.proofs.Holds.{again_line, idle_changed}
+use Rattle.hp_proc.proofs.InHalls.{idle_may}
+use Rattle.hp_proc.proofs.SegmentSlots.{may_hold}
 use Rattle.hp_proc.proofs.participant.Participant.do_line.Goals as goal
 
 pub returns-then-not-self-clause-does : goal.returns-then-not-self-clause-does
 returns-then-not-self-clause-does g c =
     let party = c.args.self.now in
     let me = party.me in
-    let hall = c.args.hall.now in
-    detached_done (g.H.Hall.state hall).count (did_in me (g.H.Hall.state hall) (g.H.Hall.state hall)) (did_same me (g.H.Hall.state hall)) c.args.line.now
-    (moment_of party ((g.H.Hall.state hall).part me) ((g.H.Hall.state hall).seen me) ((g.H.Hall.state hall).heard me))
+    let hall = g.H.Hall.state c.args.hall.now in
+    detached_done hall.count (did_in me hall hall) (did_same me hall) c.args.line.now
+    (moment me party hall)
     (one_built me c.args.line.now.act c.requires.built c.in_default.not-Attach c.in_default.not-Detach)
     (ap (λ (party : Party). party.context.standing.attached) (sym c.self.view_is)
     ∙ ap (λ inside. inside.context.standing.attached) (sym c.self-inside.view_is) ∙ c.if-not-self.true)
+
+pub returns-then-not-self-clause-idle : goal.returns-then-not-self-clause-idle
+returns-then-not-self-clause-idle g c = again_line c.args.self.now c.requires.ready.idle
+
+pub do_attach-requires-clause-may : goal.do_attach-requires-clause-may
+do_attach-requires-clause-may g c = may_hold (idle_may c.requires.ready.idle)
+
+pub do_detach-requires-clause-may : goal.do_detach-requires-clause-may
+do_detach-requires-clause-may g c = may_hold (idle_may c.requires.ready.idle)
+
+pub returns-in-Attach-clause-idle : goal.returns-in-Attach-clause-idle
+returns-in-Attach-clause-idle g c = idle_changed c.do_attach.ensures.changes c.requires.ready.idle
+
+pub returns-in-Detach-clause-idle : goal.returns-in-Detach-clause-idle
+returns-in-Detach-clause-idle g c = idle_changed c.do_detach.ensures.changes c.requires.ready.idle

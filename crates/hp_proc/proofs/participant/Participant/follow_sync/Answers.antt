@@ -217,4 +217,3 @@ returns-clause-followed g c =
           c.one_more-self-inside.result did.0 did.1 c.self.view_is (sym c.is_member.ensures ∙ c.if-not-is_member.false) did.2
           c.obey-caught.ensures.caught c.has_table-self-inside.ensures c.one_more-self-inside.ensures,
     )
-

@@ -49,7 +49,7 @@ cut_held-requires g c =
     let counted = c.free_in.ensures.counted in
     record {
       holds = holds_on (keeps_called party mid heap next step counted (free_pages _ _ false _ heap next step) c.requires.holds)
-          (settled_called party mid counted c.requires.holds.settled) c.requires.holds.can.may;
+          (settled_called party mid (g.H.Hall.state c.args.hall.now) counted c.requires.holds.settled) c.requires.holds.can.may;
       its = c.requires.its ∙ sym (call_index _ _ _ _ _ step);
       of_socket = c.requires.of_socket ∙ sym (call_serves _ _ _ _ _ step);
       room = room_called 1 party mid heap next step.spare counted c.requires.room;
@@ -69,7 +69,7 @@ returns-in-Err-NotAnElement g c =
       does = freed_here hall.count (did_in me hall hall) party after (hall.part me) (hall.seen me) (hall.heard me) heap next c.args.place.now
           c.args.addr (Some c.in-Err-NotAnElement.field-0) c.in-Err-NotAnElement.ensures.step counted (did_same me hall) c.requires.its gives.NotAnElement
           (ap (λ (fault : FreeFault). fault_answer (Some fault)) c.in-Err-NotAnElement.field-0-is);
-      settled = settled_called party after counted c.requires.holds.settled;
+      settled = settled_called party after hall counted c.requires.holds.settled;
       keeps = keeps_called party after heap next step counted (free_pages _ _ false _ heap next step) c.requires.holds;
       others = others_same me hall;
       goes_on = g.met.H.Hall.goes_on_same _;
@@ -89,7 +89,7 @@ returns-in-Err-IsZone g c =
       does = freed_here hall.count (did_in me hall hall) party after (hall.part me) (hall.seen me) (hall.heard me) heap next c.args.place.now
           c.args.addr (Some c.in-Err-IsZone.field-0) c.in-Err-IsZone.ensures.step counted (did_same me hall) c.requires.its gives.IsZone
           (ap (λ (fault : FreeFault). fault_answer (Some fault)) c.in-Err-IsZone.field-0-is);
-      settled = settled_called party after counted c.requires.holds.settled;
+      settled = settled_called party after hall counted c.requires.holds.settled;
       keeps = keeps_called party after heap next step counted (free_pages _ _ false _ heap next step) c.requires.holds;
       others = others_same me hall;
       goes_on = g.met.H.Hall.goes_on_same _;

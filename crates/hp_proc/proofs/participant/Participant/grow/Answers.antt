@@ -11,7 +11,7 @@ use Rattle.hp_heap.specs.History.{HeapView}
 use Rattle.hp_proc.specs.Contexts.{Context}
 use Rattle.hp_proc.specs.InHall.{IsTiedIn, did_in, moment}
 use Rattle.hp_proc.proofs.HallMoments.{does_more}
-use Rattle.hp_proc.proofs.Holds.{holds_on, keeps_after, same_to_calls}
+use Rattle.hp_proc.proofs.Holds.{holds_on, keeps_after, keeps_same, same_to_calls}
 use Rattle.hp_proc.proofs.InHalls.{in_same, remains_by}
 use Rattle.hp_proc.proofs.Joining.{does_same}
 use Rattle.hp_proc.proofs.Rising.{few_page_sizes, rises_more, rises_within}
@@ -237,3 +237,6 @@ returns-clause-clock g c =
     (g.H.Hall.state c.args.hall.now).clock (g.H.Hall.state c.loop-page.hall).clock
     (omega (arith, was.along, ap length was.pages, few_page_sizes party.context.pools c.args.place.now.socket c.args.request.now.flags))
     was.clock
+
+pub returns-in_err-pages-clause-keeps : goal.returns-in_err-pages-clause-keeps
+returns-in_err-pages-clause-keeps g c = keeps_same c.args.self.now.me c.args.self.now c.args.heap.now c.requires.holds

@@ -75,4 +75,3 @@ returns-clause-did g c =
           (did_then
           c.now.ensures.did did.3)),
     )
-

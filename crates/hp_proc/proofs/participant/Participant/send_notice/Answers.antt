@@ -44,4 +44,3 @@ returns-clause-did g c =
           c.one_more-sent.ensures
           did.3),
     )
-

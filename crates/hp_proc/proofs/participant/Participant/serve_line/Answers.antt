@@ -1,9 +1,8 @@
 -- An allocation line is served from the first of its heaps that has or gets memory for it, and its element is noted.
-use Rattle.std.proofs.Common.{◌∙◌, ◌*◌, ℕ, List, length, map, refl, ap, sym, subst}
+use Rattle.std.proofs.Common.{◌≡◌, ◌∙◌, ◌*◌, ℕ, List, length, map, refl, ap, sym, subst}
 use Rattle.std.specs.Option.{option_map}
 use Rattle.hp_base.specs.declared.limits.TheConstants.{MAX_HEAPS}
 use Rattle.hp_hall.specs.Holding.{HeapPart}
-use Rattle.hp_hall.specs.Own.{Own}
 use Rattle.hp_log.specs.declared.log_record.LogRecord.{LogRecord}
 use Rattle.hp_script.specs.declared.answer.Answer.{Answer}
 use Rattle.hp_script.specs.declared.answer.Answer.TheVariants as gives
@@ -15,10 +14,12 @@ use Rattle.hp_proc.specs.Heaps.{NamedHeap, heaps_for, socket_heaps}
 use Rattle.hp_proc.specs.Lines.{tag_of}
 use Rattle.hp_proc.specs.Party.{IsSameParty, Party, after_answer, with_calls, with_context}
 use Rattle.hp_proc.specs.Progress.{Brings, MayDo, moment_of}
-use Rattle.hp_proc.specs.Tied.{IsTied}
 use Rattle.hp_proc.specs.declared.socket_heap.SocketHeap.{SocketHeap}
 use Rattle.hp_proc.proofs.AllocFacts.{line_answered}
 use Rattle.hp_proc.proofs.Rising.{few_places, rises_within}
+use Rattle.hp_hall.specs.HallState.{HallState, IsBusy}
+use Rattle.hp_proc.specs.InHall.{IsIdleAgain, IsIdleIn, did_in, moment}
+use Rattle.hp_proc.proofs.Holds.{again_line, line_by}
 use Rattle.hp_proc.proofs.participant.Participant.serve_line.Goals as goal
 
 -- what its line left changes nothing of what it may do
@@ -28,11 +29,12 @@ ready_answered line heap (gives.Address address) party parts log asks ready =
     record { sockets = ready.sockets; unheld = ready.unheld; settled = ready.settled; counted = ready.counted }
 ready_answered line heap _ party parts log asks ready = ready
 
--- nor of its table
-tied_answered : (line heap : ℕ) (answer : Answer) (party : Party) (log : List LogRecord) (own : Own) → IsTied log own party.joined party.maps
-    → IsTied log own (after_answer line heap answer party).joined (after_answer line heap answer party).maps
-tied_answered line heap (gives.Address address) party log own tied = tied
-tied_answered line heap _ party log own tied = tied
+-- nor of its table and its slots
+idle_answered : (line heap : ℕ) (answer : Answer) (me : ℕ) (party : Party) {a : HallState} → IsIdleIn me party a
+    → IsIdleIn me (after_answer line heap answer party) a
+idle_answered line heap (gives.Address address) me party idle =
+    record { serves = idle.serves; declared = idle.declared; free = idle.free; home = idle.home; tied = idle.tied }
+idle_answered line heap _ me party idle = idle
 
 -- nor of who it is
 same_answered : (line heap : ℕ) (answer : Answer) (party mid : Party) → IsSameParty (with_calls mid.context.calls party) mid
@@ -42,22 +44,58 @@ same_answered line heap (gives.Address address) party mid same =
 same_answered line heap _ party mid same =
     record { me = same.me; socket = same.socket; plan = same.plan; deadline = same.deadline; context = refl }
 
-pub returns-clause-same : goal.returns-clause-same
-returns-clause-same g c =
-    let mid = c.serve_request.new.self in
+-- it holds no slot behind the request
+idle_served : (party start mid : Party) {a : HallState} → start ≡ party → IsIdleAgain start.me (with_calls mid.context.calls start) mid a
+    → IsIdleAgain party.me (with_calls mid.context.calls party) mid a
+idle_served party start mid {a} same idle = subst (λ (party : Party). IsIdleAgain party.me (with_calls mid.context.calls party) mid a) same idle
+
+pub returns-in_err-reserve_element-clause-idle : goal.returns-in_err-reserve_element-clause-idle
+returns-in_err-reserve_element-clause-idle g c =
     let party = c.args.self.now in
-    let same = subst (λ (party : Party). IsSameParty (with_calls mid.context.calls party) mid) c.reserve_element.ensures
-    c.in_ok-answer.ensures.same in
-    subst (λ (after : Party). IsSameParty (with_context after.context party) after) (sym c.in_ok-note_answer.ensures.noted)
-    (same_answered c.args.line.now.line c.in_ok-answer.heap c.in_ok-answer.answer party mid same)
+    subst (λ (after : Party). IsIdleAgain party.me (with_context after.context party) after (g.H.Hall.state c.args.hall.now))
+    (sym c.reserve_element.ensures) (again_line party c.requires.ready.idle)
+
+pub returns-in_err-places-clause-idle : goal.returns-in_err-places-clause-idle
+returns-in_err-places-clause-idle g c =
+    let party = c.args.self.now in
+    subst (λ (after : Party). IsIdleAgain party.me (with_context after.context party) after (g.H.Hall.state c.args.hall.now))
+    (sym c.reserve_element.ensures) (again_line party c.requires.ready.idle)
+
+pub returns-in_err-answer-clause-idle : goal.returns-in_err-answer-clause-idle
+returns-in_err-answer-clause-idle g c =
+    let party = c.args.self.now in
+    let mid = c.serve_request.new.self in
+    let idle = idle_served party c.reserve_element.new.self mid c.reserve_element.ensures c.serve_request.ensures.idle in
+    line_by party mid idle.same idle.idle
+
+pub returns-in_err-note_answer-clause-idle : goal.returns-in_err-note_answer-clause-idle
+returns-in_err-note_answer-clause-idle g c =
+    let party = c.args.self.now in
+    let mid = c.serve_request.new.self in
+    let idle = idle_served party c.reserve_element.new.self mid c.reserve_element.ensures c.serve_request.ensures.idle in
+    subst (λ (after : Party). IsIdleAgain party.me (with_context after.context party) after (g.H.Hall.state c.serve_request.new.hall))
+    (sym c.in_err-note_answer.ensures.err) (line_by party mid idle.same idle.idle)
+
+pub returns-clause-idle : goal.returns-clause-idle
+returns-clause-idle g c =
+    let party = c.args.self.now in
+    let mid = c.serve_request.new.self in
+    let line = c.args.line.now.line in
+    let idle = idle_served party c.reserve_element.new.self mid c.reserve_element.ensures c.serve_request.ensures.idle in
+    subst (λ (after : Party). IsIdleAgain party.me (with_context after.context party) after (g.H.Hall.state c.serve_request.new.hall))
+    (sym c.in_ok-note_answer.ensures.noted)
+    (record {
+      same = same_answered line c.in_ok-answer.heap c.in_ok-answer.answer party mid idle.same;
+      idle = idle_answered line c.in_ok-answer.heap c.in_ok-answer.answer party.me mid idle.idle;
+    })
 
 pub returns-clause-does : goal.returns-clause-does
 returns-clause-does g c =
     let party = c.args.self.now in
     let start = c.reserve_element.new.self in
     let mid = c.serve_request.new.self in
-    let old = c.args.hall.now in
-    let new = c.serve_request.new.hall in
+    let old = g.H.Hall.state c.args.hall.now in
+    let new = g.H.Hall.state c.serve_request.new.hall in
     let line = c.args.line.now in
     let options = c.args.options.now in
     let request = c.args.request.now in
@@ -66,49 +104,38 @@ returns-clause-does g c =
     let heap = c.in_ok-answer.heap in
     let same = c.reserve_element.ensures in
     let told = subst
-    (λ (places : List NamedHeap). Brings heap (g.H.Hall.state old).count (did_in start.me (g.H.Hall.state old) (g.H.Hall.state new))
+    (λ (places : List NamedHeap). Brings heap old.count (did_in start.me old new)
     (serving start.context.pools request (tag_of line) places) answer
-    (moment_of start ((g.H.Hall.state old).part start.me) ((g.H.Hall.state old).seen start.me) ((g.H.Hall.state old).heard start.me))
-    (moment_of mid ((g.H.Hall.state new).part start.me) ((g.H.Hall.state new).seen start.me) ((g.H.Hall.state new).heard start.me)))
+    (moment start.me start old)
+    (moment start.me mid new))
     (ap (map named_heap) c.deref.ensures.value ∙ c.in_ok-places.ensures.heaps) c.in_ok-answer.ensures.does in
     let brings = subst
-    (λ (who : Party). Brings heap (g.H.Hall.state old).count (did_in who.me (g.H.Hall.state old) (g.H.Hall.state new))
+    (λ (who : Party). Brings heap old.count (did_in who.me old new)
     (serving who.context.pools request (tag_of line)
     (heaps_for who.socket (socket_heaps who.context.pools) (option_map (λ name. name.text) options.heap) options.socket)) answer
-    (moment_of who ((g.H.Hall.state old).part who.me) ((g.H.Hall.state old).seen who.me) ((g.H.Hall.state old).heard who.me))
-    (moment_of mid ((g.H.Hall.state new).part who.me) ((g.H.Hall.state new).seen who.me) ((g.H.Hall.state new).heard who.me)))
+    (moment who.me who old)
+    (moment who.me mid new))
     same told in
     line_answered line asks.label asks.size options asks.its_act
-    (moment_of party ((g.H.Hall.state old).part party.me) ((g.H.Hall.state old).seen party.me) ((g.H.Hall.state old).heard party.me)) c.requires.attached
-    (g.H.Hall.state old).count (did_in party.me (g.H.Hall.state old) (g.H.Hall.state new)) request asks.accepted (λ accepted. (request, refl, asks.is)) heap answer
-    (moment_of mid ((g.H.Hall.state new).part party.me) ((g.H.Hall.state new).seen party.me) ((g.H.Hall.state new).heard party.me)) brings c.note_answer.new.self
-    (ap (λ (context : Context). context.standing) c.in_ok-answer.ensures.same.context ∙ ap (λ (who : Party). who.context.standing) same)
+    (moment party.me party old) c.requires.attached
+    old.count (did_in party.me old new) request asks.accepted (λ accepted. (request, refl, asks.is)) heap answer
+    (moment party.me mid new) brings c.note_answer.new.self
+    (ap (λ (context : Context). context.standing) c.serve_request.ensures.idle.same.context ∙ ap (λ (who : Party). who.context.standing) same)
     c.in_ok-note_answer.ensures.noted
 
 pub returns-clause-ready : goal.returns-clause-ready
 returns-clause-ready g c =
     let mid = c.serve_request.new.self in
-    let new = c.serve_request.new.hall in
+    let new = g.H.Hall.state c.serve_request.new.hall in
     let line = c.args.line.now in
     let who = c.args.self.now.me in
     let ready = subst
-    (λ (party : Party). MayDo (moment_of mid ((g.H.Hall.state new).part party.me) ((g.H.Hall.state new).seen party.me) ((g.H.Hall.state new).heard party.me)))
+    (λ (party : Party). MayDo (moment party.me mid new))
     c.reserve_element.ensures c.in_ok-answer.ensures.ready in
-    subst (λ (after : Party). MayDo (moment_of after ((g.H.Hall.state new).part who) ((g.H.Hall.state new).seen who) ((g.H.Hall.state new).heard who)))
+    subst (λ (after : Party). MayDo (moment who after new))
     (sym c.in_ok-note_answer.ensures.noted)
-    (ready_answered line.line c.in_ok-answer.heap c.in_ok-answer.answer mid ((g.H.Hall.state new).part who) ((g.H.Hall.state new).seen who)
-    ((g.H.Hall.state new).heard who) ready)
-
-pub returns-clause-tied : goal.returns-clause-tied
-returns-clause-tied g c =
-    let mid = c.serve_request.new.self in
-    let new = c.serve_request.new.hall in
-    let who = c.args.self.now.me in
-    let tied = subst (λ (party : Party). IsTied ((g.H.Hall.state new).seen party.me) ((g.H.Hall.state new).own party.me) mid.joined mid.maps)
-    c.reserve_element.ensures c.in_ok-answer.ensures.tied in
-    subst (λ (after : Party). IsTied ((g.H.Hall.state new).seen who) ((g.H.Hall.state new).own who) after.joined after.maps)
-    (sym c.in_ok-note_answer.ensures.noted)
-    (tied_answered c.args.line.now.line c.in_ok-answer.heap c.in_ok-answer.answer mid ((g.H.Hall.state new).seen who) ((g.H.Hall.state new).own who) tied)
+    (ready_answered line.line c.in_ok-answer.heap c.in_ok-answer.answer mid (new.part who) (new.seen who)
+    (new.heard who) ready)
 
 -- BY HOW MUCH IT CARRIES THE CLOCK
 

@@ -1,16 +1,14 @@
 -- One heap more is tried, and it answered the line or was passed.
-use Rattle.std.proofs.Common.{◌≡◌, ◌∙◌, ◌+◌, ◌<◌, ◌∷◌, ◌==◌, ℕ, List, [], drop, get_or, length, map, Option, Some, None, true, false, refl, ap, sym, subst, arith}
+use Rattle.std.proofs.Common.{◌≡◌, ◌+◌, ◌<◌, ◌∷◌, ◌==◌, ℕ, List, [], drop, get_or, length, map, Option, Some, None, true, false, refl, ap, sym, subst, arith}
 use Rattle.std.proofs.lemmas.List.{drop_all, drop_more}
 use Rattle.std.proofs.lemmas.List.Elements.{Contains-get_or}
 use Rattle.hp_proc.specs.Allocating.{serving, trying}
 use Rattle.hp_proc.specs.Clocks.{longest_growth}
 use Rattle.hp_proc.specs.Contexts.{Context, IsSocketHeapOf, named_heap}
-use Rattle.hp_proc.specs.Party.{IsSameParty, Party, with_calls}
 use Rattle.hp_proc.specs.Progress.{Brings, Does, MayDo, Moment, Tries}
-use Rattle.hp_proc.specs.Tied.{IsTied}
 use Rattle.hp_proc.specs.declared.socket_heap.SocketHeap.{SocketHeap}
 use Rattle.hp_proc.proofs.AllocFacts.{socket_few}
-use Rattle.hp_proc.proofs.HallMoments.{at, told_alike}
+use Rattle.hp_proc.proofs.HallMoments.{told_alike}
 use Rattle.hp_proc.proofs.HandTried.{brings_then}
 use Rattle.hp_proc.proofs.Joining.{does_same, does_then}
 use Rattle.hp_proc.proofs.Rising.{rises_more, rises_within}
@@ -22,43 +20,32 @@ use Rattle.hp_script.specs.declared.answer.Answer.TheVariants as gives
 use Rattle.hp_hall.specs.Mail.{MailStep}
 use Rattle.std.proofs.lemmas.Bool.{eqb-true, false≢true}
 use Rattle.hp_proc.specs.Doing.{Doing}
+use Rattle.hp_hall.specs.HallState.{IsBusy}
+use Rattle.hp_hall.proofs.HallStates.{did_same, did_then}
+use Rattle.hp_proc.specs.InHall.{IsIdleIn, did_in, moment}
+use Rattle.hp_proc.proofs.Holds.{again_same, again_then}
 use Rattle.hp_proc.proofs.participant.Participant.serve_request.Goals as goal
 
 pub loop-place-init : goal.loop-place-init
 loop-place-init g c = record {
   passed = does_same _ _ _ _ (did_same _ _);
   few = omega arith;
-  ready = c.requires.ready;
-  tied = c.requires.tied;
-  same = record { me = refl; socket = refl; plan = refl; deadline = refl; context = refl };
-  free = c.requires.free;
-  home = c.requires.home;
+  ready = c.requires.ready.ready;
+  idle = again_same c.args.self.now c.requires.ready.idle;
   goes_on = g.met.H.Hall.goes_on_same _;
   along = omega arith;
   clock = λ one. omega arith;
 }
 
-pub try_heap-requires-clause-serves : goal.try_heap-requires-clause-serves
-try_heap-requires-clause-serves g c =
+pub try_heap-requires-clause-ready : goal.try_heap-requires-clause-ready
+try_heap-requires-clause-ready g c =
     let was = c.loop-place.invariant in
-    subst (λ (who : ℕ). (g.H.Hall.state c.loop-place.hall).serves who) (sym was.same.me)
-    ((g.met.H.Hall.goes_on_later _ _ was.goes_on).serves _ c.requires.serves)
-
-pub try_heap-requires-clause-me : goal.try_heap-requires-clause-me
-try_heap-requires-clause-me g c =
-    let was = c.loop-place.invariant in
-    omega (arith, (g.met.H.Hall.goes_on_later _ _ was.goes_on).count, was.same.me, c.requires.me)
-
--- it made calls one after another
-same_calls : (first second third : Party) → IsSameParty (with_calls second.context.calls first) second
-    → IsSameParty (with_calls third.context.calls second) third → IsSameParty (with_calls third.context.calls first) third
-same_calls first second third here there = record {
-  me = there.me ∙ here.me;
-  socket = there.socket ∙ here.socket;
-  plan = there.plan ∙ here.plan;
-  deadline = there.deadline ∙ here.deadline;
-  context = there.context ∙ ap (λ (context : Context). record context { calls = third.context.calls }) here.context;
-}
+    let party = c.loop-place.self in
+    let mid = g.H.Hall.state c.loop-place.hall in
+    record {
+      idle = subst (λ (who : ℕ). IsIdleIn who party mid) (sym was.idle.same.me) was.idle.idle;
+      ready = subst (λ (who : ℕ). MayDo (moment who party mid)) (sym was.idle.same.me) was.ready;
+    }
 
 abbrev none_at : SocketHeap
 none_at = record { index = 0; socket = 0 }
@@ -94,16 +81,16 @@ brings_none heap count did doing answer old new other does = record { does = doe
 pub try_heap-requires-clause-place : goal.try_heap-requires-clause-place
 try_heap-requires-clause-place g c =
     let item = get_or c.args.places.now c.loop-place.place-index none_at in
-    subst (λ (context : Context). IsSocketHeapOf context.pools item) (sym c.loop-place.invariant.same.context)
+    subst (λ (context : Context). IsSocketHeapOf context.pools item) (sym c.loop-place.invariant.idle.same.context)
     (c.requires.places item (Contains-get_or c.args.places.now c.loop-place.place-index none_at c.loop-place-test.true))
 
 pub loop-place-preserved : goal.loop-place-preserved
 loop-place-preserved g c =
     let was = c.loop-place.invariant in
     let me = c.args.self.now.me in
-    let first = c.args.hall.now in
-    let second = c.loop-place.hall in
-    let third = c.try_heap.new.hall in
+    let first = g.H.Hall.state c.args.hall.now in
+    let second = g.H.Hall.state c.loop-place.hall in
+    let third = g.H.Hall.state c.try_heap.new.hall in
     let pools = c.args.self.now.context.pools in
     let request = c.args.request.now in
     let tag = c.args.tag in
@@ -113,54 +100,51 @@ loop-place-preserved g c =
     let doing = trying pools request tag (map named_heap places) in
     let left = trying pools request tag (map named_heap (item ∷ drop (i + 1) places)) in
     let otherwise = trying pools request tag (map named_heap (drop (i + 1) places)) in
-    let before = moment me c.args.self.now (g.H.Hall.state first) in
-    let here : Does (g.H.Hall.state first).count (did_in me (g.H.Hall.state first) (g.H.Hall.state second)) doing left before (moment me c.loop-place.self (g.H.Hall.state second)) =
-    subst (λ (rest : List SocketHeap). Does (g.H.Hall.state first).count (did_in me (g.H.Hall.state first) (g.H.Hall.state second)) doing
-    (trying pools request tag (map named_heap rest)) before (moment me c.loop-place.self (g.H.Hall.state second)))
+    let before = moment me c.args.self.now first in
+    let here : Does first.count (did_in me first second) doing left before (moment me c.loop-place.self second) =
+    subst (λ (rest : List SocketHeap). Does first.count (did_in me first second) doing
+    (trying pools request tag (map named_heap rest)) before (moment me c.loop-place.self second))
     (drop_more places i none_at c.loop-place-test.true) was.passed in
-    let tried : Tries item.index (g.H.Hall.state first).count (did_in me (g.H.Hall.state second) (g.H.Hall.state third)) left otherwise None
-    (moment me c.loop-place.self (g.H.Hall.state second)) (moment me c.try_heap.new.self (g.H.Hall.state third)) =
-    subst (λ (context : Context). Tries item.index (g.H.Hall.state first).count (did_in me (g.H.Hall.state second) (g.H.Hall.state third))
+    let tried : Tries item.index first.count (did_in me second third) left otherwise None
+    (moment me c.loop-place.self second) (moment me c.try_heap.new.self third) =
+    subst (λ (context : Context). Tries item.index first.count (did_in me second third)
     (trying context.pools request tag (map named_heap (item ∷ drop (i + 1) places)))
     (trying context.pools request tag (map named_heap (drop (i + 1) places))) None
-    (moment me c.loop-place.self (g.H.Hall.state second)) (moment me c.try_heap.new.self (g.H.Hall.state third))) was.same.context
+    (moment me c.loop-place.self second) (moment me c.try_heap.new.self third)) was.idle.same.context
     (told_alike (λ count did old new. Tries item.index count did
     (trying c.loop-place.self.context.pools request tag (map named_heap (item ∷ drop (i + 1) places)))
-    (trying c.loop-place.self.context.pools request tag (map named_heap (drop (i + 1) places))) None old new) (g.H.Hall.state second).count (g.H.Hall.state first).count (g.H.Hall.state second) (g.H.Hall.state third) c.loop-place.self.me me (λ moment. moment) (λ moment. moment) c.loop-place.self
-    c.try_heap.new.self was.same.me ((g.met.H.Hall.goes_on_later _ _ was.goes_on).count)
-    (subst (λ (given : Option Answer). Tries item.index (g.H.Hall.state second).count (did_in c.loop-place.self.me (g.H.Hall.state second) (g.H.Hall.state third))
+    (trying c.loop-place.self.context.pools request tag (map named_heap (drop (i + 1) places))) None old new) second.count first.count second third c.loop-place.self.me me (λ moment. moment) (λ moment. moment) c.loop-place.self
+    c.try_heap.new.self was.idle.same.me ((g.met.H.Hall.goes_on_later _ _ was.goes_on).count)
+    (subst (λ (given : Option Answer). Tries item.index second.count (did_in c.loop-place.self.me second third)
     (trying c.loop-place.self.context.pools request tag (map named_heap (item ∷ drop (i + 1) places)))
     (trying c.loop-place.self.context.pools request tag (map named_heap (drop (i + 1) places))) given
-    (moment c.loop-place.self.me c.loop-place.self (g.H.Hall.state second)) (moment c.loop-place.self.me c.try_heap.new.self (g.H.Hall.state third)))
+    (moment c.loop-place.self.me c.loop-place.self second) (moment c.loop-place.self.me c.try_heap.new.self third))
     c.in_default.is (c.in_ok-answer.ensures.does (map named_heap (drop (i + 1) places))))) in
     let one = c.try_heap.ensures in
     let party = c.try_heap.new.self in
     record {
-      passed = does_then (g.H.Hall.state first).count (did_in me (g.H.Hall.state first) (g.H.Hall.state second)) (did_in me (g.H.Hall.state second) (g.H.Hall.state third)) (did_in me (g.H.Hall.state first) (g.H.Hall.state third)) doing
-          left otherwise before (moment me c.loop-place.self (g.H.Hall.state second)) (moment me party (g.H.Hall.state third)) (did_then) here
+      passed = does_then first.count (did_in me first second) (did_in me second third) (did_in me first third) doing
+          left otherwise before (moment me c.loop-place.self second) (moment me party third) (λ one two. did_then) here
           tried.does;
       few = socket_few c.args.self.now.context.pools (get_or c.args.places.now c.loop-place.place-index none_at)
           (c.requires.places (get_or c.args.places.now c.loop-place.place-index none_at)
           (Contains-get_or c.args.places.now c.loop-place.place-index none_at c.loop-place-test.true));
-      ready = subst (λ (who : ℕ). MayDo (moment who party (g.H.Hall.state third))) (sym one.same.me) c.in_ok-answer.ensures.ready;
-      tied = subst (λ (who : ℕ). IsTied ((g.H.Hall.state third).seen who) ((g.H.Hall.state third).own who) party.joined party.maps) (sym one.same.me) one.tied;
-      same = same_calls c.args.self.now c.loop-place.self party was.same one.same;
-      free = one.free;
-      home = one.home;
+      ready = subst (λ (who : ℕ). MayDo (moment who party third)) was.idle.same.me c.in_ok-answer.ensures.ready;
+      idle = again_then c.args.self.now c.loop-place.self party was.idle one.idle;
       goes_on = g.met.H.Hall.goes_on_then _ _ _ was.goes_on one.goes_on;
       along = omega (arith, c.loop-place-test.true);
       clock = rises_more g.H.Hall.pending (λ hall. IsBusy (g.H.Hall.state hall)) i (longest_growth c.args.self.now.deadline)
-          (longest_growth c.loop-place.self.deadline) (g.H.Hall.state first).clock (g.H.Hall.state second).clock (g.H.Hall.state third).clock
-          (ap longest_growth was.same.deadline) was.clock one.clock;
+          (longest_growth c.loop-place.self.deadline) first.clock second.clock third.clock
+          (ap longest_growth was.idle.same.deadline) was.clock one.clock;
     }
 
 pub returns-in-Some-clause-does : goal.returns-in-Some-clause-does
 returns-in-Some-clause-does g c =
     let was = c.loop-place.invariant in
     let me = c.args.self.now.me in
-    let first = c.args.hall.now in
-    let second = c.loop-place.hall in
-    let third = c.try_heap.new.hall in
+    let first = g.H.Hall.state c.args.hall.now in
+    let second = g.H.Hall.state c.loop-place.hall in
+    let third = g.H.Hall.state c.try_heap.new.hall in
     let pools = c.args.self.now.context.pools in
     let request = c.args.request.now in
     let tag = c.args.tag in
@@ -170,30 +154,30 @@ returns-in-Some-clause-does g c =
     let doing = trying pools request tag (map named_heap places) in
     let left = trying pools request tag (map named_heap (item ∷ drop (i + 1) places)) in
     let otherwise = trying pools request tag (map named_heap (drop (i + 1) places)) in
-    let before = moment me c.args.self.now (g.H.Hall.state first) in
-    let here : Does (g.H.Hall.state first).count (did_in me (g.H.Hall.state first) (g.H.Hall.state second)) doing left before (moment me c.loop-place.self (g.H.Hall.state second)) =
-    subst (λ (rest : List SocketHeap). Does (g.H.Hall.state first).count (did_in me (g.H.Hall.state first) (g.H.Hall.state second)) doing
-    (trying pools request tag (map named_heap rest)) before (moment me c.loop-place.self (g.H.Hall.state second)))
+    let before = moment me c.args.self.now first in
+    let here : Does first.count (did_in me first second) doing left before (moment me c.loop-place.self second) =
+    subst (λ (rest : List SocketHeap). Does first.count (did_in me first second) doing
+    (trying pools request tag (map named_heap rest)) before (moment me c.loop-place.self second))
     (drop_more places i none_at c.loop-place-test.true) was.passed in
-    let tried : Tries item.index (g.H.Hall.state first).count (did_in me (g.H.Hall.state second) (g.H.Hall.state third)) left otherwise (Some c.in-Some.answer)
-    (moment me c.loop-place.self (g.H.Hall.state second)) (moment me c.try_heap.new.self (g.H.Hall.state third)) =
-    subst (λ (context : Context). Tries item.index (g.H.Hall.state first).count (did_in me (g.H.Hall.state second) (g.H.Hall.state third))
+    let tried : Tries item.index first.count (did_in me second third) left otherwise (Some c.in-Some.answer)
+    (moment me c.loop-place.self second) (moment me c.try_heap.new.self third) =
+    subst (λ (context : Context). Tries item.index first.count (did_in me second third)
     (trying context.pools request tag (map named_heap (item ∷ drop (i + 1) places)))
     (trying context.pools request tag (map named_heap (drop (i + 1) places))) (Some c.in-Some.answer)
-    (moment me c.loop-place.self (g.H.Hall.state second)) (moment me c.try_heap.new.self (g.H.Hall.state third))) was.same.context
+    (moment me c.loop-place.self second) (moment me c.try_heap.new.self third)) was.idle.same.context
     (told_alike (λ count did old new. Tries item.index count did
     (trying c.loop-place.self.context.pools request tag (map named_heap (item ∷ drop (i + 1) places)))
-    (trying c.loop-place.self.context.pools request tag (map named_heap (drop (i + 1) places))) (Some c.in-Some.answer) old new) (g.H.Hall.state second).count (g.H.Hall.state first).count (g.H.Hall.state second) (g.H.Hall.state third) c.loop-place.self.me me (λ moment. moment) (λ moment. moment) c.loop-place.self
-    c.try_heap.new.self was.same.me ((g.met.H.Hall.goes_on_later _ _ was.goes_on).count)
-    (subst (λ (given : Option Answer). Tries item.index (g.H.Hall.state second).count (did_in c.loop-place.self.me (g.H.Hall.state second) (g.H.Hall.state third))
+    (trying c.loop-place.self.context.pools request tag (map named_heap (drop (i + 1) places))) (Some c.in-Some.answer) old new) second.count first.count second third c.loop-place.self.me me (λ moment. moment) (λ moment. moment) c.loop-place.self
+    c.try_heap.new.self was.idle.same.me ((g.met.H.Hall.goes_on_later _ _ was.goes_on).count)
+    (subst (λ (given : Option Answer). Tries item.index second.count (did_in c.loop-place.self.me second third)
     (trying c.loop-place.self.context.pools request tag (map named_heap (item ∷ drop (i + 1) places)))
     (trying c.loop-place.self.context.pools request tag (map named_heap (drop (i + 1) places))) given
-    (moment c.loop-place.self.me c.loop-place.self (g.H.Hall.state second)) (moment c.loop-place.self.me c.try_heap.new.self (g.H.Hall.state third)))
+    (moment c.loop-place.self.me c.loop-place.self second) (moment c.loop-place.self.me c.try_heap.new.self third))
     c.in-Some.is (c.in_ok-answer.ensures.does (map named_heap (drop (i + 1) places))))) in
-    subst (λ (doing : Doing). Brings item.index (g.H.Hall.state first).count (did_in me (g.H.Hall.state first) (g.H.Hall.state third)) doing c.in-Some.answer before
-    (moment me c.try_heap.new.self (g.H.Hall.state third))) (served_within pools request tag places i c.loop-place-test.true)
-    (brings_then (g.H.Hall.state first).count (did_in me (g.H.Hall.state first) (g.H.Hall.state second)) (did_in me (g.H.Hall.state second) (g.H.Hall.state third)) (did_in me (g.H.Hall.state first) (g.H.Hall.state third)) doing left
-    before (moment me c.loop-place.self (g.H.Hall.state second)) (moment me c.try_heap.new.self (g.H.Hall.state third)) (did_then) otherwise
+    subst (λ (doing : Doing). Brings item.index first.count (did_in me first third) doing c.in-Some.answer before
+    (moment me c.try_heap.new.self third)) (served_within pools request tag places i c.loop-place-test.true)
+    (brings_then first.count (did_in me first second) (did_in me second third) (did_in me first third) doing left
+    before (moment me c.loop-place.self second) (moment me c.try_heap.new.self third) (λ one two. did_then) otherwise
     c.in-Some.answer item.index here tried)
 
 pub returns-in-Some-clause-few : goal.returns-in-Some-clause-few
@@ -203,25 +187,25 @@ returns-in-Some-clause-few g c = socket_few c.args.self.now.context.pools (get_o
 
 pub returns-in-Some-clause-ready : goal.returns-in-Some-clause-ready
 returns-in-Some-clause-ready g c =
-    subst (λ (who : ℕ). MayDo (moment who c.try_heap.new.self (g.H.Hall.state c.try_heap.new.hall))) c.loop-place.invariant.same.me
+    subst (λ (who : ℕ). MayDo (moment who c.try_heap.new.self (g.H.Hall.state c.try_heap.new.hall))) c.loop-place.invariant.idle.same.me
     c.in_ok-answer.ensures.ready
 
 pub returns-clause-does : goal.returns-clause-does
 returns-clause-does g c =
     let me = c.args.self.now.me in
-    let first = c.args.hall.now in
-    let hall = c.loop-place.hall in
+    let first = g.H.Hall.state c.args.hall.now in
+    let hall = g.H.Hall.state c.loop-place.hall in
     let pools = c.args.self.now.context.pools in
     let places = c.args.places.now in
-    brings_none c.loop-place.last (g.H.Hall.state first).count (did_in me (g.H.Hall.state first) (g.H.Hall.state hall))
-    (serving pools c.args.request.now c.args.tag (map named_heap places)) gives.None (moment me c.args.self.now (g.H.Hall.state first))
-    (moment me c.loop-place.self (g.H.Hall.state hall)) none_differs
-    (subst (λ (doing : Doing). Does (g.H.Hall.state first).count (did_in me (g.H.Hall.state first) (g.H.Hall.state hall)) doing (Doing.Ended gives.None)
-    (moment me c.args.self.now (g.H.Hall.state first)) (moment me c.loop-place.self (g.H.Hall.state hall)))
+    brings_none c.loop-place.last first.count (did_in me first hall)
+    (serving pools c.args.request.now c.args.tag (map named_heap places)) gives.None (moment me c.args.self.now first)
+    (moment me c.loop-place.self hall) none_differs
+    (subst (λ (doing : Doing). Does first.count (did_in me first hall) doing (Doing.Ended gives.None)
+    (moment me c.args.self.now first) (moment me c.loop-place.self hall))
     (served_some pools c.args.request.now c.args.tag places c.if-is_empty.ensures)
-    (subst (λ (rest : List SocketHeap). Does (g.H.Hall.state first).count (did_in me (g.H.Hall.state first) (g.H.Hall.state hall))
+    (subst (λ (rest : List SocketHeap). Does first.count (did_in me first hall)
     (trying pools c.args.request.now c.args.tag (map named_heap places)) (trying pools c.args.request.now c.args.tag (map named_heap rest))
-    (moment me c.args.self.now (g.H.Hall.state first)) (moment me c.loop-place.self (g.H.Hall.state hall)))
+    (moment me c.args.self.now first) (moment me c.loop-place.self hall))
     (drop_all c.loop-place.place-index places c.loop-place-test.false) c.loop-place.invariant.passed))
 
 pub returns-in_err-answer-clause-goes_on : goal.returns-in_err-answer-clause-goes_on
@@ -233,18 +217,25 @@ returns-in-Some-clause-goes_on g c = g.met.H.Hall.goes_on_then _ _ _ c.loop-plac
 pub returns-then-is_empty-clause-does : goal.returns-then-is_empty-clause-does
 returns-then-is_empty-clause-does g c =
     let me = c.args.self.now.me in
-    let first = c.args.hall.now in
+    let first = g.H.Hall.state c.args.hall.now in
     let pools = c.args.self.now.context.pools in
-    let moment = moment me c.args.self.now (g.H.Hall.state first) in
-    brings_none 0 (g.H.Hall.state first).count (did_in me (g.H.Hall.state first) (g.H.Hall.state first))
-    (serving pools c.args.request.now c.args.tag (map named_heap c.args.places.now)) gives.NoHeap moment moment no_heap_differs
-    (subst (λ (doing : Doing). Does (g.H.Hall.state first).count (did_in me (g.H.Hall.state first) (g.H.Hall.state first)) doing (Doing.Ended gives.NoHeap) moment moment)
+    let at = moment me c.args.self.now first in
+    brings_none 0 first.count (did_in me first first)
+    (serving pools c.args.request.now c.args.tag (map named_heap c.args.places.now)) gives.NoHeap at at no_heap_differs
+    (subst (λ (doing : Doing). Does first.count (did_in me first first) doing (Doing.Ended gives.NoHeap) at at)
     (served_none pools c.args.request.now c.args.tag c.args.places.now c.if-is_empty.ensures)
-    (does_same (g.H.Hall.state first).count (did_in me (g.H.Hall.state first) (g.H.Hall.state first)) (Doing.Ended gives.NoHeap) moment (did_same me (g.H.Hall.state first))))
+    (does_same first.count (did_in me first first) (Doing.Ended gives.NoHeap) at (did_same me first)))
 
-pub returns-clause-ready : goal.returns-clause-ready
-returns-clause-ready g c =
-    subst (λ (who : ℕ). MayDo (moment who c.loop-place.self (g.H.Hall.state c.loop-place.hall))) c.loop-place.invariant.same.me c.loop-place.invariant.ready
+-- IT HOLDS NO SLOT AGAIN
+
+pub returns-then-is_empty-clause-idle : goal.returns-then-is_empty-clause-idle
+returns-then-is_empty-clause-idle g c = again_same c.args.self.now c.requires.ready.idle
+
+pub returns-in_err-answer-clause-idle : goal.returns-in_err-answer-clause-idle
+returns-in_err-answer-clause-idle g c = again_then c.args.self.now c.loop-place.self c.try_heap.new.self c.loop-place.invariant.idle c.try_heap.ensures.idle
+
+pub returns-in-Some-clause-idle : goal.returns-in-Some-clause-idle
+returns-in-Some-clause-idle g c = again_then c.args.self.now c.loop-place.self c.try_heap.new.self c.loop-place.invariant.idle c.try_heap.ensures.idle
 
 -- BY HOW MUCH IT CARRIES THE CLOCK
 
@@ -258,7 +249,7 @@ returns-in_err-answer-clause-clock g c =
     rises_within g.H.Hall.pending (λ hall. IsBusy (g.H.Hall.state hall)) (index + 1) (length c.args.places.now) (longest_growth party.deadline) old new
     (omega (arith, c.loop-place-test.true))
     (rises_more g.H.Hall.pending (λ hall. IsBusy (g.H.Hall.state hall)) index (longest_growth party.deadline) (longest_growth c.loop-place.self.deadline) old
-    (g.H.Hall.state c.loop-place.hall).clock new (ap longest_growth was.same.deadline) was.clock c.try_heap.ensures.clock)
+    (g.H.Hall.state c.loop-place.hall).clock new (ap longest_growth was.idle.same.deadline) was.clock c.try_heap.ensures.clock)
 
 pub returns-in-Some-clause-clock : goal.returns-in-Some-clause-clock
 returns-in-Some-clause-clock g c =
@@ -270,7 +261,7 @@ returns-in-Some-clause-clock g c =
     rises_within g.H.Hall.pending (λ hall. IsBusy (g.H.Hall.state hall)) (index + 1) (length c.args.places.now) (longest_growth party.deadline) old new
     (omega (arith, c.loop-place-test.true))
     (rises_more g.H.Hall.pending (λ hall. IsBusy (g.H.Hall.state hall)) index (longest_growth party.deadline) (longest_growth c.loop-place.self.deadline) old
-    (g.H.Hall.state c.loop-place.hall).clock new (ap longest_growth was.same.deadline) was.clock c.try_heap.ensures.clock)
+    (g.H.Hall.state c.loop-place.hall).clock new (ap longest_growth was.idle.same.deadline) was.clock c.try_heap.ensures.clock)
 
 pub returns-clause-clock : goal.returns-clause-clock
 returns-clause-clock g c =

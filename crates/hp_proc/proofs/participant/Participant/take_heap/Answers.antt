@@ -94,12 +94,12 @@ returns-in-Ok g c =
           tied = tied_later me c.taking.self is.others.later (subst (λ (who : ℕ). new.own who ≡ mid.own who) mine took.own) was.stays.tied;
         };
         in_hand = taken_in_hand heap (mid.part me) (new.part me) shown.here shown.apart new.taken party c.taking.self (mid.seen me) (new.seen me)
-              (mid.heard me) (new.heard me) was.stays.same ready out shown.few shown.has shown.stands shown.sound;
+            (mid.heard me) (new.heard me) was.stays.same ready out shown.few shown.has shown.stands shown.sound;
         settled = subst (λ (who : ℕ). HasSettledAsks who (new.part me) (new.heard me)) (sym was.stays.same.me)
-              (settled_more me (old.part me) (new.part me) (old.heard me) (new.heard me) heard.0 heard.1
-              (λ index.
-          took_armed heap (mid.part me) (new.part me) shown.here shown.apart index
-          ∙ ap (λ (part : HeapPart). part.armed) (was.stays.waits.parts.part index)) c.requires.ready.ready.settled);
+            (settled_more me (old.part me) (new.part me) (old.heard me) (new.heard me) heard.0 heard.1
+            (λ index.
+            took_armed heap (mid.part me) (new.part me) shown.here shown.apart index
+            ∙ ap (λ (part : HeapPart). part.armed) (was.stays.waits.parts.part index)) c.requires.ready.ready.settled);
       };
       index = shown.index;
       same = was.stays.same;

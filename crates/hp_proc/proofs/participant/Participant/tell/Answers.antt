@@ -1,5 +1,5 @@
 -- The answer is the line's, or the coordinator is told first.
-use Rattle.std.proofs.Common.{◌≡◌, ◌∙◌, ℕ, ◌+◌, [], ◌∷◌, ◌++◌, List, refl, ap, sym, append-nil, subst}
+use Rattle.std.proofs.Common.{◌≡◌, ◌∙◌, ℕ, ◌+◌, [], ◌∷◌, ◌++◌, List, refl, ap, sym, append-nil, subst, arith}
 use Rattle.hp_base.specs.declared.row.Run.{Run}
 use Rattle.hp_hall.specs.Holding.{HeapPart}
 use Rattle.hp_hall.specs.Mail.{MailStep}
@@ -15,6 +15,10 @@ use Rattle.hp_proc.specs.declared.element_act.Left.{Left}
 use Rattle.hp_proc.specs.Progress.{Does, moment_of}
 use Rattle.hp_proc.proofs.HandGiven.{ready_still}
 use Rattle.hp_proc.proofs.Joining.{context_still, does_same}
+use Rattle.hp_hall.proofs.HallStates.{did_same}
+use Rattle.hp_proc.specs.InHall.{did_in, moment}
+use Rattle.hp_proc.proofs.Holds.{again_by, again_same}
+use Rattle.hp_proc.proofs.InHalls.{idle_can}
 use Rattle.hp_proc.proofs.participant.Participant.tell.Goals as goal
 
 module _ (count : ℕ) (party after : Party) (heap : ℕ) (run : Run) (parts later : ℕ → HeapPart) (log now more : List LogRecord)
@@ -43,40 +47,46 @@ module _ (count : ℕ) (party after : Party) (heap : ℕ) (run : Run) (parts lat
     asks = asks_is;
   }
 
-pub returns-in-Answered-clause-does : goal.returns-in-Answered-clause-does
-returns-in-Answered-clause-does g c =
+pub returns-in-Answered : goal.returns-in-Answered
+returns-in-Answered g c =
     let party = c.args.self.now in
     let me = party.me in
-    let hall = c.args.hall.now in
-    let moment = moment_of party ((g.H.Hall.state hall).part me) ((g.H.Hall.state hall).seen me) ((g.H.Hall.state hall).heard me) in
-    subst (λ (left : Left). Does (g.H.Hall.state hall).count (did_in me (g.H.Hall.state hall) (g.H.Hall.state hall)) (left_of c.args.heap left)
-    (Doing.Ended c.in-Answered.answer) moment moment) (sym c.in-Answered.is)
-    (does_same (g.H.Hall.state hall).count (did_in me (g.H.Hall.state hall) (g.H.Hall.state hall)) (Doing.Ended c.in-Answered.answer) moment (did_same me (g.H.Hall.state hall)))
+    let hall = g.H.Hall.state c.args.hall.now in
+    let at = moment me party hall in
+    record {
+      does = subst (λ (left : Left). Does hall.count (did_in me hall hall) (left_of c.args.heap left) (Doing.Ended c.in-Answered.answer) at at)
+          (sym c.in-Answered.is) (does_same hall.count (did_in me hall hall) (Doing.Ended c.in-Answered.answer) at (did_same me hall));
+      ready = c.requires.ready.ready;
+      clock = λ one. omega arith;
+      idle = again_same party c.requires.ready.idle;
+      goes_on = g.met.H.Hall.goes_on_same _;
+    }
 
-pub returns-in_ok-notify-in-GaveUp-clause-does : goal.returns-in_ok-notify-in-GaveUp-clause-does
-returns-in_ok-notify-in-GaveUp-clause-does g c =
+pub notify-requires : goal.notify-requires
+notify-requires g c = record { can = idle_can c.requires.ready.idle }
+
+pub returns-in_err-notify-in-GaveUp-clause-idle : goal.returns-in_err-notify-in-GaveUp-clause-idle
+returns-in_err-notify-in-GaveUp-clause-idle g c = again_by c.args.self.now c.notify.new.self c.notify.ensures.stays c.requires.ready.idle
+
+pub returns-in_ok-notify-in-GaveUp : goal.returns-in_ok-notify-in-GaveUp
+returns-in_ok-notify-in-GaveUp g c =
     let party = c.args.self.now in
     let me = party.me in
-    let old = c.args.hall.now in
-    let new = c.notify.new.hall in
+    let old = g.H.Hall.state c.args.hall.now in
+    let new = g.H.Hall.state c.notify.new.hall in
     let after = c.notify.new.self in
     let told = c.in_ok-notify-in-GaveUp.ensures in
-    let run = c.in-GaveUp.run' in
-    let more = (g.met.H.Hall.goes_on_later _ _ c.notify.ensures.goes_on).seen me in
-    let others = (g.met.H.Hall.goes_on_later _ _ c.notify.ensures.goes_on).heard me in
-    subst (λ (left : Left). Does (g.H.Hall.state old).count (did_in me (g.H.Hall.state old) (g.H.Hall.state new)) (left_of c.args.heap left) (Doing.Ended answer.Done)
-    (moment_of party ((g.H.Hall.state old).part me) ((g.H.Hall.state old).seen me) ((g.H.Hall.state old).heard me))
-    (moment_of after ((g.H.Hall.state new).part me) ((g.H.Hall.state new).seen me) ((g.H.Hall.state new).heard me))) (sym c.in-GaveUp.is)
-    (does_tell (g.H.Hall.state old).count party after c.args.heap run ((g.H.Hall.state old).part me) ((g.H.Hall.state new).part me) ((g.H.Hall.state old).seen me)
-    ((g.H.Hall.state new).seen me) more.0 ((g.H.Hall.state old).heard me) ((g.H.Hall.state new).heard me) others.0 c.notify.ensures.part c.notify.ensures.same more.1
-    others.1 (did_in me (g.H.Hall.state old) (g.H.Hall.state new)) told.did.0 told.did.1 told.did.2 told.asked)
-
-pub returns-in_ok-notify-in-GaveUp-clause-ready : goal.returns-in_ok-notify-in-GaveUp-clause-ready
-returns-in_ok-notify-in-GaveUp-clause-ready g c =
-    let party = c.args.self.now in
-    let me = party.me in
-    let old = c.args.hall.now in
-    let new = c.notify.new.hall in
-    let others = (g.met.H.Hall.goes_on_later _ _ c.notify.ensures.goes_on).heard me in
-    ready_still party c.notify.new.self ((g.H.Hall.state old).part me) ((g.H.Hall.state new).part me) ((g.H.Hall.state old).seen me) ((g.H.Hall.state new).seen me)
-    ((g.H.Hall.state old).heard me) ((g.H.Hall.state new).heard me) others.0 c.notify.ensures.same c.notify.ensures.part others.1 c.requires.ready
+    let stays = c.notify.ensures.stays in
+    let more = stays.waits.later.seen me in
+    let others = stays.waits.later.heard me in
+    record {
+      does = subst (λ (left : Left). Does old.count (did_in me old new) (left_of c.args.heap left) (Doing.Ended answer.Done) (moment me party old)
+          (moment me after new)) (sym c.in-GaveUp.is)
+          (does_tell old.count party after c.args.heap c.in-GaveUp.run' (old.part me) (new.part me) (old.seen me) (new.seen me) more.0 (old.heard me)
+          (new.heard me) others.0 stays.waits.parts.part stays.same more.1 others.1 (did_in me old new) told.did.0 told.did.1 told.did.2 told.asked);
+      ready = ready_still party after (old.part me) (new.part me) (old.seen me) (new.seen me) (old.heard me) (new.heard me) others.0 stays.same
+          stays.waits.parts.part others.1 c.requires.ready.ready;
+      clock = c.notify.ensures.clock;
+      idle = again_by party after stays c.requires.ready.idle;
+      goes_on = c.notify.ensures.goes_on;
+    }
