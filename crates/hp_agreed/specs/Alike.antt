@@ -6,7 +6,8 @@ use Rattle.hp_base.specs.declared.row.Row.{Row}
 use Rattle.hp_heap.specs.History.{HeapView}
 use Rattle.hp_heap.specs.PlainHeap.{HeapPage}
 use Rattle.hp_plain.specs.HallView.{HallView, IsHall, IsHeapAtHome, segs_in, slot_at}
-use Rattle.hp_hall.specs.Holding.{is_page_of, owned_by}
+use Rattle.hp_hall.specs.Holding.{is_page_of}
+use Rattle.hp_segs.specs.Standing.{owned_by}
 use Rattle.hp_maps.specs.declared.table.Table.{Table}
 use Rattle.hp_script.specs.declared.answer.Answer.{Answer}
 use Rattle.hp_script.specs.declared.workload.Workload.{Workload}

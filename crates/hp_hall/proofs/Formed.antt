@@ -8,7 +8,7 @@ use Rattle.hp_segs.specs.Sound.{IsSound}
 use Rattle.hp_segs.specs.declared.ask.Ask.{Ask}
 use Rattle.hp_segs.proofs.Appending.{moves_append}
 use Rattle.hp_hall.specs.Giving.{Knows, GivesForm, logs, enrols, owns}
-use Rattle.hp_hall.specs.Holding.{IsArmed, standing_of}
+use Rattle.hp_segs.specs.Standing.{IsArmed, standing_of}
 use Rattle.hp_hall.proofs.Beside.{roster_logged, roster_owned}
 use Rattle.hp_hall.proofs.StandingMoves.{log_calls_leave, owner_calls_leave, roster_calls_leave}
 

@@ -21,7 +21,8 @@ use Rattle.hp_hall.specs.declared.kept.Kept.{Kept}
 use Rattle.hp_hall.specs.declared.kept.Kept.TheVariants.{Heap, Segments}
 use Rattle.hp_hall.specs.declared.slot.TheConstants.{SLOTS}
 use Rattle.hp_hall.specs.Giving.{Knows, GivesFor, GivesHeap, GivesSegments, IsGiveOf, entries_made, enrols, owns}
-use Rattle.hp_hall.specs.Holding.{HasPages, HeapPart, Holding, IsHeldWith, IsTakenAs, StandsFor}
+use Rattle.hp_hall.specs.Holding.{HasPages, HeapPart, IsHeldWith, IsTakenAs, StandsFor}
+use Rattle.hp_segs.specs.Standing.{Holding}
 
 -- the segment value as it was taken
 pub segs_same : (knows : Knows) (segs : SegsView) → GivesSegments knows segs segs

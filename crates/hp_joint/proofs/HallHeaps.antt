@@ -8,7 +8,7 @@ use Rattle.hp_plain.specs.Course.{IsLater, IsLaterHeap}
 use Rattle.hp_plain.specs.CourseLaws.{IsSoundAndArmed}
 use Rattle.hp_plain.specs.HallSteps.{heap_slot, slots_of}
 use Rattle.hp_plain.specs.HallView.{HallView, IsHeapAtHome, SlotView, slot_at}
-use Rattle.hp_hall.specs.Holding.{IsArmed}
+use Rattle.hp_segs.specs.Standing.{IsArmed}
 use Rattle.hp_hall.specs.declared.kept.Kept.{Kept}
 use Rattle.hp_hall.specs.declared.kept.Kept.TheVariants.{Heap, Segments}
 use Rattle.hp_plain.proofs.Slotted.{value_at}

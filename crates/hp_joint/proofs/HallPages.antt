@@ -7,7 +7,8 @@ use Rattle.std.proofs.lemmas.Bool.{and_from, and_parts, eqb-true}
 use Rattle.std.proofs.lemmas.Option.{same_Some}
 use Rattle.hp_plain.specs.HallSteps.{slots_of}
 use Rattle.hp_plain.specs.HallView.{HallView, IsHall}
-use Rattle.hp_hall.specs.Holding.{HasPages, is_page_of, owned_by}
+use Rattle.hp_hall.specs.Holding.{HasPages, is_page_of}
+use Rattle.hp_segs.specs.Standing.{owned_by}
 use Rattle.hp_hall.proofs.StandingAsks.{contains_kept, found_once}
 use Rattle.hp_hall.proofs.StandingLists.{any_contained, contains_passes, contains_unkept, found_in}
 use Rattle.hp_hall.proofs.StandingPages.{numbers_of}

@@ -10,7 +10,8 @@ use Rattle.hp_heap.specs.declared.entry.Entry.{Entry}
 use Rattle.hp_heap.specs.History.{entries_of}
 use Rattle.hp_plain.specs.Course.{IsCourse, IsLater, IsLaterKept}
 use Rattle.hp_plain.specs.HallView.{HallView, IsHome, SlotView, asks_in, heard_in, history_in, is_held_by, is_held_heap, log_in, part_in, seen_in, segs_in, segs_of, serves_in, serves_of, slot_at}
-use Rattle.hp_hall.specs.Holding.{HeapPart, standing_of}
+use Rattle.hp_hall.specs.Holding.{HeapPart}
+use Rattle.hp_segs.specs.Standing.{standing_of}
 use Rattle.hp_plain.specs.Opening.{AreHome}
 use Rattle.hp_hall.specs.Values.{asks_of, log_of}
 use Rattle.hp_plain.specs.Keeping.{values_in}

@@ -6,7 +6,7 @@ use Rattle.std.proofs.lemmas.Bool.{cond-false, cond-true, eq-eqb}
 use Rattle.std.proofs.lemmas.Option.{same_Some}
 use Rattle.hp_base.specs.declared.limits.TheConstants.{MAX_HEAPS}
 use Rattle.hp_frame.specs.declared.frame.Frame.{Frame}
-use Rattle.hp_hall.specs.Holding.{IsArmed}
+use Rattle.hp_segs.specs.Standing.{IsArmed}
 use Rattle.hp_plain.specs.InTurn.{homes_after}
 use Rattle.hp_plain.specs.Keeping.{IsGivenBy, ShowsValues, values_after}
 use Rattle.hp_hall.specs.Mail.{MailStep, Posts, Fetches, Takes, Gives, Notes, steps_of}

@@ -15,7 +15,8 @@ use Rattle.hp_hall.specs.declared.kept.Kept.TheVariants.{Heap, Segments}
 use Rattle.hp_hall.specs.Giving.{GivesFor}
 use Rattle.hp_plain.specs.HallSteps.{heap_slot, home_slot}
 use Rattle.hp_plain.specs.HallView.{HallView, IsHall, SlotView, history_in, is_held_by, is_held_heap, is_joined, joined_in, part_in, part_of, segs_in, segs_of, serves_in, serves_of, slot_at}
-use Rattle.hp_hall.specs.Holding.{Holding, IsGivenAs, IsHeldWith, part_behind, standing_of}
+use Rattle.hp_hall.specs.Holding.{IsGivenAs, IsHeldWith, part_behind}
+use Rattle.hp_segs.specs.Standing.{Holding, standing_of}
 use Rattle.hp_hall.specs.Mail.{MailStep}
 use Rattle.hp_hall.specs.Values.{Fits, history_of, joined_behind}
 use Rattle.hp_hall.proofs.Formed.{asks_given, members_given, standing_given}

@@ -13,7 +13,8 @@ use Rattle.hp_hall.specs.declared.kept.Kept.TheVariants.{Heap, Segments}
 use Rattle.hp_hall.specs.Giving.{GivesFor}
 use Rattle.hp_plain.specs.HallSteps.{heap_slot, home_slot, out_slot}
 use Rattle.hp_plain.specs.HallView.{HallView, IsHall, IsHeapAtHome, SlotView, is_held_by, part_in, part_of, segs_in, segs_of, slot_at}
-use Rattle.hp_hall.specs.Holding.{HasPages, Holding, IsArmed, IsHeldWith, owned_by, standing_of}
+use Rattle.hp_hall.specs.Holding.{HasPages, IsHeldWith}
+use Rattle.hp_segs.specs.Standing.{Holding, IsArmed, owned_by, standing_of}
 use Rattle.hp_hall.specs.Values.{Fits, IsSoundKept}
 use Rattle.hp_plain.proofs.Given.{known}
 use Rattle.hp_hall.proofs.Formed.{armed_given, standing_given}

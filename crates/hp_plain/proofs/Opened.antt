@@ -12,7 +12,8 @@ use Rattle.hp_hall.specs.declared.kept.Kept.TheVariants.{Heap, Segments}
 use Rattle.hp_hall.specs.declared.slot.TheConstants.{SLOTS}
 use Rattle.hp_plain.specs.HallSteps.{heap_slot, home_slot, opening_hall, slots_of}
 use Rattle.hp_plain.specs.HallView.{HallView, IsHall, IsHome, SlotView, history_in, is_held_by, is_held_heap, log_in, part_in, segs_in}
-use Rattle.hp_hall.specs.Holding.{HasPages, owned_by, standing_of}
+use Rattle.hp_hall.specs.Holding.{HasPages}
+use Rattle.hp_segs.specs.Standing.{owned_by, standing_of}
 use Rattle.hp_plain.specs.Moved.{AreSlotsOf, IsFirstHeap, IsLastSegs}
 use Rattle.hp_plain.specs.Opening.{AreHome, AreInOrder, AreUnused, HavePages}
 use Rattle.hp_hall.specs.Values.{Fits, history_of}

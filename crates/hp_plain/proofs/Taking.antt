@@ -12,7 +12,8 @@ use Rattle.hp_hall.specs.declared.kept.Kept.{Kept}
 use Rattle.hp_hall.specs.declared.kept.Kept.TheVariants.{Heap, Segments}
 use Rattle.hp_plain.specs.HallSteps.{home_slot, out_slot}
 use Rattle.hp_plain.specs.HallView.{HallView, IsHall, SlotView, history_in, is_joined, joined_in, part_in, part_of, segs_in, serves_in, slot_at}
-use Rattle.hp_hall.specs.Holding.{HasPages, HeapPart, Holding, IsArmed, IsHeldWith, IsTakenAs, StandsFor, owned_by, standing_of}
+use Rattle.hp_hall.specs.Holding.{HasPages, HeapPart, IsHeldWith, IsTakenAs, StandsFor}
+use Rattle.hp_segs.specs.Standing.{Holding, IsArmed, owned_by, standing_of}
 use Rattle.hp_hall.specs.Mail.{MailStep}
 use Rattle.hp_hall.specs.Values.{Fits}
 use Rattle.hp_plain.proofs.Slotted.{MovesSlot, read_alike}

@@ -4,7 +4,8 @@ use Rattle.hp_base.specs.declared.limits.TheConstants.{MAX_HEAPS}
 use Rattle.hp_heap.specs.History.{HeapView}
 use Rattle.hp_segs.specs.SegsView.{SegsView}
 use Rattle.hp_hall.specs.declared.slot.TheConstants.{SLOTS}
-use Rattle.hp_hall.specs.Holding.{HasPages, owned_by}
+use Rattle.hp_hall.specs.Holding.{HasPages}
+use Rattle.hp_segs.specs.Standing.{owned_by}
 use Rattle.hp_plain.specs.HallView.{HallView, slot_at, IsHome}
 
 -- the heaps of a hall: one for each slot of a heap, in the order of their indexes

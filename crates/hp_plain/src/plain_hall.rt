@@ -1,7 +1,7 @@
 //! A hall of plain values, in one thread.
 ghost use Rattle.std.specs.Prelude.{◌≡◌, ◌≤◌, ℕ, [], IfOk, None};
 ghost use Rattle.hp_base.specs.declared.limits.TheConstants.{MAX_PARTICIPANTS};
-ghost use Rattle.hp_hall.specs.Holding.{IsArmed};
+ghost use Rattle.hp_segs.specs.Standing.{IsArmed};
 ghost use Rattle.hp_plain.specs.HallView.{IsHall, part_in};
 ghost use Rattle.hp_plain.specs.HallSteps.{opening_hall, slots_of};
 ghost use Rattle.hp_plain.specs.Opening.{AreHome, AreInOrder, AreUnused, HavePages};
@@ -50,7 +50,7 @@ pub struct HallParts {
 }
 
 impl Model for PlainHall {
-    ghost use Rattle.hp_hall.specs.Holding.{IsArmed};
+    ghost use Rattle.hp_segs.specs.Standing.{IsArmed};
     ghost use Rattle.hp_plain.specs.HallView.{HallView};
 
     ghost Value = { HallView };

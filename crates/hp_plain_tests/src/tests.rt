@@ -2,7 +2,7 @@
 ghost use Rattle.std.specs.Prelude.{◌≡◌, ◌<◌, ℕ, [], IfOk, Some, length, slice_get};
 ghost use Rattle.hp_heap.specs.History.{HeapView};
 ghost use Rattle.hp_plain.specs.HallView.{own_at, part_in, seen_in};
-ghost use Rattle.hp_hall.specs.Holding.{IsArmed, owned_by};
+ghost use Rattle.hp_segs.specs.Standing.{IsArmed, owned_by};
 ghost use Rattle.hp_plain.specs.Opening.{AreHome, AreInOrder, AreUnused};
 
 mod cases;

@@ -1,6 +1,6 @@
 //! A participant gives up a run of a heap that it holds, under the segment slot.
 ghost use Rattle.std.specs.Prelude.{◌≡◌, ◌≢◌, ℕ, [], ◌∷◌, Some};
-ghost use Rattle.hp_hall.specs.Holding.{Holding};
+ghost use Rattle.hp_segs.specs.Standing.{Holding};
 ghost use Rattle.hp_heap.specs.PlainHeap.{PlainHeap};
 ghost use Rattle.hp_segs.specs.SegsView.{SegsView};
 ghost use Rattle.hp_segs.specs.Steps.{after_retire};

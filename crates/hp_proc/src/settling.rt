@@ -3,7 +3,7 @@ ghost use Rattle.std.specs.Prelude.{◌≡◌, ℕ, ◌<◌, List, [], ◌∷◌
 ghost use Rattle.hp_base.specs.declared.limits.TheConstants.{MAX_HEAPS, MAX_PARTICIPANTS};
 ghost use Rattle.hp_hall.specs.Mail.{MailStep};
 ghost use Rattle.hp_hall.specs.declared.kept.Kept.{Kept};
-ghost use Rattle.hp_hall.specs.Holding.{standing_of};
+ghost use Rattle.hp_segs.specs.Standing.{standing_of};
 ghost use Rattle.hp_segs.specs.Calls.{IsUnclaimedGrant};
 ghost use Rattle.hp_segs.specs.SegsView.{SegsView};
 ghost use Rattle.hp_segs.specs.Steps.{after_claim, claimed_run};

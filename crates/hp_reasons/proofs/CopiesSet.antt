@@ -6,7 +6,7 @@ use Rattle.hp_core.specs.Asks.{asker}
 use Rattle.hp_core.specs.declared.asked.Asked.{Asked}
 use Rattle.hp_frame.specs.declared.frame.Frame.{Frame}
 use Rattle.hp_frame.specs.declared.message.Body.{Body}
-use Rattle.hp_hall.specs.Holding.{IsArmed}
+use Rattle.hp_segs.specs.Standing.{IsArmed}
 use Rattle.hp_plain.specs.Boxes.{box_of}
 use Rattle.hp_segs.specs.SegsView.{SegsView}
 use Rattle.hp_segs.specs.Sound.{IsSound}

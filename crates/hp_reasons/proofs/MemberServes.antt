@@ -11,7 +11,7 @@ use Rattle.hp_core.specs.Following.{after_catching, failure_of, reply_of}
 use Rattle.hp_core.specs.declared.asked.Asked.{Asked}
 use Rattle.hp_frame.specs.declared.frame.Frame.{Frame}
 use Rattle.hp_frame.specs.declared.message.Body.{Body}
-use Rattle.hp_hall.specs.Holding.{IsArmed}
+use Rattle.hp_segs.specs.Standing.{IsArmed}
 use Rattle.hp_plain.specs.Boxes.{box_after, box_of, copies, posted_as}
 use Rattle.hp_mail.specs.declared.posted.Posted.{Posted}
 use Rattle.hp_maps.specs.MapsView.{calls_of}

@@ -13,7 +13,7 @@ use Rattle.hp_core.specs.declared.out.Out.TheVariants as out
 use Rattle.hp_frame.specs.declared.frame.Frame.{Frame}
 use Rattle.hp_frame.specs.declared.message.Body.{Body}
 use Rattle.hp_frame.specs.declared.message.Body.TheVariants.{Sync}
-use Rattle.hp_hall.specs.Holding.{IsArmed}
+use Rattle.hp_segs.specs.Standing.{IsArmed}
 use Rattle.hp_hall.specs.Mail.{MailStep}
 use Rattle.hp_plain.specs.Boxes.{box_of}
 use Rattle.hp_maps.specs.MapsView.{MapsView}

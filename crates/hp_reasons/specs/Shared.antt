@@ -5,7 +5,7 @@ use Rattle.hp_base.specs.declared.limits.TheConstants.{MAX_HEAPS}
 use Rattle.hp_base.specs.declared.plan.Action.{Action}
 use Rattle.hp_frame.specs.declared.frame.Frame.{Frame}
 use Rattle.hp_plain.specs.HallView.{HallView, segs_in, slot_at}
-use Rattle.hp_hall.specs.Holding.{IsArmed}
+use Rattle.hp_segs.specs.Standing.{IsArmed}
 use Rattle.hp_hall.specs.Mail.{Fetches, Gives, MailStep, Notes, Posts, Takes}
 use Rattle.hp_plain.specs.Boxes.{box_of, posted_as, box_after}
 use Rattle.hp_hall.specs.declared.kept.Kept.TheVariants.{Heap, Segments}

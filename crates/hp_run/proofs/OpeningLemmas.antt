@@ -16,7 +16,7 @@ use Rattle.hp_script.specs.declared.workload.Workload.{Workload}
 use Rattle.hp_hall.proofs.Gives.{bare_pages}
 use Rattle.hp_plain.specs.HallSteps.{opening_hall}
 use Rattle.hp_plain.specs.HallView.{HallView}
-use Rattle.hp_hall.specs.Holding.{owned_by}
+use Rattle.hp_segs.specs.Standing.{owned_by}
 use Rattle.hp_plain.specs.Opening.{HavePages}
 use Rattle.hp_hall.specs.Own.{after_ack}
 use Rattle.hp_segs.specs.SegsView.{SegsView}

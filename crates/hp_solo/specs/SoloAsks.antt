@@ -3,7 +3,8 @@
 use Rattle.std.specs.Prelude.{◌≡◌, ℕ, length, Some, None, IsSome, []}
 use Rattle.hp_base.specs.declared.row.Run.{Run}
 use Rattle.hp_plain.specs.HallView.{HallView, IsHome, heard_in, own_at, part_in, slot_at}
-use Rattle.hp_hall.specs.Holding.{HasPages, HeapPart, Holding}
+use Rattle.hp_hall.specs.Holding.{HasPages, HeapPart}
+use Rattle.hp_segs.specs.Standing.{Holding}
 use Rattle.hp_plain.specs.Opening.{AreHome}
 use Rattle.hp_heap.specs.PlainHeap.{PlainHeap}
 use Rattle.hp_segs.specs.LaterSteps.{armed_ask}

@@ -22,7 +22,8 @@ use Rattle.hp_segs.specs.declared.ask.Ask.{Ask}
 use Rattle.hp_segs.specs.declared.outcome.AskLog.{AskLog}
 use Rattle.hp_plain.specs.HallSteps.{opening_hall, slots_of}
 use Rattle.hp_plain.specs.HallView.{HallView, heard_in, own_at, part_in, serves_in}
-use Rattle.hp_hall.specs.Holding.{HasPages, HeapPart, Holding, IsAsPart, IsHeldWith, IsPartTaken, IsTakenAs, StandsFor}
+use Rattle.hp_hall.specs.Holding.{HasPages, HeapPart, IsAsPart, IsHeldWith, IsPartTaken, IsTakenAs, StandsFor}
+use Rattle.hp_segs.specs.Standing.{Holding}
 use Rattle.hp_plain.specs.Opening.{AreHome}
 use Rattle.hp_hall.specs.Own.{after_ack}
 use Rattle.hp_hall.specs.Values.{Fits, IsHeap, IsSoundKept}

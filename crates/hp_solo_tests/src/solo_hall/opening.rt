@@ -2,7 +2,7 @@
 ghost use Rattle.std.specs.Prelude.{◌≡◌, ◌<◌, ℕ, [], IfOk, OnOk, length};
 ghost use Rattle.hp_base.specs.declared.limits.TheConstants.{MAX_HEAPS};
 ghost use Rattle.hp_plain.specs.HallView.{IsHome, own_at, slot_at};
-ghost use Rattle.hp_hall.specs.Holding.{IsArmed, owned_by};
+ghost use Rattle.hp_segs.specs.Standing.{IsArmed, owned_by};
 ghost use Rattle.hp_proc.specs.Tied.{nothing_yet};
 ghost use Rattle.hp_solo.specs.SoloAsks.{IsOpening, MayBeginToAsk};
 

@@ -7,7 +7,8 @@ use Rattle.hp_hall.proofs.StandingGrowths.{claimed_can_grow}
 use Rattle.hp_hall.proofs.StandingMoves.{log_calls_leave}
 use Rattle.hp_hall.specs.Giving.{GivesSegments}
 use Rattle.hp_hall.specs.HallState.{Did, known_to}
-use Rattle.hp_hall.specs.Holding.{part_behind, standing_of}
+use Rattle.hp_hall.specs.Holding.{part_behind}
+use Rattle.hp_segs.specs.Standing.{standing_of}
 use Rattle.hp_hall.specs.declared.kept.Kept.TheVariants.{Segments}
 use Rattle.hp_hall.proofs.HallStates.{did_then}
 use Rattle.hp_segs.specs.Calls.{IsUnclaimedGrant}
