@@ -1,10 +1,9 @@
 ghost use Rattle.std.specs.Prelude.{◌≡◌, [], ◌∷◌, ◌++◌};
 ghost use Rattle.hp_hall.specs.Mail.{Fetches, Gives, Notes, Posts, Takes};
 
-use hp_hall::Kept;
-use hp_hall::Note;
 use hp_base::Action;
 use hp_frame::Frame;
+use hp_hall::{Kept, Note};
 use hp_mail::Posted;
 use std::marker::Model;
 use std::snapshot::Snapshot;

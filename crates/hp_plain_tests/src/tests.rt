@@ -13,8 +13,8 @@ mod steps;
 mod values;
 
 use hp_base::{MAX_HEAPS, PoolLine, Request};
-use hp_plain::PlainHall;
 use hp_heap::Heap;
+use hp_plain::PlainHall;
 use hp_segs::{Ask, Segs};
 use std::alloc::{AllocError, Global};
 use std::test::Fail;

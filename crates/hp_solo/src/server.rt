@@ -28,8 +28,8 @@ ghost use Rattle.hp_solo.specs.Solo.{
 };
 
 use hp_base::Mapper;
-use hp_plain::PlainHall;
 use hp_maps::Table;
+use hp_plain::PlainHall;
 use hp_proc::Participant;
 use std::alloc::{AllocError, Global};
 use std::marker::Model;

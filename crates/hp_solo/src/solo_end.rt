@@ -1,5 +1,5 @@
-use hp_plain::PlainHall;
 use hp_maps::Table;
+use hp_plain::PlainHall;
 
 /// What a hall in which participants take turns in one thread leaves at its end. Own.
 #[derive(Drop)]

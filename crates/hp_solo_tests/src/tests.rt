@@ -21,9 +21,9 @@ pub(crate) mod shown;
 mod stage;
 
 use hp_base::{MAX_HEAPS, MAX_SEGMENTS, MemMapper, MsgKind, Plan, PlanEntry, PoolLine, Request};
-use hp_plain::PlainHall;
 use hp_heap::Heap;
 use hp_maps::{LocalMaps, Planned};
+use hp_plain::PlainHall;
 use hp_proc::{LineContext, Participant};
 use hp_segs::{Ask, Segs};
 use pages::retire_page;

@@ -34,12 +34,7 @@ fn maps_a_page_and_drops_it(rt: HostRuntime) -> Result<(), Fail> {
 // A participant whose SYNC was lost finds the growth and its end at once: its table is at 2 and empty.
 #[test]
 fn maps_nothing_of_a_failed_growth(rt: HostRuntime) -> Result<(), Fail> {
-    let steps = [
-        Follow(2, Done),
-        See(Calls(0)),
-        See(Empty),
-        See(Number(2)),
-    ];
+    let steps = [Follow(2, Done), See(Calls(0)), See(Empty), See(Number(2))];
     play(
         rt.alloc(),
         Log::OneAtATime,

@@ -1,10 +1,7 @@
 use super::PlainHall;
-use hp_hall::Busy;
-use hp_hall::Hall;
-use hp_hall::Kept;
-use hp_hall::Slot;
 use hp_base::Action;
 use hp_frame::Frame;
+use hp_hall::{Busy, Hall, Kept, Slot};
 use hp_mail::Posted;
 
 impl Hall for PlainHall {

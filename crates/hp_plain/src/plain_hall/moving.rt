@@ -3,9 +3,9 @@ ghost use Rattle.hp_base.specs.declared.limits.TheConstants.{MAX_HEAPS};
 ghost use Rattle.hp_plain.specs.HallSteps.{heap_slot, home_slot, slots_of};
 ghost use Rattle.hp_plain.specs.Moved.{AreSlotsOf, IsFirstHeap, IsLastSegs};
 
-use hp_hall::Kept;
 use crate::slot_state::SlotState;
 use hp_base::MAX_HEAPS;
+use hp_hall::Kept;
 use hp_heap::Heap;
 use hp_segs::Segs;
 use std::alloc::{AllocError, Global};

@@ -4,9 +4,9 @@ ghost use Rattle.hp_plain.specs.HallView.{own_at, seen_in};
 ghost use Rattle.hp_hall.specs.Own.{after_ack, after_partial};
 
 use super::PlainHall;
-use hp_hall::Note;
 use crate::own_part::OwnPart;
 use hp_base::MAX_HEAPS;
+use hp_hall::Note;
 use std::alloc::{AllocError, Global};
 
 // An own part for each participant, which has acknowledged nothing.

@@ -5,9 +5,8 @@ ghost use Rattle.hp_hall.specs.Slots.{IsSlot, slot_number};
 ghost use Rattle.hp_hall.specs.Values.{Fits};
 
 use super::PlainHall;
-use hp_hall::Kept;
-use hp_hall::Slot;
 use crate::slot_state::SlotState;
+use hp_hall::{Kept, Slot};
 
 impl PlainHall {
     // A participant takes the value of a slot, and it is noted.

@@ -1,8 +1,8 @@
 //! What a hall hands out at its end.
 
 use hp_base::MAX_HEAPS;
-use hp_plain::HallParts;
 use hp_heap::Heap;
+use hp_plain::HallParts;
 
 // Whether these participants called a heap, one after another.
 fn is_called_by(heap: &Heap, callers: &[u8]) -> bool {

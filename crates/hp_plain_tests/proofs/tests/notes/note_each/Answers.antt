@@ -26,13 +26,25 @@ pub returns : goal.returns
 returns c =
     let mid = c.number_of-other.new.hall in
     let last = c.note_yield.new.self in
-    let declared : 1 < length mid.owns = omega (arith, c.number_of-other.ensures.count, c.number_of-own.ensures.count,
-    c.ack.ensures.own.others.later.count, c.requires.two) in
+    let declared : 1 < length mid.owns = omega (
+      arith,
+      c.number_of-other.ensures.count,
+      c.number_of-own.ensures.count,
+      c.ack.ensures.own.others.later.count,
+      c.requires.two,
+    ) in
     let yields = yielded mid last (makes_note mid last 1 (Yielded true (Some false)) c.note_yield.ensures.hall declared
     (record { shows = tt; clock = refl; numbers = refl })) in
     record {
-      count = omega (arith, c.read.ensures.count, ap (λ (h : HallView). length h.owns) c.note_yield.ensures.hall, c.number_of-other.ensures.count,
-          c.number_of-own.ensures.count, c.ack.ensures.own.others.later.count, c.requires.two);
+      count = omega (
+        arith,
+        c.read.ensures.count,
+        ap (λ (h : HallView). length h.owns) c.note_yield.ensures.hall,
+        c.number_of-other.ensures.count,
+        c.number_of-own.ensures.count,
+        c.ack.ensures.own.others.later.count,
+        c.requires.two,
+      );
       home = c.read.ensures.home;
       did = did_then c.ack.ensures.own.did (did_then c.number_of-own.ensures.did (did_then c.number_of-other.ensures.did
           (did_then yields.0 c.read.ensures.did)));
