@@ -1,3 +1,4 @@
 mod SoloOpened
 mod RetiredPage
 mod StageLemmas
+mod Callers

@@ -1,7 +1,6 @@
 use Rattle.std.proofs.Common.{ℕ, sym, subst, arith}
-use Rattle.hp_base.specs.declared.limits.TheConstants.{MAX_HEAPS}
 use Rattle.hp_solo.specs.Solo.{IsAway, server_at}
-use Rattle.hp_solo.proofs.SoloWaits.{waits_on}
+use Rattle.hp_solo_tests.proofs.Callers.{waits_stay}
 use Rattle.hp_solo_tests.proofs.solo_hall.steps.ask.Goals as goal
 
 pub post-requires-clause-serves : goal.post-requires-clause-serves
@@ -13,8 +12,6 @@ post-requires-clause-declared c =
     omega (arith, declared)
 
 pub returns : goal.returns
-returns c =
-    record {
-      may = waits_on c.args.hall.now c.post.new.self c.args.party.now c.post.ensures.goes_on (c.post.ensures.own c.args.party.now.me)
-          (c.post.ensures.home MAX_HEAPS c.requires.may.home) c.requires.may;
-    }
+returns c = record {
+  may = waits_stay c.args.hall.now c.post.new.self c.args.party.now c.number-me.ensures c.post.ensures.goes_on c.post.ensures.stays c.requires.may;
+}

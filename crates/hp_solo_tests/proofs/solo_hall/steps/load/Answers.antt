@@ -1,7 +1,6 @@
 use Rattle.std.proofs.Common.{ℕ, sym, subst, arith}
-use Rattle.hp_base.specs.declared.limits.TheConstants.{MAX_HEAPS}
 use Rattle.hp_solo.specs.Solo.{IsAway, server_at}
-use Rattle.hp_solo.proofs.SoloWaits.{waits_on}
+use Rattle.hp_solo_tests.proofs.Callers.{waits_stay}
 use Rattle.hp_solo_tests.proofs.solo_hall.steps.load.Goals as goal
 
 pub load_ack-requires-clause-serves : goal.load_ack-requires-clause-serves
@@ -14,8 +13,7 @@ load_ack-requires-clause-declared c =
     omega (arith, declared, who)
 
 pub returns : goal.returns
-returns c =
-    record {
-      may = waits_on c.args.hall.now c.load_ack.new.self c.args.party.now c.load_ack.ensures.goes_on (c.load_ack.ensures.own c.args.party.now.me)
-          (c.load_ack.ensures.home MAX_HEAPS c.requires.may.home) c.requires.may;
-    }
+returns c = record {
+  may = waits_stay c.args.hall.now c.load_ack.new.self c.args.party.now c.number.ensures c.load_ack.ensures.goes_on c.load_ack.ensures.stays
+      c.requires.may;
+}

@@ -1,7 +1,6 @@
 use Rattle.std.proofs.Common.{ℕ, sym, subst}
-use Rattle.hp_base.specs.declared.limits.TheConstants.{MAX_HEAPS}
 use Rattle.hp_solo.specs.Solo.{IsAway, server_at}
-use Rattle.hp_solo.proofs.SoloWaits.{waits_on}
+use Rattle.hp_solo_tests.proofs.Callers.{waits_stay}
 use Rattle.hp_solo_tests.proofs.solo_hall.steps.read.Goals as goal
 
 pub now-requires : goal.now-requires
@@ -11,5 +10,4 @@ now-requires c = record {
 
 pub returns-clause-may : goal.returns-clause-may
 returns-clause-may c =
-    waits_on c.args.hall.now c.now.new.self c.args.party.now c.now.ensures.goes_on (c.now.ensures.own c.args.party.now.me)
-    (c.now.ensures.home MAX_HEAPS c.requires.may.home) c.requires.may
+    waits_stay c.args.hall.now c.now.new.self c.args.party.now c.number.ensures c.now.ensures.goes_on c.now.ensures.stays c.requires.may

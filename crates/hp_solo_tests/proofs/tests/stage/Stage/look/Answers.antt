@@ -1,18 +1,39 @@
 -- What was taken comes back as it was.
-use Rattle.std.proofs.Common.{◌∙◌}
-use Rattle.hp_base.specs.declared.limits.TheConstants.{MAX_HEAPS}
-use Rattle.hp_plain.proofs.Homes.{home_again}
+use Rattle.std.proofs.Common.{arith}
 use Rattle.hp_plain.specs.Course.{course_then}
-use Rattle.hp_solo_tests.proofs.StageLemmas.{staged_to}
+use Rattle.hp_plain.specs.PlainState.{plain_state}
+use Rattle.hp_proc.proofs.SegmentSlots.{Took, put_stays, took_has}
+use Rattle.hp_solo_tests.proofs.Callers.{stage_holds, stage_owns}
+use Rattle.hp_solo_tests.proofs.StageLemmas.{staged_on}
 use Rattle.hp_solo_tests.proofs.tests.stage.Stage.look.Goals as goal
+
+pub put_back-requires : goal.put_back-requires
+put_back-requires c =
+    let old = c.self.inside.hall in
+    let staged = c.self.invariant in
+    let is : Took 0 c.take_segments-segs.result (plain_state old) (plain_state c.take_segments-segs.new.hall) = record {
+      may = stage_holds old 0 (omega (arith, staged.0)) staged.1;
+      took = c.take_segments-segs.ensures.took;
+      slots = c.take_segments-segs.ensures.slots;
+      others = c.take_segments-segs.ensures.others;
+      weight = c.take_segments-segs.ensures.weight;
+    } in
+    record { has = took_has is }
 
 pub invariant_of-self : goal.invariant_of-self
 invariant_of-self c =
     let old = c.self.inside.hall in
-    let is = c.self.invariant in
+    let staged = c.self.invariant in
     let taken = c.take_segments-segs in
     let given = c.put_back in
-    staged_to old given.new.hall c.self.inside.primary c.self.inside.secondary
-    (course_then old taken.new.hall given.new.hall taken.ensures.goes_on given.ensures.goes_on)
-    (home_again old taken.new.hall given.new.hall MAX_HEAPS is.1 taken.ensures.home_of_others given.ensures.home_of_others given.ensures.home)
-    (λ who. given.ensures.own who ∙ taken.ensures.own who) is
+    let is : Took 0 taken.result (plain_state old) (plain_state taken.new.hall) = record {
+      may = stage_holds old 0 (omega (arith, staged.0)) staged.1;
+      took = taken.ensures.took;
+      slots = taken.ensures.slots;
+      others = taken.ensures.others;
+      weight = taken.ensures.weight;
+    } in
+    let stays = put_stays is given.ensures.back in
+    staged_on old given.new.hall c.self.inside.primary c.self.inside.secondary
+    (course_then old taken.new.hall given.new.hall taken.ensures.goes_on given.ensures.goes_on) stays.slots.home
+    (stage_owns old given.new.hall stays) staged

@@ -1,0 +1,111 @@
+-- What one that does a line by hand may do in a hall of one thread, and what its calls leave.
+use Rattle.std.proofs.Common.{◌≡◌, ◌∙◌, ◌<◌, ℕ, length, sym, subst, arith}
+use Rattle.std.proofs.lemmas.List.{append-nil}
+use Rattle.hp_base.specs.declared.limits.TheConstants.{MAX_HEAPS}
+use Rattle.hp_hall.specs.HallCalls.{Idles}
+use Rattle.hp_hall.specs.HallState.{SlotsStay, Stays}
+use Rattle.hp_hall.specs.Mail.{steps_of}
+use Rattle.hp_hall.specs.declared.note.Note.{Note}
+use Rattle.hp_plain.specs.Course.{IsCourse}
+use Rattle.hp_plain.specs.HallView.{HallView, IsHome, joined_in, own_at, part_in, slot_at}
+use Rattle.hp_plain.specs.Opening.{AreHome}
+use Rattle.hp_plain.specs.PlainState.{plain_state}
+use Rattle.hp_proc.proofs.MemberLemmas.{at_each}
+use Rattle.hp_proc.specs.InHall.{CanServe, IsTiedIn, StaysAlone}
+use Rattle.hp_proc.specs.Party.{IsSameParty, Party}
+use Rattle.hp_proc.specs.SegmentSlot.{MayHold}
+use Rattle.hp_solo.specs.Solo.{IsPartyServed, IsTiedAt, MayWait, SoloView}
+use Rattle.hp_solo.specs.SoloCourse.{IsSoloCourse}
+use Rattle.hp_solo.specs.SoloState.{solo_state}
+use Rattle.hp_solo.proofs.SoloTies.{free_home}
+use Rattle.hp_solo.proofs.SoloWaits.{waits_after, waits_on}
+use Rattle.hp_solo_tests.proofs.StageLemmas.{is_declared, tied_own}
+
+-- who may wait may serve
+pub can_wait : (hall : SoloView) (party : Party) → MayWait hall party → CanServe party.me party (solo_state hall)
+can_wait hall party may = record {
+  may = record {
+    serves = may.away;
+    declared = may.declared;
+    free = free_home (slot_at hall.plain MAX_HEAPS) may.home;
+    home = may.home;
+  };
+  tied = may.tied;
+}
+
+pub can_hold : (hall : SoloView) (party : Party) → MayWait hall party → MayHold party.me (solo_state hall)
+can_hold hall party may = record {
+  serves = may.away;
+  free = free_home (slot_at hall.plain MAX_HEAPS) may.home;
+  home = may.home;
+}
+
+-- it may wait behind a call that leaves it all
+pub waits_stay : (old new : SoloView) (party : Party) {who : ℕ} → who ≡ party.me → IsSoloCourse old new
+    → Stays who (solo_state old) (solo_state new) → MayWait old party → MayWait new party
+waits_stay old new party {who} number course stays may =
+    waits_on old new party course (subst (λ (n : ℕ). own_at new.plain n ≡ own_at old.plain n) number stays.mine.own)
+    (stays.slots.home MAX_HEAPS may.home) may
+
+pub waits_idle : (old new : SoloView) (party : Party) {who : ℕ} {note : Note} → who ≡ party.me → IsSoloCourse old new
+    → Idles who note (solo_state old) (solo_state new) → MayWait old party → MayWait new party
+waits_idle old new party {who} number course idles may =
+    waits_on old new party course (subst (λ (n : ℕ). own_at new.plain n ≡ own_at old.plain n) number idles.mine.own)
+    (idles.slots.home MAX_HEAPS may.home) may
+
+-- and behind what it did itself
+pub waits_stayed : (old new : SoloView) (party after : Party) → IsSoloCourse old new → IsSameParty party after
+    → SlotsStay (solo_state old) (solo_state new) → IsTiedIn party.me after (solo_state new) → MayWait old party → MayWait new after
+waits_stayed old new party after course same slots tied may =
+    waits_after old new party after same.me course (slots.home MAX_HEAPS may.home) tied may
+
+-- ON A STAGE
+
+pub stage_holds : (hall : HallView) (who : ℕ) → who < length hall.owns → AreHome hall → MayHold who (plain_state hall)
+stage_holds hall who declared home = record {
+  serves = declared;
+  free = free_home (slot_at hall MAX_HEAPS) (home MAX_HEAPS (omega arith));
+  home = home MAX_HEAPS (omega arith);
+}
+
+-- one of the two may serve
+pub stage_can : (hall : HallView) (who : ℕ) (party : Party) → length hall.owns ≡ 2 → who < 2 → AreHome hall → IsTiedAt hall who party
+    → CanServe party.me party (plain_state hall)
+stage_can hall who party two below home at =
+    let declared = is_declared hall who party two below at in
+    record {
+      may = record {
+        serves = declared;
+        declared = declared;
+        free = free_home (slot_at hall MAX_HEAPS) (home MAX_HEAPS (omega arith));
+        home = home MAX_HEAPS (omega arith);
+      };
+      tied = tied_own hall who party at;
+    }
+
+-- it has served
+pub stage_served : (old new : HallView) (party after : Party) → IsCourse old new
+    → StaysAlone party.me party after (plain_state old) (plain_state new) → IsPartyServed old new party after
+stage_served old new party after course alone =
+    let me = party.me in
+    let stays = alone.stays in
+    let others = alone.others in
+    record {
+      serving = record {
+        course = course;
+        taken = stays.waits.slots.taken;
+        home = stays.waits.slots.home;
+        part = λ who heap.
+            at_each (λ n. part_in new n heap ≡ part_in old n heap) me (stays.waits.parts.part heap) (λ n apart. others.part n heap apart) who;
+        joined = at_each (λ n. joined_in new n ≡ joined_in old n) me stays.waits.parts.joined (λ n apart. others.joined n apart);
+        own = others.own;
+        did = λ who apart. others.done who apart ∙ sym (append-nil (steps_of who old.mail));
+        clock = others.clock;
+      };
+      same = stays.same;
+      tied = stays.tied;
+    }
+
+-- every own part stays
+pub stage_owns : (old new : HallView) {who : ℕ} → Stays who (plain_state old) (plain_state new) → (other : ℕ) → own_at new other ≡ own_at old other
+stage_owns old new {who} stays = at_each (λ n. own_at new n ≡ own_at old n) who stays.mine.own stays.others.own
