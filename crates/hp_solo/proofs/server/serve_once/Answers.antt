@@ -11,13 +11,15 @@ use Rattle.hp_solo.proofs.server.serve_once.Goals as goal
 
 pub serve-requires : goal.serve-requires
 serve-requires g c = record {
-  may = record {
-    serves = c.requires.me;
-    declared = c.requires.me;
-    free = free_home (slot_at c.args.hall.now MAX_HEAPS) c.requires.there;
-    home = c.requires.there;
+  can = record {
+    may = record {
+      serves = c.requires.me;
+      declared = c.requires.me;
+      free = free_home (slot_at c.args.hall.now MAX_HEAPS) c.requires.there;
+      home = c.requires.there;
+    };
+    tied = c.requires.tied;
   };
-  tied = c.requires.tied;
 }
 
 pub returns-clause-served : goal.returns-clause-served
