@@ -6,7 +6,7 @@ use Rattle.hp_base.specs.declared.pool_line.PoolLine.{PoolLine}
 use Rattle.hp_base.specs.declared.request.Request.{Request}
 use Rattle.hp_base.specs.declared.row.Run.{Run}
 use Rattle.hp_base.specs.declared.tag.Tag.{Tag}
-use Rattle.hp_heap.specs.Choice as choice
+use Rattle.hp_base.specs.Flags as flags
 use Rattle.hp_heap.specs.declared.entry.HeapCall.TheVariants as call
 use Rattle.hp_heap.specs.declared.entry.HeapAnswer.TheVariants as gives
 use Rattle.hp_log.specs.declared.log_record.LogRecord.TheVariants.{Add, Drop}
@@ -37,32 +37,32 @@ abbrev pools : List PoolLine
 pools = pool 0 (2 ^ 30) ∷ pool 0 (2 ^ 18) ∷ pool 1 (2 ^ 21) ∷ pool 0 (2 ^ 21) ∷ []
 
 all_sizes : page_sizes_for pools 0 0 ≡ 2 ^ 18 ∷ 2 ^ 21 ∷ 2 ^ 30 ∷ []
-unfolding choice.is_hint
+unfolding flags.is_hint
 all_sizes = refl
 
 -- 2M is named; so it is as a hint alone; 16M is named, which the socket has no list of
 named_size : page_sizes_for pools 0 1 ≡ 2 ^ 21 ∷ []
-unfolding choice.is_hint
+unfolding flags.is_hint
 named_size = refl
 
 hinted_size : page_sizes_for pools 0 5 ≡ 2 ^ 21 ∷ 2 ^ 18 ∷ 2 ^ 30 ∷ []
-unfolding choice.is_hint
+unfolding flags.is_hint
 hinted_size = refl
 
 size_without_list : page_sizes_for pools 0 257 ≡ 2 ^ 21 ∷ 2 ^ 24 ∷ []
-unfolding choice.is_hint
+unfolding flags.is_hint
 size_without_list = refl
 
 hint_taken : without_hint 5 ≡ 1
-unfolding choice.is_hint
+unfolding flags.is_hint
 hint_taken = refl
 
 hint_given : with_hint 1 ≡ 5
-unfolding choice.is_hint
+unfolding flags.is_hint
 hint_given = refl
 
 hint_kept : with_hint 5 ≡ 5
-unfolding choice.is_hint
+unfolding flags.is_hint
 hint_kept = refl
 
 abbrev heap_of : ℕ → Option ℕ → NamedHeap
@@ -113,7 +113,7 @@ grown accepted =
 a_grown_line : (accepted : IsAccepted 1024 64 0)
     → Leads (serving (pool 0 (2 ^ 21) ∷ []) (request accepted) tag (heap_of 0 (Some 0) ∷ [])) (grown accepted)
     (Doing.Ended (answer.Address 4297063424))
-unfolding Goes Leads choice.is_hint
+unfolding Goes Leads flags.is_hint
 a_grown_line accepted =
     (gives.Nothing, refl, (Some run, refl, (gives.Done, refl, (gives.Address 4297063424, refl, refl))))
 
@@ -121,7 +121,7 @@ a_grown_line accepted =
 a_refused_line : (accepted : IsAccepted 1024 64 0)
     → Leads (serving (pool 0 (2 ^ 21) ∷ []) (request accepted) tag (heap_of 0 (Some 0) ∷ []))
     (Called 0 (call.Alloc (request accepted) tag) gives.Nothing ∷ Asked (asked accepted) None ∷ []) (Doing.Ended answer.None)
-unfolding Goes Leads choice.is_hint
+unfolding Goes Leads flags.is_hint
 a_refused_line accepted = (gives.Nothing, refl, (None, refl, refl))
 
 -- no heap is there for the request
@@ -136,20 +136,20 @@ a_freed_line : Leads (looking tag freeing (place 0 (Some 0) ∷ place 1 (Some 1)
     (Called 0 (call.Find tag) gives.Nothing ∷ Called 1 (call.Find tag) (gives.Address 100)
     ∷ Called 1 (call.Free 100 false) gives.Done ∷ Called 1 (call.Cut 100) (gives.Pages run) ∷ GaveUp 1 run ∷ [])
     (Doing.Ended answer.Done)
-unfolding Goes Leads choice.is_hint
+unfolding Goes Leads flags.is_hint
 a_freed_line =
     (gives.Nothing, refl, (gives.Address 100, refl, (gives.Done, refl, (gives.Pages run, refl, (refl, refl)))))
 
 -- external memory is not cut
 freed_outside : Leads (looking tag freeing (place 2 None ∷ []))
     (Called 2 (call.Find tag) (gives.Address 100) ∷ Called 2 (call.Free 100 false) gives.Done ∷ []) (Doing.Ended answer.Done)
-unfolding Goes Leads choice.is_hint
+unfolding Goes Leads flags.is_hint
 freed_outside = (gives.Address 100, refl, (gives.Done, refl, refl))
 
 -- an element that no heap has
 nothing_found : Leads (looking tag freeing (place 0 (Some 0) ∷ [])) (Called 0 (call.Find tag) gives.Nothing ∷ [])
     (Doing.Ended answer.NoElement)
-unfolding Goes Leads choice.is_hint
+unfolding Goes Leads flags.is_hint
 nothing_found = (gives.Nothing, refl, refl)
 
 abbrev call_on : ℕ → OwnCall
