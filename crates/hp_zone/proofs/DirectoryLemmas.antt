@@ -16,10 +16,12 @@ use Rattle.hp_zone.specs.declared.limits.TheConstants.{FIRST_EXTERNAL_SOCKET}
 use Rattle.hp_zone.specs.declared.heap_name.HeapName.{HeapName}
 use Rattle.hp_zone.specs.declared.name_change.NameChange.{NameChange}
 use Rattle.hp_zone.specs.declared.name_change.NameChange.TheVariants.{Named, Unnamed, Range, RangeGone}
-use Rattle.hp_zone.specs.Directory.{DirectoryView, HasPlace, HasRange, IsFoundAt, IsLowestUnnamed, IsNamed, IsNotFound, MayRemove, PlainDirectory, after_change, directory_after, is_range, opening, socket_given, with_change, with_more}
+use Rattle.hp_zone.specs.Directory.{DirectoryView, HasPlace, HasRange, HasSocketHeaps, IsFoundAt, IsLowestUnnamed, IsNamed, IsNotFound}
+use Rattle.hp_zone.specs.Directory.{MayRemove, PlainDirectory, after_change, is_range, socket_given, with_change, with_more}
 use Rattle.hp_zone.specs.Heaps.{IsKept, is_heap, is_named, is_unnamed}
 use Rattle.hp_zone.proofs.NameLemmas.{AreApart-named, AreApart-unnamed}
-use Rattle.hp_zone.proofs.ReplayLemmas.{directory_after-append}
+use Rattle.hp_zone.proofs.ReplayLemmas.{replayed_push}
+use Rattle.hp_zone.proofs.SocketLemmas.{fronts_push, sockets_named, sockets_unnamed}
 
 -- where no place is found, nothing passes
 position_none : {X : Type 0} (p : X → Bool) (xs : List X) → None ≡ position p xs → (k : ℕ) (d : X) → k < length xs → p (get_or xs k d) ≡ false
@@ -148,11 +150,6 @@ range_push a (suc n) =
     ap (λ k. a ∷ (range_with_len (a + 1) n ++ k ∷ [])) e ∙ ap (λ rest. a ∷ rest) (range_push (a + 1) n)
 
 module _ (view : DirectoryView) (ranges_room log_room : ℕ) (kept : IsKept view ranges_room log_room) where
-  -- the log with one change more leaves the directory after that change
-  replayed : (change : NameChange) → after_change view.plain change ≡ directory_after (opening view.sockets) (view.log ++ change ∷ [])
-  replayed change =
-      ap (λ plain. after_change plain change) kept.sound.replayed ∙ sym (directory_after-append (opening view.sockets) view.log (change ∷ []))
-
   -- a change that names no heap gives no socket number
   given_none : (change : NameChange) → socket_given change ≡ None → filter_map socket_given (view.log ++ change ∷ []) ≡ filter_map socket_given view.log
   given_none change none = filter_map-append socket_given view.log (change ∷ []) ∙ rw none (append-nil (filter_map socket_given view.log))
@@ -165,12 +162,15 @@ module _ (view : DirectoryView) (ranges_room log_room : ℕ) (kept : IsKept view
       let long_ranges = length_push view.plain.ranges (record { index = index; addr = addr; len = len; page = page }) in
       record {
         sound = record {
-          replayed = replayed (Range index addr len page);
+          replayed = replayed_push view sound (Range index addr len page);
           given = given_none (Range index addr len page) refl ∙ sound.given;
           next = sound.next;
           last = sound.last;
           indexes = sound.indexes;
           apart = sound.apart;
+          opened = sound.opened;
+          socket_heaps = sound.socket_heaps;
+          fronts = fronts_push view sound (Range index addr len page) sound.socket_heaps;
         };
         room = record {
           one = omega (arith, room.one);
@@ -188,12 +188,15 @@ module _ (view : DirectoryView) (ranges_room log_room : ℕ) (kept : IsKept view
       let long_ranges = length-remove view.plain.ranges (position_or_len (is_range index addr) view.plain.ranges) there in
       record {
         sound = record {
-          replayed = replayed (RangeGone index addr);
+          replayed = replayed_push view sound (RangeGone index addr);
           given = given_none (RangeGone index addr) refl ∙ sound.given;
           next = sound.next;
           last = sound.last;
           indexes = sound.indexes;
           apart = sound.apart;
+          opened = sound.opened;
+          socket_heaps = sound.socket_heaps;
+          fronts = fronts_push view sound (RangeGone index addr) sound.socket_heaps;
         };
         room = record {
           one = room.one;
@@ -226,14 +229,19 @@ module _ (view : DirectoryView) (ranges_room log_room : ℕ) (kept : IsKept view
       let counts : count_by is_heap (set view.plain.heaps index None) + cond (is_heap (get_or view.plain.heaps index None)) 1 0 ≡ count_by is_heap view.plain.heaps + 0
       = sum_by-set (λ other. cond (is_heap other) 1 0) view.plain.heaps index None None (slice_get_within view.plain.heaps index (Some may.heap) may.named) in
       let fewer : count_by is_heap (set view.plain.heaps index None) + 1 ≡ count_by is_heap view.plain.heaps + 0 = rw here at counts in
+      let stay : HasSocketHeaps view.sockets (after_change view.plain (Unnamed index))
+      = sockets_unnamed view.sockets view.plain sound.socket_heaps index sound.opened may in
       record {
         sound = record {
-          replayed = replayed (Unnamed index);
+          replayed = replayed_push view sound (Unnamed index);
           given = given_none (Unnamed index) refl ∙ sound.given;
           next = sound.next;
           last = sound.last;
           indexes = length-set view.plain.heaps index None ∙ sound.indexes;
           apart = AreApart-unnamed view.plain.heaps index sound.apart;
+          opened = sound.opened;
+          socket_heaps = stay;
+          fronts = fronts_push view sound (Unnamed index) stay;
         };
         room = record {
           one = room.one;
@@ -255,9 +263,12 @@ module _ (view : DirectoryView) (ranges_room log_room : ℕ) (kept : IsKept view
       let more : count_by is_heap (set view.plain.heaps index (Some (record { name = name; socket = view.plain.next }))) + 0 ≡ count_by is_heap view.plain.heaps + 1 = rw here at counts in
       let next_is : FIRST_EXTERNAL_SOCKET + (view.plain.next - FIRST_EXTERNAL_SOCKET) ≡ view.plain.next = omega (arith, sound.next) in
       let count_is : suc (view.plain.next - FIRST_EXTERNAL_SOCKET) ≡ view.plain.next + 1 - FIRST_EXTERNAL_SOCKET = omega (arith, sound.next) in
+      let stay : HasSocketHeaps view.sockets (after_change view.plain (Named index view.plain.next name))
+      = sockets_named view.sockets view.plain sound.socket_heaps index view.plain.next name
+      (slice_get-get_or view.plain.heaps index None found.0 ∙ ap Some here) in
       record {
         sound = record {
-          replayed = replayed (Named index view.plain.next name);
+          replayed = replayed_push view sound (Named index view.plain.next name);
           given = filter_map-append socket_given view.log (Named index view.plain.next name ∷ [])
               ∙ (ap (λ before. before ++ view.plain.next ∷ []) sound.given
               ∙ (ap (λ next. range_with_len FIRST_EXTERNAL_SOCKET (view.plain.next - FIRST_EXTERNAL_SOCKET) ++ next ∷ []) (sym next_is)
@@ -266,6 +277,9 @@ module _ (view : DirectoryView) (ranges_room log_room : ℕ) (kept : IsKept view
           last = omega (arith, fits);
           indexes = length-set view.plain.heaps index (Some (record { name = name; socket = view.plain.next })) ∙ sound.indexes;
           apart = AreApart-named view.plain.heaps index (record { name = name; socket = view.plain.next }) fresh sound.apart;
+          opened = sound.opened;
+          socket_heaps = stay;
+          fronts = fronts_push view sound (Named index view.plain.next name) stay;
         };
         room = record {
           one = omega (arith, room.one);

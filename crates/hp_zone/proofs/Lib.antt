@@ -4,4 +4,5 @@ mod SortedLemmas
 mod ZoneLemmas
 mod KeptLemmas
 mod NameLemmas
+mod SocketLemmas
 mod DirectoryLemmas

@@ -1,7 +1,7 @@
 -- Logs are replayed in parts, and by their fronts.
-use Rattle.std.proofs.Common.{◌≡◌, ℕ, List, [], ◌∷◌, ◌++◌, length, ap, refl, arith}
+use Rattle.std.proofs.Common.{◌≡◌, ℕ, List, [], ◌∷◌, ◌++◌, length, sym, ap, ◌∙◌, refl, arith}
 use Rattle.std.proofs.lemmas.List.{take_all, take_at}
-use Rattle.hp_zone.specs.Directory.{PlainDirectory, after_change as directory_change, directory_after, opening}
+use Rattle.hp_zone.specs.Directory.{DirectoryView, IsDirectory, PlainDirectory, after_change as directory_change, directory_after, opening}
 use Rattle.hp_zone.specs.Laws.{DirectoryReplays, ZonesReplay}
 use Rattle.hp_zone.specs.Zones.{after_change, zones_after}
 use Rattle.hp_zone.specs.declared.name_change.NameChange.{NameChange}
@@ -17,6 +17,13 @@ zones_after-append zones (change ∷ log) more = zones_after-append (after_chang
 pub directory_after-append : (plain : PlainDirectory) (log more : List NameChange) → directory_after plain (log ++ more) ≡ directory_after (directory_after plain log) more
 directory_after-append plain [] more = refl
 directory_after-append plain (change ∷ log) more = directory_after-append (directory_change plain change) log more
+
+-- the log of a directory with one change more leaves the directory after that change
+pub replayed_push : (view : DirectoryView) → IsDirectory view → (change : NameChange)
+    → directory_change view.plain change ≡ directory_after (opening view.sockets) (view.log ++ change ∷ [])
+replayed_push view sound change =
+    ap (λ plain. directory_change plain change) sound.replayed
+    ∙ sym (directory_after-append (opening view.sockets) view.log (change ∷ []))
 
 pub zones_replay : (log more : List ZoneChange) → ZonesReplay log more
 zones_replay log more = record {

@@ -110,6 +110,11 @@ pub record IsFoundAt (plain : PlainDirectory) (text : List ℕ) (index socket : 
 abbrev pub IsNotFound : PlainDirectory → List ℕ → Type 0
 IsNotFound plain text = (index : ℕ) (heap : HeapName) → IsNamed plain index heap → heap.name ≢ text
 
+-- each socket has its heap: at the index of the socket, under its name and with its number
+abbrev pub HasSocketHeaps : List ℕ → PlainDirectory → Type 0
+HasSocketHeaps sockets plain = (index socket : ℕ) → slice_get sockets index ≡ Some socket
+    → slice_get plain.heaps index ≡ Some (socket_heap socket)
+
 -- a name is that of one heap at most: of two heaps with one name the index is the same
 abbrev pub AreApart : List (Option HeapName) → Type 0
 AreApart heaps = (i k : ℕ) (one other : HeapName) → slice_get heaps i ≡ Some (Some one) → slice_get heaps k ≡ Some (Some other)
@@ -187,3 +192,7 @@ pub record IsDirectory (view : DirectoryView) : Type 0 where
   pub last : view.plain.next ≤ 2 ^ 32
   pub indexes : length view.plain.heaps ≡ MAX_HEAPS
   pub apart : AreApart view.plain.heaps
+  pub opened : MayOpen view.sockets
+  -- each socket has its heap, now and in what any first changes of the log leave
+  pub socket_heaps : HasSocketHeaps view.sockets view.plain
+  pub fronts : (n : ℕ) → HasSocketHeaps view.sockets (directory_at view.sockets view.log n)

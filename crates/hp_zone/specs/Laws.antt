@@ -40,6 +40,7 @@ GivesShortName (RangeGone index addr) = ⊤
 abbrev pub HasShortNames : PlainDirectory → Type 0
 HasShortNames plain = (index : ℕ) (heap : HeapName) → IsNamed plain index heap → IsZoneName heap.name
 
--- where each name that was given has 1 to 31 bytes, each name of the directory has, also those of sockets
+-- where each name that was given has 1 to 31 bytes, each name of the directory has, also those of sockets. That a directory may have
+-- been opened with its sockets is a field of `IsDirectory`
 abbrev pub NamesStayShort : List ℕ → List NameChange → Type 0
 NamesStayShort sockets log = MayOpen sockets → All GivesShortName log → HasShortNames (directory_after (opening sockets) log)
