@@ -9,12 +9,14 @@ use Rattle.hp_zone.specs.declared.zone.Zone.{Zone}
 use Rattle.hp_zone.specs.declared.zone.ZoneChange.{ZoneChange}
 
 -- changes of memzones, and then more
-pub zones_after-append : (zones : List Zone) (log more : List ZoneChange) → zones_after zones (log ++ more) ≡ zones_after (zones_after zones log) more
+pub zones_after-append : (zones : List Zone) (log more : List ZoneChange)
+    → zones_after zones (log ++ more) ≡ zones_after (zones_after zones log) more
 zones_after-append zones [] more = refl
 zones_after-append zones (change ∷ log) more = zones_after-append (after_change zones change) log more
 
 -- changes of a directory, and then more
-pub directory_after-append : (plain : PlainDirectory) (log more : List NameChange) → directory_after plain (log ++ more) ≡ directory_after (directory_after plain log) more
+pub directory_after-append : (plain : PlainDirectory) (log more : List NameChange)
+    → directory_after plain (log ++ more) ≡ directory_after (directory_after plain log) more
 directory_after-append plain [] more = refl
 directory_after-append plain (change ∷ log) more = directory_after-append (directory_change plain change) log more
 

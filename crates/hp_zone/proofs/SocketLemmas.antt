@@ -46,7 +46,8 @@ module _ (sockets : List ℕ) where
 
   module _ (plain : PlainDirectory) (old : HasSocketHeaps sockets plain) where
     -- a name that may be removed is that of no socket's heap
-    pub sockets_unnamed : (index : ℕ) → MayOpen sockets → MayRemove plain index → HasSocketHeaps sockets (after_change plain (Unnamed index))
+    pub sockets_unnamed : (index : ℕ) → MayOpen sockets → MayRemove plain index
+        → HasSocketHeaps sockets (after_change plain (Unnamed index))
     sockets_unnamed index opened may i socket there =
         let low = All-get_or (λ s. s < FIRST_EXTERNAL_SOCKET) sockets i 0 (slice_get_within sockets i socket there) opened.low in
         let below : socket < FIRST_EXTERNAL_SOCKET = rw (get_or_from_slice_get sockets i socket 0 there) at low in

@@ -141,15 +141,18 @@ fn gives_the_lowest_index_and_a_new_socket(rt: HostRuntime) -> Result<(), Fail> 
     Ok(())
 }
 
-// The heap of index 2 gets a name and a range, and loses both; the next heap with its name gets a new socket number.
+// The heap of index 2 gets a name and a range, and loses both; the next heap with its name gets a new socket number, and the heaps of
+// sockets keep theirs.
 const NAMED_AGAIN: &[HeapStep] = &[
     Give("ext", 2, 256),
     Add(2, 0x70_0000_0000, 1),
     LoseRange(2, 0x70_0000_0000),
     LoseName(2),
     Missing("ext"),
+    Find("socket_3", 1, 3),
     Give("ext", 2, 257),
     At(2, "ext", 257),
+    At(0, "socket_0", 0),
 ];
 
 #[test]
