@@ -115,7 +115,7 @@ module _ (segs : SegsView) where
 
 round_answers : (acks : List ℕ) (segs : SegsView) → HasArmedGrowth segs → HoldsInRound (AnswersArmed segs) acks segs
 round_answers acks segs old =
-    record { cancelled = λ cause. cancel_answers segs cause segs.growth old; agreed = agree_answers segs acks segs.growth old }
+    record { cancelled = λ cause why. cancel_answers segs cause segs.growth old; agreed = agree_answers segs acks segs.growth old }
 
 -- the outcomes and the armed asks that a value has in common with another
 record IsBeside (old mid : SegsView) : Type 0 where
@@ -135,7 +135,7 @@ noted_beside segs (Some one) =
 
 alone_answers : (caught : Caught) (segs mid : SegsView) → IsBeside segs mid → HasArmedGrowth mid → HoldsAlone (AnswersArmed segs) caught mid
 alone_answers caught segs mid beside old = record {
-  cancelled = λ cause.
+  cancelled = λ cause why.
       answers_behind segs mid (after_cancel cause mid) beside.asks beside.armed (cancel_answers mid cause mid.growth old);
   agreed = λ generation none mapped.
       answers_behind segs mid (after_agree (replicate 16 generation) mid) beside.asks beside.armed

@@ -44,11 +44,11 @@ module _ (segs : SegsView) (old : HasArmedGrowth segs) where
   agree_armed acks (Some growth) = granted_armed growth (lowest_member_below segs.roster acks growth.generation)
 
   round_armed : (acks : List ℕ) → HoldsInRound HasArmedGrowth acks segs
-  round_armed acks = record { cancelled = λ cause. cancel_armed cause segs.growth; agreed = agree_armed acks segs.growth }
+  round_armed acks = record { cancelled = λ cause why. cancel_armed cause segs.growth; agreed = agree_armed acks segs.growth }
 
   alone_armed : (caught : Caught) → HoldsAlone HasArmedGrowth caught segs
   alone_armed caught = record {
-    cancelled = λ cause. cancel_armed cause segs.growth;
+    cancelled = λ cause why. cancel_armed cause segs.growth;
     agreed = λ generation none mapped. agree_armed (replicate 16 generation) segs.growth;
   }
 

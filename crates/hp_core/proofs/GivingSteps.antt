@@ -84,7 +84,7 @@ poll_gives : (now : ℕ) (acks : List ℕ) (segs : SegsView) → IsSound segs �
 poll_gives now acks segs sound =
     let acked = HasAcknowledged (Poll now acks) segs in
     record {
-      cancelled = λ cause. cancel_gives acked segs cause segs.growth;
+      cancelled = λ cause why. cancel_gives acked segs cause segs.growth;
       agreed = agree_gives acked segs acks
           (λ growth member is none within. all_acknowledged segs.roster acks growth.generation member sound.places.roster_places none within);
     }
@@ -96,7 +96,7 @@ alone_gives caught now segs mid sound notes =
     let acked = HasAcknowledged (SelfMapped caught now) segs in
     let kept = moves_keep is_log_call 0 segs mid sound notes.moved in
     record {
-      cancelled = λ cause.
+      cancelled = λ cause why.
           gives_behind acked segs mid (after_cancel cause mid) notes.armed notes.roster notes.asks (cancel_gives acked mid cause mid.growth);
       agreed = λ generation none mapped.
           gives_behind acked segs mid (after_agree (replicate 16 generation) mid) notes.armed notes.roster notes.asks

@@ -1,5 +1,5 @@
 -- Of what the judge is asked at a step, and what follows where it denies nothing.
-use Rattle.std.proofs.Common.{◌≡◌, ◌∙◌, ℕ, Bool, true, false, List, Option, Some, None, Result, Ok, Err, IfSome, refl, ap, subst}
+use Rattle.std.proofs.Common.{◌≡◌, ◌∙◌, ℕ, Bool, true, false, List, Option, Some, None, Result, Ok, Err, IfSome, refl, ap, subst, sym}
 use Rattle.std.specs.Prelude.{slice_index_or, if◌then◌else◌}
 use Rattle.std.proofs.lemmas.Bool.{cond_both}
 use Rattle.hp_base.specs.declared.row.Run.{Run}
@@ -11,9 +11,10 @@ use Rattle.hp_segs.specs.declared.plan_refusal.PlanRefusal.{PlanRefusal}
 use Rattle.hp_core.specs.Asks.{is_armed, is_closed}
 use Rattle.hp_core.specs.Core.{Core, IsStepped, Stepped, is_foreign, is_idle}
 use Rattle.hp_core.specs.Judging.{IsSteppedBy, MayAnswer, ask_judged, fresh_judged, grow_judged, held_ask_judged, held_judged}
-use Rattle.hp_core.specs.Judging.{plan_judged, poll_judged, start_judged}
+use Rattle.hp_core.specs.Judging.{judged_at, plan_judged, poll_judged, start_judged}
 use Rattle.hp_core.specs.Laws.{IsJudgedAt, IsStarted, JudgedOfPlans, PlansAreJudged}
-use Rattle.hp_core.specs.Outs.{IsTaken, IsTaken.comes, IsTaken.is_served}
+use Rattle.hp_core.specs.Outs.{IsAskOf, IsTaken, IsTaken.comes, IsTaken.is_served}
+use Rattle.hp_core.specs.Starting.{total_with}
 use Rattle.hp_core.specs.Stepping.{lowest_held, released}
 use Rattle.hp_core.specs.declared.asked.Asked.{Asked}
 use Rattle.hp_core.specs.declared.asked.Asked.TheVariants as want
@@ -86,12 +87,42 @@ judged_of_plans (Shrink from number) core segs = ask_judges (Shrink from number)
 judged_of_plans (SelfMapped caught now) core segs = tt
 judged_of_plans (Poll now acks) core segs = poll_judges core segs now acks core.phase refl
 
--- and it is asked of each such run of an ask that comes
+module _ (core : Core) (segs : SegsView) (ask : Ask) (run : Run) (idle : is_idle core.phase ≡ true)
+    (alone : is_foreign core.phase segs.growth ≡ false) (started : IsStarted ask segs) (plan : plan_of ask (after_drop segs) ≡ Ok run) where
+  abbrev its_total : Option (ℕ × ℕ)
+  its_total = Some (ask.socket, total_with ask run (after_drop segs))
+
+  ask_is_judged : ask_judged (want.Grow ask) core segs ≡ its_total
+  ask_is_judged =
+      let one = want.Grow ask in
+      ap (λ (foreign : Bool). if foreign then None else (if is_idle core.phase then start_judged one segs else None)) alone
+      ∙ (ap (λ (idle : Bool). if idle then start_judged one segs else None) idle
+      ∙ (ap (λ (closed : Bool). if closed then None else fresh_judged segs one) started.fresh
+      ∙ (ap (λ (armed : Bool). if armed then grow_judged ask (after_drop segs) else None) started.armed
+      ∙ ap (plan_judged ask (after_drop segs)) plan)))
+
+  poll_is_held : (phase : Phase) → is_idle phase ≡ true → poll_judged core segs phase ≡ held_judged core segs (lowest_held core.held)
+  poll_is_held Idle is = refl
+  poll_is_held (Mapping round) is = cc
+  poll_is_held (Waiting round since) is = cc
+
+  served_is_judged : (place : ℕ) → lowest_held core.held ≡ Some place → slice_index_or core.held place None ≡ Some (want.Grow ask)
+      → poll_judged core segs core.phase ≡ its_total
+  served_is_judged place lowest its_ask =
+      poll_is_held core.phase idle
+      ∙ (ap (held_judged core segs) lowest ∙ (ap (held_ask_judged (released core place) segs) its_ask ∙ ask_is_judged))
+
+  comes_judged : (event : CoreEvent) → IsAskOf event (want.Grow ask) → judged_at event core segs ≡ its_total
+  comes_judged (Grow other) is = sym (ap (λ one. ask_judged one core segs) is) ∙ ask_is_judged
+  comes_judged (Shrink from number) is = cc
+  comes_judged (SelfMapped caught now) is = absurd is
+  comes_judged (Poll now acks) is = absurd is
+
+  taken_judged : (event : CoreEvent) → IsTaken event core (want.Grow ask) → judged_at event core segs ≡ its_total
+  taken_judged event (comes is) = comes_judged event is
+  taken_judged event (is_served at) =
+      ap (λ event. judged_at event core segs) at.polled ∙ served_is_judged at.place at.lowest at.its_ask
+
+-- and it is asked of each such run of an ask that the step starts
 pub plans_are_judged : PlansAreJudged
-plans_are_judged ask core segs run idle alone started plan =
-    let one = want.Grow ask in
-    ap (λ (foreign : Bool). if foreign then None else (if is_idle core.phase then start_judged one segs else None)) alone
-    ∙ (ap (λ (idle : Bool). if idle then start_judged one segs else None) idle
-    ∙ (ap (λ (closed : Bool). if closed then None else fresh_judged segs one) started.fresh
-    ∙ (ap (λ (armed : Bool). if armed then grow_judged ask (after_drop segs) else None) started.armed
-    ∙ ap (plan_judged ask (after_drop segs)) plan)))
+plans_are_judged event core segs ask run taken idle alone started plan = taken_judged core segs ask run idle alone started plan event taken

@@ -12,3 +12,4 @@ pub mod JudgedLemmas
 pub mod StepWalk
 pub mod ArmedSteps
 pub mod AnsweredSteps
+pub mod DeniedSteps

@@ -42,14 +42,19 @@ pub record HoldsStarted (P : SegsView → Type 0) (segs : SegsView) : Type 0 whe
       → P (after_open ask run (after_drop segs))
   pub freed : (from number : ℕ) → P (after_freed from number (after_drop segs))
 
+-- a growth is cancelled for the failure that is noted, or for a late member
+pub data IsRoundCause (segs : SegsView) (why : Cause) : Type 0 where
+  was_noted : noted_failure segs ≡ Some why → IsRoundCause segs why
+  was_late : (participant from to : ℕ) → why ≡ cause.Late participant from to → IsRoundCause segs why
+
 -- it holds where a growth is cancelled, and where it is granted by those numbers
 pub record HoldsInRound (P : SegsView → Type 0) (acks : List ℕ) (segs : SegsView) : Type 0 where
-  pub cancelled : (cause : Cause) → P (after_cancel cause segs)
+  pub cancelled : (cause : Cause) → IsRoundCause segs cause → P (after_cancel cause segs)
   pub agreed : P (after_agree acks segs)
 
 -- and where participant 0 is alone, and no mapping of its failed
 pub record HoldsAlone (P : SegsView → Type 0) (caught : Caught) (segs : SegsView) : Type 0 where
-  pub cancelled : (cause : Cause) → P (after_cancel cause segs)
+  pub cancelled : (cause : Cause) → IsRoundCause segs cause → P (after_cancel cause segs)
   pub agreed : (generation : ℕ) → other_members segs ≡ 0 → failure_of caught ≡ None → P (after_agree (replicate 16 generation) segs)
 
 armed_by : (ask : Ask) (armed : Option Ask) → is_armed_by ask armed ≡ true → armed ≡ Some ask
@@ -131,12 +136,14 @@ module _ (P : SegsView → Type 0) where
       agreed_holds (Some member) =
           cond_both (has_passed times) (cancelled round (cause.Late member.participant times.since times.present) segs)
           (waiting round times.since Nothing segs) Holds
-          (λ passed. rounds.cancelled (cause.Late member.participant times.since times.present))
+          (λ passed.
+          rounds.cancelled (cause.Late member.participant times.since times.present)
+          (was_late member.participant times.since times.present refl))
           (λ early. same)
 
-      unless_holds : (failure : Option Cause) → Holds (unless_failed round times acks segs failure)
-      unless_holds (Some cause) = rounds.cancelled cause
-      unless_holds None = agreed_holds (lowest_member_below segs.roster acks round.generation)
+      unless_holds : (failure : Option Cause) → noted_failure segs ≡ failure → Holds (unless_failed round times acks segs failure)
+      unless_holds (Some cause) is = rounds.cancelled cause (was_noted is)
+      unless_holds None is = agreed_holds (lowest_member_below segs.roster acks round.generation)
 
       over_holds : Holds
           (if is_none (lowest_member_below segs.roster acks round.generation) || has_passed times then ended round segs
@@ -145,10 +152,10 @@ module _ (P : SegsView → Type 0) where
           cond_both (is_none (lowest_member_below segs.roster acks round.generation) || has_passed times) (ended round segs)
           (waiting round times.since Nothing segs) Holds (λ over. same) (λ on. same)
 
-      polled_holds : (which : RoundKind) → Holds (polled_by round times acks segs which)
+      pub polled_holds : (which : RoundKind) → Holds (polled_by round times acks segs which)
       polled_holds kind.Growth =
           cond_both (is_open_for round segs.growth) (unless_failed round times acks segs (noted_failure segs)) (rolled_back round segs) Holds
-          (λ opened. unless_holds (noted_failure segs))
+          (λ opened. unless_holds (noted_failure segs) refl)
           (λ gone. same)
       polled_holds kind.Rollback = over_holds
       polled_holds kind.Drop = over_holds
@@ -158,9 +165,10 @@ module _ (P : SegsView → Type 0) where
       granted_holds true none is = same
       granted_holds false none is = alone.agreed round.generation none (unfailed (failure_of caught) is)
 
-      alone_unless_holds : (failure : Option Cause) → other_members segs ≡ 0 → Holds (alone_unless_failed round caught now segs failure)
-      alone_unless_holds (Some cause) none = alone.cancelled cause
-      alone_unless_holds None none = granted_holds (is_some (failure_of caught)) none refl
+      alone_unless_holds : (failure : Option Cause) → noted_failure segs ≡ failure → other_members segs ≡ 0
+          → Holds (alone_unless_failed round caught now segs failure)
+      alone_unless_holds (Some cause) is none = alone.cancelled cause (was_noted is)
+      alone_unless_holds None is none = granted_holds (is_some (failure_of caught)) none refl
 
       drop_alone_holds : (outcome : Option Outcome) → Holds (drop_alone round now segs outcome)
       drop_alone_holds None = same
@@ -170,7 +178,7 @@ module _ (P : SegsView → Type 0) where
       alone_holds kind.Growth none =
           cond_both (is_open_for round segs.growth) (alone_unless_failed round caught now segs (noted_failure segs)) (rolled_back round segs)
           Holds
-          (λ opened. alone_unless_holds (noted_failure segs) none)
+          (λ opened. alone_unless_holds (noted_failure segs) refl none)
           (λ gone. same)
       alone_holds kind.Rollback none = drop_alone_holds (outcome_of segs.asks round.from round.number)
       alone_holds kind.Drop none = drop_alone_holds (outcome_of segs.asks round.from round.number)

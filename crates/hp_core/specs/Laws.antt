@@ -1,5 +1,6 @@
 -- Laws of the coordinator: its moves are moves of the segment value and of the plain machine, and where an Add comes.
-use Rattle.std.specs.Prelude.{◌≡◌, ◌↔◌, ℕ, false, true, List, [], ◌∷◌, ◌++◌, Option, Some, None, Ok, IfSome, IsSomeAnd}
+use Rattle.std.specs.Prelude.{◌≡◌, ◌↔◌, ℕ, ◌<◌, false, true, List, [], ◌∷◌, ◌++◌, length, drop, Option, Some, None, Ok, IfSome, IsSomeAnd}
+use Rattle.std.specs.List.{Contains}
 use Rattle.hp_base.specs.declared.row.Run.{Run}
 use Rattle.hp_log.specs.declared.log_record.LogRecord.TheVariants.{Add}
 use Rattle.hp_segs.specs.Machine.{Drops, Grows, machine_of}
@@ -9,6 +10,7 @@ use Rattle.hp_segs.specs.SegsView.{SegsView}
 use Rattle.hp_segs.specs.Sound.{IsSound}
 use Rattle.hp_segs.specs.Steps.{after_drop}
 use Rattle.hp_segs.specs.declared.ask.Ask.{Ask}
+use Rattle.hp_segs.specs.declared.growth.Growth.{Growth}
 use Rattle.hp_segs.specs.declared.outcome.AskLog.{AskLog}
 use Rattle.hp_segs.specs.declared.outcome.Cause.TheVariants.{Denied, Late}
 use Rattle.hp_segs.specs.declared.outcome.Outcome.TheVariants.{Refused}
@@ -20,7 +22,6 @@ use Rattle.hp_core.specs.Outs.{IsTaken}
 use Rattle.hp_core.specs.Starting.{started, total_with}
 use Rattle.hp_core.specs.declared.asked.Asked.TheVariants.{Grow}
 use Rattle.hp_core.specs.declared.event.CoreEvent.{CoreEvent}
-use Rattle.hp_core.specs.declared.event.CoreEvent.TheVariants as event
 use Rattle.hp_core.specs.declared.times.Times.{Times}
 
 -- a move of the plain machine: none, the drops, or the growth of the open growth's ask
@@ -87,8 +88,38 @@ pub record IsJudgedAt (event : CoreEvent) (core : Core) (segs : SegsView) (judge
 abbrev pub JudgedOfPlans : Type 0
 JudgedOfPlans = (event : CoreEvent) (core : Core) (segs : SegsView) → IfSome (judged_at event core segs) (IsJudgedAt event core segs)
 
--- and it is asked of each such run of an ask that comes
+-- and it is asked of each such run: of an ask that comes, and of a held one that a poll starts
 abbrev pub PlansAreJudged : Type 0
-PlansAreJudged = (ask : Ask) (core : Core) (segs : SegsView) (run : Run) → is_idle core.phase ≡ true
-    → is_foreign core.phase segs.growth ≡ false → IsStarted ask segs → plan_of ask (after_drop segs) ≡ Ok run
-    → judged_at (event.Grow ask) core segs ≡ Some (ask.socket, total_with ask run (after_drop segs))
+PlansAreJudged = (event : CoreEvent) (core : Core) (segs : SegsView) (ask : Ask) (run : Run) → IsTaken event core (Grow ask)
+    → is_idle core.phase ≡ true → is_foreign core.phase segs.growth ≡ false → IsStarted ask segs → plan_of ask (after_drop segs) ≡ Ok run
+    → judged_at event core segs ≡ Some (ask.socket, total_with ask run (after_drop segs))
+
+-- at a step the judge is asked of a run for that ask, at that total, and may give that answer
+pub record IsJudgedSo (denies : ℕ → ℕ → Option (List ℕ × ℕ) → Type 0) (event : CoreEvent) (core : Core) (segs : SegsView) (ask : Ask) (run : Run)
+    (total : ℕ) (answer : Option (List ℕ × ℕ)) : Type 0 where
+  pub judged : IsJudgedAt event core segs (ask.socket, total)
+  pub its_ask : judged.ask ≡ ask
+  pub its_run : judged.run ≡ run
+  pub given : denies ask.socket total answer
+
+-- an ask is denied by the judge: that names the validator and its limit, which is below the total
+pub record IsDenied (denies : ℕ → ℕ → Option (List ℕ × ℕ) → Type 0) (event : CoreEvent) (core : Core) (segs : SegsView) (entry : AskLog)
+    (validator : List ℕ) (limit total : ℕ) : Type 0 where
+  pub ask : Ask
+  pub run : Run
+  pub kept : entry.ask ≡ Some ask
+  pub judged : IsJudgedSo denies event core segs ask run total (Some (validator, limit))
+  pub below : limit < total
+
+-- a growth is allowed by the judge: that names no validator
+pub record IsAllowed (denies : ℕ → ℕ → Option (List ℕ × ℕ) → Type 0) (event : CoreEvent) (core : Core) (segs : SegsView) (growth : Growth)
+    : Type 0 where
+  pub total : ℕ
+  pub judged : IsJudgedSo denies event core segs growth.ask growth.run total None
+
+-- what a step logs as Denied, and what it opens, is the judge's: each ask that it refuses so is denied by the judge, and the growth that it
+-- opens is allowed
+pub record IsByJudge (denies : ℕ → ℕ → Option (List ℕ × ℕ) → Type 0) (event : CoreEvent) (core : Core) (old new : SegsView) : Type 0 where
+  pub denied : (entry : AskLog) (validator : List ℕ) (limit total : ℕ) → Contains (drop (length old.asks) new.asks) entry
+      → entry.outcome ≡ Refused (Denied validator limit total) → IsDenied denies event core old entry validator limit total
+  pub opened : (growth : Growth) → old.growth ≡ None → new.growth ≡ Some growth → IsAllowed denies event core old growth

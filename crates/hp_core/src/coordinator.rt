@@ -5,6 +5,7 @@ ghost use Rattle.hp_core.specs.Asks.{asker};
 ghost use Rattle.hp_core.specs.Conditions.{HasSpare, MayStep};
 ghost use Rattle.hp_core.specs.Core.{IsStepped, due_of, holds_ask, is_foreign, is_idle};
 ghost use Rattle.hp_core.specs.Judging.{IsSteppedBy, ask_judged, held_judged, judged_at, poll_judged};
+ghost use Rattle.hp_core.specs.Laws.{IsByJudge};
 ghost use Rattle.hp_core.specs.Moves.{IsCoreMove, IsStart, acks_of, times_at, times_of};
 ghost use Rattle.hp_core.specs.Outs.{IsOut};
 ghost use Rattle.hp_core.specs.Stepping.{came, caught_in, lowest_held, polled_in, served, stepped};
@@ -127,7 +128,12 @@ impl Coordinator {
         // What stands behind the answer.
         ensures answers { IsOut event self.old segs.old
             (record { core = self.new; segs = segs.new; out = result }) }
+
+        // Each ask that it denies, and the growth that it opens, is denied or allowed by the judge.
+        ensures judged { IsByJudge (J.denies judge.now) event self.old segs.old segs.new }
     {
+        // That the value is sound is handed out with its records.
+        let _records = segs.records();
         self.take(segs, event, judge)
     }
 

@@ -25,3 +25,4 @@ mod ByteLemmas
 mod FreedCounts
 mod SlotLemmas
 pub mod BytesLaw
+mod KnowLemmas

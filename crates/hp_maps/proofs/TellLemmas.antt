@@ -8,7 +8,7 @@ use Rattle.std.proofs.lemmas.List.Elements.{All-head, All-tail}
 use Rattle.std.proofs.lemmas.List.Sums.{sum_by-cons}
 use Rattle.std.specs.Prelude.{sum_by}
 use Rattle.hp_base.specs.Mapping.{own_place}
-use Rattle.hp_base.specs.Telling.{told_after}
+use Rattle.hp_base.specs.Telling.{Listener, told_after}
 use Rattle.hp_base.specs.declared.caught.Caught.{Caught}
 use Rattle.hp_base.specs.declared.caught.Caught.TheVariants as caught
 use Rattle.hp_base.specs.declared.map_answer.MapAnswer.{MapAnswer}
@@ -142,12 +142,12 @@ told_step kind (Some stretch) (Some row) rows =
       | inr ends ↦ rw ends refl
     ]
 
-pub all_told_append : (first later : List Event) (lists : List (List Event)) → all_told (first ++ later) lists ≡ all_told later (all_told first lists)
+pub all_told_append : (first later : List Event) (lists : List Listener) → all_told (first ++ later) lists ≡ all_told later (all_told first lists)
 all_told_append [] later lists = refl
 all_told_append (event ∷ first) later lists = all_told_append first later (told_after event lists)
 
 -- the lists, and the room that they have, once a row is found
-pub found_told : (kind : EventKind) (stretch : Option Stretch) (found : Option Row) (rows : List Row) (whole now next : List (List Event))
+pub found_told : (kind : EventKind) (stretch : Option Stretch) (found : Option Row) (rows : List Row) (whole now next : List Listener)
     → all_told (events_from kind stretch (option_to_list found ++ rows)) now ≡ whole → next ≡ all_told (told_then kind stretch found) now
     → all_told (events_from kind (stretch_after kind stretch found) rows) next ≡ whole
 found_told kind stretch found rows whole now next before is_next =
@@ -195,7 +195,7 @@ dropped_step rows records at d within =
     ∙ ap (λ (before : List LogRecord). events_of Free (freed_by rows (take at records) (get_or records at d))
     ++ dropped_events rows before (drop (at + 1) records)) more
 
-pub dropped_told : (rows : List Row) (records : List LogRecord) (at : ℕ) (d : LogRecord) (whole now next : List (List Event))
+pub dropped_told : (rows : List Row) (records : List LogRecord) (at : ℕ) (d : LogRecord) (whole now next : List Listener)
     → at < length records → all_told (dropped_events rows (take at records) (drop at records)) now ≡ whole
     → next ≡ all_told (events_of Free (freed_by rows (take at records) (get_or records at d))) now
     → all_told (dropped_events rows (take (at + 1) records) (drop (at + 1) records)) next ≡ whole
@@ -251,7 +251,7 @@ caught_parts rows n records (caught.Elsewhere row call got) = sym (append_nothin
 
 -- a catch-up tells what goes, and then what came
 pub caught_told : (maps after : MapsView) (first last : List Row) (before calls : ℕ) (newer seen : List LogRecord) (caught : Caught)
-    (old between new : List (List Event)) → first ≡ maps.rows → last ≡ after.rows → before ≡ length maps.answers
+    (old between new : List Listener) → first ≡ maps.rows → last ≡ after.rows → before ≡ length maps.answers
     → calls ≡ length after.answers → seen ≡ newer
     → after.rows ≡ rows_after (kept newer maps.rows) (new_rows maps.number newer) caught
     → HasAnswered (new_rows maps.number newer) maps.answers after.answers caught

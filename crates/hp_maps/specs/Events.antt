@@ -1,7 +1,7 @@
 -- What is told of rows that come and go: the rule "Events" of docs/TABLES.md.
 use Rattle.std.specs.Prelude.{◌≡◌, ℕ, zero, suc, ◌+◌, Bool, not, ◌&&◌, ◌==◌, List, [], ◌∷◌, ◌++◌, map, find, sum_by, if◌then◌else◌, option_to_list}
 use Rattle.std.specs.List.Sorted.{IsNonDecreasingBy, IsPermutation}
-use Rattle.hp_base.specs.Telling.{told_after}
+use Rattle.hp_base.specs.Telling.{Listener, told_after}
 use Rattle.hp_base.specs.declared.caught.Caught.{Caught}
 use Rattle.hp_base.specs.declared.caught.Caught.TheVariants as caught
 use Rattle.hp_base.specs.declared.event.Event.{Event}
@@ -76,13 +76,13 @@ caught_events rows n records caught.Done = dropped_events rows [] records ++ eve
 caught_events rows n records (caught.Refused row call) = dropped_events rows [] records
 caught_events rows n records (caught.Elsewhere row call got) = dropped_events rows [] records
 
--- lists that were told events, one after the other
-abbrev pub all_told : List Event → List (List Event) → List (List Event)
-all_told [] lists = lists
-all_told (event ∷ events) lists = all_told events (told_after event lists)
+-- those that listen, told events one after the other
+abbrev pub all_told : List Event → List Listener → List Listener
+all_told [] listeners = listeners
+all_told (event ∷ events) listeners = all_told events (told_after event listeners)
 
 -- rows are told as they go, by rising address: one event for each of their greatest stretches
-pub record IsToldByAddress (rows : List Row) (old new : List (List Event)) : Type 0 where
+pub record IsToldByAddress (rows : List Row) (old new : List Listener) : Type 0 where
   pub rising : List Row
   pub same : IsPermutation rows rising
   pub sorted : IsNonDecreasingBy (λ row. row.addr) rising

@@ -11,3 +11,4 @@ pub mod Unmapping
 pub mod MapsLayout
 pub mod TellingInTurn
 pub mod Bytes
+pub mod Knowing

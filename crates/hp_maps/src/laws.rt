@@ -7,6 +7,7 @@ ghost use Rattle.hp_base.specs.declared.row.Row.{Row};
 ghost use Rattle.hp_base.specs.declared.row.Run.{Run};
 ghost use Rattle.hp_log.specs.declared.log_record.LogRecord.{LogRecord};
 ghost use Rattle.hp_maps.specs.Events.{joins_by};
+ghost use Rattle.hp_maps.specs.Knowing.{ChunksAreNoNews, NewKnows};
 ghost use Rattle.hp_maps.specs.PlannedView.{FailsByPlan};
 ghost use Rattle.hp_maps.specs.Ready.{
   AttachedBeside,
@@ -78,6 +79,12 @@ pub fn stretch_law()
 pub fn bytes_law()
     ensures catch_up { TellsBytes }
     ensures end { TellsTheEnd }
+{}
+
+/// Who begins to listen knows the rows that there are; and chunks that are attached or detached are no news to anybody.
+pub fn known_law()
+    ensures new { NewKnows }
+    ensures chunks { ChunksAreNoNews }
 {}
 
 /// What a participant knows gives the conditions of its calls, where the log is one of segment lists that lie apart. It knows

@@ -14,8 +14,8 @@ mod table;
 mod telling;
 
 pub use laws::{
-    apart_law, bytes_law, failed_growth_law, few_events_law, planned_law, ready_law, slot_law,
-    stays_mapped_law, stretch_law, table_law,
+    apart_law, bytes_law, failed_growth_law, few_events_law, known_law, planned_law, ready_law,
+    slot_law, stays_mapped_law, stretch_law, table_law,
 };
 pub use local_maps::LocalMaps;
 pub use planned::Planned;

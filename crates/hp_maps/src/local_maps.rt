@@ -54,6 +54,7 @@ impl<M: Mapper> Model for LocalMaps<M> {
 impl<M: Mapper> LocalMaps<M> {
     ghost use Rattle.std.specs.Prelude.{IfOk};
     ghost use Rattle.hp_maps.specs.Events.{all_told, caught_events};
+    ghost use Rattle.hp_maps.specs.Knowing.{StayKnown};
     ghost use Rattle.hp_maps.specs.Catching.{
       CanCatchUp,
       HasAnswered,
@@ -160,6 +161,9 @@ impl<M: Mapper> LocalMaps<M> {
             (newer records.now self.old.number to) result) (T.told tell.old) }
         ensures spare { T.spare tell.old ≤ T.spare tell.new + length (caught_events self.old.rows self.old.number
             (newer records.now self.old.number to) result) }
+
+        // Those that knew the rows before it know those after it, however it ended.
+        ensures known { StayKnown self.old records.now to (T.told tell.old) self.new.rows (T.told tell.new) }
     {
         let newer = &records[self.number as usize..to as usize];
         tell_dropped(

@@ -38,12 +38,12 @@ impl RowList {
     ghost use Rattle.std.specs.Prelude.{IfOk};
     ghost use Rattle.hp_maps.specs.RowsView.{AreNone};
 
-    /// No rows, with memory for twice as many as there may be, so that gaps are closed seldom.
+    /// No rows, with memory for a sixteenth more than there may be, so that gaps are closed seldom.
     pub fn new(alloc: Global, capacity: usize) -> Result<RowList, AllocError>
         ensures { IfOk result (AreNone capacity) }
     {
         Ok(RowList {
-            rows: Vec::with_capacity(alloc, capacity.saturating_mul(2))?,
+            rows: Vec::with_capacity(alloc, capacity.saturating_add(capacity / 16))?,
             gap: 0,
             next: 0,
         })

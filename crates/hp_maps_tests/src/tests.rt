@@ -9,6 +9,7 @@ mod heard;
 mod looks;
 mod play;
 mod steps;
+mod watching;
 
 use hp_base::{Row, Run};
 use hp_log::LogRecord;

@@ -1,5 +1,6 @@
 //! Unmapping all that is mapped.
-ghost use Rattle.std.specs.Prelude.{◌≡◌, ◌+◌, ◌≤◌, [], length};
+ghost use Rattle.std.specs.Prelude.{◌≡◌, ◌+◌, ◌≤◌, ℕ, List, [], length};
+ghost use Rattle.hp_log.specs.declared.log_record.LogRecord.{LogRecord};
 ghost use Rattle.hp_maps.specs.MapsView.{IsMapped, chunk_rows};
 
 use crate::local_maps::LocalMaps;
@@ -9,6 +10,7 @@ use hp_base::{EventKind, Mapper, Tell};
 
 impl<M: Mapper> LocalMaps<M> {
     ghost use Rattle.hp_maps.specs.Events.{IsToldByAddress};
+    ghost use Rattle.hp_maps.specs.Knowing.{StayKnown};
 
     /// Unmaps the whole table, where no chunk is attached, and begins anew: no record is taken in. What goes is told first,
     /// by rising address, whatever record it came by.
@@ -24,6 +26,9 @@ impl<M: Mapper> LocalMaps<M> {
         ensures mapped { IsMapped self.new }
         ensures told { IsToldByAddress self.old.rows (T.told tell.old) (T.told tell.new) }
         ensures spare { T.spare tell.old ≤ T.spare tell.new + length self.old.rows }
+
+        // Those that knew the rows before it know that none is left, whatever log they are of.
+        ensures known { (records : List LogRecord) (to : ℕ) → StayKnown self.old records to (T.told tell.old) [] (T.told tell.new) }
     {
         self.rows.sort_by_address();
         tell_rows(tell, &self.mapper, EventKind::Free, self.rows.as_slice());

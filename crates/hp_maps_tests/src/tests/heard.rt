@@ -1,40 +1,18 @@
-//! What a listener has heard.
-ghost use Rattle.std.specs.Prelude.{◌≡◌, ◌-◌, vec_len, vec_capacity};
+//! What watchers have heard.
+ghost use Rattle.std.specs.Prelude.{◌<◌, length};
 
 use super::PAGE;
-use hp_base::{Event, EventKind, Tell};
-use std::alloc::{AllocError, Global};
+use hp_base::{Event, EventKind};
+use hp_events::Watchers;
 
-/// It keeps what it is told, as long as it has memory.
-#[derive(Drop)]
-pub struct Heard {
-    pub events: Vec<Event>,
-}
-
-impl Tell for Heard {
-    ghost use Rattle.std.specs.Prelude.{[], ◌∷◌, ◌-◌, vec_len, vec_capacity};
-
-    ghost told = { λ h. h.events.items ∷ [] };
-
-    ghost spare = { λ h. vec_capacity h.events - vec_len h.events };
-
-    fn tell(&mut self, event: Event) {
-        let _ = self.events.push(event);
+/// Whether a watcher has that name and was told those events, and no others.
+pub fn has_heard(watchers: &Watchers, name: &str, told: &[Event]) -> bool {
+    for place in 0..watchers.len() {
+        if watchers.name(place).as_bytes() == name.as_bytes() {
+            return watchers.events(place) == told;
+        }
     }
-}
-
-/// It has heard nothing, and has room for 32 events.
-pub fn listening(alloc: Global) -> Result<Heard, AllocError> {
-    Ok(Heard {
-        events: Vec::with_capacity(alloc, 32)?,
-    })
-}
-
-/// How many events more it has room for.
-pub fn room_of(heard: &Heard) -> usize
-    ensures { result ≡ vec_capacity heard.now.events - vec_len heard.now.events }
-{
-    heard.events.capacity() - heard.events.len()
+    false
 }
 
 /// So many pages come at an address, or go.

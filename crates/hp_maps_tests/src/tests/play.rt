@@ -4,10 +4,11 @@ ghost use Rattle.hp_log.specs.Places.{IsLogOf};
 ghost use Rattle.hp_maps.specs.PlannedView.{may_fail_by};
 ghost use Rattle.hp_maps_tests.specs.Known.{IsKnown, worked_lists};
 
-use super::heard::{Heard, listening};
+use super::heard::has_heard;
 use super::steps::{Step, perform};
 use super::{ADD, ADD_SECOND, DROP};
 use hp_base::{Event, Mapper, MemMapper, Plan, PlanEntry};
+use hp_events::Watchers;
 use hp_log::LogRecord;
 use hp_maps::{LocalMaps, Planned};
 use std::alloc::{AllocError, Global};
@@ -57,8 +58,9 @@ fn empty_table(
 
 // Each step comes out as it stands.
 fn go_on<M: Mapper>(
+    alloc: Global,
     maps: &mut LocalMaps<M>,
-    heard: &mut Heard,
+    watchers: &mut Watchers,
     records: &[LogRecord],
     steps: &[Step],
 ) -> Result<(), Fail>
@@ -66,7 +68,14 @@ fn go_on<M: Mapper>(
 {
     let mut reached = 0;
     for place in 0..steps.len() {
-        if !perform(maps, heard, records, &mut reached, steps[place]) {
+        if !perform(
+            alloc,
+            maps,
+            watchers,
+            records,
+            &mut reached,
+            steps[place],
+        ) {
             return Err(Otherwise { place }.into());
         }
     }
@@ -93,7 +102,7 @@ fn party_of(failure: Option<Failure>) -> u8 {
     }
 }
 
-// A new table over those records: each step comes out as it stands, and then these events are told.
+// A new table over those records, with a watcher: each step comes out as it stands, and that watcher is told these events in all.
 fn play_over(
     alloc: Global,
     records: &[LogRecord],
@@ -104,16 +113,19 @@ fn play_over(
     requires { IsLogOf worked_lists records.now }
 {
     let plan = plan_with(alloc, failure)?;
-    let mut heard = listening(alloc)?;
+    let mut watchers = Watchers::new(alloc);
     let mut maps = empty_table(alloc, &plan, party_of(failure))?;
-    go_on(&mut maps, &mut heard, records, steps)?;
-    if heard.events.as_slice() != told {
+    if watchers.register(alloc, "first".as_bytes(), maps.rows()).is_err() {
+        return Err("memory for a watcher".into());
+    }
+    go_on(alloc, &mut maps, &mut watchers, records, steps)?;
+    if !has_heard(&watchers, "first", told) {
         return Err("the events that are expected".into());
     }
     Ok(())
 }
 
-/// A new table over a log: each step comes out as it stands, and then these events are told.
+/// A new table over a log, with the watcher `first`: each step comes out as it stands, and that watcher is told these events in all.
 pub fn play(
     alloc: Global,
     log: Log,

@@ -5,11 +5,13 @@ ghost use Rattle.hp_log.specs.declared.log_record.LogRecord.{LogRecord};
 ghost use Rattle.hp_maps_tests.specs.Known.{IsKnown, StaysKnown};
 
 use super::follow::follow;
-use super::heard::{Heard, room_of};
+use super::heard::has_heard;
 use super::looks::{Look, is_so};
-use hp_base::{Caught, Chunk, Mapper, Row};
+use hp_base::{Caught, Chunk, Event, Mapper, Row};
+use hp_events::Watchers;
 use hp_log::LogRecord;
 use hp_maps::{LocalMaps, ready_law};
+use std::alloc::Global;
 
 /// One step, with what has to come of it.
 #[derive(Clone, Copy)]
@@ -23,6 +25,13 @@ pub enum Step {
     Leave,
     // What is seen of it.
     See(Look),
+    // A watcher is registered, and another one is not any more.
+    Watch(&'static str),
+    Unwatch(&'static str),
+    // It was told that since, and nothing else.
+    Heard(&'static str, &'static [Event]),
+    // No watcher has the name.
+    Gone(&'static str),
 }
 
 // Two pages of 4,096 bytes.
@@ -37,8 +46,9 @@ const CHUNK: Chunk = Chunk {
 
 /// Whether the step came out as it stands, where the table has seen the records up to number `reached`.
 pub fn perform<M: Mapper>(
+    alloc: Global,
     maps: &mut LocalMaps<M>,
-    heard: &mut Heard,
+    watchers: &mut Watchers,
     records: &[LogRecord],
     reached: &mut u64,
     step: Step,
@@ -47,17 +57,23 @@ pub fn perform<M: Mapper>(
     ensures { IsKnown maps.new records.now reached.new }
 {
     match step {
-        Step::Follow(to, caught) => catch(maps, heard, records, reached, to) == Some(caught),
+        Step::Follow(to, caught) => catch(maps, watchers, records, reached, to) == Some(caught),
         Step::Attach(caught) => attach(maps) == Some(caught),
         Step::Detach => detach(maps),
-        Step::Leave => leave(maps, heard),
+        Step::Leave => leave(maps, watchers),
         Step::See(look) => is_so(maps, look),
+        Step::Watch(name) => watchers
+            .register(alloc, name.as_bytes(), maps.rows())
+            .is_ok(),
+        Step::Unwatch(name) => watchers.unregister(name.as_bytes()).is_ok(),
+        Step::Heard(name, told) => has_heard(watchers, name, told),
+        Step::Gone(name) => watchers.unregister(name.as_bytes()).is_err(),
     }
 }
 
 fn catch<M: Mapper>(
     maps: &mut LocalMaps<M>,
-    heard: &mut Heard,
+    watchers: &mut Watchers,
     records: &[LogRecord],
     reached: &mut u64,
     to: u64,
@@ -68,11 +84,12 @@ fn catch<M: Mapper>(
     if to < *reached || to > 8 || to as usize > records.len() {
         return None;
     }
-    if room_of(heard) < 16 || maps.calls() > 1 << 63 {
+    if maps.calls() > 1 << 63 {
         return None;
     }
+    watchers.reserve(16).ok()?;
     *reached = to;
-    Some(follow(maps, records, to, heard))
+    Some(follow(maps, records, to, watchers))
 }
 
 fn attach<M: Mapper>(maps: &mut LocalMaps<M>) -> Option<Caught>
@@ -94,14 +111,14 @@ fn detach<M: Mapper>(maps: &mut LocalMaps<M>) -> bool
     true
 }
 
-fn leave<M: Mapper>(maps: &mut LocalMaps<M>, heard: &mut Heard) -> bool
+fn leave<M: Mapper>(maps: &mut LocalMaps<M>, watchers: &mut Watchers) -> bool
     ensures { StaysKnown maps.old maps.new }
 {
     let rows = maps.rows();
-    if rows.len() > room_of(heard) || has_chunk(rows) {
+    if has_chunk(rows) || watchers.reserve(rows.len()).is_err() {
         return false;
     }
-    maps.unmap_all(heard);
+    maps.unmap_all(watchers);
     true
 }
 

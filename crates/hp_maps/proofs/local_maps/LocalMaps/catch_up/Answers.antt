@@ -7,6 +7,7 @@ use Rattle.hp_maps.specs.RowsView.{HaveOwnSlots}
 use Rattle.hp_maps.specs.Unmapping.{AreHeld}
 use Rattle.hp_maps.proofs.SlotLemmas.{own_slots}
 use Rattle.hp_maps.proofs.HeldLemmas.{all_held}
+use Rattle.hp_maps.proofs.KnowLemmas.{known_caught}
 use Rattle.hp_maps.proofs.TellLemmas.{caught_spare, caught_told}
 use Rattle.hp_maps.proofs.local_maps.LocalMaps.catch_up.Goals as goal
 
@@ -47,3 +48,8 @@ returns-clause-spare g c =
     (c.self-2.invariant.counted ∙ ap calls_of c.self-2.view_is)
     (ap (λ (maps : MapsView). newer c.args.records.now maps.number c.args.to) c.self.view_is)
     c.take_in_log-caught.ensures.rows c.take_in_log-caught.ensures.answered c.tell_dropped.ensures.spare c.tell_caught.ensures.spare
+
+pub returns-clause-known : goal.returns-clause-known
+returns-clause-known g c =
+    known_caught c.args.self.now c.args.records.now c.args.to c.take_in_log-caught.result c.take_in_log-caught.new.self.rows _ _
+    c.take_in_log-caught.ensures.rows (returns-clause-told g c)

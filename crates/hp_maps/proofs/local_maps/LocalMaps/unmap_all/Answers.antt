@@ -10,6 +10,7 @@ use Rattle.hp_maps.specs.Events.{IsToldByAddress, all_told, events_of}
 use Rattle.hp_maps.specs.MapsView.{AreApart, MapsView}
 use Rattle.hp_maps.specs.Unmapping.{AreHeld, IsWithin, without_rows}
 use Rattle.hp_maps.proofs.HeldLemmas.{all_held}
+use Rattle.hp_maps.proofs.KnowLemmas.{known_left}
 use Rattle.hp_maps.proofs.LeaveLemmas.{all_unmapped, events_length}
 use Rattle.hp_maps.proofs.local_maps.LocalMaps.unmap_all.Goals as goal
 
@@ -78,3 +79,8 @@ returns-clause-spare g c =
       length_permutation c.self.inside.rows.items _ c.sort_by_address.ensures.same,
       ap (λ (maps : MapsView). length maps.rows) c.self.view_is,
     )
+
+pub returns-clause-known : goal.returns-clause-known
+returns-clause-known g c = λ records to.
+    known_left c.args.self.now records to (g.T.Tell.told c.args.tell.now) (g.T.Tell.told c.tell_rows.new.tell) c.requires.no_chunk
+    (returns-clause-told g c)

@@ -1,0 +1,4 @@
+pub mod Watchers
+pub mod Watching
+pub mod Validators
+pub mod Kept

@@ -1,0 +1,60 @@
+ghost use Rattle.std.specs.Prelude.{◌≡◌, [], ◌∷◌, ◌++◌};
+
+use hp_base::Row;
+use std::marker::Model;
+use std::snapshot::Snapshot;
+
+/// Rows as they were at one time, in their order. Contracts see the list; of its bytes it keeps the last row alone, behind which the
+/// earlier ones stand as a snapshot, which has none.
+#[cycle(rows_then)]
+#[derive(Drop)]
+pub struct RowsThen {
+    past: Past,
+}
+
+#[cycle(rows_then)]
+#[derive(Drop)]
+enum Past {
+    Nothing,
+    Behind(Snapshot<RowsThen>, Row),
+}
+
+impl Model for RowsThen {
+    ghost use Rattle.std.specs.Prelude.{List, length};
+    ghost use Rattle.std.proofs.Common.{arith, length-append};
+    ghost use Rattle.hp_base.specs.declared.row.Row.{Row};
+
+    ghost Value = { List Row };
+
+    ghost use Rattle.hp_events.specs.Kept.{rows_in};
+
+    ghost view = { λ a. rows_in a.past };
+
+    ghost size = { length };
+
+    ghost size_decreases = { λ a h. Prim.grind (arith, length-append) };
+}
+
+impl RowsThen {
+    /// These rows.
+    pub fn of(rows: &[Row]) -> RowsThen
+        ensures { result ≡ rows.now }
+    {
+        let mut then = RowsThen {
+            past: Past::Nothing,
+        };
+        for row in rows {
+            then = then.with(*row);
+        }
+        then
+    }
+
+    // These rows, and another one behind them.
+    fn with(&self, row: Row) -> RowsThen
+        ensures { result ≡ self.now ++ row ∷ [] }
+    {
+        RowsThen {
+            past: Past::Behind(Snapshot::of(self), row),
+        }
+    }
+}
