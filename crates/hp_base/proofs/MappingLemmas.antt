@@ -1,8 +1,12 @@
--- What is held of rows at their own places.
-use Rattle.std.proofs.Common.{◌≡◌, List, [], ◌∷◌, not, refl, arith, inl, inr}
-use Rattle.std.proofs.lemmas.Bool.{cases_Bool}
-use Rattle.std.specs.Prelude.{filter}
-use Rattle.hp_base.specs.Mapping.{is_row, owned, without_row}
+-- What is held of rows at their own places, and at which calls a mapper fails.
+use Rattle.std.proofs.Common.{◌≡◌, ℕ, ◌==◌, true, List, [], ◌∷◌, Option, Some, None, not, refl, sym, ap, subst, arith, inl, inr}
+use Rattle.std.proofs.lemmas.Bool.{cases_Bool, eq-eqb, eqb-true}
+use Rattle.std.proofs.lemmas.List.Elements.{Contains-append_right}
+use Rattle.std.proofs.lemmas.List.Folds.{list_any_at}
+use Rattle.std.specs.Prelude.{Contains, filter}
+use Rattle.hp_base.specs.Mapping.{FailingCall, FailsSo, Refuses, is_row, may_fail_at, owned, refusals_at, without_row}
+use Rattle.hp_base.specs.Streams.{list_has}
+use Rattle.hp_base.specs.declared.map_answer.MapAnswer.{MapAnswer}
 use Rattle.hp_base.specs.declared.row.Row.{Row}
 
 -- to take a row out of rows is to take it out of what is held of them
@@ -12,3 +16,25 @@ owned_without row (other ∷ rows) = elim (cases_Bool (is_row row other)) [
   | inl same ↦ grind (arith, same, owned_without row rows)
   | inr apart ↦ grind (arith, apart, owned_without row rows)
 ]
+
+-- a call that is to be refused is among the failing ones
+pub refusal_told : (call : ℕ) (calls : List ℕ) → list_has call calls ≡ true
+    → Contains (refusals_at calls) (record { call = call; how = Refuses })
+refusal_told call [] has = cc
+refusal_told call (other ∷ calls) has = elim (cases_Bool (other == call)) [
+  | inl same ↦
+      let its : other ≡ call = eqb-true other call same in
+      (0, omega arith, ap (λ (n : ℕ). record { call = n; how = Refuses }) its)
+  | inr apart ↦
+      Contains-append_right (record { call = other; how = Refuses } ∷ []) (refusals_at calls) (record { call = call; how = Refuses })
+      (refusal_told call calls (grind (arith, apart, has)))
+]
+
+-- where a call may fail with an answer, it may fail
+pub fails_there : (may_fail : Option (List FailingCall)) (call : ℕ) (row : Row) (got : MapAnswer) → FailsSo may_fail call row got
+    → may_fail_at may_fail call ≡ true
+fails_there None call row got so = refl
+fails_there (Some calls) call row got so =
+    let (place, below, here) = so.its in
+    list_any_at (λ (one : FailingCall). one.call == call) calls place (record { call = call; how = so.how }) below
+    (subst (λ (one : FailingCall). (one.call == call) ≡ true) (sym here) (eq-eqb call call refl))

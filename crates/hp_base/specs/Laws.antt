@@ -1,13 +1,13 @@
 -- Laws of numbers, classes, rounding, places and external memory, which docs/HEAP.md states under these headings, and of plans.
-use Rattle.std.specs.Prelude.{◌≡◌, ◌↔◌, ℕ, ◌%◌, ◌^◌, ◌≤◌, Bool, true, false, List, Contains, MatchOption}
+use Rattle.std.specs.Prelude.{◌≡◌, ◌↔◌, ℕ, ◌%◌, ◌^◌, ◌≤◌, Bool, true, false, List, Contains, Some, MatchOption}
 use Rattle.hp_base.specs.Class.{IsClassOf, class_number}
 use Rattle.hp_base.specs.Round.{floor_of, ceil_of}
 use Rattle.hp_base.specs.Place.{IsPlace, HasNoPlace, place_of}
 use Rattle.hp_base.specs.Flags.{page_flags}
 use Rattle.hp_base.specs.ExternalMemory.{IsExternalMemory, is_bad_range}
 use Rattle.hp_base.specs.Pages.{page_sizes}
-use Rattle.hp_base.specs.Plans.{map_action_of, planned_calls, plans_mapping}
-use Rattle.hp_base.specs.Streams.{list_has}
+use Rattle.hp_base.specs.Mapping.{may_fail_at}
+use Rattle.hp_base.specs.Plans.{failure_of, map_action_of, planned_calls, plans_mapping}
 use Rattle.hp_base.specs.declared.flags.TheConstants.{HINT, HINT_BIT, PAGE_FLAGS}
 use Rattle.hp_base.specs.declared.limits.TheConstants.{MAX_PARTICIPANTS, MAX_HEAPS, MAX_SOCKETS, MAX_LISTS, MAX_LIST_SEGMENTS, MAX_SEGMENTS, MAX_LINES, MAX_WORKLOAD_BYTES, MAX_COUNT, MAX_DEADLINE, MAX_READING}
 use Rattle.hp_base.specs.declared.page_size.TheConstants.{GREATEST_PAGE, PAGE_SIZES}
@@ -77,9 +77,11 @@ ComputesPlace = (start end : ℕ) (request : Request)
 abbrev pub JudgesMemory : Type 0
 JudgesMemory = (addr len page : ℕ) → (is_bad_range addr len page ≡ false) ↔ IsExternalMemory addr len page
 
--- a mapping call of a party is named exactly where the plan has an entry for it, and is then among the planned calls of the party; where none
--- names it the mapper is asked ("Plans" of docs/OUTSIDE.md)
+-- a mapping call of a party is named exactly where the plan has an entry for it, and is then among the planned calls of the party, which fail
+-- as their entries say; where none names it the mapper is asked ("Plans" of docs/OUTSIDE.md)
 pub record PlansMapping (plan : List PlanEntry) (party call : ℕ) : Type 0 where
   pub named : (plans_mapping plan party call ≡ true) ↔ ((elsewhere : Bool) × (line : ℕ) × Contains plan (Mapping party call elsewhere line))
-  pub listed : list_has call (planned_calls plan party) ≡ plans_mapping plan party call
+  pub listed : may_fail_at (Some (planned_calls plan party)) call ≡ plans_mapping plan party call
+  pub so : (elsewhere : Bool) → Contains (planned_calls plan party) (record { call = call; how = failure_of elsewhere })
+      ↔ ((line : ℕ) × Contains plan (Mapping party call elsewhere line))
   pub asked : plans_mapping plan party call ≡ false → map_action_of plan party call ≡ Ask

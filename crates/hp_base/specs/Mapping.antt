@@ -1,7 +1,6 @@
 -- What a mapper holds, when it may map, and what each call leaves: the rule "The mapper" of docs/OUTSIDE.md.
-use Rattle.std.specs.Prelude.{◌≡◌, ℕ, ◌+◌, ◌-◌, ◌*◌, ◌^◌, ◌<◌, Bool, true, false, not, ◌&&◌, ◌==◌, List, [], ◌∷◌, ◌++◌, length, filter, map, All, Option, Some, None}
+use Rattle.std.specs.Prelude.{◌≡◌, ℕ, ◌+◌, ◌-◌, ◌*◌, ◌^◌, ◌<◌, Bool, true, false, not, ◌&&◌, ◌==◌, List, [], ◌∷◌, ◌++◌, length, filter, map, All, Contains, Option, Some, None, ⊤}
 use Rattle.std.specs.List.{list_any}
-use Rattle.hp_base.specs.Streams.{list_has}
 use Rattle.hp_base.specs.declared.caught.Caught.{Caught}
 use Rattle.hp_base.specs.declared.caught.Caught.TheVariants as caught
 use Rattle.hp_base.specs.declared.row.Row.{Row}
@@ -53,13 +52,48 @@ held_after row Refused held = held
 abbrev pub without_row : Row → List Held → List Held
 without_row row held = filter (λ one. not (is_row row one.row)) held
 
+-- how a mapping call fails: the row is refused, or it comes out one page above its address
+pub data Failure : Type 0 where
+  Refuses : Failure
+  Misplaces : Failure
+
+-- a mapping call that may fail, by its number from 1, and how
+pub record FailingCall : Type 0 where
+  pub call : ℕ
+  pub how : Failure
+
+-- the place one page above a row's own
+abbrev pub next_place : Row → MapAnswer
+next_place row = At (row.addr + row.page) row.page row.socket
+
+-- what a row is answered where its mapping fails so
+abbrev pub failed_answer : Failure → Row → MapAnswer
+failed_answer Refuses row = Refused
+failed_answer Misplaces row = next_place row
+
+-- these mapping calls may fail, each with a refusal
+abbrev pub refusals_at : List ℕ → List FailingCall
+refusals_at calls = map (λ call. record { call = call; how = Refuses }) calls
+
 -- a row may fail at a mapping call: the call is among those at which the mapper may fail, or these are not told
-abbrev pub may_fail_at : Option (List ℕ) → ℕ → Bool
+abbrev pub may_fail_at : Option (List FailingCall) → ℕ → Bool
 may_fail_at None call = true
-may_fail_at (Some calls) call = list_has call calls
+may_fail_at (Some calls) call = list_any (λ one. one.call == call) calls
+
+-- one of the calls has that number, and a row is answered so where it fails as that one does
+pub record IsFailing (calls : List FailingCall) (call : ℕ) (row : Row) (got : MapAnswer) : Type 0 where
+  pub how : Failure
+  pub its : Contains calls (record { call = call; how = how })
+  pub is : got ≡ failed_answer how row
+
+-- a row may be answered so where that mapping call fails: as one of the calls at which the mapper may fail; or in any way, where these are not
+-- told
+abbrev pub FailsSo : Option (List FailingCall) → ℕ → Row → MapAnswer → Type 0
+FailsSo None call row got = ⊤
+FailsSo (Some calls) call row got = IsFailing calls call row got
 
 -- a mapper is steady: it may fail at no call, so each row comes out at its own place
-abbrev pub IsSteady : Option (List ℕ) → Type 0
+abbrev pub IsSteady : Option (List FailingCall) → Type 0
 IsSteady may_fail = may_fail ≡ Some []
 
 -- when a mapper may be asked to map a row, by what it holds, its capacity and the number of its mapping calls so far

@@ -2,6 +2,7 @@
 use Rattle.std.specs.Prelude.{◌≡◌, ℕ, ◌≤◌, ◌<◌, Bool, true, false, ◌&&◌, ◌==◌, List, [], ◌∷◌, find, if◌then◌else◌, All, AllPairs, Contains}
 use Rattle.std.specs.List.{list_any}
 use Rattle.std.specs.Option.{option_map_or}
+use Rattle.hp_base.specs.Mapping.{FailingCall, Failure, Misplaces, Refuses}
 use Rattle.hp_base.specs.declared.limits.TheConstants.{MAX_COUNT}
 use Rattle.hp_base.specs.declared.plan.Action.{Action}
 use Rattle.hp_base.specs.declared.plan.Action.TheVariants.{Deliver, Lose, Repeat}
@@ -44,12 +45,17 @@ has_named plan entry = list_any (λ other. names_same other entry) plan
 abbrev pub plans_mapping : List PlanEntry → ℕ → ℕ → Bool
 plans_mapping plan party call = list_any (names_mapping party call) plan
 
--- the mapping calls of a party that the plan names, in the order of its entries ("Plans")
-abbrev pub planned_calls : List PlanEntry → ℕ → List ℕ
+-- how a mapping call fails that an entry names ("Plans")
+abbrev pub failure_of : Bool → Failure
+failure_of false = Refuses
+failure_of true = Misplaces
+
+-- the mapping calls of a party that the plan names, and how they fail, in the order of its entries ("Plans")
+abbrev pub planned_calls : List PlanEntry → ℕ → List FailingCall
 planned_calls [] party = []
 planned_calls (Message kind its_party k twice line ∷ plan) party = planned_calls plan party
 planned_calls (Mapping its_party call elsewhere line ∷ plan) party =
-    if party == its_party then call ∷ planned_calls plan party else planned_calls plan party
+    if party == its_party then record { call = call; how = failure_of elsewhere } ∷ planned_calls plan party else planned_calls plan party
 
 -- two entries name different things ("Plans")
 abbrev pub IsOtherEntry : PlanEntry → PlanEntry → Type 0

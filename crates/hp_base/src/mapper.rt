@@ -1,6 +1,6 @@
-ghost use Rattle.std.specs.Prelude.{◌≡◌, ◌+◌, ◌≤◌, ◌∷◌, ◌++◌, [], ℕ, List, Option, Some, false, filter, length, not, vec_capacity, vec_len};
+ghost use Rattle.std.specs.Prelude.{◌≡◌, ◌⊎◌, ◌+◌, ◌≤◌, ◌∷◌, ◌++◌, [], ℕ, List, Option, Some, filter, length, not, vec_capacity, vec_len};
 ghost use Rattle.std.specs.List.{list_any};
-ghost use Rattle.hp_base.specs.Mapping.{Held, CanMap, held_after, is_refused, is_row, may_fail_at, own_place, without_row};
+ghost use Rattle.hp_base.specs.Mapping.{CanMap, FailingCall, FailsSo, Held, held_after, is_refused, is_row, own_place, without_row};
 ghost use Rattle.hp_base.specs.Streams.{CountsFault};
 ghost use Rattle.hp_base.specs.declared.map_answer.MapAnswer.{MapAnswer};
 
@@ -27,9 +27,10 @@ pub trait Mapper: Drop {
     /// How often mapping has failed.
     ghost faults: { Self → ℕ };
 
-    /// The mapping calls, counted from 1, at which it may fail, where that is told: refuse the row, or map it at another
-    /// place. Where it is not told it may fail at any. Mapping and unmapping never change this.
-    ghost may_fail: { Self → Option (List ℕ) };
+    /// The mapping calls, counted from 1, at which it may fail, and how, where that is told: it refuses the row, or maps
+    /// it one page above its address. Where it is not told it may fail at any call, and map the row at any place. Mapping
+    /// and unmapping never change this.
+    ghost may_fail: { Self → Option (List FailingCall) };
 
     /// Maps a row, at its own place or another, or refuses it.
     fn map(&mut self, row: &Row) -> MapAnswer
@@ -40,9 +41,9 @@ pub trait Mapper: Drop {
         ensures cause { CountsFault (faults self.old) (faults self.new) (is_refused result) }
         ensures may_fail { may_fail self.new ≡ may_fail self.old }
 
-        // At a call at which it may not fail, the row comes out at its own place.
-        ensures steady { may_fail_at (may_fail self.old) (length (answers self.old) + 1) ≡ false
-            → result ≡ own_place row.now };
+        // The row comes out at its own place, or the answer is one with which that call may fail.
+        ensures told { (result ≡ own_place row.now)
+            ⊎ FailsSo (may_fail self.old) (length (answers self.old) + 1) row.now result };
 
     /// Unmaps a row, if it is held.
     fn unmap(&mut self, row: &Row)
@@ -122,9 +123,8 @@ impl MemMapper {
 }
 
 impl Mapper for MemMapper {
-    ghost use Rattle.hp_base.specs.Mapping.{owned};
+    ghost use Rattle.hp_base.specs.Mapping.{IsFailing, owned, refusals_at};
     ghost use Rattle.hp_base.specs.MemMapping.{after_map, after_unmap, answer_to};
-    ghost use Rattle.hp_base.specs.Streams.{list_has};
 
     ghost held = { λ m. owned m.rows };
 
@@ -134,7 +134,7 @@ impl Mapper for MemMapper {
 
     ghost faults = { λ m. m.faults };
 
-    ghost may_fail = { λ m. Some m.fails };
+    ghost may_fail = { λ m. Some (refusals_at m.fails) };
 
     fn map(&mut self, row: &Row) -> MapAnswer
         requires { CanMap row.now (owned self.old.rows) self.old.capacity (length self.old.answers) }
@@ -142,8 +142,9 @@ impl Mapper for MemMapper {
         ensures capacity { self.new.capacity ≡ self.old.capacity }
         ensures answers { self.new.answers ≡ self.old.answers ++ result ∷ [] }
         ensures cause { CountsFault self.old.faults self.new.faults (is_refused result) }
-        ensures may_fail { Some self.new.fails ≡ Some self.old.fails }
-        ensures steady { list_has (length self.old.answers + 1) self.old.fails ≡ false → result ≡ own_place row.now }
+        ensures may_fail { Some (refusals_at self.new.fails) ≡ Some (refusals_at self.old.fails) }
+        ensures told { (result ≡ own_place row.now)
+            ⊎ IsFailing (refusals_at self.old.fails) (length self.old.answers + 1) row.now result }
 
         // Which answer it is, and the mapper after it.
         ensures answer { result ≡ answer_to self.old row.now }
@@ -164,7 +165,7 @@ impl Mapper for MemMapper {
         ensures capacity { self.new.capacity ≡ self.old.capacity }
         ensures answers { self.new.answers ≡ self.old.answers }
         ensures faults { self.new.faults ≡ self.old.faults }
-        ensures may_fail { Some self.new.fails ≡ Some self.old.fails }
+        ensures may_fail { Some (refusals_at self.new.fails) ≡ Some (refusals_at self.old.fails) }
 
         // The mapper without it.
         ensures after { self.new ≡ after_unmap self.old row.now }

@@ -1,12 +1,12 @@
 -- Rows that are mapped one after the other, and unmapped again where one of them failed.
-use Rattle.std.proofs.Common.{◌≡◌, ◌≤◌, ◌<◌, ℕ, ◌+◌, ◌-◌, ◌==◌, Bool, true, false, cond, List, [], ◌∷◌, ◌++◌, length, map, take, drop, get_or, Option, Some, refl, ap, ◌∙◌, sym, subst, arith, inl, inr, add-one, length-append, length-take, length-drop, take-suc, get_or-drop, append_assoc}
+use Rattle.std.proofs.Common.{◌≡◌, ◌⊎◌, ◌≤◌, ◌<◌, ℕ, ◌+◌, ◌-◌, ◌==◌, Bool, true, false, cond, List, [], ◌∷◌, ◌++◌, length, map, take, drop, get_or, Option, Some, refl, ap, ◌∙◌, sym, subst, arith, inl, inr, add-one, length-append, length-take, length-drop, take-suc, get_or-drop, append_assoc}
 use Rattle.std.proofs.Math.Seq.{take-add}
 use Rattle.std.specs.List.{list_any}
 use Rattle.std.proofs.lemmas.Bool.{cases_Bool, eq-eqb, eqb-true, and_from, and_parts}
 use Rattle.std.proofs.lemmas.List.{length-map, take-append-drop, map-append}
 use Rattle.std.proofs.lemmas.List.Elements.{All-get_or}
 use Rattle.std.proofs.lemmas.Option.{slice_get-get_or}
-use Rattle.hp_base.specs.Mapping.{Held, CanMap, at_own_place, has_addr, is_refused, may_fail_at, own_place, owned}
+use Rattle.hp_base.specs.Mapping.{CanMap, FailingCall, FailsSo, Held, at_own_place, has_addr, is_refused, own_place, owned}
 use Rattle.hp_base.specs.declared.map_answer.MapAnswer.{MapAnswer}
 use Rattle.hp_base.specs.declared.map_answer.MapAnswer.TheVariants.{At, Refused}
 use Rattle.hp_base.specs.declared.row.Row.{Row}
@@ -159,17 +159,17 @@ answered_failed rows start at d got now before first calls call from within is_b
     by_answer (At addr page socket) had away = (had, record { mapped = refl; other = not_own (get_or rows at d) (At addr page socket) away })
     by_answer Refused had away = had
 
--- the call that failed is one at which the mapper may fail
-pub failed_reason : (row : Row) (got : MapAnswer) (may_fail : Option (List ℕ)) (before call : ℕ) → is_own row got ≡ false
-    → (may_fail_at may_fail (before + 1) ≡ false → got ≡ own_place row) → call ≡ before + 1 → HasReason may_fail (caught_by row call got)
-failed_reason row got may_fail before call other steady its_call = elim (cases_Bool (may_fail_at may_fail call)) [
-  | inl may ↦ by_answer got may
-  | inr never ↦ absurd (not_own row got other (steady (ap (may_fail_at may_fail) (sym its_call) ∙ never)))
+-- at the call that failed the mapper may answer the row so
+pub failed_reason : (row : Row) (got : MapAnswer) (may_fail : Option (List FailingCall)) (before call : ℕ) → is_own row got ≡ false
+    → (got ≡ own_place row) ⊎ FailsSo may_fail (before + 1) row got → call ≡ before + 1 → HasReason may_fail (caught_by row call got)
+failed_reason row got may_fail before call other told its_call = elim told [
+  | inl own ↦ absurd (not_own row got other own)
+  | inr so ↦ by_answer got (subst (λ (n : ℕ). FailsSo may_fail n row got) (sym its_call) so)
 ]
   where
-    by_answer : (answer : MapAnswer) → may_fail_at may_fail call ≡ true → HasReason may_fail (caught_by row call answer)
-    by_answer (At addr page socket) may = may
-    by_answer Refused may = may
+    by_answer : (answer : MapAnswer) → FailsSo may_fail call row answer → HasReason may_fail (caught_by row call answer)
+    by_answer (At addr page socket) so = so
+    by_answer Refused so = so
 
 pub own_unrefused : (row : Row) (got : MapAnswer) → is_own row got ≡ true → is_refused got ≡ false
 own_unrefused row (At addr page socket) own = refl

@@ -1,40 +1,63 @@
--- At which calls a mapper with a plan may fail.
-use Rattle.std.proofs.Common.{◌≡◌, ◌==◌, ℕ, false, List, [], ◌∷◌, Option, Some, None, refl, ap, ◌∙◌, sym, arith, inl, inr}
+-- At which calls a mapper with a plan may fail, and how.
+use Rattle.std.proofs.Common.{◌≡◌, ◌⊎◌, ◌==◌, ℕ, List, [], ◌∷◌, Option, Some, None, cond, refl, ap, ◌∙◌, sym, subst, arith, inl, inr}
+use Rattle.std.specs.Prelude.{Contains}
 use Rattle.std.proofs.lemmas.Bool.{cases_Bool}
-use Rattle.hp_base.specs.Mapping.{IsSteady, may_fail_at}
+use Rattle.hp_base.specs.Mapping.{FailingCall, FailsSo, Failure, Misplaces, Refuses, failed_answer, next_place, own_place}
+use Rattle.hp_base.specs.Plans.{map_action_of, planned_calls}
+use Rattle.hp_base.specs.declared.map_answer.MapAnswer.{MapAnswer}
+use Rattle.hp_base.specs.declared.map_answer.MapAnswer.TheVariants.{Refused}
+use Rattle.hp_base.specs.declared.plan.MapAction.{MapAction}
 use Rattle.hp_base.specs.declared.plan.MapAction.TheVariants as action
 use Rattle.hp_base.specs.declared.plan_entry.PlanEntry.{PlanEntry}
 use Rattle.hp_base.specs.declared.row.Row.{Row}
-use Rattle.hp_base.proofs.PlannedMapping.{listed_call, unnamed_asks}
+use Rattle.hp_base.proofs.PlannedMapping.{IsPlannedSo, action_planned, listed_call}
 use Rattle.hp_maps.specs.PlannedView.{FailsByPlan, action_for, may_fail_by}
 
 -- over a steady mapper the calls are those that the plan names
-pub fails_by_plan : (plan : List PlanEntry) (party : ℕ) (other_may_fail : Option (List ℕ)) → FailsByPlan plan party other_may_fail
+pub fails_by_plan : (plan : List PlanEntry) (party : ℕ) (other_may_fail : Option (List FailingCall)) → FailsByPlan plan party other_may_fail
 fails_by_plan plan party None steady call = cc
 fails_by_plan plan party (Some []) steady call = listed_call plan party call
 fails_by_plan plan party (Some (other ∷ others)) steady call = cc
 
--- where a row may not fail, the other mapper is steady
-pub other_steady : (plan : List PlanEntry) (party call : ℕ) (other_may_fail : Option (List ℕ))
-    → may_fail_at (may_fail_by plan party other_may_fail) call ≡ false → IsSteady other_may_fail
-other_steady plan party call None never = cc
-other_steady plan party call (Some []) never = refl
-other_steady plan party call (Some (other ∷ others)) never = cc
+-- a call that the plan names fails as the plan says, whatever the other mapper may do
+planned_told : (plan : List PlanEntry) (party call : ℕ) (other_may_fail : Option (List FailingCall)) (row : Row) (how : Failure)
+    → Contains (planned_calls plan party) (record { call = call; how = how })
+    → FailsSo (may_fail_by plan party other_may_fail) call row (failed_answer how row)
+planned_told plan party call None row how has = tt
+planned_told plan party call (Some []) row how has = record { how = how; its = has; is = refl }
+planned_told plan party call (Some (other ∷ others)) row how has = tt
 
--- so it may not fail at any call of its own
-pub other_never_fails : (plan : List PlanEntry) (party call : ℕ) (other_may_fail : Option (List ℕ)) (own : ℕ)
-    → may_fail_at (may_fail_by plan party other_may_fail) call ≡ false → may_fail_at other_may_fail own ≡ false
-other_never_fails plan party call other_may_fail own never =
-    ap (λ (may_fail : Option (List ℕ)). may_fail_at may_fail own) (other_steady plan party call other_may_fail never)
+-- what the plan has of the mapping of a row, where it has anything, is what it has of the call
+planned_for : (plan : List PlanEntry) (party call : ℕ) (row : Row) (what : MapAction) → action_for plan party call row ≡ what
+    → (what ≡ action.Ask → ⊥) → map_action_of plan party call ≡ what
+planned_for plan party call row what is other = elim (cases_Bool (row.page == 0)) [
+  | inl empty ↦ absurd (other (sym is ∙ ap (λ b. cond b action.Ask (map_action_of plan party call)) empty))
+  | inr paged ↦ sym (ap (λ b. cond b action.Ask (map_action_of plan party call)) paged) ∙ is
+]
 
--- and it is asked
-pub asks_there : (plan : List PlanEntry) (party call : ℕ) (other_may_fail : Option (List ℕ)) (row : Row)
-    → may_fail_at (may_fail_by plan party other_may_fail) call ≡ false → action_for plan party call row ≡ action.Ask
-asks_there plan party call other_may_fail row never =
-    let steady = other_steady plan party call other_may_fail never in
-    let unnamed = sym (fails_by_plan plan party other_may_fail steady call) ∙ never in
-    let asks = unnamed_asks plan party call unnamed in
-    elim (cases_Bool (row.page == 0)) [
-      | inl empty ↦ grind (arith, empty)
-      | inr paged ↦ grind (arith, paged, asks)
-    ]
+-- where it refuses, the answer is so
+pub refused_told : (plan : List PlanEntry) (party call : ℕ) (other_may_fail : Option (List FailingCall)) (row : Row) (line : ℕ)
+    → action_for plan party call row ≡ action.Refuse line → FailsSo (may_fail_by plan party other_may_fail) call row Refused
+refused_told plan party call other_may_fail row line is =
+    planned_told plan party call other_may_fail row Refuses
+    (subst (IsPlannedSo plan party call) (planned_for plan party call row (action.Refuse line) is (λ same. cc))
+    (action_planned plan party call))
+
+-- and where it misplaces
+pub misplaced_told : (plan : List PlanEntry) (party call : ℕ) (other_may_fail : Option (List FailingCall)) (row : Row) (line : ℕ)
+    → action_for plan party call row ≡ action.Elsewhere line → FailsSo (may_fail_by plan party other_may_fail) call row (next_place row)
+misplaced_told plan party call other_may_fail row line is =
+    planned_told plan party call other_may_fail row Misplaces
+    (subst (IsPlannedSo plan party call) (planned_for plan party call row (action.Elsewhere line) is (λ same. cc))
+    (action_planned plan party call))
+
+-- where the other mapper is asked, it answers the row's own place or is not steady
+pub asked_told : (plan : List PlanEntry) (party own call : ℕ) (other_may_fail : Option (List FailingCall)) (row : Row) (got : MapAnswer)
+    → (got ≡ own_place row) ⊎ FailsSo other_may_fail own row got
+    → (got ≡ own_place row) ⊎ FailsSo (may_fail_by plan party other_may_fail) call row got
+asked_told plan party own call None row got told = inr tt
+asked_told plan party own call (Some []) row got told = elim told [
+  | inl its_own ↦ inl its_own
+  | inr so ↦ absurd (omega (arith, so.its.1))
+]
+asked_told plan party own call (Some (other ∷ others)) row got told = inr tt

@@ -1,7 +1,7 @@
 -- Catching up with the log: which rows go, which come, and what the mapper answers. The rule "Catching up" of docs/TABLES.md.
 use Rattle.std.specs.Prelude.{◌≡◌, ℕ, ◌+◌, ◌-◌, ◌*◌, ◌^◌, ◌<◌, ◌≤◌, Bool, true, false, not, ◌&&◌, List, [], ◌∷◌, ◌++◌, length, filter, map, take, drop, Option, Some, slice_get}
 use Rattle.std.specs.List.{All, list_any}
-use Rattle.hp_base.specs.Mapping.{is_refused, may_fail_at, own_place}
+use Rattle.hp_base.specs.Mapping.{FailingCall, FailsSo, is_refused, own_place}
 use Rattle.hp_base.specs.declared.caught.Caught.{Caught}
 use Rattle.hp_base.specs.declared.caught.Caught.TheVariants as caught
 use Rattle.hp_base.specs.declared.map_answer.MapAnswer.{MapAnswer}
@@ -86,11 +86,11 @@ HasAnswered fresh old new caught.Done = new ≡ old ++ map own_place fresh
 HasAnswered fresh old new (caught.Refused row call) = HasFailed fresh old new row call answer.Refused
 HasAnswered fresh old new (caught.Elsewhere row call got) = HasFailed fresh old new row call got × IsElsewhere row got
 
--- a mapping that failed has a reason: it was at a call at which the mapper may fail
-abbrev pub HasReason : Option (List ℕ) → Caught → Type 0
+-- a mapping that failed has a reason: at that call the mapper may answer the row so
+abbrev pub HasReason : Option (List FailingCall) → Caught → Type 0
 HasReason may_fail caught.Done = Unit {0}
-HasReason may_fail (caught.Refused row call) = may_fail_at may_fail call ≡ true
-HasReason may_fail (caught.Elsewhere row call got) = may_fail_at may_fail call ≡ true
+HasReason may_fail (caught.Refused row call) = FailsSo may_fail call row answer.Refused
+HasReason may_fail (caught.Elsewhere row call got) = FailsSo may_fail call row got
 
 -- the numbers of a run are within their types, also one page behind its end, where a misplaced row may come out
 pub record IsMappableRun (run : Run) : Type 0 where

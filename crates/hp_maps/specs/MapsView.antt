@@ -1,7 +1,7 @@
 -- What contracts see of a participant's table, and which of its rows are the log's: the rule "What stands in a table" of docs/TABLES.md.
 use Rattle.std.specs.Prelude.{◌≡◌, ℕ, ◌≤◌, Bool, false, not, nat_lt, List, Option, filter, length, count_by}
 use Rattle.std.specs.List.{All, list_any}
-use Rattle.hp_base.specs.Mapping.{Held, has_addr, owned}
+use Rattle.hp_base.specs.Mapping.{FailingCall, Held, has_addr, owned}
 use Rattle.hp_base.specs.declared.map_answer.MapAnswer.{MapAnswer}
 use Rattle.hp_base.specs.declared.row.Row.{Row}
 
@@ -16,8 +16,8 @@ pub record MapsView : Type 0 where
   pub answers : List MapAnswer
   -- how often its mapper failed
   pub faults : ℕ
-  -- the calls of its mapper at which a row may fail, where that is told
-  pub may_fail : Option (List ℕ)
+  -- the calls of its mapper at which a row may fail, and how, where that is told
+  pub may_fail : Option (List FailingCall)
   -- what its mapper holds
   pub held : List Held
 

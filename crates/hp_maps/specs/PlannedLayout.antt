@@ -1,9 +1,8 @@
 -- How a mapper with a plan is kept. No public clause cites this module.
 use Rattle.std.specs.Prelude.{◌≡◌, ℕ, ◌<◌, ◌≤◌, List, [], ◌∷◌, length, Option, Some, None, IfSome}
-use Rattle.hp_base.specs.Mapping.{Held}
+use Rattle.hp_base.specs.Mapping.{Held, next_place}
 use Rattle.hp_base.specs.declared.map_answer.MapAnswer.{MapAnswer}
 use Rattle.hp_base.specs.declared.row.Row.{Row}
-use Rattle.hp_maps.specs.PlannedView.{next_place}
 
 -- a row that is misplaced is held one page further on
 abbrev pub misplaced_held : Option Row → List Held

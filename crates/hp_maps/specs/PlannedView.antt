@@ -1,9 +1,9 @@
 -- A mapper that refuses or misplaces rows by a plan: the rule "Mapping faults" of docs/TABLES.md.
-use Rattle.std.specs.Prelude.{◌≡◌, ℕ, ◌+◌, ◌==◌, List, [], ◌∷◌, ◌++◌, Option, Some, None, if◌then◌else◌}
-use Rattle.hp_base.specs.Mapping.{Held, IsSteady, may_fail_at}
+use Rattle.std.specs.Prelude.{◌≡◌, ℕ, ◌==◌, List, [], ◌∷◌, ◌++◌, Option, Some, None, if◌then◌else◌}
+use Rattle.hp_base.specs.Mapping.{FailingCall, Held, IsSteady, may_fail_at, next_place}
 use Rattle.hp_base.specs.Plans.{map_action_of, planned_calls, plans_mapping}
 use Rattle.hp_base.specs.declared.map_answer.MapAnswer.{MapAnswer}
-use Rattle.hp_base.specs.declared.map_answer.MapAnswer.TheVariants.{At, Refused}
+use Rattle.hp_base.specs.declared.map_answer.MapAnswer.TheVariants.{Refused}
 use Rattle.hp_base.specs.declared.plan.MapAction.{MapAction}
 use Rattle.hp_base.specs.declared.plan.MapAction.TheVariants as action
 use Rattle.hp_base.specs.declared.plan_entry.PlanEntry.{PlanEntry}
@@ -19,28 +19,25 @@ pub record PlannedView : Type 0 where
   pub asked : List MapAnswer
   -- how often it refused, or the other mapper did
   pub faults : ℕ
-  -- the calls of the other mapper at which a row may fail, where that is told
-  pub other_may_fail : Option (List ℕ)
+  -- the calls of the other mapper at which a row may fail, and how, where that is told
+  pub other_may_fail : Option (List FailingCall)
   -- the plan, and the party that the plan names
   pub plan : List PlanEntry
   pub party : ℕ
-
--- a place one page further on
-abbrev pub next_place : Row → MapAnswer
-next_place row = At (row.addr + row.page) row.page row.socket
 
 -- what the plan has of the mapping of a row, by the number of the call: a row without bytes has no page further on
 abbrev pub action_for : List PlanEntry → ℕ → ℕ → Row → MapAction
 action_for plan party call row = if row.page == 0 then action.Ask else map_action_of plan party call
 
--- the mapping calls of a party at which a row may fail: those that the plan names, where the other mapper is steady; else it may fail at any
-abbrev pub may_fail_by : List PlanEntry → ℕ → Option (List ℕ) → Option (List ℕ)
+-- the mapping calls of a party at which a row may fail, and how: those that the plan names, where the other mapper is steady; else it may fail
+-- at any, and in any way
+abbrev pub may_fail_by : List PlanEntry → ℕ → Option (List FailingCall) → Option (List FailingCall)
 may_fail_by plan party None = None
 may_fail_by plan party (Some []) = Some (planned_calls plan party)
 may_fail_by plan party (Some (call ∷ calls)) = None
 
 -- over a mapper that is steady, a row may fail exactly at the calls that the plan names
-abbrev pub FailsByPlan : List PlanEntry → ℕ → Option (List ℕ) → Type 0
+abbrev pub FailsByPlan : List PlanEntry → ℕ → Option (List FailingCall) → Type 0
 FailsByPlan plan party other_may_fail = IsSteady other_may_fail → (call : ℕ)
     → may_fail_at (may_fail_by plan party other_may_fail) call ≡ plans_mapping plan party call
 

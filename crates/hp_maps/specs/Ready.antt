@@ -4,6 +4,7 @@ use Rattle.std.specs.Prelude.{◌≡◌, ◌⊎◌, ℕ, ◌+◌, ◌-◌, ◌/�
 use Rattle.std.specs.List.{All}
 use Rattle.std.specs.List.Sorted.{IsPermutation}
 use Rattle.hp_base.specs.ExternalMemory.{IsExternalMemory}
+use Rattle.hp_base.specs.Mapping.{FailingCall}
 use Rattle.hp_base.specs.declared.caught.Caught.{Caught}
 use Rattle.hp_base.specs.declared.chunk.Chunk.{Chunk}
 use Rattle.hp_base.specs.declared.event.EventKind.TheVariants as kind
@@ -34,7 +35,7 @@ pub record IsReady (lists : List ListPlace) (maps : MapsView) (records : List Lo
 
 -- so it is with a new table, where it has room for all slots
 abbrev pub NewIsReady : Type 0
-NewIsReady = (lists : List ListPlace) (capacity faults : ℕ) (may_fail : Option (List ℕ)) (records : List LogRecord) (to : ℕ) → IsLogOf lists records
+NewIsReady = (lists : List ListPlace) (capacity faults : ℕ) (may_fail : Option (List FailingCall)) (records : List LogRecord) (to : ℕ) → IsLogOf lists records
     → to ≤ length records → slots_in lists ≤ capacity
     → IsReady lists
     (record { rows = []; number = 0; capacity = capacity; answers = []; faults = faults; may_fail = may_fail; held = [] })

@@ -1,5 +1,6 @@
 //! Laws of the definitions. They are proved of all values, and their functions have no code.
 ghost use Rattle.std.specs.Prelude.{List, Option, ℕ};
+ghost use Rattle.hp_base.specs.Mapping.{FailingCall};
 ghost use Rattle.hp_base.specs.declared.caught.Caught.{Caught};
 ghost use Rattle.hp_base.specs.declared.event.EventKind.{EventKind};
 ghost use Rattle.hp_base.specs.declared.plan_entry.PlanEntry.{PlanEntry};
@@ -54,7 +55,7 @@ pub fn stays_mapped_law()
 
 /// Over a mapper that is steady, a mapper with a plan may fail exactly at the mapping calls of its party that the plan names.
 pub fn planned_law()
-    ensures { (plan : List PlanEntry) (party : ℕ) (other_may_fail : Option (List ℕ)) → FailsByPlan plan party other_may_fail }
+    ensures { (plan : List PlanEntry) (party : ℕ) (other_may_fail : Option (List FailingCall)) → FailsByPlan plan party other_may_fail }
 {}
 
 /// In a well-formed log no slot has two rows.

@@ -1,6 +1,6 @@
 //! Rows that a mapper maps and unmaps.
-ghost use Rattle.std.specs.Prelude.{◌≡◌, ◌+◌, ◌*◌, ◌^◌, ◌<◌, ◌≤◌, ◌++◌, ◌∷◌, [], false, length, drop};
-ghost use Rattle.hp_base.specs.Mapping.{CanMap, is_refused, may_fail_at, own_place, owned};
+ghost use Rattle.std.specs.Prelude.{◌≡◌, ◌⊎◌, ◌+◌, ◌*◌, ◌^◌, ◌<◌, ◌≤◌, ◌++◌, ◌∷◌, [], length, drop};
+ghost use Rattle.hp_base.specs.Mapping.{CanMap, FailsSo, is_refused, own_place, owned};
 ghost use Rattle.hp_base.specs.Streams.{CountsFault};
 ghost use Rattle.hp_maps.specs.Catching.{HasAnswered, HasReason, was_refused};
 ghost use Rattle.hp_maps.specs.Unmapping.{CanMapRows, caught_by, held_own, is_own, rows_mapped, without_rows};
@@ -60,8 +60,8 @@ fn map_own<M: Mapper>(mapper: &mut M, row: &Row) -> MapAnswer
     ensures answers { M.answers mapper.new ≡ M.answers mapper.old ++ result ∷ [] }
     ensures cause { CountsFault (M.faults mapper.old) (M.faults mapper.new) (is_refused result) }
     ensures may_fail { M.may_fail mapper.new ≡ M.may_fail mapper.old }
-    ensures steady { may_fail_at (M.may_fail mapper.old) (length (M.answers mapper.old) + 1) ≡ false
-        → result ≡ own_place row.now }
+    ensures told { (result ≡ own_place row.now)
+        ⊎ FailsSo (M.may_fail mapper.old) (length (M.answers mapper.old) + 1) row.now result }
 {
     let got = mapper.map(row);
     if !is_own(row, got) {

@@ -1,7 +1,7 @@
-ghost use Rattle.std.specs.Prelude.{◌≡◌, ◌+◌, ◌*◌, ◌^◌, ◌<◌, ◌≤◌, ◌++◌, ◌∷◌, [], false, length, IfSome};
-ghost use Rattle.hp_base.specs.Mapping.{CanMap, held_after, is_refused, is_row, may_fail_at, own_place, without_row};
+ghost use Rattle.std.specs.Prelude.{◌≡◌, ◌⊎◌, ◌+◌, ◌*◌, ◌^◌, ◌<◌, ◌≤◌, ◌++◌, ◌∷◌, [], length, IfSome};
+ghost use Rattle.hp_base.specs.Mapping.{CanMap, FailsSo, held_after, is_refused, is_row, next_place, own_place, without_row};
 ghost use Rattle.hp_base.specs.Streams.{CountsFault};
-ghost use Rattle.hp_maps.specs.PlannedView.{action_for, may_fail_by, next_place, IsPlannedAnswer};
+ghost use Rattle.hp_maps.specs.PlannedView.{action_for, may_fail_by, IsPlannedAnswer};
 ghost use Rattle.hp_maps.specs.PlannedLayout.{misplaced_held};
 
 use crate::rows::is_row;
@@ -91,8 +91,8 @@ impl<'p, M: Mapper> Mapper for Planned<'p, M> {
         ensures cause { CountsFault self.old.faults self.new.faults (is_refused result) }
         ensures may_fail { may_fail_by self.new.plan self.new.party self.new.other_may_fail
             ≡ may_fail_by self.old.plan self.old.party self.old.other_may_fail }
-        ensures steady { may_fail_at (may_fail_by self.old.plan self.old.party self.old.other_may_fail) (length self.old.answers + 1) ≡ false
-            → result ≡ own_place row.now }
+        ensures told { (result ≡ own_place row.now)
+            ⊎ FailsSo (may_fail_by self.old.plan self.old.party self.old.other_may_fail) (length self.old.answers + 1) row.now result }
 
         // The answer is what the plan has of that call, and else that of the other mapper.
         ensures planned { IsPlannedAnswer

@@ -5,6 +5,7 @@ use Rattle.std.proofs.lemmas.List.Elements.{All-cons, All-nil, All-weaker}
 use Rattle.std.proofs.lemmas.List.Sums.{length-filter}
 use Rattle.std.proofs.lemmas.Bool.{cases_Bool, eqb-true}
 use Rattle.std.proofs.lemmas.Bool.Decides.{nat_tests}
+use Rattle.hp_base.specs.Mapping.{FailingCall}
 use Rattle.hp_base.specs.declared.caught.Caught.{Caught}
 use Rattle.hp_base.specs.declared.caught.Caught.TheVariants as caught
 use Rattle.hp_base.specs.declared.chunk.Chunk.{Chunk}
@@ -21,7 +22,7 @@ use Rattle.hp_maps_tests.proofs.Filters.{any_none, filter_agree, filter_drops, f
 use Rattle.hp_maps_tests.specs.Known.{IsKnown, StaysKnown, worked_chunk, worked_lists, worked_place}
 
 -- a new table is known
-pub known_new : (maps : MapsView) (faults : ℕ) (may_fail : Option (List ℕ)) (records : List LogRecord)
+pub known_new : (maps : MapsView) (faults : ℕ) (may_fail : Option (List FailingCall)) (records : List LogRecord)
     → maps ≡ record { rows = []; number = 0; capacity = 4; answers = []; faults = faults; may_fail = may_fail; held = [] }
     → IsLogOf worked_lists records → IsKnown maps records 0
 known_new maps faults may_fail records made log =

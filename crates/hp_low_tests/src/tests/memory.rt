@@ -1,6 +1,6 @@
 //! Worked values of what stands for the outside: the mapper, the plan, the clock, and where elements and slots lie.
 ghost use Rattle.std.specs.Prelude.{◌≡◌, [], ◌+◌, ◌*◌, ◌<◌, Some, false, true, IfOk};
-ghost use Rattle.hp_base.specs.Mapping.{IsSteady, may_fail_at};
+ghost use Rattle.hp_base.specs.Mapping.{IsSteady, may_fail_at, refusals_at};
 
 use super::{ended, holds};
 use hp_base::{
@@ -61,16 +61,16 @@ fn a_mapper_refuses_its_second_call(rt: HostRuntime) -> Result<(), Fail> {
 
 // A mapper that is told no call to fail at is steady.
 fn steady_mapper(alloc: Global) -> Result<MemMapper, AllocError>
-    ensures { IfOk result (λ mapper. IsSteady (Some mapper.fails)) }
+    ensures { IfOk result (λ mapper. IsSteady (Some (refusals_at mapper.fails))) }
 {
     MemMapper::new(alloc, 3)
 }
 
 // One that is told calls 2 and 5 may fail at these, and at call 3 it may not.
 fn unsteady_mapper(alloc: Global) -> Result<MemMapper, AllocError>
-    ensures second { IfOk result (λ mapper. may_fail_at (Some mapper.fails) 2 ≡ true) }
-    ensures third { IfOk result (λ mapper. may_fail_at (Some mapper.fails) 3 ≡ false) }
-    ensures fifth { IfOk result (λ mapper. may_fail_at (Some mapper.fails) 5 ≡ true) }
+    ensures second { IfOk result (λ mapper. may_fail_at (Some (refusals_at mapper.fails)) 2 ≡ true) }
+    ensures third { IfOk result (λ mapper. may_fail_at (Some (refusals_at mapper.fails)) 3 ≡ false) }
+    ensures fifth { IfOk result (λ mapper. may_fail_at (Some (refusals_at mapper.fails)) 5 ≡ true) }
 {
     let mut mapper = MemMapper::new(alloc, 3)?;
     mapper.fail_at(Vec::from_slice(alloc, &[2, 5])?);

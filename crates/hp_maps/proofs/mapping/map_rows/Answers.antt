@@ -1,7 +1,7 @@
 -- One row more is mapped, or the rows are unmapped again.
-use Rattle.std.proofs.Common.{◌≡◌, ◌+◌, ◌-◌, ℕ, List, Option, false, length, take, drop, map, get_or, arith, length-append, length-take, length-drop, ap, ◌∙◌, sym, subst}
+use Rattle.std.proofs.Common.{◌≡◌, ◌⊎◌, ◌+◌, ◌-◌, ℕ, List, Option, false, length, take, drop, map, get_or, arith, length-append, length-take, length-drop, ap, ◌∙◌, sym, subst}
 use Rattle.std.proofs.lemmas.List.{length-map}
-use Rattle.hp_base.specs.Mapping.{may_fail_at, own_place, owned}
+use Rattle.hp_base.specs.Mapping.{FailingCall, FailsSo, own_place, owned}
 use Rattle.hp_base.specs.declared.caught.Caught.{Caught}
 use Rattle.hp_maps.specs.Catching.{HasAnswered, HasReason}
 use Rattle.hp_maps.specs.Unmapping.{rows_mapped}
@@ -46,7 +46,8 @@ returns-then-not-is_own-clause-reason g c =
     let n = length (g.M.Mapper.answers c.loop-at.mapper) in
     subst (λ (caught : Caught). HasReason (g.M.Mapper.may_fail c.args.mapper.now) caught) (sym c.failed.ensures)
     (failed_reason row c.map_own-got.result (g.M.Mapper.may_fail c.args.mapper.now) n _ other
-    (subst (λ (may_fail : Option (List ℕ)). may_fail_at may_fail (n + 1) ≡ false → c.map_own-got.result ≡ own_place row) same c.map_own-got.ensures.steady)
+    (subst (λ (may_fail : Option (List FailingCall)). (c.map_own-got.result ≡ own_place row) ⊎ FailsSo may_fail (n + 1) row c.map_own-got.result)
+    same c.map_own-got.ensures.told)
     (omega (
       arith,
       ap length c.loop-at.invariant.answered,
