@@ -1,5 +1,6 @@
 -- What was done of a line that attaches or detaches, and what it leaves.
-use Rattle.std.proofs.Common.{◌≡◌, ◌≢◌, ◌∙◌, ℕ, ◌<◌, Bool, true, false, List, [], ◌∷◌, ◌++◌, append-nil, length, None, refl, ap, sym, subst, arith}
+use Rattle.std.proofs.Common.{◌≡◌, ◌≢◌, ◌∙◌, ℕ, ◌<◌, Bool, true, false, ◌||◌, List, [], ◌∷◌, ◌++◌, append-nil, length, Some, None, refl, ap, sym, subst, arith}
+use Rattle.std.proofs.Math.Bool.{or-false, or-true}
 use Rattle.hp_base.specs.Mapping.{is_done}
 use Rattle.hp_base.specs.declared.caught.Caught.{Caught}
 use Rattle.hp_base.specs.declared.caught.Caught.TheVariants.{Done, Refused, Elsewhere}
@@ -15,7 +16,7 @@ use Rattle.hp_segs.specs.LaterSteps.{after_leave}
 use Rattle.hp_segs.specs.SegsView.{SegsView}
 use Rattle.hp_segs.specs.declared.outcome.AskLog.{AskLog}
 use Rattle.hp_proc.specs.Acting.{Acts, AreAsked}
-use Rattle.hp_proc.specs.Attaching.{Attaches, after_attaching, after_detaching, standing_tried}
+use Rattle.hp_proc.specs.Attaching.{Attaches, after_attaching, after_detaching, joined_after, standing_tried}
 use Rattle.hp_proc.specs.Contexts.{AreFactsOf, Context, after_calls}
 use Rattle.hp_proc.specs.Courses.{HasRequest, Standing, after_line, attached_after, element_brought, records_after}
 use Rattle.hp_proc.specs.Doing.{Doing, Done as Did, Goes, Leads}
@@ -51,6 +52,19 @@ known_none : (socket : ℕ) (context : Context) (line : Line) (deed : Act) → l
     → AreFactsOf socket context line (facts_for socket context line.act None)
 known_none socket context line deed is has =
     facts_known socket context line None (subst (λ (done : Act). HasRequest done None) (sym is) has)
+
+-- who tried to attach is in the roster where all was mapped, and else as before
+pub joined_by : (records : ℕ) (caught : Caught) (given : Answer) (before after : Bool) → attached_with records caught ≡ Doing.Ended given
+    → after ≡ (before || is_done caught) → after ≡ joined_after (Some given) before
+joined_by records Done given before after is joined =
+    let given_is : given ≡ answer.Records records = cc in
+    subst (λ (given : Answer). after ≡ joined_after (Some given) before) (sym given_is) (joined ∙ or-true before)
+joined_by records (Refused row call) given before after is joined =
+    let given_is : given ≡ answer.Refused call = cc in
+    subst (λ (given : Answer). after ≡ joined_after (Some given) before) (sym given_is) (joined ∙ or-false before)
+joined_by records (Elsewhere row call got) given before after is joined =
+    let given_is : given ≡ answer.Refused call = cc in
+    subst (λ (given : Answer). after ≡ joined_after (Some given) before) (sym given_is) (joined ∙ or-false before)
 
 -- what a line leaves that tried to attach
 tried_leaves : (line : Line) (records : ℕ) (caught : Caught) (given : Answer) (trace : List Did) (standing : Standing)

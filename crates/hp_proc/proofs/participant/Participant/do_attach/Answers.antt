@@ -2,7 +2,7 @@
 use Rattle.std.proofs.Common.{◌∙◌, ap, sym}
 use Rattle.hp_proc.specs.Attaching.{standing_tried}
 use Rattle.hp_proc.specs.Party.{Party}
-use Rattle.hp_proc.proofs.AttachedLines.{attached_same, line_already, line_tried, ready_noted, refused_failed}
+use Rattle.hp_proc.proofs.AttachedLines.{attached_same, joined_by, line_already, line_tried, ready_noted, refused_failed}
 use Rattle.hp_proc.proofs.HandGiven.{ready_still}
 use Rattle.hp_hall.proofs.HallStates.{did_same}
 use Rattle.hp_proc.specs.InHall.{did_in}
@@ -67,3 +67,10 @@ returns-clause-changes g c =
     let is = c.attach-caught.ensures in
     changes_noted party mid (standing_tried mid.maps.number c.attach-caught.result mid.context.standing)
     (attached_same party mid is.did.0.log c.attach-caught.result is.did.1) c.note_attached.ensures.noted is.tied is.stays.slots is.stays.others
+
+pub returns-clause-roster : goal.returns-clause-roster
+returns-clause-roster g c =
+    let me = c.args.self.now.me in
+    joined_by c.attach-caught.new.self.maps.number c.attach-caught.result c.note_attached.result
+    ((g.H.Hall.state c.args.hall.now).joined me) ((g.H.Hall.state c.attach-caught.new.hall).joined me) c.note_attached.ensures.given
+    c.attach-caught.ensures.roster

@@ -58,3 +58,6 @@ returns-clause-changes g c =
     let is = c.detach.ensures in
     changes_noted party mid (record mid.context.standing { attached = false }) (detached_same party mid is.party) c.note_detached.ensures.noted is.tied
     is.stays.slots is.stays.others
+
+pub returns-clause-roster : goal.returns-clause-roster
+returns-clause-roster g c = c.detach.ensures.roster
