@@ -16,7 +16,7 @@ use Rattle.hp_segs.specs.LaterSteps.{after_leave}
 use Rattle.hp_segs.specs.SegsView.{SegsView}
 use Rattle.hp_segs.specs.declared.outcome.AskLog.{AskLog}
 use Rattle.hp_proc.specs.Acting.{Acts, AreAsked}
-use Rattle.hp_proc.specs.Attaching.{Attaches, after_attaching, after_detaching, joined_after, standing_tried}
+use Rattle.hp_proc.specs.Attaching.{Attaches, after_attaching, after_detaching, standing_tried}
 use Rattle.hp_proc.specs.Contexts.{AreFactsOf, Context, after_calls}
 use Rattle.hp_proc.specs.Courses.{HasRequest, Standing, after_line, attached_after, element_brought, records_after}
 use Rattle.hp_proc.specs.Doing.{Doing, Done as Did, Goes, Leads}
@@ -54,17 +54,35 @@ known_none socket context line deed is has =
     facts_known socket context line None (subst (λ (done : Act). HasRequest done None) (sym is) has)
 
 -- who tried to attach is in the roster where all was mapped, and else as before
-pub joined_by : (records : ℕ) (caught : Caught) (given : Answer) (before after : Bool) → attached_with records caught ≡ Doing.Ended given
-    → after ≡ (before || is_done caught) → after ≡ joined_after (Some given) before
-joined_by records Done given before after is joined =
+pub joined_by : (deed : Act) (records : ℕ) (caught : Caught) (given : Answer) (before after : Bool) → deed ≡ act.Attach
+    → attached_with records caught ≡ Doing.Ended given → after ≡ (before || is_done caught) → after ≡ attached_after deed given before
+joined_by deed records Done given before after attach is joined =
     let given_is : given ≡ answer.Records records = cc in
-    subst (λ (given : Answer). after ≡ joined_after (Some given) before) (sym given_is) (joined ∙ or-true before)
-joined_by records (Refused row call) given before after is joined =
+    subst (λ (deed : Act). after ≡ attached_after deed given before) (sym attach)
+    (subst (λ (given : Answer). after ≡ attached_after act.Attach given before) (sym given_is) (joined ∙ or-true before))
+joined_by deed records (Refused row call) given before after attach is joined =
     let given_is : given ≡ answer.Refused call = cc in
-    subst (λ (given : Answer). after ≡ joined_after (Some given) before) (sym given_is) (joined ∙ or-false before)
-joined_by records (Elsewhere row call got) given before after is joined =
+    subst (λ (deed : Act). after ≡ attached_after deed given before) (sym attach)
+    (subst (λ (given : Answer). after ≡ attached_after act.Attach given before) (sym given_is) (joined ∙ or-false before))
+joined_by deed records (Elsewhere row call got) given before after attach is joined =
     let given_is : given ≡ answer.Refused call = cc in
-    subst (λ (given : Answer). after ≡ joined_after (Some given) before) (sym given_is) (joined ∙ or-false before)
+    subst (λ (deed : Act). after ≡ attached_after deed given before) (sym attach)
+    (subst (λ (given : Answer). after ≡ attached_after act.Attach given before) (sym given_is) (joined ∙ or-false before))
+
+-- who was attached is in the roster as before
+pub joined_still : (deed : Act) (given : Answer) (before : Bool) → deed ≡ act.Attach → given ≡ answer.Already
+    → before ≡ attached_after deed given before
+joined_still deed given before attach is =
+    subst (λ (deed : Act). before ≡ attached_after deed given before) (sym attach)
+    (subst (λ (given : Answer). before ≡ attached_after act.Attach given before) (sym is) refl)
+
+-- and so is who was out
+pub joined_out : (deed : Act) (before : Bool) → deed ≡ act.Detach → before ≡ attached_after deed answer.Detached before
+joined_out deed before detach = subst (λ (deed : Act). before ≡ attached_after deed answer.Detached before) (sym detach) refl
+
+-- who detached is in it no longer
+pub joined_left : (deed : Act) (before after : Bool) → deed ≡ act.Detach → after ≡ false → after ≡ attached_after deed answer.Done before
+joined_left deed before after detach is = subst (λ (deed : Act). after ≡ attached_after deed answer.Done before) (sym detach) is
 
 -- what a line leaves that tried to attach
 tried_leaves : (line : Line) (records : ℕ) (caught : Caught) (given : Answer) (trace : List Did) (standing : Standing)

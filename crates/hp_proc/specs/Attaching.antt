@@ -1,12 +1,10 @@
 -- What a participant does that attaches or detaches: the rule "Lines" of docs/PARTICIPANTS.md.
-use Rattle.std.specs.Prelude.{◌≡◌, ℕ, ◌<◌, Bool, true, false, List, [], Option, Some}
+use Rattle.std.specs.Prelude.{◌≡◌, ℕ, ◌<◌, true, false, List, []}
 use Rattle.hp_base.specs.Mapping.{is_done}
 use Rattle.hp_base.specs.declared.caught.Caught.{Caught}
 use Rattle.hp_base.specs.declared.caught.Caught.TheVariants.{Done, Refused, Elsewhere}
 use Rattle.hp_log.specs.declared.log_record.LogRecord.{LogRecord}
 use Rattle.hp_maps.specs.MapsView.{MapsView}
-use Rattle.hp_script.specs.declared.answer.Answer.{Answer}
-use Rattle.hp_script.specs.declared.answer.Answer.TheVariants as answer
 use Rattle.hp_segs.specs.LaterSteps.{after_join}
 use Rattle.hp_segs.specs.SegsView.{SegsView}
 use Rattle.hp_proc.specs.Courses.{Standing}
@@ -39,13 +37,6 @@ pub record Attaches (party after : Party) (log : List LogRecord) (caught : Caugh
 -- a participant that has detached: it has no table
 abbrev pub after_detaching : Party → Party
 after_detaching party = record party { maps = emptied party.maps; joined = false }
-
--- whether a participant is in the roster after a line that attaches or detaches, by the answer and by whether it was in it before: it is
--- where it attached, it is not where it detached, and else it is as before
-abbrev pub joined_after : Option Answer → Bool → Bool
-joined_after (Some (answer.Records records)) before = true
-joined_after (Some answer.Done) before = false
-joined_after _ before = before
 
 -- what a line leaves that tried to attach: where all was mapped its participant is attached, with so many records; elements stay where they lie
 abbrev pub standing_tried : ℕ → Caught → Standing → Standing
