@@ -40,7 +40,7 @@ pub record HallState : Type 1 where
   pub noted : ℕ → ℕ → Noted
   -- how often a mailbox was full
   pub fulls : ℕ
-  -- one of those who serve in the hall has met a refusal of memory
+  -- one of those who serve in the hall has met a refusal of memory, as far as the hall has seen
   pub stopped : Bool
   -- the number that falls, beside the deadlines that are pending
   pub weight : ℕ

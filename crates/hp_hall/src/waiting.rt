@@ -34,7 +34,7 @@ pub trait Waiting: Hall {
             ⊎ IsSomeAnd until (λ deadline. (Self.state self.new).clock ≤ deadline) }
         ensures goes_on { Self.goes_on self.old self.new };
 
-    /// Whether a participant has met a refusal of memory while it served.
+    /// Whether a participant has met a refusal of memory while it served, as the hall last saw: over threads it looks when it pauses.
     fn stopped(&self) -> bool
         ensures { result ≡ (Self.state self.now).stopped };
 }

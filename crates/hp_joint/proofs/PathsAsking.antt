@@ -2,6 +2,7 @@
 use Rattle.std.proofs.Common.{◌≡◌, ◌∙◌, ℕ, ◌+◌, ◌*◌, ◌^◌, ◌≤◌, true, false, List, [], ◌∷◌, ◌++◌, Option, Some, refl, sym, ap, subst, arith}
 use Rattle.std.specs.Prelude.{min}
 use Rattle.std.proofs.lemmas.List.{append-nil, append_assoc}
+use Rattle.hp_base.specs.declared.limits.TheConstants.{MAX_READING}
 use Rattle.hp_base.specs.declared.row.Run.{Run}
 use Rattle.hp_hall.specs.Mail.{MailStep, Notes}
 use Rattle.hp_hall.specs.declared.note.Note.TheVariants.{Read}
@@ -9,7 +10,7 @@ use Rattle.hp_segs.specs.LaterSteps.{after_arm, after_withdraw}
 use Rattle.hp_segs.specs.SegsView.{SegsView}
 use Rattle.hp_segs.specs.Steps.{after_claim}
 use Rattle.hp_segs.specs.declared.ask.Ask.{Ask}
-use Rattle.hp_proc.specs.AskSteps.{DoesAsk, DoesNotify, IsAwaitedBy, IsSentAs, IsSettledLate, latest, waits_until}
+use Rattle.hp_proc.specs.AskSteps.{DoesAsk, DoesNotify, IsAwaitedBy, IsSentAs, IsSettledLate, waits_until}
 use Rattle.hp_proc.specs.Asking.{after_settling, alloc_body, free_body, next_number}
 use Rattle.hp_proc.specs.Doing.{Done}
 use Rattle.hp_proc.specs.Doing.Done.{Asked, GaveUp}
@@ -156,7 +157,7 @@ module _ (count who : ℕ) (ask : Ask) (party : Party) (from : ask.from ≡ who)
       handled_only taken _ _ steps are is seat (Handles.settles (seated party seat) taken since now late)
 
 -- the reading from which it waits is none of the last half of the clock's type
-early_by : (since now : ℕ) → since ≡ min now latest → since ≤ 2 ^ 63
+early_by : (since now : ℕ) → since ≡ min now MAX_READING → since ≤ 2 ^ 63
 early_by since now is = omega (arith, is)
 
 -- its deadlines have passed

@@ -2,6 +2,7 @@
 use Rattle.std.proofs.Common.{◌≡◌, ◌∙◌, ℕ, ◌+◌, true, List, [], ◌∷◌, ◌++◌, Option, Some, refl, ap, sym, subst}
 use Rattle.std.specs.Prelude.{min}
 use Rattle.hp_base.specs.Plans.{action_of}
+use Rattle.hp_base.specs.declared.limits.TheConstants.{MAX_READING}
 use Rattle.hp_base.specs.declared.plan_entry.MsgKind.TheVariants as message
 use Rattle.hp_base.specs.declared.row.Run.{Run}
 use Rattle.hp_frame.specs.declared.frame.Frame.{Frame}
@@ -11,7 +12,7 @@ use Rattle.hp_mail.specs.declared.posted.Posted.{Posted}
 use Rattle.hp_segs.specs.LaterSteps.{after_arm}
 use Rattle.hp_segs.specs.SegsView.{SegsView}
 use Rattle.hp_segs.specs.declared.ask.Ask.{Ask}
-use Rattle.hp_proc.specs.AskSteps.{DoesAsk, DoesNotify, IsAwaitedBy, IsSentAs, latest, waits_until}
+use Rattle.hp_proc.specs.AskSteps.{DoesAsk, DoesNotify, IsAwaitedBy, IsSentAs, waits_until}
 use Rattle.hp_proc.specs.Asking.{alloc_body, free_body, next_number}
 use Rattle.hp_proc.specs.Frames.{Says}
 use Rattle.hp_proc.specs.Outcomes.{ask_of}
@@ -35,7 +36,7 @@ sends party ask taken now frame posted =
 -- its ask was sent, by the number that is its last one behind that
 pub sent_as : (party after : Party) (asked : PagesAsked) (ask : Ask) (since now : ℕ) (taken : SegsView) (frame : Frame) (posted : Posted)
     → ask ≡ ask_of party.me ask.number asked → ask.number ≡ next_number party.asked taken.asks party.me → after.asked ≡ ask.number
-    → since ≡ min now latest → Says frame (alloc_body ask)
+    → since ≡ min now MAX_READING → Says frame (alloc_body ask)
     → IsSentAs party (ask_of party.me after.asked asked) since (sends party ask taken now frame posted)
 sent_as party after asked ask since now taken frame posted ask_is number after_is read says =
     subst (λ named. IsSentAs party named since (sends party ask taken now frame posted))
@@ -44,7 +45,7 @@ sent_as party after asked ask since now taken frame posted ask_is number after_i
 
 pub does_ask : (count : ℕ) (party mid after : Party) (asked : PagesAsked) (ask : Ask) (since now : ℕ) (taken : SegsView) (frame : Frame)
     (posted : Posted) (rest : List MailStep) (run : Option Run) → ask ≡ ask_of party.me ask.number asked
-    → ask.number ≡ next_number party.asked taken.asks party.me → since ≡ min now latest → after.asked ≡ ask.number
+    → ask.number ≡ next_number party.asked taken.asks party.me → since ≡ min now MAX_READING → after.asked ≡ ask.number
     → mid ≡ after_alloc ask.number party → Says frame (alloc_body ask) → IsAwaitedBy count mid after ask since rest run
     → DoesAsk count party after asked (sends party ask taken now frame posted ++ rest) run
 does_ask count party mid after asked ask since now taken frame posted rest run ask_is number read after_is mid_is says awaited =

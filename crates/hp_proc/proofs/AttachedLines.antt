@@ -1,5 +1,6 @@
 -- What was done of a line that attaches or detaches, and what it leaves.
-use Rattle.std.proofs.Common.{◌≡◌, ◌≢◌, ◌∙◌, ℕ, ◌<◌, Bool, true, false, List, [], ◌∷◌, ◌++◌, append-nil, length, None, refl, ap, sym, subst, arith}
+use Rattle.std.proofs.Common.{◌≡◌, ◌≢◌, ◌∙◌, ℕ, ◌<◌, Bool, true, false, ◌||◌, List, [], ◌∷◌, ◌++◌, append-nil, length, Some, None, refl, ap, sym, subst, arith}
+use Rattle.std.proofs.Math.Bool.{or-false, or-true}
 use Rattle.hp_base.specs.Mapping.{is_done}
 use Rattle.hp_base.specs.declared.caught.Caught.{Caught}
 use Rattle.hp_base.specs.declared.caught.Caught.TheVariants.{Done, Refused, Elsewhere}
@@ -51,6 +52,37 @@ known_none : (socket : ℕ) (context : Context) (line : Line) (deed : Act) → l
     → AreFactsOf socket context line (facts_for socket context line.act None)
 known_none socket context line deed is has =
     facts_known socket context line None (subst (λ (done : Act). HasRequest done None) (sym is) has)
+
+-- who tried to attach is in the roster where all was mapped, and else as before
+pub joined_by : (deed : Act) (records : ℕ) (caught : Caught) (given : Answer) (before after : Bool) → deed ≡ act.Attach
+    → attached_with records caught ≡ Doing.Ended given → after ≡ (before || is_done caught) → after ≡ attached_after deed given before
+joined_by deed records Done given before after attach is joined =
+    let given_is : given ≡ answer.Records records = cc in
+    subst (λ (deed : Act). after ≡ attached_after deed given before) (sym attach)
+    (subst (λ (given : Answer). after ≡ attached_after act.Attach given before) (sym given_is) (joined ∙ or-true before))
+joined_by deed records (Refused row call) given before after attach is joined =
+    let given_is : given ≡ answer.Refused call = cc in
+    subst (λ (deed : Act). after ≡ attached_after deed given before) (sym attach)
+    (subst (λ (given : Answer). after ≡ attached_after act.Attach given before) (sym given_is) (joined ∙ or-false before))
+joined_by deed records (Elsewhere row call got) given before after attach is joined =
+    let given_is : given ≡ answer.Refused call = cc in
+    subst (λ (deed : Act). after ≡ attached_after deed given before) (sym attach)
+    (subst (λ (given : Answer). after ≡ attached_after act.Attach given before) (sym given_is) (joined ∙ or-false before))
+
+-- who was attached is in the roster as before
+pub joined_still : (deed : Act) (given : Answer) (before : Bool) → deed ≡ act.Attach → given ≡ answer.Already
+    → before ≡ attached_after deed given before
+joined_still deed given before attach is =
+    subst (λ (deed : Act). before ≡ attached_after deed given before) (sym attach)
+    (subst (λ (given : Answer). before ≡ attached_after act.Attach given before) (sym is) refl)
+
+-- and so is who was out
+pub joined_out : (deed : Act) (before : Bool) → deed ≡ act.Detach → before ≡ attached_after deed answer.Detached before
+joined_out deed before detach = subst (λ (deed : Act). before ≡ attached_after deed answer.Detached before) (sym detach) refl
+
+-- who detached is in it no longer
+pub joined_left : (deed : Act) (before after : Bool) → deed ≡ act.Detach → after ≡ false → after ≡ attached_after deed answer.Done before
+joined_left deed before after detach is = subst (λ (deed : Act). after ≡ attached_after deed answer.Done before) (sym detach) is
 
 -- what a line leaves that tried to attach
 tried_leaves : (line : Line) (records : ℕ) (caught : Caught) (given : Answer) (trace : List Did) (standing : Standing)

@@ -217,27 +217,28 @@ asks_of count party after frame steps goes answer behind (IsObeyed.others told s
 -- OF ALL OTHERS
 
 followed_so : (party after : Party) (taken : SegsView) (steps : List MailStep) (goes : Bool) → IsFollowed party after taken steps goes
-    → FollowsSync party (takes_segments taken ∷ steps)
+    → FollowsSync party (takes_segments taken ∷ steps) (answer_behind goes)
 followed_so party after taken steps goes (IsFollowed.obeys member obeys is) =
     FollowsSync.replies taken obeys.caught obeys.replied.frame obeys.replied.posted member obeys.replied.says
     (ap (λ (steps : List MailStep). takes_segments taken ∷ steps) (obeys.done
     ∙ ap (λ (reply : MailStep). acks_behind obeys.caught (length taken.log) ++ (gives_segments (after_catching party.me obeys.caught taken)
     ∷ reply ∷ [])) obeys.replied.posts))
+    (ap answer_behind is)
 followed_so party after taken steps goes (IsFollowed.is_out member did after_is is) =
-    FollowsSync.gives_back taken (inl member) (ap (λ (steps : List MailStep). takes_segments taken ∷ steps) did)
+    FollowsSync.gives_back taken member (ap (λ (steps : List MailStep). takes_segments taken ∷ steps) did) (ap answer_behind is)
 followed_so party after taken steps goes (IsFollowed.is_worn member worn did after_is is) =
-    FollowsSync.gives_back taken (inr worn) (ap (λ (steps : List MailStep). takes_segments taken ∷ steps) did)
+    FollowsSync.is_worn taken member worn (ap (λ (steps : List MailStep). takes_segments taken ∷ steps) did) (ap answer_behind is)
 
 told_so : (party after : Party) (body : Body) (steps : List MailStep) (goes : Bool) → IsTold party after body steps goes
-    → (generation round : ℕ) → body ≡ Sync generation round → FollowsSync party steps
+    → (generation round : ℕ) → body ≡ Sync generation round → FollowsSync party steps (answer_behind goes)
 told_so party after body steps goes (IsTold.hears sync did after_is is) generation round same =
     let other : is_sync (Sync generation round) ≡ false = subst (λ (body : Body). is_sync body ≡ false) same sync in
     cc
 told_so party after body steps goes (IsTold.follows taken more sync did followed) generation round same =
-    subst (FollowsSync party) (sym did) (followed_so party after taken more goes followed)
+    subst (λ (steps : List MailStep). FollowsSync party steps (answer_behind goes)) (sym did) (followed_so party after taken more goes followed)
 
 heeded_so : (party after : Party) (frame : Frame) (steps : List MailStep) (goes : Bool) → IsHeeded party after frame steps goes
-    → (generation round : ℕ) → Says frame (Sync generation round) → FollowsSync party steps
+    → (generation round : ℕ) → Says frame (Sync generation round) → FollowsSync party steps (answer_behind goes)
 heeded_so party after frame steps goes (IsHeeded.drops nothing did after_is is) generation round says = absurd (nothing (Sync generation round) says)
 heeded_so party after frame steps goes (IsHeeded.tells body speaks told) generation round says =
     told_so party after body steps goes told generation round (says_one frame body (Sync generation round) speaks says)
@@ -329,7 +330,9 @@ member_so count party after steps answer me (IsMemberServed.heeds frame more goe
   first = did;
   sync = λ other fetched generation round same says.
       let here : frame ≡ fetched = cc in
-      heeded_so party after frame more goes heeded generation round (subst (λ (frame : Frame). Says frame (Sync generation round)) (sym here) says);
+      subst (FollowsSync party more) (sym is)
+      (heeded_so party after frame more goes heeded generation round
+      (subst (λ (frame : Frame). Says frame (Sync generation round)) (sym here) says));
   posts = λ other. each_heeded party after frame more goes heeded;
   core_posts = λ zero. absurd (me zero);
   asks = λ zero. absurd (me zero);

@@ -1,6 +1,7 @@
 -- What a participant does that asks for pages, or tells that it gave some up, step by step: the rule "Asking" of docs/PARTICIPANTS.md.
 use Rattle.std.specs.Prelude.{◌≡◌, ℕ, ◌+◌, ◌-◌, ◌*◌, ◌^◌, min, true, false, List, [], ◌∷◌, ◌++◌, Option, Some}
 use Rattle.hp_base.specs.Plans.{action_of}
+use Rattle.hp_base.specs.declared.limits.TheConstants.{MAX_READING}
 use Rattle.hp_base.specs.declared.plan_entry.MsgKind.TheVariants as message
 use Rattle.hp_base.specs.declared.row.Run.{Run}
 use Rattle.hp_frame.specs.declared.frame.Frame.{Frame}
@@ -24,19 +25,16 @@ use Rattle.hp_proc.specs.declared.settling.Found.TheVariants.{Settled, Open}
 abbrev pub waits_until : ℕ → ℕ → ℕ
 waits_until since deadline = min (since + 3 * deadline) (2 ^ 64 - 1)
 
--- the latest reading from which a participant waits for an answer, and three deadlines behind which the clock's type has not ended
-abbrev pub latest : ℕ
-latest = 2 ^ 63
-
 -- a participant is armed with an ask, reads its clock and posts the ask, as the plan has its next one; the ask has the participant's next
--- number, by the outcomes of the value in which it is armed
+-- number, by the outcomes of the value in which it is armed. It waits from the greatest reading that a clock gives at the latest: three
+-- deadlines after that the clock's type has not ended
 pub record IsSentAs (party : Party) (ask : Ask) (since : ℕ) (steps : List MailStep) : Type 0 where
   pub taken : SegsView
   pub now : ℕ
   pub frame : Frame
   pub posted : Posted
   pub number : ask.number ≡ next_number party.asked taken.asks party.me
-  pub read : since ≡ min now latest
+  pub read : since ≡ min now MAX_READING
   pub says : Says frame (alloc_body ask)
   pub are : steps ≡ takes_segments taken ∷ gives_segments (after_arm ask taken) ∷ Notes (Read now)
       ∷ Posts 0 frame (action_of party.plan message.Alloc party.me (one_more party.sent.allocs)) posted ∷ []

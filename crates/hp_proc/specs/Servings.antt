@@ -1,6 +1,6 @@
 -- What a serving comes to, said of what is fetched, taken, given back and posted: the rules "Serving" and "Coordinating" of
 -- docs/PARTICIPANTS.md.
-use Rattle.std.specs.Prelude.{◌≡◌, ◌≢◌, ℕ, ◌<◌, ◌⊎◌, ⊤, Bool, true, false, List, [], ◌∷◌, ◌++◌, length, Option, Some, None}
+use Rattle.std.specs.Prelude.{◌≡◌, ◌≢◌, ℕ, ◌<◌, ⊤, Bool, true, false, List, [], ◌∷◌, ◌++◌, length, Option, Some, None}
 use Rattle.hp_base.specs.Plans.{action_of}
 use Rattle.hp_base.specs.declared.caught.Caught.{Caught}
 use Rattle.hp_base.specs.declared.plan_entry.MsgKind.TheVariants as message
@@ -30,15 +30,18 @@ EachPost P (Notes note ∷ steps) = EachPost P steps
 
 -- A SYNC makes a member take the segment value. In its roster it catches up with the log as it stands, acknowledges it or not, gives the value
 -- back, with a mapping that failed noted, and posts its reply to participant 0, as the plan has its next one
-pub data FollowsSync (party : Party) (steps : List MailStep) : Type 0 where
+pub data FollowsSync (party : Party) (steps : List MailStep) (answer : Option Bool) : Type 0 where
   replies : (taken : SegsView) (caught : Caught) (frame : Frame) (posted : Posted) → is_member taken.roster party.me ≡ true
       → Says frame (reply_of party.me caught taken)
       → steps ≡ takes_segments taken ∷ (acks_behind caught (length taken.log) ++ (gives_segments (after_catching party.me caught taken)
       ∷ Posts 0 frame (action_of party.plan message.Reply party.me (one_more party.sent.replies)) posted ∷ []))
-      → FollowsSync party steps
-  -- not in the roster, or where its mapper has made too many calls, it gives the value back as it was
-  gives_back : (taken : SegsView) → (is_member taken.roster party.me ≡ false) ⊎ IsWorn party.maps
-      → steps ≡ takes_segments taken ∷ gives_segments taken ∷ [] → FollowsSync party steps
+      → answer ≡ Some true → FollowsSync party steps answer
+  -- not in the roster it gives the value back as it was
+  gives_back : (taken : SegsView) → is_member taken.roster party.me ≡ false → steps ≡ takes_segments taken ∷ gives_segments taken ∷ []
+      → answer ≡ Some true → FollowsSync party steps answer
+  -- so it does where its mapper has made too many calls, and stops
+  is_worn : (taken : SegsView) → is_member taken.roster party.me ≡ true → IsWorn party.maps
+      → steps ≡ takes_segments taken ∷ gives_segments taken ∷ [] → answer ≡ None → FollowsSync party steps answer
 
 -- all that a member posts is its reply to a SYNC that it fetched
 pub record IsReplyPost (party : Party) (fetched : Option Frame) (to : ℕ) (frame : Frame) : Type 0 where
@@ -70,7 +73,7 @@ pub record ServesSo (count : ℕ) (party : Party) (steps : List MailStep) (answe
   pub rest : List MailStep
   pub first : steps ≡ Fetches fetched ∷ rest
   pub sync : party.me ≢ 0 → (frame : Frame) (generation round : ℕ) → fetched ≡ Some frame → Says frame (Sync generation round)
-      → FollowsSync party rest
+      → FollowsSync party rest answer
   pub posts : party.me ≢ 0 → EachPost (IsReplyPost party fetched) rest
   pub core_posts : party.me ≡ 0 → EachPost (IsCorePost count) rest
   pub asks : party.me ≡ 0 → (frame : Frame) (body : Body) (event : CoreEvent) → fetched ≡ Some frame → Says frame body

@@ -80,8 +80,9 @@ fn give_joined<H: Hall>(hall: &mut H, me: u8, segs: Segs)
     give_segments(hall, me, given);
 }
 
-// Leaves the roster, where it is in it, and gives the segment value back.
-fn give_left<H: Hall>(hall: &mut H, me: u8, segs: Segs)
+// Leaves the roster, where it is in it, and gives the segment value back: once nothing is mapped in its table.
+fn give_left<H: Hall, M: Mapper>(hall: &mut H, me: u8, segs: Segs, _table: &LocalMaps<M>)
+    requires unmapped { _table.now.rows ≡ [] }
     requires has { HasSegs me segs (H.state hall.old) }
     requires few { me < MAX_PARTICIPANTS }
     requires secondary { 0 < me }
@@ -143,28 +144,28 @@ pub(crate) fn attach<H: Hall, M: Mapper>(
     caught
 }
 
-/// A secondary that is attached takes the segment value, leaves the roster and gives the value back, and its table is emptied. How many
+/// A secondary that is attached takes the segment value, unmaps its whole table, leaves the roster and gives the value back. How many
 /// records it has acknowledged stays. `joined` says whether it had a table before.
 pub(crate) fn detach<H: Hall, M: Mapper>(
     hall: &mut H,
     me: u8,
     joined: bool,
-    maps: &mut LocalMaps<M>,
+    table: &mut LocalMaps<M>,
 )
     requires may { MayHold me (H.state hall.old) }
     requires few { me < MAX_PARTICIPANTS }
     requires secondary { 0 < me }
-    requires tied { IsTied ((H.state hall.old).seen me) ((H.state hall.old).own me) joined maps.old }
-    ensures maps { maps.new ≡ emptied maps.old }
+    requires tied { IsTied ((H.state hall.old).seen me) ((H.state hall.old).own me) joined table.old }
+    ensures maps { table.new ≡ emptied table.old }
     ensures did { (segs : SegsView) × Did me (takes_segments segs ∷ gives_segments (after_leave me segs) ∷ []) (H.state hall.old)
         (H.state hall.new) }
-    ensures tied { IsTied ((H.state hall.new).seen me) ((H.state hall.new).own me) false maps.new }
+    ensures tied { IsTied ((H.state hall.new).seen me) ((H.state hall.new).own me) false table.new }
     ensures own { (H.state hall.new).own me ≡ (H.state hall.old).own me }
     ensures roster { (H.state hall.new).joined me ≡ false }
     ensures stays { StaysButRoster me (H.state hall.old) (H.state hall.new) }
     ensures goes_on { H.goes_on hall.old hall.new }
 {
     let segs = take_segments(hall, me);
-    give_left(hall, me, segs);
-    empty(maps);
+    empty(table);
+    give_left(hall, me, segs, table);
 }

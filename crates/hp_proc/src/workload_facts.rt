@@ -6,13 +6,10 @@ ghost use Rattle.hp_proc.specs.Contexts.{AreSocketHeaps};
 ghost use Rattle.hp_proc.specs.Heaps.{names_socket};
 
 use crate::socket_heap::SocketHeap;
-use hp_base::PoolLine;
+use hp_base::{MAX_SOCKETS, PoolLine};
 use hp_script::{Line, MakerIndex};
 use std::alloc::{AllocError, Global};
 use std::marker::Model;
-
-// The socket numbers that a pool line may name are below this one.
-const SOCKETS: u32 = 32;
 
 /// What a workload says that its lines go by: the pools, with the heap of each socket that they name, and the lines, which make labels.
 /// Contracts see the pools and the lines. Own.
@@ -78,8 +75,8 @@ impl<'p> WorkloadFacts<'p> {
 fn heaps_of(alloc: Global, pools: &[PoolLine]) -> Result<Vec<SocketHeap>, AllocError>
     ensures { IfOk result (λ heaps. AreSocketHeaps pools.now heaps.items) }
 {
-    let mut heaps = Vec::with_capacity(alloc, SOCKETS as usize)?;
-    for socket in 0..SOCKETS {
+    let mut heaps = Vec::with_capacity(alloc, MAX_SOCKETS as usize)?;
+    for socket in 0..MAX_SOCKETS {
         if names_socket(pools, socket) {
             let index = heaps.len() as u32;
             heaps.push(SocketHeap { index, socket })?;

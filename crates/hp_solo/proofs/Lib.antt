@@ -14,5 +14,6 @@ pub mod SoloRises
 pub mod SoloWaits
 pub mod SoloEnds
 pub mod SoloDrained
+pub mod Keeping
 pub mod Visited
 pub mod Steps

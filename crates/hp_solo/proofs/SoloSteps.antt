@@ -5,7 +5,7 @@ use Rattle.std.proofs.lemmas.Bool.{cases_eq, eq-eqb}
 use Rattle.hp_plain.specs.PlainPosts.{steps_of-append}
 use Rattle.hp_plain.specs.HallView.{HallView, HasDone}
 use Rattle.hp_hall.specs.Mail.{MailStep, steps_of}
-use Rattle.hp_solo.proofs.Steps.{other_step, own_step}
+use Rattle.hp_hall.proofs.Doing.{other_step, own_step}
 
 abbrev made_by : ℕ → ℕ × MailStep → Bool
 made_by who step = eqb step.0 who

@@ -25,12 +25,6 @@ own_first step steps = ap (chosen step.0 step steps) (eq-eqb step.0 step.0 refl)
 other_first : (who : ℕ) (step : ℕ × MailStep) (steps : List (ℕ × MailStep)) → who ≢ step.0 → steps_of who (step ∷ steps) ≡ steps_of who steps
 other_first who step steps apart = ap (chosen who step steps) (ne_eqb step.0 who (λ same. apart (sym same)))
 
-pub own_step : (me : ℕ) (step : MailStep) → steps_of me ((me, step) ∷ []) ≡ step ∷ []
-own_step me step = own_first (me, step) []
-
-pub other_step : (who me : ℕ) (step : MailStep) → who ≢ me → steps_of who ((me, step) ∷ []) ≡ []
-other_step who me step apart = other_first who (me, step) [] apart
-
 steps_of-append : (who : ℕ) (first second : List (ℕ × MailStep)) → steps_of who (first ++ second) ≡ steps_of who first ++ steps_of who second
 steps_of-append who first second =
     ap (map what) (filter-append (made_by who) first second) ∙ map-append what (filter (made_by who) first) (filter (made_by who) second)

@@ -34,6 +34,25 @@ HasServedAs old new None after = ⊤
 HasServedAs old new (Some party) None = ⊥
 HasServedAs old new (Some party) (Some after) = HasServed (length old.owns) party.me old new party after
 
+-- one that is there served at least once, also where it has stopped: its first steps are those of a serving
+pub record KeepsServing (count who : ℕ) (old new : HallView) (party : Party) : Type 0 where
+  pub after : Party
+  pub answer : Option Bool
+  pub first : List MailStep
+  pub rest : List MailStep
+  pub did : HasDone old new who (first ++ rest)
+  pub serves : IsServed count party after first answer
+
+-- so did one that is there; of one that is away nothing is said
+abbrev pub KeepsServingAs : HallView → HallView → Option Party → Type 0
+KeepsServingAs old new None = ⊤
+KeepsServingAs old new (Some party) = KeepsServing (length old.owns) party.me old new party
+
+-- so did the one of that number, where it is there
+abbrev pub KeepsServingAt : HallView → HallView → ℕ → Option Party → Type 0
+KeepsServingAt old new who None = ⊤
+KeepsServingAt old new who (Some party) = KeepsServing (length old.owns) who old new party
+
 -- from one state to a later one participants served in rising number: who did something did it behind nobody of a higher number
 pub record IsInRisingNumber (old new : HallView) : Type 0 where
   pub steps : List (ℕ × MailStep)

@@ -10,7 +10,7 @@ ghost use Rattle.hp_proc.specs.Falling.{if_moved, served_of};
 ghost use Rattle.hp_proc.specs.Tied.{IsTied};
 ghost use Rattle.hp_solo.specs.Ending.{LeavesThere};
 ghost use Rattle.hp_solo.specs.Sequence.{IsVisited, IsVisitedAs};
-ghost use Rattle.hp_solo.specs.Served.{HasServed, HasServedAs};
+ghost use Rattle.hp_solo.specs.Served.{HasServed, HasServedAs, KeepsServing, KeepsServingAs};
 ghost use Rattle.hp_solo.specs.Solo.{
   FindsNothing,
   HasLookedLast,
@@ -62,10 +62,12 @@ impl<'p, M: Mapper> Server<'p, M> {
     }
 
     // Serves until nothing is left for it or memory is refused, and tells whether it did something. The first refusal counts as something.
+    // One that has stopped serves too.
     pub fn serve(&mut self, hall: &mut PlainHall) -> bool
         requires there { IsHome (slot_at hall.old MAX_HEAPS) }
         requires tied { IsTiedIn hall.old self.old.party }
         ensures served { IsServedAs hall.old hall.new self.old.party self.new.party }
+        ensures keeps { KeepsServingAs hall.old hall.new self.old.party }
         ensures serves { self.new.stopped ≡ false → HasServedAs hall.old hall.new self.old.party self.new.party }
         ensures visited { self.new.stopped ≡ false → IsVisitedAs hall.old hall.new self.old.party self.new.party }
         ensures weight { boxes_weight hall.new.boxes + server_weight (pending_at hall.new.clock) self.new + if_moved result
@@ -145,6 +147,7 @@ fn serve_some<M: Mapper>(
     requires there { IsHome (slot_at hall.old MAX_HEAPS) }
     requires tied { IsTiedIn hall.old participant.old }
     ensures served { IsServedAs hall.old hall.new participant.old participant.new }
+    ensures keeps { KeepsServingAs hall.old hall.new participant.old }
     ensures serves { IfOk result (λ moved. HasServedAs hall.old hall.new participant.old participant.new) }
     ensures visited { IfOk result (λ moved. IsVisitedAs hall.old hall.new participant.old participant.new) }
     ensures weight { boxes_weight hall.new.boxes + party_weight (pending_at hall.new.clock) participant.new + served_of result
@@ -169,6 +172,7 @@ fn serve_out<M: Mapper>(
     requires there { IsHome (slot_at hall.old MAX_HEAPS) }
     requires tied { IsTied (seen_in hall.old) (own_at hall.old participant.old.me) participant.old.joined participant.old.maps }
     ensures served { IsPartyServed hall.old hall.new participant.old participant.new }
+    ensures keeps { KeepsServing (length hall.old.owns) participant.old.me hall.old hall.new participant.old }
     ensures serves { IfOk result (λ moved. HasServed (length hall.old.owns) participant.old.me hall.old hall.new participant.old participant.new) }
     ensures visited { IfOk result (λ moved. IsVisited hall.old hall.new participant.old participant.new) }
     ensures weight { boxes_weight hall.new.boxes + party_weight (pending_at hall.new.clock) (Some participant.new) + served_of result

@@ -1,14 +1,14 @@
 //! How a participant asks for pages.
 ghost use Rattle.std.specs.Prelude.{◌≡◌, ◌≢◌, ℕ, ◌^◌, ◌<◌, ◌≤◌, ◌⊎◌, min, List, [], ◌∷◌, false, true, None, IfOk, IsSome, OnErr, OnOk};
 ghost use Rattle.hp_base.specs.Plans.{action_of};
-ghost use Rattle.hp_base.specs.declared.limits.TheConstants.{MAX_PARTICIPANTS};
+ghost use Rattle.hp_base.specs.declared.limits.TheConstants.{MAX_PARTICIPANTS, MAX_READING};
 ghost use Rattle.hp_base.specs.declared.plan_entry.MsgKind.{MsgKind};
 ghost use Rattle.hp_frame.specs.declared.frame.Frame.{Frame};
 ghost use Rattle.hp_hall.specs.Mail.{MailStep, Notes, Posts};
 ghost use Rattle.hp_hall.specs.declared.note.Note.{Note};
 ghost use Rattle.hp_mail.specs.declared.posted.Posted.{Posted};
 ghost use Rattle.hp_proc.specs.Asking.{GrowsHeld, IsAsked, IsAwaiting, IsHeldAsBefore, HasSettledAsks, Settles, alloc_body};
-ghost use Rattle.hp_proc.specs.AskSteps.{DoesAsk, IsAwaitedBy, IsSettledLate, latest, waits_until};
+ghost use Rattle.hp_proc.specs.AskSteps.{DoesAsk, IsAwaitedBy, IsSettledLate, waits_until};
 ghost use Rattle.hp_proc.specs.Clocks.{RisesWithin, longest_wait};
 ghost use Rattle.hp_proc.specs.Frames.{Says};
 ghost use Rattle.hp_proc.specs.Party.{after_alloc, one_more};
@@ -22,14 +22,10 @@ use crate::own_posts::{alloc_body, post_own};
 use crate::pages_asked::PagesAsked;
 use crate::sent::one_more;
 use crate::settling::{Found, look, settle};
-use hp_base::{Mapper, MsgKind, Run};
+use hp_base::{MAX_READING, Mapper, MsgKind, Run};
 use hp_hall::{Hall, Waiting};
 use hp_segs::Ask;
 use std::alloc::AllocError;
-
-// The latest reading of its clock from which a participant waits for an answer. A reading from before it asked stays one when it is made
-// smaller; so three deadlines behind it are below the end of the clock's type.
-const LATEST: u64 = 1 << 63;
 
 impl<'p, M: Mapper> Participant<'p, M> {
     // Until when it waits for an answer, where that is a reading of the clock from before it asked: for three of its deadlines.
@@ -50,7 +46,7 @@ impl<'p, M: Mapper> Participant<'p, M> {
         ensures read { H.pending (H.state hall.new).clock result ≡ 0 }
         ensures before { IsReading (λ deadline. deadline ≤ 2 ^ 63 → H.pending (H.state hall.new).clock deadline ≡ H.scale) result }
         ensures sent { self.new ≡ after_alloc ask.now.number self.old }
-        ensures did { (now : ℕ) × (frame : Frame) × (posted : Posted) × (result ≡ min now latest)
+        ensures did { (now : ℕ) × (frame : Frame) × (posted : Posted) × (result ≡ min now MAX_READING)
             × Says frame (alloc_body ask.now) × Did self.old.me (Notes (Note.Read now)
             ∷ Posts 0 frame (action_of self.old.plan MsgKind.Alloc self.old.me (one_more self.old.sent.allocs)) posted ∷ [])
             (H.state hall.old) (H.state hall.new) }
@@ -58,7 +54,9 @@ impl<'p, M: Mapper> Participant<'p, M> {
         ensures stays { Stays self.old.me (H.state hall.old) (H.state hall.new) }
         ensures goes_on { H.goes_on hall.old hall.new }
     {
-        let since = hall.now(self.me).min(LATEST);
+        // A reading from before it asked stays one when it is made smaller; so three deadlines after it are below the end of the clock's
+        // type.
+        let since = hall.now(self.me).min(MAX_READING);
         let number = one_more(self.sent.allocs);
         let body = alloc_body(ask);
         post_own(hall, self.me, self.plan, MsgKind::Alloc, number, body);

@@ -7,6 +7,7 @@ ghost use Rattle.hp_script.specs.declared.line.Act.TheVariants as act;
 ghost use Rattle.hp_segs.specs.LaterSteps.{after_leave};
 ghost use Rattle.hp_segs.specs.SegsView.{SegsView};
 ghost use Rattle.hp_proc.specs.Attaching.{Attaches, after_attaching, after_detaching, standing_tried};
+ghost use Rattle.hp_proc.specs.Courses.{attached_after};
 ghost use Rattle.hp_proc.specs.Doing.{Doing};
 ghost use Rattle.hp_proc.specs.Lines.{attached_with};
 ghost use Rattle.hp_proc.specs.Party.{with_standing};
@@ -108,7 +109,12 @@ impl<'p, M: Mapper> Participant<'p, M> {
         // Where a mapping failed, it has acknowledged as many records as before.
         ensures failed { IfOk result (λ given. (call : ℕ) → given ≡ answer.Refused call
             → (H.state hall.new).own self.old.me ≡ (H.state hall.old).own self.old.me) }
-        ensures err { OnErr result (IsWorn self.old.maps × (self.new ≡ self.old)) }
+        ensures err { OnErr result (IsWorn self.old.maps × (self.new ≡ self.old)
+            × ((H.state hall.new).joined self.old.me ≡ (H.state hall.old).joined self.old.me)) }
+
+        // It is in the roster as the line leaves it attached.
+        ensures roster { IfOk result (λ given. (H.state hall.new).joined self.old.me
+            ≡ attached_after line.now.act given ((H.state hall.old).joined self.old.me)) }
         ensures changes { ChangesRoster self.old.me self.old self.new (H.state hall.old) (H.state hall.new) }
         ensures goes_on { H.goes_on hall.old hall.new }
     {
@@ -130,6 +136,8 @@ impl<'p, M: Mapper> Participant<'p, M> {
         requires may { MayHold self.old.me (H.state hall.old) }
         requires tied { IsTiedIn self.old.me self.old (H.state hall.old) }
         ensures does { DoesLineHere self.old.me self.old self.new (H.state hall.old) (H.state hall.new) line.now result }
+        ensures roster { (H.state hall.new).joined self.old.me
+            ≡ attached_after line.now.act result ((H.state hall.old).joined self.old.me) }
         ensures ready { MayDo (moment self.old.me self.old (H.state hall.old)) → MayDo (moment self.old.me self.new (H.state hall.new)) }
         ensures changes { ChangesRoster self.old.me self.old self.new (H.state hall.old) (H.state hall.new) }
         ensures goes_on { H.goes_on hall.old hall.new }

@@ -1,5 +1,5 @@
 -- The value is taken and given back, and an emptied table is tied, however many records were acknowledged.
-use Rattle.std.proofs.Common.{◌∙◌, false, sym, subst, arith}
+use Rattle.std.proofs.Common.{◌∙◌, false, ap, sym, subst, arith}
 use Rattle.hp_hall.proofs.HallStates.{did_then, others_then}
 use Rattle.hp_maps.specs.MapsView.{MapsView}
 use Rattle.hp_proc.specs.Attaching.{emptied}
@@ -19,6 +19,9 @@ give_left-requires-clause-has g c =
     record { may = c.requires.may; took = is.took; slots = is.slots; others = is.others; weight = is.weight } in
     took_has took
 
+pub give_left-requires-clause-unmapped : goal.give_left-requires-clause-unmapped
+give_left-requires-clause-unmapped g c = ap (λ (maps : MapsView). maps.rows) c.empty.ensures
+
 pub returns-clause-did : goal.returns-clause-did
 returns-clause-did g c =
     (c.take_segments-segs.result, did_then c.take_segments-segs.ensures.took.did c.give_left.ensures.back.gave.did)
@@ -28,7 +31,7 @@ returns-clause-tied g c =
     let me = c.args.me in
     let old = g.H.Hall.state c.args.hall.now in
     let new = g.H.Hall.state c.give_left.new.hall in
-    let maps = c.args.maps.now in
+    let maps = c.args.table.now in
     let is = c.take_segments-segs.ensures in
     let seen = is.others.later.seen me in
     let tied = c.requires.tied in

@@ -8,6 +8,7 @@ use Rattle.hp_proc.specs.Party.{Party}
 use Rattle.hp_proc.specs.Tied.{IsTied}
 use Rattle.hp_solo.specs.Served.ServesOn.{rests}
 use Rattle.hp_solo.specs.Solo.{FindsNothing, looks_in_vain}
+use Rattle.hp_solo.proofs.Keeping.{keeps_on}
 use Rattle.hp_solo.proofs.SoloLooks.{last_behind}
 use Rattle.hp_solo.proofs.SoloTies.{party_served_same, party_served_then, served_more_by}
 use Rattle.hp_solo.proofs.Visited.{some_first, some_more, visited_by}
@@ -28,6 +29,7 @@ serving-init g c = record {
     did = done_same c.args.hall.now c.args.participant.now.me;
     serves = rests c.args.participant.now;
   };
+  kept = λ moved. cc;
   served_some = some_first c.args.hall.now c.args.participant.now;
   still_hall = λ still. refl;
   still_party = λ still. refl;
@@ -73,6 +75,10 @@ serving-preserved g c = record {
   serves = served_more_by c.args.hall.now c.serving.hall c.serve_once.new.hall c.args.participant.now c.serving.participant c.serve_once.new.participant
       c.in_ok-more.more (result_ok c.serve_once.result) (ap result_ok c.in_ok-more.was) c.serving.invariant.served c.serving.invariant.serves
       c.serve_once.ensures.serves;
+  kept = λ moved.
+      keeps_on c.args.hall.now c.serving.hall c.serve_once.new.hall c.args.participant.now c.serving.participant c.serve_once.new.participant
+      c.serving.moved (result_ok c.serve_once.result) c.serving.invariant.served c.serving.invariant.still_hall
+      c.serving.invariant.still_party c.serving.invariant.kept c.serve_once.ensures.serves;
   served_some =
       some_more c.args.hall.now c.serving.hall c.serve_once.new.hall c.args.participant.now c.serving.participant c.serve_once.new.participant
       (result_ok c.serve_once.result) (ap result_ok (c.in_ok-more.was ∙ ap Ok c.if-not-more.false)) c.serving.invariant.served
@@ -110,3 +116,15 @@ returns-then-not-more-clause-looks g c =
     let found = c.serve_once.ensures.found (c.in_ok-more.was ∙ ap Ok c.if-not-more.true) in
     last_behind c.args.hall.now hall new c.args.participant.now.me serves.steps serves.did
     ([], subst (λ (who : ℕ). HasDone hall new who (looks_in_vain who new.clock)) c.serving.invariant.served.same.me found.did)
+
+pub returns-in_err-more-clause-keeps : goal.returns-in_err-more-clause-keeps
+returns-in_err-more-clause-keeps g c =
+    keeps_on c.args.hall.now c.serving.hall c.serve_once.new.hall c.args.participant.now c.serving.participant c.serve_once.new.participant
+    c.serving.moved (result_ok c.serve_once.result) c.serving.invariant.served c.serving.invariant.still_hall c.serving.invariant.still_party
+    c.serving.invariant.kept c.serve_once.ensures.serves
+
+pub returns-then-not-more-clause-keeps : goal.returns-then-not-more-clause-keeps
+returns-then-not-more-clause-keeps g c =
+    keeps_on c.args.hall.now c.serving.hall c.serve_once.new.hall c.args.participant.now c.serving.participant c.serve_once.new.participant
+    c.serving.moved (result_ok c.serve_once.result) c.serving.invariant.served c.serving.invariant.still_hall c.serving.invariant.still_party
+    c.serving.invariant.kept c.serve_once.ensures.serves

@@ -1,8 +1,9 @@
 -- One that is attached already does nothing; else it has caught up, or tried to, and notes what that left.
-use Rattle.std.proofs.Common.{◌∙◌, ap, sym}
+use Rattle.std.proofs.Common.{◌∙◌, ap, refl, sym}
+use Rattle.hp_script.specs.declared.answer.Answer.TheVariants as answer
 use Rattle.hp_proc.specs.Attaching.{standing_tried}
 use Rattle.hp_proc.specs.Party.{Party}
-use Rattle.hp_proc.proofs.AttachedLines.{attached_same, line_already, line_tried, ready_noted, refused_failed}
+use Rattle.hp_proc.proofs.AttachedLines.{attached_same, joined_by, joined_still, line_already, line_tried, ready_noted, refused_failed}
 use Rattle.hp_proc.proofs.HandGiven.{ready_still}
 use Rattle.hp_hall.proofs.HallStates.{did_same}
 use Rattle.hp_proc.specs.InHall.{did_in}
@@ -67,3 +68,14 @@ returns-clause-changes g c =
     let is = c.attach-caught.ensures in
     changes_noted party mid (standing_tried mid.maps.number c.attach-caught.result mid.context.standing)
     (attached_same party mid is.did.0.log c.attach-caught.result is.did.1) c.note_attached.ensures.noted is.tied is.stays.slots is.stays.others
+
+pub returns-clause-roster : goal.returns-clause-roster
+returns-clause-roster g c =
+    let me = c.args.self.now.me in
+    joined_by c.args.line.now.act c.attach-caught.new.self.maps.number c.attach-caught.result c.note_attached.result
+    ((g.H.Hall.state c.args.hall.now).joined me) ((g.H.Hall.state c.attach-caught.new.hall).joined me) c.requires.act c.note_attached.ensures.given
+    c.attach-caught.ensures.roster
+
+pub returns-then-self-clause-roster : goal.returns-then-self-clause-roster
+returns-then-self-clause-roster g c =
+    joined_still c.args.line.now.act answer.Already ((g.H.Hall.state c.args.hall.now).joined c.args.self.now.me) c.requires.act refl

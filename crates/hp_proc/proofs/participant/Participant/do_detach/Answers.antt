@@ -1,7 +1,7 @@
 -- One that is out does nothing; else it has left, and notes that.
 use Rattle.std.proofs.Common.{◌∙◌, ap, false, sym}
 use Rattle.hp_proc.specs.Party.{Party}
-use Rattle.hp_proc.proofs.AttachedLines.{detached_same, line_detached, line_left, ready_noted}
+use Rattle.hp_proc.proofs.AttachedLines.{detached_same, joined_left, joined_out, line_detached, line_left, ready_noted}
 use Rattle.hp_proc.proofs.HandGiven.{ready_still}
 use Rattle.hp_hall.proofs.HallStates.{did_same}
 use Rattle.hp_proc.specs.InHall.{did_in}
@@ -58,3 +58,13 @@ returns-clause-changes g c =
     let is = c.detach.ensures in
     changes_noted party mid (record mid.context.standing { attached = false }) (detached_same party mid is.party) c.note_detached.ensures.noted is.tied
     is.stays.slots is.stays.others
+
+pub returns-clause-roster : goal.returns-clause-roster
+returns-clause-roster g c =
+    let me = c.args.self.now.me in
+    joined_left c.args.line.now.act ((g.H.Hall.state c.args.hall.now).joined me) ((g.H.Hall.state c.detach.new.hall).joined me) c.requires.act
+    c.detach.ensures.roster
+
+pub returns-then-not-self-clause-roster : goal.returns-then-not-self-clause-roster
+returns-then-not-self-clause-roster g c =
+    joined_out c.args.line.now.act ((g.H.Hall.state c.args.hall.now).joined c.args.self.now.me) c.requires.act

@@ -4,6 +4,7 @@ use Rattle.std.specs.Prelude.{if◌then◌else◌}
 use Rattle.hp_solo.specs.Beside.{HaveServedBeside}
 use Rattle.hp_solo.specs.Sequence.{VisitsBeside}
 use Rattle.hp_solo.specs.Solo.{AreLater, IsBeside, IsBetween, IsNotBeside, IsOutside, SoloView}
+use Rattle.hp_solo.proofs.Keeping.{keeps_within}
 use Rattle.hp_solo.proofs.SoloLooks.{looks_within}
 use Rattle.hp_solo.proofs.SoloQuiet.{quiet_beside}
 use Rattle.hp_solo.proofs.SoloTies.{serving_narrow}
@@ -28,6 +29,11 @@ returns-clause-served g c =
       serving = serving_narrow (IsOutside from to) (IsNotBeside me above) old.plain new.plain c.apart-from.ensures.outside is.serving;
       rising = is.rising;
       places = λ who beyond. is.others who (c.apart-from.ensures.outside who beyond);
+      keeps = λ who beside.
+          keeps_within old.plain new.plain old.servers who
+          (λ below.
+          let there = c.apart-from.ensures.beside who beside (omega (arith, below, c.len.ensures)) in
+          is.keeps who there.0 there.1);
       rests = λ who beside.
           rests_within new.plain.clock servers who
           (λ below. let there = between who beside below in is.rests who there.0 there.1);

@@ -7,6 +7,7 @@ use Rattle.hp_proc.specs.Falling.{if_moved}
 use Rattle.hp_solo.specs.Sequence.{Visits}
 use Rattle.hp_solo.specs.Solo.{IsBetween, IsOutside, IsServerAtRest, ServerView, SoloView, server_at}
 use Rattle.hp_solo.specs.SoloCourse.{later_then, server_stays}
+use Rattle.hp_solo.proofs.Keeping.{keeps_more}
 use Rattle.hp_solo.proofs.SoloLooks.{looks_more}
 use Rattle.hp_solo.proofs.SoloRises.{rising_more, rising_same}
 use Rattle.hp_solo.proofs.SoloQuiet.{quiet_beside, quiet_first, quiet_more}
@@ -78,6 +79,7 @@ loop-number-init g c = record {
   count = refl;
   weight = omega arith;
   rests = λ who begun below. absurd (omega arith);
+  keeps = λ who begun below. absurd (omega arith);
   looks = λ who begun below. absurd (omega arith);
   others = λ who outside. refl;
   quiet = λ still. quiet_first c.args.from (record { plain = c.args.hall.now; servers = c.args.servers.now.items });
@@ -125,6 +127,9 @@ loop-number-preserved g c =
       rests =
           rests_more c.loop-number.hall.clock c.serve_at-served.new.hall.clock c.loop-number.servers.items c.serve_at-served.new.servers.items
           c.args.from number one.serving.clock one.others was.rests one.rests;
+      keeps =
+          keeps_more from number first.plain before.plain after.plain first.servers before.servers was.serving.course.count
+          (was.serving.did number waits) one.serving.did (was.others number waits) was.keeps one.keeps;
       looks =
           looks_more from number first.plain before.plain after.plain before.servers after.servers one.serving.clock
           (was.serving.did number waits) one.serving.did one.others was.looks one.looks;
@@ -177,3 +182,8 @@ pub returns-clause-looks : goal.returns-clause-looks
 returns-clause-looks g c = λ who begun below.
     let behind : c.args.to ≤ c.loop-number.number = omega arith in
     c.loop-number.invariant.looks who begun (omega (arith, below, behind))
+
+pub returns-clause-keeps : goal.returns-clause-keeps
+returns-clause-keeps g c = λ who begun below.
+    let behind : c.args.to ≤ c.loop-number.number = omega arith in
+    c.loop-number.invariant.keeps who begun (omega (arith, below, behind))
