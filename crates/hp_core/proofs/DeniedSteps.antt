@@ -150,44 +150,38 @@ module _ (denies : ℕ → ℕ → Option (List ℕ × ℕ) → Type 0)
                 let same : opened_growth ≡ growth = cc in
                 subst (λ growth. IsAllowed denies event core segs growth) same (record { total = its_total; judged = its_judged None may })
 
+        abbrev denied_entry : List ℕ × ℕ → AskLog
+        denied_entry denied = record {
+          from = ask.from;
+          number = ask.number;
+          outcome = Refused (Denied denied.0 denied.1 its_total);
+          at = length (after_drop segs).log;
+          ask = Some ask;
+        }
+
+        its_denial : (denied : List ℕ × ℕ) → denies ask.socket its_total (Some denied) → (validator : List ℕ) (limit total : ℕ)
+            → Refused (Denied denied.0 denied.1 its_total) ≡ Refused (Denied validator limit total)
+            → IsDenied denies event core segs (denied_entry denied) validator limit total
+        its_denial denied may validator limit total same =
+            let name_is : denied.0 ≡ validator = cc in
+            let limit_is : denied.1 ≡ limit = cc in
+            let total_is : its_total ≡ total = cc in
+            subst (λ (name : List ℕ). IsDenied denies event core segs (denied_entry denied) name limit total) name_is
+            (subst (λ (limit : ℕ). IsDenied denies event core segs (denied_entry denied) denied.0 limit total) limit_is
+            (subst (λ (total : ℕ). IsDenied denies event core segs (denied_entry denied) denied.0 denied.1 total) total_is
+            (record {
+              ask = ask;
+              run = run;
+              kept = refl;
+              judged = its_judged (Some denied) may;
+              below = limits ask.socket its_total (Some denied) may;
+            })))
+
         by_denied : (denied : List ℕ × ℕ) → denies ask.socket its_total (Some denied) → segs.growth ≡ None
             → ByJudge (after_close ask (Denied denied.0 denied.1 its_total) (after_drop segs))
         by_denied denied may none =
-            by_one (after_close ask (Denied denied.0 denied.1 its_total) (after_drop segs))
-            (record {
-              from = ask.from;
-              number = ask.number;
-              outcome = Refused (Denied denied.0 denied.1 its_total);
-              at = length (after_drop segs).log;
-              ask = Some ask;
-            })
-            refl its_denial (λ before. before)
-          where
-            its_denial : (validator : List ℕ) (limit total : ℕ)
-                → Refused (Denied denied.0 denied.1 its_total) ≡ Refused (Denied validator limit total)
-                → IsDenied denies event core segs
-                (record {
-                  from = ask.from;
-                  number = ask.number;
-                  outcome = Refused (Denied denied.0 denied.1 its_total);
-                  at = length (after_drop segs).log;
-                  ask = Some ask;
-                })
-                validator limit total
-            its_denial validator limit total same =
-                let name_is : denied.0 ≡ validator = cc in
-                let limit_is : denied.1 ≡ limit = cc in
-                let total_is : its_total ≡ total = cc in
-                subst (λ name. IsDenied denies event core segs _ name limit total) name_is
-                (subst (λ limit. IsDenied denies event core segs _ denied.0 limit total) limit_is
-                (subst (λ total. IsDenied denies event core segs _ denied.0 denied.1 total) total_is
-                (record {
-                  ask = ask;
-                  run = run;
-                  kept = refl;
-                  judged = its_judged (Some denied) may;
-                  below = limits ask.socket its_total (Some denied) may;
-                })))
+            by_one (after_close ask (Denied denied.0 denied.1 its_total) (after_drop segs)) (denied_entry denied) refl (its_denial denied may)
+            (λ before. before)
 
         by_judged : (given : Option (List ℕ × ℕ)) → denies ask.socket its_total given → segs.growth ≡ None
             → ByJudge (judged ask run (after_drop segs) given).segs
@@ -353,32 +347,27 @@ module _ (old segs : SegsView) (asks : segs.asks ≡ old.asks) where
   news_same : (old.growth ≡ None → segs.growth ≡ None) → IsNoNews old segs
   news_same growth = news_none old segs asks growth
 
+  abbrev growth_entry : Growth → Outcome → AskLog
+  growth_entry growth outcome = record {
+    from = growth.ask.from;
+    number = growth.ask.number;
+    outcome = outcome;
+    at = length segs.log;
+    ask = Some growth.ask;
+  }
+
   news_cancel : (cause : Cause) → IsClean segs → IsRoundCause segs cause → (open_now : Option Growth) → segs.growth ≡ open_now
       → IsNoNews old (cancelled_growth cause segs open_now)
   news_cancel cause clean why None none = news_none old segs asks (λ before. none)
   news_cancel cause clean why (Some growth) is =
-      news_one old (cancelled_growth cause segs (Some growth))
-      (record {
-        from = growth.ask.from;
-        number = growth.ask.number;
-        outcome = Refused cause;
-        at = length segs.log;
-        ask = Some growth.ask;
-      })
-      (ap (λ l. l ++ _ ∷ []) asks) (cause_clean segs cause clean why) (λ before. refl)
+      news_one old (cancelled_growth cause segs (Some growth)) (growth_entry growth (Refused cause))
+      (ap (λ (l : List AskLog). l ++ growth_entry growth (Refused cause) ∷ []) asks) (cause_clean segs cause clean why) (λ before. refl)
 
   news_granted : (growth : Growth) (below : Option NotAll) → (old.growth ≡ None → segs.growth ≡ None)
       → IsNoNews old (granted_unless growth segs below)
   news_granted growth None same =
-      news_one old (granted_unless growth segs None)
-      (record {
-        from = growth.ask.from;
-        number = growth.ask.number;
-        outcome = Granted growth.generation;
-        at = length segs.log;
-        ask = Some growth.ask;
-      })
-      (ap (λ l. l ++ _ ∷ []) asks) (λ validator limit total is. never validator limit total is) (λ before. refl)
+      news_one old (granted_unless growth segs None) (growth_entry growth (Granted growth.generation))
+      (ap (λ (l : List AskLog). l ++ growth_entry growth (Granted growth.generation) ∷ []) asks) never (λ before. refl)
     where
       never : (validator : List ℕ) (limit total : ℕ) → Granted growth.generation ≡ Refused (Denied validator limit total) → ⊥
       never validator limit total is = cc

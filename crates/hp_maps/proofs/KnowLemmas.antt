@@ -1,7 +1,8 @@
 -- Those that know the rows of a table know the rows after it, by what they were told.
-use Rattle.std.proofs.Common.{◌≡◌, ℕ, zero, suc, Bool, true, false, not, ◌&&◌, ◌==◌, nat_lt, List, [], ◌∷◌, ◌++◌, refl, ap, ◌∙◌, sym, subst, append-nil}
+use Rattle.std.proofs.Common.{◌≡◌, ℕ, Bool, true, false, not, ◌&&◌, ◌==◌, nat_lt, List, [], ◌∷◌, ◌++◌, refl, ap, ◌∙◌, sym, subst, inl, inr}
 use Rattle.std.specs.List.{All}
-use Rattle.std.proofs.lemmas.List.{append-assoc}
+use Rattle.std.proofs.lemmas.Bool.{cases_Bool, eqb-true}
+use Rattle.std.proofs.lemmas.List.{append_assoc}
 use Rattle.std.proofs.lemmas.List.Elements.{All-cons, All-head, All-nil, All-tail, filter-append}
 use Rattle.hp_base.specs.Telling.{Listener, hearing, told_after}
 use Rattle.hp_base.specs.declared.caught.Caught.{Caught}
@@ -63,7 +64,7 @@ its_start (event ∷ events) listener = its_start events (hearing event listener
 its_events : (events : List Event) (listener : Listener) → (hearing_all events listener).events ≡ listener.events ++ events
 its_events [] listener = sym (append_nothing listener.events)
 its_events (event ∷ events) listener =
-    its_events events (hearing event listener) ∙ append-assoc listener.events (event ∷ []) events
+    its_events events (hearing event listener) ∙ append_assoc listener.events (event ∷ []) events
 
 all_front : (events : List Event) (listener : Listener) (listeners : List Listener)
     → all_told events (listener ∷ listeners) ≡ hearing_all events listener ∷ all_told events listeners
@@ -112,9 +113,16 @@ new_knows name rows = record { fit = tt; leave = λ byte. refl }
 
 -- a row of a chunk is none of the log's
 log_beside : (generation : ℕ) (its_list : Bool) → (not ((generation == 0) && its_list) && nat_lt 0 generation) ≡ nat_lt 0 generation
-log_beside zero true = refl
-log_beside zero false = refl
-log_beside (suc n) its_list = refl
+log_beside generation its_list =
+    elim (cases_Bool (generation == 0)) [
+      | inl is ↦
+          subst (λ g. (not ((g == 0) && its_list) && nat_lt 0 g) ≡ nat_lt 0 g) (sym (eqb-true generation 0 is)) (at_zero its_list)
+      | inr other ↦ ap (λ b. not (b && its_list) && nat_lt 0 generation) other
+    ]
+  where
+    at_zero : (its_list : Bool) → (not ((0 == 0) && its_list) && nat_lt 0 0) ≡ nat_lt 0 0
+    at_zero true = refl
+    at_zero false = refl
 
 table_beside : (chunk : Chunk) (rows : List Row) → table_in (rows_beside chunk rows) ≡ table_in rows
 table_beside chunk rows =

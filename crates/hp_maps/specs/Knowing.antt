@@ -1,5 +1,5 @@
 -- What those that listen know of a table: the rule "Bytes" of docs/TABLES.md.
-use Rattle.std.specs.Prelude.{◌≡◌, ℕ, List, [], ◌×◌}
+use Rattle.std.specs.Prelude.{◌≡◌, ℕ, List, []}
 use Rattle.std.specs.List.{All}
 use Rattle.hp_base.specs.Telling.{Listener}
 use Rattle.hp_base.specs.declared.caught.Caught.{Caught}
