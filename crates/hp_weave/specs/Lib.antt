@@ -1,0 +1,4 @@
+pub mod Holds
+pub mod Deeds
+pub mod Weaving
+pub mod Laws
