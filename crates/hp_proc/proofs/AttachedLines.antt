@@ -32,6 +32,13 @@ use Rattle.hp_proc.proofs.LineFacts.{IsLineOfOne, facts_for, facts_known}
 pub one_built : (who : ℕ) (deed : Act) → IsLineBuilt who deed → deed ≢ act.Attach → deed ≢ act.Detach → IsLineOfOne deed
 one_built who deed is other stays = (is.0, other, stays)
 
+-- one that attaches or detaches is not participant 0's
+pub attaches_second : (who : ℕ) (deed : Act) → IsLineBuilt who deed → deed ≡ act.Attach → 0 < who
+attaches_second who deed is same = (subst (IsLineBuilt who) same is).1
+
+pub detaches_second : (who : ℕ) (deed : Act) → IsLineBuilt who deed → deed ≡ act.Detach → 0 < who
+detaches_second who deed is same = (subst (IsLineBuilt who) same is).1
+
 -- one that attaches needs no request, and one that detaches neither
 known_none : (socket : ℕ) (context : Context) (line : Line) (deed : Act) → line.act ≡ deed → HasRequest deed None
     → AreFactsOf socket context line (facts_for socket context line.act None)

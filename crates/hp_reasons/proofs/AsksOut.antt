@@ -1,5 +1,5 @@
 -- Once a wait for an answer has ended all is quiet; and an ask without an answer was lost.
-use Rattle.std.proofs.Common.{◌≡◌, ℕ, zero, suc, true, false, ◌⊎◌, [], Some, None, inl, inr, refl, arith, true≢false, sym, ◌∙◌}
+use Rattle.std.proofs.Common.{◌≡◌, ℕ, zero, suc, true, false, ◌⊎◌, [], Some, None, inl, inr, refl, arith, true≢false, sym, ◌∙◌, ◌+◌, ◌*◌, ◌≤◌}
 use Rattle.std.specs.Prelude.{slice_get}
 use Rattle.std.specs.List.{list_any}
 use Rattle.std.proofs.lemmas.Bool.{false≢true}
