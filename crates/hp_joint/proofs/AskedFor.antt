@@ -4,6 +4,7 @@ use Rattle.std.specs.List.{slice_get}
 use Rattle.std.proofs.lemmas.Bool.{eqb-false, eqb-true}
 use Rattle.std.proofs.lemmas.List.Elements.{Contains-append_left, Contains-push}
 use Rattle.std.proofs.lemmas.Option.{slice_get_within}
+use Rattle.hp_base.specs.Mapping.{FailingCall}
 use Rattle.hp_base.specs.declared.pool_line.PoolLine.{PoolLine}
 use Rattle.hp_base.specs.declared.row.Run.{Run}
 use Rattle.hp_log.specs.declared.log_record.LogRecord.{LogRecord}
@@ -134,14 +135,14 @@ module _ (count deadline : ℕ) (old new : SegsView) (before : AreEndedAskedFor 
           let apart : growth.generation ≢ place + 1 = eqb-false growth.generation (place + 1) other in
           omega (arith, all, inside, apart, stamp)
 
-  alters_asked : (may_fail : ℕ → Option (List ℕ)) (pools : new.pools ≡ old.pools) → Logs count deadline may_fail old new
+  alters_asked : (may_fail : ℕ → Option (List FailingCall)) (pools : new.pools ≡ old.pools) → Logs count deadline may_fail old new
       → AreEndedAskedFor new
   alters_asked may_fail pools (nothing log asks growth) =
       kept_asked old new
       (record { pools = pools; records = []; log = log ∙ sym (append-nil old.log); outcomes = []; asks = asks ∙ sym (append-nil old.asks) })
       (λ place run heap here. ap (λ log. slice_get log place) (sym log) ∙ here)
       (λ generation. ap (λ growth. is_open growth generation) growth) before
-  alters_asked may_fail pools (failures participant call addr got declared reason log asks growth) =
+  alters_asked may_fail pools (failures participant call row got declared reason its log asks growth) =
       kept_asked old new
       (record { pools = pools; records = []; log = log ∙ sym (append-nil old.log); outcomes = []; asks = asks ∙ sym (append-nil old.asks) })
       (λ place run heap here. ap (λ log. slice_get log place) (sym log) ∙ here)
@@ -156,7 +157,7 @@ module _ (count deadline : ℕ) (old new : SegsView) (before : AreEndedAskedFor 
       (record { pools = pools; records = map (λ run. Drop run) runs; log = log; outcomes = []; asks = asks ∙ sym (append-nil old.asks) })
       (back_behind old.log new.log runs log)
       (λ generation. ap (λ growth. is_open growth generation) growth) before
-  alters_asked may_fail pools (outcomes entry log asks growth owed) =
+  alters_asked may_fail pools (outcomes entry log asks growth beside owed) =
       kept_asked old new
       (record { pools = pools; records = []; log = log ∙ sym (append-nil old.log); outcomes = entry ∷ []; asks = asks })
       (λ place run heap here. ap (λ log. slice_get log place) (sym log) ∙ here)
@@ -169,7 +170,7 @@ module _ (count deadline : ℕ) (old new : SegsView) (before : AreEndedAskedFor 
       (growth.generation == place + 1) refl
 
 -- so it stays through all changes
-pub changes_asked : (count deadline : ℕ) (may_fail : ℕ → Option (List ℕ)) (old new : SegsView) → Changes count deadline may_fail old new
+pub changes_asked : (count deadline : ℕ) (may_fail : ℕ → Option (List FailingCall)) (old new : SegsView) → Changes count deadline may_fail old new
     → AreEndedAskedFor old → AreEndedAskedFor new
 changes_asked count deadline may_fail _ _ (stays segs) before = before
 changes_asked count deadline may_fail _ _ (alters old new one) before =

@@ -1,16 +1,17 @@
 -- Each call of a segment value that a participant makes is a change, or several one after another.
-use Rattle.std.proofs.Common.{subst, ◌≡◌, ◌≢◌, ◌∙◌, ℕ, ◌+◌, ◌*◌, ◌<◌, ◌≤◌, ◌==◌, true, List, [], ◌∷◌, append-nil, length, Option, Some, None, IfSome, refl, sym, ap}
+use Rattle.std.proofs.Common.{subst, ◌≡◌, ◌≢◌, ◌∙◌, ℕ, ◌+◌, ◌*◌, ◌<◌, ◌≤◌, ◌==◌, ◌&&◌, true, false, not, is_some, List, [], ◌∷◌, append-nil, length, Option, Some, None, IfSome, refl, sym, ap}
 use Rattle.std.proofs.lemmas.Bool.{and_parts, eqb-true}
-use Rattle.hp_base.specs.Mapping.{may_fail_at}
+use Rattle.hp_base.specs.Mapping.{FailingCall, FailsSo}
 use Rattle.hp_base.specs.declared.caught.Caught.{Caught}
 use Rattle.hp_base.specs.declared.caught.Caught.TheVariants as caught
 use Rattle.hp_base.specs.declared.map_answer.MapAnswer.{MapAnswer}
 use Rattle.hp_base.specs.declared.map_answer.MapAnswer.TheVariants as answer
+use Rattle.hp_base.specs.declared.row.Row.{Row}
 use Rattle.hp_base.specs.declared.row.Run.{Run}
 use Rattle.hp_core.specs.Following.{after_catching}
 use Rattle.hp_core.specs.Starting.{cause_of}
 use Rattle.hp_segs.specs.GrowthLaws.{HasArmedGrowth, IsOfArmed}
-use Rattle.hp_segs.specs.LaterSteps.{after_arm, after_join, after_leave, after_stale, after_withdraw, armed_ask, grows_for, is_failure, noting}
+use Rattle.hp_segs.specs.LaterSteps.{after_arm, after_join, after_leave, after_stale, after_withdraw, armed_ask, grows_for, has_failed_from, is_failure, is_growth_row, is_noted, noting}
 use Rattle.hp_segs.specs.SegsView.{SegsView, closed_number}
 use Rattle.hp_segs.specs.Sound.{IsSound}
 use Rattle.hp_segs.specs.Steps.{after_agree, after_cancel, after_claim, after_close, after_drop, after_failure, after_freed, after_grant, after_open, after_reserve, after_retire, claimed_grant}
@@ -20,14 +21,31 @@ use Rattle.hp_segs.specs.declared.outcome.Cause.{Cause}
 use Rattle.hp_segs.specs.declared.outcome.Cause.TheVariants.{MapFailed, Withdrawn}
 use Rattle.hp_segs.specs.declared.outcome.Outcome.TheVariants.{Granted, Refused}
 use Rattle.hp_segs.specs.declared.plan_refusal.PlanRefusal.{PlanRefusal}
+use Rattle.hp_segs.specs.declared.plan_refusal.PlanRefusal.TheVariants as plan
 use Rattle.hp_maps.specs.Catching.{HasReason}
-use Rattle.hp_joint.proofs.Changes.{Changes, IsOwed, Logs, MovesRoster, alters, by_grant, by_notice, by_number, by_plan, by_withdrawal, outcome_for, stays}
+use Rattle.hp_joint.proofs.Changes.{Changes, IsOwed, Logs, MovesRoster, alters, by_grant, by_notice, by_number, by_plan, by_withdrawal, fails_mapping, outcome_for, stays}
 use Rattle.hp_joint.proofs.Changes as log
 use Rattle.hp_joint.proofs.CallCases.{agree_holds, cancel_holds, claim_holds, withdraw_holds}
 use Rattle.hp_joint.proofs.Following.{elsewhere_by, note_by}
 use Rattle.hp_proc.specs.Attaching.{after_attaching}
 
-module _ (count deadline : ℕ) (may_fail : ℕ → Option (List ℕ)) where
+-- a failed mapping that is taken is of a row of the open growth
+noted_row : (segs : SegsView) (who call : ℕ) (row : Row) (growth : Option Growth) → is_noted segs who call row growth ≡ true
+    → IfSome growth (λ growth. is_growth_row growth row ≡ true)
+noted_row segs who call row None taken = tt
+noted_row segs who call row (Some growth) taken =
+    (and_parts (is_growth_row growth row) (not (is_some growth.noted) && not (has_failed_from segs.asks who call)) taken).0
+
+-- a plan's refusal is no failed mapping
+plan_fails_none : (refusal : PlanRefusal) → fails_mapping (Refused (cause_of refusal)) ≡ false
+plan_fails_none (plan.StaleAsk number done) = refl
+plan_fails_none (plan.GrowthOpen generation) = refl
+plan_fails_none plan.NoList = refl
+plan_fails_none (plan.TooFew have need) = refl
+plan_fails_none (plan.ListFull longest need) = refl
+plan_fails_none (plan.CannotHold addr len) = refl
+
+module _ (count deadline : ℕ) (may_fail : ℕ → Option (List FailingCall)) where
   -- one change of what logs, notes and grows alone
   one : (old new : SegsView) → new.pools ≡ old.pools → MovesRoster count old.roster new.roster → new.ranges ≡ old.ranges
       → Logs count deadline may_fail old new
@@ -51,20 +69,21 @@ module _ (count deadline : ℕ) (may_fail : ℕ → Option (List ℕ)) where
 
     -- a participant's failed mapping is noted
     module _ (who : ℕ) (declared : who < count) where
-      notes : (call addr : ℕ) (got : MapAnswer) → may_fail_at (may_fail who) call ≡ true
-          → Changes count deadline may_fail segs (record segs { growth = noting (MapFailed who call addr got) segs.growth })
-      notes call addr got may =
-          one segs (record segs { growth = noting (MapFailed who call addr got) segs.growth }) refl (log.same refl) refl
-          (log.failures who call addr got declared may refl refl refl)
+      notes : (row : Row) (call : ℕ) (got : MapAnswer) → FailsSo (may_fail who) call row got
+          → is_noted segs who call row segs.growth ≡ true
+          → Changes count deadline may_fail segs (record segs { growth = noting (MapFailed who call row.addr got) segs.growth })
+      notes row call got so taken =
+          one segs (record segs { growth = noting (MapFailed who call row.addr got) segs.growth }) refl (log.same refl) refl
+          (log.failures who call row got declared so (noted_row segs who call row segs.growth taken) refl refl refl)
 
       -- it has caught up, or failed to for a reason
       pub catches : (ended : Caught) → HasReason (may_fail who) ended → Changes count deadline may_fail segs (after_catching who ended segs)
       catches caught.Done may = stays segs
       catches (caught.Refused row call) may =
           note_by (Changes count deadline may_fail segs) segs (stays segs) who row call answer.Refused
-          (notes call row.addr answer.Refused may)
+          (notes row call answer.Refused may)
       catches (caught.Elsewhere row call got) may =
-          elsewhere_by (Changes count deadline may_fail segs) segs (stays segs) who row call got (notes call row.addr got may)
+          elsewhere_by (Changes count deadline may_fail segs) segs (stays segs) who row call got (notes row call got may)
           (is_failure row got)
 
       -- it attaches, or tries to
@@ -91,15 +110,15 @@ module _ (count deadline : ℕ) (may_fail : ℕ → Option (List ℕ)) where
     pub finds_stale : (from number : ℕ) → Changes count deadline may_fail segs (after_stale from number segs)
     finds_stale from number =
         one segs (after_stale from number segs) refl (log.same refl) refl
-        (log.outcomes _ refl refl refl (by_number (closed_number segs.asks from)))
+        (log.outcomes _ refl refl refl refl (by_number (closed_number segs.asks from)))
 
     pub frees : (from number : ℕ) → Changes count deadline may_fail segs (after_freed from number segs)
     frees from number =
-        one segs (after_freed from number segs) refl (log.same refl) refl (log.outcomes _ refl refl refl (by_notice (length segs.log)))
+        one segs (after_freed from number segs) refl (log.same refl) refl (log.outcomes _ refl refl refl refl (by_notice (length segs.log)))
 
     pub refuses : (ask : Ask) (refusal : PlanRefusal) → Changes count deadline may_fail segs (after_close ask (cause_of refusal) segs)
     refuses ask refusal = one segs (after_close ask (cause_of refusal) segs) refl (log.same refl) refl
-        (log.outcomes _ refl refl refl (by_plan refusal))
+        (log.outcomes _ refl refl refl (plan_fails_none refusal) (by_plan refusal))
 
     module _ (sound : IsSound segs) where
       granted_change : (growth : Growth) → segs.growth ≡ Some growth → Changes count deadline may_fail segs (after_grant growth segs)
@@ -162,6 +181,6 @@ module _ (count deadline : ℕ) (may_fail : ℕ → Option (List ℕ)) where
       withdraws armed from number since now passed =
           let owed = by_withdrawal since now passed in
           withdraw_holds (Changes count deadline may_fail segs) segs (stays segs) from number since now
-          (λ none other. one segs _ refl (log.same refl) refl (log.outcomes _ refl refl refl owed))
+          (λ none other. one segs _ refl (log.same refl) refl (log.outcomes _ refl refl refl refl owed))
           (λ none growth is own.
           failed_change growth (Withdrawn since now) (armed_ask segs from) 0 is (own_ask armed from number growth is own) owed)

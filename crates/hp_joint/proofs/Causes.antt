@@ -2,10 +2,12 @@
 use Rattle.std.proofs.Common.{◌≡◌, ℕ, List, [], ◌∷◌, ◌++◌, Option, refl, sym, subst}
 use Rattle.std.specs.List.{All}
 use Rattle.std.proofs.lemmas.List.Elements.{All-push}
+use Rattle.hp_base.specs.Mapping.{FailingCall}
 use Rattle.hp_core.specs.Starting.{cause_of}
 use Rattle.hp_script.specs.declared.workload.Workload.{Workload}
 use Rattle.hp_segs.specs.SegsView.{SegsView}
 use Rattle.hp_segs.specs.declared.ask.Ask.{Ask}
+use Rattle.hp_segs.specs.declared.growth.Growth.{Growth}
 use Rattle.hp_segs.specs.declared.outcome.AskLog.{AskLog}
 use Rattle.hp_segs.specs.declared.outcome.Cause.{Cause}
 use Rattle.hp_segs.specs.declared.outcome.Cause.TheVariants.{CannotHold, Denied, Late, ListFull, MapFailed, NoList, TooFew, Withdrawn}
@@ -19,7 +21,7 @@ use Rattle.hp_joint.proofs.OwnFailures.{AreOwnFailures, IsOwnFailure, alters_own
 use Rattle.hp_joint.proofs.Changes.{Changes, IsOwed, Logs, MovesRoster, alters, by_failure, by_grant, by_lateness, by_notice, by_number, by_plan, by_withdrawal, drops, ends, failures, goes_on, nothing, opens, outcomes, stays}
 
 -- each refusal has its cause, failed mappings are of declared participants, and nobody else is in the roster
-pub record AreCaused (workload : Workload) (may_fail : ℕ → Option (List ℕ)) (segs : SegsView) : Type 0 where
+pub record AreCaused (workload : Workload) (may_fail : ℕ → Option (List FailingCall)) (segs : SegsView) : Type 0 where
   pub causes : All (IsRefusedIn workload) segs.asks
   pub own : AreOwnFailures workload.participants may_fail segs
   pub declared : AreDeclared workload.participants segs.roster
@@ -32,23 +34,23 @@ plan_caused workload ask (plan.TooFew have need) = tt
 plan_caused workload ask (plan.ListFull longest need) = tt
 plan_caused workload ask (plan.CannotHold addr len) = tt
 
-failure_caused : (workload : Workload) (may_fail : ℕ → Option (List ℕ)) (ask : Ask) (cause : Cause)
-    → IsOwnFailure workload.participants may_fail cause → IsCauseIn workload ask cause
-failure_caused workload may_fail ask NoList own = tt
-failure_caused workload may_fail ask (TooFew have need) own = tt
-failure_caused workload may_fail ask (ListFull longest need) own = tt
-failure_caused workload may_fail ask (CannotHold addr len) own = tt
-failure_caused workload may_fail ask (Denied validator limit total) own = absurd own
-failure_caused workload may_fail ask (MapFailed participant call addr got) own = own.0
-failure_caused workload may_fail ask (Late participant from to) own = absurd own
-failure_caused workload may_fail ask (Withdrawn from to) own = absurd own
+failure_caused : (workload : Workload) (may_fail : ℕ → Option (List FailingCall)) (growth : Growth) (ask : Ask) (cause : Cause)
+    → IsOwnFailure workload.participants may_fail growth cause → IsCauseIn workload ask cause
+failure_caused workload may_fail growth ask NoList own = tt
+failure_caused workload may_fail growth ask (TooFew have need) own = tt
+failure_caused workload may_fail growth ask (ListFull longest need) own = tt
+failure_caused workload may_fail growth ask (CannotHold addr len) own = tt
+failure_caused workload may_fail growth ask (Denied validator limit total) own = absurd own
+failure_caused workload may_fail growth ask (MapFailed participant call addr got) own = own.declared
+failure_caused workload may_fail growth ask (Late participant from to) own = absurd own
+failure_caused workload may_fail growth ask (Withdrawn from to) own = absurd own
 
 -- a cause that holds of whatever ask
 refused_for : (workload : Workload) (cause : Cause) → ((ask : Ask) → IsCauseIn workload ask cause)
     → (ask : Ask) (other : Cause) → Refused cause ≡ Refused other → IsCauseIn workload ask other
 refused_for workload cause has ask other is = let same : cause ≡ other = cc in subst (IsCauseIn workload ask) same (has ask)
 
-module _ (workload : Workload) (may_fail : ℕ → Option (List ℕ)) (segs : SegsView)
+module _ (workload : Workload) (may_fail : ℕ → Option (List FailingCall)) (segs : SegsView)
     (before : AreCaused workload may_fail segs) where
   owed_caused : (outcome : Outcome) → IsOwed workload.deadline segs outcome → (ask : Ask) (cause : Cause) → outcome ≡ Refused cause
       → IsCauseIn workload ask cause
@@ -60,8 +62,8 @@ module _ (workload : Workload) (may_fail : ℕ → Option (List ℕ)) (segs : Se
   owed_caused _ (by_failure failure its) ask cause is =
       refused_for workload failure
       (λ ask.
-      failure_caused workload may_fail ask failure
-      (growth_own workload.participants may_fail segs failure segs.growth before.own.noted refl its)) ask
+      let noted = growth_own workload.participants may_fail segs failure segs.growth before.own.noted refl its in
+      failure_caused workload may_fail noted.growth ask failure noted.own) ask
       cause is
   owed_caused _ (by_lateness participant from to member passed) ask cause is =
       refused_for workload (Late participant from to)
@@ -76,7 +78,7 @@ module _ (workload : Workload) (may_fail : ℕ → Option (List ℕ)) (segs : Se
       (All-push (IsRefusedIn workload) segs.asks entry before.causes
       (λ ask cause kept logged. owed_caused entry.outcome owed ask cause logged))
 
-module _ (workload : Workload) (may_fail : ℕ → Option (List ℕ)) where
+module _ (workload : Workload) (may_fail : ℕ → Option (List FailingCall)) where
   alters_caused : (old new : SegsView) → AreCaused workload may_fail old → MovesRoster workload.participants old.roster new.roster
       → Logs workload.participants workload.deadline may_fail old new → AreCaused workload may_fail new
   alters_caused old new before roster logs = record {
@@ -87,9 +89,9 @@ module _ (workload : Workload) (may_fail : ℕ → Option (List ℕ)) where
     where
       causes : Logs workload.participants workload.deadline may_fail old new → All (IsRefusedIn workload) new.asks
       causes (nothing log asks growth) = subst (All (IsRefusedIn workload)) (sym asks) before.causes
-      causes (failures participant call addr got within may log asks growth) = subst (All (IsRefusedIn workload)) (sym asks) before.causes
+      causes (failures participant call row got within may its log asks growth) = subst (All (IsRefusedIn workload)) (sym asks) before.causes
       causes (drops runs log asks growth) = subst (All (IsRefusedIn workload)) (sym asks) before.causes
-      causes (outcomes entry log asks growth owed) = pushed workload may_fail old before new.asks entry asks owed
+      causes (outcomes entry log asks growth beside owed) = pushed workload may_fail old before new.asks entry asks owed
       causes (opens ask run growth alone log asks is stamp unnoted) = subst (All (IsRefusedIn workload)) (sym asks) before.causes
       causes (ends growth entry end) = pushed workload may_fail old before new.asks entry end.asks end.owed
 

@@ -1,13 +1,14 @@
 -- Changes: what participants make of the segment value, one small change after another; what stays, what comes to be logged, and why it
 -- is logged. There are so many participants, they wait so long, and at these calls their mappers may fail.
-use Rattle.std.proofs.Common.{◌≡◌, ◌≢◌, ◌∙◌, ℕ, ◌+◌, ◌*◌, ◌<◌, ◌≤◌, Bool, true, false, List, [], ◌∷◌, ◌++◌, length, map, Option, Some, None, refl}
+use Rattle.std.proofs.Common.{◌≡◌, ◌≢◌, ◌∙◌, ℕ, ◌+◌, ◌*◌, ◌<◌, ◌≤◌, Bool, true, false, List, [], ◌∷◌, ◌++◌, length, map, Option, Some, None, IfSome, refl}
 use Rattle.std.specs.Prelude.{slice_set}
-use Rattle.hp_base.specs.Mapping.{may_fail_at}
+use Rattle.hp_base.specs.Mapping.{FailingCall, FailsSo}
 use Rattle.hp_base.specs.declared.map_answer.MapAnswer.{MapAnswer}
+use Rattle.hp_base.specs.declared.row.Row.{Row}
 use Rattle.hp_base.specs.declared.row.Run.{Run}
 use Rattle.hp_core.specs.Starting.{cause_of}
 use Rattle.hp_log.specs.declared.log_record.LogRecord.TheVariants.{Add, Drop}
-use Rattle.hp_segs.specs.LaterSteps.{noted_failure, noting}
+use Rattle.hp_segs.specs.LaterSteps.{is_growth_row, noted_failure, noting}
 use Rattle.hp_segs.specs.SegsView.{SegsView, is_member}
 use Rattle.hp_segs.specs.Sound.{IsSound}
 use Rattle.hp_segs.specs.declared.ask.Ask.{Ask}
@@ -30,6 +31,11 @@ pub data IsOwed (deadline : ℕ) (segs : SegsView) : Outcome → Type 0 where
   by_lateness : (participant from to : ℕ) → is_member segs.roster participant ≡ true → from + deadline ≤ to
       → IsOwed deadline segs (Refused (Late participant from to))
   by_withdrawal : (since now : ℕ) → since + 3 * deadline ≤ now → IsOwed deadline segs (Refused (Withdrawn since now))
+
+-- the outcome is a failed mapping
+abbrev pub fails_mapping : Outcome → Bool
+fails_mapping (Refused (MapFailed participant call addr got)) = true
+fails_mapping _ = false
 
 -- an outcome of the ask of a growth, logged beside the number of records
 abbrev pub outcome_for : Growth → Outcome → Option Ask → SegsView → AskLog
@@ -60,29 +66,30 @@ pub data MovesRoster (count : ℕ) (old new : List Bool) : Type 0 where
   leaves : (who : ℕ) → who ≢ 0 → new ≡ slice_set old who false → MovesRoster count old new
 
 -- what one change does to the records, the outcomes and the open growth
-pub data Logs (count deadline : ℕ) (may_fail : ℕ → Option (List ℕ)) (old new : SegsView) : Type 0 where
+pub data Logs (count deadline : ℕ) (may_fail : ℕ → Option (List FailingCall)) (old new : SegsView) : Type 0 where
   nothing : new.log ≡ old.log → new.asks ≡ old.asks → new.growth ≡ old.growth → Logs count deadline may_fail old new
-  -- a failed mapping of a participant is noted, at a call at which its mapper may fail
-  failures : (participant call addr : ℕ) (got : MapAnswer) → participant < count → may_fail_at (may_fail participant) call ≡ true
-      → new.log ≡ old.log → new.asks ≡ old.asks → new.growth ≡ noting (MapFailed participant call addr got) old.growth
-      → Logs count deadline may_fail old new
+  -- a failed mapping of a participant is noted, of a row of the open growth, at a call at which its mapper may answer the row so
+  failures : (participant call : ℕ) (row : Row) (got : MapAnswer) → participant < count → FailsSo (may_fail participant) call row got
+      → IfSome old.growth (λ growth. is_growth_row growth row ≡ true) → new.log ≡ old.log → new.asks ≡ old.asks
+      → new.growth ≡ noting (MapFailed participant call row.addr got) old.growth → Logs count deadline may_fail old new
   drops : (runs : List Run) → new.log ≡ old.log ++ map (λ run. Drop run) runs → new.asks ≡ old.asks → new.growth ≡ old.growth
       → Logs count deadline may_fail old new
+  -- an outcome beside the open growth, which is no failed mapping
   outcomes : (entry : AskLog) → new.log ≡ old.log → new.asks ≡ old.asks ++ entry ∷ [] → new.growth ≡ old.growth
-      → IsOwed deadline old entry.outcome → Logs count deadline may_fail old new
+      → fails_mapping entry.outcome ≡ false → IsOwed deadline old entry.outcome → Logs count deadline may_fail old new
   opens : (ask : Ask) (run : Run) (growth : Growth) → old.growth ≡ None → new.log ≡ old.log ++ Add run ask.heap ∷ [] → new.asks ≡ old.asks
       → new.growth ≡ Some growth → growth.generation ≡ length old.log + 1 → growth.noted ≡ None → Logs count deadline may_fail old new
   ends : (growth : Growth) (entry : AskLog) → Ends deadline old new growth entry → Logs count deadline may_fail old new
 
 -- one change
-pub record Alters (count deadline : ℕ) (may_fail : ℕ → Option (List ℕ)) (old new : SegsView) : Type 0 where
+pub record Alters (count deadline : ℕ) (may_fail : ℕ → Option (List FailingCall)) (old new : SegsView) : Type 0 where
   pub pools : new.pools ≡ old.pools
   pub roster : MovesRoster count old.roster new.roster
   pub ranges : new.ranges ≡ old.ranges
   pub logs : Logs count deadline may_fail old new
 
 -- changes, one after another
-pub data Changes (count deadline : ℕ) (may_fail : ℕ → Option (List ℕ)) : SegsView → SegsView → Type 0 where
+pub data Changes (count deadline : ℕ) (may_fail : ℕ → Option (List FailingCall)) : SegsView → SegsView → Type 0 where
   stays : (segs : SegsView) → Changes count deadline may_fail segs segs
   alters : (old new : SegsView) → Alters count deadline may_fail old new → Changes count deadline may_fail old new
   goes_on : (first mid last : SegsView) → Changes count deadline may_fail first mid → Changes count deadline may_fail mid last
@@ -94,7 +101,7 @@ pub record Stays (old new : SegsView) : Type 0 where
   pub ranges : new.ranges ≡ old.ranges
 
 -- the pools and the external memory stay through all changes
-pub changes_stay : (count deadline : ℕ) (may_fail : ℕ → Option (List ℕ)) (old new : SegsView) → Changes count deadline may_fail old new
+pub changes_stay : (count deadline : ℕ) (may_fail : ℕ → Option (List FailingCall)) (old new : SegsView) → Changes count deadline may_fail old new
     → Stays old new
 changes_stay count deadline may_fail _ _ (stays segs) = record { pools = refl; ranges = refl }
 changes_stay count deadline may_fail _ _ (alters old new one) = record { pools = one.pools; ranges = one.ranges }

@@ -86,7 +86,7 @@ module _ (workload : Workload) (courses : List Course) (parties : List Party) (h
   own_segs : (segs : SegsView) → segs_in (slot_at hall MAX_HEAPS) ≡ Some segs → so.now.segs ≡ segs
   own_segs segs its = same_Some so.now.segs segs (sym so.its_segs ∙ its)
 
--- a failed mapping was a declared participant's, at a call at which its mapper may fail
+-- a failed mapping was a declared participant's, at a call at which its mapper may answer so
 pub so_far_fails : FailsByReason
 so_far_fails workload courses parties hall segs entry participant call given so its logged failed =
     let found =
@@ -94,7 +94,7 @@ so_far_fails workload courses parties hall segs entry participant call given so 
     (waits workload courses parties hall so) entry
     (subst (λ (segs : SegsView). Contains segs.asks entry) (sym (own_segs workload courses parties hall so segs its)) logged)
     participant call failed.addr failed.got failed.its in
-    record { party = found.seat.party; its = (so.seats participant found.seat found.there).party; may = found.may }
+    record { party = found.seat.party; its = (so.seats participant found.seat found.there).party; fails = found.fails }
 
 -- failed mappings that share participant and call stand at one place
 pub so_far_fails_once : FailsOnce

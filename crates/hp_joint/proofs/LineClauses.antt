@@ -6,6 +6,7 @@ use Rattle.std.proofs.lemmas.List.Elements.{All-cons, All-filter, All-head, All-
 use Rattle.hp_heap.specs.History.{HeapView}
 use Rattle.hp_plain.specs.HallView.{HallView, seen_in}
 use Rattle.hp_log.specs.declared.log_record.LogRecord.{LogRecord}
+use Rattle.hp_script.specs.Built.{IsBuiltAct}
 use Rattle.hp_script.specs.declared.line.Act.{Act}
 use Rattle.hp_script.specs.declared.line.Act.TheVariants as act
 use Rattle.hp_script.specs.declared.line.Line.{Line}
@@ -15,7 +16,6 @@ use Rattle.hp_segs.specs.declared.outcome.AskLog.{AskLog}
 use Rattle.hp_proc.specs.Acting.{AreAsked}
 use Rattle.hp_proc.specs.Awaits.{AreAwaited}
 use Rattle.hp_proc.specs.Doing.{Done}
-use Rattle.hp_proc.specs.Lines.{IsBuilt}
 use Rattle.hp_proc.specs.LinesDone.{Course, courses_of, trace_of}
 use Rattle.hp_proc.specs.Outcomes.{AreAnsweredSo, AreInTurn}
 use Rattle.hp_proc.specs.Party.{Party}
@@ -27,33 +27,23 @@ use Rattle.hp_joint.proofs.HallSegs.{seat_of}
 use Rattle.hp_joint.proofs.SoFarFacts.{asks_are, log_is}
 use Rattle.hp_joint.proofs.Provenance as made
 
--- a line of one of the participants is built
-built_one : (who : ℕ) (does : Act) → IsLineBuilt who does → IsBuilt does
-built_one who (act.Alloc label size options) is = tt
-built_one who (act.Free label) is = tt
-built_one who (act.Resize label size) is = tt
-built_one who (act.Dump heap) is = tt
-built_one who act.Attach is = tt
-built_one who act.Detach is = tt
-built_one who _ is = absurd is
-
--- and it is no await
+-- a line that is built is no await
 no_await : (who : ℕ) (does : Act) (other lines : ℕ) → does ≡ act.Await other lines → IsLineBuilt who does → ⊥
-no_await who does other lines is one = subst (IsLineBuilt who) is one
+no_await who does other lines is one = let built = (subst (IsLineBuilt who) is one).0 in cc
 
 built_in : (count : ℕ) (courses : List Course) → All (IsOfDeclared count) courses
-    → All (λ (line : Line). IsBuilt line.act) (map (λ (course : Course). course.line) courses)
-built_in count [] built = All-nil (λ (line : Line). IsBuilt line.act)
+    → All (λ (line : Line). IsBuiltAct line.act) (map (λ (course : Course). course.line) courses)
+built_in count [] built = All-nil (λ (line : Line). IsBuiltAct line.act)
 built_in count (course ∷ courses) built =
-    All-cons (λ (line : Line). IsBuilt line.act) course.line (map (λ (course : Course). course.line) courses)
-    (built_one course.line.participant course.line.act (All-head (IsOfDeclared count) course courses built).act)
+    All-cons (λ (line : Line). IsBuiltAct line.act) course.line (map (λ (course : Course). course.line) courses)
+    (All-head (IsOfDeclared count) course courses built).act.0
     (built_in count courses (All-tail (IsOfDeclared count) course courses built))
 
 -- the clause `built`
 pub lines_built : (count : ℕ) (lines : List Line) (courses : List Course) → All (IsOfDeclared count) courses
     → map (λ (course : Course). course.line) courses ≡ lines
-    → All (λ line. IsBuilt line.act) lines
-lines_built count lines courses built are = subst (All (λ (line : Line). IsBuilt line.act)) are (built_in count courses built)
+    → All (λ line. IsBuiltAct line.act) lines
+lines_built count lines courses built are = subst (All (λ (line : Line). IsBuiltAct line.act)) are (built_in count courses built)
 
 -- the clause `awaited`: no line awaits
 pub none_awaits : (count : ℕ) (courses : List Course) (heaps : List HeapView) → All (IsOfDeclared count) courses

@@ -87,7 +87,7 @@ line_tries_by who line (act.Resize label size) facts given trace built leads =
     none_tried line (act.Resize label size) facts given trace tt leads
 line_tries_by who line act.Detach facts given trace built leads = none_tried line act.Detach facts given trace tt leads
 line_tries_by who line (act.Dump heap) facts given trace built leads = none_tried line (act.Dump heap) facts given trace tt leads
-line_tries_by who line _ facts given trace built leads = absurd built
+line_tries_by who line _ facts given trace (built, own) leads = absurd cc
 
 -- a line that is built tries so
 pub line_tries : (who : ℕ) (line : Line) (facts : Facts) (given : Answer) (trace : List Done) → IsLineBuilt who line.act

@@ -62,4 +62,4 @@ line_looks who line (act.Free label) facts trace given is leads = other_looks li
 line_looks who line (act.Resize label size) facts trace given is leads = other_looks line (act.Resize label size) facts trace given tt leads
 line_looks who line (act.Dump heap) facts trace given is leads = other_looks line (act.Dump heap) facts trace given tt leads
 line_looks who line act.Detach facts trace given is leads = other_looks line act.Detach facts trace given tt leads
-line_looks who line _ facts trace given is leads = absurd is
+line_looks who line _ facts trace given (built, own) leads = absurd cc

@@ -2,6 +2,7 @@
 use Rattle.std.proofs.Common.{◌≡◌, ◌≢◌, ◌∙◌, ℕ, zero, suc, ◌<◌, Bool, true, false, List, [], ◌∷◌, length, Option, refl, ap, sym, subst, arith, ⊎_elim}
 use Rattle.std.specs.Prelude.{slice_set}
 use Rattle.std.proofs.lemmas.Bool.{cases_eq}
+use Rattle.hp_base.specs.Mapping.{FailingCall}
 use Rattle.hp_segs.specs.SegsView.{SegsView, is_member}
 use Rattle.hp_joint.proofs.Changes.{Changes, MovesRoster, alters, goes_on, joins, leaves, same, stays}
 
@@ -58,7 +59,7 @@ module _ (count : ℕ) where
       subst (AreDeclared count) (sym is) (set_declared old who false out before)
 
   -- and through all changes
-  pub changes_declared : (deadline : ℕ) (may_fail : ℕ → Option (List ℕ)) (old new : SegsView) → Changes count deadline may_fail old new
+  pub changes_declared : (deadline : ℕ) (may_fail : ℕ → Option (List FailingCall)) (old new : SegsView) → Changes count deadline may_fail old new
       → AreDeclared count old.roster → AreDeclared count new.roster
   changes_declared deadline may_fail _ _ (stays segs) before = before
   changes_declared deadline may_fail _ _ (alters old new one) before = moves_declared old.roster new.roster one.roster before

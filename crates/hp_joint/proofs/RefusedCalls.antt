@@ -1,15 +1,16 @@
 -- What a catching up leaves of a mapper's calls: one that failed is a call more, at which the mapper may fail, and the row is one of the
 -- log.
-use Rattle.std.proofs.Common.{◌≡◌, ◌∙◌, ℕ, zero, suc, ◌+◌, ◌-◌, ◌<◌, ◌≤◌, true, List, [], ◌∷◌, ◌++◌, length, map, take, get_or, Option, Some, inl, inr, refl, ap, sym, subst, arith, append_assoc, length-append}
+use Rattle.std.proofs.Common.{◌≡◌, ◌∙◌, ℕ, zero, suc, ◌+◌, ◌-◌, ◌<◌, ◌≤◌, true, List, [], ◌∷◌, ◌++◌, length, map, take, get_or, Option, Some, None, ◌==◌, eq-eqb, inl, inr, refl, ap, sym, subst, arith, append_assoc, length-append}
 use Rattle.std.specs.Prelude.{Contains, slice_get, ⊤}
 use Rattle.std.specs.List.{All}
 use Rattle.std.specs.List.Sorted.{IsStrictlyIncreasing}
 use Rattle.std.proofs.lemmas.Bool.{cases_lt}
 use Rattle.std.proofs.lemmas.List.{get_or-append_right, get_or_append_left, take-append-le}
-use Rattle.hp_base.specs.Mapping.{may_fail_at, own_place}
+use Rattle.hp_base.specs.Mapping.{FailingCall, may_fail_at, own_place, FailsSo}
 use Rattle.hp_base.specs.declared.caught.Caught.{Caught}
 use Rattle.hp_base.specs.declared.caught.Caught.TheVariants as caught
 use Rattle.hp_base.specs.declared.map_answer.MapAnswer.{MapAnswer}
+use Rattle.hp_base.specs.declared.map_answer.MapAnswer.TheVariants as answer
 use Rattle.hp_base.specs.declared.row.Row.{Row}
 use Rattle.hp_heap.proofs.ChoiceLaw.{Contains-here, Contains-there}
 use Rattle.hp_log.specs.Log.{table_at, table_of}
@@ -22,6 +23,7 @@ use Rattle.hp_proc.specs.Doing.Done.{Asked, Called, CaughtUp, GaveUp, Looked}
 use Rattle.hp_proc.specs.Seen.{IsRefusedRow}
 use Rattle.hp_proc.specs.Serving.{CatchesUp}
 use Rattle.hp_joint.proofs.TableRows.{row_of_table}
+use Rattle.std.proofs.lemmas.List.Folds.{list_any_at}
 
 -- what is read at a place is among them
 read_among : {X : Type 0} (xs : List X) (place : ℕ) (x : X) → slice_get xs place ≡ Some x → Contains xs x
@@ -61,8 +63,17 @@ rising_push xs bound last rising below above k within =
           omega (arith, here, next, seam, below k 0 (omega (arith, end)), above)
     ]
 
+-- where a call may fail with an answer, it may fail
+fails_there : (may_fail : Option (List FailingCall)) (call : ℕ) (row : Row) (got : MapAnswer) → FailsSo may_fail call row got
+    → may_fail_at may_fail call ≡ true
+fails_there None call row got so = refl
+fails_there (Some calls) call row got so =
+    let (place, below, here) = so.its in
+    list_any_at (λ (one : FailingCall). one.call == call) calls place (record { call = call; how = so.how }) below
+    (subst (λ (one : FailingCall). (one.call == call) ≡ true) (sym here) (eq-eqb call call refl))
+
 -- what a catching up brings of refused calls: none, or one that is a call more, at which the mapper may fail
-pub data BringsCalls (old new : List MapAnswer) (may_fail : Option (List ℕ)) (calls : List ℕ) : Type 0 where
+pub data BringsCalls (old new : List MapAnswer) (may_fail : Option (List FailingCall)) (calls : List ℕ) : Type 0 where
   none : calls ≡ [] → length old ≤ length new → BringsCalls old new may_fail calls
   one : (call : ℕ) → calls ≡ call ∷ [] → length old < call → call ≡ length new → may_fail_at may_fail call ≡ true
       → BringsCalls old new may_fail calls
@@ -74,14 +85,16 @@ failed_call fresh old new row call got failed =
     let first = length-append old (map own_place (take failed.place fresh)) in
     omega (arith, ap length failed.answered, before, first)
 
-brings_calls : (fresh : List Row) (old new : List MapAnswer) (may_fail : Option (List ℕ)) (ended : Caught) → HasAnswered fresh old new ended
+brings_calls : (fresh : List Row) (old new : List MapAnswer) (may_fail : Option (List FailingCall)) (ended : Caught) → HasAnswered fresh old new ended
     → HasReason may_fail ended → BringsCalls old new may_fail (call_refused ended)
 brings_calls fresh old new may_fail caught.Done answered reason =
     none refl (omega (arith, ap length answered, length-append old (map own_place fresh)))
 brings_calls fresh old new may_fail (caught.Refused row call) failed reason =
-    one call refl (omega (arith, failed.its_call, failed_call fresh old new row call _ failed)) failed.its_call reason
+    one call refl (omega (arith, failed.its_call, failed_call fresh old new row call _ failed)) failed.its_call
+    (fails_there may_fail call row answer.Refused reason)
 brings_calls fresh old new may_fail (caught.Elsewhere row call got) failed reason =
-    one call refl (omega (arith, failed.0.its_call, failed_call fresh old new row call got failed.0)) failed.0.its_call reason
+    one call refl (omega (arith, failed.0.its_call, failed_call fresh old new row call got failed.0)) failed.0.its_call
+    (fails_there may_fail call row got reason)
 
 -- a row that was refused is one of the table of all records
 refused_row : (log : List LogRecord) (old new : MapsView) (ended : Caught)

@@ -5,16 +5,18 @@ use Rattle.std.specs.Int.{bit_at}
 use Rattle.std.specs.List.{All, range_with_len}
 use Rattle.std.proofs.lemmas.Bool.{and_parts, ltb-true}
 use Rattle.std.proofs.lemmas.List.Elements.{All-contains, All-nil}
-use Rattle.hp_base.specs.Mapping.{may_fail_at}
+use Rattle.hp_base.specs.Mapping.{FailingCall}
 use Rattle.hp_base.specs.declared.map_answer.MapAnswer.{MapAnswer}
 use Rattle.hp_base.specs.declared.pool_line.PoolLine.{PoolLine}
 use Rattle.hp_script.specs.declared.workload.Workload.{Workload}
 use Rattle.hp_segs.specs.Opening.{is_present, opening, opening_roster}
 use Rattle.hp_segs.specs.SegsView.{is_member}
+use Rattle.hp_segs.specs.declared.ask.Ask.{Ask}
 use Rattle.hp_segs.specs.declared.outcome.AskLog.{AskLog}
 use Rattle.hp_segs.specs.declared.outcome.Cause.TheVariants.{MapFailed}
 use Rattle.hp_segs.specs.declared.outcome.Outcome.TheVariants.{Refused}
 use Rattle.hp_proc.specs.Outcomes.{AreAskedFor, IsRefusedIn}
+use Rattle.hp_joint.specs.EndLaws.{FailsFor}
 use Rattle.hp_joint.specs.Seats.{Seat}
 use Rattle.hp_joint.specs.Together.{IsFirst, Joint, Runs}
 use Rattle.hp_joint.proofs.AskedFor.{AreEndedAskedFor, changes_asked, ended_all}
@@ -29,7 +31,7 @@ use Rattle.hp_joint.proofs.Settings.{may_fail_in, may_fail_of, seat_at, set_so}
 opening_asked : (pools : List PoolLine) (count absent : ℕ) → AreEndedAskedFor (opening pools count absent)
 opening_asked pools count absent place run heap here ended = cc
 
-opening_own : (count absent : ℕ) (may_fail : ℕ → Option (List ℕ)) (pools : List PoolLine)
+opening_own : (count absent : ℕ) (may_fail : ℕ → Option (List FailingCall)) (pools : List PoolLine)
     → AreOwnFailures count may_fail (opening pools count absent)
 opening_own count absent may_fail pools = record { noted = tt; logged = All-nil (EntryFailsAsMay count may_fail) }
 
@@ -46,16 +48,16 @@ present_declared count absent from (suc places) (suc member) within =
 first_declared : (count absent : ℕ) → AreDeclared count (opening_roster count absent)
 first_declared count absent member within = omega (arith, present_declared count absent 0 16 member within)
 
--- a failed mapping that is logged: of a participant that is there, at a call at which its mapper may fail
-pub record IsFailureOf (at : Joint) (participant call : ℕ) : Type 0 where
+-- a failed mapping that is logged: of a participant that is there, at a call at which its mapper may answer so
+pub record IsFailureOf (at : Joint) (participant call addr : ℕ) (got : MapAnswer) (kept : Option Ask) : Type 0 where
   pub seat : Seat
   pub there : slice_get at.seats participant ≡ Some seat
-  pub may : may_fail_at seat.party.maps.may_fail call ≡ true
+  pub fails : FailsFor seat.party.maps.may_fail call addr got kept
 
 module _ (count absent : ℕ) (pools : List PoolLine) (first now : Joint) (is : IsFirst count absent pools first)
     (runs : Runs count first now) (deadline : ℕ)
     (waits : (who : ℕ) (seat : Seat) → slice_get now.seats who ≡ Some seat → seat.party.deadline ≡ deadline) where
-  abbrev may_fail : ℕ → Option (List ℕ)
+  abbrev may_fail : ℕ → Option (List FailingCall)
   may_fail = may_fail_of now
 
   changed : Changes count deadline may_fail first.segs now.segs
@@ -104,18 +106,18 @@ module _ (count absent : ℕ) (pools : List PoolLine) (first now : Joint) (is : 
       changes_own count may_fail deadline first.segs now.segs changed
       (subst (AreOwnFailures count may_fail) (sym is.segs) (opening_own count absent may_fail pools))
 
-  -- a failed mapping was of a participant, at a call at which its mapper may fail
+  -- a failed mapping was of a participant, at a call at which its mapper may answer so
   pub fails_by_reason : (entry : AskLog) → Contains now.segs.asks entry → (participant call addr : ℕ) (got : MapAnswer)
-      → entry.outcome ≡ Refused (MapFailed participant call addr got) → IsFailureOf now participant call
+      → entry.outcome ≡ Refused (MapFailed participant call addr got) → IsFailureOf now participant call addr got entry.ask
   fails_by_reason entry logged participant call addr got its =
-      let own : FailsAsMay count may_fail (Refused (MapFailed participant call addr got)) =
-      subst (FailsAsMay count may_fail) its
+      let own : FailsAsMay count may_fail entry.ask (Refused (MapFailed participant call addr got)) =
+      subst (FailsAsMay count may_fail entry.ask) its
       (All-contains (EntryFailsAsMay count may_fail) now.segs.asks entry failures.logged logged) in
       let one = seat_at now.seats participant (omega (arith, own.0, count_along runs, is.seats)) in
       record {
         seat = one.seat;
         there = one.there;
-        may = subst (λ (found : Option Seat). may_fail_at (may_fail_in found) call ≡ true) one.there own.1;
+        fails = subst (λ (found : Option Seat). FailsFor (may_fail_in found) call addr got entry.ask) one.there own.1;
       }
 
   -- the pools and the external memory stay

@@ -3,6 +3,7 @@
 use Rattle.std.proofs.Common.{◌≡◌, ◌∙◌, ℕ, ◌+◌, ◌*◌, ◌<◌, ◌≤◌, ◌==◌, Bool, true, false, List, Option, Some, None, refl, ap, sym, subst, if◌then◌else◌, arith}
 use Rattle.std.specs.Prelude.{length, replicate, slice_get, slice_set}
 use Rattle.std.proofs.lemmas.Option.{slice_get_within}
+use Rattle.hp_base.specs.Mapping.{FailingCall}
 use Rattle.hp_base.specs.declared.caught.Caught.{Caught}
 use Rattle.hp_base.specs.declared.caught.Caught.TheVariants as caught
 use Rattle.hp_base.specs.declared.pool_line.PoolLine.{PoolLine}
@@ -37,13 +38,13 @@ abbrev WaitsFor : ℕ → Option Core → Type 0
 WaitsFor deadline core = (one : Core) → core ≡ Some one → one.deadline ≡ deadline
 
 -- a seat is that of its participant, which waits so long, and whose mapper may fail at these calls
-pub record IsSteady (deadline : ℕ) (may_fail : ℕ → Option (List ℕ)) (who : ℕ) (seat : Seat) : Type 0 where
+pub record IsSteady (deadline : ℕ) (may_fail : ℕ → Option (List FailingCall)) (who : ℕ) (seat : Seat) : Type 0 where
   pub me : seat.party.me ≡ who
   pub its_deadline : seat.party.deadline ≡ deadline
   pub its_may_fail : seat.party.maps.may_fail ≡ may_fail who
   pub waits : WaitsFor deadline seat.party.core
 
-module _ (deadline : ℕ) (may_fail : ℕ → Option (List ℕ)) (who : ℕ) where
+module _ (deadline : ℕ) (may_fail : ℕ → Option (List FailingCall)) (who : ℕ) where
   abbrev Steady : Seat → Type 0
   Steady seat = IsSteady deadline may_fail who seat
 
@@ -110,19 +111,19 @@ module _ (deadline : ℕ) (may_fail : ℕ → Option (List ℕ)) (who : ℕ) whe
       record { me = was.me; its_deadline = was.its_deadline; its_may_fail = was.its_may_fail; waits = was.waits }
 
 -- an ask tells of no mapping
-ask_reason : (count : ℕ) (may_fail : ℕ → Option (List ℕ)) (body : Body) (event : CoreEvent) → IsAskIn count body event
+ask_reason : (count : ℕ) (may_fail : ℕ → Option (List FailingCall)) (body : Body) (event : CoreEvent) → IsAskIn count body event
     → TellsReason count may_fail event
 ask_reason count may_fail body event (IsAskIn.asks ask size align bound flags is within request its) =
     subst (TellsReason count may_fail) (sym its) tt
 ask_reason count may_fail body event (IsAskIn.frees from number heap address len is within its) =
     subst (TellsReason count may_fail) (sym its) tt
 
-known_reason : (count : ℕ) (may_fail : ℕ → Option (List ℕ)) (seat : Seat) (event : CoreEvent) → Knows count seat event
+known_reason : (count : ℕ) (may_fail : ℕ → Option (List FailingCall)) (seat : Seat) (event : CoreEvent) → Knows count seat event
     → TellsReason count may_fail event
 known_reason count may_fail seat _ (Knows.polls now acks) = tt
 known_reason count may_fail seat event (Knows.takes frame body its among says is_ask) = ask_reason count may_fail body event is_ask
 
-module _ (count deadline : ℕ) (may_fail : ℕ → Option (List ℕ)) (who : ℕ) (declared : who < count) where
+module _ (count deadline : ℕ) (may_fail : ℕ → Option (List FailingCall)) (who : ℕ) (declared : who < count) where
   coordinates : (event : CoreEvent) (core : Core) (segs : SegsView) → core.deadline ≡ deadline → IsSound segs
       → TellsReason count may_fail event → Changes count deadline may_fail segs (stepping event core segs).segs
   coordinates event core segs same sound reason =
@@ -139,11 +140,11 @@ module _ (count deadline : ℕ) (may_fail : ℕ → Option (List ℕ)) (who : �
       coordinates (SelfMapped caught now) core segs (was.waits core its) sound (
         subst (λ who. who < count) is declared,
         subst (λ who. HasReason (may_fail who) caught) is
-            (subst (λ (may_fail : Option (List ℕ)). HasReason may_fail caught) was.its_may_fail caught_up.reason),
+            (subst (λ (may_fail : Option (List FailingCall)). HasReason may_fail caught) was.its_may_fail caught_up.reason),
       )
   handles_changes (Handles.follows seat segs caught table member caught_up) was sound armed =
       change.catches count deadline may_fail segs who declared caught
-      (subst (λ (may_fail : Option (List ℕ)). HasReason may_fail caught) was.its_may_fail caught_up.reason)
+      (subst (λ (may_fail : Option (List FailingCall)). HasReason may_fail caught) was.its_may_fail caught_up.reason)
   handles_changes (Handles.arms seat segs asked run number is) was sound armed =
       change.arms count deadline may_fail segs (ask_of who number asked)
   handles_changes (Handles.claims seat segs) was sound armed = change.claims count deadline may_fail segs who seat.party.asked
@@ -159,11 +160,11 @@ module _ (count deadline : ℕ) (may_fail : ℕ → Option (List ℕ)) (who : �
   handles_changes (Handles.detaches seat segs secondary) was sound armed = change.detaches count deadline may_fail segs who secondary
 
 -- the segment value comes from the first by changes, and each seat is steady
-pub record AreBehind (count deadline : ℕ) (may_fail : ℕ → Option (List ℕ)) (first at : Joint) : Type 0 where
+pub record AreBehind (count deadline : ℕ) (may_fail : ℕ → Option (List FailingCall)) (first at : Joint) : Type 0 where
   pub changed : Changes count deadline may_fail first.segs at.segs
   pub each : (who : ℕ) (seat : Seat) → slice_get at.seats who ≡ Some seat → IsSteady deadline may_fail who seat
 
-module _ (count deadline : ℕ) (may_fail : ℕ → Option (List ℕ)) where
+module _ (count deadline : ℕ) (may_fail : ℕ → Option (List FailingCall)) where
   -- one seat came to something else
   seated_steady : (seats : List Seat) (who : ℕ) (old new : Seat) → slice_get seats who ≡ Some old → IsSteady deadline may_fail who new
       → ((other : ℕ) (seat : Seat) → slice_get seats other ≡ Some seat → IsSteady deadline may_fail other seat) → (other : ℕ) (seat : Seat)

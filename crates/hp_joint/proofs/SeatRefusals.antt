@@ -4,7 +4,7 @@ use Rattle.std.proofs.Common.{◌≡◌, ◌∙◌, ℕ, ◌<◌, ◌≤◌, tru
 use Rattle.std.specs.List.{All}
 use Rattle.std.specs.List.Sorted.{IsStrictlyIncreasing}
 use Rattle.std.proofs.lemmas.List.Elements.{All-append, All-cons, All-nil, All-push, All-weaker}
-use Rattle.hp_base.specs.Mapping.{may_fail_at}
+use Rattle.hp_base.specs.Mapping.{FailingCall, may_fail_at}
 use Rattle.hp_base.specs.declared.caught.Caught.{Caught}
 use Rattle.hp_base.specs.declared.caught.Caught.TheVariants as caught
 use Rattle.hp_base.specs.declared.map_answer.MapAnswer.{MapAnswer}
@@ -48,7 +48,7 @@ call_stays : (old new : MapsView) → length old.answers ≤ length new.answers 
 call_stays old new longer same call is = record {
   some = is.some;
   made = omega (arith, longer, is.made);
-  may = subst (λ (may_fail : Option (List ℕ)). may_fail_at may_fail call ≡ true) (sym same) is.may;
+  may = subst (λ (may_fail : Option (List FailingCall)). may_fail_at may_fail call ≡ true) (sym same) is.may;
 }
 
 module _ (log : List LogRecord) (old new : Seat) (was : IsAttachedSo log old) (did : DoesMore log old new) where
@@ -72,7 +72,7 @@ module _ (log : List LogRecord) (old new : Seat) (was : IsAttachedSo log old) (d
       let its : IsRefusedCall new.party.maps call = record {
         some = omega (arith, more);
         made = omega (arith, last);
-        may = subst (λ (may_fail : Option (List ℕ)). may_fail_at may_fail call ≡ true) (sym did.may_fail) may;
+        may = subst (λ (may_fail : Option (List FailingCall)). may_fail_at may_fail call ≡ true) (sym did.may_fail) may;
       } in
       let below : All (λ n. n ≤ length old.party.maps.answers) (refusals_in old.trace) =
       All-weaker (IsRefusedCall old.party.maps) (λ n. n ≤ length old.party.maps.answers) (λ n is. is.made) (refusals_in old.trace)

@@ -2,6 +2,7 @@
 use Rattle.std.proofs.Common.{◌≡◌, ◌∙◌, ℕ, zero, suc, ◌<◌, List, [], ◌∷◌, length, Option, Some, None, refl, ap, sym, subst, arith}
 use Rattle.std.specs.Prelude.{slice_get}
 use Rattle.std.proofs.lemmas.Option.{same_Some, slice_get_within}
+use Rattle.hp_base.specs.Mapping.{FailingCall}
 use Rattle.hp_base.specs.declared.caught.Caught.{Caught}
 use Rattle.hp_base.specs.declared.caught.Caught.TheVariants as caught
 use Rattle.hp_hall.specs.Mail.{MailStep}
@@ -136,11 +137,11 @@ module _ {count : ℕ} {first now : Joint} (runs : Runs count first now) where
   may_fail_stays who old seat early late = (settings_stay who old seat early late).may_fail
 
 -- the calls at which the mapper of each may fail
-abbrev pub may_fail_in : Option Seat → Option (List ℕ)
+abbrev pub may_fail_in : Option Seat → Option (List FailingCall)
 may_fail_in None = None
 may_fail_in (Some seat) = seat.party.maps.may_fail
 
-abbrev pub may_fail_of : Joint → ℕ → Option (List ℕ)
+abbrev pub may_fail_of : Joint → ℕ → Option (List FailingCall)
 may_fail_of at who = may_fail_in (slice_get at.seats who)
 
 -- where all wait as long behind a run, they did so at first

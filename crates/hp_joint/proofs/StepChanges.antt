@@ -4,6 +4,7 @@ use Rattle.std.proofs.Common.{◌≡◌, ℕ, ◌+◌, ◌-◌, ◌<◌, ◌≤�
 use Rattle.std.specs.Prelude.{⊤, is_none, is_some, nat_le, slice_index_or}
 use Rattle.std.proofs.lemmas.Bool.{and_parts, cond_both}
 use Rattle.std.proofs.lemmas.Bool.Decides.{nat_tests}
+use Rattle.hp_base.specs.Mapping.{FailingCall}
 use Rattle.hp_base.specs.declared.caught.Caught.{Caught}
 use Rattle.hp_base.specs.declared.row.Run.{Run}
 use Rattle.hp_core.specs.Asks.{asker, is_armed, is_closed, is_unarmed, number_of}
@@ -55,7 +56,7 @@ none_open (Waiting round since) growth own is = cc
 passed_by : (since deadline now : ℕ) → nat_le since now ≡ true → nat_le deadline (now - since) ≡ true → since + deadline ≤ now
 passed_by since deadline now here there = grind (arith, nat_tests)
 
-module _ (count deadline : ℕ) (may_fail : ℕ → Option (List ℕ)) (segs : SegsView) where
+module _ (count deadline : ℕ) (may_fail : ℕ → Option (List FailingCall)) (segs : SegsView) where
   abbrev Leaves : Done → Type 0
   Leaves done = Changes count deadline may_fail segs done.segs
 
@@ -109,7 +110,7 @@ module _ (count deadline : ℕ) (may_fail : ℕ → Option (List ℕ)) (segs : S
   served_changes core (Some place) = served_ask_changes (released core place) (slice_index_or core.held place None)
 
 -- a poll in a round
-module _ (count deadline since now : ℕ) (may_fail : ℕ → Option (List ℕ)) (round : Round) (acks : List ℕ) (segs : SegsView)
+module _ (count deadline since now : ℕ) (may_fail : ℕ → Option (List FailingCall)) (round : Round) (acks : List ℕ) (segs : SegsView)
     (sound : IsSound segs) where
   agreed_changes : (below : Option NotAll) → lowest_member_below segs.roster acks round.generation ≡ below
       → Leaves count deadline may_fail segs (agreed round (record { deadline = deadline; since = since; present = now }) acks segs below)
@@ -148,7 +149,7 @@ module _ (count deadline since now : ℕ) (may_fail : ℕ → Option (List ℕ))
       over_changes (is_none (lowest_member_below segs.roster acks round.generation) || (nat_le since now && nat_le deadline (now - since)))
 
 -- participant 0 has caught up, or failed to
-module _ (count deadline : ℕ) (may_fail : ℕ → Option (List ℕ)) (round : Round) (caught : Caught) (now : ℕ) (segs : SegsView)
+module _ (count deadline : ℕ) (may_fail : ℕ → Option (List FailingCall)) (round : Round) (caught : Caught) (now : ℕ) (segs : SegsView)
     (sound : IsSound segs) where
   granted_changes : (failed : Bool) → Leaves count deadline may_fail segs (granted_alone round now segs failed)
   granted_changes true = stays segs
@@ -178,7 +179,7 @@ module _ (count deadline : ℕ) (may_fail : ℕ → Option (List ℕ)) (round : 
       cond_both (other_members segs == 0) (alone_by round caught now segs round.kind) (synced round now (other_members segs) segs)
       (Leaves count deadline may_fail segs) (λ none. alone_changes round.kind) (λ others. stays segs)
 
-caught_changes : (count : ℕ) (may_fail : ℕ → Option (List ℕ)) (core : Core) (segs : SegsView) (caught : Caught) (now : ℕ)
+caught_changes : (count : ℕ) (may_fail : ℕ → Option (List FailingCall)) (core : Core) (segs : SegsView) (caught : Caught) (now : ℕ)
     (phase : Phase) → IsSound segs → 0 < count → HasReason (may_fail 0) caught
     → LeavesAfter count core.deadline may_fail segs (caught_in core segs caught now phase)
 caught_changes count may_fail core segs caught now Idle sound some reason = stays segs
@@ -189,7 +190,7 @@ caught_changes count may_fail core segs caught now (Mapping round) sound some re
     (told_changes count core.deadline may_fail round caught now mid behind)
 caught_changes count may_fail core segs caught now (Waiting round since) sound some reason = stays segs
 
-poll_changes : (count : ℕ) (may_fail : ℕ → Option (List ℕ)) (core : Core) (segs : SegsView) (now : ℕ) (acks : List ℕ) (phase : Phase)
+poll_changes : (count : ℕ) (may_fail : ℕ → Option (List FailingCall)) (core : Core) (segs : SegsView) (now : ℕ) (acks : List ℕ) (phase : Phase)
     → IsSound segs → LeavesAfter count core.deadline may_fail segs (polled_in nobody_denies core segs now acks phase)
 poll_changes count may_fail core segs now acks Idle sound = served_changes count core.deadline may_fail segs core (lowest_held core.held)
 poll_changes count may_fail core segs now acks (Mapping round) sound = stays segs
@@ -197,12 +198,12 @@ poll_changes count may_fail core segs now acks (Waiting round since) sound =
     polled_changes count core.deadline since now may_fail round acks segs sound round.kind
 
 -- what an event tells of a failed mapping of participant 0 has a reason
-abbrev pub TellsReason : ℕ → (ℕ → Option (List ℕ)) → CoreEvent → Type 0
+abbrev pub TellsReason : ℕ → (ℕ → Option (List FailingCall)) → CoreEvent → Type 0
 TellsReason count may_fail (SelfMapped caught now) = (0 < count) × HasReason (may_fail 0) caught
 TellsReason count may_fail _ = ⊤
 
 -- a step is changes
-pub step_changes : (count : ℕ) (may_fail : ℕ → Option (List ℕ)) (event : CoreEvent) (core : Core) (segs : SegsView) → IsSound segs
+pub step_changes : (count : ℕ) (may_fail : ℕ → Option (List FailingCall)) (event : CoreEvent) (core : Core) (segs : SegsView) → IsSound segs
     → TellsReason count may_fail event → Changes count core.deadline may_fail segs (stepped nobody_denies event core segs).segs
 step_changes count may_fail (Grow ask) core segs sound reason = came_changes count core.deadline may_fail segs (want.Grow ask) core
 step_changes count may_fail (Shrink from number) core segs sound reason =
@@ -212,7 +213,7 @@ step_changes count may_fail (SelfMapped caught now) core segs sound reason =
 step_changes count may_fail (Poll now acks) core segs sound reason = poll_changes count may_fail core segs now acks core.phase sound
 
 -- and so it is with the places for it
-pub stepping_changes : (count : ℕ) (may_fail : ℕ → Option (List ℕ)) (event : CoreEvent) (core : Core) (segs : SegsView) → IsSound segs
+pub stepping_changes : (count : ℕ) (may_fail : ℕ → Option (List FailingCall)) (event : CoreEvent) (core : Core) (segs : SegsView) → IsSound segs
     → TellsReason count may_fail event → Changes count core.deadline may_fail segs (stepping event core segs).segs
 stepping_changes count may_fail event core segs sound reason =
     goes_on segs (with_room segs) (stepping event core segs).segs (reserves count core.deadline may_fail segs (length segs.retiring + 3))

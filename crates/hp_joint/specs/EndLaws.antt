@@ -1,13 +1,14 @@
 -- What is true of every run of a workload in one thread: how it opens, goes on from line to line, and ends. The rule "Together" of
 -- docs/PARTICIPANTS.md.
-use Rattle.std.specs.Prelude.{◌≡◌, ◌<◌, ◌≤◌, ℕ, List, [], ◌∷◌, ◌++◌, length, map, true, Some, slice_get, slice_index}
+use Rattle.std.specs.Prelude.{◌≡◌, ◌<◌, ◌≤◌, ℕ, List, [], ◌∷◌, ◌++◌, length, map, true, Option, Some, slice_get, slice_index}
 use Rattle.std.specs.Int.{bit_at}
 use Rattle.std.specs.List.{Contains}
-use Rattle.hp_base.specs.Mapping.{may_fail_at}
+use Rattle.hp_base.specs.Mapping.{FailingCall, FailsSo, may_fail_at}
 use Rattle.hp_base.specs.declared.map_answer.MapAnswer.{MapAnswer}
 use Rattle.hp_base.specs.PoolLines.{ArePoolLines}
 use Rattle.hp_base.specs.declared.limits.TheConstants.{MAX_DEADLINE, MAX_HEAPS, MAX_PARTICIPANTS, MAX_SEGMENTS}
 use Rattle.hp_base.specs.declared.plan_entry.PlanEntry.{PlanEntry}
+use Rattle.hp_base.specs.declared.row.Row.{Row}
 use Rattle.hp_heap.specs.History.{HeapView}
 use Rattle.hp_plain.specs.Course.{IsCourse}
 use Rattle.hp_plain.specs.HallSteps.{slots_of}
@@ -22,6 +23,7 @@ use Rattle.hp_script.specs.declared.line.Line.{Line}
 use Rattle.hp_script.specs.declared.workload.Workload.{Workload}
 use Rattle.hp_segs.specs.Opening.{is_present}
 use Rattle.hp_segs.specs.SegsView.{SegsView}
+use Rattle.hp_segs.specs.declared.ask.Ask.{Ask}
 use Rattle.hp_segs.specs.declared.outcome.AskLog.{AskLog}
 use Rattle.hp_segs.specs.declared.outcome.Cause.TheVariants.{MapFailed}
 use Rattle.hp_segs.specs.declared.outcome.Outcome.TheVariants.{Refused}
@@ -153,11 +155,29 @@ pub record MayHaveFailed (parties : List Party) (participant call : ℕ) : Type 
   pub its : slice_get parties participant ≡ Some party
   pub may : may_fail_at party.maps.may_fail call ≡ true
 
--- wherever it was run to, a mapping that failed was a declared participant's, at a call at which its mapper may fail
+-- an ask is kept, and at that call a mapper may answer so a row of that address, which has the page size and the socket that were asked for
+pub record FailsFor (may_fail : Option (List FailingCall)) (call addr : ℕ) (got : MapAnswer) (kept : Option Ask) : Type 0 where
+  pub ask : Ask
+  pub kept_is : kept ≡ Some ask
+  pub row : Row
+  pub its_addr : row.addr ≡ addr
+  pub page : row.page ≡ ask.page
+  pub socket : row.socket ≡ ask.socket
+  pub so : FailsSo may_fail call row got
+
+-- the mapper of one of these participants may have failed so
+pub record MayHaveFailedSo (parties : List Party) (participant call addr : ℕ) (got : MapAnswer) (kept : Option Ask) : Type 0 where
+  pub party : Party
+  pub its : slice_get parties participant ≡ Some party
+  pub fails : FailsFor party.maps.may_fail call addr got kept
+
+-- wherever it was run to, a mapping that failed was a declared participant's, of a page that was asked for, at a call at which its mapper may
+-- answer so
 abbrev pub FailsByReason : Type 0
 FailsByReason = (workload : Workload) (courses : List Course) (parties : List Party) (hall : HallView) (segs : SegsView) (entry : AskLog)
     (participant call : ℕ) → IsGiven workload → SoFar workload courses parties hall → segs_in (slot_at hall MAX_HEAPS) ≡ Some segs
-    → Contains segs.asks entry → IsFailedMapping participant call entry → MayHaveFailed parties participant call
+    → Contains segs.asks entry → (failed : IsFailedMapping participant call entry)
+    → MayHaveFailedSo parties participant call failed.addr failed.got entry.ask
 
 -- and failed mappings that share participant and call stand at one place of the outcomes
 abbrev pub FailsOnce : Type 0

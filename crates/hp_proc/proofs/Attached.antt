@@ -2,7 +2,7 @@
 use Rattle.std.proofs.Common.{◌≡◌, ◌∙◌, ℕ, ◌<◌, ◌≤◌, Bool, true, false, ◌||◌, List, [], ◌∷◌, Option, length, refl, ap, sym, arith}
 use Rattle.std.specs.Prelude.{slice_set}
 use Rattle.std.proofs.lemmas.List.{get_or-set_same, set-get_or}
-use Rattle.hp_base.specs.Mapping.{Held, is_done, owned}
+use Rattle.hp_base.specs.Mapping.{FailingCall, Held, is_done, owned}
 use Rattle.hp_base.specs.declared.caught.Caught.{Caught}
 use Rattle.hp_base.specs.declared.caught.Caught.TheVariants.{Done, Refused, Elsewhere}
 use Rattle.hp_base.specs.declared.limits.TheConstants.{MAX_SEGMENTS}
@@ -36,7 +36,7 @@ emptied_is old new rows number answers capacity faults may_fail mapped =
       faults = faults;
       held = [];
     }) faults
-    ∙ ap (λ (may_fail : Option (List ℕ)). record old { rows = []; number = 0; may_fail = may_fail; held = [] }) may_fail
+    ∙ ap (λ (may_fail : Option (List FailingCall)). record old { rows = []; number = 0; may_fail = may_fail; held = [] }) may_fail
 
 -- an emptied table is that of a participant that is out, whatever it has acknowledged
 pub emptied_tied : (log : List LogRecord) (own : Own) (maps : MapsView) → own.number ≤ length log → MAX_SEGMENTS ≤ maps.capacity

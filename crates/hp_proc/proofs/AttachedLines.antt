@@ -23,29 +23,22 @@ use Rattle.hp_proc.specs.Doing.{Doing, Done as Did, Goes, Leads}
 use Rattle.hp_proc.specs.Doing.Done.{CaughtUp, Looked}
 use Rattle.hp_proc.specs.Lines.{Facts, attached_with, attaching, doing_of, if_attached}
 use Rattle.hp_proc.specs.Party.{IsSameParty, Party, with_standing}
-use Rattle.hp_proc.specs.Progress.{Does, DoesLine, IsLineBuilt, IsLineOfOne, MayDo, Moment, moment_of}
+use Rattle.hp_proc.specs.Progress.{Does, DoesLine, IsLineBuilt, MayDo, Moment, moment_of}
 use Rattle.hp_proc.specs.Serving.{acks_behind, gives_segments, takes_segments}
 use Rattle.hp_proc.specs.declared.own_element.OwnElement.{OwnElement}
 use Rattle.hp_proc.proofs.Joining.{does_same}
-use Rattle.hp_proc.proofs.LineFacts.{facts_for, facts_known}
+use Rattle.hp_proc.proofs.LineFacts.{IsLineOfOne, facts_for, facts_known}
 
--- a line that is built is one of a participant that is alone, or one that attaches or detaches
-pub built_one : (who : ℕ) (deed : Act) → IsLineOfOne deed → IsLineBuilt who deed
-built_one who (act.Alloc label size options) is = tt
-built_one who (act.Free label) is = tt
-built_one who (act.Resize label size) is = tt
-built_one who (act.Dump heap) is = tt
-built_one who _ is = absurd is
-
--- one that neither attaches nor detaches is one of a participant that is alone
+-- a line that is built and neither attaches nor detaches is one of a participant that is alone
 pub one_built : (who : ℕ) (deed : Act) → IsLineBuilt who deed → deed ≢ act.Attach → deed ≢ act.Detach → IsLineOfOne deed
-one_built who (act.Alloc label size options) is other stays = tt
-one_built who (act.Free label) is other stays = tt
-one_built who (act.Resize label size) is other stays = tt
-one_built who (act.Dump heap) is other stays = tt
-one_built who act.Attach is other stays = absurd (other refl)
-one_built who act.Detach is other stays = absurd (stays refl)
-one_built who _ is other stays = absurd is
+one_built who deed is other stays = (is.0, other, stays)
+
+-- one that attaches or detaches is not participant 0's
+pub attaches_second : (who : ℕ) (deed : Act) → IsLineBuilt who deed → deed ≡ act.Attach → 0 < who
+attaches_second who deed is same = (subst (IsLineBuilt who) same is).1
+
+pub detaches_second : (who : ℕ) (deed : Act) → IsLineBuilt who deed → deed ≡ act.Detach → 0 < who
+detaches_second who deed is same = (subst (IsLineBuilt who) same is).1
 
 -- one that attaches needs no request, and one that detaches neither
 known_none : (socket : ℕ) (context : Context) (line : Line) (deed : Act) → line.act ≡ deed → HasRequest deed None

@@ -1,5 +1,5 @@
 -- What is known when a line begins, where no request of it was accepted so far, and what a line leaves that brings no element.
-use Rattle.std.proofs.Common.{◌≡◌, ◌∙◌, ℕ, ◌^◌, ◌<◌, Bool, true, false, cond, not, ◌||◌, ◌==◌, List, [], ◌++◌, append-nil, Option, Some, None, refl, ap, sym, subst, arith}
+use Rattle.std.proofs.Common.{◌≡◌, ◌≢◌, ◌∙◌, ℕ, ◌^◌, ◌<◌, Bool, true, false, cond, not, ◌||◌, ◌==◌, List, [], ◌++◌, append-nil, Option, Some, None, refl, ap, sym, subst, arith}
 use Rattle.std.specs.Prelude.{find, nat_le, ⊤}
 use Rattle.std.proofs.lemmas.Bool.{leb-false}
 use Rattle.std.proofs.lemmas.Bool.Decides.{nat_tests}
@@ -11,6 +11,7 @@ use Rattle.hp_base.specs.declared.request.BadRequest.TheVariants as bad
 use Rattle.hp_base.specs.declared.request.Request.{Request}
 use Rattle.hp_hall.specs.Mail.{MailStep}
 use Rattle.hp_script.specs.Acts.{label_used}
+use Rattle.hp_script.specs.Built.{IsBuiltAct}
 use Rattle.hp_script.specs.declared.answer.Answer.{Answer}
 use Rattle.hp_script.specs.declared.answer.Answer.TheVariants as answer
 use Rattle.hp_script.specs.declared.line.Act.{Act}
@@ -25,7 +26,7 @@ use Rattle.hp_proc.proofs.Joining.{does_same}
 use Rattle.hp_proc.specs.Freeing.{freeing, if_sized, looking, resize_refusal, resizing_to}
 use Rattle.hp_proc.specs.Lines.{Facts, allocating, doing_of, dumping, if_attached, on_element, tag_of}
 use Rattle.hp_proc.specs.Party.{IsSameParty, Party, with_calls}
-use Rattle.hp_proc.specs.Progress.{Does, DoesLine, IsLineOfOne, Moment}
+use Rattle.hp_proc.specs.Progress.{Does, DoesLine, Moment}
 
 -- a test that refuses nothing fails, and the next ones refuse nothing
 refusing : (test : Bool) (kind : BadRequest) (rest : Option BadRequest) → cond test (Some kind) rest ≡ None → (test ≡ false) × (rest ≡ None)
@@ -72,13 +73,19 @@ request_by size options None is =
     } in
     (Some request, λ none. (request, refl, record { size_is = refl; align_is = refl; bound_is = refl; flags_are = refl }))
 
+-- a line that is built and neither attaches nor detaches
+abbrev pub IsLineOfOne : Act → Type 0
+IsLineOfOne deed = IsBuiltAct deed × (deed ≢ act.Attach) × (deed ≢ act.Detach)
+
 -- each line of a participant that is alone has its request, where it is one that has one
 pub has_request : (deed : Act) → IsLineOfOne deed → (request : Option Request) × HasRequest deed request
 has_request (act.Alloc label size options) built = request_by size options (refusal_of size options.align options.bound) refl
 has_request (act.Free label) built = (None, tt)
 has_request (act.Resize label size) built = (None, tt)
 has_request (act.Dump heap) built = (None, tt)
-has_request _ built = absurd built
+has_request act.Attach (built, other, stays) = absurd (other refl)
+has_request act.Detach (built, other, stays) = absurd (stays refl)
+has_request _ (built, other, stays) = absurd cc
 
 -- what is known when a line begins
 abbrev pub facts_for : ℕ → Context → Act → Option Request → Facts
@@ -140,7 +147,9 @@ detached_leaves line (act.Resize label size) built trace standing =
     ap (λ elements. record standing { elements = elements }) (append-nil standing.elements)
 detached_leaves line (act.Dump heap) built trace standing =
     ap (λ elements. record standing { elements = elements }) (append-nil standing.elements)
-detached_leaves line _ built trace standing = absurd built
+detached_leaves line act.Attach (built, other, stays) trace standing = absurd (other refl)
+detached_leaves line act.Detach (built, other, stays) trace standing = absurd (stays refl)
+detached_leaves line _ (built, other, stays) trace standing = absurd cc
 
 module _ (before after : Party) (same : IsSameParty (with_calls after.context.calls before) after) (line : Line) (given : Answer)
     (trace : List Done) where
@@ -179,7 +188,9 @@ detached_ends line (act.Resize label size) built facts is =
     (if_sized (resize_refusal size) (on_element line.participant facts (resizing_to size) facts.maker))) is
 detached_ends line (act.Dump heap) built facts is =
     ap (λ (attached : Bool). if_attached attached (dumping (find (has_name heap.text) facts.named))) is
-detached_ends line _ built facts is = absurd built
+detached_ends line act.Attach (built, other, stays) facts is = absurd (other refl)
+detached_ends line act.Detach (built, other, stays) facts is = absurd (stays refl)
+detached_ends line _ (built, other, stays) facts is = absurd cc
 
 -- who is not attached does nothing of its line
 pub detached_done : (count : ℕ) (did : List MailStep → Type 0) → did [] → (line : Line) (moment : Moment) → IsLineOfOne line.act

@@ -8,6 +8,7 @@ use Rattle.hp_heap.specs.declared.entry.Entry.{Entry}
 use Rattle.hp_maps.specs.Catching.{Lags}
 use Rattle.hp_maps.specs.MapsView.{table_in, chunk_rows}
 use Rattle.hp_maps.specs.declared.table.Table.{Table}
+use Rattle.hp_script.specs.Built.{IsBuilt}
 use Rattle.hp_script.specs.declared.answer.Answer.{Answer}
 use Rattle.hp_script.specs.declared.workload.Workload.{Workload}
 use Rattle.hp_segs.specs.SegsView.{SegsView, state_at, is_member, is_opened}
@@ -15,7 +16,6 @@ use Rattle.hp_segs.specs.Sound as segments
 use Rattle.hp_segs.specs.declared.row_state.RowState.TheVariants.{Owned}
 use Rattle.hp_proc.specs.Doing.{Done}
 use Rattle.hp_proc.specs.Heaps.{sockets_of}
-use Rattle.hp_proc.specs.Lines.{IsBuilt}
 use Rattle.hp_proc.specs.Courses.{calls_in}
 use Rattle.hp_proc.specs.LinesDone.{Course, courses_of, trace_of, IsNoneUngranted, AreDone, opening_standing, standing_after}
 use Rattle.hp_segs.specs.Returned.{returned_runs}
@@ -80,7 +80,7 @@ pub record IsEnd (workload : Workload) (answers : List Answer) (heaps : List Hea
   pub courses : List Course
   pub lines : map (λ course. course.line) courses ≡ workload.lines.items
   pub answered : map (λ course. course.answer) courses ≡ answers
-  pub built : All (λ line. IsBuilt line.act) workload.lines.items
+  pub built : IsBuilt workload
   pub done : (who : ℕ) → who < workload.participants
       → AreDone workload (opening_standing workload who) (courses_of who courses)
   pub none : All IsNoneUngranted courses

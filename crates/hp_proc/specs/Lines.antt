@@ -93,17 +93,6 @@ abbrev pub attaching : Bool → Doing
 attaching true = Doing.Ended answer.Already
 attaching false = Doing.Looks (λ records. Doing.CatchesUp records (attached_with records))
 
--- the lines that are built: an end of a workload has these alone
-abbrev pub IsBuilt : Act → Type 0
-IsBuilt (act.Alloc label size options) = ⊤
-IsBuilt (act.Free label) = ⊤
-IsBuilt (act.Resize label size) = ⊤
-IsBuilt act.Attach = ⊤
-IsBuilt act.Detach = ⊤
-IsBuilt (act.Await other lines) = ⊤
-IsBuilt (act.Dump heap) = ⊤
-IsBuilt _ = ⊥
-
 -- what a line does, where it is built
 unfoldable pub doing_of : Line → Act → Facts → Doing
 doing_of line (act.Alloc label size options) facts = if_attached facts.attached (allocating facts (tag_of line) size options)

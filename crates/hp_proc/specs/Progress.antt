@@ -13,6 +13,7 @@ use Rattle.hp_heap.specs.History as heaps
 use Rattle.hp_heap.specs.History.{HeapView, entries_of}
 use Rattle.hp_heap.specs.declared.entry.Entry.{Entry}
 use Rattle.hp_log.specs.declared.log_record.LogRecord.{LogRecord}
+use Rattle.hp_script.specs.Built.{IsBuiltAct}
 use Rattle.hp_script.specs.declared.answer.Answer.{Answer}
 use Rattle.hp_script.specs.declared.answer.Answer.TheVariants as gives
 use Rattle.hp_script.specs.declared.line.Act.{Act}
@@ -102,23 +103,15 @@ pub record IsAllocation (line : Line) (options : Options) (request : Request) : 
   pub accepted : refusal_of size options.align options.bound ≡ None
   pub is : IsRequestFor size options request
 
--- a line of a participant that is alone, as far as these are built
-abbrev pub IsLineOfOne : Act → Type 0
-IsLineOfOne (act.Alloc label size options) = ⊤
-IsLineOfOne (act.Free label) = ⊤
-IsLineOfOne (act.Resize label size) = ⊤
-IsLineOfOne (act.Dump heap) = ⊤
-IsLineOfOne _ = ⊥
+-- participant 0 neither attaches nor detaches
+abbrev pub MayComeAndGo : ℕ → Act → Type 0
+MayComeAndGo who act.Attach = 0 < who
+MayComeAndGo who act.Detach = 0 < who
+MayComeAndGo who _ = ⊤
 
--- a line of the participant with that number, as far as these are built; participants 1 to 15 attach and detach
+-- a line of the participant with that number is built
 abbrev pub IsLineBuilt : ℕ → Act → Type 0
-IsLineBuilt who (act.Alloc label size options) = ⊤
-IsLineBuilt who (act.Free label) = ⊤
-IsLineBuilt who (act.Resize label size) = ⊤
-IsLineBuilt who (act.Dump heap) = ⊤
-IsLineBuilt who act.Attach = 0 < who
-IsLineBuilt who act.Detach = 0 < who
-IsLineBuilt who _ = ⊥
+IsLineBuilt who deed = IsBuiltAct deed × MayComeAndGo who deed
 
 -- each heap takes the pages of its socket
 abbrev pub AreOfSockets : Moment → Type 0

@@ -172,12 +172,15 @@ module _ (set : Setting) (party : Party) (asked : PagesAsked) (number since : �
   one_more_lost : is_lost action ≡ true
       → lost_among set.plan message.Alloc party.me party.sent.allocs + 1 ≤ lost_among set.plan message.Alloc party.me after.sent.allocs
   one_more_lost lost =
-      one_lost set.plan message.Alloc party.me setting.counted party.sent.allocs
+      one_lost set.plan message.Alloc party.me setting.counted party.sent.allocs refl
       (sym (ap (λ (plan : List PlanEntry). is_lost (action_of plan message.Alloc party.me (one_more party.sent.allocs))) place.plan) ∙ lost)
 
   back : is_lost action ≡ true → HasRoomBack set ask.from posted
   back lost one found =
-      let more = lost_more set.plan message.Alloc party.me setting.counted party.sent.allocs in
+      let more : lost_among set.plan message.Alloc party.me (one_more party.sent.allocs)
+      ≡ lost_among set.plan message.Alloc party.me party.sent.allocs
+      + one_if (is_lost (action_of set.plan message.Alloc party.me (one_more party.sent.allocs))) =
+      lost_more set.plan message.Alloc party.me setting.counted party.sent.allocs in
       let same : one_if (is_lost (action_of set.plan message.Alloc party.me (one_more party.sent.allocs))) ≡ one_if true =
       sym (ap (λ (plan : List PlanEntry). one_if (is_lost (action_of plan message.Alloc party.me (one_more party.sent.allocs)))) place.plan)
       ∙ ap one_if lost in
@@ -198,7 +201,7 @@ module _ (set : Setting) (party : Party) (asked : PagesAsked) (number since : �
 
   never : LosesNothing set.plan → is_lost action ≡ true → ⊥
   never nothing lost =
-      never_lost set.plan message.Alloc party.me setting.counted party.sent.allocs nothing
+      never_lost set.plan message.Alloc party.me setting.counted party.sent.allocs refl nothing
       (sym (ap (λ (plan : List PlanEntry). is_lost (action_of plan message.Alloc party.me (one_more party.sent.allocs))) place.plan) ∙ lost)
 
   -- the ask was just sent

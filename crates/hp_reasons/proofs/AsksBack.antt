@@ -1,11 +1,11 @@
 -- A quiet world stays quiet where states of rows alone change, and where an ask that was lost is taken back; nothing more is owed then.
-use Rattle.std.proofs.Common.{◌≡◌, ◌≢◌, ◌∙◌, ℕ, ◌+◌, ◌-◌, ◌<◌, ◌≤◌, ◌==◌, Bool, true, false, ◌&&◌, ◌||◌, eq-eqb, max, List, [], ◌∷◌, ◌++◌, length, Option, Some, None, inl, inr, refl, sym, ap, subst, arith}
+use Rattle.std.proofs.Common.{◌≡◌, ◌≢◌, ◌∙◌, ℕ, ◌+◌, ◌-◌, ◌*◌, ◌<◌, ◌≤◌, ◌==◌, Bool, true, false, ◌&&◌, ◌||◌, eq-eqb, max, List, [], ◌∷◌, ◌++◌, length, Option, Some, None, inl, inr, refl, sym, ap, subst, arith}
 use Rattle.std.specs.Prelude.{slice_get}
-use Rattle.std.specs.List.{list_any}
+use Rattle.std.specs.List.{All, list_any}
 use Rattle.std.specs.Option.{option_and_then}
 use Rattle.std.proofs.lemmas.Bool.{and_from, and_parts, cases_eq, cond_both, eqb-true, ne_eqb, or_from, or_right}
 use Rattle.std.proofs.lemmas.List.Folds.{list_any-append}
-use Rattle.std.proofs.lemmas.List.Elements.{Contains-push_cases}
+use Rattle.std.proofs.lemmas.List.Elements.{All-push, Contains-push_cases}
 use Rattle.hp_base.specs.declared.plan_entry.MsgKind.TheVariants as message
 use Rattle.hp_segs.specs.Standing.{IsArmed}
 use Rattle.hp_maps.specs.MapsView.{calls_of}
@@ -15,13 +15,14 @@ use Rattle.hp_segs.specs.Sound.{IsSound}
 use Rattle.hp_segs.specs.declared.growth.Growth.{Growth}
 use Rattle.hp_segs.specs.declared.outcome.AskLog.{AskLog}
 use Rattle.hp_segs.specs.declared.outcome.Cause.{Cause}
+use Rattle.hp_segs.specs.declared.outcome.Cause.TheVariants.{Withdrawn}
 use Rattle.hp_segs.proofs.ClosedLemmas.{and_false, closed_push}
 use Rattle.hp_proc.specs.Party.{Party}
 use Rattle.hp_reasons.specs.Counting.{LosesNothing, lost_among}
 use Rattle.hp_reasons.specs.Episode.{AreLevel, IsBase, IsExcused, IsInPlace, Setting, World, losses, missed_among, number_of_party}
 use Rattle.hp_reasons.specs.Quiet.{IsQuietOwing, IsQuietWorld}
 use Rattle.hp_reasons.specs.Failing.{AreGrantsWithin}
-use Rattle.hp_reasons.specs.Outcomes.{late_outcomes, stale_outcomes, unanswered_among, withdrawn_outcomes}
+use Rattle.hp_reasons.specs.Outcomes.{IsApart, IsCauseApart, late_outcomes, stale_outcomes, unanswered_among, withdrawn_outcomes}
 use Rattle.hp_reasons.specs.Shared.{with_segs}
 use Rattle.hp_reasons.specs.Stages.{world_with}
 use Rattle.hp_reasons.proofs.AsksClaims.{HasOutcomes, IsBackIn, taken_back}
@@ -74,7 +75,8 @@ module _ (set : Setting) (me : ℕ) (world : World) (segs : SegsView) (party : P
       (roster : segs.roster ≡ world.shared.segs.roster)
       (asks : segs.asks ≡ world.shared.segs.asks ++ taken_back me number since now world.shared.segs ∷ []) (sent : number ≤ party.asked)
       (room : withdrawn_outcomes me world.shared.segs.asks < lost_among set.plan message.Alloc me party.sent.allocs)
-      (asked : party.asked ≡ number) (misses : missed_among world.shared.segs.asks me (number - 1) < losses set me party) where
+      (asked : party.asked ≡ number) (misses : missed_among world.shared.segs.asks me (number - 1) < losses set me party)
+      (on_time : now ≡ since + 3 * set.deadline) where
     abbrev before : List AskLog
     before = world.shared.segs.asks
 
@@ -217,6 +219,10 @@ module _ (set : Setting) (me : ℕ) (world : World) (segs : SegsView) (party : P
           withdrawn = withdrawn_still who one (was_there who one found) was.withdrawn;
         }
 
+    -- it is taken back by readings that are three deadlines apart
+    entry_apart : IsApart set.deadline entry
+    entry_apart cause is = let same : Withdrawn since now ≡ cause = cc in subst (IsCauseApart set.deadline) same on_time
+
     none_noted : (its : Option Growth) (cause : Cause) → its ≡ None → option_and_then (λ growth. growth.noted) its ≡ Some cause → ⊥
     none_noted None cause none is = cc
     none_noted (Some growth) cause none is = cc
@@ -235,6 +241,8 @@ module _ (set : Setting) (me : ℕ) (world : World) (segs : SegsView) (party : P
       places = λ who one found. place_still who one (was_there who one found);
       noted = λ cause is. absurd (none_noted segs.growth cause (growth ∙ quiet.growth) is);
       excused = excused_still;
+      apart =
+          subst (All (IsApart set.deadline)) (sym asks) (All-push (IsApart set.deadline) before entry quiet.base.apart entry_apart);
     }
 
     pub quiet_back : IsQuietWorld set later
@@ -248,19 +256,21 @@ module _ (set : Setting) (me : ℕ) (world : World) (segs : SegsView) (party : P
       level = level_kept log roster;
     }
 
-  -- its last ask was lost: there is room for one more that is taken back, and for one more without an outcome
-  pub record WasMissed (number : ℕ) : Type 0 where
+  -- its last ask was lost: there is room for one more that is taken back, and for one more without an outcome; and three deadlines have passed
+  pub record WasMissed (number since now : ℕ) : Type 0 where
     pub asked : party.asked ≡ number
     pub room : withdrawn_outcomes me world.shared.segs.asks < lost_among set.plan message.Alloc me party.sent.allocs
     pub misses : missed_among world.shared.segs.asks me (number - 1) < losses set me party
+    pub on_time : now ≡ since + 3 * set.deadline
 
   -- so it is whether there was an answer or not
   pub quiet_settled : (number since now : ℕ) → IsBackIn me number since now world.shared.segs segs
-      → (list_any (grants_or_refuses me number) world.shared.segs.asks ≡ false → WasMissed number) → IsQuietWorld set later
+      → (list_any (grants_or_refuses me number) world.shared.segs.asks ≡ false → WasMissed number since now) → IsQuietWorld set later
   quiet_settled number since now (IsBackIn.answered same) lost = quiet_claimed same
   quiet_settled number since now (IsBackIn.back none log growth roster asks retiring) lost =
       let was = lost none in
       quiet_back number since now log growth roster asks (omega (arith, was.asked)) was.room was.asked was.misses
+      was.on_time
 
   -- nothing that is given up comes or goes, whether there was an answer or not
   retiring_settled : (number since now : ℕ) → IsBackIn me number since now world.shared.segs segs
@@ -274,7 +284,7 @@ module _ (set : Setting) (me : ℕ) (world : World) (segs : SegsView) (party : P
     owing_claimed same = record { quiet = quiet_claimed same; gone = λ loses none. same.retiring ∙ gone loses none }
 
     pub owing_settled : (number since now : ℕ) → IsBackIn me number since now world.shared.segs segs
-        → (list_any (grants_or_refuses me number) world.shared.segs.asks ≡ false → WasMissed number) → IsQuietOwing set owes later
+        → (list_any (grants_or_refuses me number) world.shared.segs.asks ≡ false → WasMissed number since now) → IsQuietOwing set owes later
     owing_settled number since now ends lost = record {
       quiet = quiet_settled number since now ends lost;
       gone = λ loses none. retiring_settled number since now ends ∙ gone loses none;

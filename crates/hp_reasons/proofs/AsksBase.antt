@@ -142,4 +142,5 @@ module _ (set : Setting) (who number : ℕ) (world : World) (party after : Party
     places = its_place;
     noted = λ cause is. noted_here cause (base.noted cause is);
     excused = excused_here;
+    apart = base.apart;
   }

@@ -1,5 +1,5 @@
 -- Once a wait for an answer has ended all is quiet; and an ask without an answer was lost.
-use Rattle.std.proofs.Common.{◌≡◌, ℕ, zero, suc, true, false, ◌⊎◌, [], Some, None, inl, inr, refl, arith, true≢false, sym, ◌∙◌}
+use Rattle.std.proofs.Common.{◌≡◌, ℕ, zero, suc, true, false, ◌⊎◌, [], Some, None, inl, inr, refl, arith, true≢false, sym, ◌∙◌, ◌+◌, ◌*◌, ◌≤◌}
 use Rattle.std.specs.Prelude.{slice_get}
 use Rattle.std.specs.List.{list_any}
 use Rattle.std.proofs.lemmas.Bool.{false≢true}
@@ -22,7 +22,8 @@ all_empty world none empty zero = none
 all_empty world none empty (suc who) = empty (suc who) (λ (same : suc who ≡ 0). omega (arith, same))
 
 -- an ask was lost, and nothing else is under way
-pub record WasLost (set : Setting) (call : Asked) (world : World) : Type 0 where
+pub record WasLost (set : Setting) (call : Asked) (sent : ℕ) (world : World) : Type 0 where
+  pub clock : world.shared.clock ≤ sent + 3 * set.deadline
   pub unanswered : IsUnanswered call world
   pub coordinator : HasCoordinator set world Idle call false
   pub alone : world.shared.segs.growth ≡ None
@@ -33,11 +34,12 @@ pub record WasLost (set : Setting) (call : Asked) (world : World) : Type 0 where
 
 -- a stage at which nothing will be under way any more
 ended_as : (set : Setting) (call : Asked) (sent : ℕ) (world : World) (stage : Stage set call sent true world) → is_ended stage ≡ true
-    → ((is_last stage ≡ true) × IsAnsweredFor call world × EndsLevel set world) ⊎ WasLost set call world
+    → ((is_last stage ≡ true) × IsAnsweredFor call world × EndsLevel set world) ⊎ WasLost set call sent world
 ended_as set call sent world (Stage.fresh clock unanswered coordinator alone to_do copies some empty doubled level) ended =
     absurd (false≢true ended)
-ended_as set call sent world (Stage.lost unanswered coordinator alone to_do gone empty doubled back loses) ended =
+ended_as set call sent world (Stage.lost clock unanswered coordinator alone to_do gone empty doubled back loses) ended =
     inr (record {
+      clock = clock;
       unanswered = unanswered;
       coordinator = coordinator;
       alone = alone;
@@ -84,19 +86,26 @@ owing_out set call sent now world is_sent out = record {
   ];
 }
 
--- an ask may be taken back
-pub record IsLostAsk (set : Setting) (ask : Ask) (world : World) : Type 0 where
+-- an ask may be taken back, no later than three deadlines after it was sent
+pub record IsLostAsk (set : Setting) (ask : Ask) (sent now : ℕ) (world : World) : Type 0 where
+  pub in_time : now ≤ sent + 3 * set.deadline
   pub asked : (party : Party) → slice_get world.parties ask.from ≡ Some party → party.asked ≡ ask.number
   pub room : HasRoomBack set ask.from world
   pub misses : MayMissOne set ask.from ask.number world
 
 -- where it has no answer at the end
 pub lost_out : (set : Setting) (ask : Ask) (sent now : ℕ) (world : World) → HasComeOut set (want.Grow ask) sent now world
-    → list_any (grants_or_refuses ask.from ask.number) world.shared.segs.asks ≡ false → IsLostAsk set ask world
+    → list_any (grants_or_refuses ask.from ask.number) world.shared.segs.asks ≡ false → IsLostAsk set ask sent now world
 lost_out set ask sent now world out none =
     elim (ended_as set (want.Grow ask) sent world out.at_turn.stage out.ended) [
       | inl last ↦ absurd (true≢false (sym last.1 ∙ none))
-      | inr lost ↦ record { asked = lost.unanswered.asked; room = lost.back.0; misses = lost.back.1 }
+      | inr lost ↦
+          record {
+            in_time = omega (arith, lost.clock, out.now_is);
+            asked = lost.unanswered.asked;
+            room = lost.back.0;
+            misses = lost.back.1;
+          }
     ]
 
 -- and then some message is lost

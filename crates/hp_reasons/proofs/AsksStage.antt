@@ -264,7 +264,7 @@ module _ (set : Setting) (call : Asked) (sent : ℕ) (world : World) (frame : Fr
       → MayBeTakenBack set call (behind action) → (LosesNothing set.plan → ⊥) → IsAtTurn set call sent (behind action)
   is_gone action is room back loses = record {
     base = base_behind action;
-    stage = Stage.lost (unanswered action 0 is) (coordinator action) quiet.growth (still_to_do call world (behind action) refl to_do)
+    stage = Stage.lost (omega (arith, clock)) (unanswered action 0 is) (coordinator action) quiet.growth (still_to_do call world (behind action) refl to_do)
         (first_mail action 0 is) (others_empty action) (doubled action 0 false is (omega (arith, room))) back
         loses;
     empty = others_empty action;

@@ -1,5 +1,6 @@
 -- Waits of asks, from the turn at which one was sent to a quiet world in which nothing is owed.
-use Rattle.std.proofs.Common.{◌≡◌, ◌∙◌, ℕ, Bool, true, false, List, [], ◌∷◌, ◌++◌, Option, Some, refl, ap, subst}
+use Rattle.std.proofs.Common.{◌≡◌, ◌∙◌, ℕ, ◌+◌, ◌*◌, ◌≤◌, Bool, true, false, List, [], ◌∷◌, ◌++◌, Option, Some, inl, inr, refl, sym, ap, arith, subst}
+use Rattle.std.proofs.lemmas.Option.{none-some}
 use Rattle.hp_base.specs.declared.row.Run.{Run}
 use Rattle.hp_core.specs.declared.asked.Asked.TheVariants as want
 use Rattle.hp_hall.specs.Mail.{MailStep}
@@ -52,12 +53,26 @@ module _ (known : AreServingsKnown) (waits_out : WaitsOut) (set : Setting) (ask 
             owing.gone (subst (λ (old : SegsView). HasOutcomes old segs) held.its_own (claims ask.from ask.number taken));
       }
 
+  -- a wait that heeds no answer ends once three deadlines have passed
+  reached : (deadline : ℕ) (party after : Party) (steps : List MailStep) (now : ℕ)
+      → IsWaited set.count (waits_until since deadline) false party after steps (Some now) → waits_until since deadline ≤ now
+  reached deadline party after steps now (IsWaited.ends turns last first are waited did is) =
+      let same : last ≡ now = cc in
+      subst (λ (now : ℕ). waits_until since deadline ≤ now) same (elim waited [
+        | inl over ↦ absurd (cc over)
+        | inr until ↦ until
+      ])
+  reached deadline party after steps now (IsWaited.stops turns last mid first rest are waits turned did is) = absurd (none-some now (sym is))
+
+  three_passed : (deadline now : ℕ) → deadline ≡ set.deadline → waits_until since deadline ≤ now → since + 3 * set.deadline ≤ now
+  three_passed deadline now same passed = omega (arith, same, passed, is_sent.early, is_sent.setting.within)
+
   -- it settles its ask as three deadlines have passed
   settles_quiet : (old new : SoloView) (party : Party) (now : ℕ) (taken : SegsView) (world : World) → IsWorldOf old ask.from party world
-      → HasComeOut set (want.Grow ask) since now world
+      → HasComeOut set (want.Grow ask) since now world → since + 3 * set.deadline ≤ now
       → Sequence ask.from old (takes_segments taken ∷ gives_segments (after_settling ask since now taken) ∷ []) new
       → LeadsTo (IsQuietOwing set false) new ask.from party
-  settles_quiet old new party now taken world its out sequence =
+  settles_quiet old new party now taken world its out passed sequence =
       let owing = owing_out set (want.Grow ask) since now world is_sent out in
       let segs = after_settling ask since now taken in
       let held = has_held known.along ask.from old new party world taken segs its sequence in
@@ -71,7 +86,12 @@ module _ (known : AreServingsKnown) (waits_out : WaitsOut) (set : Setting) (ask 
             owing.gone ask.number since now back
             (λ none.
             let lost = lost_out set ask since now world out none in
-            record { asked = lost.asked party its.own; room = lost.room party its.own; misses = lost.misses party its.own });
+            record {
+              asked = lost.asked party its.own;
+              room = lost.room party its.own;
+              misses = lost.misses party its.own;
+              on_time = omega (arith, lost.in_time, passed);
+            });
       }
 
   late_quiet : (old new : SoloView) (party after : Party) (steps : List MailStep) (world : World) → IsWorldOf old ask.from party world
@@ -80,7 +100,9 @@ module _ (known : AreServingsKnown) (waits_out : WaitsOut) (set : Setting) (ask 
   late_quiet old new party after steps world its turn sequence late =
       let cut = cut_in ask.from old new steps late.waited _ late.are sequence in
       let out = waits_long old cut.mid party after late.waited false late.now world its turn cut.begins late.waits in
-      settles_quiet cut.mid new after late.now late.taken out.world out.its out.holds cut.ends
+      let same : party.deadline ≡ set.deadline = (turn.base.places ask.from party its.own).deadline in
+      settles_quiet cut.mid new after late.now late.taken out.world out.its out.holds
+      (three_passed party.deadline late.now same (reached party.deadline party after late.waited late.now late.waits)) cut.ends
 
   -- it waits for its answer
   pub awaited_quiet : (old new : SoloView) (party after : Party) (steps : List MailStep) (run : Option Run) (world : World)

@@ -51,4 +51,5 @@ module _ (set : Setting) (world : World) (boxes : List (List Frame)) (mail : Lis
     });
     excused = λ who primary party first there. (let excused = base.excused who primary party first there in
         record { late = excused.late; withdrawn = excused.withdrawn });
+    apart = base.apart;
   }

@@ -25,7 +25,7 @@ use Rattle.hp_proc.specs.declared.sent.Sent.{Sent}
 use Rattle.hp_reasons.specs.Counting.{lost_among}
 use Rattle.hp_reasons.specs.Episode.{AreSaid, IsBase, IsExcused, IsInPlace, IsNotedCall, IsToldBefore, Setting, World, mail_of, number_of_party}
 use Rattle.hp_reasons.specs.Failing.{AreGrantsWithin}
-use Rattle.hp_reasons.specs.Outcomes.{late_outcomes, withdrawn_outcomes}
+use Rattle.hp_reasons.specs.Outcomes.{late_outcomes, withdrawn_outcomes, IsApart}
 use Rattle.hp_reasons.proofs.Told.{IsHeardOn, told_on}
 
 -- what is left of a segment value where at most a stale outcome is logged, and no growth opens or closes
@@ -43,6 +43,7 @@ pub record IsLike (old new : SegsView) : Type 0 where
   pub granted : (number : ℕ) → AreGrantsWithin number old.asks → AreGrantsWithin number new.asks
   pub answered : (from number : ℕ) → list_any (grants_or_refuses from number) old.asks ≡ true
       → list_any (grants_or_refuses from number) new.asks ≡ true
+  pub apart : (deadline : ℕ) → All (IsApart deadline) old.asks → All (IsApart deadline) new.asks
 
 -- what is left of a participant whose coordinator did something, or that heard something
 pub record IsSameBut (old new : Party) : Type 0 where
@@ -193,4 +194,5 @@ module _ (set : Setting) (old new : World) (along : IsAlong old new) where
         (let came = along.before who party there in place_along who party came (base.places who came.its came.there));
     noted = noted_along base;
     excused = excused_along base;
+    apart = along.segs.apart set.deadline base.apart;
   }

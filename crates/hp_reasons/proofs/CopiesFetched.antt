@@ -160,7 +160,7 @@ module _ (set : Setting) (call : Asked) (sent : ℕ) (world : World) (primary af
           doubled = doubled_started copy doubled;
           level = starts_along set call world (fetched after world) along_fetched level;
         })
-    stage_fetched unheard (Stage.lost unanswered coordinator alone to_do none empty doubled taken_back loses) =
+    stage_fetched unheard (Stage.lost clock unanswered coordinator alone to_do none empty doubled taken_back loses) =
         absurd (let wrong : [] ≡ body ∷ drop 1 (mail_of world 0) = sym none ∙ head in let false : ⊥ = cc in false)
     stage_fetched unheard
         (Stage.growing round holds kind from number unanswered coordinator its to_do clock bodies doubled follow awaited level) =

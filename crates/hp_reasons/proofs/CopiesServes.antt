@@ -49,7 +49,7 @@ module _ (set : Setting) (call : Asked) (sent : ℕ) (world : World) (primary : 
   may_poll_due : (stage : Stage set call sent true world) → IsDue primary.core (Poll world.shared.clock [])
       → MayPoll set call sent true world stage
   may_poll_due (Stage.fresh clock unanswered coordinator alone to_do copies some empty doubled level) due = tt
-  may_poll_due (Stage.lost unanswered coordinator alone to_do none empty doubled taken_back loses) due = tt
+  may_poll_due (Stage.lost clock unanswered coordinator alone to_do none empty doubled taken_back loses) due = tt
   may_poll_due
       (Stage.growing round holds kind from number unanswered coordinator its to_do clock bodies doubled follow awaited level) due = tt
   may_poll_due

@@ -174,7 +174,7 @@ takes_a_copy set call sent event world shared primary after is_sent base
     (Stage.fresh clock unanswered coordinator alone to_do copies some empty doubled level) room there asked handles =
     absurd room
 takes_a_copy set call sent event world shared primary after is_sent base
-    (Stage.lost unanswered coordinator alone to_do none empty doubled taken_back loses) room there asked handles =
+    (Stage.lost clock unanswered coordinator alone to_do none empty doubled taken_back loses) room there asked handles =
     absurd room
 takes_a_copy set call sent event world shared primary after is_sent base
     (Stage.growing round holds its_kind from number unanswered coordinator its to_do clock bodies doubled follow awaited level) room there

@@ -1,6 +1,6 @@
 -- What becomes of a further copy of an ask: the coordinator holds it, or it is stale, and nothing is posted.
 use Rattle.std.proofs.Common.{◌≡◌, ◌∙◌, ℕ, Bool, true, false, not, ◌&&◌, length, Option, List, Some, None, refl, ap, sym, subst, ◌+◌, ◌==◌}
-use Rattle.std.specs.List.{list_any}
+use Rattle.std.specs.List.{list_any, All}
 use Rattle.std.proofs.Math.Bool.{and-false}
 use Rattle.std.proofs.lemmas.Bool.{cond-false, cond-true, le-leb}
 use Rattle.std.proofs.lemmas.Option.{same_Some}
@@ -27,13 +27,14 @@ use Rattle.hp_proc.specs.Coordinating.{MustMap, nobody_denies, stepping, with_co
 use Rattle.hp_proc.specs.Party.{Party}
 use Rattle.hp_reasons.specs.Episode.{IsClosed, IsToDo, World}
 use Rattle.hp_reasons.specs.Failing.{AreGrantsWithin}
-use Rattle.hp_reasons.specs.Outcomes.{late_outcomes, stale_outcomes, withdrawn_outcomes}
+use Rattle.hp_reasons.specs.Outcomes.{late_outcomes, stale_outcomes, withdrawn_outcomes, IsApart}
 use Rattle.hp_reasons.specs.Servings.{CarriesOut, Handles, PostsFor}
 use Rattle.hp_reasons.specs.Shared.{Shared, with_segs}
 use Rattle.hp_reasons.proofs.CopiesAlong.{IsLike}
 use Rattle.hp_reasons.proofs.CopiesStale.{answered_stays, closed_stays, failed_stays, granted_before, late_stays, stale_rises, withdrawn_stays}
 use Rattle.hp_reasons.proofs.CountingLemmas.{one_if}
 use Rattle.hp_reasons.proofs.Told.{heard_more, heard_same}
+use Rattle.std.proofs.lemmas.List.Elements.{All-push}
 
 -- where the outcomes are the same, and nothing else changes that counts
 like_by : (old new : SegsView) → new.log ≡ old.log → new.roster ≡ old.roster → new.growth ≡ old.growth → new.armed ≡ old.armed
@@ -51,6 +52,7 @@ like_by old new log roster growth armed retiring same = record {
   failed = λ who call. ap (λ (asks : List AskLog). has_failed_from asks who call) same;
   granted = λ number are. subst (AreGrantsWithin number) (sym same) are;
   answered = λ from number is. ap (list_any (grants_or_refuses from number)) same ∙ is;
+  apart = λ deadline are. subst (All (IsApart deadline)) (sym same) are;
 }
 
 -- nothing was done, places alone were made, or a stale outcome was logged behind that
@@ -78,6 +80,7 @@ like_stale segs from number = record {
       are entry generation
       (granted_before segs.asks from number (closed_number segs.asks from) (length segs.log) entry generation there grants) grants;
   answered = answered_stays segs.asks from number (closed_number segs.asks from) (length segs.log);
+  apart = λ deadline are. All-push (IsApart deadline) segs.asks _ are (λ cause is. absurd (cc is));
 }
 
 -- then one more of its asker's outcomes is stale

@@ -10,7 +10,7 @@ use Rattle.hp_base.specs.declared.plan.Action.TheVariants.{Deliver}
 use Rattle.hp_base.specs.declared.plan_entry.MsgKind.{MsgKind}
 use Rattle.hp_base.specs.declared.plan_entry.PlanEntry.{PlanEntry}
 use Rattle.hp_base.specs.declared.plan_entry.PlanEntry.TheVariants.{Message, Mapping}
-use Rattle.hp_reasons.specs.Counting.{LosesAsPlanned, RepeatsAsPlanned, doubled_among, entry_loses, entry_repeats, is_doubled, is_lost, lost_among}
+use Rattle.hp_reasons.specs.Counting.{LosesAsPlanned, RepeatsAsPlanned, doubled_among, entry_loses, entry_repeats, is_doubled, is_lost, is_sent, lost_among}
 
 -- how many of the numbers from 1 to n pass
 passing : (ℕ → Bool) → ℕ → ℕ
@@ -76,9 +76,9 @@ named_number kind party k (Message its_kind its_party its_k twice line) named =
     eqb-true k its_k (and_parts (party == its_party) (k == its_k) rest.1).1
 named_number kind party k (Mapping its_party its_call elsewhere line) named = cc
 
-module _ (is : Action → Bool) (does : MsgKind → ℕ → PlanEntry → Bool) (not_delivered : is Deliver ≡ false)
-    (its_doing : (kind : MsgKind) (party k : ℕ) (entry : PlanEntry) → names_message kind party k entry ≡ true
-    → is (entry_action entry) ≡ true → does kind party entry ≡ true) (kind : MsgKind) (party : ℕ) where
+module _ (kind : MsgKind) (party : ℕ) (is : Action → Bool) (does : PlanEntry → Bool) (not_delivered : is Deliver ≡ false)
+    (its_doing : (k : ℕ) (entry : PlanEntry) → names_message kind party k entry ≡ true → is (entry_action entry) ≡ true
+    → does entry ≡ true) where
   -- what becomes of a message is what the first entry does where that names it, and else what the others do
   action-cons : (entry : PlanEntry) (plan : List PlanEntry) (k : ℕ) (b : Bool) → names_message kind party k entry ≡ b
       → action_of (entry ∷ plan) kind party k ≡ cond b (entry_action entry) (action_of plan kind party k)
@@ -91,12 +91,12 @@ module _ (is : Action → Bool) (does : MsgKind → ℕ → PlanEntry → Bool) 
 
   -- of the first messages at most as many are treated so as a plan has lines that do so
   treated_as_planned : (plan : List PlanEntry) (count : ℕ)
-      → passing (λ k. is (action_of plan kind party k)) count ≤ count_by (does kind party) plan
+      → passing (λ k. is (action_of plan kind party k)) count ≤ count_by does plan
   treated_as_planned [] count = omega (arith, passing_none (λ k. is (action_of [] kind party k)) count (λ k. not_delivered))
   treated_as_planned (entry ∷ plan) count =
       let later = treated_as_planned plan count in
-      let all = sum_by-cons (λ one. cond {A = ℕ} (does kind party one) 1 0) entry plan in
-      elim (cases_Bool (does kind party entry)) [
+      let all = sum_by-cons (λ one. cond {A = ℕ} (does one) 1 0) entry plan in
+      elim (cases_Bool (does entry)) [
         | inl does_so ↦ omega (
           arith,
           later,
@@ -111,8 +111,8 @@ module _ (is : Action → Bool) (does : MsgKind → ℕ → PlanEntry → Bool) 
           all,
           nothing does_not,
           passing_fewer (λ k. is (action_of (entry ∷ plan) kind party k)) (λ k. is (action_of plan kind party k)) count
-              (λ k below passes. by_another k passes (λ named. both_ways (does kind party entry) does_not
-              (its_doing kind party k entry named (sym (ap is (action-cons entry plan k true named)) ∙ passes)))),
+              (λ k below passes. by_another k passes (λ named. both_ways (does entry) does_not
+              (its_doing k entry named (sym (ap is (action-cons entry plan k true named)) ∙ passes)))),
         )
       ]
     where
@@ -124,11 +124,11 @@ module _ (is : Action → Bool) (does : MsgKind → ℕ → PlanEntry → Bool) 
       ]
 
 lost_is : (plan : List PlanEntry) (kind : MsgKind) (party n : ℕ)
-    → lost_among plan kind party n ≡ passing (λ k. is_lost (action_of plan kind party k)) n
+    → lost_among plan kind party n ≡ passing (λ k. is_sent kind party && is_lost (action_of plan kind party k)) n
 unfolding lost_among passing
 lost_is plan kind party zero = refl
 lost_is plan kind party (suc n) =
-    ap (λ before. before + (if is_lost (action_of plan kind party (suc n)) then 1 else 0)) (lost_is plan kind party n)
+    ap (λ before. before + (if is_sent kind party && is_lost (action_of plan kind party (suc n)) then 1 else 0)) (lost_is plan kind party n)
 
 doubled_is : (plan : List PlanEntry) (kind : MsgKind) (party n : ℕ)
     → doubled_among plan kind party n ≡ passing (λ k. is_doubled (action_of plan kind party k)) n
@@ -139,13 +139,22 @@ doubled_is plan kind party (suc n) =
 
 -- an entry that names a message and loses it is a line that does so, and one that doubles it
 loses_so : (kind : MsgKind) (party k : ℕ) (entry : PlanEntry) → names_message kind party k entry ≡ true
-    → is_lost (entry_action entry) ≡ true → entry_loses kind party entry ≡ true
-loses_so kind party k (Message its_kind its_party its_k true line) named lost = cc
+    → (is_sent kind party && is_lost (entry_action entry)) ≡ true → entry_loses kind party entry ≡ true
+loses_so kind party k (Message its_kind its_party its_k true line) named lost =
+    let none = (and_parts (is_sent kind party) false lost).1 in
+    cc
 loses_so kind party k (Message its_kind its_party its_k false line) named lost =
     let rest = and_parts (kind_place kind == kind_place its_kind) ((party == its_party) && (k == its_k)) named in
-    and_from (kind_place kind == kind_place its_kind) ((party == its_party) && true) rest.0
-    (and_from (party == its_party) true (and_parts (party == its_party) (k == its_k) rest.1).0 refl)
+    and_from (is_sent kind party) ((kind_place kind == kind_place its_kind) && ((party == its_party) && true))
+    (and_parts (is_sent kind party) true lost).0
+    (and_from (kind_place kind == kind_place its_kind) ((party == its_party) && true) rest.0
+    (and_from (party == its_party) true (and_parts (party == its_party) (k == its_k) rest.1).0 refl))
 loses_so kind party k (Mapping its_party its_call elsewhere line) named lost = cc
+
+-- a message that is delivered is not lost, whether there is one or not
+pub delivered : (sent : Bool) → (sent && false) ≡ false
+delivered true = refl
+delivered false = refl
 
 repeats_so : (kind : MsgKind) (party k : ℕ) (entry : PlanEntry) → names_message kind party k entry ≡ true
     → is_doubled (entry_action entry) ≡ true → entry_repeats kind party entry ≡ true
@@ -158,8 +167,18 @@ repeats_so kind party k (Mapping its_party its_call elsewhere line) named double
 
 pub lost_as_planned : LosesAsPlanned
 lost_as_planned plan kind party count =
-    omega (arith, lost_is plan kind party count, treated_as_planned is_lost entry_loses refl loses_so kind party plan count)
+    omega (
+      arith,
+      lost_is plan kind party count,
+      treated_as_planned kind party (λ what. is_sent kind party && is_lost what)
+          (entry_loses kind party) (delivered (is_sent kind party)) (loses_so kind party) plan count,
+    )
 
 pub doubled_as_planned : RepeatsAsPlanned
 doubled_as_planned plan kind party count =
-    omega (arith, doubled_is plan kind party count, treated_as_planned is_doubled entry_repeats refl repeats_so kind party plan count)
+    omega (
+      arith,
+      doubled_is plan kind party count,
+      treated_as_planned kind party is_doubled (entry_repeats kind party) refl
+          (repeats_so kind party) plan count,
+    )

@@ -24,12 +24,13 @@ use Rattle.hp_reasons.specs.Counting.{LosesNothing, doubled_among, lost_among}
 use Rattle.hp_reasons.specs.Episode.{AreLevel, AreSaid, IsBase, IsExcused, IsInPlace, IsNotedCall, Setting, World, doubles, mail_of, missed_among, number_of_party}
 use Rattle.hp_reasons.specs.Quiet.{IsQuietWorld}
 use Rattle.hp_reasons.specs.Failing.{AreGrantsWithin}
-use Rattle.hp_reasons.specs.Outcomes.{late_outcomes, stale_outcomes, withdrawn_outcomes}
+use Rattle.hp_reasons.specs.Outcomes.{late_outcomes, stale_outcomes, withdrawn_outcomes, IsApart}
 use Rattle.hp_reasons.specs.Shared.{Shared}
 use Rattle.hp_reasons.specs.Stages.{world_with}
 use Rattle.hp_reasons.proofs.CaughtUp.{none_later}
 use Rattle.hp_reasons.proofs.Said.{get_set, set_long}
 use Rattle.hp_reasons.proofs.Told.{losses_same}
+use Rattle.std.specs.List.{All}
 
 -- a participant goes on as it was, but for its table, whether it has one, and what it knows
 pub record IsAsBefore (old new : Party) : Type 0 where
@@ -184,6 +185,7 @@ module _ (set : Setting) (me : ℕ) (world : World) (shared : Shared) (party aft
     places = its_place;
     noted = none_noted;
     excused = excused_here;
+    apart = subst (All (IsApart set.deadline)) (sym shares.asks) quiet.base.apart;
   }
 
   idle_here : (primary : Party) → slice_get later.parties 0 ≡ Some primary

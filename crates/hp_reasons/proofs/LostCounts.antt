@@ -1,6 +1,6 @@
 -- The counts of lost and of doubled messages as one more is sent: they do not fall.
-use Rattle.std.proofs.Common.{◌≡◌, ◌∙◌, ℕ, Bool, zero, suc, ◌+◌, ◌-◌, ◌^◌, ◌<◌, ◌≤◌, true, List, [], ◌∷◌, inl, inr, refl, ap, subst, arith, false}
-use Rattle.std.proofs.lemmas.Bool.{cases_Bool, cases_lt, cond-false}
+use Rattle.std.proofs.Common.{◌≡◌, ◌∙◌, ℕ, Bool, zero, suc, ◌+◌, ◌-◌, ◌^◌, ◌<◌, ◌≤◌, ◌&&◌, true, List, [], ◌∷◌, inl, inr, refl, ap, subst, arith, false}
+use Rattle.std.proofs.lemmas.Bool.{and_from, cases_Bool, cases_lt, cond-false}
 use Rattle.std.proofs.lemmas.List.Elements.{All-head, All-tail}
 use Rattle.std.specs.List.{All}
 use Rattle.std.specs.Option.{option_map_or}
@@ -13,9 +13,9 @@ use Rattle.hp_base.specs.declared.plan_entry.PlanEntry.{PlanEntry}
 use Rattle.hp_base.specs.declared.plan_entry.PlanEntry.TheVariants.{Mapping, Message}
 use Rattle.hp_base.specs.declared.plan.Action.{Action}
 use Rattle.hp_proc.specs.Party.{one_more}
-use Rattle.hp_reasons.specs.Counting.{LosesNothing, doubled_among, is_doubled, is_lost, lost_among}
+use Rattle.hp_reasons.specs.Counting.{LosesNothing, doubled_among, is_doubled, is_lost, is_sent, lost_among}
 use Rattle.hp_reasons.specs.Episode.{IsCounted}
-use Rattle.hp_reasons.proofs.CountingLemmas.{named_number, one_if}
+use Rattle.hp_reasons.proofs.CountingLemmas.{delivered, named_number, one_if}
 use Rattle.hp_reasons.proofs.NothingLost.{none_lost}
 
 other_number : (kind : MsgKind) (party k : ℕ) (entry : PlanEntry) → IsCounted entry → MAX_COUNT < k → names_message kind party k entry ≡ true
@@ -85,7 +85,7 @@ module _ (plan : List PlanEntry) (kind : MsgKind) (party : ℕ) (counted : All I
 
 module _ (plan : List PlanEntry) (kind : MsgKind) (party : ℕ) (counted : All IsCounted plan) (n : ℕ) where
   lost_next : (n : ℕ) → lost_among plan kind party (suc n)
-      ≡ lost_among plan kind party n + one_if (is_lost (action_of plan kind party (suc n)))
+      ≡ lost_among plan kind party n + one_if (is_sent kind party && is_lost (action_of plan kind party (suc n)))
   unfolding lost_among
   lost_next n = refl
 
@@ -96,23 +96,26 @@ module _ (plan : List PlanEntry) (kind : MsgKind) (party : ℕ) (counted : All I
 
   -- one more that is sent is lost, or comes twice, where the plan has it so
   pub lost_more : lost_among plan kind party (one_more n)
-      ≡ lost_among plan kind party n + one_if (is_lost (action_of plan kind party (one_more n)))
-  lost_more = goes_up plan kind party counted (lost_among plan kind party) is_lost refl lost_next n
+      ≡ lost_among plan kind party n + one_if (is_sent kind party && is_lost (action_of plan kind party (one_more n)))
+  lost_more =
+      goes_up plan kind party counted (lost_among plan kind party) (λ what. is_sent kind party && is_lost what)
+      (delivered (is_sent kind party)) lost_next n
 
   pub doubled_more : doubled_among plan kind party (one_more n)
       ≡ doubled_among plan kind party n + one_if (is_doubled (action_of plan kind party (one_more n)))
   doubled_more = goes_up plan kind party counted (doubled_among plan kind party) is_doubled refl doubled_next n
 
-  -- so no fewer are lost, and one more where the plan loses it
+  -- so no fewer are lost, and one more where the plan loses it and there is such a message
   pub lost_rises : lost_among plan kind party n ≤ lost_among plan kind party (one_more n)
   lost_rises = omega (arith, lost_more)
 
-  pub one_lost : is_lost (action_of plan kind party (one_more n)) ≡ true
+  pub one_lost : is_sent kind party ≡ true → is_lost (action_of plan kind party (one_more n)) ≡ true
       → lost_among plan kind party n + 1 ≤ lost_among plan kind party (one_more n)
-  one_lost is =
-      let one : one_if (is_lost (action_of plan kind party (one_more n))) ≡ one_if true = ap one_if is in
+  one_lost sent is =
+      let one : one_if (is_sent kind party && is_lost (action_of plan kind party (one_more n))) ≡ one_if true =
+      ap one_if (and_from (is_sent kind party) (is_lost (action_of plan kind party (one_more n))) sent is) in
       omega (arith, lost_more, one)
 
   -- by a plan that loses nothing it is not lost
-  pub never_lost : LosesNothing plan → is_lost (action_of plan kind party (one_more n)) ≡ true → ⊥
-  never_lost nothing lost = omega (arith, one_lost lost, none_lost plan kind party (one_more n) nothing)
+  pub never_lost : is_sent kind party ≡ true → LosesNothing plan → is_lost (action_of plan kind party (one_more n)) ≡ true → ⊥
+  never_lost sent nothing lost = omega (arith, one_lost sent lost, none_lost plan kind party (one_more n) nothing)

@@ -196,7 +196,7 @@ module _ (set : Setting) (world : World) (who : ℕ) (party after : Party) (shar
   pub stage_with : (call : Asked) (sent : ℕ) → IsSound world.shared.segs → Stage set call sent false world
       → Stage set call sent false (world_with shared mail who after world)
   stage_with call sent sound (fresh stands un core none to_do copies some empty doubled level) = absurd (not_empty empty)
-  stage_with call sent sound (lost un core none to_do nothing empty doubled room loses) = absurd (not_empty empty)
+  stage_with call sent sound (lost clock un core none to_do nothing empty doubled room loses) = absurd (not_empty empty)
   stage_with call sent sound (growing round holds is from number un core opens to_do within answers doubled follows waits level) =
       growing round holds is from number (unanswered_with call un) (coordinator_with (Waiting round sent) call holds core)
       (serves.segs.opens round ∙ opens) (to_do_with call to_do) (omega (arith, within, serves.clock)) (answers_with call answers)

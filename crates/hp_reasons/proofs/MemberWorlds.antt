@@ -14,11 +14,12 @@ use Rattle.hp_segs.specs.declared.outcome.Cause.{Cause}
 use Rattle.hp_proc.specs.Party.{Party}
 use Rattle.hp_reasons.specs.Counting.{lost_among}
 use Rattle.hp_reasons.specs.Episode.{IsBase, IsExcused, IsInPlace, IsNotedCall, Setting, World, number_of_party}
-use Rattle.hp_reasons.specs.Outcomes.{late_outcomes, withdrawn_outcomes}
+use Rattle.hp_reasons.specs.Outcomes.{late_outcomes, withdrawn_outcomes, IsApart}
 use Rattle.hp_reasons.specs.Shared.{Shared}
 use Rattle.hp_reasons.specs.Stages.{world_with}
 use Rattle.hp_reasons.proofs.CaughtUp.{MayNote, none_later}
 use Rattle.hp_reasons.proofs.Said.{AreAllSaid, get_set, set_long}
+use Rattle.std.specs.List.{All}
 
 -- what a serving leaves of a member as it was
 pub record IsStillParty (party after : Party) : Type 0 where
@@ -200,4 +201,5 @@ module _ (set : Setting) (world : World) (who : ℕ) (party after : Party) (shar
     places = places_with;
     noted = noted_with;
     excused = excused_with member;
+    apart = subst (All (IsApart set.deadline)) (sym serves.segs.asks) base.apart;
   }

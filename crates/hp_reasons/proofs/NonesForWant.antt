@@ -9,6 +9,7 @@ use Rattle.hp_heap.specs.History.{HeapView}
 use Rattle.hp_log.proofs.Counts.{any_counts}
 use Rattle.hp_log.specs.declared.log_record.LogRecord.{LogRecord}
 use Rattle.hp_maps.specs.declared.table.Table.{Table}
+use Rattle.hp_script.specs.Built.{IsBuiltAct}
 use Rattle.hp_script.specs.declared.answer.Answer.{Answer}
 use Rattle.hp_script.specs.declared.line.Act.{Act}
 use Rattle.hp_script.specs.declared.line.Act.TheVariants as act
@@ -22,7 +23,6 @@ use Rattle.hp_segs.specs.declared.outcome.Cause.{Cause}
 use Rattle.hp_segs.specs.declared.outcome.Cause.TheVariants.{CannotHold, Denied, Late, ListFull, MapFailed, NoList, TooFew, Withdrawn}
 use Rattle.hp_segs.specs.declared.outcome.Outcome.TheVariants.{Refused}
 use Rattle.hp_proc.specs.Ends.{IsEnd}
-use Rattle.hp_proc.specs.Lines.{IsBuilt}
 use Rattle.hp_proc.specs.Outcomes.{IsRefusedIn, registers}
 use Rattle.hp_reasons.specs.Counting.{LosesNothing}
 use Rattle.hp_reasons.specs.Nones.{IsForWant, IsRefusedForWant, NoMappingFailed, RefusalsAreForWant}
@@ -52,31 +52,12 @@ keep_asks pools log before (entry ∷ asks) caused =
     All-cons KeepsAsk entry asks (keeps_ask pools log before entry caused.0.cause) (keep_asks pools log (before ++ entry ∷ []) asks caused.1)
 
 -- no line that is built registers a validator
-none_registers : (name : List ℕ) (socket limit : ℕ) (act : Act) → IsBuilt act → registers name socket limit act ≡ false
-none_registers name socket limit (act.Alloc label size options) built = refl
-none_registers name socket limit (act.Free label) built = refl
-none_registers name socket limit (act.Resize label size) built = refl
-none_registers name socket limit act.Attach built = refl
-none_registers name socket limit act.Detach built = refl
-none_registers name socket limit (act.Await other lines) built = refl
-none_registers name socket limit (act.Dump heap) built = refl
-none_registers name socket limit (act.Limit text number bytes allow) built = elim built [ ]
-none_registers name socket limit (act.Zone text len options) built = elim built [ ]
-none_registers name socket limit (act.Lookup text) built = elim built [ ]
-none_registers name socket limit (act.Unzone text) built = elim built [ ]
-none_registers name socket limit (act.Heap text) built = elim built [ ]
-none_registers name socket limit (act.Unheap text) built = elim built [ ]
-none_registers name socket limit (act.Add heap addr len page) built = elim built [ ]
-none_registers name socket limit (act.Remove heap addr len) built = elim built [ ]
-none_registers name socket limit (act.Map heap addr len) built = elim built [ ]
-none_registers name socket limit (act.Unmap heap addr len) built = elim built [ ]
-none_registers name socket limit (act.Watch text) built = elim built [ ]
-none_registers name socket limit (act.Unwatch text) built = elim built [ ]
-none_registers name socket limit (act.Unlimit text number) built = elim built [ ]
-none_registers name socket limit (act.Stats heap) built = elim built [ ]
+none_registers : (name : List ℕ) (socket limit : ℕ) (act : Act) → IsBuiltAct act → registers name socket limit act ≡ false
+none_registers name socket limit (act.Limit text number bytes allow) built = cc
+none_registers name socket limit _ built = refl
 
 module _ (workload : Workload) (answers : List Answer) (heaps : List HeapView) (segs : SegsView) (tables : List Table)
-    (end : IsEnd workload answers heaps segs tables) (reasons : HaveReasons workload.plan.items segs.asks)
+    (end : IsEnd workload answers heaps segs tables) (reasons : HaveReasons workload segs.asks)
     (nothing : LosesNothing workload.plan.items) (mapped : NoMappingFailed segs.asks) where
   -- a refusal is for want, since all other causes cannot be
   for_want : (entry : AskLog) (ask : Ask) (cause : Cause) → Contains segs.asks entry → entry.ask ≡ Some ask → entry.outcome ≡ Refused cause
@@ -88,7 +69,7 @@ module _ (workload : Workload) (answers : List Answer) (heaps : List HeapView) (
   for_want entry ask (Denied validator limit total) among kept is =
       let shown = All-contains (IsRefusedIn workload) segs.asks entry end.causes among ask (Denied validator limit total) kept is in
       let nobody = list_any_none (λ (line : Line). registers validator ask.socket limit line.act) workload.lines.items
-      (All-weaker (λ (line : Line). IsBuilt line.act) (λ (line : Line). registers validator ask.socket limit line.act ≡ false)
+      (All-weaker (λ (line : Line). IsBuiltAct line.act) (λ (line : Line). registers validator ask.socket limit line.act ≡ false)
       (λ line built. none_registers validator ask.socket limit line.act built) workload.lines.items end.built) in
       absurd (true_not (sym shown ∙ nobody))
   for_want entry ask (MapFailed participant call addr got) among kept is =

@@ -91,12 +91,12 @@ module _ (set : Setting) (party : Party) (heap : ℕ) (run : Run) (since : ℕ) 
   one_more_lost : is_lost action ≡ true
       → lost_among set.plan message.Free party.me party.sent.frees + 1 ≤ lost_among set.plan message.Free party.me after.sent.frees
   one_more_lost lost =
-      one_lost set.plan message.Free party.me setting.counted party.sent.frees
+      one_lost set.plan message.Free party.me setting.counted party.sent.frees refl
       (sym (ap (λ (plan : List PlanEntry). is_lost (action_of plan message.Free party.me (one_more party.sent.frees))) place.plan) ∙ lost)
 
   never : LosesNothing set.plan → is_lost action ≡ true → ⊥
   never nothing lost =
-      never_lost set.plan message.Free party.me setting.counted party.sent.frees nothing
+      never_lost set.plan message.Free party.me setting.counted party.sent.frees refl nothing
       (sym (ap (λ (plan : List PlanEntry). is_lost (action_of plan message.Free party.me (one_more party.sent.frees))) place.plan) ∙ lost)
 
   -- it was just sent, in a frame that says so

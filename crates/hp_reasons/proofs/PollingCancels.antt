@@ -26,14 +26,14 @@ use Rattle.hp_segs.specs.Steps.{after_failure, cancelled_growth, is_below, lowes
 use Rattle.hp_segs.specs.declared.fault.NotAll.{NotAll}
 use Rattle.hp_segs.specs.declared.outcome.AskLog.{AskLog}
 use Rattle.hp_segs.specs.declared.outcome.Cause.{Cause}
-use Rattle.hp_segs.specs.declared.outcome.Cause.TheVariants.{Late}
+use Rattle.hp_segs.specs.declared.outcome.Cause.TheVariants.{Late, MapFailed}
 use Rattle.hp_segs.specs.declared.outcome.Outcome.TheVariants.{Refused}
 use Rattle.hp_proc.specs.Coordinating.{with_core, with_room}
 use Rattle.hp_proc.specs.Party.{Party}
 use Rattle.hp_proc.specs.Posting.{times_sent}
 use Rattle.hp_reasons.specs.Counting.{lost_among}
 use Rattle.hp_reasons.specs.Episode.{FollowsGrowth, IsBase, IsCoordinator, IsNotedCall, Setting, World, is_sync, mail_of, number_of_party}
-use Rattle.hp_reasons.specs.Outcomes.{late_outcomes}
+use Rattle.hp_reasons.specs.Outcomes.{late_outcomes, IsCauseApart}
 use Rattle.hp_reasons.specs.Shared.{Shared, with_segs}
 use Rattle.hp_reasons.specs.Stages.{ComesTo, IsSent}
 use Rattle.hp_reasons.proofs.CopiesBodies.{bodies_unsynced}
@@ -47,6 +47,7 @@ use Rattle.hp_reasons.proofs.StartingOutcomes.{answered_behind, closed_behind}
 use Rattle.hp_reasons.proofs.StartingSettles.{IsSettling, settles}
 use Rattle.hp_reasons.proofs.OutcomesMore.{stale_same, withdrawn_same}
 use Rattle.hp_reasons.proofs.Told.{heard_more}
+use Rattle.hp_base.specs.declared.map_answer.MapAnswer.{MapAnswer}
 
 -- WHO IS BELOW
 
@@ -128,6 +129,13 @@ module _ (set : Setting) (call : Asked) (sent : ℕ) (world : World) (primary : 
       later call calls made = grind (arith, nat_tests)
   by_maker who maker call party found false is made = ap (λ (b : Bool). b && nat_le (calls_of party.maps + 1) call) is
 
+  -- a failed mapping has no readings
+  failure_apart : (who call addr : ℕ) (got : MapAnswer) (other : Cause) → Refused (MapFailed who call addr got) ≡ Refused other
+      → IsCauseApart set.deadline other
+  failure_apart who call addr got other is =
+      let same : MapFailed who call addr got ≡ other = cc in
+      subst (IsCauseApart set.deadline) same tt
+
   -- a failure that is noted fits
   pub failure_fits : (cause : Cause) → IsNotedCall world cause → FitsOne set world world.shared.segs.asks (refusal cause)
   failure_fits cause noted =
@@ -139,6 +147,7 @@ module _ (set : Setting) (call : Asked) (sent : ℕ) (world : World) (primary : 
         sent = its_sent;
         late = λ who first party top found is. absurd (unlate is);
         stands = refl;
+        apart = λ other is. failure_apart noted.who noted.call noted.addr noted.got other is;
       })
 
   module _ (acks : List ℕ) (member : NotAll)
@@ -154,6 +163,15 @@ module _ (set : Setting) (call : Asked) (sent : ℕ) (world : World) (primary : 
         let places = base.sound.places.roster_places in
         let within : member.participant < 16 = omega (arith, places, member_within world.shared.segs.roster member.participant below.0) in
         known member.participant (base.declared member.participant below.0) within
+
+    -- the deadline has passed
+    passed_by : sent + set.deadline ≤ world.shared.clock
+    passed_by =
+        let parts = and_parts (nat_le sent world.shared.clock) (nat_le set.deadline (world.shared.clock - sent)) passed in
+        reaches sent world.shared.clock set.deadline parts.0 parts.1
+      where
+        reaches : (since now deadline : ℕ) → nat_le since now ≡ true → nat_le deadline (now - since) ≡ true → since + deadline ≤ now
+        reaches since now deadline first second = grind (arith, nat_tests)
 
     -- who is late was not told
     untold : (first : Party) → slice_get world.parties 0 ≡ Some first → FollowsGrowth set world round.generation sent member.participant
@@ -183,6 +201,9 @@ module _ (set : Setting) (call : Asked) (sent : ℕ) (world : World) (primary : 
           late_outcomes n world.shared.segs.asks < lost_among set.plan message.Sync n (times_sent first.sent.syncs n))
           same (untold first top (grows.follow member.participant below.0));
       stands = refl;
+      apart = λ other is.
+          let same : Late member.participant sent world.shared.clock ≡ other = cc in
+          subst (IsCauseApart set.deadline) same (omega (arith, grows.clock, passed_by));
     }
 
   module _ (cause : Cause) (one : FitsOne set world world.shared.segs.asks (refusal cause)) (shared : Shared) (after : Party)

@@ -20,11 +20,13 @@ use Rattle.hp_proc.specs.declared.sent.Sent.{Sent}
 use Rattle.hp_reasons.specs.Counting.{lost_among}
 use Rattle.hp_reasons.specs.Episode.{IsBase, IsExcused, IsInPlace, Setting, World, number_of_party}
 use Rattle.hp_reasons.specs.Failing.{AreGrantsWithin}
-use Rattle.hp_reasons.specs.Outcomes.{is_late, is_withdrawn, late_outcomes, refuses, withdrawn_outcomes}
+use Rattle.hp_reasons.specs.Outcomes.{is_late, is_withdrawn, late_outcomes, refuses, withdrawn_outcomes, IsApart}
 use Rattle.hp_reasons.proofs.CopiesAlong.{CameOf}
 use Rattle.hp_reasons.proofs.OutcomesMore.{closed_within, failed_same, granted_within, late_push, withdrawn_same}
 use Rattle.hp_reasons.proofs.PollingGoes.{came_of, goes}
 use Rattle.hp_reasons.proofs.Said.{set_long}
+use Rattle.std.proofs.lemmas.List.Elements.{All-push}
+use Rattle.std.specs.List.{All}
 
 -- outcomes that fit a world: what was granted is acknowledged, what failed was called, what is closed was asked for, and what was
 -- refused is excused
@@ -37,6 +39,7 @@ pub record FitsIn (set : Setting) (world : World) (asks : List AskLog) : Type 0 
       → late_outcomes who asks ≤ lost_among set.plan message.Sync who (times_sent primary.sent.syncs who)
   pub withdrawn : (who : ℕ) (party : Party) → slice_get world.parties who ≡ Some party
       → withdrawn_outcomes who asks ≤ lost_among set.plan message.Alloc who party.sent.allocs
+  pub apart : All (IsApart set.deadline) asks
 
 -- a participant that is declared is there
 pub is_there : (set : Setting) (world : World) (who : ℕ) → IsBase set world → who < set.count → (primary : Party)
@@ -55,6 +58,7 @@ fit_before set world primary base there = record {
   closed = λ who party found. (base.places who party found).closed;
   late = λ who first party there found. (base.excused who first party there found).late;
   withdrawn = λ who party found. (base.excused who primary party there found).withdrawn;
+  apart = base.apart;
 }
 
 -- ONE OUTCOME MORE
@@ -71,6 +75,7 @@ pub record FitsOne (set : Setting) (world : World) (asks : List AskLog) (entry :
       → refuses (is_late who) entry.outcome ≡ true
       → late_outcomes who asks < lost_among set.plan message.Sync who (times_sent primary.sent.syncs who)
   pub stands : refuses is_withdrawn entry.outcome ≡ false
+  pub apart : IsApart set.deadline entry
 
 module _ (set : Setting) (world : World) (asks : List AskLog) (entry : AskLog) (fits : FitsIn set world asks)
     (one : FitsOne set world asks entry) where
@@ -97,6 +102,7 @@ module _ (set : Setting) (world : World) (asks : List AskLog) (entry : AskLog) (
     withdrawn = λ who party there.
         subst (λ n. n ≤ lost_among set.plan message.Alloc who party.sent.allocs) (sym (withdrawn_same asks entry who one.stands))
         (fits.withdrawn who party there);
+    apart = All-push (IsApart set.deadline) asks entry fits.apart one.apart;
   }
 
 -- WHERE A GROWTH HAS ENDED
@@ -156,4 +162,5 @@ module _ (set : Setting) (world : World) (primary : Party) (next : Core) (segs :
             absurd
             (none_noted cause (sym (ap (λ (growth : Option Growth). option_and_then (λ growth. growth.noted) growth) alone) ∙ is));
         excused = λ who first party top found. ended_excused who first party (came 0 first top) (came who party found);
+        apart = fits.apart;
       }

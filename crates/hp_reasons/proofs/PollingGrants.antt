@@ -106,6 +106,7 @@ module _ (set : Setting) (call : Asked) (sent : ℕ) (world : World) (primary : 
         omega (arith, asked, its_number);
     late = λ who first party top found is. absurd (unlate is);
     stands = refl;
+    apart = λ cause is. absurd (cc is);
   }
     where
       unlate : false ≡ true → ⊥

@@ -132,11 +132,11 @@ polls_on set call sent world shared primary after is_sent base
     (still_doubled set call sent world shared primary after is_sent base there polls is true doubled)
     (starts_along set call world later along level))
 polls_on set call sent world shared primary after is_sent base
-    (Stage.lost unanswered coordinator alone to_do none empty doubled taken_back loses) may there polls =
+    (Stage.lost clock unanswered coordinator alone to_do none empty doubled taken_back loses) may there polls =
     let is = its_coordinator set world Idle call false primary coordinator there in
     let later = still set call sent world shared primary after is_sent base there polls is in
     idle_on set call sent world shared primary after is_sent base there polls is
-    (Stage.lost (still_unanswered set call sent world shared primary after is_sent base there polls is unanswered)
+    (Stage.lost clock (still_unanswered set call sent world shared primary after is_sent base there polls is unanswered)
     (still_idle set call sent world shared primary after is_sent base there polls is) alone
     (to_do_along call world later
     (goes_along set world primary is.its (with_room world.shared.segs) base there (like_room world.shared.segs)) to_do)

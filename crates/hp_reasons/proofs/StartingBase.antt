@@ -1,5 +1,5 @@
 -- Worlds behind what participant 0 did for its coordinator, but for posts: what holds at every moment holds there.
-use Rattle.std.proofs.Common.{◌≡◌, ◌≢◌, ℕ, ◌+◌, ◌≤◌, Bool, true, false, List, [], ◌∷◌, ◌++◌, length, Some, inl, inr, refl, sym, ap, subst, ◌∙◌, arith}
+use Rattle.std.proofs.Common.{◌≡◌, ◌≢◌, ℕ, ◌+◌, ◌≤◌, Bool, true, false, List, [], ◌∷◌, ◌++◌, length, Some, inl, inr, refl, sym, ap, subst, ◌∙◌, arith, eq-eqb, true≢false, ◌==◌}
 use Rattle.std.proofs.lemmas.Bool.{cases_eq}
 use Rattle.std.specs.Prelude.{slice_get, slice_index_or, slice_set}
 use Rattle.hp_frame.specs.declared.frame.Frame.{Frame}
@@ -18,13 +18,16 @@ use Rattle.hp_proc.specs.declared.sent.Sent.{Sent}
 use Rattle.hp_reasons.specs.Counting.{doubled_among, lost_among}
 use Rattle.hp_reasons.specs.Episode.{AreSaid, IsBase, IsExcused, IsInPlace, IsNotedCall, Setting, World, doubles, mail_of, number_of_party}
 use Rattle.hp_reasons.specs.Failing.{AreGrantsWithin}
-use Rattle.hp_reasons.specs.Outcomes.{is_late, is_withdrawn, late_outcomes, refuses, stale_outcomes, withdrawn_outcomes}
+use Rattle.hp_reasons.specs.Outcomes.{is_late, is_withdrawn, late_outcomes, refuses, stale_outcomes, withdrawn_outcomes, IsApart, IsCauseApart}
 use Rattle.hp_reasons.specs.Shared.{Shared}
 use Rattle.hp_reasons.specs.Stages.{world_with}
 use Rattle.hp_reasons.proofs.CaughtUp.{none_later}
 use Rattle.hp_reasons.proofs.OutcomesMore.{closed_within, failed_same, granted_within, late_same, stale_same, withdrawn_same}
 use Rattle.hp_reasons.proofs.Said.{get_set, set_found, set_long}
 use Rattle.hp_reasons.proofs.Told.{IsHeardOn, heard_more, heard_same}
+use Rattle.std.proofs.lemmas.List.Elements.{All-push}
+use Rattle.std.specs.List.{All}
+use Rattle.hp_segs.specs.declared.outcome.Cause.TheVariants.{Late, Withdrawn}
 
 -- a participant goes on as it was, but for its coordinator, its table, and what it has sent as a coordinator
 pub record GoesOn (old new : Party) : Type 0 where
@@ -96,6 +99,26 @@ pub late_logged : (world : World) (old new : List AskLog) (who : ℕ) → LogsOn
 late_logged world old new who (stays same) = ap (late_outcomes who) same
 late_logged world old new who (logs entry more orderly) =
     ap (late_outcomes who) more ∙ late_same old entry who (orderly.in_time who)
+
+-- an outcome that is neither late nor taken back has no readings
+neither_apart : (deadline : ℕ) (entry : AskLog) → ((who : ℕ) → refuses (is_late who) entry.outcome ≡ false)
+    → refuses is_withdrawn entry.outcome ≡ false → IsApart deadline entry
+neither_apart deadline entry in_time stands cause is =
+    by_cause cause (λ who. sym (ap (refuses (is_late who)) is) ∙ in_time who) (sym (ap (refuses is_withdrawn) is) ∙ stands)
+  where
+    by_cause : (cause : Cause) → ((who : ℕ) → is_late who cause ≡ false) → is_withdrawn cause ≡ false → IsCauseApart deadline cause
+    by_cause (Late participant from to) late back =
+        let its : (participant == participant) ≡ true = eq-eqb participant participant refl in
+        absurd (true≢false (sym its ∙ late participant))
+    by_cause (Withdrawn from to) late back = absurd (true≢false back)
+    by_cause _ late back = tt
+
+pub apart_logged : (world : World) (old new : List AskLog) (deadline : ℕ) → LogsOne world old new → All (IsApart deadline) old
+    → All (IsApart deadline) new
+apart_logged world old new deadline (stays same) are = subst (All (IsApart deadline)) (sym same) are
+apart_logged world old new deadline (logs entry more orderly) are =
+    subst (All (IsApart deadline)) (sym more)
+    (All-push (IsApart deadline) old entry are (neither_apart deadline entry orderly.in_time orderly.stands))
 
 pub withdrawn_logged : (world : World) (old new : List AskLog) (who : ℕ) → LogsOne world old new
     → withdrawn_outcomes who new ≡ withdrawn_outcomes who old
@@ -264,4 +287,5 @@ module _ (set : Setting) (world : World) (shared : Shared) (primary after : Part
     places = placed;
     noted = follows.noted;
     excused = excuses;
+    apart = apart_logged next world.shared.segs.asks shared.segs.asks set.deadline follows.asks base.apart;
   }

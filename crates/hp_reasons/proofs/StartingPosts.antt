@@ -153,6 +153,7 @@ module _ (set : Setting) (world : World) (boxes : List (List Frame)) (mail : Lis
     places = placed;
     noted = λ cause is. noted_behind cause (base.noted cause is);
     excused = excuses;
+    apart = base.apart;
   }
 
   -- the coordinator is as it was

@@ -1,6 +1,6 @@
 -- What the SYNCs of a round make of a world: each other member has its SYNC in its mailbox, or it was lost.
-use Rattle.std.proofs.Common.{◌≡◌, ◌≢◌, ◌⊎◌, ℕ, zero, suc, ◌<◌, ◌≤◌, Bool, true, false, List, [], ◌++◌, length, replicate, Some, inl, inr, refl, sym, ap, subst, ◌∙◌, arith, nat_lt}
-use Rattle.std.proofs.lemmas.Bool.{and_from, and_parts, cases_Bool, cases_eq, lt-ltb, or_right}
+use Rattle.std.proofs.Common.{◌≡◌, ◌≢◌, ◌⊎◌, ℕ, zero, suc, ◌<◌, ◌≤◌, ◌==◌, Bool, true, false, not, List, [], ◌++◌, length, replicate, Some, inl, inr, refl, sym, ap, subst, ◌∙◌, arith, nat_lt}
+use Rattle.std.proofs.lemmas.Bool.{and_from, and_parts, cases_Bool, cases_eq, eqb-true, lt-ltb, or_right}
 use Rattle.std.proofs.lemmas.List.{length-replicate}
 use Rattle.std.proofs.lemmas.List.Folds.{list_any-append}
 use Rattle.std.specs.List.{list_any}
@@ -20,7 +20,7 @@ use Rattle.hp_segs.specs.SegsView.{is_member}
 use Rattle.hp_proc.specs.Frames.{Says}
 use Rattle.hp_proc.specs.Party.{Party, one_more}
 use Rattle.hp_proc.specs.Posting.{after_syncs, is_told, syncs_after, times_sent}
-use Rattle.hp_reasons.specs.Counting.{LosesNothing, is_lost, lost_among}
+use Rattle.hp_reasons.specs.Counting.{LosesNothing, is_lost, is_sent, lost_among}
 use Rattle.hp_reasons.specs.Episode.{IsBase, IsSetting, Setting, World, is_sync, mail_of}
 use Rattle.hp_reasons.specs.Outcomes.{late_outcomes}
 use Rattle.hp_reasons.specs.Servings.{synced}
@@ -37,6 +37,13 @@ use Rattle.hp_reasons.proofs.AsksWeights.{two_copies}
 any_synced : (n generation round : ℕ) → 1 ≤ n → list_any is_sync (replicate n (Sync generation round)) ≡ true
 any_synced zero generation round some = absurd (omega (arith, some))
 any_synced (suc n) generation round some = refl
+
+-- there are SYNCs to participants other than 0
+sent_to_others : (who : ℕ) → who ≢ 0 → is_sent message.Sync who ≡ true
+sent_to_others who other = elim (cases_Bool (who == 0)) [
+  | inl same ↦ absurd (other (eqb-true who 0 same))
+  | inr apart ↦ ap not apart
+]
 
 module _ (set : Setting) (world : World) (primary : Party) (base : IsBase set world) (there : slice_get world.parties 0 ≡ Some primary)
     (setting : IsSetting set) (members : ℕ) (are : members ≡ other_members world.shared.segs) where
@@ -175,7 +182,7 @@ module _ (set : Setting) (world : World) (primary : Party) (base : IsBase set wo
         let sent = times_sent primary.sent.syncs who in
         let next : is_lost (action_of set.plan message.Sync who (one_more sent)) ≡ true =
         ap (λ (plan : List PlanEntry). is_lost (action_of plan message.Sync who (one_more sent))) (sym own_plan) ∙ gone in
-        let more = one_lost set.plan message.Sync who setting.counted sent next in
+        let more = one_lost set.plan message.Sync who setting.counted sent (sent_to_others who (told_member who one).0) next in
         let now : times_sent synced_party.sent.syncs who ≡ one_more sent =
         syncs_to_told told primary.sent.syncs 15 who one (sent_within who one) in
         let late = late_so_far who (told_member who one).1 in

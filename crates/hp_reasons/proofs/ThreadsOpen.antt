@@ -32,6 +32,8 @@ use Rattle.hp_reasons.specs.Shared.{IsSharedIn, Shared}
 use Rattle.hp_reasons.specs.Threads.{IsWorldAt, OpensThread, filled, setting_of}
 use Rattle.hp_reasons.specs.Worlds.{IsInOrder}
 use Rattle.hp_reasons.proofs.Told.{none_missed}
+use Rattle.hp_reasons.specs.Outcomes.{IsApart}
+use Rattle.std.proofs.lemmas.List.Elements.{All-nil}
 
 -- what all share before the first line
 abbrev pub first_shared : Workload → Shared
@@ -122,6 +124,7 @@ module _ (workload : Workload) (given : IsGiven workload) (parties : List Party)
     places = in_place;
     noted = λ cause none. cc;
     excused = λ who primary party first there. record { late = omega arith; withdrawn = omega arith };
+    apart = All-nil (IsApart set.deadline);
   }
 
   idle_first : (primary : Party) → slice_get parties 0 ≡ Some primary → (core : Core) × (primary.core ≡ Some core)

@@ -18,12 +18,13 @@ use Rattle.hp_joint.proofs.SoFarFacts.{at_place}
 use Rattle.hp_reasons.specs.Counting.{planned_losses, planned_repeats}
 use Rattle.hp_reasons.specs.Episode.{Setting, World}
 use Rattle.hp_reasons.specs.Quiet.{IsQuietWorld}
-use Rattle.hp_reasons.specs.Outcomes.{late_outcomes, stale_outcomes, withdrawn_outcomes}
+use Rattle.hp_reasons.specs.Outcomes.{late_outcomes, stale_outcomes, withdrawn_outcomes, IsApart}
 use Rattle.hp_reasons.specs.Threads.{HaveReasons, LeadInQuiet, ThreadsHaveReasons, setting_of}
 use Rattle.hp_reasons.proofs.CountingLemmas.{doubled_as_planned, lost_as_planned}
 use Rattle.hp_reasons.proofs.ThreadsBetween.{quiet_last, same_segs}
 use Rattle.hp_reasons.proofs.ThreadsLine.{IsQuietAt}
 use Rattle.hp_reasons.proofs.ThreadsNames.{none_late, none_stale, none_withdrawn}
+use Rattle.std.specs.List.{All}
 
 -- a declared participant's outcomes have their reasons in a quiet world
 module _ (set : Setting) (world : World) (quiet : IsQuietWorld set world) (some : 0 < set.count) (who : ℕ) (below : who < set.count) where
@@ -86,7 +87,7 @@ module _ (workload : Workload) (courses : List Course) (parties : List Party) (l
       omega (arith, none))
       (cases_lt who workload.participants)
 
-  have_reasons : HaveReasons workload.plan.items segs.asks
+  have_reasons : HaveReasons workload segs.asks
   have_reasons = record {
     late = λ who.
         by_case (late_outcomes who) who _ (late_by_plan (setting_of workload) world at.quiet.quiet some who)
@@ -97,6 +98,7 @@ module _ (workload : Workload) (courses : List Course) (parties : List Party) (l
     stale = λ who.
         by_case (stale_outcomes who) who _ (stale_by_plan (setting_of workload) world at.quiet.quiet some who)
         (none_stale workload courses parties last.plain so who);
+    apart = subst (All (IsApart workload.deadline)) same at.quiet.quiet.base.apart;
   }
 
 -- of every run

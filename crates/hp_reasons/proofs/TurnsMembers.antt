@@ -122,7 +122,7 @@ pub record IsDoneWith (set : Setting) (call : Asked) (world : World) : Type 0 wh
 pub done_with : (set : Setting) (call : Asked) (sent : ℕ) (leads : Bool) (world : World) (stage : Stage set call sent leads world)
     → is_last stage ≡ true → IsDoneWith set call world
 done_with set call sent leads world (Stage.fresh clock unanswered coordinator alone to_do copies some empty doubled level) last = cc
-done_with set call sent leads world (Stage.lost unanswered coordinator alone to_do none empty doubled back loses) last = cc
+done_with set call sent leads world (Stage.lost clock unanswered coordinator alone to_do none empty doubled back loses) last = cc
 done_with set call sent leads world
     (Stage.growing round holds kind from number unanswered coordinator its to_do clock bodies doubled follow awaited level) last = cc
 done_with set call sent leads world

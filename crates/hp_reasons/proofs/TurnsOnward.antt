@@ -1,5 +1,5 @@
 -- A turn of a wait goes on from stage to stage.
-use Rattle.std.proofs.Common.{◌≡◌, ◌∙◌, ◌<◌, ◌≤◌, ◌⊎◌, ℕ, zero, suc, Bool, true, false, List, [], ◌∷◌, ◌++◌, Some, inl, inr, refl, sym, ap, subst, arith}
+use Rattle.std.proofs.Common.{◌≡◌, ◌∙◌, ◌+◌, ◌*◌, ◌<◌, ◌≤◌, ◌⊎◌, ℕ, zero, suc, Bool, true, false, List, [], ◌∷◌, ◌++◌, Some, inl, inr, refl, sym, ap, subst, arith}
 use Rattle.std.specs.Prelude.{slice_get}
 use Rattle.std.proofs.lemmas.Bool.{cases_eq, cases_lt}
 use Rattle.std.proofs.lemmas.List.{get_or_past}
@@ -28,12 +28,14 @@ use Rattle.hp_reasons.proofs.TurnsVisits.{told_on}
 
 -- A PAUSE
 
--- the world behind a pause: the clock stands where something moved, and else goes no further than the deadline of participant 0's round
-pub record PausedTo (moved : Bool) (hall : SoloView) (me : ℕ) (party : Party) (world : World) : Type 0 where
+-- the world behind a pause: the clock stands where something moved, and else goes no further than the deadline that is waited for and that of
+-- participant 0's round
+pub record PausedTo (until : ℕ) (moved : Bool) (hall : SoloView) (me : ℕ) (party : Party) (world : World) : Type 0 where
   pub now : ℕ
   pub its : IsWorldOf hall me party (at_clock now world)
   pub stands : moved ≡ true → now ≡ world.shared.clock
   pub later : moved ≡ false → world.shared.clock ≤ now
+  pub within : moved ≡ false → now ≤ until
   pub least : moved ≡ false → (primary : Party) → slice_get world.parties 0 ≡ Some primary → (due : ℕ) → due_in primary.core ≡ Some due
       → world.shared.clock < due → now ≤ due
 
@@ -50,7 +52,7 @@ paused_world me next now moved hall party world its = record {
 
 pub pause_on : AreServingsKnown → (me until : ℕ) (old new : SoloView) (party : Party) (steps : List MailStep) (moved : Bool) (world : World)
     → IsWorldOf old me party world → Sequence me old steps new → PausesAt until (due_in party.core) moved steps
-    → PausedTo moved new me party world
+    → PausedTo until moved new me party world
 pause_on known me until old new party steps moved world its sequence pauses =
     let step : MailStep = Notes (Paused moved (Some pauses.next)) in
     let cut = cut_in me old new steps (Notes (Read pauses.now) ∷ []) (step ∷ []) pauses.are sequence in
@@ -69,6 +71,7 @@ pause_on known me until old new party steps moved world its sequence pauses =
       its = told_on known me begins.behind new party [] (at_clock now world) begins.ends refl there;
       stands = λ some. paused.stands some ∙ sym told.shared.clock;
       later = λ none. omega (arith, (paused.goes none).later, told.shared.clock);
+      within = λ none. omega (arith, (paused.goes none).within, pauses.sooner.within);
       least = λ none primary found due is to_come. elim (cases_eq me 0) [
         | inl same ↦
             (let own : Some party ≡ Some primary =
@@ -95,7 +98,8 @@ none_by : (moved : Bool) → (moved ≡ true) ⊎ (moved ≡ false)
 none_by true = inl refl
 none_by false = inr refl
 
-module _ (known : AreServingsKnown) (set : Setting) (call : Asked) (sent until me : ℕ) (is_sent : IsSent set call sent) where
+module _ (known : AreServingsKnown) (set : Setting) (call : Asked) (sent until me : ℕ) (is_sent : IsSent set call sent)
+    (in_time : until ≤ sent + 3 * set.deadline) where
   -- all have served, and all mailboxes but participant 0's are empty
   served_out : (after : Party) (moved : Bool) (hall : SoloView) (all : AllServed known set me (IsDuring set call sent) (stages_on known set call sent is_sent me) moved after hall)
       → HasTurned set call sent all.world
@@ -113,7 +117,7 @@ module _ (known : AreServingsKnown) (set : Setting) (call : Asked) (sent until m
 
   -- and then the pause
   behind_pause : (moved : Bool) (world : World) (hall : SoloView) (after : Party) → HasTurned set call sent world
-      → (moved ≡ false → box_of world.shared.boxes 0 ≡ []) → PausedTo moved hall me after world
+      → (moved ≡ false → box_of world.shared.boxes 0 ≡ []) → PausedTo until moved hall me after world
       → LeadsTo (IsAtTurn set call sent) hall me after
   behind_pause moved world hall after turned still paused = record {
     world = at_clock paused.now world;
@@ -124,6 +128,7 @@ module _ (known : AreServingsKnown) (set : Setting) (call : Asked) (sent until m
         paused.later none,
         all_empty world turned.at_turn (still none),
         λ primary found due is early. paused.least none primary found due is ((turned.rested primary found).to_come due is early),
+        omega (arith, paused.within none, in_time),
       )
     ]);
   }
@@ -140,8 +145,8 @@ module _ (known : AreServingsKnown) (set : Setting) (call : Asked) (sent until m
       (pause_on known me until cut.mid new after paused moved all.world all.its cut.ends pauses)
 
 pub turns_on : TurnsOn
-turns_on known set call sent until me old new party after steps moved world is_sent its at_turn sequence (IsTurned.stops served is) =
+turns_on known set call sent until me old new party after steps moved world is_sent in_time its at_turn sequence (IsTurned.stops served is) =
     absurd (none-some moved (sym is))
-turns_on known set call sent until me old new party after steps moved world is_sent its at_turn sequence
+turns_on known set call sent until me old new party after steps moved world is_sent in_time its at_turn sequence
     (IsTurned.ends any served paused have pauses did is) =
-    turn_ends known set call sent until me is_sent old new party after steps served paused any world its at_turn sequence have pauses did
+    turn_ends known set call sent until me is_sent in_time old new party after steps served paused any world its at_turn sequence have pauses did

@@ -1,5 +1,5 @@
 -- A turn's end, and what a pause leaves: while nothing moved the clock goes no further than the deadline of the round under way.
-use Rattle.std.proofs.Common.{◌≡◌, ◌≢◌, ◌∙◌, ◌+◌, ◌-◌, ◌^◌, ◌<◌, ◌≤◌, ◌⊎◌, ℕ, zero, suc, min, Bool, true, false, List, [], length, Some, inl, inr, sym, ap, subst, arith}
+use Rattle.std.proofs.Common.{◌≡◌, ◌≢◌, ◌∙◌, ◌+◌, ◌-◌, ◌*◌, ◌^◌, ◌<◌, ◌≤◌, ◌⊎◌, ℕ, zero, suc, min, Bool, true, false, List, [], length, Some, inl, inr, sym, ap, subst, arith}
 use Rattle.std.specs.Prelude.{slice_get}
 use Rattle.std.specs.List.{list_any}
 use Rattle.hp_core.specs.Core.{due_of}
@@ -90,6 +90,7 @@ base_at set now world base = record {
   excused = λ who primary party first found.
       let its = base.excused who primary party first found in
       record { late = its.late; withdrawn = its.withdrawn };
+  apart = base.apart;
 }
 
 pub quiet_at : (set : Setting) (now : ℕ) (world : World) → IsQuietWorld set world → IsQuietWorld set (at_clock now world)
@@ -123,7 +124,7 @@ GoesNoFurther now world = (primary : Party) → slice_get world.parties 0 ≡ So
     → due < 2 ^ 64 - 1 → now ≤ due
 
 module _ (set : Setting) (call : Asked) (sent now : ℕ) (is_sent : IsSent set call sent) (world : World)
-    (none : (who : ℕ) → mail_of world who ≡ []) (no_further : GoesNoFurther now world) where
+    (none : (who : ℕ) → mail_of world who ≡ []) (no_further : GoesNoFurther now world) (in_time : now ≤ sent + 3 * set.deadline) where
   waits_within : (round : Round) (since : ℕ) (holds : Bool) → HasCoordinator set world (Waiting round since) call holds
       → since ≤ sent + set.deadline → now ≤ since + set.deadline
   waits_within round since holds coordinator early =
@@ -186,8 +187,8 @@ module _ (set : Setting) (call : Asked) (sent now : ℕ) (is_sent : IsSent set c
 
   stands_at : (before : Stage set call sent true world) → StandsAt before
   stands_at (Stage.fresh clock unanswered coordinator alone to_do copies some empty doubled level) = absurd (none_some some)
-  stands_at (Stage.lost unanswered coordinator alone to_do gone empty doubled back loses) = record {
-    stage = Stage.lost (unanswered_at unanswered) (coordinator_at Idle false coordinator) alone (to_do_at call to_do) gone empty
+  stands_at (Stage.lost clock unanswered coordinator alone to_do gone empty doubled back loses) = record {
+    stage = Stage.lost in_time (unanswered_at unanswered) (coordinator_at Idle false coordinator) alone (to_do_at call to_do) gone empty
         (doubled_at false doubled) (back_at call back) loses;
     last = λ last. last;
   }
@@ -228,12 +229,13 @@ lighter_at now world later =
     )
 
 pub paused_at : (set : Setting) (call : Asked) (sent now : ℕ) (world : World) → IsSent set call sent → IsAtTurn set call sent world
-    → (now ≡ world.shared.clock) ⊎ ((world.shared.clock ≤ now) × ((who : ℕ) → mail_of world who ≡ []) × GoesNoFurther now world)
+    → (now ≡ world.shared.clock)
+    ⊎ ((world.shared.clock ≤ now) × ((who : ℕ) → mail_of world who ≡ []) × GoesNoFurther now world × (now ≤ sent + 3 * set.deadline))
     → IsAtTurn set call sent (at_clock now world)
 paused_at set call sent now world is_sent at_turn (inl stands) =
     subst (λ (clock : ℕ). IsAtTurn set call sent (at_clock clock world)) (sym stands) at_turn
 paused_at set call sent now world is_sent at_turn (inr goes) =
-    let stands = stands_at set call sent now is_sent world goes.1 goes.2 at_turn.stage in
+    let stands = stands_at set call sent now is_sent world goes.1 goes.2 goes.3 at_turn.stage in
     record {
       base = base_at set now world at_turn.base;
       stage = stands.stage;

@@ -42,8 +42,8 @@ pub leads_again : (set : Setting) (call : Asked) (sent : ℕ) (world : World) �
     → LeadsAgain set call sent world before
 leads_again set call sent world nobody (Stage.fresh clock unanswered coordinator alone to_do copies some empty doubled level) =
     record { stage = Stage.fresh clock unanswered coordinator alone to_do copies some empty doubled level; last = λ last. last }
-leads_again set call sent world nobody (Stage.lost unanswered coordinator alone to_do none empty doubled back loses) =
-    record { stage = Stage.lost unanswered coordinator alone to_do none empty doubled back loses; last = λ last. last }
+leads_again set call sent world nobody (Stage.lost clock unanswered coordinator alone to_do none empty doubled back loses) =
+    record { stage = Stage.lost clock unanswered coordinator alone to_do none empty doubled back loses; last = λ last. last }
 leads_again set call sent world nobody
     (Stage.growing round holds kind from number unanswered coordinator its to_do clock bodies doubled follow awaited level) = record {
       stage = Stage.growing round holds kind from number unanswered coordinator its to_do clock bodies doubled follow
@@ -95,7 +95,7 @@ pub record IsOver (set : Setting) (call : Asked) (world : World) : Type 0 where
 pub over_with : (set : Setting) (call : Asked) (sent : ℕ) (leads : Bool) (world : World) (stage : Stage set call sent leads world)
     → is_last stage ≡ true → IsOver set call world
 over_with set call sent leads world (Stage.fresh clock unanswered coordinator alone to_do copies some empty doubled level) last = cc
-over_with set call sent leads world (Stage.lost unanswered coordinator alone to_do none empty doubled back loses) last = cc
+over_with set call sent leads world (Stage.lost clock unanswered coordinator alone to_do none empty doubled back loses) last = cc
 over_with set call sent leads world
     (Stage.growing round holds kind from number unanswered coordinator its to_do clock bodies doubled follow awaited level) last = cc
 over_with set call sent leads world

@@ -76,8 +76,8 @@ core_rests count old new party after (CoreServes.rests none holds to_come new_is
 to_follow : (set : Setting) (call : Asked) (sent : ℕ) (world : World) → Stage set call sent true world → Stage set call sent false world
 to_follow set call sent world (Stage.fresh clock unanswered coordinator alone to_do copies some empty doubled level) =
     Stage.fresh clock unanswered coordinator alone to_do copies some empty doubled level
-to_follow set call sent world (Stage.lost unanswered coordinator alone to_do none empty doubled back loses) =
-    Stage.lost unanswered coordinator alone to_do none empty doubled back loses
+to_follow set call sent world (Stage.lost clock unanswered coordinator alone to_do none empty doubled back loses) =
+    Stage.lost clock unanswered coordinator alone to_do none empty doubled back loses
 to_follow set call sent world
     (Stage.growing round holds kind from number unanswered coordinator its to_do clock bodies doubled follow awaited level) =
     Stage.growing round holds kind from number unanswered coordinator its to_do clock bodies doubled follow (λ leads. cc) level
@@ -165,7 +165,7 @@ module _ (set : Setting) (call : Asked) (sent who : ℕ) (world other : World) (
       → (is_last stage ≡ true) × (list_any is_sync (mail_of world who) ≡ false)
   was_last (Stage.fresh clock unanswered coordinator alone to_do copies some empty doubled level) done =
       absurd (open_closed call world other (still_open empty) to_do done.closed)
-  was_last (Stage.lost unanswered coordinator alone to_do none empty doubled back loses) done =
+  was_last (Stage.lost clock unanswered coordinator alone to_do none empty doubled back loses) done =
       absurd (open_closed call world other (still_open empty) to_do done.closed)
   was_last (Stage.growing round holds kind from number unanswered coordinator its to_do clock bodies doubled follow awaited level) done =
       absurd (never_waits round sent

@@ -1,5 +1,5 @@
 -- A wait for the answer to an ask ends at a turn, and by its answer or its deadline the ask is over, or it was lost.
-use Rattle.std.proofs.Common.{◌≡◌, ◌+◌, ◌<◌, ◌≤◌, ℕ, zero, suc, Bool, true, List, [], ◌∷◌, ◌++◌, Some, inl, inr, refl, sym, subst, arith, true≢false, ◌∙◌}
+use Rattle.std.proofs.Common.{◌≡◌, ◌+◌, ◌*◌, ◌<◌, ◌≤◌, ℕ, zero, suc, Bool, true, List, [], ◌∷◌, ◌++◌, Some, inl, inr, refl, sym, subst, arith, true≢false, ◌∙◌}
 use Rattle.std.specs.Prelude.{slice_get}
 use Rattle.std.proofs.lemmas.Bool.{and_parts}
 use Rattle.std.proofs.lemmas.Option.{none-some}
@@ -22,7 +22,8 @@ use Rattle.hp_reasons.proofs.TurnsSequence.{cut_in}
 use Rattle.hp_reasons.proofs.TurnsVisits.{told_on}
 
 -- so many turns
-module _ (known : AreServingsKnown) (set : Setting) (call : Asked) (sent until me : ℕ) (heeds : Bool) (is_sent : IsSent set call sent) where
+module _ (known : AreServingsKnown) (set : Setting) (call : Asked) (sent until me : ℕ) (heeds : Bool) (is_sent : IsSent set call sent)
+    (in_time : until ≤ sent + 3 * set.deadline) where
   pub turns_all : (turns : ℕ) (old new : SoloView) (party after : Party) (steps : List MailStep) (world : World) → IsWorldOf old me party world
       → IsAtTurn set call sent world → Sequence me old steps new → AreTurns set.count until heeds turns party after steps
       → LeadsTo (IsAtTurn set call sent) new me after
@@ -37,7 +38,8 @@ module _ (known : AreServingsKnown) (set : Setting) (call : Asked) (sent until m
       let before = turns_all turns old cut.mid party are.0 are.1 world its at_turn cut.begins are.5 in
       let turn = cut_in me cut.mid new (Notes (Read are.3) ∷ are.2) (Notes (Read are.3) ∷ []) are.2 refl cut.ends in
       let read = read_on known me cut.mid turn.mid are.0 are.3 before.world turn.begins before.its in
-      turns_on known set call sent until me turn.mid new are.0 after are.2 are.4 before.world is_sent read.its before.holds turn.ends are.7
+      turns_on known set call sent until me turn.mid new are.0 after are.2 are.4 before.world is_sent in_time read.its before.holds turn.ends
+      are.7
 
 -- THE END OF A WAIT
 
@@ -60,7 +62,7 @@ module _ (set : Setting) (call : Asked) (sent now : ℕ) (heeds : Bool) (is_sent
   pub ends_stage : (stage : Stage set call sent true world) → is_ended stage ≡ true
   ends_stage (Stage.fresh clock unanswered coordinator alone to_do copies some empty doubled level) =
       absurd (waits_still unanswered (before_end (omega (arith, clock))))
-  ends_stage (Stage.lost unanswered coordinator alone to_do gone empty doubled back loses) = refl
+  ends_stage (Stage.lost clock unanswered coordinator alone to_do gone empty doubled back loses) = refl
   ends_stage (Stage.growing round holds kind from number unanswered coordinator its to_do clock bodies doubled follow awaited level) =
       absurd (waits_still unanswered (before_end (omega (arith, clock))))
   ends_stage
@@ -77,7 +79,9 @@ module _ (known : AreServingsKnown) (set : Setting) (call : Asked) (sent : ℕ) 
       → LeadsTo (HasComeOut set call sent now) new (asker call) after
   wait_ends turns now old new party after steps first world its at_turn sequence are waited did =
       let cut = cut_in (asker call) old new steps first (Notes (Read now) ∷ []) did sequence in
-      let before = turns_all known set call sent (waits_until sent set.deadline) (asker call) heeds is_sent turns old cut.mid party after first world its
+      let in_time : waits_until sent set.deadline ≤ sent + 3 * set.deadline = omega arith in
+      let before =
+      turns_all known set call sent (waits_until sent set.deadline) (asker call) heeds is_sent in_time turns old cut.mid party after first world its
       at_turn cut.begins are in
       let read = read_on known (asker call) cut.mid new after now before.world cut.ends before.its in
       record {

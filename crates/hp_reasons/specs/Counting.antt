@@ -1,9 +1,10 @@
 -- How often a plan loses messages, or doubles them. The rule "Reasons" of docs/PARTICIPANTS.md.
-use Rattle.std.specs.Prelude.{◌≡◌, ℕ, zero, suc, ◌+◌, ◌≤◌, Bool, true, false, ◌&&◌, ◌==◌, List, count_by, if◌then◌else◌}
+use Rattle.std.specs.Prelude.{◌≡◌, ℕ, zero, suc, ◌+◌, ◌≤◌, Bool, true, false, not, ◌&&◌, ◌==◌, List, count_by, if◌then◌else◌}
 use Rattle.hp_base.specs.Plans.{action_of, kind_place}
 use Rattle.hp_base.specs.declared.plan.Action.{Action}
 use Rattle.hp_base.specs.declared.plan.Action.TheVariants.{Deliver, Lose, Repeat}
 use Rattle.hp_base.specs.declared.plan_entry.MsgKind.{MsgKind}
+use Rattle.hp_base.specs.declared.plan_entry.MsgKind.TheVariants as kinds
 use Rattle.hp_base.specs.declared.plan_entry.PlanEntry.{PlanEntry}
 use Rattle.hp_base.specs.declared.plan_entry.PlanEntry.TheVariants.{Message, Mapping}
 
@@ -18,10 +19,19 @@ is_doubled (Lose line) = false
 is_doubled (Repeat line) = true
 is_doubled Deliver = false
 
--- an entry of a plan loses a message of that kind that concerns the party, or doubles one
+-- there are messages of that kind that concern the party: participant 0 is sent no SYNC, and sends no reply
+abbrev pub is_sent : MsgKind → ℕ → Bool
+is_sent kinds.Alloc party = true
+is_sent kinds.Free party = true
+is_sent kinds.Sync party = not (party == 0)
+is_sent kinds.Reply party = not (party == 0)
+is_sent kinds.Answer party = true
+
+-- an entry of a plan loses a message of that kind that concerns the party, or doubles one; where there is none it has no effect
 abbrev pub entry_loses : MsgKind → ℕ → PlanEntry → Bool
 entry_loses kind party (Message its_kind its_party k twice line) =
-    (kind_place kind == kind_place its_kind) && ((party == its_party) && (if twice then false else true))
+    is_sent kind party
+    && ((kind_place kind == kind_place its_kind) && ((party == its_party) && (if twice then false else true)))
 entry_loses kind party (Mapping its_party call elsewhere line) = false
 
 abbrev pub entry_repeats : MsgKind → ℕ → PlanEntry → Bool
@@ -29,14 +39,14 @@ entry_repeats kind party (Message its_kind its_party k twice line) =
     (kind_place kind == kind_place its_kind) && ((party == its_party) && twice)
 entry_repeats kind party (Mapping its_party call elsewhere line) = false
 
--- the lines of a plan that lose a message of that kind that concerns the party, and those that double one
+-- the lines of a plan that lose a message of that kind that concerns the party, where there is one, and those that double one
 abbrev pub planned_losses : List PlanEntry → MsgKind → ℕ → ℕ
 planned_losses plan kind party = count_by (entry_loses kind party) plan
 
 abbrev pub planned_repeats : List PlanEntry → MsgKind → ℕ → ℕ
 planned_repeats plan kind party = count_by (entry_repeats kind party) plan
 
--- a plan loses no message
+-- a plan loses no message; lines that name a message that there is not lose none
 abbrev pub LosesNothing : List PlanEntry → Type 0
 LosesNothing plan = (kind : MsgKind) (party : ℕ) → planned_losses plan kind party ≡ 0
 
@@ -44,7 +54,7 @@ LosesNothing plan = (kind : MsgKind) (party : ℕ) → planned_losses plan kind 
 unfoldable pub lost_among : List PlanEntry → MsgKind → ℕ → ℕ → ℕ
 lost_among plan kind party zero = 0
 lost_among plan kind party (suc n) =
-    lost_among plan kind party n + (if is_lost (action_of plan kind party (suc n)) then 1 else 0)
+    lost_among plan kind party n + (if is_sent kind party && is_lost (action_of plan kind party (suc n)) then 1 else 0)
 
 unfoldable pub doubled_among : List PlanEntry → MsgKind → ℕ → ℕ → ℕ
 doubled_among plan kind party zero = 0

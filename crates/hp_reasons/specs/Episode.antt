@@ -1,5 +1,5 @@
 -- What stands while participants of one thread wait for the answer to an ask or a notice. The rule "Reasons" of docs/PARTICIPANTS.md.
-use Rattle.std.specs.Prelude.{◌≡◌, ◌≢◌, ℕ, ◌+◌, ◌-◌, ◌<◌, ◌≤◌, ◌⊎◌, ⊤, Bool, true, false, ◌&&◌, ◌||◌, ◌==◌, List, [], ◌∷◌, length, replicate, count_by, Option, Some, None, is_some, if◌then◌else◌, slice_get, slice_index_or, slice_set}
+use Rattle.std.specs.Prelude.{◌≡◌, ◌≢◌, ℕ, ◌+◌, ◌-◌, ◌*◌, ◌<◌, ◌≤◌, ◌⊎◌, ⊤, Bool, true, false, ◌&&◌, ◌||◌, ◌==◌, List, [], ◌∷◌, length, replicate, count_by, Option, Some, None, is_some, if◌then◌else◌, slice_get, slice_index_or, slice_set}
 use Rattle.std.specs.List.{All, list_any}
 use Rattle.hp_base.specs.declared.limits.TheConstants.{MAX_COUNT, MAX_DEADLINE}
 use Rattle.hp_base.specs.declared.map_answer.MapAnswer.{MapAnswer}
@@ -32,7 +32,7 @@ use Rattle.hp_proc.specs.Frames.{Says}
 use Rattle.hp_proc.specs.Party.{Party}
 use Rattle.hp_proc.specs.Posting.{times_sent}
 use Rattle.hp_reasons.specs.Counting.{LosesNothing, doubled_among, lost_among}
-use Rattle.hp_reasons.specs.Outcomes.{late_outcomes, stale_outcomes, unanswered_among, withdrawn_outcomes}
+use Rattle.hp_reasons.specs.Outcomes.{IsApart, late_outcomes, stale_outcomes, unanswered_among, withdrawn_outcomes}
 use Rattle.hp_reasons.specs.Failing.{AreGrantsWithin}
 use Rattle.hp_reasons.specs.Shared.{Shared}
 
@@ -122,6 +122,7 @@ pub record IsBase (set : Setting) (world : World) : Type 0 where
   pub noted : (cause : Cause) → noted_failure world.shared.segs ≡ Some cause → IsNotedCall world cause
   pub excused : (who : ℕ) (primary party : Party) → slice_get world.parties 0 ≡ Some primary → slice_get world.parties who ≡ Some party
       → IsExcused set world who primary party
+  pub apart : All (IsApart set.deadline) world.shared.segs.asks
 
 -- the body is that ask, or that notice
 abbrev pub IsCopy : Asked → Body → Type 0
@@ -301,7 +302,7 @@ pub data Stage (set : Setting) (call : Asked) (sent : ℕ) (leads : Bool) (world
       → world.shared.segs.growth ≡ None → IsToDo call world → All (IsCopy call) (mail_of world 0) → 0 < length (mail_of world 0)
       → AreOthersEmpty world → AreDoubled set world call false true → StartsLevel set call world → Stage set call sent leads world
   -- it was lost
-  lost : IsUnanswered call world → HasCoordinator set world Idle call false → world.shared.segs.growth ≡ None → IsToDo call world
+  lost : world.shared.clock ≤ sent + 3 * set.deadline → IsUnanswered call world → HasCoordinator set world Idle call false → world.shared.segs.growth ≡ None → IsToDo call world
       → mail_of world 0 ≡ [] → AreOthersEmpty world → AreDoubled set world call false false → MayBeTakenBack set call world
       → (LosesNothing set.plan → ⊥) → Stage set call sent leads world
   -- its growth waits for its members

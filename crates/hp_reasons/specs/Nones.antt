@@ -67,5 +67,5 @@ NonesAreInVain = (workload : Workload) (answers : List Answer) (heaps : List Hea
 -- want alone
 abbrev pub RefusalsAreForWant : Type 0
 RefusalsAreForWant = (workload : Workload) (answers : List Answer) (heaps : List HeapView) (segs : SegsView) (tables : List Table)
-    → IsEnd workload answers heaps segs tables → HaveReasons workload.plan.items segs.asks → LosesNothing workload.plan.items
+    → IsEnd workload answers heaps segs tables → HaveReasons workload segs.asks → LosesNothing workload.plan.items
     → NoMappingFailed segs.asks → All IsRefusedForWant segs.asks

@@ -1,6 +1,6 @@
 -- How often growths were refused as late, how often asks were taken back or stale, and how many asks and notices have no outcome. The rule
 -- "Reasons" of docs/PARTICIPANTS.md.
-use Rattle.std.specs.Prelude.{ℕ, zero, suc, ◌+◌, Bool, true, false, ◌&&◌, ◌==◌, List, count_by, if◌then◌else◌}
+use Rattle.std.specs.Prelude.{◌≡◌, ℕ, zero, suc, ◌+◌, ◌*◌, ⊤, Bool, true, false, ◌&&◌, ◌==◌, List, count_by, if◌then◌else◌}
 use Rattle.std.specs.List.{list_any}
 use Rattle.hp_segs.specs.SegsView.{is_outcome_for, is_stale}
 use Rattle.hp_segs.specs.declared.outcome.AskLog.{AskLog}
@@ -45,6 +45,16 @@ withdrawn_outcomes who asks = count_by (λ entry. (entry.from == who) && refuses
 
 abbrev pub stale_outcomes : ℕ → List AskLog → ℕ
 stale_outcomes who asks = count_by (λ entry. (entry.from == who) && is_stale entry.outcome) asks
+
+-- the two readings of a refusal: exactly one deadline apart where a participant was late, and three where an ask was taken back
+abbrev pub IsCauseApart : ℕ → Cause → Type 0
+IsCauseApart deadline (Late participant from to) = to ≡ from + deadline
+IsCauseApart deadline (Withdrawn from to) = to ≡ from + 3 * deadline
+IsCauseApart deadline _ = ⊤
+
+-- so they are in an outcome that is such a refusal
+abbrev pub IsApart : ℕ → AskLog → Type 0
+IsApart deadline entry = (cause : Cause) → entry.outcome ≡ Refused cause → IsCauseApart deadline cause
 
 -- how many of the first asks and notices of that participant, so many, have no outcome but stale ones
 unfoldable pub unanswered_among : List AskLog → ℕ → ℕ → ℕ

@@ -57,7 +57,7 @@ StartsFresh = (set : Setting) (call : Asked) (sent : ℕ) (event : CoreEvent) (w
 -- a further copy may come: one of a fresh ask is started instead, and of one that was lost there is none
 abbrev pub HasRoomFor : (set : Setting) (call : Asked) (sent : ℕ) (leads : Bool) (world : World) → Stage set call sent leads world → Type 0
 HasRoomFor set call sent leads world (Stage.fresh clock unanswered coordinator alone to_do copies some empty doubled level) = ⊥
-HasRoomFor set call sent leads world (Stage.lost unanswered coordinator alone to_do none empty doubled taken_back loses) = ⊥
+HasRoomFor set call sent leads world (Stage.lost clock unanswered coordinator alone to_do none empty doubled taken_back loses) = ⊥
 HasRoomFor set call sent leads world
     (Stage.growing round holds kind from number unanswered coordinator its to_do clock bodies doubled follow awaited level) =
     HasOneMore set world call holds
@@ -76,7 +76,7 @@ TakesACopy = (set : Setting) (call : Asked) (sent : ℕ) (event : CoreEvent) (wo
 -- a poll may come: who has a SYNC of a settling round in its mailbox has not acknowledged the round
 abbrev pub MayPoll : (set : Setting) (call : Asked) (sent : ℕ) (leads : Bool) (world : World) → Stage set call sent leads world → Type 0
 MayPoll set call sent leads world (Stage.fresh clock unanswered coordinator alone to_do copies some empty doubled level) = ⊤
-MayPoll set call sent leads world (Stage.lost unanswered coordinator alone to_do none empty doubled taken_back loses) = ⊤
+MayPoll set call sent leads world (Stage.lost clock unanswered coordinator alone to_do none empty doubled taken_back loses) = ⊤
 MayPoll set call sent leads world
     (Stage.growing round holds kind from number unanswered coordinator its to_do clock bodies doubled follow awaited level) = ⊤
 MayPoll set call sent leads world

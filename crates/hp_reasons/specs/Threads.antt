@@ -3,7 +3,6 @@ use Rattle.std.specs.Prelude.{◌≡◌, ℕ, ◌+◌, ◌<◌, ◌≤◌, ◌^�
 use Rattle.std.specs.List.{All}
 use Rattle.hp_base.specs.declared.limits.TheConstants.{MAX_HEAPS}
 use Rattle.hp_base.specs.declared.plan_entry.MsgKind.TheVariants as message
-use Rattle.hp_base.specs.declared.plan_entry.PlanEntry.{PlanEntry}
 use Rattle.hp_heap.specs.History.{HeapView}
 use Rattle.hp_plain.specs.HallView.{HasDone, heard_in, part_in, seen_in, segs_in, slot_at}
 use Rattle.hp_proc.specs.LinesDone.{Course}
@@ -23,7 +22,7 @@ use Rattle.hp_reasons.specs.Counting.{LosesNothing, planned_losses, planned_repe
 use Rattle.hp_reasons.specs.Episode.{IsCounted, IsSetting, Setting, World}
 use Rattle.hp_reasons.specs.Quiet.{IsQuietWorld}
 use Rattle.hp_reasons.specs.Lines.{ActsInQuiet, AreWaitsQuiet, LinesOweNothing}
-use Rattle.hp_reasons.specs.Outcomes.{late_outcomes, stale_outcomes, withdrawn_outcomes}
+use Rattle.hp_reasons.specs.Outcomes.{IsApart, late_outcomes, stale_outcomes, withdrawn_outcomes}
 use Rattle.hp_reasons.specs.Shared.{IsSharedIn}
 use Rattle.hp_reasons.specs.Worlds.{IsInOrder}
 
@@ -65,11 +64,14 @@ pub data OneThread (first : SoloView) : List Course → SoloView → Type 0 wher
       → OneThread first (courses ++ record { line = line; answer = answer; trace = does.does.does.trace } ∷ []) new
   rests : (courses : List Course) (old new : SoloView) → OneThread first courses old → Drains old new → OneThread first courses new
 
--- growths were refused as late, and asks taken back or stale, at most as often as a plan loses or repeats messages
-pub record HaveReasons (plan : List PlanEntry) (asks : List AskLog) : Type 0 where
-  pub late : (who : ℕ) → late_outcomes who asks ≤ planned_losses plan message.Sync who
-  pub withdrawn : (who : ℕ) → withdrawn_outcomes who asks ≤ planned_losses plan message.Alloc who
-  pub stale : (who : ℕ) → stale_outcomes who asks ≤ planned_repeats plan message.Alloc who + planned_repeats plan message.Free who
+-- growths were refused as late, and asks taken back or stale, at most as often as a workload's plan loses or repeats messages; and who was late
+-- was so by readings that are exactly its deadline apart, and what was taken back by readings three deadlines apart
+pub record HaveReasons (workload : Workload) (asks : List AskLog) : Type 0 where
+  pub late : (who : ℕ) → late_outcomes who asks ≤ planned_losses workload.plan.items message.Sync who
+  pub withdrawn : (who : ℕ) → withdrawn_outcomes who asks ≤ planned_losses workload.plan.items message.Alloc who
+  pub stale : (who : ℕ) → stale_outcomes who asks
+      ≤ planned_repeats workload.plan.items message.Alloc who + planned_repeats workload.plan.items message.Free who
+  pub apart : All (IsApart workload.deadline) asks
 
 -- nothing is left to do: nothing of what was given up is left, and who is attached has taken in all records
 pub record IsAllDone (segs : SegsView) (servers : List ServerView) : Type 0 where
@@ -121,7 +123,7 @@ pub record MayRun (workload : Workload) (courses : List Course) : Type 0 where
 abbrev pub ThreadsHaveReasons : Type 0
 ThreadsHaveReasons = (workload : Workload) (first last : SoloView) (courses : List Course) (parties : List Party) (segs : SegsView)
     → MayRun workload courses → OpensThread workload first → OneThread first courses last → SoFar workload courses parties last.plain
-    → segs_in (slot_at last.plain MAX_HEAPS) ≡ Some segs → HaveReasons workload.plan.items segs.asks
+    → segs_in (slot_at last.plain MAX_HEAPS) ≡ Some segs → HaveReasons workload segs.asks
 
 -- and in every one whose plan loses no message nothing is left to do behind the last line
 abbrev pub ThreadsEndLevel : Type 0

@@ -1,5 +1,5 @@
 -- What a turn, a wait, an ask and a notice make of a world. The rule "Reasons" of docs/PARTICIPANTS.md.
-use Rattle.std.specs.Prelude.{◌≡◌, ◌<◌, ◌≤◌, ◌^◌, ℕ, Bool, true, false, List, Option, Some, None, slice_get}
+use Rattle.std.specs.Prelude.{◌≡◌, ◌+◌, ◌*◌, ◌<◌, ◌≤◌, ◌^◌, ℕ, Bool, true, false, List, Option, Some, None, slice_get}
 use Rattle.hp_base.specs.declared.row.Run.{Run}
 use Rattle.hp_core.specs.Asks.{asker}
 use Rattle.hp_core.specs.Core.{Core}
@@ -21,7 +21,7 @@ use Rattle.hp_reasons.specs.Worlds.{CoursesGoAlong, IsWorldOf}
 -- the stage is the last one: nothing is under way
 abbrev pub is_last : {set : Setting} {call : Asked} {sent : ℕ} {leads : Bool} {world : World} → Stage set call sent leads world → Bool
 is_last (Stage.fresh _ _ _ _ _ _ _ _ _ _) = false
-is_last (Stage.lost _ _ _ _ _ _ _ _ _) = false
+is_last (Stage.lost _ _ _ _ _ _ _ _ _ _) = false
 is_last (Stage.growing _ _ _ _ _ _ _ _ _ _ _ _ _ _ _) = false
 is_last (Stage.settling _ _ _ _ _ _ _ _ _ _ _ _ _ _ _ _ _ _) = false
 is_last (Stage.over _ _ _ _ _ _ _ _ _) = true
@@ -29,7 +29,7 @@ is_last (Stage.over _ _ _ _ _ _ _ _ _) = true
 -- nothing will be under way any more
 abbrev pub is_ended : {set : Setting} {call : Asked} {sent : ℕ} {leads : Bool} {world : World} → Stage set call sent leads world → Bool
 is_ended (Stage.fresh _ _ _ _ _ _ _ _ _ _) = false
-is_ended (Stage.lost _ _ _ _ _ _ _ _ _) = true
+is_ended (Stage.lost _ _ _ _ _ _ _ _ _ _) = true
 is_ended (Stage.growing _ _ _ _ _ _ _ _ _ _ _ _ _ _ _) = false
 is_ended (Stage.settling _ _ _ _ _ _ _ _ _ _ _ _ _ _ _ _ _ _) = false
 is_ended (Stage.over _ _ _ _ _ _ _ _ _) = true
@@ -78,11 +78,11 @@ pub record AreServingsKnown : Type 0 where
 
 -- WHAT IS TO BE SHOWN
 
--- a turn goes on from stage to stage
+-- a turn of a wait, which is no longer than three deadlines, goes on from stage to stage
 abbrev pub TurnsOn : Type 0
 TurnsOn = AreServingsKnown → (set : Setting) (call : Asked) (sent until me : ℕ) (old new : SoloView) (party after : Party) (steps : List MailStep)
-    (moved : Bool) (world : World) → IsSent set call sent → IsWorldOf old me party world → IsAtTurn set call sent world
-    → Sequence me old steps new → IsTurned set.count until party after steps (Some moved) → LeadsTo (IsAtTurn set call sent) new me after
+    (moved : Bool) (world : World) → IsSent set call sent → until ≤ sent + 3 * set.deadline → IsWorldOf old me party world
+    → IsAtTurn set call sent world → Sequence me old steps new → IsTurned set.count until party after steps (Some moved) → LeadsTo (IsAtTurn set call sent) new me after
 
 -- the wait of an ask's asker ends at a turn; by its answer, or by three deadlines, the ask is over, or it was lost
 abbrev pub WaitsOut : Type 0

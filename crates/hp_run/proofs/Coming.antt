@@ -6,6 +6,7 @@ use Rattle.std.proofs.lemmas.Bool.{cases_eq, cases_lt}
 use Rattle.std.proofs.lemmas.List.{length-replicate}
 use Rattle.std.proofs.lemmas.Nat.Bits.{bit_at_lowest}
 use Rattle.std.proofs.lemmas.Option.{slice_get-map, slice_get_past, slice_get_within}
+use Rattle.hp_base.specs.Mapping.{FailingCall}
 use Rattle.hp_plain.specs.HallView.{HallView, own_at}
 use Rattle.hp_hall.specs.Own.{Own, after_ack}
 use Rattle.hp_log.specs.declared.log_record.LogRecord.{LogRecord}
@@ -60,14 +61,14 @@ nobody_at (suc count) zero within = refl
 nobody_at (suc count) (suc who) within = nobody_at count who (omega arith)
 
 -- those below a number have come, and nobody else
-pub record HaveComeBelow (workload : Workload) (mappers : List (Option (List ℕ))) (who : ℕ) (servers : List ServerView) : Type 0 where
+pub record HaveComeBelow (workload : Workload) (mappers : List (Option (List FailingCall))) (who : ℕ) (servers : List ServerView) : Type 0 where
   pub parties : List Party
   pub count : length parties ≡ who
   pub each : (other : ℕ) (party : Party) → slice_get parties other ≡ Some party → IsPartyOver workload mappers other party
   pub come : (other : ℕ) → other < who → server_at servers other ≡ option_map place_of (slice_get parties other)
   pub free : (other : ℕ) → who ≤ other → server_at servers other ≡ server_at (replicate workload.participants nobody) other
 
-module _ (workload : Workload) (mappers : List (Option (List ℕ))) where
+module _ (workload : Workload) (mappers : List (Option (List FailingCall))) where
   pub none_come : (servers : List ServerView) → servers ≡ replicate workload.participants nobody
       → HaveComeBelow workload mappers 0 servers
   none_come servers is = record {
@@ -146,7 +147,7 @@ first_table : (joined : Bool) → part_of joined nothing_yet ≡ nothing_yet
 first_table true = refl
 first_table false = refl
 
-module _ (workload : Workload) (who : ℕ) (may_fail : Option (List ℕ)) (party : Party) (planned : IsPlannedParty workload who may_fail party)
+module _ (workload : Workload) (who : ℕ) (may_fail : Option (List FailingCall)) (party : Party) (planned : IsPlannedParty workload who may_fail party)
   where
     pub number_planned : party.me ≡ who
     number_planned = ap (λ (party : Party). party.me) planned.is
@@ -201,7 +202,7 @@ pub one_less : {X : Type 0} (xs : List X) (place : ℕ) → drop 1 (drop place x
 one_less xs place = one_dropped xs place ∙ ap (λ (n : ℕ). drop n xs) (sym (add-one place))
 
 -- one that is made by the plan is a first one
-first_made : (workload : Workload) (who : ℕ) (may_fail : Option (List ℕ)) (party : Party) → IsPlannedParty workload who may_fail party
+first_made : (workload : Workload) (who : ℕ) (may_fail : Option (List FailingCall)) (party : Party) → IsPlannedParty workload who may_fail party
     → IsFirstParty workload who party
 first_made workload who may_fail party planned = record {
   maps = planned.maps;
@@ -214,7 +215,7 @@ first_made workload who may_fail party planned = record {
 }
 
 -- they have done no line yet
-pub opens_so : (workload : Workload) (mappers : List (Option (List ℕ))) (hall : SoloView) → OpensSoFar → IsRunnable workload
+pub opens_so : (workload : Workload) (mappers : List (Option (List FailingCall))) (hall : SoloView) → OpensSoFar → IsRunnable workload
     → IsFirstHall workload hall → HaveCome workload mappers hall.servers → HaveDoneLines workload [] [] hall
 opens_so workload mappers hall law runnable first come = record {
   parties = come.parties;

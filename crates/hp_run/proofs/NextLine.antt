@@ -28,21 +28,18 @@ use Rattle.hp_proc.specs.Courses.{Standing, after_line, calls_in, element_brough
 use Rattle.hp_proc.specs.Doing.{Done}
 use Rattle.hp_proc.specs.LinesDone.{Course, courses_of, opening_standing, standing_after}
 use Rattle.hp_proc.specs.Party.{Party}
-use Rattle.hp_proc.specs.Progress.{IsLineBuilt}
+use Rattle.hp_proc.specs.Progress.{IsLineBuilt, MayComeAndGo}
 use Rattle.hp_proc.specs.declared.own_element.OwnElement.{OwnElement}
 use Rattle.hp_joint.specs.SoFar.{SoFar, first_hall, first_segs}
 use Rattle.hp_run.specs.Running.{IsRunnable}
 
 -- THE LINE IS ONE OF THOSE THAT ARE BUILT, AND STANDS BEHIND THE OTHERS
 
-line_built : (who : ℕ) (deed : Act) → IsBuiltAct deed → IsActOf who deed → IsLineBuilt who deed
-line_built who (act.Alloc label size options) built of = tt
-line_built who (act.Free label) built of = tt
-line_built who (act.Resize label size) built of = tt
-line_built who act.Attach built of = omega (arith, of.0)
-line_built who act.Detach built of = omega (arith, of.0)
-line_built who (act.Dump heap) built of = tt
-line_built who _ built of = absurd built
+-- who attaches or detaches is not participant 0
+may_come : (who : ℕ) (deed : Act) → IsActOf who deed → MayComeAndGo who deed
+may_come who act.Attach of = omega (arith, of.0)
+may_come who act.Detach of = omega (arith, of.0)
+may_come who _ of = tt
 
 -- a line of a workload that can be run is of a declared participant, and one of those that are built
 declared_at : (count : ℕ) (lines : List Line) (place : ℕ) (line : Line) → AreDeclared count lines → place < length lines
@@ -57,11 +54,12 @@ module _ (workload : Workload) (place : ℕ) (line : Line) (runnable : IsRunnabl
   line_declared = declared_at workload.participants workload.lines.items place line runnable.declared within is
 
   pub line_can : IsLineBuilt line.participant line.act
-  line_can =
-      line_built line.participant line.act
-      (subst (λ (l : Line). IsBuiltAct l.act) (sym is)
-      (All-get_or (λ (l : Line). IsBuiltAct l.act) workload.lines.items place line within runnable.built))
-      (subst IsLineOf (sym is) (All-get_or IsLineOf workload.lines.items place line within runnable.acts))
+  line_can = (
+    subst (λ (l : Line). IsBuiltAct l.act) (sym is)
+        (All-get_or (λ (l : Line). IsBuiltAct l.act) workload.lines.items place line within runnable.built),
+    may_come line.participant line.act
+        (subst IsLineOf (sym is) (All-get_or IsLineOf workload.lines.items place line within runnable.acts)),
+  )
 
 -- an element is of a line below a number
 abbrev IsBelow : ℕ → OwnElement → Type 0

@@ -40,7 +40,7 @@ may_run workload courses runnable lines_are = record {
 -- so it is behind its last line
 pub reasons_so : (workload : Workload) (answers : List Answer) (last : SoloView) (segs : SegsView) → IsRunnable workload
     → ThreadsHaveReasons → HaveDoneLines workload workload.lines.items answers last → segs_in (slot_at last.plain MAX_HEAPS) ≡ Some segs
-    → HaveReasons workload.plan.items segs.asks
+    → HaveReasons workload segs.asks
 reasons_so workload answers last segs runnable law done shown =
     law workload done.thread.first last done.courses done.parties segs (may_run workload done.courses runnable done.lines_are)
     done.thread.opens done.thread.thread done.so_far shown

@@ -46,7 +46,7 @@ accepted_as bytes workload read limits pools plan absent lines declared acts non
       done = rw (nowhere.whole, later_read bytes workload read nowhere, none) refl;
       read = read;
       runnable = record {
-        built = built_when_none_later bytes workload read none;
+        built = built_when_none_later workload none;
         limits = limits;
         pools = pools;
         plan = plan;

@@ -2,6 +2,7 @@
 -- left to do where the plan loses no message, and why allocations found no memory. The rules "Together" and "Reasons" of docs/PARTICIPANTS.md.
 use Rattle.std.specs.Prelude.{◌≡◌, ◌<◌, ℕ, true, false, List, length, Option}
 use Rattle.std.specs.List.{All}
+use Rattle.hp_base.specs.Mapping.{FailingCall}
 use Rattle.hp_base.specs.declared.plan_entry.PlanEntry.{PlanEntry}
 use Rattle.hp_heap.specs.History.{HeapView}
 use Rattle.hp_maps.specs.declared.table.Table.{Table}
@@ -23,15 +24,15 @@ use Rattle.hp_reasons.specs.Notices.{NoticesAreHeard}
 use Rattle.hp_reasons.specs.Threads.{HaveReasons}
 use Rattle.hp_run.specs.Failures.{AreFailuresNamed, AreRefusalsNamed, FailAsMay, FailOnce, IsFailureNamed, RefuseAsMay, RefuseOnce}
 
--- a mapping failed only at a call that the plan names, or over a mapper that is not steady, and at no call twice: for a growth, and for a
--- line that attaches
-pub record AreNamed (workload : Workload) (mappers : List (Option (List ℕ))) (answers : List Answer) (segs : SegsView) : Type 0 where
+-- a mapping failed only at a call that the plan names, and was answered as the plan says, or over a mapper that is not steady, and at no call
+-- twice: for a growth, and for a line that attaches
+pub record AreNamed (workload : Workload) (mappers : List (Option (List FailingCall))) (answers : List Answer) (segs : SegsView) : Type 0 where
   pub failures : AreFailuresNamed workload.plan.items mappers segs.asks
   pub once : FailOnce segs.asks
   pub refusals : AreRefusalsNamed workload.plan.items mappers workload.lines.items answers
   pub refused_once : RefuseOnce workload.lines.items answers
 
--- a mapping failed only at a call at which the mapper of its participant may fail, and at no call twice
+-- a mapping failed only at a call at which the mapper of its participant may answer so, and at no call twice
 pub record AreAsMay (workload : Workload) (servers : List ServerView) (answers : List Answer) (segs : SegsView) : Type 0 where
   pub failures : FailAsMay servers segs.asks
   pub once : FailOnce segs.asks
@@ -52,13 +53,13 @@ pub record IsLevelEnd (segs : SegsView) (tables : List Table) : Type 0 where
   pub taken_in : All (λ table. table.joined ≡ true → table.number ≡ length segs.log) tables
 
 -- no mapping may fail: the plan names no mapping call, and each mapper that was handed in is steady
-abbrev pub NoMappingMayFail : List PlanEntry → List (Option (List ℕ)) → Type 0
+abbrev pub NoMappingMayFail : List PlanEntry → List (Option (List FailingCall)) → Type 0
 NoMappingMayFail plan mappers = (participant call : ℕ) → IsFailureNamed plan mappers participant call → ⊥
 
 -- an allocation that is answered that there is no memory found no address in its heaps and was granted nothing (that it tried all of them,
 -- and all page sizes, is in what its line does); and where the plan loses no message and no mapping may fail, asks were refused for want of a
 -- list, of pages, of slots or of a place alone
-pub record HaveWants (workload : Workload) (mappers : List (Option (List ℕ))) (courses : List Course) (asks : List AskLog) : Type 0 where
+pub record HaveWants (workload : Workload) (mappers : List (Option (List FailingCall))) (courses : List Course) (asks : List AskLog) : Type 0 where
   pub vain : (who : ℕ) → who < workload.participants → All IsNoneInVain (courses_of who courses)
   pub want : LosesNothing workload.plan.items → NoMappingMayFail workload.plan.items mappers → All IsRefusedForWant asks
 
@@ -89,12 +90,12 @@ pub record HasRestored (workload : Workload) (segs : SegsView) (tables : List Ta
 -- where the plan loses no message and no mapping may fail, asks were refused for want of a list, of pages, of slots or of a place alone.
 -- Each run that was given up has gone back, as its notice's outcome says, but for as many as the plan loses of its participant's messages; and
 -- a growth that failed left all else as the other calls meanwhile would have left it
-pub record IsRunEnd (workload : Workload) (mappers : List (Option (List ℕ))) (answers : List Answer) (heaps : List HeapView)
+pub record IsRunEnd (workload : Workload) (mappers : List (Option (List FailingCall))) (answers : List Answer) (heaps : List HeapView)
     (segs : SegsView) (tables : List Table) : Type 0 where
   pub end : IsSoloEnd workload answers heaps segs tables
   pub named : AreNamed workload mappers answers segs
   pub agreed : IsAgreed heaps segs tables
-  pub reasons : HaveReasons workload.plan.items segs.asks
+  pub reasons : HaveReasons workload segs.asks
   pub level : LosesNothing workload.plan.items → IsLevelEnd segs tables
   pub wants : HaveWants workload mappers end.end.courses segs.asks
   pub notices : NoticesAreHeard workload.plan.items end.end.courses segs.asks

@@ -1,5 +1,6 @@
 -- What a run begins with: its heaps, its hall, and its participants. The rule "Turns in one thread" of docs/PARTICIPANTS.md.
 use Rattle.std.specs.Prelude.{◌≡◌, ℕ, List, [], Option, Some, length, replicate, slice_get}
+use Rattle.hp_base.specs.Mapping.{FailingCall}
 use Rattle.hp_base.specs.declared.limits.TheConstants.{MAX_SEGMENTS}
 use Rattle.hp_heap.specs.History.{HeapView, IsSound}
 use Rattle.hp_heap.specs.PlainHeap.{opening_heap}
@@ -37,20 +38,20 @@ pub record IsFirstTable (maps : MapsView) : Type 0 where
 
 -- a participant before its first line, over such a table, by the plan of its workload: its table is over a mapper that fails by that plan,
 -- and else may fail at those calls
-pub record IsPlannedParty (workload : Workload) (who : ℕ) (may_fail : Option (List ℕ)) (party : Party) : Type 0 where
+pub record IsPlannedParty (workload : Workload) (who : ℕ) (may_fail : Option (List FailingCall)) (party : Party) : Type 0 where
   pub maps : MapsView
   pub table : IsFirstTable maps
   pub fails : maps.may_fail ≡ may_fail_by workload.plan.items who may_fail
   pub is : party ≡ first_party workload who maps workload.plan.items
 
 -- and it is over the mapper that has its place among these
-pub record IsPartyOver (workload : Workload) (mappers : List (Option (List ℕ))) (who : ℕ) (party : Party) : Type 0 where
-  pub may_fail : Option (List ℕ)
+pub record IsPartyOver (workload : Workload) (mappers : List (Option (List FailingCall))) (who : ℕ) (party : Party) : Type 0 where
+  pub may_fail : Option (List FailingCall)
   pub its : slice_get mappers who ≡ Some may_fail
   pub planned : IsPlannedParty workload who may_fail party
 
 -- all participants have come to their places before the first line, each over its mapper
-pub record HaveCome (workload : Workload) (mappers : List (Option (List ℕ))) (servers : List ServerView) : Type 0 where
+pub record HaveCome (workload : Workload) (mappers : List (Option (List FailingCall))) (servers : List ServerView) : Type 0 where
   pub parties : List Party
   pub are : AreParties servers parties
   pub count : length parties ≡ workload.participants

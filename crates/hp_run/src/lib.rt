@@ -10,4 +10,4 @@ mod running;
 mod top_call;
 
 pub use mappers::mem_mappers;
-pub use top_call::top;
+pub use top_call::{solo, top};

@@ -1,7 +1,7 @@
 //! The mappers of a run whose tables lie in memory alone.
 ghost use Rattle.std.specs.Prelude.{◌≡◌, IfOk, Some, length};
 ghost use Rattle.std.specs.List.{All};
-ghost use Rattle.hp_base.specs.Mapping.{IsSteady, owned};
+ghost use Rattle.hp_base.specs.Mapping.{IsSteady, owned, refusals_at};
 ghost use Rattle.hp_base.specs.declared.limits.TheConstants.{MAX_PARTICIPANTS};
 ghost use Rattle.hp_run.specs.Mappers.{IsUnused};
 
@@ -13,7 +13,7 @@ pub fn mem_mappers(alloc: Global) -> Result<Vec<MemMapper>, AllocError>
     ensures count { IfOk result (λ mappers. length mappers.items ≡ MAX_PARTICIPANTS) }
     ensures unused { IfOk result (λ mappers.
         All (λ mapper. IsUnused (owned mapper.rows) mapper.answers mapper.capacity) mappers.items) }
-    ensures steady { IfOk result (λ mappers. All (λ mapper. IsSteady (Some mapper.fails)) mappers.items) }
+    ensures steady { IfOk result (λ mappers. All (λ mapper. IsSteady (Some (refusals_at mapper.fails))) mappers.items) }
 {
     let mut mappers = Vec::with_capacity(alloc, MAX_PARTICIPANTS as usize)?;
     for _participant in 0..MAX_PARTICIPANTS {
@@ -25,7 +25,7 @@ pub fn mem_mappers(alloc: Global) -> Result<Vec<MemMapper>, AllocError>
 // One of them.
 fn mem_mapper(alloc: Global) -> Result<MemMapper, AllocError>
     ensures unused { IfOk result (λ mapper. IsUnused (owned mapper.rows) mapper.answers mapper.capacity) }
-    ensures steady { IfOk result (λ mapper. IsSteady (Some mapper.fails)) }
+    ensures steady { IfOk result (λ mapper. IsSteady (Some (refusals_at mapper.fails))) }
 {
     MemMapper::new(alloc, MAX_SEGMENTS as usize)
 }

@@ -214,7 +214,7 @@ fn run_in<'p, M: Mapper>(
     ensures end { IfOk result (λ left.
         IsHeardEnd workload.now left.answers.items left.heaps.items left.segs left.tables.items) }
     ensures named { IfOk result (λ left. AreAsMay workload.now hall.entry.servers left.answers.items left.segs) }
-    ensures reasons { IfOk result (λ left. HaveReasons workload.now.plan.items left.segs.asks) }
+    ensures reasons { IfOk result (λ left. HaveReasons workload.now left.segs.asks) }
     ensures level { IfOk result (λ left.
         LosesNothing workload.now.plan.items → IsLevelEnd left.segs left.tables.items) }
 {

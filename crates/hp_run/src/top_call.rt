@@ -6,7 +6,7 @@ ghost use Rattle.hp_run.specs.Mappers.{IsUnused};
 ghost use Rattle.hp_base.specs.Streams.{CountsFault, HasRisen};
 ghost use Rattle.hp_run.specs.declared.reading.TheConstants.{LIMIT};
 ghost use Rattle.hp_run.specs.Faults.{is_read_fault, is_write_fault};
-ghost use Rattle.hp_run.specs.Outcome.{Ends, IsAcceptedAs, IsAnswered, IsEndFor, IsFaultOf, IsUnlessFailure, IsWritten, is_solo, status_of};
+ghost use Rattle.hp_run.specs.Outcome.{Ends, IsAcceptedAs, IsAnswered, IsEndFor, IsFaultOf, IsPut, IsUnlessFailure, IsWritten, SoloEnds, is_solo, solo_status_of, status_of};
 ghost use Rattle.hp_run.specs.Refusals.{refusal_of, refusal_text};
 ghost use Rattle.hp_report.specs.Report.{report};
 
@@ -55,6 +55,35 @@ pub fn top<S: Source, K: Sink, M: Mapper>(
     if !is_solo(words) {
         return written(sink, USAGE, Status::Usage);
     }
+    solo(alloc, source, sink, mappers)
+}
+
+/// Reads a workload, runs it in one thread, and writes its report, or why it is refused: what `top` does for the word `solo`. Each
+/// participant's table is over the mapper that has its place among these. Own.
+pub fn solo<S: Source, K: Sink, M: Mapper>(
+    alloc: Global,
+    source: &mut S,
+    sink: &mut K,
+    mappers: Vec<M>,
+) -> Status
+    requires count { length mappers.items ≡ MAX_PARTICIPANTS }
+    requires unused { All (λ mapper. IsUnused (M.held mapper) (M.answers mapper) (M.capacity mapper)) mappers.items }
+
+    // What each status says of the mappers, the source and the sink. It is never that of a usage text.
+    ensures outcome { SoloEnds (map M.may_fail mappers.items) (S.left source.old) (S.left source.new)
+        (K.held sink.old) (K.held sink.new)
+        (HasRisen (S.faults source.old) (S.faults source.new))
+        (HasRisen (K.faults sink.old) (K.faults sink.new)) result }
+
+    // Which status it is, where the source tells its bytes, and reading, writing and memory do not fail.
+    ensures settled { IfSome (S.left source.old) (λ input. IsUnlessFailure (solo_status_of input) result) }
+
+    // The source's count of faults rises where reading failed, the sink's where writing did. Else they stay.
+    ensures source_faults { CountsFault (S.faults source.old) (S.faults source.new)
+        (is_read_fault result) }
+    ensures sink_faults { CountsFault (K.faults sink.old) (K.faults sink.new)
+        (is_write_fault result) }
+{
     match read_whole(alloc, source) {
         Ok(bytes) => answered(alloc, bytes.as_slice(), sink, mappers),
         Err(ReadFault::Failed) => Status::ReadFault,
@@ -161,7 +190,7 @@ fn accepted<'a>(alloc: Global, bytes: &'a [u8]) -> Result<Workload<'a>, RunFault
 // Writes a text, and gives the status that goes with it where that did not fail.
 fn written<K: Sink>(sink: &mut K, text: &[u8], status: Status) -> Status
     requires { is_write_fault status ≡ false }
-    ensures written { IsWritten status text.now (K.held sink.old) (K.held sink.new)
+    ensures written { IsPut status text.now (K.held sink.old) (K.held sink.new)
         (HasRisen (K.faults sink.old) (K.faults sink.new)) result }
     ensures faults { CountsFault (K.faults sink.old) (K.faults sink.new)
         (is_write_fault result) }

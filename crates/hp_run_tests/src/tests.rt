@@ -136,15 +136,7 @@ fn leaves_a_source_that_gives_too_much(rt: HostRuntime) -> Result<(), Fail> {
         let bytes = vec![in rt.alloc(); b'0'; len]?;
         let mut source = MemSource::new(bytes, 70_000, Vec::new(rt.alloc()));
         let mut sink = MemSink::new(rt.alloc(), 100, Vec::new(rt.alloc()));
-        let words = vec![in rt.alloc(); String::from_str(rt.alloc(), "solo")?]?;
-        let mappers = mem_mappers(rt.alloc())?;
-        let status = top(
-            rt.alloc(),
-            words.as_slice(),
-            &mut source,
-            &mut sink,
-            mappers,
-        );
+        let status = solo(rt.alloc(), &mut source, &mut sink, mem_mappers(rt.alloc())?);
         assert!(rt; status == Status::TooLong);
         assert!(rt; source.left().len() == left);
         assert!(rt; sink.bytes().len() == 0);

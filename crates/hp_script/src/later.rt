@@ -1,8 +1,7 @@
 //! The lines of a workload that the program does not do yet.
 
-ghost use Rattle.std.specs.Prelude.{◌≡◌, ℕ, List, None};
+ghost use Rattle.std.specs.Prelude.{◌≡◌, None};
 ghost use Rattle.hp_script.specs.Built.{IsBuilt};
-ghost use Rattle.hp_script.specs.Workloads.{IsReadAs};
 ghost use Rattle.hp_script.specs.declared.workload.Workload.{Workload};
 ghost use Rattle.hp_script.specs.Later.{is_built_act, later_line};
 
@@ -21,11 +20,10 @@ pub fn first_later(workload: &Workload) -> Option<u32>
         .map(|line| line.line)
 }
 
-/// An accepted text without a line to be built later describes a workload whose lines, each of any participant, allocate,
-/// free, resize, attach, detach and dump. This law is proved of all texts; the function has no code.
+/// A workload without a line to be built later is built: its lines, each of any participant, allocate, but not from an
+/// external heap, free, resize, attach, detach and dump. This law is proved of all workloads; the function has no code.
 pub fn built_law()
-    ensures { (bytes : List ℕ) (workload : Workload) → IsReadAs bytes workload
-        → later_line workload.lines.items ≡ None → IsBuilt workload }
+    ensures { (workload : Workload) → later_line workload.lines.items ≡ None → IsBuilt workload }
 {}
 
 fn is_built_act(act: &Act) -> bool

@@ -39,8 +39,8 @@ const SERVED: [Row; 3] = [
 ];
 
 // Of three the last is late for the first growth, and serves the later ones. A reply that is lost keeps nothing up, since the number is
-// there; an ask that is lost is taken back.
-const LATE: [Row; 3] = [
+// there; an ask that is lost is taken back. Participant 0 is sent no SYNC and sends no reply, so lines that lose one have no effect.
+const LATE: [Row; 4] = [
     (
         "participants 3\ndeadline 200\npool 0 2M 4\nlose sync 2 1\n0 alloc a 1000\n1 alloc b 2096960\n0 free a\n2 alloc c 2096960\n",
         &[
@@ -63,6 +63,15 @@ const LATE: [Row; 3] = [
         &[
             "line 5 0 alloc ok 0x1001ffc00",
             "ask 0 1 granted 1",
+            "table 1 in 1 1",
+        ],
+    ),
+    (
+        "participants 2\ndeadline 200\npool 0 2M 4\nlose sync 0 1\nlose reply 0 1\n0 alloc a 1000\n",
+        &[
+            "line 6 0 alloc ok 0x1001ffc00",
+            "ask 0 1 granted 1",
+            "table 0 in 1 1",
             "table 1 in 1 1",
         ],
     ),

@@ -1,7 +1,7 @@
 use Rattle.std.proofs.Common.{◌≡◌, ◌∷◌, ◌++◌, [], List, Some, ap, sym, subst, length, length-append, arith}
 use Rattle.std.specs.List.{All}
 use Rattle.std.proofs.lemmas.List.Elements.{All-nil, All-push}
-use Rattle.hp_base.specs.Mapping.{IsSteady, owned}
+use Rattle.hp_base.specs.Mapping.{IsSteady, owned, refusals_at}
 use Rattle.hp_base.specs.MemMapping.{MapperState}
 use Rattle.hp_run.specs.Mappers.{IsUnused}
 use Rattle.hp_run.proofs.mappers.mem_mappers.Goals as goal
@@ -12,7 +12,7 @@ IsEmpty mapper = IsUnused (owned mapper.rows) mapper.answers mapper.capacity
 
 -- and it refuses no call
 abbrev RefusesNone : MapperState → Type 0
-RefusesNone mapper = IsSteady (Some mapper.fails)
+RefusesNone mapper = IsSteady (Some (refusals_at mapper.fails))
 
 module _ (mappers all : List MapperState) (mapper : MapperState) (pushed : all ≡ mappers ++ mapper ∷ []) where
   one_more : (P : MapperState → Type 0) → All P mappers → P mapper → All P all

@@ -22,12 +22,12 @@ returns g c =
     let mappers = map g.M.Mapper.may_fail c.args.mappers.items in
     let servers = c.come_all.new.hall.servers in
     let by_plan =
-    if_both (λ left. HaveReasons workload.plan.items left.segs.asks)
+    if_both (λ left. HaveReasons workload left.segs.asks)
     (λ left. LosesNothing workload.plan.items → IsLevelEnd left.segs left.tables.items) c.run_in.result c.run_in.ensures.reasons
     c.run_in.ensures.level in
     if_three (λ left. IsHeardEnd workload left.answers.items left.heaps.items left.segs left.tables.items)
     (λ left. AreAsMay workload servers left.answers.items left.segs)
-    (λ left. HaveReasons workload.plan.items left.segs.asks
+    (λ left. HaveReasons workload left.segs.asks
     × (LosesNothing workload.plan.items → IsLevelEnd left.segs left.tables.items))
     (λ left. IsRunEnd workload mappers left.answers.items left.heaps.items left.segs left.tables.items) c.run_in.result
     (λ left heard named by_plan.

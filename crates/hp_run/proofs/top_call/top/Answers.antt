@@ -1,26 +1,16 @@
-use Rattle.std.proofs.Common.{◌≡◌, Bool, false, refl, rules, subst, sym}
-use Rattle.hp_base.specs.Streams.{CountsFault}
-use Rattle.hp_run.specs.Faults.{is_read_fault}
-use Rattle.hp_run.specs.Outcome.IsText.{usage}
-use Rattle.hp_run.proofs.FaultLemmas.{answered_reads}
-use Rattle.hp_run.proofs.OutcomeLemmas.{ends_written, ends_answered, settled_by_end}
+use Rattle.std.proofs.Common.{rules}
+use Rattle.hp_run.specs.Outcome.Ends.{solo, usage}
+use Rattle.hp_run.proofs.OutcomeLemmas.{settled_by_end, usage_written}
 use Rattle.hp_run.proofs.top_call.top.Goals as goal
 
 pub returns-then-not-is_solo-clause-outcome : goal.returns-then-not-is_solo-clause-outcome
-returns-then-not-is_solo-clause-outcome g c =
-    ends_written _ _ _ _ _ _ _ _ _ _ _ (usage (search rules) refl) c.written.ensures.written
+returns-then-not-is_solo-clause-outcome g c = usage (search rules) (usage_written _ _ _ _ _ c.written.ensures.written)
 
-pub returns-in-Ok-clause-outcome : goal.returns-in-Ok-clause-outcome
-returns-in-Ok-clause-outcome g c =
-    ends_answered _ _ _ _ _ _ _ _ _ _ _ (search rules) c.in-Ok.ensures.read c.as_slice.ensures.value c.answered.ensures.written
+pub returns-then-not-is_solo-clause-settled : goal.returns-then-not-is_solo-clause-settled
+returns-then-not-is_solo-clause-settled g c = settled_by_end _ _ _ _ _ _ _ _ _ (returns-then-not-is_solo-clause-outcome g c)
 
-pub returns-in-Ok-clause-settled : goal.returns-in-Ok-clause-settled
-returns-in-Ok-clause-settled g c =
-    settled_by_end _ _ _ _ _ _ _ _ _ (returns-in-Ok-clause-outcome g c)
+pub returns-clause-outcome : goal.returns-clause-outcome
+returns-clause-outcome g c = solo (search rules) c.solo.ensures.outcome
 
--- what was read was read without a fault, and nothing was read since
-pub returns-in-Ok-clause-source_faults : goal.returns-in-Ok-clause-source_faults
-returns-in-Ok-clause-source_faults g c =
-    let reads : is_read_fault c.answered.result ≡ false = answered_reads _ _ _ _ _ _ c.answered.ensures.written in
-    subst (λ (failed : Bool). CountsFault (g.S.Source.faults c.args.source.now) (g.S.Source.faults c.read_whole.new.source) failed)
-    (sym reads) c.in-Ok.ensures.cause
+pub returns-clause-settled : goal.returns-clause-settled
+returns-clause-settled g c = settled_by_end _ _ _ _ _ _ _ _ _ (returns-clause-outcome g c)

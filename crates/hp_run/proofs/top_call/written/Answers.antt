@@ -1,5 +1,5 @@
 use Rattle.std.proofs.Common.{refl}
-use Rattle.hp_run.specs.Outcome.IsWritten.{whole, front}
+use Rattle.hp_run.specs.Outcome.IsPut.{whole, front}
 use Rattle.hp_run.proofs.top_call.written.Goals as goal
 
 pub returns-in-Ok-clause-written : goal.returns-in-Ok-clause-written
