@@ -103,7 +103,7 @@ module _ (directory : List HeapRange) (claims : List ExternalRange) (participant
     claimed =
         of_all (λ other. Contains (claims ++ claim_of chunk ∷ []) (claim_of other))
         (AllByRecursion-weaker (λ (other : Chunk). Contains claims (claim_of other)) (λ (other : Chunk). Contains (claims ++ claim_of chunk ∷ []) (claim_of other))
-            (λ other has. Contains-append_left claims (claim_of chunk ∷ []) (claim_of other) has) heap.chunks tied.claimed)
+        (λ other has. Contains-append_left claims (claim_of chunk ∷ []) (claim_of other) has) heap.chunks tied.claimed)
         (Contains-append_right claims (claim_of chunk ∷ []) (claim_of chunk) (Contains-here (claim_of chunk) []));
     marked = of_all (IsMarked participant rows) tied.marked none_yet;
     known =

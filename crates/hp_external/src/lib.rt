@@ -14,6 +14,7 @@ pub use adding::memory_add;
 pub use attaching::{memory_attach, memory_detach};
 pub use creating::{create, destroy};
 pub use fault::{
-    AddFault, AttachFault, ChunkFault, CreateFault, DestroyFault, DetachFault, NameFault, RemoveFault,
+    AddFault, AttachFault, ChunkFault, CreateFault, DestroyFault, DetachFault, NameFault,
+    RemoveFault,
 };
 pub use removing::memory_remove;
