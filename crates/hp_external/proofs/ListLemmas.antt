@@ -1,11 +1,23 @@
 -- What holds of each element of a list, of its filters and of what it is mapped to.
-use Rattle.std.proofs.Common.{◌≡◌, ℕ, ◌+◌, ◌<◌, ◌≤◌, Bool, true, false, ◌||◌, cond, not, List, [], ◌∷◌, ◌++◌, map, length, filter, get_or, Option, Some, None, Contains, refl, sym, ap, subst, ◌∙◌, inl, inr, arith, sum_by, position}
-use Rattle.std.specs.List.{AllByRecursion, list_any, position_or_len}
-use Rattle.std.proofs.lemmas.Bool.{cases_Bool, cases_lt, lt-ltb}
+use Rattle.std.proofs.Common.{◌≡◌, ℕ, ◌+◌, ◌<◌, ◌≤◌, Bool, true, false, ◌||◌, cond, not, List, [], ◌∷◌, ◌++◌, drop, map, length, filter, get_or, All, Option, Some, None, Contains, refl, sym, ap, subst, ◌∙◌, inl, inr, arith, sum_by, position}
+use Rattle.std.specs.List.{AllByRecursion, find, list_any, position_or_len}
+use Rattle.std.proofs.lemmas.Bool.{cases_Bool, cases_lt, lt-ltb, or_parts}
+use Rattle.std.proofs.lemmas.List.Elements.{All-cons, All-nil}
 use Rattle.std.proofs.lemmas.List.Quantifiers.{position-Some}
 use Rattle.std.proofs.lemmas.List.Sums.{fails_before_first}
-use Rattle.hp_heap.proofs.ChoiceLaw.{Contains-cases, Contains-filter, Contains-none}
+use Rattle.hp_heap.proofs.ChoiceLaw.{Contains-cases, Contains-filter, Contains-here, Contains-none, Contains-there}
 use Rattle.hp_heap.proofs.Members.{AllByRecursion-each}
+
+-- the first that passes, by a walk over the list
+module _ {X : Type 0} (p : X → Bool) where
+  pub find_step : (xs : List X) (i : ℕ) (d : X) → i < length xs → p (get_or xs i d) ≡ false → find p (drop i xs) ≡ find p (drop (i + 1) xs)
+  find_step xs i d within fails = Rattle.hp_segs.proofs.Finds.find_step p xs i d within fails
+
+  pub find_here : (xs : List X) (i : ℕ) (d : X) → i < length xs → p (get_or xs i d) ≡ true → find p (drop i xs) ≡ Some (get_or xs i d)
+  find_here xs i d within passes = Rattle.hp_segs.proofs.Finds.find_here p xs i d within passes
+
+  pub find_end : (xs : List X) (i : ℕ) → length xs ≤ i → find p (drop i xs) ≡ None
+  find_end xs i past = Rattle.hp_segs.proofs.Finds.find_end p xs i past
 
 module _ {X : Type 0} where
   -- an element that passes is found
@@ -64,3 +76,14 @@ module _ {X : Type 0} where
 pub all_mapped : {X Y : Type 0} (P : Y → Type 0) (f : X → Y) (xs : List X) → AllByRecursion (λ x. P (f x)) xs → AllByRecursion P (map f xs)
 all_mapped P f [] all = tt
 all_mapped P f (x ∷ xs) all = (all.0, all_mapped P f xs all.1)
+
+-- where none passes, each fails
+pub each_fails : {X : Type 0} (p : X → Bool) (xs : List X) → list_any p xs ≡ false → AllByRecursion (λ x. p x ≡ false) xs
+each_fails p [] none = tt
+each_fails p (x ∷ xs) none = let parts = or_parts (p x) (list_any p xs) none in (parts.0, each_fails p xs parts.1)
+
+-- what holds of each element holds of all
+pub all_of_each : {X : Type 0} (P : X → Type 0) (xs : List X) → ((x : X) → Contains xs x → P x) → All P xs
+all_of_each P [] each = All-nil P
+all_of_each P (x ∷ xs) each =
+    All-cons P x xs (each x (Contains-here x xs)) (all_of_each P xs (λ y there. each y (Contains-there x y xs there)))

@@ -1,9 +1,9 @@
 -- The tie stays where names change, and where memory comes and goes.
-use Rattle.std.proofs.Common.{◌≡◌, ◌≢◌, ℕ, ◌+◌, ◌<◌, ◌≤◌, Bool, true, false, ◌&&◌, cond, not, List, [], ◌∷◌, ◌++◌, filter, get_or, length, Option, Some, None, Contains, count_by, refl, sym, ap, subst, ◌∙◌, inl, inr, arith, eqb, eq-eqb, ltb}
+use Rattle.std.proofs.Common.{◌≡◌, ◌≢◌, ℕ, ◌+◌, ◌<◌, ◌≤◌, Bool, true, false, ◌&&◌, cond, not, List, [], ◌∷◌, ◌++◌, filter, get_or, length, Option, Some, None, All, Contains, count_by, refl, sym, ap, subst, ◌∙◌, inl, inr, arith, eqb, eq-eqb, ltb}
 use Rattle.std.specs.List.{AllByRecursion, list_any, position_or_len, remove}
 use Rattle.std.proofs.lemmas.Bool.{and_from, and_parts, cases_Bool, eqb-true, false_from_ne_true, ne_eqb}
 use Rattle.std.proofs.lemmas.List.Elements.{Contains-append_left, Contains-append_right}
-use Rattle.std.proofs.lemmas.List.Sums.{sum_by-remove}
+use Rattle.std.proofs.lemmas.List.Sums.{count_by-le-length, sum_by-remove}
 use Rattle.std.proofs.lemmas.Option.{get_or_from_slice_get}
 use Rattle.hp_base.specs.Flags.{has_bit}
 use Rattle.hp_base.specs.declared.chunk.Chunk.{Chunk}
@@ -23,7 +23,7 @@ use Rattle.hp_zone.specs.Directory.{HasRange, PlainDirectory, is_range, without_
 use Rattle.hp_zone.specs.declared.heap_name.HeapRange.{HeapRange}
 use Rattle.hp_external.specs.Tie.{AreClaimed, AreListed, AreMarked, IsClaimedRow, IsMarked, IsOfClaim, IsTied, claim_of, is_memory, is_range_of}
 use Rattle.hp_external.proofs.ChunkLemmas.{among_chunks, count_more, found_of, its_addr, one_of_address}
-use Rattle.hp_external.proofs.ListLemmas.{any_there, filter_none, first_passes, first_within, none_kept}
+use Rattle.hp_external.proofs.ListLemmas.{all_of_each, any_there, filter_none, first_passes, first_within, none_kept}
 use Rattle.hp_external.proofs.Marks.{no_mark}
 
 -- with the same ranges and chunks it is tied as before
@@ -40,6 +40,33 @@ tied_same ranges ranges' claims participant rows heap heap' same index chunks ti
   marked = subst (λ cs. AreMarked participant rows cs) (sym chunks) tied.marked;
   known = tied.known;
 }
+
+-- where there is no chunk, the directory has no range of the heap
+pub nothing_listed : (directory : List HeapRange) (heap : PlainHeap) → length heap.chunks ≡ 0 → AreListed directory heap
+    → All (λ range. range.index ≢ heap.index) directory
+nothing_listed directory heap empty listed =
+    all_of_each (λ range. range.index ≢ heap.index) directory
+    (λ range there same.
+    (let itself : is_range_of heap.index range.addr range.len range.page range ≡ true
+    = and_from _ _ (eq-eqb range.index heap.index same)
+    (and_from _ _ (eq-eqb range.addr range.addr refl) (and_from _ _ (eq-eqb range.len range.len refl) (eq-eqb range.page range.page refl))) in
+    absurd (omega (
+      arith,
+      some_counted (is_range_of heap.index range.addr range.len range.page) directory range itself there,
+      listed range.addr range.len range.page,
+      count_by-le-length (is_memory range.addr range.len range.page) heap.chunks,
+      empty,
+    ))))
+
+-- what is tied is tied by other words for the same
+pub tied_by : (ranges ranges' : List HeapRange) (claims claims' : List ExternalRange) (participant : ℕ) (rows rows' : List Row)
+    (heap heap' : PlainHeap) → ranges' ≡ ranges → claims' ≡ claims → rows' ≡ rows → heap' ≡ heap
+    → IsTied ranges claims participant rows heap → IsTied ranges' claims' participant rows' heap'
+tied_by ranges ranges' claims claims' participant rows rows' heap heap' same_ranges same_claims same_rows same_heap tied =
+    subst (λ h. IsTied ranges' claims' participant rows' h) (sym same_heap)
+    (subst (λ r. IsTied ranges' claims' participant r heap) (sym same_rows)
+    (subst (λ c. IsTied ranges' c participant rows heap) (sym same_claims)
+    (subst (λ d. IsTied d claims participant rows heap) (sym same_ranges) tied)))
 
 -- a range with a chunk's address, length and page size is listed where the chunk is
 same_memory : (index : ℕ) (range : HeapRange) (chunk : Chunk) → range.index ≡ index → range.addr ≡ chunk.addr → range.len ≡ chunk.len

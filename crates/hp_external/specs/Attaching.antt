@@ -1,5 +1,5 @@
 -- How a participant attaches a chunk of an external heap and leaves it: the rule "External heaps" of docs/HEAP.md.
-use Rattle.std.specs.Prelude.{◌≡◌, ℕ, true, false, ⊥, List, ◌++◌, Some}
+use Rattle.std.specs.Prelude.{◌≡◌, ℕ, true, false, List, ◌++◌, Some}
 use Rattle.hp_base.specs.Flags.{has_bit}
 use Rattle.hp_base.specs.Streams.{CountsFault}
 use Rattle.hp_base.specs.declared.caught.Caught.{Caught}

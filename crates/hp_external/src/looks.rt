@@ -20,7 +20,7 @@ pub(crate) fn lowest_data(heap: &Heap, by: Option<u8>, list: u32) -> Option<u64>
 // The address of the data of the first busy element among those that are left of a walk.
 fn first_data(elements: Elements<'_>, by: Option<u8>, list: u32) -> Option<u64>
     requires { AllByRecursion HasDataBelow elements }
-    ensures { result ≡ first_data (is_busy_in by list) elements }
+    ensures { result ≡ first_data (is_busy_in by list) elements.entry }
 {
     let mut left = elements;
     while let Some(span) = left.next() {

@@ -1,7 +1,9 @@
 //! Which heap and which chunk are meant.
 ghost use Rattle.std.specs.Prelude.{◌≡◌, ◌↔◌, IsSome, IfSome, IfOk, IfErr};
 ghost use Rattle.hp_zone.specs.Zones.{IsZoneName};
-ghost use Rattle.hp_heap.specs.Chunks.{chunk_at};
+ghost use Rattle.std.specs.List.{find};
+ghost use Rattle.hp_heap.specs.ChunkOrder.{AreInOrder};
+ghost use Rattle.hp_heap.specs.Chunks.{chunk_at, is_chunk_at};
 ghost use Rattle.hp_external.specs.Naming.{IsChunkFault, IsExternalName, IsNameFault, IsNamedChunk};
 
 use crate::fault::{ChunkFault, NameFault};
@@ -39,15 +41,31 @@ pub(crate) fn external_heap(directory: &Directory, text: &[u8]) -> Result<(u32, 
 }
 
 // The chunk of a heap with that address and length.
+#[tactic(auto, unfolding(hp_heap::specs::Chunks::chunk_at))]
 pub(crate) fn chunk_at(heap: &Heap, addr: u64, len: u64) -> Option<Chunk>
-    ensures { result ≡ chunk_at addr len heap.now.plain }
+    ensures chunk { result ≡ chunk_at addr len heap.now.plain }
+    ensures order { AreInOrder heap.now.plain.chunks }
 {
-    for chunk in heap.chunks() {
-        if chunk.addr == addr && chunk.len == len {
+    first_at(heap.chunks(), addr, len)
+}
+
+// The first of chunks with that address and length.
+#[tactic(auto, using(crate::proofs::ListLemmas::find_step, crate::proofs::ListLemmas::find_here, crate::proofs::ListLemmas::find_end))]
+fn first_at(chunks: &[Chunk], addr: u64, len: u64) -> Option<Chunk>
+    ensures { result ≡ find (is_chunk_at addr len) chunks.now }
+{
+    for chunk in chunks {
+        if is_at(chunk, addr, len) {
             return Some(*chunk);
         }
     }
     None
+}
+
+fn is_at(chunk: &Chunk, addr: u64, len: u64) -> bool
+    ensures { result ≡ is_chunk_at addr len chunk.now }
+{
+    chunk.addr == addr && chunk.len == len
 }
 
 // The chunk of the external heap of that name with that address and length, or why there is none.
@@ -59,6 +77,7 @@ pub(crate) fn named_chunk(
     len: u64,
 ) -> Result<Chunk, ChunkFault>
     ensures found { IfOk result (IsNamedChunk directory.now.plain text.now heap.now.plain addr len) }
+    ensures order { IfOk result (λ chunk. AreInOrder heap.now.plain.chunks) }
     ensures refused { IfErr result (IsChunkFault directory.now.plain text.now heap.now.plain addr len) }
 {
     let Some((_, socket)) = directory.lookup(text) else {
