@@ -16,7 +16,7 @@ use Rattle.hp_heap.proofs.RangeLemmas.{AllByRecursion-append}
 use Rattle.hp_maps.specs.Chunks.{is_of_chunk, rows_beside, rows_of_chunk}
 use Rattle.hp_segs.specs.declared.external_range.ExternalRange.{ExternalRange}
 use Rattle.hp_zone.specs.declared.heap_name.HeapRange.{HeapRange}
-use Rattle.hp_external.specs.Tie.{AreClaimed, AreListed, AreMarked, IsMarked, IsOfClaim, IsTied, claim_of, is_memory}
+use Rattle.hp_external.specs.Tie.{AreClaimed, AreListed, AreMarked, IsMarked, IsOfClaim, IsTiedHeap, claim_of, is_memory}
 use Rattle.hp_external.proofs.ChunkLemmas.{among_chunks, at_is_of, its_memory, one_of_list}
 use Rattle.hp_external.proofs.ListLemmas.{all_mapped, filter_opposite}
 use Rattle.hp_external.proofs.Marks.{mark_other, mark_own, unmark_other, unmark_own}
@@ -64,7 +64,7 @@ module _ (marks : ℕ → ℕ) (addr len : ℕ) (heap : PlainHeap) where
 -- the chunk that is named, and one participant
 module _ (directory : List HeapRange) (claims : List ExternalRange) (participant : ℕ) (rows : List Row) (heap : PlainHeap) (addr len : ℕ)
     (chunk : Chunk) (tiled : IsTiled heap) (order : AreInOrder heap.chunks) (there : chunk_at addr len heap ≡ Some chunk)
-    (tied : IsTied directory claims participant rows heap) where
+    (tied : IsTiedHeap directory claims participant rows heap) where
   has : Contains heap.chunks chunk
   has = among_chunks heap addr len chunk there
 
@@ -100,7 +100,7 @@ module _ (directory : List HeapRange) (claims : List ExternalRange) (participant
         ∙ append-nil (filter (is_of_chunk other) rows)
         ∙ AllByRecursion-contains (IsMarked participant rows) heap.chunks other tied.marked among
 
-    pub tied_attached : IsTied directory claims participant (rows ++ rows_of_chunk chunk) (after_share participant addr len heap)
+    pub tied_attached : IsTiedHeap directory claims participant (rows ++ rows_of_chunk chunk) (after_share participant addr len heap)
     unfolding after_share
     tied_attached = record {
       listed = listed_marks (with_mark participant) addr len heap directory tied.listed;
@@ -123,7 +123,7 @@ module _ (directory : List HeapRange) (claims : List ExternalRange) (participant
       (λ row there passes. ap not (row_of_one chunk other row differs passes)))
       ∙ AllByRecursion-contains (IsMarked participant rows) heap.chunks other tied.marked among
 
-  pub tied_left : IsTied directory claims participant (rows_beside chunk rows) (after_unshare participant addr len heap)
+  pub tied_left : IsTiedHeap directory claims participant (rows_beside chunk rows) (after_unshare participant addr len heap)
   unfolding after_unshare
   tied_left = record {
     listed = listed_marks (without_mark participant) addr len heap directory tied.listed;
@@ -136,8 +136,8 @@ module _ (directory : List HeapRange) (claims : List ExternalRange) (participant
 
 -- and others are tied as before
 module _ (directory : List HeapRange) (claims : List ExternalRange) (caller participant : ℕ) (rows : List Row) (heap : PlainHeap) (addr len : ℕ)
-    (differs : participant ≢ caller) (tied : IsTied directory claims participant rows heap) where
-  pub tied_beside_attach : IsTied directory claims participant rows (after_share caller addr len heap)
+    (differs : participant ≢ caller) (tied : IsTiedHeap directory claims participant rows heap) where
+  pub tied_beside_attach : IsTiedHeap directory claims participant rows (after_share caller addr len heap)
   unfolding after_share
   tied_beside_attach = record {
     listed = listed_marks (with_mark caller) addr len heap directory tied.listed;
@@ -146,7 +146,7 @@ module _ (directory : List HeapRange) (claims : List ExternalRange) (caller part
     known = tied.known;
   }
 
-  pub tied_beside_left : IsTied directory claims participant rows (after_unshare caller addr len heap)
+  pub tied_beside_left : IsTiedHeap directory claims participant rows (after_unshare caller addr len heap)
   unfolding after_unshare
   tied_beside_left = record {
     listed = listed_marks (without_mark caller) addr len heap directory tied.listed;

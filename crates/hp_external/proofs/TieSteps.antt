@@ -21,15 +21,15 @@ use Rattle.hp_maps.specs.Chunks.{is_of_chunk, rows_of_chunk}
 use Rattle.hp_segs.specs.declared.external_range.ExternalRange.{ExternalRange}
 use Rattle.hp_zone.specs.Directory.{HasRange, PlainDirectory, is_range, without_range}
 use Rattle.hp_zone.specs.declared.heap_name.HeapRange.{HeapRange}
-use Rattle.hp_external.specs.Tie.{AreClaimed, AreListed, AreMarked, IsClaimedRow, IsMarked, IsOfClaim, IsTied, claim_of, is_memory, is_range_of}
+use Rattle.hp_external.specs.Tie.{AreClaimed, AreListed, AreMarked, IsClaimedRow, IsMarked, IsOfClaim, IsTiedHeap, claim_of, is_memory, is_range_of}
 use Rattle.hp_external.proofs.ChunkLemmas.{among_chunks, count_more, found_of, its_addr, one_of_address}
 use Rattle.hp_external.proofs.ListLemmas.{all_of_each, any_there, filter_none, first_passes, first_within, none_kept}
 use Rattle.hp_external.proofs.Marks.{no_mark}
 
 -- with the same ranges and chunks it is tied as before
 pub tied_same : (ranges ranges' : List HeapRange) (claims : List ExternalRange) (participant : ℕ) (rows : List Row) (heap heap' : PlainHeap)
-    → ranges' ≡ ranges → heap'.index ≡ heap.index → heap'.chunks ≡ heap.chunks → IsTied ranges claims participant rows heap
-    → IsTied ranges' claims participant rows heap'
+    → ranges' ≡ ranges → heap'.index ≡ heap.index → heap'.chunks ≡ heap.chunks → IsTiedHeap ranges claims participant rows heap
+    → IsTiedHeap ranges' claims participant rows heap'
 tied_same ranges ranges' claims participant rows heap heap' same index chunks tied = record {
   listed = λ addr len page.
       ap (count_by (is_range_of heap'.index addr len page)) same
@@ -61,12 +61,12 @@ nothing_listed directory heap empty listed =
 -- what is tied is tied by other words for the same
 pub tied_by : (ranges ranges' : List HeapRange) (claims claims' : List ExternalRange) (participant : ℕ) (rows rows' : List Row)
     (heap heap' : PlainHeap) → ranges' ≡ ranges → claims' ≡ claims → rows' ≡ rows → heap' ≡ heap
-    → IsTied ranges claims participant rows heap → IsTied ranges' claims' participant rows' heap'
+    → IsTiedHeap ranges claims participant rows heap → IsTiedHeap ranges' claims' participant rows' heap'
 tied_by ranges ranges' claims claims' participant rows rows' heap heap' same_ranges same_claims same_rows same_heap tied =
-    subst (λ h. IsTied ranges' claims' participant rows' h) (sym same_heap)
-    (subst (λ r. IsTied ranges' claims' participant r heap) (sym same_rows)
-    (subst (λ c. IsTied ranges' c participant rows heap) (sym same_claims)
-    (subst (λ d. IsTied d claims participant rows heap) (sym same_ranges) tied)))
+    subst (λ h. IsTiedHeap ranges' claims' participant rows' h) (sym same_heap)
+    (subst (λ r. IsTiedHeap ranges' claims' participant r heap) (sym same_rows)
+    (subst (λ c. IsTiedHeap ranges' c participant rows heap) (sym same_claims)
+    (subst (λ d. IsTiedHeap d claims participant rows heap) (sym same_ranges) tied)))
 
 -- a range with a chunk's address, length and page size is listed where the chunk is
 same_memory : (index : ℕ) (range : HeapRange) (chunk : Chunk) → range.index ≡ index → range.addr ≡ chunk.addr → range.len ≡ chunk.len
@@ -80,7 +80,7 @@ same_memory index range chunk its_index its_addr its_len its_page addr len page 
 -- a chunk comes, without marks, under a list that nobody has
 module _ (directory : List HeapRange) (claims : List ExternalRange) (participant : ℕ) (rows : List Row) (heap : PlainHeap) (chunk : Chunk)
     (tiled : IsTiled heap) (can : CanAddChunk chunk heap) (free : list_any (λ claim. eqb claim.list chunk.list) claims ≡ false)
-    (tied : IsTied directory claims participant rows heap) where
+    (tied : IsTiedHeap directory claims participant rows heap) where
   abbrev range : HeapRange
   range = record { index = heap.index; addr = chunk.addr; len = chunk.len; page = chunk.page }
 
@@ -113,7 +113,7 @@ module _ (directory : List HeapRange) (claims : List ExternalRange) (participant
         AllByRecursion-kept P (λ other. ltb chunk.addr other.addr) heap.chunks all,
       )
 
-  pub tied_more : IsTied (directory ++ range ∷ []) (claims ++ claim_of chunk ∷ []) participant rows (after_chunk chunk heap)
+  pub tied_more : IsTiedHeap (directory ++ range ∷ []) (claims ++ claim_of chunk ∷ []) participant rows (after_chunk chunk heap)
   unfolding after_chunk
   tied_more = record {
     listed = λ addr len page.
@@ -225,7 +225,7 @@ module _ (directory : List HeapRange) (heap : PlainHeap) (addr len : ℕ) (chunk
       )
 
   module _ (claims : List ExternalRange) (participant : ℕ) (rows : List Row) (order : AreInOrder heap.chunks) (unmarked : chunk.attached ≡ 0)
-      (tied : IsTied directory claims participant rows heap) where
+      (tied : IsTiedHeap directory claims participant rows heap) where
     abbrev left : List Chunk
     left = filter (λ other. not (eqb other.list chunk.list)) heap.chunks
 
@@ -254,7 +254,7 @@ module _ (directory : List HeapRange) (heap : PlainHeap) (addr len : ℕ) (chunk
     differs : (list : ℕ) → (list ≡ chunk.list → ⊥) → not (eqb list chunk.list) ≡ true
     differs list other = ap not (ne_eqb list chunk.list other)
 
-    pub tied_less : IsTied (without_range heap.index addr directory) (filter (λ claim. not (eqb claim.list chunk.list)) claims) participant rows
+    pub tied_less : IsTiedHeap (without_range heap.index addr directory) (filter (λ claim. not (eqb claim.list chunk.list)) claims) participant rows
         (without_chunk (Some chunk) heap)
     tied_less = record {
       listed = λ at long page.
@@ -292,9 +292,9 @@ module _ (directory : List HeapRange) (heap : PlainHeap) (addr len : ℕ) (chunk
     }
 
     -- the heap after it went is without it
-    pub tied_gone : IsTied (without_range heap.index addr directory) (filter (λ claim. not (eqb claim.list chunk.list)) claims) participant rows
+    pub tied_gone : IsTiedHeap (without_range heap.index addr directory) (filter (λ claim. not (eqb claim.list chunk.list)) claims) participant rows
         (after_unchunk addr len heap)
     unfolding after_unchunk
     tied_gone =
-        subst (λ (o : Option Chunk). IsTied (without_range heap.index addr directory) (filter (λ claim. not (eqb claim.list chunk.list)) claims) participant rows (without_chunk o heap))
+        subst (λ (o : Option Chunk). IsTiedHeap (without_range heap.index addr directory) (filter (λ claim. not (eqb claim.list chunk.list)) claims) participant rows (without_chunk o heap))
         (sym there) tied_less

@@ -55,7 +55,7 @@ abbrev pub IsOfClaim : List ExternalRange → Row → Type 0
 IsOfClaim claims row = row.generation ≡ 0 → IsClaimedRow claims row
 
 -- a heap for external memory is tied to the directory, to the external memory of the segment value, and to the table of a participant
-pub record IsTied (directory : List HeapRange) (claims : List ExternalRange) (participant : ℕ) (rows : List Row) (heap : PlainHeap)
+pub record IsTiedHeap (directory : List HeapRange) (claims : List ExternalRange) (participant : ℕ) (rows : List Row) (heap : PlainHeap)
     : Type 0 where
   -- its chunks are exactly the directory's ranges at its index
   pub listed : AreListed directory heap

@@ -4,7 +4,7 @@ ghost use Rattle.hp_base.specs.declared.row.Row.{Row};
 ghost use Rattle.hp_segs.specs.Ranges.{range_plan};
 ghost use Rattle.hp_external.specs.Adding.{Adds, IsAddFault};
 ghost use Rattle.hp_external.specs.Naming.{IsThatHeap, MayCall};
-ghost use Rattle.hp_external.specs.Tie.{AreClaimed, IsTied};
+ghost use Rattle.hp_external.specs.Tie.{AreClaimed, IsTiedHeap};
 
 use crate::fault::AddFault;
 use crate::naming::external_heap;
@@ -35,8 +35,8 @@ pub fn memory_add(
 
     // Whatever tables there are, the heap stays tied to them.
     ensures tied { (participant : ℕ) (rows : List Row)
-        → IsTied names.old.heaps.plain.ranges segs.old.ranges participant rows heap.old.plain
-        → IsTied names.new.heaps.plain.ranges segs.new.ranges participant rows heap.new.plain }
+        → IsTiedHeap names.old.heaps.plain.ranges segs.old.ranges participant rows heap.old.plain
+        → IsTiedHeap names.new.heaps.plain.ranges segs.new.ranges participant rows heap.new.plain }
 {
     let (_, socket) = external_heap(&names.heaps, text)?;
     let _records = segs.records();

@@ -4,7 +4,7 @@ ghost use Rattle.hp_base.specs.declared.row.Row.{Row};
 ghost use Rattle.hp_segs.specs.declared.external_range.ExternalRange.{ExternalRange};
 ghost use Rattle.hp_external.specs.Attaching.{Attaches, Detaches, IsAttachFault, IsDetachFault, MayAttach};
 ghost use Rattle.hp_external.specs.Naming.{IsThatHeap, MayCall};
-ghost use Rattle.hp_external.specs.Tie.{IsTied};
+ghost use Rattle.hp_external.specs.Tie.{IsTiedHeap};
 
 use crate::fault::{AttachFault, DetachFault};
 use crate::looks::lowest_data;
@@ -35,11 +35,11 @@ pub fn memory_attach<M: Mapper>(
 
     // Whatever is claimed, the heap stays tied to the caller's table and to those of others.
     ensures tied { (claims : List ExternalRange)
-        → IsTied names.now.heaps.plain.ranges claims caller.participant maps.old.rows heap.old.plain
-        → IsTied names.now.heaps.plain.ranges claims caller.participant maps.new.rows heap.new.plain }
+        → IsTiedHeap names.now.heaps.plain.ranges claims caller.participant maps.old.rows heap.old.plain
+        → IsTiedHeap names.now.heaps.plain.ranges claims caller.participant maps.new.rows heap.new.plain }
     ensures others { (claims : List ExternalRange) (participant : ℕ) (rows : List Row) → participant ≢ caller.participant
-        → IsTied names.now.heaps.plain.ranges claims participant rows heap.old.plain
-        → IsTied names.now.heaps.plain.ranges claims participant rows heap.new.plain }
+        → IsTiedHeap names.now.heaps.plain.ranges claims participant rows heap.old.plain
+        → IsTiedHeap names.now.heaps.plain.ranges claims participant rows heap.new.plain }
 {
     let chunk = named_chunk(&names.heaps, heap, text, addr, len)?;
     if has_bit(u32::from(chunk.attached), u32::from(caller.participant)) {
@@ -72,11 +72,11 @@ pub fn memory_detach<M: Mapper>(
     ensures refused { IfErr result (IsDetachFault caller.participant names.now.heaps.plain text.now addr len heap.old.plain) }
     ensures err { OnErr result ((heap.new ≡ heap.old) × (maps.new ≡ maps.old)) }
     ensures tied { (claims : List ExternalRange)
-        → IsTied names.now.heaps.plain.ranges claims caller.participant maps.old.rows heap.old.plain
-        → IsTied names.now.heaps.plain.ranges claims caller.participant maps.new.rows heap.new.plain }
+        → IsTiedHeap names.now.heaps.plain.ranges claims caller.participant maps.old.rows heap.old.plain
+        → IsTiedHeap names.now.heaps.plain.ranges claims caller.participant maps.new.rows heap.new.plain }
     ensures others { (claims : List ExternalRange) (participant : ℕ) (rows : List Row) → participant ≢ caller.participant
-        → IsTied names.now.heaps.plain.ranges claims participant rows heap.old.plain
-        → IsTied names.now.heaps.plain.ranges claims participant rows heap.new.plain }
+        → IsTiedHeap names.now.heaps.plain.ranges claims participant rows heap.old.plain
+        → IsTiedHeap names.now.heaps.plain.ranges claims participant rows heap.new.plain }
 {
     let chunk = named_chunk(&names.heaps, heap, text, addr, len)?;
     if !has_bit(u32::from(chunk.attached), u32::from(caller.participant)) {

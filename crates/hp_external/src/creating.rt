@@ -5,7 +5,7 @@ ghost use Rattle.hp_heap.specs.PlainHeap.{PlainHeap};
 ghost use Rattle.hp_segs.specs.declared.external_range.ExternalRange.{ExternalRange};
 ghost use Rattle.hp_external.specs.Creating.{Creates, Destroys, IsCreateFault, IsDestroyFault};
 ghost use Rattle.hp_external.specs.Naming.{IsThatHeap, MayCall};
-ghost use Rattle.hp_external.specs.Tie.{AreListed, IsTied};
+ghost use Rattle.hp_external.specs.Tie.{AreListed, IsTiedHeap};
 
 use crate::fault::{CreateFault, DestroyFault};
 use crate::naming::{external_heap, heap_name};
@@ -22,8 +22,8 @@ pub fn create(names: &mut Names, text: &[u8]) -> Result<(u32, u32), CreateFault>
 
     // No heap's tie is touched.
     ensures tied { (claims : List ExternalRange) (participant : ℕ) (rows : List Row) (heap : PlainHeap)
-        → IsTied names.old.heaps.plain.ranges claims participant rows heap
-        → IsTied names.new.heaps.plain.ranges claims participant rows heap }
+        → IsTiedHeap names.old.heaps.plain.ranges claims participant rows heap
+        → IsTiedHeap names.new.heaps.plain.ranges claims participant rows heap }
 {
     let Some(name) = heap_name(text) else {
         return Err(CreateFault::BadName);
@@ -57,8 +57,8 @@ pub fn destroy(
     ensures refused { IfErr result (IsDestroyFault names.old.heaps.plain text.now heap.old.plain) }
     ensures err { OnErr result ((names.new ≡ names.old) × (heap.new ≡ heap.old)) }
     ensures tied { (claims : List ExternalRange) (participant : ℕ) (rows : List Row)
-        → IsTied names.old.heaps.plain.ranges claims participant rows heap.old.plain
-        → IsTied names.new.heaps.plain.ranges claims participant rows heap.new.plain }
+        → IsTiedHeap names.old.heaps.plain.ranges claims participant rows heap.old.plain
+        → IsTiedHeap names.new.heaps.plain.ranges claims participant rows heap.new.plain }
 {
     external_heap(&names.heaps, text)?;
     let chunks = heap.chunks().len();

@@ -3,7 +3,7 @@ ghost use Rattle.std.specs.Prelude.{◌≡◌, ℕ, List, IfErr, OnOk, OnErr};
 ghost use Rattle.hp_base.specs.declared.row.Row.{Row};
 ghost use Rattle.hp_external.specs.Naming.{IsThatHeap, MayCall};
 ghost use Rattle.hp_external.specs.Removing.{IsRemoveFault, Removes};
-ghost use Rattle.hp_external.specs.Tie.{AreClaimed, AreListed, IsTied};
+ghost use Rattle.hp_external.specs.Tie.{AreClaimed, AreListed, IsTiedHeap};
 
 use crate::fault::RemoveFault;
 use crate::looks::{lowest_data, lowest_mark};
@@ -33,8 +33,8 @@ pub fn memory_remove(
     ensures refused { IfErr result (IsRemoveFault names.old.heaps.plain text.now heap.old.plain addr len) }
     ensures err { OnErr result ((names.new ≡ names.old) × (segs.new ≡ segs.old) × (heap.new ≡ heap.old)) }
     ensures tied { (participant : ℕ) (rows : List Row)
-        → IsTied names.old.heaps.plain.ranges segs.old.ranges participant rows heap.old.plain
-        → IsTied names.new.heaps.plain.ranges segs.new.ranges participant rows heap.new.plain }
+        → IsTiedHeap names.old.heaps.plain.ranges segs.old.ranges participant rows heap.old.plain
+        → IsTiedHeap names.new.heaps.plain.ranges segs.new.ranges participant rows heap.new.plain }
 {
     external_heap(&names.heaps, text)?;
     let Some(chunk) = chunk_at(heap, addr, len) else {

@@ -3,13 +3,13 @@ use Rattle.std.specs.Prelude.{◌≡◌, ◌⊎◌, ℕ, ◌+◌, ◌<◌, ◌�
 use Rattle.std.specs.List.{All}
 use Rattle.hp_base.specs.declared.row.Row.{Row}
 use Rattle.hp_external.specs.Naming.{IsThatHeap}
-use Rattle.hp_external.specs.Tie.{IsTied}
+use Rattle.hp_external.specs.Tie.{IsTiedHeap}
 use Rattle.hp_external_tests.specs.declared.tests.world.World.{World}
 
 -- the heap is tied to the directory, to the segment value and to both tables, which have room for 64 rows
 pub record IsWorld (all : World) : Type 0 where
-  pub first : IsTied all.names.heaps.plain.ranges all.segs.ranges 0 all.first.rows all.heap.plain
-  pub second : IsTied all.names.heaps.plain.ranges all.segs.ranges 1 all.second.rows all.heap.plain
+  pub first : IsTiedHeap all.names.heaps.plain.ranges all.segs.ranges 0 all.first.rows all.heap.plain
+  pub second : IsTiedHeap all.names.heaps.plain.ranges all.segs.ranges 1 all.second.rows all.heap.plain
   pub first_room : all.first.capacity ≡ 64
   pub second_room : all.second.capacity ≡ 64
 
