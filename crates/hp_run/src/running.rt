@@ -5,7 +5,7 @@ ghost use Rattle.hp_segs.specs.Opening.{is_present};
 ghost use Rattle.hp_joint.specs.EndLaws.{said_in};
 ghost use Rattle.hp_reasons.specs.Counting.{LosesNothing};
 ghost use Rattle.hp_reasons.specs.Threads.{HaveReasons};
-ghost use Rattle.hp_run.specs.Ending.{AreAsMay, IsHeardEnd, IsLevelEnd, IsRunEnd};
+ghost use Rattle.hp_run.specs.Ending.{AreAsMay, IsHeardEnd, IsLevelEnd, IsSoloRunEnd};
 ghost use Rattle.hp_run.specs.Mappers.{IsUnused};
 ghost use Rattle.hp_run.specs.Opening.{HaveCome, IsEmptyHall, IsFirstHall, IsPlannedParty};
 ghost use Rattle.hp_run.specs.Running.{HaveDoneLines, IsRunnable, IsSameWorkload};
@@ -45,7 +45,7 @@ pub fn run<'a, M: Mapper>(
     requires runnable { IsRunnable workload }
     requires count { workload.participants ≤ length mappers.items }
     requires unused { All (λ mapper. IsUnused (M.held mapper) (M.answers mapper) (M.capacity mapper)) mappers.items }
-    ensures end { IfOk result (λ ended. IsRunEnd ended.workload (map M.may_fail mappers.items) ended.answers.items ended.heaps.items
+    ensures end { IfOk result (λ ended. IsSoloRunEnd ended.workload (map M.may_fail mappers.items) ended.answers.items ended.heaps.items
         ended.segs ended.tables.items) }
     ensures workload { IfOk result (λ ended. IsSameWorkload ended.workload workload.entry) }
 {
@@ -68,7 +68,7 @@ fn run_planned<'x, M: Mapper>(
     requires runnable { IsRunnable workload.now }
     requires count { workload.now.participants ≤ length mappers.items }
     requires unused { All (λ mapper. IsUnused (M.held mapper) (M.answers mapper) (M.capacity mapper)) mappers.items }
-    ensures { IfOk result (λ left. IsRunEnd workload.now (map M.may_fail mappers.items) left.answers.items left.heaps.items
+    ensures { IfOk result (λ left. IsSoloRunEnd workload.now (map M.may_fail mappers.items) left.answers.items left.heaps.items
         left.segs left.tables.items) }
 {
     let plan = plan_of(alloc, workload.participants, &workload.plan)?;
@@ -86,7 +86,7 @@ fn run_said<'x, M: Mapper>(
     requires plan { plan.now ≡ workload.now.plan.items }
     requires count { workload.now.participants ≤ length mappers.items }
     requires unused { All (λ mapper. IsUnused (M.held mapper) (M.answers mapper) (M.capacity mapper)) mappers.items }
-    ensures { IfOk result (λ left. IsRunEnd workload.now (map M.may_fail mappers.items) left.answers.items left.heaps.items
+    ensures { IfOk result (λ left. IsSoloRunEnd workload.now (map M.may_fail mappers.items) left.answers.items left.heaps.items
         left.segs left.tables.items) }
 {
     let facts = WorkloadFacts::of(alloc, &workload.pools, &workload.lines)?;
@@ -106,7 +106,7 @@ fn run_lines<'p, M: Mapper>(
     requires facts { facts.now ≡ said_in workload.now }
     requires count { workload.now.participants ≤ length mappers.items }
     requires unused { All (λ mapper. IsUnused (M.held mapper) (M.answers mapper) (M.capacity mapper)) mappers.items }
-    ensures { IfOk result (λ left. IsRunEnd workload.now (map M.may_fail mappers.items) left.answers.items left.heaps.items
+    ensures { IfOk result (λ left. IsSoloRunEnd workload.now (map M.may_fail mappers.items) left.answers.items left.heaps.items
         left.segs left.tables.items) }
 {
     let mut hall = empty_hall(alloc, workload)?;
