@@ -12,6 +12,7 @@ use Rattle.hp_segs.specs.SegsView.{SegsView, is_retiring}
 use Rattle.hp_segs.specs.Sound.{IsSound}
 use Rattle.hp_proc.specs.Ends.{IsEnd, IsSoloEnd, OneThreadLeaves}
 use Rattle.hp_proc.specs.LinesDone.{courses_of}
+use Rattle.hp_joint.specs.Drops.{DropsComeFirst}
 use Rattle.hp_joint.specs.SoFar.{first_segs}
 use Rattle.hp_agreed.specs.Alike.{PagesAlike, TablesAlike}
 use Rattle.hp_agreed.specs.Restored.{FailuresLeaveNoRow, GrowthsRestore, TablesRestore}
@@ -54,12 +55,14 @@ pub record IsLevelEnd (segs : SegsView) (tables : List Table) : Type 0 where
 abbrev pub NoMappingMayFail : List PlanEntry → List (Option (List ℕ)) → Type 0
 NoMappingMayFail plan mappers = (participant call : ℕ) → IsFailureNamed plan mappers participant call → ⊥
 
--- an end of a workload whose lines were done one after another, which of their notices have an outcome in it, and the calls by which the
--- segment value came about from the first one, which is sound
+-- an end of a workload whose lines were done one after another, which of their notices have an outcome in it, that what lines gave up had
+-- gone before later lines saw the log where the plan loses no message, and the calls by which the segment value came about from the first
+-- one, which is sound
 pub record IsHeardEnd (workload : Workload) (answers : List Answer) (heaps : List HeapView) (segs : SegsView) (tables : List Table)
     : Type 0 where
   pub end : IsSoloEnd workload answers heaps segs tables
   pub notices : NoticesAreHeard workload.plan.items end.end.courses segs.asks
+  pub drops : LosesNothing workload.plan.items → DropsComeFirst workload.participants segs.log segs.asks end.end.courses
   pub calls : List SegsCall
   pub leads : Leads calls (first_segs workload) segs
   pub opens : IsSound (first_segs workload)
@@ -90,7 +93,8 @@ pub record IsRunEnd (workload : Workload) (mappers : List (Option (List ℕ))) (
 -- one taken back or stale, at most as often as the plan loses SYNCs to it, loses its asks, or repeats its asks and notices. Where the plan
 -- loses no message, no segment is Retiring, and each participant that is attached has taken in all records of the log; and where no mapping
 -- may fail either, asks were refused for want of a list, of pages, of slots or of a place alone. Each run that was given up has gone back, as
--- its notice's outcome says, but for as many as the plan loses of its participant's messages
+-- its notice's outcome says, but for as many as the plan loses of its participant's messages; and where the plan loses no message, what lines
+-- gave up had gone before later lines saw the log
 pub record IsSoloRunEnd (workload : Workload) (mappers : List (Option (List ℕ))) (answers : List Answer) (heaps : List HeapView)
     (segs : SegsView) (tables : List Table) : Type 0 where
   pub run : IsRunEnd workload mappers answers heaps segs tables
@@ -99,3 +103,4 @@ pub record IsSoloRunEnd (workload : Workload) (mappers : List (Option (List ℕ)
   pub level : LosesNothing workload.plan.items → IsLevelEnd segs tables
   pub want : LosesNothing workload.plan.items → NoMappingMayFail workload.plan.items mappers → All IsRefusedForWant segs.asks
   pub notices : NoticesAreHeard workload.plan.items run.end.courses segs.asks
+  pub drops : LosesNothing workload.plan.items → DropsComeFirst workload.participants segs.log segs.asks run.end.courses

@@ -15,7 +15,7 @@ use crate::opening::{first_heaps, plan_of};
 use hp_agreed::{alike_law, restoring_law};
 use hp_base::{MAX_SEGMENTS, Mapper, Plan};
 use hp_heap::Heap;
-use hp_joint::{end_law, failure_law, line_law, refusal_law};
+use hp_joint::{drops_law, end_law, failure_law, line_law, refusal_law};
 use hp_maps::{LocalMaps, Planned, Table};
 use hp_plain::{HallParts, PlainHall};
 use hp_proc::{LineContext, Participant, WorkloadFacts};
@@ -112,6 +112,7 @@ fn run_lines<'p, M: Mapper>(
     let mut hall = empty_hall(alloc, workload)?;
     come_all(alloc, workload, plan, facts, mappers, &mut hall)?;
     line_law();
+    drops_law();
     alike_law();
     restoring_law();
     none_law();

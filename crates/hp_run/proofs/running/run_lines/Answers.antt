@@ -12,7 +12,7 @@ use Rattle.hp_run.proofs.running.run_lines.Goals as goal
 pub run_in-requires-clause-first : goal.run_in-requires-clause-first
 run_in-requires-clause-first g c =
     let workload = c.args.workload.now in
-    opens_so workload (map g.M.Mapper.may_fail c.args.mappers.items) c.come_all.new.hall c.line_law.ensures.opens c.requires.runnable
+    opens_so workload (map g.M.Mapper.may_fail c.args.mappers.items) c.come_all.new.hall c.line_law.ensures.opens c.drops_law.ensures.opens c.requires.runnable
     (first_stays workload c.in_ok-hall.hall c.come_all.new.hall c.in_ok-hall.ensures.0 c.in_ok-come_all.ensures.plain)
     c.in_ok-come_all.ensures.come
 
@@ -57,4 +57,5 @@ returns g c =
       want = wants_so workload mappers left.answers.items left.heaps.items left.segs left.tables.items end.end are_named by_plan.0
           c.none_law.ensures.want;
       notices = heard.notices;
+      drops = heard.drops;
     }) c.run_in.ensures.end c.run_in.ensures.named by_plan
