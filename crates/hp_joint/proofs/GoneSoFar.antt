@@ -1,11 +1,13 @@
 -- How far a workload was run, what was cut from its heaps has gone back or is Retiring, and outcomes that say so are true.
-use Rattle.std.proofs.Common.{◌≡◌, ◌==◌, ℕ, ◌<◌, ◌≤◌, List, [], length, Some, ap, sym, subst, arith, ne_eqb}
-use Rattle.std.specs.List.{All, slice_get}
+use Rattle.std.proofs.Common.{◌≡◌, ◌∙◌, ◌==◌, ℕ, ◌<◌, ◌≤◌, ◌++◌, false, List, [], append-nil, length, Some, ap, sym, subst, arith, ne_eqb}
+use Rattle.std.specs.List.{All, flat_map, range_with_len, slice_get}
+use Rattle.std.specs.List.Sorted.{IsPermutation}
 use Rattle.hp_segs.proofs.ListFacts.{filter_drops}
 use Rattle.std.proofs.lemmas.Option.{slice_get_within}
 use Rattle.hp_plain.specs.HallView.{HallView}
 use Rattle.hp_heap.specs.History.{HeapView}
 use Rattle.hp_script.specs.declared.workload.Workload.{Workload}
+use Rattle.hp_segs.specs.Returned.{returned_runs}
 use Rattle.hp_proc.specs.Courses.{calls_in}
 use Rattle.hp_proc.specs.Doing.{Done}
 use Rattle.hp_proc.specs.Ends.{HaveGoneBack, KeepsCalls}
@@ -13,12 +15,14 @@ use Rattle.hp_proc.specs.Histories.{entries_for}
 use Rattle.hp_proc.specs.LinesDone.{Course, courses_of, opening_standing, trace_of}
 use Rattle.hp_proc.specs.Outcomes.{IsOfATraceUnlessStale}
 use Rattle.hp_proc.specs.Party.{Party}
+use Rattle.hp_joint.specs.Drops.{cut_by_lines}
 use Rattle.hp_joint.specs.Seats.{Seat}
 use Rattle.hp_joint.specs.SoFar.{IsOfDeclared, SoFar, trace_for}
 use Rattle.hp_joint.proofs.CutFirst.{IsCutFirst}
 use Rattle.hp_joint.proofs.CutLines.{cut_first_lines}
 use Rattle.hp_joint.proofs.GoneRuns.{outcomes_true}
-use Rattle.hp_joint.proofs.Returned.{gone_back}
+use Rattle.hp_joint.proofs.CutRuns.{cuts_in, flat_map_indexed}
+use Rattle.hp_joint.proofs.Returned.{cuts_by_all, cuts_returned, gone_back}
 use Rattle.hp_joint.proofs.SeatsAlong.{count_along}
 
 -- nobody else has a line
@@ -63,3 +67,18 @@ module _ (workload : Workload) (courses : List Course) (parties : List Party) (h
         within = within;
       })
       kept
+
+  -- where nothing is Retiring, all that the lines cut has gone back
+  pub all_back : so.now.segs.retiring ≡ []
+      → IsPermutation (cut_by_lines workload.participants courses) (returned_runs so.now.segs.asks false 1 so.now.segs.log)
+  all_back none =
+      let back = returned_runs so.now.segs.asks false 1 so.now.segs.log in
+      let same : cuts_by_all so.now.seats ≡ cut_by_lines workload.participants courses =
+      flat_map_indexed (λ (seat : Seat). cuts_in seat.trace) (λ who. cuts_in (did who)) so.now.seats 0
+      (λ index number seat at there.
+      let here : index ≡ number = omega (arith, at) in
+      ap cuts_in (sym (own_trace index seat there)) ∙ ap (λ who. cuts_in (did who)) here)
+      ∙ ap (λ count. flat_map (λ who. cuts_in (did who)) (range_with_len 0 count)) (count_along so.runs ∙ so.is_first.seats) in
+      subst (λ cut. IsPermutation cut back) same
+      (subst (IsPermutation (cuts_by_all so.now.seats)) (ap (λ runs. back ++ runs) none ∙ append-nil back)
+      (cuts_returned workload.participants workload.absent workload.pools.items so.first so.is_first so.now so.runs))

@@ -19,6 +19,7 @@ pub mod CutFirst
 pub mod CutLines
 pub mod CutRuns
 pub mod CutShares
+pub mod DropsOn
 pub mod Ending
 pub mod FailureLaws
 pub mod Failures
@@ -125,3 +126,4 @@ pub mod Walked
 pub mod WaysOn
 pub mod Withdrawn
 pub mod Worked
+mod WorkedDrops

@@ -96,3 +96,7 @@ module _ (workload : Workload) (courses : List Course) (parties : List Party) (h
   -- the clause `in_turn`
   pub turns_so_far : AreInTurn so.now.segs.asks
   turns_so_far = made.in_turn workload.participants workload.absent workload.pools.items so.first so.now so.is_first so.runs
+
+  -- the clause `numbered`
+  pub numbered_so_far : All (λ (entry : AskLog). 0 < entry.number) so.now.segs.asks
+  numbered_so_far = made.numbered workload.participants workload.absent workload.pools.items so.first so.now so.is_first so.runs

@@ -1,22 +1,28 @@
 -- How far a workload was run stands behind its next line.
-use Rattle.std.proofs.Common.{◌≡◌, ℕ, ◌<◌, List, length, Some, refl, subst}
+use Rattle.std.proofs.Common.{◌≡◌, ◌∙◌, ℕ, ◌<◌, false, List, [], length, Some, refl, ap, sym, subst}
 use Rattle.std.specs.Prelude.{slice_get}
+use Rattle.std.specs.List.Sorted.{IsPermutation}
+use Rattle.std.proofs.lemmas.Option.{same_Some}
 use Rattle.hp_base.specs.declared.limits.TheConstants.{MAX_HEAPS}
-use Rattle.hp_plain.specs.HallView.{HallView}
+use Rattle.hp_plain.specs.HallView.{HallView, segs_in, slot_at}
 use Rattle.hp_script.specs.declared.answer.Answer.{Answer}
 use Rattle.hp_script.specs.declared.line.Line.{Line}
 use Rattle.hp_script.specs.declared.workload.Workload.{Workload}
+use Rattle.hp_segs.specs.Returned.{returned_runs}
+use Rattle.hp_segs.specs.SegsView.{SegsView}
 use Rattle.hp_proc.specs.Doing.{Done}
 use Rattle.hp_proc.specs.Ends.{history_by, none_made}
 use Rattle.hp_proc.specs.Histories.{granted_runs, grown_runs}
 use Rattle.hp_proc.specs.LinesDone.{Course, courses_of, opening_standing, standing_after}
 use Rattle.hp_proc.specs.Party.{Party}
 use Rattle.hp_proc.specs.Seen.{AreSeen, seen_by_lines}
+use Rattle.hp_joint.specs.Drops.{DropsComeFirst, DropsGoOnByLine, cut_by_lines}
 use Rattle.hp_joint.specs.EndLaws.{GoesBy, GoesOnByLine, IsGiven, MayFailAsBefore}
 use Rattle.hp_joint.specs.Seats.{Seat}
 use Rattle.hp_joint.specs.SoFar.{SoFar}
 use Rattle.hp_joint.specs.Together.{Joint, Runs}
 use Rattle.hp_joint.proofs.Arriving.{enrolled_there, last_of, left_there, may_fail_before, runs_all}
+use Rattle.hp_joint.proofs.GoneSoFar.{all_back}
 use Rattle.hp_joint.proofs.LastSeats.{CameTo}
 use Rattle.hp_joint.proofs.LineBehind.{all_came, line_built, line_done, line_in_order, line_is_done, line_known, there}
 use Rattle.hp_joint.proofs.LineClauses.{asks_of_each}
@@ -113,9 +119,37 @@ module _ (workload : Workload) (courses : List Course) (parties behind : List Pa
   pub may_fail_still : MayFailAsBefore parties behind
   may_fail_still = may_fail_before workload courses parties behind old new so given.few goes.course adds comes tries so.count
 
+  -- what the hall shows of the segment value is what the run has come to
+  shown_there : (segs : SegsView) → segs_in (slot_at new MAX_HEAPS) ≡ Some segs → now.segs ≡ segs
+  shown_there segs at =
+      same_Some now.segs segs
+      (sym (all_came workload courses parties behind old new line answer given so goes).gone.its ∙ at)
+
+  pub drops_by_line : (was segs : SegsView) → segs_in (slot_at old MAX_HEAPS) ≡ Some was → segs_in (slot_at new MAX_HEAPS) ≡ Some segs
+      → segs.retiring ≡ [] → DropsComeFirst workload.participants was.log was.asks courses
+      → DropsComeFirst workload.participants segs.log segs.asks lines
+  drops_by_line was segs was_at at none drops =
+      let last_segs : on_by_line.now.segs ≡ segs = same_Some on_by_line.now.segs segs (sym on_by_line.its_segs ∙ at) in
+      let first_segs : so.now.segs ≡ was = same_Some so.now.segs was (sym so.its_segs ∙ was_at) in
+      let gone : IsPermutation (cut_by_lines workload.participants lines) (returned_runs now.segs.asks false 1 now.segs.log) =
+      subst (λ (segs : SegsView). IsPermutation (cut_by_lines workload.participants lines) (returned_runs segs.asks false 1 segs.log))
+      (last_segs ∙ sym (shown_there segs at))
+      (all_back workload lines behind new on_by_line (ap (λ (segs : SegsView). segs.retiring) last_segs ∙ none)) in
+      subst (λ (segs : SegsView). DropsComeFirst workload.participants segs.log segs.asks lines) (shown_there segs at)
+      (shown.drops_go_on workload.participants workload.absent workload.pools.items so.first so.now now so.is_first so.runs by before.it
+      last.it did its_run courses (asks_of_each workload courses parties old so) so.seen
+      (subst (λ (segs : SegsView). DropsComeFirst workload.participants segs.log segs.asks courses) (sym first_segs) drops) workload
+      (standing_after (opening_standing workload by) (courses_of by courses)) one refl refl (so.seats by before.it before.there).trace
+      goes.built (line_is_done workload courses parties behind old new line answer given so goes) gone)
+
 -- behind a line all stands as before it
 pub so_far_line : GoesOnByLine
 so_far_line workload courses parties behind old new line answer given so goes = (
   on_by_line workload courses parties behind old new line answer given so goes,
   may_fail_still workload courses parties behind old new line answer given so goes,
 )
+
+-- and what was given up has gone before later lines see the log
+pub drops_line : DropsGoOnByLine
+drops_line workload courses parties behind old new line answer was now given so goes was_at at none drops =
+    drops_by_line workload courses parties behind old new line answer given so goes was now was_at at none drops

@@ -2,7 +2,7 @@
 use Rattle.std.proofs.Common.{◌≡◌, ◌∙◌, ℕ, ◌-◌, ◌<◌, ◌≤◌, true, false, List, length, Option, Some, None, refl, ap, sym, subst}
 use Rattle.std.specs.Prelude.{Contains, slice_get}
 use Rattle.std.specs.List.{All}
-use Rattle.std.proofs.lemmas.List.Elements.{All-contains}
+use Rattle.std.proofs.lemmas.List.Elements.{All-contains, All-contains_itself, All-weaker}
 use Rattle.hp_base.specs.declared.pool_line.PoolLine.{PoolLine}
 use Rattle.hp_base.specs.declared.row.Run.{Run}
 use Rattle.hp_log.specs.declared.log_record.LogRecord.{LogRecord}
@@ -16,7 +16,7 @@ use Rattle.hp_proc.specs.Acting.{AreAsked}
 use Rattle.hp_proc.specs.Courses.{numbered_in}
 use Rattle.hp_proc.specs.Doing.{Done}
 use Rattle.hp_proc.specs.Doing.Done.{Asked, GaveUp}
-use Rattle.hp_proc.specs.Outcomes.{AreAnsweredSo, AreInTurn, IsOfATraceUnlessStale, IsOutcomeOf, ask_of}
+use Rattle.hp_proc.specs.Outcomes.{AreAnsweredSo, AreInTurn, IsOfAnAskOfATrace, IsOfATraceUnlessStale, IsOutcomeOf, ask_of}
 use Rattle.hp_proc.specs.declared.pages_asked.PagesAsked.{PagesAsked}
 use Rattle.hp_joint.proofs.AnsweredTrace.{answers_all}
 use Rattle.hp_joint.proofs.Gone.{AreTrulyFreed, IsTrulyFreed}
@@ -127,6 +127,19 @@ module _ (now : Joint) (did : ℕ → List Done)
         kind = subst (λ outcome. IsOutcomeOf now.segs.log outcome (GaveUp its.heap its.run)) (sym is) its.gone;
       }
 
+-- a grant and a refusal are no stale outcomes
+fresh_is : (outcome : Outcome) → is_grant_or_refusal outcome ≡ true → is_stale outcome ≡ false
+fresh_is (Granted generation) grants = refl
+fresh_is (Refused cause) grants = refl
+fresh_is (Stale done) grants = cc
+fresh_is (Freed generation) grants = cc
+
+-- where each outcome but a stale one is of what a trace did, each grant and each refusal is
+pub asked_of_traces : (log : List LogRecord) (did : ℕ → List Done) (asks : List AskLog) → All (IsOfATraceUnlessStale log did) asks
+    → All (IsOfAnAskOfATrace log did) asks
+asked_of_traces log did asks all =
+    All-weaker (IsOfATraceUnlessStale log did) (IsOfAnAskOfATrace log did) (λ entry of grants. of (fresh_is entry.outcome grants)) asks all
+
 module _ (count absent : ℕ) (pools : List PoolLine) (first now : Joint) (is : IsFirst count absent pools first)
     (runs : Runs count first now) where
   -- the number of a participant's last ask is how many asks and notices it made
@@ -155,10 +168,13 @@ module _ (count absent : ℕ) (pools : List PoolLine) (first now : Joint) (is : 
 
   -- they come in turn
   pub in_turn : AreInTurn now.segs.asks
-  in_turn = record {
-    above = (traced_runs count absent pools first is now runs).asks.turn;
-    numbered = λ entry among. (of_a_seat entry among).some;
-  }
+  in_turn = record { above = (traced_runs count absent pools first is now runs).asks.turn }
+
+  -- and each has the number of an ask or a notice
+  pub numbered : All (λ (entry : AskLog). 0 < entry.number) now.segs.asks
+  numbered =
+      All-weaker (Contains now.segs.asks) (λ (entry : AskLog). 0 < entry.number) (λ entry among. (of_a_seat entry among).some) now.segs.asks
+      (All-contains_itself now.segs.asks)
 
   -- each grant and refusal keeps the ask of its number
   pub kept : (entry : AskLog) → Contains now.segs.asks entry → is_grant_or_refusal entry.outcome ≡ true → (seat : Seat)

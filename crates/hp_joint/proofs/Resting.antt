@@ -4,14 +4,17 @@ use Rattle.std.specs.Prelude.{slice_get}
 use Rattle.std.specs.List.{AllByRecursion}
 use Rattle.std.proofs.lemmas.Option.{same_Some, slice_get_within}
 use Rattle.hp_heap.specs.declared.entry.Entry.{Entry}
+use Rattle.hp_base.specs.declared.limits.TheConstants.{MAX_HEAPS}
 use Rattle.hp_plain.specs.Course.{IsCourse}
-use Rattle.hp_plain.specs.HallView.{HallView, history_in, slot_at}
+use Rattle.hp_plain.specs.HallView.{HallView, history_in, segs_in, slot_at}
 use Rattle.hp_plain.specs.Opening.{AreHome}
 use Rattle.hp_script.specs.declared.workload.Workload.{Workload}
+use Rattle.hp_segs.specs.SegsView.{SegsView}
 use Rattle.hp_proc.specs.Doing.{Done}
 use Rattle.hp_proc.specs.Ends.{history_by, none_made}
 use Rattle.hp_proc.specs.LinesDone.{Course}
 use Rattle.hp_proc.specs.Party.{Party}
+use Rattle.hp_joint.specs.Drops.{DropsComeFirst, DropsRest}
 use Rattle.hp_joint.specs.EndLaws.{IsGiven, MayFailAsBefore, OthersServe, RestsSoFar, ServesBeside}
 use Rattle.hp_joint.specs.Seats.{Seat}
 use Rattle.hp_joint.specs.SoFar.{SoFar, trace_for}
@@ -145,9 +148,24 @@ module _ (workload : Workload) (courses : List Course) (parties behind : List Pa
   pub may_fail_still : MayFailAsBefore parties behind
   may_fail_still = may_fail_before workload courses parties behind old new so given.few course nothing comes tries so.count
 
+  pub drops_by_rest : (was segs : SegsView) → segs_in (slot_at old MAX_HEAPS) ≡ Some was → segs_in (slot_at new MAX_HEAPS) ≡ Some segs
+      → DropsComeFirst workload.participants was.log was.asks courses → DropsComeFirst workload.participants segs.log segs.asks courses
+  drops_by_rest was segs was_at at drops =
+      let first_segs : so.now.segs ≡ was = same_Some so.now.segs was (sym so.its_segs ∙ was_at) in
+      subst (λ (segs : SegsView). DropsComeFirst workload.participants segs.log segs.asks courses)
+      (same_Some now.segs segs (sym all_came.gone.its ∙ at))
+      (shown.drops_stay workload.participants workload.absent workload.pools.items so.first so.now now so.is_first so.runs 0 before.it
+      last.it [] its_run courses (asks_of_each workload courses parties old so) so.seen
+      (subst (λ (segs : SegsView). DropsComeFirst workload.participants segs.log segs.asks courses) (sym first_segs) drops))
+
 -- behind servings all stands as before them
 pub so_far_rests : RestsSoFar
 so_far_rests workload courses parties behind old new given so size serve home course = (
   on_by_rest workload courses parties behind old new given so size serve home course,
   may_fail_still workload courses parties behind old new given so size serve home course,
 )
+
+-- and what was given up has gone before later lines see the log
+pub drops_rest : DropsRest
+drops_rest workload courses parties behind old new was now given so size serve home course was_at at drops =
+    drops_by_rest workload courses parties behind old new given so size serve home course was now was_at at drops

@@ -11,11 +11,11 @@ abbrev pub Rises : ℕ → ℕ → List ℕ → Type 0
 Rises floor most [] = floor ≤ most
 Rises floor most (n ∷ ns) = (floor ≤ n) × Rises n most ns
 
-all_above : (floor most : ℕ) (ns : List ℕ) → Rises floor most ns → All (λ n. floor ≤ n) ns
-all_above floor most [] rises = All-nil (λ n. floor ≤ n)
-all_above floor most (n ∷ ns) rises =
+pub above_floor : (floor most : ℕ) (ns : List ℕ) → Rises floor most ns → All (λ n. floor ≤ n) ns
+above_floor floor most [] rises = All-nil (λ n. floor ≤ n)
+above_floor floor most (n ∷ ns) rises =
     All-cons (λ n. floor ≤ n) n ns rises.0
-    (λ k d within. let more = all_above n most ns rises.1 k d within in omega (arith, rises.0, more))
+    (λ k d within. let more = above_floor n most ns rises.1 k d within in omega (arith, rises.0, more))
 
 -- the first is no more than the last
 pub rises_within : (floor most : ℕ) (ns : List ℕ) → Rises floor most ns → floor ≤ most
@@ -29,7 +29,7 @@ all_below floor most (n ∷ ns) rises = All-cons (λ n. n ≤ most) n ns (rises_
 all_rising : (floor most : ℕ) (ns : List ℕ) → Rises floor most ns → IsNonDecreasing ns
 all_rising floor most [] rises = λ i j d le within. absurd (omega (arith, within))
 all_rising floor most (n ∷ ns) rises =
-    rising_cons (λ (n : ℕ). n) n ns (all_above n most ns rises.1) (all_rising n most ns rises.1)
+    rising_cons (λ (n : ℕ). n) n ns (above_floor n most ns rises.1) (all_rising n most ns rises.1)
 
 -- numbers that rise so are seen
 pub seen_rising : (most : ℕ) (ns : List ℕ) → Rises 0 most ns → AreSeen most ns

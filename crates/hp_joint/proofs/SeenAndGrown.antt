@@ -1,8 +1,10 @@
 -- Behind a line what the lines show of the log never falls, and each heap grew by what was granted for it; so it is where no line was done.
-use Rattle.std.proofs.Common.{◌≡◌, ℕ, ◌+◌, List, [], ◌∷◌, ◌++◌, length, ap, sym, subst}
+use Rattle.std.proofs.Common.{◌≡◌, ℕ, ◌+◌, false, List, [], ◌∷◌, ◌++◌, length, ap, sym, subst}
+use Rattle.std.specs.List.Sorted.{IsPermutation}
 use Rattle.hp_base.specs.declared.pool_line.PoolLine.{PoolLine}
 use Rattle.hp_log.specs.declared.log_record.LogRecord.{LogRecord}
 use Rattle.hp_script.specs.declared.workload.Workload.{Workload}
+use Rattle.hp_segs.specs.Returned.{returned_runs}
 use Rattle.hp_segs.specs.declared.outcome.AskLog.{AskLog}
 use Rattle.hp_proc.specs.Courses.{Standing, numbered_in}
 use Rattle.hp_proc.specs.Doing.{Done}
@@ -12,6 +14,7 @@ use Rattle.hp_proc.specs.LinesDone.{Course, IsDone, courses_of, trace_of}
 use Rattle.hp_proc.specs.Outcomes.{AreAnsweredSo}
 use Rattle.hp_proc.specs.Progress.{IsLineBuilt}
 use Rattle.hp_proc.specs.Seen.{AreSeen, seen_by_lines, seen_in}
+use Rattle.hp_joint.proofs.DropsOn as behind
 use Rattle.hp_joint.proofs.GrownLines as lines
 use Rattle.hp_joint.proofs.LineSettled.{IsLineRun, line_behind, line_later, line_seen, line_settled, within_start}
 use Rattle.hp_joint.proofs.Looking.{looked_between}
@@ -19,6 +22,7 @@ use Rattle.hp_joint.proofs.Looks.{LineLooks, line_looks}
 use Rattle.hp_joint.proofs.Rising.{Rises}
 use Rattle.hp_joint.proofs.SeenLines as shown
 use Rattle.hp_joint.proofs.SeenLines.{numbers_in}
+use Rattle.hp_joint.specs.Drops.{DropsComeFirst, cut_by_lines}
 use Rattle.hp_joint.specs.Seats.{Seat}
 use Rattle.hp_joint.specs.Together.{IsFirst, Joint, Runs}
 
@@ -59,12 +63,13 @@ module _ (count absent : ℕ) (pools : List PoolLine) (first start now : Joint) 
           (line_later count absent pools first start now is_first to_start who old new trace line)
           (within_start count absent pools first start now is_first to_start who old new trace line) courses answered seen)
 
-      -- and one line more shows no less
-      pub seen_goes_on : (workload : Workload) (standing : Standing) (course : Course) → course.line.participant ≡ who
-          → course.trace ≡ trace
-          → old.trace ≡ trace_of (courses_of who courses) → IsLineBuilt who course.line.act → IsDone workload standing course
-          → SeenOf now.segs.log now.segs.asks (courses ++ course ∷ [])
-      seen_goes_on workload standing course own same so_far built done =
+      -- what one line more shows lies between the records before it and those behind it
+      pub line_shows : (workload : Workload) (standing : Standing) (course : Course) → course.line.participant ≡ who
+          → course.trace ≡ trace → old.trace ≡ trace_of (courses_of who courses) → IsLineBuilt who course.line.act
+          → IsDone workload standing course → Rises (length start.segs.log) (length (start.segs.log ++ more))
+          (seen_in (start.segs.log ++ more) (start.segs.asks ++ others) course.line.participant
+          (numbers_in course.line.participant courses + 1) course.trace)
+      line_shows workload standing course own same so_far built done =
           let looks = line_looks who course.line course.line.act done.facts course.trace course.answer built done.does in
           let rises = line_seen count absent pools first start now is_first to_start who old new trace line
           (subst LineLooks same looks) (looked_between line.runs who old new trace line.was line.is line.trace_is) in
@@ -77,14 +82,55 @@ module _ (count absent : ℕ) (pools : List PoolLine) (first start now : Joint) 
           (seen_in (start.segs.log ++ more) asks who (length (numbered_in old.trace) + 1) trace)) asks_are
           (subst (λ log. Rises (length start.segs.log) (length log)
           (seen_in log now.segs.asks who (length (numbered_in old.trace) + 1) trace)) log_is rises)) in
+          subst (λ by. Rises (length start.segs.log) (length (start.segs.log ++ more))
+          (seen_in (start.segs.log ++ more) (start.segs.asks ++ others) by (numbers_in by courses + 1) course.trace)) (sym own)
+          (subst (λ dones. Rises (length start.segs.log) (length (start.segs.log ++ more))
+          (seen_in (start.segs.log ++ more) (start.segs.asks ++ others) who (numbers_in who courses + 1) dones)) (sym same) by_log)
+
+      -- and one line more shows no less
+      pub seen_goes_on : (workload : Workload) (standing : Standing) (course : Course) → course.line.participant ≡ who
+          → course.trace ≡ trace
+          → old.trace ≡ trace_of (courses_of who courses) → IsLineBuilt who course.line.act → IsDone workload standing course
+          → SeenOf now.segs.log now.segs.asks (courses ++ course ∷ [])
+      seen_goes_on workload standing course own same so_far built done =
           its (courses ++ course ∷ [])
           (shown.seen_goes_on start.segs.log more start.segs.asks others
           (line_later count absent pools first start now is_first to_start who old new trace line)
           (within_start count absent pools first start now is_first to_start who old new trace line) courses answered seen course
-          (subst (λ by. Rises (length start.segs.log) (length (start.segs.log ++ more))
-          (seen_in (start.segs.log ++ more) (start.segs.asks ++ others) by (numbers_in by courses + 1) course.trace)) (sym own)
-          (subst (λ dones. Rises (length start.segs.log) (length (start.segs.log ++ more))
-          (seen_in (start.segs.log ++ more) (start.segs.asks ++ others) who (numbers_in who courses + 1) dones)) (sym same) by_log)))
+          (line_shows workload standing course own same so_far built done))
+
+      -- so what lines gave up has gone before later lines see the log
+      module _ (drops : DropsComeFirst count start.segs.log start.segs.asks courses) where
+        abbrev DropsOf : List LogRecord → List AskLog → List Course → Type 0
+        DropsOf log asks courses = DropsComeFirst count log asks courses
+
+        its_drops : (lines : List Course) → DropsOf (start.segs.log ++ more) (start.segs.asks ++ others) lines
+            → DropsOf now.segs.log now.segs.asks lines
+        its_drops lines drops =
+            subst (λ log. DropsOf log now.segs.asks lines) (sym log_is)
+            (subst (λ asks. DropsOf (start.segs.log ++ more) asks lines) (sym asks_are) drops)
+
+        pub drops_stay : DropsOf now.segs.log now.segs.asks courses
+        drops_stay =
+            its_drops courses
+            (behind.drops_stay count start.segs.log more start.segs.asks others
+            (line_later count absent pools first start now is_first to_start who old new trace line)
+            (within_start count absent pools first start now is_first to_start who old new trace line) courses answered drops)
+
+        pub drops_go_on : (workload : Workload) (standing : Standing) (course : Course) → course.line.participant ≡ who
+            → course.trace ≡ trace → old.trace ≡ trace_of (courses_of who courses) → IsLineBuilt who course.line.act
+            → IsDone workload standing course
+            → IsPermutation (cut_by_lines count (courses ++ course ∷ [])) (returned_runs now.segs.asks false 1 now.segs.log)
+            → DropsOf now.segs.log now.segs.asks (courses ++ course ∷ [])
+        drops_go_on workload standing course own same so_far built done gone =
+            let all = cut_by_lines count (courses ++ course ∷ []) in
+            its_drops (courses ++ course ∷ [])
+            (behind.drops_more count start.segs.log more start.segs.asks others
+            (line_later count absent pools first start now is_first to_start who old new trace line)
+            (within_start count absent pools first start now is_first to_start who old new trace line) courses answered drops course
+            (line_shows workload standing course own same so_far built done)
+            (subst (λ asks. IsPermutation all (returned_runs asks false 1 (start.segs.log ++ more))) asks_are
+            (subst (λ log. IsPermutation all (returned_runs now.segs.asks false 1 log)) log_is gone)))
 
     -- each heap grew by what was granted for it
     module _ (courses : List Course) (index : ℕ)

@@ -2,3 +2,4 @@ pub mod Seats
 pub mod Together
 pub mod SoFar
 pub mod EndLaws
+pub mod Drops

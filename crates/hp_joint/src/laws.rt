@@ -1,4 +1,5 @@
 //! Laws of a run of all participants of a hall. They are proved of all runs, and their functions have no code.
+ghost use Rattle.hp_joint.specs.Drops.{DropsGoOnByLine, DropsOpen, DropsRest};
 ghost use Rattle.hp_joint.specs.EndLaws.{EndsSo, FailsByReason, FailsOnce, GoesOnByLine, OpensSoFar, RefusesByReason, RefusesOnce, RestsSoFar};
 
 /// A run of the participants of a hall in one thread goes from line to line: before the first line, by each line that one of them does
@@ -28,4 +29,13 @@ pub fn failure_law()
 pub fn refusal_law()
     ensures fails { RefusesByReason }
     ensures once { RefusesOnce }
+{}
+
+/// Between any two lines of such a run there was a number of records by which all that the lines before had given up had gone, and which
+/// whatever the lines behind see of the log holds: so it is before the first line, behind each line that leaves nothing Retiring, and where
+/// all serve on. Own.
+pub fn drops_law()
+    ensures opens { DropsOpen }
+    ensures goes_on { DropsGoOnByLine }
+    ensures rests { DropsRest }
 {}

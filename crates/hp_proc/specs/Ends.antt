@@ -20,7 +20,7 @@ use Rattle.hp_proc.specs.Courses.{calls_in}
 use Rattle.hp_proc.specs.LinesDone.{Course, courses_of, trace_of, IsNoneUngranted, AreDone, opening_standing, standing_after}
 use Rattle.hp_segs.specs.Returned.{returned_runs}
 use Rattle.hp_proc.specs.Histories.{entries_for, grown_runs, cut_runs, granted_runs}
-use Rattle.hp_proc.specs.Outcomes.{AreAnsweredSo, IsOfATraceUnlessStale, AreInTurn, AreAskedFor, IsRefusedIn}
+use Rattle.hp_proc.specs.Outcomes.{AreAnsweredSo, IsOfAnAskOfATrace, IsOfATraceUnlessStale, AreInTurn, AreAskedFor, IsRefusedIn}
 use Rattle.hp_proc.specs.Seen.{AreSeen, AreRefusals, HasTakenIn, counted_on, seen_in, seen_by_lines}
 use Rattle.hp_proc.specs.Awaits.{AreAwaited}
 
@@ -73,7 +73,7 @@ abbrev pub IsTableOf : SegsView → ℕ → ℕ → Bool → Table → Type 0
 IsTableOf segs who attached_at true table = IsMembersTable segs who attached_at table
 IsTableOf segs who attached_at false table = (table.number ≡ 0) × (table.rows.items ≡ [])
 
--- an end of a workload
+-- an end of a workload, in whatever order its participants' steps came
 pub record IsEnd (workload : Workload) (answers : List Answer) (heaps : List HeapView) (segs : SegsView) (tables : List Table) : Type 0 where
   -- the lines in file order with their answers, and what was done for each: each participant's lines did, one after another, what their
   -- facts say
@@ -89,13 +89,13 @@ pub record IsEnd (workload : Workload) (answers : List Answer) (heaps : List Hea
   pub heaps_are : AreHeapsOf workload heaps
   pub heaps_sound : All IsSound heaps
   pub calls : KeepsCalls (λ who. trace_of (courses_of who courses)) heaps
-  -- the segment value is sound and has no external memory, which no line makes yet; each ask has its outcome, and each outcome but a stale
-  -- one is of an ask or of what was given up, in turn; each growth was asked for; the workload shows its part of each refusal's cause
+  -- the segment value is sound and has no external memory, which no line makes yet; each ask has its outcome, each grant and each refusal
+  -- is of an ask, and outcomes come in turn; each growth was asked for; the workload shows its part of each refusal's cause
   pub segs_sound : segments.IsSound segs
   pub pools : segs.pools ≡ workload.pools.items
   pub external : segs.ranges ≡ []
   pub asks : (who : ℕ) → AreAnsweredSo segs.log segs.asks who (trace_of (courses_of who courses))
-  pub outcomes : All (IsOfATraceUnlessStale segs.log (λ who. trace_of (courses_of who courses))) segs.asks
+  pub outcomes : All (IsOfAnAskOfATrace segs.log (λ who. trace_of (courses_of who courses))) segs.asks
   pub in_turn : AreInTurn segs.asks
   pub asked_for : AreAskedFor segs
   pub causes : All (IsRefusedIn workload) segs.asks
@@ -132,10 +132,17 @@ history_by index made (course ∷ courses) =
 abbrev pub none_made : ℕ → ℕ
 none_made who = 0
 
--- an end of a workload whose lines are done one after another: the entries of an earlier line stand before those of a later one in every
--- history, and a line sees of the log what the lines before it show, whoever did them
+-- what lines leave besides where they are done one after another: the entries of an earlier line stand before those of a later one in every
+-- history, and a line sees of the log what the lines before it show, whoever did them; each outcome but a stale one, and so that of a notice
+-- too, is of what a line did, and a stale one has the number of an ask or a notice
+pub record OneThreadLeaves (courses : List Course) (heaps : List HeapView) (segs : SegsView) : Type 0 where
+  pub in_order : (index : ℕ) (heap : HeapView) → slice_get heaps index ≡ Some heap → heap.history ≡ history_by index none_made courses
+  pub seen_in_order : AreSeen (length segs.log) (seen_by_lines segs.log segs.asks none_made courses)
+  pub traced : All (IsOfATraceUnlessStale segs.log (λ who. trace_of (courses_of who courses))) segs.asks
+  pub numbered : All (λ entry. 0 < entry.number) segs.asks
+
+-- an end of a workload whose lines are done one after another
 pub record IsSoloEnd (workload : Workload) (answers : List Answer) (heaps : List HeapView) (segs : SegsView) (tables : List Table)
     : Type 0 where
   pub end : IsEnd workload answers heaps segs tables
-  pub in_order : (index : ℕ) (heap : HeapView) → slice_get heaps index ≡ Some heap → heap.history ≡ history_by index none_made end.courses
-  pub seen_in_order : AreSeen (length segs.log) (seen_by_lines segs.log segs.asks none_made end.courses)
+  pub alone : OneThreadLeaves end.courses heaps segs

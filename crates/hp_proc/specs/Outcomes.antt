@@ -1,5 +1,5 @@
 -- What came of a participant's asks: looked up in the segment value by participant and number, where it stays once it is there.
-use Rattle.std.specs.Prelude.{◌≡◌, ℕ, ◌+◌, ◌-◌, ◌*◌, ◌<◌, ◌≤◌, Bool, false, not, ◌&&◌, ◌==◌, List, find, take, Option, Some, None, IsTrue, Contains, slice_get, ⊤}
+use Rattle.std.specs.Prelude.{◌≡◌, ℕ, ◌+◌, ◌-◌, ◌*◌, ◌<◌, ◌≤◌, Bool, true, false, not, ◌&&◌, ◌==◌, List, find, take, Option, Some, None, IsTrue, Contains, slice_get, ⊤}
 use Rattle.std.specs.List.{list_any}
 use Rattle.std.specs.Str.{bytes_eq}
 use Rattle.hp_base.specs.declared.row.Run.{Run}
@@ -9,7 +9,7 @@ use Rattle.hp_script.specs.declared.line.Act.{Act}
 use Rattle.hp_script.specs.declared.line.Act.TheVariants as act
 use Rattle.hp_script.specs.declared.workload.Workload.{Workload}
 use Rattle.hp_segs.specs.Refusals.{IsAddOf}
-use Rattle.hp_segs.specs.SegsView.{SegsView, closed_number, is_outcome_for, is_stale, run_of}
+use Rattle.hp_segs.specs.SegsView.{SegsView, closed_number, is_grant_or_refusal, is_outcome_for, is_stale, run_of}
 use Rattle.hp_segs.specs.declared.ask.Ask.{Ask}
 use Rattle.hp_segs.specs.declared.outcome.AskLog.{AskLog}
 use Rattle.hp_segs.specs.declared.outcome.Cause.{Cause}
@@ -73,12 +73,14 @@ pub record IsOfATrace (log : List LogRecord) (did : ℕ → List Done) (entry : 
 abbrev pub IsOfATraceUnlessStale : List LogRecord → (ℕ → List Done) → AskLog → Type 0
 IsOfATraceUnlessStale log did entry = is_stale entry.outcome ≡ false → IsOfATrace log did entry
 
--- outcomes come by rising number: each but a stale one is of an ask whose number is above the closed one before it, and a stale one has
--- the number of an ask too
+-- a grant or a refusal is of an ask that its participant made
+abbrev pub IsOfAnAskOfATrace : List LogRecord → (ℕ → List Done) → AskLog → Type 0
+IsOfAnAskOfATrace log did entry = is_grant_or_refusal entry.outcome ≡ true → IsOfATrace log did entry
+
+-- outcomes come by rising number: each but a stale one is of an ask whose number is above the closed one before it
 pub record AreInTurn (asks : List AskLog) : Type 0 where
   pub above : (place : ℕ) (entry : AskLog) → slice_get asks place ≡ Some entry → is_stale entry.outcome ≡ false
       → closed_number (take place asks) entry.from < entry.number
-  pub numbered : (entry : AskLog) → Contains asks entry → 0 < entry.number
 
 -- the growth of that generation was asked for: an outcome that is logged while its Add is the last record keeps the ask
 pub record IsAskedFor (segs : SegsView) (generation : ℕ) : Type 0 where

@@ -17,6 +17,7 @@ use Rattle.hp_proc.specs.Tied.{HasTable, IsTied, nothing_yet, part_of}
 use Rattle.hp_proc.proofs.Unarmed.{all_alike}
 use Rattle.hp_solo.specs.Solo.{IsTiedAt, ServerView, SoloView, nobody, server_at, with_party}
 use Rattle.hp_solo.proofs.SoloWaits.{tied_first}
+use Rattle.hp_joint.specs.Drops.{DropsOpen}
 use Rattle.hp_joint.specs.EndLaws.{IsFirstParty, IsGiven, OpensSoFar}
 use Rattle.hp_joint.specs.SoFar.{SoFar}
 use Rattle.hp_reasons.specs.Threads.{OneThread}
@@ -215,9 +216,9 @@ first_made workload who may_fail party planned = record {
 }
 
 -- they have done no line yet
-pub opens_so : (workload : Workload) (mappers : List (Option (List FailingCall))) (hall : SoloView) → OpensSoFar → IsRunnable workload
+pub opens_so : (workload : Workload) (mappers : List (Option (List FailingCall))) (hall : SoloView) → OpensSoFar → DropsOpen → IsRunnable workload
     → IsFirstHall workload hall → HaveCome workload mappers hall.servers → HaveDoneLines workload [] [] hall
-opens_so workload mappers hall law runnable first come = record {
+opens_so workload mappers hall law drops runnable first come = record {
   parties = come.parties;
   are = come.are;
   courses = [];
@@ -242,4 +243,5 @@ opens_so workload mappers hall law runnable first come = record {
     };
     thread = OneThread.opens;
   };
+  drops = λ segs at nothing. drops workload.participants segs.log segs.asks;
 }

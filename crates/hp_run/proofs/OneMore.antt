@@ -1,9 +1,9 @@
 -- A participant leaves its place for a line, and comes back: all have done one line more.
-use Rattle.std.proofs.Common.{◌≡◌, ◌∙◌, ℕ, ◌<◌, ◌≤◌, ◌++◌, List, [], ◌∷◌, length, Some, sym, ap, subst, arith}
+use Rattle.std.proofs.Common.{◌≡◌, ◌∙◌, ℕ, ◌+◌, ◌<◌, ◌≤◌, ◌++◌, List, [], ◌∷◌, length, Some, sym, ap, subst, arith}
 use Rattle.std.specs.List.{slice_get}
-use Rattle.std.proofs.lemmas.List.{map-append}
+use Rattle.std.proofs.lemmas.List.{length_push, map-append}
 use Rattle.hp_base.specs.declared.limits.TheConstants.{MAX_HEAPS}
-use Rattle.hp_plain.specs.HallView.{HallView, HasDone, IsHome, heard_in, own_at, part_in, seen_in, slot_at}
+use Rattle.hp_plain.specs.HallView.{HallView, HasDone, IsHome, heard_in, own_at, part_in, seen_in, segs_in, slot_at}
 use Rattle.hp_script.specs.declared.answer.Answer.{Answer}
 use Rattle.hp_script.specs.declared.line.Line.{Line}
 use Rattle.hp_script.specs.declared.workload.Workload.{Workload}
@@ -13,9 +13,10 @@ use Rattle.hp_proc.specs.Party.{IsSameParty, Party, with_context}
 use Rattle.hp_proc.specs.Progress.{DoesLine, IsLineBuilt, MayDo, moment_of}
 use Rattle.hp_proc.specs.Tied.{IsTied}
 use Rattle.hp_solo.specs.Solo.{ServerView, SoloView}
+use Rattle.hp_joint.specs.Drops.{DropsGoOnByLine}
 use Rattle.hp_joint.specs.EndLaws.{GoesBy, GoesOnByLine, IsGiven, MayFailAsBefore, OthersServe}
 use Rattle.hp_joint.specs.SoFar.{SoFar}
-use Rattle.hp_reasons.specs.Threads.{DoesInTurn, OneThread}
+use Rattle.hp_reasons.specs.Threads.{DoesInTurn, MayRun, OneThread, ThreadsEndLevel}
 use Rattle.hp_run.specs.Running.{AreParties, FailAsBefore, HaveDoneLines}
 use Rattle.hp_run.proofs.NextLine.{all_count}
 use Rattle.hp_run.proofs.Places.{party_there}
@@ -44,10 +45,11 @@ fail_alike old new parties behind were are alike = λ who party after there now.
     alike who party after (sym (party_there old parties were who) ∙ there) (sym (party_there new behind are who) ∙ now)
 
 module _ (workload : Workload) (lines : List Line) (answers : List Answer) (line : Line) (answer : Answer) (party after : Party)
-    (first away back last : SoloView) (law : GoesOnByLine) (given : IsGiven workload) (was : HaveDoneLines workload lines answers first)
+    (first away back last : SoloView) (law : GoesOnByLine) (drops : DropsGoOnByLine) (level : ThreadsEndLevel) (given : IsGiven workload) (was : HaveDoneLines workload lines answers first)
     (declared : line.participant < workload.participants) (there : slice_get was.parties line.participant ≡ Some party)
     (did : HasDoneIts line answer party after away.plain back.plain)
-    (is : IsBackFrom line.participant after was.parties first away back last) where
+    (is : IsBackFrom line.participant after was.parties first away back last)
+    (may : (courses : List Course) → length courses ≡ length was.courses + 1 → MayRun workload courses) where
   so_far : SoFar workload was.courses was.parties away.plain
   so_far = subst (λ (hall : HallView). SoFar workload was.courses was.parties hall) (sym is.gone_plain) was.so_far
 
@@ -109,21 +111,31 @@ module _ (workload : Workload) (lines : List Line) (answers : List Answer) (line
   unfolding in_turn goes_by
   done_more =
       let goes_on = law workload was.courses was.parties behind_all.0 away.plain back.plain line answer given so_far goes_by in
-      let more : Course = record { line = line; answer = answer; trace = goes_by.does.does.does.trace } in (
+      let more : Course = record { line = line; answer = answer; trace = goes_by.does.does.does.trace } in
+      let courses : List Course = was.courses ++ more ∷ [] in
+      let so : SoFar workload courses behind_all.0 last.plain =
+      subst (λ (hall : HallView). SoFar workload courses behind_all.0 hall) (sym is.came_plain) goes_on.0 in
+      let thread : OneThread was.thread.first courses last =
+      OneThread.goes_on was.courses line answer first last was.thread.thread in_turn in (
         record {
           parties = behind_all.0;
           are = behind_all.1;
-          courses = was.courses ++ more ∷ [];
-          so_far = subst (λ (hall : HallView). SoFar workload (was.courses ++ more ∷ []) behind_all.0 hall) (sym is.came_plain) goes_on.0;
+          courses = courses;
+          so_far = so;
           lines_are = map-append (λ (course : Course). course.line) was.courses (more ∷ [])
               ∙ ap (λ (lines : List Line). lines ++ line ∷ []) was.lines_are;
           answered = map-append (λ (course : Course). course.answer) was.courses (more ∷ [])
               ∙ ap (λ (answers : List Answer). answers ++ answer ∷ []) was.answered;
-          thread = record {
-            first = was.thread.first;
-            opens = was.thread.opens;
-            thread = OneThread.goes_on was.courses line answer first last was.thread.thread in_turn;
-          };
+          thread = record { first = was.thread.first; opens = was.thread.opens; thread = thread };
+          drops = λ segs at nothing.
+              let done = level workload was.thread.first last courses behind_all.0 segs
+              (may courses (length_push was.courses more)) was.thread.opens thread so at nothing in
+              drops workload was.courses was.parties behind_all.0 away.plain back.plain line answer was.so_far.now.segs segs given so_far
+              goes_by
+              (subst (λ (hall : HallView). segs_in (slot_at hall MAX_HEAPS) ≡ Some was.so_far.now.segs) (sym is.gone_plain)
+              was.so_far.its_segs)
+              (subst (λ (hall : HallView). segs_in (slot_at hall MAX_HEAPS) ≡ Some segs) is.came_plain at) done.gone
+              (was.drops was.so_far.now.segs was.so_far.its_segs nothing);
         },
         fail_alike first.servers last.servers was.parties behind_all.0 was.are behind_all.1 goes_on.1,
       )

@@ -1,5 +1,5 @@
 -- The run of a workload that can be run is one in one thread, whose refusals have their reasons in the plan.
-use Rattle.std.proofs.Common.{◌≡◌, List, length, map, Some, ap, arith}
+use Rattle.std.proofs.Common.{◌≡◌, ◌≤◌, List, length, map, Some, ap, arith}
 use Rattle.std.proofs.lemmas.List.{length-map}
 use Rattle.std.proofs.lemmas.List.Elements.{All-weaker}
 use Rattle.hp_base.specs.Plans.{IsPlanEntry}
@@ -23,19 +23,24 @@ counted_entry : (workload : Workload) (entry : PlanEntry) → IsPlanEntry worklo
 counted_entry workload (Message kind party k twice line) is = is.few
 counted_entry workload (Mapping party call elsewhere line) is = tt
 
-pub may_run : (workload : Workload) (courses : List Course) → IsRunnable workload
-    → map (λ (course : Course). course.line) courses ≡ workload.lines.items → MayRun workload courses
-may_run workload courses runnable lines_are = record {
+pub may_run_lines : (workload : Workload) (courses : List Course) → IsRunnable workload
+    → length courses ≤ length workload.lines.items → MayRun workload courses
+may_run_lines workload courses runnable few = record {
   given = given_by workload runnable;
   waits = omega (arith, runnable.limits.some_time);
-  few = omega (
-    arith,
-    runnable.limits.few_lines,
-    length-map courses (λ (course : Course). course.line),
-    ap (λ (lines : List Line). length lines) lines_are,
-  );
+  few = omega (arith, runnable.limits.few_lines, few);
   counted = All-weaker (IsPlanEntry workload.participants) IsCounted (counted_entry workload) workload.plan.items runnable.plan.entries;
 }
+
+pub may_run : (workload : Workload) (courses : List Course) → IsRunnable workload
+    → map (λ (course : Course). course.line) courses ≡ workload.lines.items → MayRun workload courses
+may_run workload courses runnable lines_are =
+    may_run_lines workload courses runnable
+    (omega (
+      arith,
+      length-map courses (λ (course : Course). course.line),
+      ap (λ (lines : List Line). length lines) lines_are,
+    ))
 
 -- so it is behind its last line
 pub reasons_so : (workload : Workload) (answers : List Answer) (last : SoloView) (segs : SegsView) → IsRunnable workload

@@ -11,9 +11,9 @@ use Rattle.hp_script.specs.declared.workload.Workload.{Workload}
 use Rattle.hp_segs.specs.Moved.{Leads, SegsCall}
 use Rattle.hp_segs.specs.SegsView.{SegsView, is_retiring}
 use Rattle.hp_segs.specs.Sound.{IsSound}
-use Rattle.hp_segs.specs.declared.outcome.AskLog.{AskLog}
-use Rattle.hp_proc.specs.Ends.{IsSoloEnd}
-use Rattle.hp_proc.specs.LinesDone.{Course, courses_of}
+use Rattle.hp_proc.specs.Ends.{IsEnd, IsSoloEnd, OneThreadLeaves}
+use Rattle.hp_proc.specs.LinesDone.{courses_of}
+use Rattle.hp_joint.specs.Drops.{DropsComeFirst}
 use Rattle.hp_joint.specs.SoFar.{first_segs}
 use Rattle.hp_agreed.specs.Alike.{PagesAlike, TablesAlike}
 use Rattle.hp_agreed.specs.Restored.{FailuresLeaveNoRow, GrowthsRestore, TablesRestore}
@@ -56,19 +56,14 @@ pub record IsLevelEnd (segs : SegsView) (tables : List Table) : Type 0 where
 abbrev pub NoMappingMayFail : List PlanEntry → List (Option (List FailingCall)) → Type 0
 NoMappingMayFail plan mappers = (participant call : ℕ) → IsFailureNamed plan mappers participant call → ⊥
 
--- an allocation that is answered that there is no memory found no address in its heaps and was granted nothing (that it tried all of them,
--- and all page sizes, is in what its line does); and where the plan loses no message and no mapping may fail, asks were refused for want of a
--- list, of pages, of slots or of a place alone
-pub record HaveWants (workload : Workload) (mappers : List (Option (List FailingCall))) (courses : List Course) (asks : List AskLog) : Type 0 where
-  pub vain : (who : ℕ) → who < workload.participants → All IsNoneInVain (courses_of who courses)
-  pub want : LosesNothing workload.plan.items → NoMappingMayFail workload.plan.items mappers → All IsRefusedForWant asks
-
--- an end of a workload whose lines were done one after another, which of their notices have an outcome in it, and the calls by which the
--- segment value came about from the first one, which is sound
+-- an end of a workload whose lines were done one after another, which of their notices have an outcome in it, that what lines gave up had
+-- gone before later lines saw the log where the plan loses no message, and the calls by which the segment value came about from the first
+-- one, which is sound
 pub record IsHeardEnd (workload : Workload) (answers : List Answer) (heaps : List HeapView) (segs : SegsView) (tables : List Table)
     : Type 0 where
   pub end : IsSoloEnd workload answers heaps segs tables
   pub notices : NoticesAreHeard workload.plan.items end.end.courses segs.asks
+  pub drops : LosesNothing workload.plan.items → DropsComeFirst workload.participants segs.log segs.asks end.end.courses
   pub calls : List SegsCall
   pub leads : Leads calls (first_segs workload) segs
   pub opens : IsSound (first_segs workload)
@@ -82,21 +77,31 @@ pub record HasRestored (workload : Workload) (segs : SegsView) (tables : List Ta
   pub growths : GrowthsRestore calls (first_segs workload)
   pub answering : TablesRestore segs.log tables
 
--- an end of a workload whose lines were done one after another. A mapping failed, for a growth or for a line that attaches, only where the
--- plan or the mapper is why, and at no call twice; all who are attached map what is in use alike, and a growth that failed left no row; growths
--- were refused as a participant was late, and asks of one taken back or stale, at most as often as the plan loses SYNCs to it, loses its asks,
--- or repeats its asks and notices. Where the plan loses no message, no segment is Retiring, and each participant that is attached has taken in
--- all records of the log. An allocation that is answered that there is no memory found no address in its heaps and was granted nothing; and
--- where the plan loses no message and no mapping may fail, asks were refused for want of a list, of pages, of slots or of a place alone.
--- Each run that was given up has gone back, as its notice's outcome says, but for as many as the plan loses of its participant's messages; and
--- a growth that failed left all else as the other calls meanwhile would have left it
+-- what a run has come to, in whatever order its participants' steps came: an end of the workload. A mapping failed, for a growth or for a line
+-- that attaches, only where the plan or the mapper is why, and at no call twice; all who are attached map what is in use alike, and a growth
+-- that failed left no row. An allocation that is answered that there is no memory found no address in its heaps and was granted nothing (that
+-- it tried all of them, and all page sizes, is in what its line does); and a growth that failed left all else as the other calls meanwhile
+-- would have left it
 pub record IsRunEnd (workload : Workload) (mappers : List (Option (List FailingCall))) (answers : List Answer) (heaps : List HeapView)
     (segs : SegsView) (tables : List Table) : Type 0 where
-  pub end : IsSoloEnd workload answers heaps segs tables
+  pub end : IsEnd workload answers heaps segs tables
   pub named : AreNamed workload mappers answers segs
   pub agreed : IsAgreed heaps segs tables
+  pub vain : (who : ℕ) → who < workload.participants → All IsNoneInVain (courses_of who end.courses)
+  pub restored : HasRestored workload segs tables
+
+-- what a run in one thread has come to, whose lines were done one after another. Growths were refused as a participant was late, and asks of
+-- one taken back or stale, at most as often as the plan loses SYNCs to it, loses its asks, or repeats its asks and notices. Where the plan
+-- loses no message, no segment is Retiring, and each participant that is attached has taken in all records of the log; and where no mapping
+-- may fail either, asks were refused for want of a list, of pages, of slots or of a place alone. Each run that was given up has gone back, as
+-- its notice's outcome says, but for as many as the plan loses of its participant's messages; and where the plan loses no message, what lines
+-- gave up had gone before later lines saw the log
+pub record IsSoloRunEnd (workload : Workload) (mappers : List (Option (List FailingCall))) (answers : List Answer) (heaps : List HeapView)
+    (segs : SegsView) (tables : List Table) : Type 0 where
+  pub run : IsRunEnd workload mappers answers heaps segs tables
+  pub alone : OneThreadLeaves run.end.courses heaps segs
   pub reasons : HaveReasons workload segs.asks
   pub level : LosesNothing workload.plan.items → IsLevelEnd segs tables
-  pub wants : HaveWants workload mappers end.end.courses segs.asks
-  pub notices : NoticesAreHeard workload.plan.items end.end.courses segs.asks
-  pub restored : HasRestored workload segs tables
+  pub want : LosesNothing workload.plan.items → NoMappingMayFail workload.plan.items mappers → All IsRefusedForWant segs.asks
+  pub notices : NoticesAreHeard workload.plan.items run.end.courses segs.asks
+  pub drops : LosesNothing workload.plan.items → DropsComeFirst workload.participants segs.log segs.asks run.end.courses

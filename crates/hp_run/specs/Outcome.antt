@@ -9,7 +9,7 @@ use Rattle.hp_run.specs.declared.reading.TheConstants.{LIMIT}
 use Rattle.hp_run.specs.Reading.{GaveAll, GaveTooMuch}
 use Rattle.hp_report.specs.Writing.{Holds, HoldsFront}
 use Rattle.hp_report.specs.declared.ended.Ended.{Ended}
-use Rattle.hp_run.specs.Ending.{IsRunEnd}
+use Rattle.hp_run.specs.Ending.{IsSoloRunEnd}
 use Rattle.hp_run.specs.Refusals.{refusal_of, refusal_text}
 use Rattle.hp_report.specs.Report.{report as report_of}
 use Rattle.hp_run.specs.declared.refusal.Refusal.{Refusal}
@@ -32,7 +32,7 @@ usage_text = codes "usage: heapsim solo|run|check|generate <start> <lines> [summ
 pub record IsEndFor (mappers : List (Option (List FailingCall))) (input : List ℕ) (ended : Ended) : Type 0 where
   pub done : refusal_of input ≡ None
   pub workload : IsReadAs input ended.workload
-  pub end : IsRunEnd ended.workload mappers ended.answers.items ended.heaps.items ended.segs ended.tables.items
+  pub end : IsSoloRunEnd ended.workload mappers ended.answers.items ended.heaps.items ended.segs ended.tables.items
 
 -- the text is the report of an end of the workload that the input is
 pub record IsReportFor (mappers : List (Option (List FailingCall))) (input text : List ℕ) : Type 0 where

@@ -2,6 +2,7 @@
 use Rattle.std.specs.Prelude.{◌≡◌, ℕ, false, List, map, Some}
 use Rattle.std.specs.List.{All}
 use Rattle.hp_base.specs.Participants.{IsAbsent}
+use Rattle.hp_base.specs.declared.limits.TheConstants.{MAX_HEAPS}
 use Rattle.hp_base.specs.Plans.{ArePlanEntries}
 use Rattle.hp_base.specs.PoolLines.{ArePoolLines}
 use Rattle.hp_script.specs.Built.{IsBuilt}
@@ -10,10 +11,14 @@ use Rattle.hp_script.specs.Limits.{AreDeclared, AreParticipantLines, IsWithinLim
 use Rattle.hp_script.specs.declared.answer.Answer.{Answer}
 use Rattle.hp_script.specs.declared.line.Line.{Line}
 use Rattle.hp_script.specs.declared.workload.Workload.{Workload}
+use Rattle.hp_plain.specs.HallView.{segs_in, slot_at}
+use Rattle.hp_segs.specs.SegsView.{SegsView}
 use Rattle.hp_proc.specs.LinesDone.{Course}
 use Rattle.hp_proc.specs.Party.{Party}
 use Rattle.hp_solo.specs.Solo.{ServerView, SoloView, party_at}
+use Rattle.hp_joint.specs.Drops.{DropsComeFirst}
 use Rattle.hp_joint.specs.SoFar.{SoFar}
+use Rattle.hp_reasons.specs.Counting.{LosesNothing}
 use Rattle.hp_reasons.specs.Threads.{OneThread, OpensThread}
 
 -- a workload can be run: it is of what is built so far and within its limits, and so are its pools, its plan, its participants and its lines
@@ -41,7 +46,8 @@ pub record CameInThread (workload : Workload) (courses : List Course) (hall : So
   pub opens : OpensThread workload first
   pub thread : OneThread first courses hall
 
--- the participants have done these lines of a workload in turns, they were answered so, and each is back in its place
+-- the participants have done these lines of a workload in turns, they were answered so, and each is back in its place; and where the plan
+-- loses no message, what lines gave up had gone before later lines saw the log
 pub record HaveDoneLines (workload : Workload) (lines : List Line) (answers : List Answer) (hall : SoloView) : Type 0 where
   pub parties : List Party
   pub are : AreParties hall.servers parties
@@ -50,6 +56,8 @@ pub record HaveDoneLines (workload : Workload) (lines : List Line) (answers : Li
   pub lines_are : map (λ course. course.line) courses ≡ lines
   pub answered : map (λ course. course.answer) courses ≡ answers
   pub thread : CameInThread workload courses hall
+  pub drops : (segs : SegsView) → segs_in (slot_at hall.plain MAX_HEAPS) ≡ Some segs → LosesNothing workload.plan.items
+      → DropsComeFirst workload.participants segs.log segs.asks courses
 
 -- the mapper of each participant that is there may fail at the calls at which it might before
 abbrev pub FailAsBefore : List ServerView → List ServerView → Type 0

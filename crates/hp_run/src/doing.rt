@@ -8,7 +8,8 @@ ghost use Rattle.hp_solo.specs.Solo.{has_stopped};
 ghost use Rattle.hp_run.specs.Running.{FailAsBefore, HaveDoneLines, IsRunnable};
 
 use hp_base::Mapper;
-use hp_joint::line_law;
+use hp_joint::{drops_law, line_law};
+use hp_reasons::level_law;
 use hp_script::{Answer, Workload};
 use hp_solo::SoloHall;
 use std::alloc::{AllocError, Global};
@@ -58,6 +59,8 @@ fn do_next<'p, M: Mapper>(
     // What holds of every such hall, and of every line more.
     hall.sound();
     line_law();
+    drops_law();
+    level_law();
     Ok(())
 }
 
@@ -74,6 +77,7 @@ pub fn do_rest<M: Mapper>(hall: &mut SoloHall<'_, M>) -> Result<(), AllocError>
     all_going(hall)?;
     hall.sound();
     line_law();
+    drops_law();
     Ok(())
 }
 

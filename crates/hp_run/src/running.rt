@@ -5,7 +5,7 @@ ghost use Rattle.hp_segs.specs.Opening.{is_present};
 ghost use Rattle.hp_joint.specs.EndLaws.{said_in};
 ghost use Rattle.hp_reasons.specs.Counting.{LosesNothing};
 ghost use Rattle.hp_reasons.specs.Threads.{HaveReasons};
-ghost use Rattle.hp_run.specs.Ending.{AreAsMay, IsHeardEnd, IsLevelEnd, IsRunEnd};
+ghost use Rattle.hp_run.specs.Ending.{AreAsMay, IsHeardEnd, IsLevelEnd, IsSoloRunEnd};
 ghost use Rattle.hp_run.specs.Mappers.{IsUnused};
 ghost use Rattle.hp_run.specs.Opening.{HaveCome, IsEmptyHall, IsFirstHall, IsPlannedParty};
 ghost use Rattle.hp_run.specs.Running.{HaveDoneLines, IsRunnable, IsSameWorkload};
@@ -15,7 +15,7 @@ use crate::opening::{first_heaps, plan_of};
 use hp_agreed::{alike_law, restoring_law};
 use hp_base::{MAX_SEGMENTS, Mapper, Plan};
 use hp_heap::Heap;
-use hp_joint::{end_law, failure_law, line_law, refusal_law};
+use hp_joint::{drops_law, end_law, failure_law, line_law, refusal_law};
 use hp_maps::{LocalMaps, Planned, Table};
 use hp_plain::{HallParts, PlainHall};
 use hp_proc::{LineContext, Participant, WorkloadFacts};
@@ -45,7 +45,7 @@ pub fn run<'a, M: Mapper>(
     requires runnable { IsRunnable workload }
     requires count { workload.participants ≤ length mappers.items }
     requires unused { All (λ mapper. IsUnused (M.held mapper) (M.answers mapper) (M.capacity mapper)) mappers.items }
-    ensures end { IfOk result (λ ended. IsRunEnd ended.workload (map M.may_fail mappers.items) ended.answers.items ended.heaps.items
+    ensures end { IfOk result (λ ended. IsSoloRunEnd ended.workload (map M.may_fail mappers.items) ended.answers.items ended.heaps.items
         ended.segs ended.tables.items) }
     ensures workload { IfOk result (λ ended. IsSameWorkload ended.workload workload.entry) }
 {
@@ -68,7 +68,7 @@ fn run_planned<'x, M: Mapper>(
     requires runnable { IsRunnable workload.now }
     requires count { workload.now.participants ≤ length mappers.items }
     requires unused { All (λ mapper. IsUnused (M.held mapper) (M.answers mapper) (M.capacity mapper)) mappers.items }
-    ensures { IfOk result (λ left. IsRunEnd workload.now (map M.may_fail mappers.items) left.answers.items left.heaps.items
+    ensures { IfOk result (λ left. IsSoloRunEnd workload.now (map M.may_fail mappers.items) left.answers.items left.heaps.items
         left.segs left.tables.items) }
 {
     let plan = plan_of(alloc, workload.participants, &workload.plan)?;
@@ -86,7 +86,7 @@ fn run_said<'x, M: Mapper>(
     requires plan { plan.now ≡ workload.now.plan.items }
     requires count { workload.now.participants ≤ length mappers.items }
     requires unused { All (λ mapper. IsUnused (M.held mapper) (M.answers mapper) (M.capacity mapper)) mappers.items }
-    ensures { IfOk result (λ left. IsRunEnd workload.now (map M.may_fail mappers.items) left.answers.items left.heaps.items
+    ensures { IfOk result (λ left. IsSoloRunEnd workload.now (map M.may_fail mappers.items) left.answers.items left.heaps.items
         left.segs left.tables.items) }
 {
     let facts = WorkloadFacts::of(alloc, &workload.pools, &workload.lines)?;
@@ -106,12 +106,13 @@ fn run_lines<'p, M: Mapper>(
     requires facts { facts.now ≡ said_in workload.now }
     requires count { workload.now.participants ≤ length mappers.items }
     requires unused { All (λ mapper. IsUnused (M.held mapper) (M.answers mapper) (M.capacity mapper)) mappers.items }
-    ensures { IfOk result (λ left. IsRunEnd workload.now (map M.may_fail mappers.items) left.answers.items left.heaps.items
+    ensures { IfOk result (λ left. IsSoloRunEnd workload.now (map M.may_fail mappers.items) left.answers.items left.heaps.items
         left.segs left.tables.items) }
 {
     let mut hall = empty_hall(alloc, workload)?;
     come_all(alloc, workload, plan, facts, mappers, &mut hall)?;
     line_law();
+    drops_law();
     alike_law();
     restoring_law();
     none_law();

@@ -22,7 +22,7 @@ use std::alloc::{AllocError, Global};
 const USAGE: &[u8] = b"usage: heapsim solo|run|check|generate <start> <lines> [summary]\n";
 
 /// The program: its words, without its name, a workload, where its report goes, and a mapper for each participant that there can be. Where
-/// it reports a workload it reports an end of it (`IsRunEnd`): mappings failed by the plan or their mapper alone, all who are attached agree
+/// it reports a workload it reports an end of it (`IsSoloRunEnd`): mappings failed by the plan or their mapper alone, all who are attached agree
 /// on the memory in use, and growths were refused as late, and asks taken back or stale, at most as often as the plan loses or repeats
 /// messages. Where the plan loses none, all that heaps gave up has gone back, and all who are attached have taken in all records; and where
 /// no mapping may fail either, asks were refused for want of a list, of pages, of slots or of a place alone. Own.

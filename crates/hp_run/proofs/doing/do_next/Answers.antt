@@ -1,13 +1,14 @@
 -- One of the participants goes away for its line, and comes back.
 use Rattle.std.proofs.Common.{◌≡◌, ◌∙◌, ℕ, ◌+◌, List, [], ◌∷◌, ◌++◌, length, take, Some, ap, sym, subst, arith}
 use Rattle.std.specs.List.{slice_get}
-use Rattle.std.proofs.lemmas.List.{take_more}
+use Rattle.std.proofs.lemmas.List.{length-map, length-take-le, take_more}
 use Rattle.hp_hall.specs.HallState.{Did, HallState, IsBusy}
 use Rattle.hp_hall.specs.Weights.{pending_at}
 use Rattle.hp_plain.specs.HallView.{HallView, heard_in, own_at, part_in, seen_in}
 use Rattle.hp_script.specs.declared.answer.Answer.{Answer}
 use Rattle.hp_script.specs.declared.line.Line.{Line}
 use Rattle.hp_proc.specs.Clocks.{IsOneClock}
+use Rattle.hp_proc.specs.LinesDone.{Course}
 use Rattle.hp_proc.specs.Progress.{DoesLine, IsLineBuilt, MayDo, Moment, moment_of}
 use Rattle.hp_proc.specs.Tied.{IsTied}
 use Rattle.hp_proc.proofs.Rising.{one_clock}
@@ -19,6 +20,7 @@ use Rattle.hp_run.proofs.Coming.{given_by}
 use Rattle.hp_run.proofs.NextLine.{all_count, all_there, line_can, line_declared, next_line, nothing_out}
 use Rattle.hp_run.proofs.OneMore.{HasDoneIts, done_more}
 use Rattle.hp_run.proofs.Places.{party_there, there_below}
+use Rattle.hp_run.proofs.ReasonLemmas.{may_run_lines}
 use Rattle.hp_run.proofs.Returning.{IsBackFrom}
 use Rattle.hp_run.proofs.doing.do_next.Goals as goal
 
@@ -172,8 +174,18 @@ returns g c =
     } in
     let more =
     done_more workload (take place lines) c.args.answers.now.items line answer party after first away back last
-    c.line_law.ensures.goes_on (given_by workload c.requires.runnable) was
-    (line_declared workload place line c.requires.runnable c.requires.within c.index-line.ensures) there its comes in
+    c.line_law.ensures.goes_on c.drops_law.ensures.goes_on c.level_law.ensures (given_by workload c.requires.runnable) was
+    (line_declared workload place line c.requires.runnable c.requires.within c.index-line.ensures) there its comes
+    (λ courses long.
+    may_run_lines workload courses c.requires.runnable
+    (omega (
+      arith,
+      long,
+      c.requires.within,
+      length-map was.courses (λ (course : Course). course.line),
+      ap (λ (lines : List Line). length lines) was.lines_are,
+      length-take-le place lines (omega (arith, c.requires.within)),
+    ))) in
     let one_more : take (place + 1) lines ≡ take place lines ++ line ∷ [] =
     take_more lines place line c.requires.within ∙ ap (λ (it : Line). take place lines ++ it ∷ []) (sym c.index-line.ensures) in
     record {

@@ -4,6 +4,7 @@ use Rattle.hp_plain.specs.HallSteps.{slots_of}
 use Rattle.hp_plain.specs.HallView.{HallView, IsHall}
 use Rattle.hp_plain.specs.Opening.{AreHome}
 use Rattle.hp_proc.specs.LinesDone.{Course}
+use Rattle.hp_joint.specs.Drops.{DropsComeFirst}
 use Rattle.hp_reasons.specs.Notices.{NoticesAreHeard}
 use Rattle.hp_run.specs.Running.{HaveDoneLines}
 use Rattle.hp_run.proofs.Coming.{given_by}
@@ -62,6 +63,9 @@ returns g c =
         end = ended.0;
         notices = subst (λ (courses : List Course). NoticesAreHeard workload.plan.items courses left.segs.asks) (sym ended.1)
             (notices_so workload answers last left.segs c.requires.runnable c.notices_law.ensures done shown);
+        drops = λ nothing.
+            subst (λ (courses : List Course). DropsComeFirst workload.participants left.segs.log left.segs.asks courses) (sym ended.1)
+            (done.drops left.segs shown nothing);
         calls = came.calls;
         leads = came.leads;
         opens = first_sound workload answers last done;

@@ -2,7 +2,7 @@ use Rattle.std.proofs.Common.{map}
 use Rattle.hp_joint.specs.SoFar.{first_segs}
 use Rattle.hp_reasons.specs.Counting.{LosesNothing}
 use Rattle.hp_reasons.specs.Threads.{HaveReasons}
-use Rattle.hp_run.specs.Ending.{AreAsMay, IsHeardEnd, IsLevelEnd, IsRunEnd}
+use Rattle.hp_run.specs.Ending.{AreAsMay, IsHeardEnd, IsLevelEnd, IsSoloRunEnd}
 use Rattle.hp_run.proofs.Coming.{first_stays, opens_so}
 use Rattle.hp_run.proofs.FailureLemmas.{named_all}
 use Rattle.hp_run.proofs.OpeningLemmas.{if_both, if_three}
@@ -12,7 +12,7 @@ use Rattle.hp_run.proofs.running.run_lines.Goals as goal
 pub run_in-requires-clause-first : goal.run_in-requires-clause-first
 run_in-requires-clause-first g c =
     let workload = c.args.workload.now in
-    opens_so workload (map g.M.Mapper.may_fail c.args.mappers.items) c.come_all.new.hall c.line_law.ensures.opens c.requires.runnable
+    opens_so workload (map g.M.Mapper.may_fail c.args.mappers.items) c.come_all.new.hall c.line_law.ensures.opens c.drops_law.ensures.opens c.requires.runnable
     (first_stays workload c.in_ok-hall.hall c.come_all.new.hall c.in_ok-hall.ensures.0 c.in_ok-come_all.ensures.plain)
     c.in_ok-come_all.ensures.come
 
@@ -29,27 +29,33 @@ returns g c =
     (λ left. AreAsMay workload servers left.answers.items left.segs)
     (λ left. HaveReasons workload left.segs.asks
     × (LosesNothing workload.plan.items → IsLevelEnd left.segs left.tables.items))
-    (λ left. IsRunEnd workload mappers left.answers.items left.heaps.items left.segs left.tables.items) c.run_in.result
+    (λ left. IsSoloRunEnd workload mappers left.answers.items left.heaps.items left.segs left.tables.items) c.run_in.result
     (λ left heard named by_plan.
     let end = heard.end in
     let are_named = named_all workload mappers servers left.answers.items left.segs c.in_ok-come_all.ensures.come named in
     record {
-      end = end;
-      named = are_named;
-      agreed = record {
-        alike = c.alike_law.ensures.at_end workload left.answers.items left.heaps.items left.segs left.tables.items end.end;
-        pages = c.alike_law.ensures.pages workload left.answers.items left.heaps.items left.segs left.tables.items end.end;
-        restored = c.restoring_law.ensures.tables left.segs end.end.segs_sound;
+      run = record {
+        end = end.end;
+        named = are_named;
+        agreed = record {
+          alike = c.alike_law.ensures.at_end workload left.answers.items left.heaps.items left.segs left.tables.items end.end;
+          pages = c.alike_law.ensures.pages workload left.answers.items left.heaps.items left.segs left.tables.items end.end;
+          restored = c.restoring_law.ensures.tables left.segs end.end.segs_sound;
+        };
+        vain = λ who below.
+            c.none_law.ensures.vain workload left.answers.items left.heaps.items left.segs left.tables.items end.end who below;
+        restored = record {
+          calls = heard.calls;
+          leads = heard.leads;
+          growths = c.restoring_law.ensures.along heard.calls (first_segs workload) heard.opens;
+          answering = c.restoring_law.ensures.at_end workload left.answers.items left.heaps.items left.segs left.tables.items end.end;
+        };
       };
+      alone = end.alone;
       reasons = by_plan.0;
       level = by_plan.1;
-      wants = wants_so workload mappers left.answers.items left.heaps.items left.segs left.tables.items end are_named by_plan.0
-          c.none_law.ensures.vain c.none_law.ensures.want;
+      want = wants_so workload mappers left.answers.items left.heaps.items left.segs left.tables.items end.end are_named by_plan.0
+          c.none_law.ensures.want;
       notices = heard.notices;
-      restored = record {
-        calls = heard.calls;
-        leads = heard.leads;
-        growths = c.restoring_law.ensures.along heard.calls (first_segs workload) heard.opens;
-        answering = c.restoring_law.ensures.at_end workload left.answers.items left.heaps.items left.segs left.tables.items end.end;
-      };
+      drops = heard.drops;
     }) c.run_in.ensures.end c.run_in.ensures.named by_plan

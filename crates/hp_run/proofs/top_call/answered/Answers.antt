@@ -7,7 +7,7 @@ use Rattle.hp_run.proofs.EndLemmas.{each_answered}
 use Rattle.hp_run.proofs.top_call.answered.Goals as goal
 
 pub reported-requires : goal.reported-requires
-reported-requires g c = record { answers = each_answered _ _ _ _ _ c.in-Ok.ensures.end.end }
+reported-requires g c = record { answers = each_answered _ _ _ _ _ c.in-Ok.ensures.end.run.end }
 
 pub returns-in-Ok-clause-written : goal.returns-in-Ok-clause-written
 returns-in-Ok-clause-written g c =

@@ -1,0 +1,13 @@
+use Rattle.hp_joint.proofs.DropsOn.{drops_open}
+use Rattle.hp_joint.proofs.Onward.{drops_line}
+use Rattle.hp_joint.proofs.Resting.{drops_rest}
+use Rattle.hp_joint.proofs.laws.drops_law.Goals as goal
+
+pub returns-clause-opens : goal.returns-clause-opens
+returns-clause-opens c = drops_open
+
+pub returns-clause-goes_on : goal.returns-clause-goes_on
+returns-clause-goes_on c = drops_line
+
+pub returns-clause-rests : goal.returns-clause-rests
+returns-clause-rests c = drops_rest
