@@ -210,7 +210,7 @@ module _ (denies : ℕ → ℕ → Option (List ℕ × ℕ) → Type 0)
           both (is_armed ask segs) (grow_judged ask (after_drop segs)) None (grown denial ask (after_drop segs)) (idle segs Nothing) Q
           (λ armed. by_planned ask its (record { fresh = fresh; armed = armed }) none (plan_of ask (after_drop segs)) refl)
           (λ unarmed may. by_none segs refl (λ before. before))
-      by_fresh (want.Shrink from number) its none fresh may =
+      by_fresh (want.Shrink from number) its none fresh = λ may.
           by_one (after_freed from number (after_drop segs))
           (record {
             from = from;

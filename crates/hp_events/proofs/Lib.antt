@@ -1,2 +1,4 @@
 mod ListFacts
 mod RoomLemmas
+mod RefusalLemmas
+mod AnswerLemmas

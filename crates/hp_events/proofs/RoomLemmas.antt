@@ -1,14 +1,13 @@
 -- Watchers that are told, whose room grows, and that come and go.
-use Rattle.std.proofs.Common.{◌≡◌, ◌≢◌, ℕ, ◌+◌, ◌-◌, ◌<◌, ◌≤◌, Bool, not, List, [], ◌∷◌, ◌++◌, map, filter, set, get_or, length, refl, ap, ◌∙◌, sym, subst, arith, inl, inr}
-use Rattle.std.specs.List.{All}
+use Rattle.std.proofs.Common.{◌≡◌, ℕ, ◌+◌, ◌-◌, ◌<◌, ◌≤◌, Bool, List, [], ◌∷◌, ◌++◌, map, filter, set, get_or, length, refl, ap, ◌∙◌, sym, subst, arith, inl, inr}
 use Rattle.std.proofs.lemmas.Bool.{cases_eq}
 use Rattle.std.proofs.lemmas.List.{get_or-set_other, get_or-set_same, length-map, length-set, length_push}
 use Rattle.std.proofs.lemmas.List.Elements.{All-append, All-cons, All-filter, All-map, All-nil, All-weaker}
 use Rattle.std.proofs.lemmas.List.Sums.{count_by-le-length, length-filter}
-use Rattle.hp_base.specs.Telling.{Listener, hearing}
+use Rattle.hp_base.specs.Telling.{hearing}
 use Rattle.hp_base.specs.declared.event.Event.{Event}
 use Rattle.hp_events.specs.Watching.{AreWatchers, HaveRoom, IsRoomier, WatcherView, heard, listener_of}
-use Rattle.hp_events.proofs.ListFacts.{map_filter, same_part}
+use Rattle.hp_events.proofs.ListFacts.{same_part}
 
 -- of watchers in turn one is replaced by one that is told the same and has no less room
 pub roomier_set : (old now : List WatcherView) (i : ℕ) (d y : WatcherView) → i < length now → y.listener ≡ (get_or now i d).listener
@@ -38,6 +37,19 @@ as_many old new same = omega (arith, ap length same, length-map new listener_of,
 pub roomier_kept : (old new : List WatcherView) (spare : ℕ) → AreWatchers old spare → IsRoomier old new → AreWatchers new spare
 roomier_kept old new spare are is =
     record { few = omega (arith, are.few, as_many old new is.listeners); room = is.kept spare are.room }
+
+-- those so far have the room, and so has one more
+pub room_more : (events : ℕ) (now : List WatcherView) (i : ℕ) (y : WatcherView) → i < length now → events ≤ y.room
+    → ((k : ℕ) (d : WatcherView) → k < i → events ≤ (get_or now k d).room)
+    → (k : ℕ) (d : WatcherView) → k < i + 1 → events ≤ (get_or (set now i y) k d).room
+room_more events now i y within has before k d below =
+    elim (cases_eq k i) [
+      | inl here ↦
+          subst (λ k. events ≤ (get_or (set now i y) k d).room) (sym here)
+          (subst (λ (w : WatcherView). events ≤ w.room) (sym (get_or-set_same now i y d within)) has)
+      | inr other ↦
+          subst (λ (w : WatcherView). events ≤ w.room) (sym (get_or-set_other now i k y d other)) (before k d (omega (arith, below, other)))
+    ]
 
 -- each is told an event
 pub told_listeners : (event : Event) (list : List WatcherView) → map listener_of (map (heard event) list) ≡ map (hearing event) (map listener_of list)

@@ -44,14 +44,17 @@ module _ {F : Type 0} where
     abbrev pub Allows : Validator F → Type 0
     Allows own = IsAsked socket total own → answers own.allows socket own.limit total true
 
-    -- the validator of that name and limit is the first that denies the bytes: it is asked and its closure answers false, and those before
-    -- it allow them
+    -- it is asked, and its closure answers false
+    pub record IsDenying (own : Validator F) : Type 0 where
+      pub asked : IsAsked socket total own
+      pub answered : answers own.allows socket own.limit total false
+
+    -- the validator of that name and limit is the first that denies the bytes: those before it allow them
     pub record IsFirstToDeny (validators : List (Validator F)) (name : List ℕ) (limit : ℕ) : Type 0 where
       pub place : ℕ
       pub own : Validator F
       pub its_place : slice_get validators place ≡ Some own
-      pub asked : IsAsked socket total own
-      pub denied : answers own.allows socket own.limit total false
+      pub denies : IsDenying own
       pub before : All Allows (take place validators)
       pub its_name : name ≡ own.name
       pub its_limit : limit ≡ own.limit
@@ -65,7 +68,7 @@ module _ {F : Type 0} where
     pub limit_below : (validators : List (Validator F)) (answer : Option (List ℕ × ℕ)) → AreAnswered validators answer
         → IfSome answer (λ denied. denied.1 < total)
     limit_below validators None is = tt
-    limit_below validators (Some (name, limit)) is = subst (λ limit. limit < total) (sym is.its_limit) is.asked.above
+    limit_below validators (Some (name, limit)) is = subst (λ limit. limit < total) (sym is.its_limit) is.denies.asked.above
 
 -- it is refused for that, and else registered, unless memory is wanting
 abbrev pub AnswersLimit : Option LimitFault → Result Unit LimitFault → Type 0

@@ -1,10 +1,12 @@
 //! The allocation validators of all sockets, and what they answer.
-ghost use Rattle.std.specs.Prelude.{◌≡◌, ◌++◌, ◌∷◌, [], filter, not, OnErr, OnOk};
+ghost use Rattle.std.specs.Prelude.{◌≡◌, ◌++◌, ◌∷◌, [], false, filter, not, true, OnErr, OnOk};
 ghost use Rattle.std.specs.List.{All, list_any};
 ghost use Rattle.hp_events.specs.Validators.{
+  Allows,
   AnswersLimit,
   AreAnswered,
   HasNone,
+  IsDenying,
   Unregisters,
   is_its,
   limit_below,
@@ -101,14 +103,20 @@ fn first_to_deny<F: Fn(u32, u64, u64) -> bool + Drop>(
     ensures { AreAnswered F.post socket total list.now result }
 {
     for own in list {
-        if own.socket == socket
-            && own.limit < total
-            && !(own.allows)(socket, own.limit, total)
-        {
+        if denies(own, socket, total) {
             return Some((own.name, own.limit));
         }
     }
     None
+}
+
+// Whether a validator is asked for the bytes of a socket, and its closure answers false.
+fn denies<F: Fn(u32, u64, u64) -> bool + Drop>(own: &Validator<F>, socket: u32, total: u64) -> bool
+    requires { F.IsAlwaysCallable own.now.allows }
+    ensures denied { result ≡ true → IsDenying F.post socket total own.now }
+    ensures allowed { result ≡ false → Allows F.post socket total own.now }
+{
+    own.socket == socket && own.limit < total && !(own.allows)(socket, own.limit, total)
 }
 
 // Whether a validator of the socket has the name.

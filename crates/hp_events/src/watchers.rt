@@ -1,5 +1,5 @@
 //! The memory event callbacks of a participant.
-ghost use Rattle.std.specs.Prelude.{◌≡◌, ◌×◌, ◌<◌, ◌≤◌, length, slice_get, IfErr, IfSome, OnErr, OnOk};
+ghost use Rattle.std.specs.Prelude.{◌≡◌, ◌<◌, ◌≤◌, length, slice_get, IfErr, IfSome, OnErr, OnOk};
 ghost use Rattle.hp_events.specs.Watchers.{
   AnswersUnwatch,
   AnswersWatch,
@@ -93,9 +93,9 @@ impl Watchers {
         ensures ok { OnOk result (self.new ≡ unregistered name.now self.old) }
         ensures err { OnErr result (self.new ≡ self.old) }
     {
-        if Name::new(name).is_none() {
+        let Some(_own) = Name::new(name) else {
             return Err(UnwatchFault::NameLong { len: name.len() });
-        }
+        };
         if !has_name(&self.list, name) {
             return Err(UnwatchFault::NotFound);
         }
