@@ -87,7 +87,7 @@ module _ (denies : ℕ → ℕ → Option (List ℕ × ℕ) → Type 0)
   -- an outcome is logged that is no denial, and nothing is opened
   by_one : (new : SegsView) (one : AskLog) → new.asks ≡ segs.asks ++ one ∷ []
       → ((validator : List ℕ) (limit total : ℕ) → one.outcome ≡ Refused (Denied validator limit total)
-          → IsDenied denies event core segs one validator limit total)
+      → IsDenied denies event core segs one validator limit total)
       → (segs.growth ≡ None → new.growth ≡ None) → ByJudge new
   by_one new one asks its_denial growth = record {
     denied = λ entry validator limit total has is.

@@ -5,12 +5,10 @@ mod fbarray;
 mod flags;
 mod frame;
 mod freelist;
-mod limiting;
 mod log;
 mod memory;
 mod pool;
 mod streams;
-mod watching;
 mod words;
 mod written;
 

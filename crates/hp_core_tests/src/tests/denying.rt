@@ -75,14 +75,15 @@ fn is_granted(outcome: Option<Outcome>, at: u64) -> bool {
 
 fn is_denied(outcome: Option<Outcome>, by: &str, below: u64, bytes: u64) -> bool {
     match outcome {
-        Some(Outcome::Refused {
-            cause:
-                Cause::Denied {
+        Some(
+            Outcome::Refused {
+                cause: Cause::Denied {
                     validator,
                     limit,
                     total,
                 },
-        }) => validator.as_bytes() == by.as_bytes() && limit == below && total == bytes,
+            },
+        ) => validator.as_bytes() == by.as_bytes() && limit == below && total == bytes,
         _ => false,
     }
 }

@@ -68,14 +68,7 @@ fn go_on<M: Mapper>(
 {
     let mut reached = 0;
     for place in 0..steps.len() {
-        if !perform(
-            alloc,
-            maps,
-            watchers,
-            records,
-            &mut reached,
-            steps[place],
-        ) {
+        if !perform(alloc, maps, watchers, records, &mut reached, steps[place]) {
             return Err(Otherwise { place }.into());
         }
     }
@@ -115,7 +108,10 @@ fn play_over(
     let plan = plan_with(alloc, failure)?;
     let mut watchers = Watchers::new(alloc);
     let mut maps = empty_table(alloc, &plan, party_of(failure))?;
-    if watchers.register(alloc, "first".as_bytes(), maps.rows()).is_err() {
+    if watchers
+        .register(alloc, "first".as_bytes(), maps.rows())
+        .is_err()
+    {
         return Err("memory for a watcher".into());
     }
     go_on(alloc, &mut maps, &mut watchers, records, steps)?;

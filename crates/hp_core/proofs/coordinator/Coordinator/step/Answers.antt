@@ -11,4 +11,4 @@ returns-clause-answers g c =
 pub returns-clause-judged : goal.returns-clause-judged
 returns-clause-judged g c =
     steps_by_judge (g.J.Judge.denies c.args.judge.now) (g.met.J.Judge.limits c.args.judge.now) c.args.event c.args.self.now c.take.new.self
-    c.args.segs.now c.take.new.segs c.take.result c.records-_records.ensures.sound c.take.ensures.step
+    c.args.segs.now c.take.new.segs c.take.result c.records-records.ensures.sound c.take.ensures.step

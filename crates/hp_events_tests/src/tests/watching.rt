@@ -8,6 +8,7 @@ use std::test::Fail;
 
 // A name of 63 bytes, and one of 64.
 const LONGEST: &str = "wwwwwwwwwwwwwwwwwwwwwwwwwwwwwwwwwwwwwwwwwwwwwwwwwwwwwwwwwwwwwww";
+
 const TOO_LONG: &str = "wwwwwwwwwwwwwwwwwwwwwwwwwwwwwwwwwwwwwwwwwwwwwwwwwwwwwwwwwwwwwwww";
 
 // What a call is answered.
