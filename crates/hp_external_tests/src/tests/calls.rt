@@ -50,12 +50,7 @@ pub fn destroy(all: &mut World, text: &[u8]) -> Option<Result<(), DestroyFault>>
     if all.heap.reserve(1).is_err() || !is_that(&all.names, &all.heap, text) {
         return None;
     }
-    Some(hp_external::destroy(
-        &mut all.names,
-        &mut all.heap,
-        FIRST,
-        text,
-    ))
+    Some(hp_external::destroy(&mut all.names, &mut all.heap, FIRST, text))
 }
 
 pub fn add(
@@ -83,12 +78,7 @@ pub fn add(
     ))
 }
 
-pub fn remove(
-    all: &mut World,
-    text: &[u8],
-    addr: u64,
-    len: u64,
-) -> Option<Result<(), RemoveFault>>
+pub fn remove(all: &mut World, text: &[u8], addr: u64, len: u64) -> Option<Result<(), RemoveFault>>
     requires { IsWorld all.old }
     ensures { IsWorld all.new }
 {
