@@ -41,7 +41,7 @@ module _ (alloc free : Act) (request : Request) where
   abbrev lines : List Course
   lines =
       did 0 alloc (answer.Address 128) (Asked page (Some run) ∷ [])
-      ∷ did 0 free answer.Ok (Called 0 (call.Cut 128) (gives.Pages run) ∷ GaveUp 0 run ∷ [])
+      ∷ did 0 free answer.Done (Called 0 (call.Cut 128) (gives.Pages run) ∷ GaveUp 0 run ∷ [])
       ∷ did 1 alloc answer.None (Asked page None ∷ []) ∷ []
 
   abbrev outcome : ℕ → ℕ → ℕ → Outcome → AskLog
