@@ -1,0 +1,9 @@
+pub mod Marks
+pub mod ListLemmas
+pub mod RowLemmas
+pub mod ChunkLemmas
+pub mod ElementLemmas
+pub mod AddLemmas
+pub mod CallLemmas
+pub mod TieSteps
+pub mod TieMarks

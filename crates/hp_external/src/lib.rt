@@ -1,0 +1,20 @@
+//! External heaps: heaps that are made by name, and the memory that is brought to them, over the names, one heap, the segment value and
+//! the table of a participant.
+#![tactic(auto)]
+
+mod adding;
+mod attaching;
+mod creating;
+mod fault;
+mod looks;
+mod naming;
+mod removing;
+
+pub use adding::memory_add;
+pub use attaching::{memory_attach, memory_detach};
+pub use creating::{create, destroy};
+pub use fault::{
+    AddFault, AttachFault, ChunkFault, CreateFault, DestroyFault, DetachFault, NameFault,
+    RemoveFault,
+};
+pub use removing::memory_remove;
