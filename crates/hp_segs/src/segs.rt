@@ -34,9 +34,8 @@ pub const PARTICIPANTS: usize = MAX_PARTICIPANTS as usize;
 /// rte_malloc under Multi-process Support.
 #[derive(Drop)]
 pub struct Segs {
-    // The two great parts stand in boxes, since the value goes by value from hand to hand.
-    table: Box<Table>,
-    asks: Box<Asks>,
+    table: Table,
+    asks: Asks,
     // By rising address, with room for every slot.
     retiring: Vec<Run>,
     retired: RetiredLog,
@@ -55,9 +54,9 @@ impl Model for Segs {
 
     ghost use Rattle.hp_segs.specs.SegsLayout.{IsKept, view_of};
 
-    ghost view = { λ s. view_of s.table.value s.asks.value s.retiring.items s.retired s.growth s.roster s.armed.value s.ranges.items s.spare };
+    ghost view = { λ s. view_of s.table s.asks s.retiring.items s.retired s.growth s.roster s.armed.value s.ranges.items s.spare };
 
-    ghost invariant = { λ s. IsKept s.table.value s.asks.value s.retiring.items s.retired s.growth s.roster s.armed.value
+    ghost invariant = { λ s. IsKept s.table s.asks s.retiring.items s.retired s.growth s.roster s.armed.value
         s.ranges.items s.spare (vec_capacity s.retiring) };
 }
 
@@ -83,11 +82,9 @@ impl Segs {
         let retiring = Vec::with_capacity(alloc, slots)?;
         let asks = Asks::new(alloc)?;
         let table = Table::new(alloc, pools)?;
-        let boxed_asks = Box::new(alloc, asks)?;
-        let boxed_table = Box::new(alloc, table)?;
         Ok(Segs {
-            table: boxed_table,
-            asks: boxed_asks,
+            table,
+            asks,
             retiring,
             retired,
             growth: None,

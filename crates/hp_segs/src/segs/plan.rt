@@ -138,7 +138,7 @@ impl Segs {
         }
         match self.table.list_number(ask.socket, ask.page) {
             None => Err(PlanRefusal::NoList),
-            Some(list) => plan_in(&*self.table, ask, list),
+            Some(list) => plan_in(&self.table, ask, list),
         }
     }
 }

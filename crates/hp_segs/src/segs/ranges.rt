@@ -244,8 +244,8 @@ impl Segs {
         ensures { result ≡ range_apart self.now len page (overlap_of self.now addr len) }
     {
         let ranges = self.ranges.as_slice();
-        let found = shared_in_pools(&*self.table, addr, len);
-        if let Some(row) = shared_in_ranges(&*self.table, ranges, found, addr, len) {
+        let found = shared_in_pools(&self.table, addr, len);
+        if let Some(row) = shared_in_ranges(&self.table, ranges, found, addr, len) {
             return Err(RangeFault::Overlaps { row });
         }
         let Some(list) = free_list(self.table.pools().len(), ranges) else {

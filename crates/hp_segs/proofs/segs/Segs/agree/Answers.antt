@@ -21,6 +21,6 @@ invariant_of-self c =
     let s = c.self.inside in
     rw (c.push.ensures, c.records.ensures.records, c.agree.ensures)
     (kept_granted c.in-Some.growth _ c.self.invariant
-    (sound_granted (view_of s.table.value s.asks.value s.retiring.items s.retired s.growth s.roster s.armed.value s.ranges.items s.spare) c.self.invariant.sound c.in-Some.growth
+    (sound_granted (view_of s.table s.asks s.retiring.items s.retired s.growth s.roster s.armed.value s.ranges.items s.spare) c.self.invariant.sound c.in-Some.growth
     c.in-Some.is)
     may.spare)

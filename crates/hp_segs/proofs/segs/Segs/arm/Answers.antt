@@ -9,7 +9,7 @@ pub invariant_of-self-2 : goal.invariant_of-self-2
 invariant_of-self-2 c =
     let s = c.self.inside in
     let sound =
-    sound_armed (view_of s.table.value s.asks.value s.retiring.items s.retired s.growth s.roster s.armed.value s.ranges.items s.spare) c.self.invariant.sound c.args.ask.now in
+    sound_armed (view_of s.table s.asks s.retiring.items s.retired s.growth s.roster s.armed.value s.ranges.items s.spare) c.self.invariant.sound c.args.ask.now in
     rw (c.reserve.ensures.same, c.reserve-2.ensures.same, c.deref_mut.ensures.value)
     (kept_rooms s.spare c.reserve.new.self.room c.reserve-2.new.self.room c.self.invariant
     (omega (arith, c.in_ok-reserve.ensures.room))

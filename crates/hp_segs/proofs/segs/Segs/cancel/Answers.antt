@@ -32,8 +32,8 @@ pub invariant_of-self : goal.invariant_of-self
 invariant_of-self c =
     let may = rw (← c.self.view_is) at c.requires.may in
     let s = c.self.inside in
-    let segs = view_of s.table.value s.asks.value s.retiring.items s.retired s.growth s.roster s.armed.value s.ranges.items s.spare in
+    let segs = view_of s.table s.asks s.retiring.items s.retired s.growth s.roster s.armed.value s.ranges.items s.spare in
     let log = ap length (c.records.ensures.records ∙ ap (λ t. t.log) c.remove.ensures) in
-    let at : length c.records.result.now - 1 ≡ length s.table.value.log = omega (arith, log, length-append s.table.value.log (Drop c.in-Some.growth.run ∷ [])) in
+    let at : length c.records.result.now - 1 ≡ length s.table.log = omega (arith, log, length-append s.table.log (Drop c.in-Some.growth.run ∷ [])) in
     let sound : IsSound (cancelled_growth c.args.cause segs s.growth) = sound_cancelled segs c.self.invariant.sound c.args.cause may in
     rw (c.remove.ensures, c.push.ensures, at) (kept_failed c.in-Some.growth.run _ c.self.invariant (rw c.in-Some.is at sound) may.spare)

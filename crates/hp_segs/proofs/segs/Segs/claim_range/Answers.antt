@@ -8,7 +8,7 @@ use Rattle.hp_segs.proofs.segs.Segs.claim_range.Goals as goal
 pub invariant_of-self : goal.invariant_of-self
 invariant_of-self c =
     let s = c.self.inside in
-    let view = view_of s.table.value s.asks.value s.retiring.items s.retired s.growth s.roster s.armed.value s.ranges.items s.spare in
+    let view = view_of s.table s.asks s.retiring.items s.retired s.growth s.roster s.armed.value s.ranges.items s.spare in
     let plan = rw (← c.self.view_is) at c.plan_range.ensures in
     rw c.push.ensures.items
     (kept_ranges_by _

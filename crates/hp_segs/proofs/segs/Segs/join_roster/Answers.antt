@@ -9,5 +9,5 @@ invariant_of-self c =
     let s = c.self.inside in
     let may = rw (← c.self.view_is) at c.requires.may in
     kept_places _ s.ranges.items c.self.invariant
-    (sound_joined (view_of s.table.value s.asks.value s.retiring.items s.retired s.growth s.roster s.armed.value s.ranges.items s.spare) c.self.invariant.sound c.args.participant
+    (sound_joined (view_of s.table s.asks s.retiring.items s.retired s.growth s.roster s.armed.value s.ranges.items s.spare) c.self.invariant.sound c.args.participant
     c.args.acked may)

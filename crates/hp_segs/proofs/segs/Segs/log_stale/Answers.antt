@@ -10,6 +10,6 @@ invariant_of-self c =
     let s = c.self.inside in
     rw (c.push.ensures, c.records.ensures.records, c.closed-done.ensures)
     (kept_logged _ c.self.invariant
-    (sound_stale (view_of s.table.value s.asks.value s.retiring.items s.retired s.growth s.roster s.armed.value s.ranges.items s.spare) c.self.invariant.sound c.args.from
+    (sound_stale (view_of s.table s.asks s.retiring.items s.retired s.growth s.roster s.armed.value s.ranges.items s.spare) c.self.invariant.sound c.args.from
     c.args.number may)
     may.spare)

@@ -14,5 +14,5 @@ invariant_of-self c =
     subst (λ segs. is_noted segs c.args.participant c.args.call c.args.row.now segs.growth ≡ true) (sym c.self.view_is)
     (sym c.is_noted.ensures ∙ c.if-not-is_noted.false) in
     kept_growth _ c.self.invariant
-    (sound_taken (view_of s.table.value s.asks.value s.retiring.items s.retired s.growth s.roster s.armed.value s.ranges.items s.spare) c.self.invariant.sound c.args.participant
+    (sound_taken (view_of s.table s.asks s.retiring.items s.retired s.growth s.roster s.armed.value s.ranges.items s.spare) c.self.invariant.sound c.args.participant
     c.args.call c.args.row.now c.args.got may.failure c.in-Some.growth c.in-Some.is taken)

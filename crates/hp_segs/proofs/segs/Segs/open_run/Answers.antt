@@ -11,7 +11,7 @@ add-requires c =
     let may = rw (← c.self.view_is) at c.requires.may in
     let plan =
     open_plan
-    (view_of s.table.value s.asks.value s.retiring.items s.retired s.growth s.roster s.armed.value s.ranges.items s.spare)
+    (view_of s.table s.asks s.retiring.items s.retired s.growth s.roster s.armed.value s.ranges.items s.spare)
     c.args.ask.now
     c.args.run.now
     c.self.invariant.sound.rows.table.limits
@@ -28,5 +28,5 @@ invariant_of-self c =
     let s = c.self.inside in
     let may = rw (← c.self.view_is) at c.requires.may in
     let log = c.records.ensures.records ∙ ap (λ t. t.log) c.add.ensures in
-    let stamp : length c.records.result.now ≡ length s.table.value.log + 1 = ap length log ∙ length-append s.table.value.log _ in
+    let stamp : length c.records.result.now ≡ length s.table.log + 1 = ap length log ∙ length-append s.table.log _ in
     rw (c.add.ensures, stamp) (kept_opened c.args.ask.now c.args.run.now c.self.invariant may)

@@ -9,4 +9,4 @@ invariant_of-self c =
     let s = c.self.inside in
     rw c.release.ensures
     (kept_places s.roster _ c.self.invariant
-    (sound_released (view_of s.table.value s.asks.value s.retiring.items s.retired s.growth s.roster s.armed.value s.ranges.items s.spare) c.self.invariant.sound c.args.list))
+    (sound_released (view_of s.table s.asks s.retiring.items s.retired s.growth s.roster s.armed.value s.ranges.items s.spare) c.self.invariant.sound c.args.list))

@@ -10,7 +10,7 @@ retire-requires c =
     let s = c.self.inside in
     let owns = rw (← c.self.view_is) at c.requires.owned in
     record {
-      counted = counted_run (view_of s.table.value s.asks.value s.retiring.items s.retired s.growth s.roster s.armed.value s.ranges.items s.spare) c.self.invariant.sound c.args.heap
+      counted = counted_run (view_of s.table s.asks s.retiring.items s.retired s.growth s.roster s.armed.value s.ranges.items s.spare) c.self.invariant.sound c.args.heap
           c.args.run.now owns;
     }
 
