@@ -3,7 +3,6 @@
 mod acts;
 mod asking;
 mod calls;
-mod denying;
 mod growths;
 mod outs;
 mod rounds;
