@@ -89,13 +89,13 @@ module _ (who before base start : ℕ) where
 
     round_apart : (acks : List ℕ) → HoldsInRound IfSound acks segs
     round_apart acks = record {
-      cancelled = λ cause kept. cancel_apart who before base start segs sound old cause;
+      cancelled = λ cause its kept. cancel_apart who before base start segs sound old cause;
       agreed = λ kept. agree_apart who before base start segs sound old acks;
     }
 
     alone_apart : (one : Caught) → HoldsAlone IfSound one segs
     alone_apart one = record {
-      cancelled = λ cause kept. cancel_apart who before base start segs sound old cause;
+      cancelled = λ cause its kept. cancel_apart who before base start segs sound old cause;
       agreed = λ generation none mapped kept. agree_apart who before base start segs sound old (replicate 16 generation);
     }
 

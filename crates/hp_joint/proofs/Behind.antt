@@ -80,10 +80,10 @@ module _ (old segs : SegsView) (was : IsBehind old segs) where
   agree_behind acks = agree_holds (IsBehind old) segs was acks (λ growth is. outcome_behind _ [] _ (sym (append-nil segs.log)) refl)
 
   round_behind : (acks : List ℕ) → HoldsInRound (IsBehind old) acks segs
-  round_behind acks = record { cancelled = cancel_behind; agreed = agree_behind acks }
+  round_behind acks = record { cancelled = λ cause its. cancel_behind cause; agreed = agree_behind acks }
 
   alone_behind : (one : Caught) → HoldsAlone (IsBehind old) one segs
-  alone_behind one = record { cancelled = cancel_behind; agreed = λ generation none mapped. agree_behind (replicate 16 generation) }
+  alone_behind one = record { cancelled = λ cause its. cancel_behind cause; agreed = λ generation none mapped. agree_behind (replicate 16 generation) }
 
   pub claim_behind : (from number : ℕ) → IsBehind old (after_claim from number segs)
   claim_behind from number = claim_holds (IsBehind old) segs was from number (λ generation. still _ refl refl)

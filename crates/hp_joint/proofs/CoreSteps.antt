@@ -67,12 +67,12 @@ module _ (Q : Asked → Type 0) (old mid : SegsView) (beside : IsBeside old mid)
 
 round_logs : (Q : Asked → Type 0) (acks : List ℕ) (segs : SegsView) → HasArmedGrowth segs → HoldsInRound (IsLoggedBy Q segs) acks segs
 round_logs Q acks segs old =
-    record { cancelled = λ cause. cancel_logs Q segs cause old; agreed = agree_logs Q segs acks old }
+    record { cancelled = λ cause its. cancel_logs Q segs cause old; agreed = agree_logs Q segs acks old }
 
 alone_logs : (Q : Asked → Type 0) (ended : Caught) (segs mid : SegsView) → IsBeside segs mid → HasArmedGrowth mid
     → HoldsAlone (IsLoggedBy Q segs) ended mid
 alone_logs Q ended segs mid beside old = record {
-  cancelled = λ cause. logs_behind Q segs mid beside (after_cancel cause mid) (cancel_logs Q mid cause old);
+  cancelled = λ cause its. logs_behind Q segs mid beside (after_cancel cause mid) (cancel_logs Q mid cause old);
   agreed = λ generation alone mapped.
       logs_behind Q segs mid beside (after_agree (replicate 16 generation) mid) (agree_logs Q mid (replicate 16 generation) old);
 }

@@ -22,7 +22,7 @@ use Rattle.hp_core.specs.declared.phase.Round.{Round}
 use Rattle.hp_core.specs.declared.phase.RoundKind.{RoundKind}
 use Rattle.hp_core.specs.declared.phase.RoundKind.TheVariants as kind
 use Rattle.hp_core.proofs.SameAsk.{same_ask}
-use Rattle.hp_core.proofs.StepWalk.{HoldsInRound}
+use Rattle.hp_core.proofs.StepWalk.{HoldsInRound, was_late, was_noted}
 use Rattle.hp_segs.specs.LaterSteps.{after_stale, armed_ask, noted_failure}
 use Rattle.hp_segs.specs.Plan.{plan_of}
 use Rattle.hp_segs.specs.SegsView.{SegsView, closed_number}
@@ -116,12 +116,14 @@ module _ (P : SegsView → Type 0) where
         cond_both (has_passed (times_at deadline (Waiting round since) now))
         (cancelled round (cause.Late member.participant since now) segs)
         (waiting round since Nothing segs) Holds
-        (λ passed. rounds.cancelled (cause.Late member.participant since now))
+        (λ passed.
+        rounds.cancelled (cause.Late member.participant since now) (was_late member.participant since now refl))
         (λ early. same)
 
-    unless_holds : (failure : Option Cause) → Holds (unless_failed round (times_at deadline (Waiting round since) now) acks segs failure)
-    unless_holds (Some cause) = rounds.cancelled cause
-    unless_holds None = agreed_holds (lowest_member_below segs.roster acks round.generation)
+    unless_holds : (failure : Option Cause) → noted_failure segs ≡ failure
+        → Holds (unless_failed round (times_at deadline (Waiting round since) now) acks segs failure)
+    unless_holds (Some cause) is = rounds.cancelled cause (was_noted is)
+    unless_holds None is = agreed_holds (lowest_member_below segs.roster acks round.generation)
 
     over_holds : Holds
         (if is_none (lowest_member_below segs.roster acks round.generation)
@@ -138,7 +140,7 @@ module _ (P : SegsView → Type 0) where
         cond_both (is_open_for round segs.growth)
         (unless_failed round (times_at deadline (Waiting round since) now) acks segs (noted_failure segs))
         (rolled_back round segs) Holds
-        (λ opened. unless_holds (noted_failure segs))
+        (λ opened. unless_holds (noted_failure segs) refl)
         (λ gone. same)
     round_holds kind.Rollback = over_holds
     round_holds kind.Drop = over_holds

@@ -32,14 +32,14 @@ module _ (segs : SegsView) where
       }
 
   round_gone : IsSound segs → (acks : List ℕ) → HoldsInRound (IsGoneAlike segs) acks segs
-  round_gone sound acks = record { cancelled = cancel_gone segs sound; agreed = agree_gone segs sound acks }
+  round_gone sound acks = record { cancelled = λ cause its. cancel_gone segs sound cause; agreed = agree_gone segs sound acks }
 
   catching_gone : (one : Caught) → IsGoneAlike segs (after_catching 0 one segs)
   catching_gone one = catching_holds (IsGoneAlike segs) segs refl (λ call addr got. refl) one
 
   alone_gone : (one : Caught) (mid : SegsView) → IsSound mid → IsGoneAlike segs mid → HoldsAlone (IsGoneAlike segs) one mid
   alone_gone one mid sound beside = record {
-    cancelled = λ cause. cancel_gone mid sound cause ∙ beside;
+    cancelled = λ cause its. cancel_gone mid sound cause ∙ beside;
     agreed = λ generation none mapped. agree_gone mid sound (replicate 16 generation) ∙ beside;
   }
 
