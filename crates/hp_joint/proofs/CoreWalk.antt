@@ -22,7 +22,7 @@ use Rattle.hp_core.specs.declared.phase.Round.{Round}
 use Rattle.hp_core.specs.declared.phase.RoundKind.{RoundKind}
 use Rattle.hp_core.specs.declared.phase.RoundKind.TheVariants as kind
 use Rattle.hp_core.proofs.SameAsk.{same_ask}
-use Rattle.hp_core.proofs.StepWalk.{HoldsInRound, was_late, was_noted}
+use Rattle.hp_core.proofs.StepWalk.{HoldsInRound, IsRoundCause.was_late, IsRoundCause.was_noted}
 use Rattle.hp_segs.specs.LaterSteps.{after_stale, armed_ask, noted_failure}
 use Rattle.hp_segs.specs.Plan.{plan_of}
 use Rattle.hp_segs.specs.SegsView.{SegsView, closed_number}
