@@ -112,4 +112,3 @@ pub mod TurnsVisits
 pub mod WaitsEnd
 pub mod WeighingBoxes
 pub mod WeighingServings
-pub mod WorkedReasons

@@ -16,4 +16,3 @@ mod ReasonLemmas
 mod LevelLemmas
 pub mod FaultLemmas
 pub mod WantLemmas
-mod WorkedFailures
