@@ -1,0 +1,4 @@
+mod NumberLemmas
+mod ValueLemmas
+mod Streaming
+mod Takings

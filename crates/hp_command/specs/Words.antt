@@ -1,0 +1,29 @@
+-- The words of a command.
+use Rattle.std.specs.Prelude.{ℕ, suc, Bool, ◌&&◌, nat_lt, nat_le, List, [], ◌∷◌, length, Option, Some, None, if◌then◌else◌, codes}
+use Rattle.std.specs.List.{list_all}
+use Rattle.std.specs.Char.{digit_value}
+use Rattle.std.specs.Str.{bytes_eq}
+use Rattle.std.specs.Str.Parse.{digits_value}
+
+-- one decimal digit or more, and nothing else
+abbrev pub is_numeral : List ℕ → Bool
+is_numeral word = nat_lt 0 (length word) && list_all (λ digit. nat_lt (digit_value digit) 10) word
+
+-- the number that a word writes, where it is one of the range
+unfoldable pub number_within : ℕ → ℕ → List ℕ → Option ℕ
+number_within least most word =
+    if is_numeral word && (nat_le least (digits_value 10 word) && nat_le (digits_value 10 word) most) then Some (digits_value 10 word) else None
+
+-- the word `--`
+abbrev pub is_dashes : List ℕ → Bool
+is_dashes word = bytes_eq word (codes "--")
+
+-- the index of the first `--`, or how many words there are
+abbrev pub dashes_at : List (List ℕ) → ℕ
+dashes_at [] = 0
+dashes_at (word ∷ words) = if is_dashes word then 0 else suc (dashes_at words)
+
+-- the words without the first `--`
+abbrev pub values_of : List (List ℕ) → List (List ℕ)
+values_of [] = []
+values_of (word ∷ words) = if is_dashes word then words else word ∷ values_of words

@@ -1,0 +1,10 @@
+pub mod Views
+pub mod PoolRule
+pub mod PoolLaws
+pub mod Asked
+pub mod Objects
+pub mod PassView
+pub mod PassInside
+pub mod PoolInside
+pub mod Working
+pub mod Program
