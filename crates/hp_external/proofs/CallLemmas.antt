@@ -8,11 +8,15 @@ use Rattle.hp_base.specs.declared.span.SpanState.TheVariants.{Free, Busy}
 use Rattle.hp_base.specs.declared.chunk.Chunk.{Chunk}
 use Rattle.hp_heap.specs.ChunkOrder.{AreInOrder}
 use Rattle.hp_heap.specs.Chunks.{CanRemoveChunk, IsUnused, chunk_at, chunk_of}
+use Rattle.hp_heap.specs.LaidOut.{IsChunk}
 use Rattle.hp_heap.specs.Tiling.{IsTiled}
 use Rattle.hp_heap.specs.PlainHeap.{PlainHeap, is_free, is_free_state}
 use Rattle.hp_heap.proofs.RangeLemmas.{AllByRecursion-weaker}
+use Rattle.hp_maps.specs.Chunks.{CanAttach}
+use Rattle.hp_maps.specs.MapsView.{MapsView}
 use Rattle.hp_zone.specs.Directory.{IsNamed, MayRemove, PlainDirectory}
 use Rattle.hp_zone.specs.declared.limits.TheConstants.{FIRST_EXTERNAL_SOCKET}
+use Rattle.hp_external.specs.Attaching.{HasRoomFor}
 use Rattle.hp_external.specs.Elements.{NonePasses, is_busy_by, is_busy_in}
 use Rattle.hp_external.specs.Naming.{IsExternalName, IsHeapOf}
 use Rattle.hp_external.specs.Tie.{AreListed}
@@ -63,4 +67,14 @@ can_remove heap addr len chunk there external unmarked free = record {
   unused =
       subst (λ (o : Option Chunk). IsSomeAnd o (IsUnused heap)) (sym there)
       (record { unmarked = unmarked; free = wholly_free chunk.list heap.ranges free });
+}
+
+-- a chunk of a heap may be attached by a table with room for it
+pub can_attach : (maps : MapsView) (chunk : Chunk) → IsChunk chunk → HasRoomFor maps chunk → CanAttach maps chunk
+can_attach maps chunk memory room = record {
+  memory = memory;
+  pages = room.pages;
+  clear = room.clear;
+  room = room.room;
+  calls = room.calls;
 }

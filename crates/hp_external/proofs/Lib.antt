@@ -7,3 +7,4 @@ pub mod AddLemmas
 pub mod CallLemmas
 pub mod TieSteps
 pub mod TieMarks
+pub mod BesideLemmas

@@ -1,5 +1,5 @@
 -- How a participant attaches a chunk of an external heap and leaves it: the rule "External heaps" of docs/HEAP.md.
-use Rattle.std.specs.Prelude.{◌≡◌, ℕ, true, false, List, ◌++◌, Some}
+use Rattle.std.specs.Prelude.{◌≡◌, ℕ, ◌+◌, ◌/◌, ◌^◌, ◌<◌, ◌≤◌, true, false, List, ◌++◌, length, Some}
 use Rattle.hp_base.specs.Flags.{has_bit}
 use Rattle.hp_base.specs.Streams.{CountsFault}
 use Rattle.hp_base.specs.declared.caught.Caught.{Caught}
@@ -12,8 +12,8 @@ use Rattle.hp_heap.specs.Chunks.{chunk_at}
 use Rattle.hp_heap.specs.History.{HeapView, IsCall}
 use Rattle.hp_heap.specs.PlainHeap.{PlainHeap}
 use Rattle.hp_maps.specs.Catching.{HasAnswered, HasReason, was_refused}
-use Rattle.hp_maps.specs.Chunks.{CanAttach, rows_beside, rows_of_chunk}
-use Rattle.hp_maps.specs.MapsView.{IsMapped, MapsView}
+use Rattle.hp_maps.specs.Chunks.{rows_beside, rows_of_chunk}
+use Rattle.hp_maps.specs.MapsView.{AreClearOf, IsMapped, MapsView, calls_of}
 use Rattle.hp_zone.specs.Directory.{PlainDirectory}
 use Rattle.hp_external.specs.Elements.{IsLowestData, NonePasses, is_busy_in}
 use Rattle.hp_external.specs.Naming.{IsChunkFault, IsNamedChunk}
@@ -23,10 +23,17 @@ use Rattle.hp_external.specs.declared.fault.ChunkFault.TheVariants as fault
 use Rattle.hp_external.specs.declared.fault.DetachFault.{DetachFault}
 use Rattle.hp_external.specs.declared.fault.DetachFault.TheVariants as detach
 
--- a table may attach the chunk that is named, where the participant has not attached it
+-- a table has room for the rows of a chunk, none of which has the address of one of its own; and its mapper may be called
+pub record HasRoomFor (maps : MapsView) (chunk : Chunk) : Type 0 where
+  pub pages : chunk.len / chunk.page < 2 ^ 32
+  pub clear : AreClearOf maps.rows (rows_of_chunk chunk)
+  pub room : length maps.rows + chunk.len / chunk.page ≤ maps.capacity
+  pub calls : calls_of maps ≤ 2 ^ 63
+
+-- a table has room for the chunk that is named, where the participant has not attached it
 abbrev pub MayAttach : ℕ → ℕ → ℕ → PlainHeap → MapsView → Type 0
 MayAttach participant addr len heap maps =
-    (chunk : Chunk) → chunk_at addr len heap ≡ Some chunk → has_bit chunk.attached participant ≡ false → CanAttach maps chunk
+    (chunk : Chunk) → chunk_at addr len heap ≡ Some chunk → has_bit chunk.attached participant ≡ false → HasRoomFor maps chunk
 
 -- beside its rows and its mapping calls a table is as it was
 pub record SameButRows (old new : MapsView) : Type 0 where

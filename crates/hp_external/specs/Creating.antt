@@ -17,10 +17,12 @@ use Rattle.hp_external.specs.declared.fault.DestroyFault.{DestroyFault}
 use Rattle.hp_external.specs.declared.fault.DestroyFault.TheVariants as destroy
 use Rattle.hp_external.specs.declared.fault.NameFault.TheVariants as name
 
--- a heap is made: its name has 1 to 31 bytes and was no heap's, and it gets the lowest index without a name and the next socket number
+-- a heap is made: its name has 1 to 31 bytes and was no heap's, there was a place for another heap, and it gets the lowest index without
+-- a name and the next socket number
 pub record Creates (old new : Names) (text : List ℕ) (index socket : ℕ) : Type 0 where
   pub name : IsZoneName text
   pub fresh : IsNotFound old.heaps.plain text
+  pub place : HasPlace old.heaps.plain
   pub given : GivesName (with_room old.heaps) new.heaps text index socket
   pub zones : new.zones ≡ old.zones
 

@@ -6,3 +6,4 @@ pub mod Elements
 pub mod Removing
 pub mod Attaching
 pub mod Looking
+pub mod Beside

@@ -6,6 +6,7 @@ mod adding;
 mod attaching;
 mod creating;
 mod fault;
+mod laws;
 mod looks;
 mod naming;
 mod removing;
@@ -17,4 +18,5 @@ pub use fault::{
     AddFault, AttachFault, ChunkFault, CreateFault, DestroyFault, DetachFault, NameFault,
     RemoveFault,
 };
+pub use laws::beside_law;
 pub use removing::memory_remove;

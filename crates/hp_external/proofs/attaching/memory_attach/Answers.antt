@@ -5,11 +5,20 @@ use Rattle.hp_heap.specs.History.{IsCall}
 use Rattle.hp_heap.specs.Step.{after}
 use Rattle.hp_heap.specs.declared.entry.HeapCall.TheVariants as call
 use Rattle.hp_heap.specs.declared.entry.HeapAnswer.TheVariants as answer
-use Rattle.hp_external.proofs.CallLemmas.{of_named, to_named}
-use Rattle.hp_external.proofs.ChunkLemmas.{has_chunk}
+use Rattle.hp_external.proofs.CallLemmas.{can_attach, of_named, to_named}
+use Rattle.hp_external.proofs.ChunkLemmas.{among_chunks, has_chunk, its_memory}
 use Rattle.hp_external.proofs.TieMarks.{tied_attached, tied_beside_attach}
 use Rattle.hp_external.proofs.TieSteps.{tied_by}
 use Rattle.hp_external.proofs.attaching.memory_attach.Goals as goal
+
+pub attach_chunk-requires : goal.attach_chunk-requires
+attach_chunk-requires g c =
+    let found = c.in_ok-chunk.ensures.found in
+    let unmarked : has_bit c.in_ok-chunk.chunk.attached c.args.caller.participant ≡ false = search rules in
+    can_attach c.args.maps.now c.in_ok-chunk.chunk
+    (its_memory c.args.heap.now.plain c.sound.ensures.tiled c.in_ok-chunk.chunk
+    (among_chunks c.args.heap.now.plain c.args.addr c.args.len c.in_ok-chunk.chunk found.there))
+    (c.requires.table c.in_ok-chunk.chunk found.there unmarked)
 
 pub share-requires-clause-allowed : goal.share-requires-clause-allowed
 share-requires-clause-allowed g c =
