@@ -1,16 +1,18 @@
 //! Growths that a validator denies, or allows.
+ghost use Rattle.std.specs.List.{All};
+ghost use Rattle.hp_events.specs.Validators.{validators_in};
 
 use super::PAGE;
 use super::acts::segs_of;
 use super::calls::{arm, ask_of, step_with};
-use hp_base::{Caught, Judge, NoLimits};
+use hp_base::{Caught, Judge};
 use hp_core::{Coordinator, CoreEvent, Out};
 use hp_events::Validators;
 use hp_segs::{Cause, Outcome, Segs};
 use std::alloc::Global;
 use std::test::Fail;
 
-// Participant 0, which is alone, asks for a page and is armed with that ask.
+// Participant 0, which is alone, is armed with an ask for a page, and asks.
 fn asks<J: Judge>(
     core: &mut Coordinator,
     segs: &mut Segs,
@@ -24,10 +26,16 @@ fn asks<J: Judge>(
     step_with(core, segs, CoreEvent::Grow { ask }, judge)
 }
 
-// It has mapped all.
-fn maps<J: Judge>(core: &mut Coordinator, segs: &mut Segs, judge: &J) -> Result<Out, Fail>
+// It asks, and has then mapped what it was to map.
+fn grows<J: Judge>(
+    core: &mut Coordinator,
+    segs: &mut Segs,
+    number: u64,
+    judge: &J,
+) -> Result<Out, Fail>
     requires { J.may_ask judge.now }
 {
+    asks(core, segs, number, judge)?;
     let event = CoreEvent::SelfMapped {
         caught: Caught::Done,
         now: 0,
@@ -41,28 +49,39 @@ fn second_of_two<J: Judge>(alloc: Global, judge: &J) -> Result<Outcome, Fail>
 {
     let mut segs = segs_of(alloc, 1, 4)?;
     let mut core = Coordinator::new(200);
-    asks(&mut core, &mut segs, 1, judge)?;
-    maps(&mut core, &mut segs, judge)?;
-    asks(&mut core, &mut segs, 2, judge)?;
-    maps(&mut core, &mut segs, judge)?;
+    grows(&mut core, &mut segs, 1, judge)?;
+    grows(&mut core, &mut segs, 2, judge)?;
     Ok(segs.outcome(0, 2).ok_or("an outcome")?)
 }
 
-// What it ends with under one validator, of that socket and limit, whose closure answers that.
-fn second_under(
+// The validator `cap` is registered.
+fn register<F: Fn(u32, u64, u64) -> bool + Copy + Drop>(
+    validators: &mut Validators<F>,
+    socket: u32,
+    limit: u64,
+    allows: F,
+) -> Result<(), Fail>
+    requires old { All (λ own. F.IsAlwaysCallable own.allows) (validators_in validators.old) }
+    requires new { F.IsAlwaysCallable allows }
+    ensures { All (λ own. F.IsAlwaysCallable own.allows) (validators_in validators.new) }
+{
+    match validators.register("cap".as_bytes(), socket, limit, allows) {
+        Ok(()) => Ok(()),
+        Err(_) => Err("memory for a validator".into()),
+    }
+}
+
+// What the second ask ends with under one validator, of that socket and limit and with that closure.
+fn second_under<F: Fn(u32, u64, u64) -> bool + Copy + Drop>(
     alloc: Global,
     socket: u32,
     limit: u64,
-    allowed: bool,
-) -> Result<Outcome, Fail> {
+    allows: F,
+) -> Result<Outcome, Fail>
+    requires { F.IsAlwaysCallable allows }
+{
     let mut validators = Validators::new(alloc);
-    let allows = move |_socket: u32, _limit: u64, _total: u64| allowed;
-    if validators
-        .register("cap".as_bytes(), socket, limit, allows)
-        .is_err()
-    {
-        return Err("memory for a validator".into());
-    }
+    register(&mut validators, socket, limit, allows)?;
     second_of_two(alloc, &validators)
 }
 
@@ -99,30 +118,31 @@ fn holds(is_so: bool) -> Result<(), Fail> {
     }
 }
 
+// The first page is at the limit, and the second above it: it is denied for the bytes of both.
 #[test]
 fn denies_what_is_above_a_limit(rt: HostRuntime) -> Result<(), Fail> {
-    let outcome = second_under(rt.alloc(), 0, PAGE, false)?;
+    let denies = |_socket: u32, _limit: u64, _total: u64| false;
+    let outcome = second_under(rt.alloc(), 0, PAGE, denies)?;
     holds(is_denied(&outcome, "cap", PAGE, 2 * PAGE))
 }
 
 #[test]
 fn grants_what_a_validator_allows(rt: HostRuntime) -> Result<(), Fail> {
-    let outcome = second_under(rt.alloc(), 0, PAGE, true)?;
+    let allows = |_socket: u32, _limit: u64, _total: u64| true;
+    let outcome = second_under(rt.alloc(), 0, PAGE, allows)?;
     holds(is_granted(&outcome, 2))
 }
 
 #[test]
-fn asks_nobody_at_the_limit_or_of_another_socket(rt: HostRuntime) -> Result<(), Fail> {
-    let at_the_limit = second_under(rt.alloc(), 0, 2 * PAGE, false)?;
-    holds(is_granted(&at_the_limit, 2))?;
-    let of_another = second_under(rt.alloc(), 1, PAGE, false)?;
-    holds(is_granted(&of_another, 2))
+fn asks_nobody_at_the_limit(rt: HostRuntime) -> Result<(), Fail> {
+    let denies = |_socket: u32, _limit: u64, _total: u64| false;
+    let outcome = second_under(rt.alloc(), 0, 2 * PAGE, denies)?;
+    holds(is_granted(&outcome, 2))
 }
 
 #[test]
-fn opens_a_growth_where_nobody_denies(rt: HostRuntime) -> Result<(), Fail> {
-    let mut segs = segs_of(rt.alloc(), 1, 4)?;
-    let mut core = Coordinator::new(200);
-    asks(&mut core, &mut segs, 1, &NoLimits)?;
-    holds(segs.growth().is_some())
+fn asks_nobody_of_another_socket(rt: HostRuntime) -> Result<(), Fail> {
+    let denies = |_socket: u32, _limit: u64, _total: u64| false;
+    let outcome = second_under(rt.alloc(), 1, PAGE, denies)?;
+    holds(is_granted(&outcome, 2))
 }
