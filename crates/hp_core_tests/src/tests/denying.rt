@@ -12,6 +12,13 @@ use hp_segs::{Cause, Outcome, Segs};
 use std::alloc::Global;
 use std::test::Fail;
 
+// How an ask ends: granted as the record of that number, or denied by the validator of that name and limit for so many bytes.
+#[derive(Clone, Copy)]
+enum Ended {
+    Granted(u64),
+    Denied(&'static str, u64, u64),
+}
+
 // Participant 0, which is alone, is armed with an ask for a page, and asks.
 fn asks<J: Judge>(
     core: &mut Coordinator,
@@ -43,46 +50,12 @@ fn grows<J: Judge>(
     step_with(core, segs, event, judge)
 }
 
-// What the second of two asks for a page ends with, where the judge is asked of both.
-fn second_of_two<J: Judge>(alloc: Global, judge: &J) -> Result<Outcome, Fail>
-    requires { J.may_ask judge.now }
-{
-    let mut segs = segs_of(alloc, 1, 4)?;
-    let mut core = Coordinator::new(200);
-    grows(&mut core, &mut segs, 1, judge)?;
-    grows(&mut core, &mut segs, 2, judge)?;
-    Ok(segs.outcome(0, 2).ok_or("an outcome")?)
-}
-
-// The validator `cap` is registered.
-fn register<F: Fn(u32, u64, u64) -> bool + Copy + Drop>(
-    validators: &mut Validators<F>,
-    socket: u32,
-    limit: u64,
-    allows: F,
-) -> Result<(), Fail>
-    requires old { All (λ own. F.IsAlwaysCallable own.allows) (validators_in validators.old) }
-    requires new { F.IsAlwaysCallable allows }
-    ensures { All (λ own. F.IsAlwaysCallable own.allows) (validators_in validators.new) }
-{
-    match validators.register("cap".as_bytes(), socket, limit, allows) {
-        Ok(()) => Ok(()),
-        Err(_) => Err("memory for a validator".into()),
+// Whether an ask ended so.
+fn has_ended(outcome: &Outcome, end: Ended) -> bool {
+    match end {
+        Ended::Granted(at) => is_granted(outcome, at),
+        Ended::Denied(by, below, bytes) => is_denied(outcome, by, below, bytes),
     }
-}
-
-// What the second ask ends with under one validator, of that socket and limit and with that closure.
-fn second_under<F: Fn(u32, u64, u64) -> bool + Copy + Drop>(
-    alloc: Global,
-    socket: u32,
-    limit: u64,
-    allows: F,
-) -> Result<Outcome, Fail>
-    requires { F.IsAlwaysCallable allows }
-{
-    let mut validators = Validators::new(alloc);
-    register(&mut validators, socket, limit, allows)?;
-    second_of_two(alloc, &validators)
 }
 
 fn is_granted(outcome: &Outcome, at: u64) -> bool {
@@ -110,39 +83,80 @@ fn is_denial(cause: &Cause, by: &str, below: u64, bytes: u64) -> bool {
     }
 }
 
-fn holds(is_so: bool) -> Result<(), Fail> {
-    if is_so {
-        Ok(())
-    } else {
-        Err("the outcome that is expected".into())
+// Whether two asks have ended, and the second so.
+fn second_has_ended(segs: &Segs, end: Ended) -> bool {
+    let asks = segs.asks();
+    asks.len() == 2 && has_ended(&asks[1].outcome, end)
+}
+
+// Of two asks for a page, where the judge is asked of both, the second ends so.
+fn second_of_two<J: Judge>(alloc: Global, judge: &J, end: Ended) -> Result<(), Fail>
+    requires { J.may_ask judge.now }
+{
+    let mut segs = segs_of(alloc, 1, 4)?;
+    let mut core = Coordinator::new(200);
+    grows(&mut core, &mut segs, 1, judge)?;
+    grows(&mut core, &mut segs, 2, judge)?;
+    if !second_has_ended(&segs, end) {
+        return Err("the end that is expected".into());
     }
+    Ok(())
+}
+
+// The validator `cap` is registered.
+fn register<F: Fn(u32, u64, u64) -> bool + Copy + Drop>(
+    validators: &mut Validators<F>,
+    socket: u32,
+    limit: u64,
+    allows: F,
+) -> Result<(), Fail>
+    requires old { All (λ own. F.IsAlwaysCallable own.allows) (validators_in validators.old) }
+    requires new { F.IsAlwaysCallable allows }
+    ensures { All (λ own. F.IsAlwaysCallable own.allows) (validators_in validators.new) }
+{
+    match validators.register("cap".as_bytes(), socket, limit, allows) {
+        Ok(()) => Ok(()),
+        Err(_) => Err("memory for a validator".into()),
+    }
+}
+
+// Under one validator, of that socket and limit and with that closure, the second of two asks ends so.
+fn second_under<F: Fn(u32, u64, u64) -> bool + Copy + Drop>(
+    alloc: Global,
+    socket: u32,
+    limit: u64,
+    allows: F,
+    end: Ended,
+) -> Result<(), Fail>
+    requires { F.IsAlwaysCallable allows }
+{
+    let mut validators = Validators::new(alloc);
+    register(&mut validators, socket, limit, allows)?;
+    second_of_two(alloc, &validators, end)
 }
 
 // The first page is at the limit, and the second above it: it is denied for the bytes of both.
 #[test]
 fn denies_what_is_above_a_limit(rt: HostRuntime) -> Result<(), Fail> {
     let denies = |_socket: u32, _limit: u64, _total: u64| false;
-    let outcome = second_under(rt.alloc(), 0, PAGE, denies)?;
-    holds(is_denied(&outcome, "cap", PAGE, 2 * PAGE))
+    let end = Ended::Denied("cap", PAGE, 2 * PAGE);
+    second_under(rt.alloc(), 0, PAGE, denies, end)
 }
 
 #[test]
 fn grants_what_a_validator_allows(rt: HostRuntime) -> Result<(), Fail> {
     let allows = |_socket: u32, _limit: u64, _total: u64| true;
-    let outcome = second_under(rt.alloc(), 0, PAGE, allows)?;
-    holds(is_granted(&outcome, 2))
+    second_under(rt.alloc(), 0, PAGE, allows, Ended::Granted(2))
 }
 
 #[test]
 fn asks_nobody_at_the_limit(rt: HostRuntime) -> Result<(), Fail> {
     let denies = |_socket: u32, _limit: u64, _total: u64| false;
-    let outcome = second_under(rt.alloc(), 0, 2 * PAGE, denies)?;
-    holds(is_granted(&outcome, 2))
+    second_under(rt.alloc(), 0, 2 * PAGE, denies, Ended::Granted(2))
 }
 
 #[test]
 fn asks_nobody_of_another_socket(rt: HostRuntime) -> Result<(), Fail> {
     let denies = |_socket: u32, _limit: u64, _total: u64| false;
-    let outcome = second_under(rt.alloc(), 1, PAGE, denies)?;
-    holds(is_granted(&outcome, 2))
+    second_under(rt.alloc(), 1, PAGE, denies, Ended::Granted(2))
 }
