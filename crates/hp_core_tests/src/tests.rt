@@ -3,6 +3,7 @@
 mod acts;
 mod asking;
 mod calls;
+mod denying;
 mod growths;
 mod outs;
 mod rounds;

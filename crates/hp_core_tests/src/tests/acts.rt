@@ -44,8 +44,8 @@ struct Otherwise {
     place: usize,
 }
 
-// A pool of `pages` pages on socket 0, and so many participants.
-fn segs_of(alloc: Global, participants: u8, pages: u64) -> Result<Segs, AllocError>
+/// A pool of `pages` pages on socket 0, and so many participants.
+pub fn segs_of(alloc: Global, participants: u8, pages: u64) -> Result<Segs, AllocError>
     requires participants { IsAbsent participants 0 }
     requires pages { pages ≤ 8192 }
 {

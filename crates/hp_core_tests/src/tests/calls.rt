@@ -4,14 +4,14 @@ ghost use Rattle.hp_core.specs.Conditions.{NamesParticipants};
 
 use super::PAGE;
 use super::outs::NONE;
-use hp_base::{Caught, NoLimits, Request, Row};
+use hp_base::{Caught, Judge, NoLimits, Request, Row};
 use hp_core::{Coordinator, CoreEvent, Out, follow};
 use hp_frame::Body;
 use hp_segs::{Ask, Segs};
 use std::test::Fail;
 
-// An ask for a page.
-fn ask_of(from: u8, number: u64) -> Result<Ask, Fail>
+/// An ask for a page.
+pub fn ask_of(from: u8, number: u64) -> Result<Ask, Fail>
     requires { from < 16 }
     ensures { IfOk result (λ ask. ask.from ≡ from) }
 {
@@ -41,15 +41,27 @@ fn growth_row(segs: &Segs) -> Result<Row, Fail> {
     })
 }
 
-/// One event of the coordinator.
-fn step(core: &mut Coordinator, segs: &mut Segs, event: CoreEvent) -> Result<Out, Fail>
-    requires { NamesParticipants event }
+/// One event of the coordinator, where that judge is asked.
+pub fn step_with<J: Judge>(
+    core: &mut Coordinator,
+    segs: &mut Segs,
+    event: CoreEvent,
+    judge: &J,
+) -> Result<Out, Fail>
+    requires event { NamesParticipants event }
+    requires judge { J.may_ask judge.now }
 {
     let Some(places) = segs.retiring().checked_add(3) else {
         return Err("few runs".into());
     };
     segs.reserve_records(places)?;
-    Ok(core.step(segs, event, &NoLimits))
+    Ok(core.step(segs, event, judge))
+}
+
+fn step(core: &mut Coordinator, segs: &mut Segs, event: CoreEvent) -> Result<Out, Fail>
+    requires { NamesParticipants event }
+{
+    step_with(core, segs, event, &NoLimits)
 }
 
 pub fn grow(core: &mut Coordinator, segs: &mut Segs, from: u8, number: u64) -> Result<Out, Fail> {
