@@ -8,7 +8,7 @@ use std::alloc::{AllocError, Global};
 use std::marker::Model;
 
 /// A memory event callback, as a value: its name, and the events that it was told. The rows that were mapped when it was registered are
-/// for contracts alone, and take no memory. After rte_mem_event_callback_register.
+/// for contracts alone; of them it keeps the last one in memory. After rte_mem_event_callback_register.
 #[derive(Drop)]
 pub struct Watcher {
     name: Name,
