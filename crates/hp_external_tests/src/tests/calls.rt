@@ -20,8 +20,8 @@ const FIRST: Caller = Caller {
 };
 
 pub fn create(all: &mut World, text: &[u8]) -> Result<(u32, u32), CreateFault>
-    requires { IsWorld all.old }
-    ensures { IsWorld all.new }
+    requires { IsWorld all.old.names.heaps all.old.heap all.old.segs all.old.first all.old.second }
+    ensures { IsWorld all.new.names.heaps all.new.heap all.new.segs all.new.first all.new.second }
 {
     hp_external::create(&mut all.names, text)
 }
@@ -32,8 +32,8 @@ fn letter(n: u8) -> [u8; 1] {
 }
 
 pub fn fill(all: &mut World, count: u8) -> bool
-    requires { IsWorld all.old }
-    ensures { IsWorld all.new }
+    requires { IsWorld all.old.names.heaps all.old.heap all.old.segs all.old.first all.old.second }
+    ensures { IsWorld all.new.names.heaps all.new.heap all.new.segs all.new.first all.new.second }
 {
     for n in 0..count {
         if create(all, &letter(n)).is_err() {
@@ -45,9 +45,9 @@ pub fn fill(all: &mut World, count: u8) -> bool
 
 // Whether a call by that name may be made.
 fn is_ready(all: &mut World, text: &[u8]) -> bool
-    requires { IsWorld all.old }
-    ensures world { IsWorld all.new }
-    ensures ready { result ≡ true → IsReady all.new text.now }
+    requires { IsWorld all.old.names.heaps all.old.heap all.old.segs all.old.first all.old.second }
+    ensures world { IsWorld all.new.names.heaps all.new.heap all.new.segs all.new.first all.new.second }
+    ensures ready { result ≡ true → IsReady all.new.names.heaps all.new.heap text.now }
 {
     if all.heap.reserve(1).is_err() {
         return false;
@@ -56,8 +56,8 @@ fn is_ready(all: &mut World, text: &[u8]) -> bool
 }
 
 pub fn destroy(all: &mut World, text: &[u8]) -> Option<Result<(), DestroyFault>>
-    requires { IsWorld all.old }
-    ensures { IsWorld all.new }
+    requires { IsWorld all.old.names.heaps all.old.heap all.old.segs all.old.first all.old.second }
+    ensures { IsWorld all.new.names.heaps all.new.heap all.new.segs all.new.first all.new.second }
 {
     if !is_ready(all, text) {
         return None;
@@ -72,8 +72,8 @@ pub fn add(
     len: u64,
     page: u64,
 ) -> Option<Result<(), AddFault>>
-    requires { IsWorld all.old }
-    ensures { IsWorld all.new }
+    requires { IsWorld all.old.names.heaps all.old.heap all.old.segs all.old.first all.old.second }
+    ensures { IsWorld all.new.names.heaps all.new.heap all.new.segs all.new.first all.new.second }
 {
     if !is_ready(all, text) {
         return None;
@@ -91,8 +91,8 @@ pub fn add(
 }
 
 pub fn remove(all: &mut World, text: &[u8], addr: u64, len: u64) -> Option<Result<(), RemoveFault>>
-    requires { IsWorld all.old }
-    ensures { IsWorld all.new }
+    requires { IsWorld all.old.names.heaps all.old.heap all.old.segs all.old.first all.old.second }
+    ensures { IsWorld all.new.names.heaps all.new.heap all.new.segs all.new.first all.new.second }
 {
     if !is_ready(all, text) {
         return None;
@@ -115,8 +115,8 @@ pub fn attach(
     addr: u64,
     len: u64,
 ) -> Option<Result<(), AttachFault>>
-    requires { IsWorld all.old }
-    ensures { IsWorld all.new }
+    requires { IsWorld all.old.names.heaps all.old.heap all.old.segs all.old.first all.old.second }
+    ensures { IsWorld all.new.names.heaps all.new.heap all.new.segs all.new.first all.new.second }
 {
     if !is_ready(all, text) {
         return None;
@@ -176,8 +176,8 @@ pub fn detach(
     addr: u64,
     len: u64,
 ) -> Option<Result<(), DetachFault>>
-    requires { IsWorld all.old }
-    ensures { IsWorld all.new }
+    requires { IsWorld all.old.names.heaps all.old.heap all.old.segs all.old.first all.old.second }
+    ensures { IsWorld all.new.names.heaps all.new.heap all.new.segs all.new.first all.new.second }
 {
     if !is_ready(all, text) {
         return None;
@@ -227,8 +227,8 @@ fn detach_by(
 }
 
 pub fn alloc_for(all: &mut World, who: u8, size: u64) -> Option<Option<u64>>
-    requires { IsWorld all.old }
-    ensures { IsWorld all.new }
+    requires { IsWorld all.old.names.heaps all.old.heap all.old.segs all.old.first all.old.second }
+    ensures { IsWorld all.new.names.heaps all.new.heap all.new.segs all.new.first all.new.second }
 {
     let Ok(request) = Request::new(size, 0, 0, 0) else {
         return None;
@@ -249,8 +249,8 @@ pub fn alloc_for(all: &mut World, who: u8, size: u64) -> Option<Option<u64>>
 }
 
 pub fn free(all: &mut World, addr: u64) -> bool
-    requires { IsWorld all.old }
-    ensures { IsWorld all.new }
+    requires { IsWorld all.old.names.heaps all.old.heap all.old.segs all.old.first all.old.second }
+    ensures { IsWorld all.new.names.heaps all.new.heap all.new.segs all.new.first all.new.second }
 {
     if all.heap.reserve(1).is_err() {
         return false;

@@ -43,7 +43,7 @@ pub fn play(alloc: Global, fails: &[u64], steps: &[Step]) -> Result<(), Fail> {
 }
 
 fn go_on(all: &mut World, steps: &[Step]) -> Result<(), Fail>
-    requires { IsWorld all.old }
+    requires { IsWorld all.old.names.heaps all.old.heap all.old.segs all.old.first all.old.second }
 {
     for place in 0..steps.len() {
         if !perform(all, steps[place]) {
@@ -55,8 +55,8 @@ fn go_on(all: &mut World, steps: &[Step]) -> Result<(), Fail>
 
 // Whether a step came out as it stands.
 fn perform(all: &mut World, step: Step) -> bool
-    requires { IsWorld all.old }
-    ensures { IsWorld all.new }
+    requires { IsWorld all.old.names.heaps all.old.heap all.old.segs all.old.first all.old.second }
+    ensures { IsWorld all.new.names.heaps all.new.heap all.new.segs all.new.first all.new.second }
 {
     match step {
         Step::Create(text, made) => create(all, text.as_bytes()) == made,

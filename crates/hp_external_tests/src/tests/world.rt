@@ -39,7 +39,7 @@ fn empty_table(alloc: Global, fails: &[u64]) -> Result<LocalMaps<MemMapper>, All
 
 /// Nothing has happened yet. These mapping calls of the first table are refused.
 pub fn opening_world(alloc: Global, fails: &[u64]) -> Result<World, AllocError>
-    ensures { IfOk result IsWorld }
+    ensures { IfOk result (λ all. IsWorld all.names.heaps all.heap all.segs all.first all.second) }
 {
     let first = empty_table(alloc, fails)?;
     let second = empty_table(alloc, &[])?;
