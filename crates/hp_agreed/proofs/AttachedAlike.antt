@@ -28,9 +28,9 @@ use Rattle.hp_segs.specs.declared.outcome.Outcome.TheVariants.{Freed, Granted, R
 use Rattle.hp_segs.specs.declared.row_state.Segment.{Segment}
 use Rattle.hp_segs.proofs.GrantedRows.{rows_are_granted}
 use Rattle.hp_proc.specs.LinesDone.{Course}
-use Rattle.hp_proc.specs.Party.{Party}
-use Rattle.hp_proc.specs.Tied.{HasTable, part_of}
-use Rattle.hp_proc.proofs.RowsKnown.{has_lags}
+use Rattle.hp_serve.specs.Party.{Party}
+use Rattle.hp_serve.specs.Tied.{HasTable, part_of}
+use Rattle.hp_serve.proofs.RowsKnown.{has_lags}
 use Rattle.hp_joint.specs.SoFar.{SoFar, first_hall, first_segs}
 use Rattle.hp_joint.proofs.SeatsAlong.{count_along}
 use Rattle.hp_joint.proofs.SegsAlong.{sound_along}

@@ -15,7 +15,7 @@ use Rattle.hp_segs.specs.SegsView.{SegsView, is_opened}
 use Rattle.hp_segs.specs.declared.row_state.Segment.{Segment}
 use Rattle.hp_proc.specs.Ends.{IsEnd}
 use Rattle.hp_proc.specs.LinesDone.{Course}
-use Rattle.hp_proc.specs.Party.{Party}
+use Rattle.hp_serve.specs.Party.{Party}
 use Rattle.hp_joint.specs.EndLaws.{IsGiven}
 use Rattle.hp_joint.specs.SoFar.{SoFar}
 

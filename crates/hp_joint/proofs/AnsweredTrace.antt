@@ -5,12 +5,13 @@ use Rattle.hp_base.specs.declared.row.Run.{Run}
 use Rattle.hp_log.specs.declared.log_record.LogRecord.{LogRecord}
 use Rattle.hp_segs.specs.declared.outcome.AskLog.{AskLog}
 use Rattle.hp_proc.specs.Acting.{AreAsked}
-use Rattle.hp_proc.specs.Asking.{HasAnswer}
+use Rattle.hp_serve.specs.Asking.{HasAnswer}
 use Rattle.hp_proc.specs.Courses.{numbered_in}
 use Rattle.hp_proc.specs.Doing.{Done}
 use Rattle.hp_proc.specs.Doing.Done.{Asked, Called, CaughtUp, GaveUp, Looked}
-use Rattle.hp_proc.specs.Outcomes.{AreInTurn, IsAnsweredSo, ask_of}
-use Rattle.hp_proc.specs.declared.pages_asked.PagesAsked.{PagesAsked}
+use Rattle.hp_proc.specs.Outcomes.{AreInTurn, IsAnsweredSo}
+use Rattle.hp_serve.specs.Asking.{ask_of}
+use Rattle.hp_serve.specs.declared.pages_asked.PagesAsked.{PagesAsked}
 use Rattle.hp_proc.proofs.InTurn.{answers_in_turn}
 
 module _ (log : List LogRecord) (asks : List AskLog) (who : ℕ) where

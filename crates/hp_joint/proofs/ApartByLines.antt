@@ -25,12 +25,12 @@ use Rattle.hp_segs.specs.Sound.{IsSound}
 use Rattle.hp_segs.specs.Steps.{after_claim, claimed_grant}
 use Rattle.hp_segs.specs.declared.ask.Ask.{Ask}
 use Rattle.hp_segs.proofs.Moves.{moves_keep}
-use Rattle.hp_proc.specs.Attaching.{after_attaching}
-use Rattle.hp_proc.specs.Coordinating.{nobody_denies, stepping, with_room}
+use Rattle.hp_serve.specs.Attaching.{after_attaching}
+use Rattle.hp_serve.specs.Coordinating.{nobody_denies, stepping, with_room}
 use Rattle.hp_proc.specs.Courses.{numbered_in}
 use Rattle.hp_proc.specs.Doing.{Done}
-use Rattle.hp_proc.specs.Outcomes.{ask_of}
-use Rattle.hp_proc.specs.declared.pages_asked.PagesAsked.{PagesAsked}
+use Rattle.hp_serve.specs.Asking.{ask_of}
+use Rattle.hp_serve.specs.declared.pages_asked.PagesAsked.{PagesAsked}
 use Rattle.hp_joint.specs.Seats.{Handles, Seat}
 use Rattle.hp_joint.specs.Together.{IsFirst, Joint, Runs, Steps}
 use Rattle.hp_joint.proofs.ApartBySteps.{agree_apart, cancel_apart, catching_apart, claim_apart, close_apart, freed_apart, open_apart, stale_apart, withdraw_apart}

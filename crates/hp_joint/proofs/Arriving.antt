@@ -12,8 +12,8 @@ use Rattle.hp_proc.specs.Contexts.{Context}
 use Rattle.hp_proc.specs.Courses.{Standing}
 use Rattle.hp_proc.specs.Doing.{Done}
 use Rattle.hp_proc.specs.LinesDone.{Course, courses_of, opening_standing, standing_after}
-use Rattle.hp_proc.specs.Party.{Party}
-use Rattle.hp_proc.specs.Tied.{part_of}
+use Rattle.hp_serve.specs.Party.{Party}
+use Rattle.hp_serve.specs.Tied.{part_of}
 use Rattle.hp_joint.specs.EndLaws.{MayFailAsBefore}
 use Rattle.hp_joint.specs.Seats.{Seat}
 use Rattle.hp_joint.specs.SoFar.{IsSoFarFor, SoFar}

@@ -16,8 +16,8 @@ use Rattle.hp_segs.specs.SegsView.{SegsView}
 use Rattle.hp_segs.specs.Steps.{after_agree, after_cancel, after_claim}
 use Rattle.hp_segs.specs.declared.outcome.AskLog.{AskLog}
 use Rattle.hp_segs.specs.declared.outcome.Cause.{Cause}
-use Rattle.hp_proc.specs.Attaching.{after_attaching}
-use Rattle.hp_proc.specs.Coordinating.{nobody_denies, stepping, with_room}
+use Rattle.hp_serve.specs.Attaching.{after_attaching}
+use Rattle.hp_serve.specs.Coordinating.{nobody_denies, stepping, with_room}
 use Rattle.hp_joint.specs.Seats.{Handles, Seat}
 use Rattle.hp_joint.specs.Together.{Joint, Runs, Steps}
 use Rattle.hp_joint.proofs.CallCases.{agree_holds, cancel_holds, claim_holds, withdraw_holds}

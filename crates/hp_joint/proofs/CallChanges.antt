@@ -27,7 +27,7 @@ use Rattle.hp_joint.proofs.Changes.{Changes, IsOwed, Logs, MovesRoster, alters, 
 use Rattle.hp_joint.proofs.Changes as log
 use Rattle.hp_joint.proofs.CallCases.{agree_holds, cancel_holds, claim_holds, withdraw_holds}
 use Rattle.hp_joint.proofs.Following.{elsewhere_by, note_by}
-use Rattle.hp_proc.specs.Attaching.{after_attaching}
+use Rattle.hp_serve.specs.Attaching.{after_attaching}
 
 -- a failed mapping that is taken is of a row of the open growth
 noted_row : (segs : SegsView) (who call : ℕ) (row : Row) (growth : Option Growth) → is_noted segs who call row growth ≡ true

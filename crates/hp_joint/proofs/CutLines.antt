@@ -32,7 +32,7 @@ use Rattle.hp_proc.specs.Heaps.{NamedHeap, has_name, heaps_for, page_sizes_for}
 use Rattle.hp_proc.specs.Lines.{Facts, Maker, allocating, attached_with, attaching, doing_of, dumping, heaps_searched, if_attached, judged, on_element, tag_made, tag_of, with_statistics}
 use Rattle.hp_proc.specs.LinesDone.{AreDone, Course, trace_of}
 use Rattle.hp_proc.specs.Courses.{Standing, after_line}
-use Rattle.hp_proc.specs.declared.pages_asked.PagesAsked.{PagesAsked}
+use Rattle.hp_serve.specs.declared.pages_asked.PagesAsked.{PagesAsked}
 use Rattle.hp_proc.specs.declared.searched_heap.SearchedHeap.{SearchedHeap}
 use Rattle.hp_joint.proofs.CutFirst.{CutsFirst, IsCutFirst, IsCutNow, WasCut, cut_first_joins}
 

@@ -10,7 +10,7 @@ use Rattle.hp_segs.specs.SegsView.{SegsView}
 use Rattle.hp_proc.specs.Ends.{IsSoloEnd}
 use Rattle.hp_proc.specs.LinesDone.{Course, IsNoneUngranted, courses_of, trace_of}
 use Rattle.hp_proc.specs.Outcomes.{AreAskedFor, IsRefusedIn}
-use Rattle.hp_proc.specs.Party.{Party}
+use Rattle.hp_serve.specs.Party.{Party}
 use Rattle.hp_proc.specs.Seen.{AreRefusals, AreSeen, seen_in}
 use Rattle.hp_joint.specs.SoFar.{SoFar}
 use Rattle.hp_joint.specs.EndLaws.{IsAtEnd}

@@ -14,7 +14,7 @@ use Rattle.hp_segs.specs.SegsView.{SegsView, is_member}
 use Rattle.hp_proc.specs.Courses.{refusals_in}
 use Rattle.hp_proc.specs.LinesDone.{Course, courses_of, opening_standing, standing_after, trace_of}
 use Rattle.hp_proc.specs.Outcomes.{AreAskedFor, IsRefusedIn}
-use Rattle.hp_proc.specs.Party.{Party}
+use Rattle.hp_serve.specs.Party.{Party}
 use Rattle.hp_proc.specs.Seen.{AreRefusals, IsRefusedRow}
 use Rattle.hp_joint.specs.EndLaws.{FailsByReason, FailsOnce, RefusesByReason, RefusesOnce}
 use Rattle.hp_joint.specs.Seats.{Seat}

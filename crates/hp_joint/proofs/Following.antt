@@ -10,7 +10,7 @@ use Rattle.hp_core.specs.Following.{after_catching, noted}
 use Rattle.hp_segs.specs.LaterSteps.{after_note, is_failure, is_noted, noting}
 use Rattle.hp_segs.specs.SegsView.{SegsView}
 use Rattle.hp_segs.specs.declared.outcome.Cause.TheVariants.{MapFailed}
-use Rattle.hp_proc.specs.Attaching.{after_attaching}
+use Rattle.hp_serve.specs.Attaching.{after_attaching}
 use Rattle.hp_joint.proofs.Leaving.{IsClaimed}
 
 module _ (P : SegsView → Type 0) (segs : SegsView) (still : P segs) (who : ℕ) where

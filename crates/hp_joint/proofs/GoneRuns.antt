@@ -11,9 +11,10 @@ use Rattle.hp_segs.specs.GrowthLaws.{HasArmedGrowth}
 use Rattle.hp_segs.specs.LaterSteps.{after_arm, after_leave, after_withdraw}
 use Rattle.hp_segs.specs.SegsView.{SegsView}
 use Rattle.hp_segs.specs.Steps.{after_claim}
-use Rattle.hp_proc.specs.Coordinating.{nobody_denies, stepping, with_room}
+use Rattle.hp_serve.specs.Coordinating.{nobody_denies, stepping, with_room}
 use Rattle.hp_proc.specs.Doing.{Done}
-use Rattle.hp_proc.specs.Outcomes.{IsOfATraceUnlessStale, ask_of}
+use Rattle.hp_proc.specs.Outcomes.{IsOfATraceUnlessStale}
+use Rattle.hp_serve.specs.Asking.{ask_of}
 use Rattle.hp_joint.specs.Seats.{Handles, Knows, Seat}
 use Rattle.hp_joint.specs.Together.{IsFirst, Joint, Runs, Steps}
 use Rattle.hp_joint.proofs.CoreLogs.{keeps}

@@ -14,7 +14,7 @@ use Rattle.hp_proc.specs.Ends.{HaveGoneBack, KeepsCalls}
 use Rattle.hp_proc.specs.Histories.{entries_for}
 use Rattle.hp_proc.specs.LinesDone.{Course, courses_of, opening_standing, trace_of}
 use Rattle.hp_proc.specs.Outcomes.{IsOfATraceUnlessStale}
-use Rattle.hp_proc.specs.Party.{Party}
+use Rattle.hp_serve.specs.Party.{Party}
 use Rattle.hp_joint.specs.Drops.{cut_by_lines}
 use Rattle.hp_joint.specs.Seats.{Seat}
 use Rattle.hp_joint.specs.SoFar.{IsOfDeclared, SoFar, trace_for}

@@ -14,8 +14,9 @@ use Rattle.hp_segs.specs.declared.outcome.Outcome.TheVariants.{Granted, Refused,
 use Rattle.hp_proc.specs.Courses.{numbered_in}
 use Rattle.hp_proc.specs.Doing.{Done}
 use Rattle.hp_proc.specs.Doing.Done.{Asked}
-use Rattle.hp_proc.specs.Outcomes.{AreInTurn, Gives, IsAnsweredSo, ask_of}
-use Rattle.hp_proc.specs.declared.pages_asked.PagesAsked.{PagesAsked}
+use Rattle.hp_proc.specs.Outcomes.{AreInTurn, IsAnsweredSo}
+use Rattle.hp_serve.specs.Asking.{Gives, ask_of}
+use Rattle.hp_serve.specs.declared.pages_asked.PagesAsked.{PagesAsked}
 use Rattle.hp_joint.proofs.GrantTurns.{among_read, generations_rise, grant_is, only}
 
 -- what is known of the segment value behind a line of a participant that had taken so many numbers before, when there were so many

@@ -15,7 +15,7 @@ use Rattle.hp_proc.specs.Courses.{numbered_in}
 use Rattle.hp_proc.specs.Doing.{Done}
 use Rattle.hp_proc.specs.Doing.Done.{Asked, Called, CaughtUp, GaveUp, Looked}
 use Rattle.hp_proc.specs.Histories.{granted_runs, run_granted}
-use Rattle.hp_proc.specs.declared.pages_asked.PagesAsked.{PagesAsked}
+use Rattle.hp_serve.specs.declared.pages_asked.PagesAsked.{PagesAsked}
 use Rattle.hp_joint.proofs.GrantedAsks.{AreSettled, IsGrantedBy, granted_by, granted_for, granted_later, grants_rise, same_outcome}
 use Rattle.hp_joint.proofs.GrownTraces.{run_for, runs_for, runs_numbered}
 use Rattle.hp_joint.proofs.Picked.{PicksRising, picked, picked_at, picked_rise, picks_at, same_rising}

@@ -19,7 +19,7 @@ use Rattle.hp_segs.specs.SegsView.{SegsView}
 use Rattle.hp_segs.specs.Sound as segments
 use Rattle.hp_proc.specs.Ends.{AreHeapsOf, IsHeapAt}
 use Rattle.hp_proc.specs.LinesDone.{Course}
-use Rattle.hp_proc.specs.Party.{Party}
+use Rattle.hp_serve.specs.Party.{Party}
 use Rattle.hp_joint.specs.SoFar.{SoFar, first_hall, first_segs}
 use Rattle.hp_joint.proofs.FirstSegs.{armed_first}
 use Rattle.hp_joint.proofs.HallEnds.{heaps_many}

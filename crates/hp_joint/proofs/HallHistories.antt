@@ -18,7 +18,7 @@ use Rattle.hp_proc.specs.Courses.{calls_in}
 use Rattle.hp_proc.specs.Ends.{AreGrown, KeepsCalls, history_by, none_made}
 use Rattle.hp_proc.specs.Histories.{entries_for, grown_runs}
 use Rattle.hp_proc.specs.LinesDone.{Course, courses_of, trace_of}
-use Rattle.hp_proc.specs.Party.{Party}
+use Rattle.hp_serve.specs.Party.{Party}
 use Rattle.hp_joint.specs.SoFar.{SoFar, first_hall, first_segs}
 use Rattle.hp_joint.proofs.GoneSoFar.{none_of_others}
 use Rattle.hp_joint.proofs.HallEnds.{heaps_many, party_of}

@@ -25,7 +25,7 @@ use Rattle.hp_segs.specs.declared.row_state.Segment.{Segment}
 use Rattle.hp_segs.proofs.Finds.{count_mapped}
 use Rattle.hp_proc.specs.Ends.{OwnsItsPages}
 use Rattle.hp_proc.specs.LinesDone.{Course}
-use Rattle.hp_proc.specs.Party.{Party}
+use Rattle.hp_serve.specs.Party.{Party}
 use Rattle.hp_joint.specs.SoFar.{SoFar}
 use Rattle.hp_joint.proofs.HallHeaps.{all_from_places, heap_at, heap_home}
 use Rattle.hp_joint.proofs.HallSegs.{segs_sound}

@@ -23,13 +23,13 @@ use Rattle.hp_segs.specs.declared.outcome.Outcome.{Outcome}
 use Rattle.hp_segs.specs.declared.outcome.Outcome.TheVariants.{Freed, Granted, Refused, Stale}
 use Rattle.hp_segs.specs.declared.row_state.Segment.{Segment}
 use Rattle.hp_segs.proofs.GrantedRows.{row_granted}
-use Rattle.hp_proc.specs.Ending.{LeavesTable}
+use Rattle.hp_serve.specs.Ending.{LeavesTable}
 use Rattle.hp_proc.specs.Ends.{IsMembersTable, IsTableOf}
 use Rattle.hp_proc.specs.LinesDone.{Course, courses_of, opening_standing, standing_after}
-use Rattle.hp_proc.specs.Party.{Party}
+use Rattle.hp_serve.specs.Party.{Party}
 use Rattle.hp_proc.specs.Seen.{HasTakenIn}
-use Rattle.hp_proc.specs.Tied.{HasTable, part_of, nothing_yet}
-use Rattle.hp_proc.proofs.RowsKnown.{has_lags}
+use Rattle.hp_serve.specs.Tied.{HasTable, part_of, nothing_yet}
+use Rattle.hp_serve.proofs.RowsKnown.{has_lags}
 use Rattle.hp_joint.specs.SoFar.{SoFar, first_hall, first_segs}
 use Rattle.hp_joint.proofs.HallEnds.{are_segs, party_of}
 use Rattle.hp_joint.proofs.HallSegs.{is_enrolled, segs_sound}

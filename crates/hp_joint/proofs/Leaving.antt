@@ -8,7 +8,7 @@ use Rattle.hp_segs.specs.declared.outcome.AskLog.{AskLog}
 use Rattle.hp_segs.specs.declared.outcome.Cause.TheVariants.{Withdrawn}
 use Rattle.hp_segs.specs.declared.outcome.Outcome.TheVariants.{Refused}
 use Rattle.hp_segs.specs.Sound.{IsSound}
-use Rattle.hp_proc.specs.Coordinating.{with_room}
+use Rattle.hp_serve.specs.Coordinating.{with_room}
 use Rattle.hp_joint.proofs.CoreLogs.{LogMoves, keeps}
 use Rattle.hp_joint.proofs.CallCases.{claim_holds, withdraw_holds}
 

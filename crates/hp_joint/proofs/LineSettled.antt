@@ -19,7 +19,7 @@ use Rattle.hp_proc.specs.Doing.{Done}
 use Rattle.hp_proc.specs.Doing.Done.{Asked, CaughtUp, Looked}
 use Rattle.hp_proc.specs.Outcomes.{AreAnsweredSo, IsAnsweredSo}
 use Rattle.hp_proc.specs.Seen.{seen_in}
-use Rattle.hp_proc.specs.declared.pages_asked.PagesAsked.{PagesAsked}
+use Rattle.hp_serve.specs.declared.pages_asked.PagesAsked.{PagesAsked}
 use Rattle.hp_joint.proofs.ApartByLines.{AreClosed, stands_on_line}
 use Rattle.hp_joint.proofs.StandingApart.{StandsApart}
 use Rattle.hp_joint.proofs.Behind.{IsBehind, runs_behind}

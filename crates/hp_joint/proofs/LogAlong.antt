@@ -12,7 +12,7 @@ use Rattle.hp_log.specs.declared.log_record.LogRecord.TheVariants.{Drop}
 use Rattle.hp_segs.specs.GrowthLaws.{HasArmedGrowth}
 use Rattle.hp_segs.specs.LaterSteps.{after_withdraw}
 use Rattle.hp_segs.specs.SegsView.{SegsView}
-use Rattle.hp_proc.specs.Coordinating.{nobody_denies, stepping, with_room}
+use Rattle.hp_serve.specs.Coordinating.{nobody_denies, stepping, with_room}
 use Rattle.hp_joint.specs.Seats.{Handles, Seat}
 use Rattle.hp_joint.specs.Together.{IsFirst, Joint, Runs, Steps}
 use Rattle.hp_joint.proofs.CoreLogs.{LogMoves, drops, keeps}

@@ -12,12 +12,12 @@ use Rattle.hp_segs.specs.SegsView.{is_grant_or_refusal, is_stale}
 use Rattle.hp_segs.specs.declared.ask.Ask.{Ask}
 use Rattle.hp_segs.specs.declared.outcome.AskLog.{AskLog}
 use Rattle.hp_segs.specs.declared.outcome.Outcome.TheVariants.{Freed}
-use Rattle.hp_proc.specs.Asking.{alloc_body, free_body}
+use Rattle.hp_serve.specs.Asking.{alloc_body, free_body}
 use Rattle.hp_proc.specs.Doing.{Done}
 use Rattle.hp_proc.specs.Doing.Done.{Asked, GaveUp}
-use Rattle.hp_proc.specs.Frames.{Says}
-use Rattle.hp_proc.specs.Outcomes.{ask_of}
-use Rattle.hp_proc.specs.declared.pages_asked.PagesAsked.{PagesAsked}
+use Rattle.hp_serve.specs.Frames.{Says}
+use Rattle.hp_serve.specs.Asking.{ask_of}
+use Rattle.hp_serve.specs.declared.pages_asked.PagesAsked.{PagesAsked}
 use Rattle.hp_joint.proofs.Numbers.{AreLater, stays_at}
 use Rattle.hp_joint.specs.Seats.{AsksNothing}
 

@@ -6,7 +6,7 @@ use Rattle.hp_plain.specs.HallView.{HallView, history_in, slot_at}
 use Rattle.hp_script.specs.declared.workload.Workload.{Workload}
 use Rattle.hp_proc.specs.LinesDone.{Course, IsNoneUngranted}
 use Rattle.hp_proc.specs.Ends.{history_by, none_made}
-use Rattle.hp_proc.specs.Party.{Party}
+use Rattle.hp_serve.specs.Party.{Party}
 use Rattle.hp_joint.specs.SoFar.{SoFar}
 use Rattle.hp_joint.proofs.HallHeaps.{first_sound}
 use Rattle.hp_joint.proofs.LineClauses.{asks_of_each}

@@ -14,7 +14,7 @@ use Rattle.hp_proc.specs.Doing.{Done}
 use Rattle.hp_proc.specs.Ends.{history_by, none_made}
 use Rattle.hp_proc.specs.Histories.{granted_runs, grown_runs}
 use Rattle.hp_proc.specs.LinesDone.{Course, courses_of, opening_standing, standing_after}
-use Rattle.hp_proc.specs.Party.{Party}
+use Rattle.hp_serve.specs.Party.{Party}
 use Rattle.hp_proc.specs.Seen.{AreSeen, seen_by_lines}
 use Rattle.hp_joint.specs.Drops.{DropsComeFirst, DropsGoOnByLine, cut_by_lines}
 use Rattle.hp_joint.specs.EndLaws.{GoesBy, GoesOnByLine, IsGiven, MayFailAsBefore}

@@ -28,9 +28,9 @@ use Rattle.hp_segs.specs.declared.ask.Ask.{Ask}
 use Rattle.hp_proc.specs.Contexts.{Context, opening_context}
 use Rattle.hp_proc.specs.Heaps.{names_socket, sockets_of}
 use Rattle.hp_proc.specs.LinesDone.{opening_standing}
-use Rattle.hp_proc.specs.Party.{Party, first_core}
+use Rattle.hp_serve.specs.Party.{Party, first_core}
 use Rattle.hp_proc.specs.Progress.{MayDo, moment_of}
-use Rattle.hp_proc.specs.Tied.{IsTied, part_of}
+use Rattle.hp_serve.specs.Tied.{IsTied, part_of}
 use Rattle.hp_proc.proofs.Joining.{asked_none}
 use Rattle.hp_proc.proofs.Unarmed.{all_alike}
 use Rattle.hp_joint.proofs.FirstSegs.{armed_first, member_first, present_declared, sound_first}

@@ -21,9 +21,9 @@ use Rattle.hp_proc.specs.Doing.{Done}
 use Rattle.hp_proc.specs.Heaps.{sockets_of}
 use Rattle.hp_proc.specs.Histories.{entries_for}
 use Rattle.hp_proc.specs.LinesDone.{Course}
-use Rattle.hp_proc.specs.Party.{IsSameParty, Party}
+use Rattle.hp_serve.specs.Party.{IsSameParty, Party}
 use Rattle.hp_proc.specs.Progress.{MayDo, moment_of}
-use Rattle.hp_proc.specs.Tied.{IsTied}
+use Rattle.hp_serve.specs.Tied.{IsTied}
 use Rattle.hp_joint.specs.Seats.{Seat}
 use Rattle.hp_joint.specs.SoFar.{IsSoFarFor, SoFar, context_of, trace_for}
 use Rattle.hp_joint.specs.Together.{Joint, Runs}

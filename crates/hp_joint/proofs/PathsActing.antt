@@ -9,12 +9,14 @@ use Rattle.hp_segs.specs.LaterSteps.{after_leave}
 use Rattle.hp_segs.specs.SegsView.{SegsView}
 use Rattle.hp_segs.specs.Steps.{after_retire}
 use Rattle.hp_proc.specs.Acting.{Acts}
-use Rattle.hp_proc.specs.Attaching.{Attaches, after_attaching, after_detaching, standing_tried}
+use Rattle.hp_serve.specs.Attaching.{Attaches, after_attaching, after_detaching}
+use Rattle.hp_proc.specs.Courses.{standing_tried}
 use Rattle.hp_proc.specs.Doing.{Done}
 use Rattle.hp_proc.specs.Doing.Done.{Called, CaughtUp, Looked}
-use Rattle.hp_proc.specs.Party.{Party, after_call, with_standing}
+use Rattle.hp_serve.specs.Party.{Party}
+use Rattle.hp_proc.specs.ParticipantView.{after_call, with_standing}
 use Rattle.hp_proc.specs.declared.own_element.OwnElement.{OwnElement}
-use Rattle.hp_proc.specs.Serving.{acks_behind, gives_segments, takes_segments}
+use Rattle.hp_serve.specs.Serving.{acks_behind, gives_segments, takes_segments}
 use Rattle.hp_joint.specs.Seats.{Handles, Path, Quietly, Seat, seated}
 use Rattle.hp_joint.proofs.Paths.{Comes, comes_at, held_notes, noted_of, path_by, path_handle, path_quiet, serves_same}
 use Rattle.hp_joint.proofs.PathsAsking.{Acted, acted_by, acted_then, ask_path, exchanged, longest, notice_path}

@@ -10,16 +10,16 @@ use Rattle.hp_segs.specs.LaterSteps.{after_arm, after_withdraw}
 use Rattle.hp_segs.specs.SegsView.{SegsView}
 use Rattle.hp_segs.specs.Steps.{after_claim}
 use Rattle.hp_segs.specs.declared.ask.Ask.{Ask}
-use Rattle.hp_proc.specs.AskSteps.{DoesAsk, DoesNotify, IsAwaitedBy, IsSentAs, IsSettledLate, waits_until}
-use Rattle.hp_proc.specs.Asking.{after_settling, alloc_body, free_body, next_number}
+use Rattle.hp_serve.specs.AskSteps.{DoesAsk, DoesNotify, IsAwaitedBy, IsSentAs, IsSettledLate, waits_until}
+use Rattle.hp_serve.specs.Asking.{after_settling, alloc_body, free_body, next_number}
 use Rattle.hp_proc.specs.Doing.{Done}
 use Rattle.hp_proc.specs.Doing.Done.{Asked, GaveUp}
-use Rattle.hp_proc.specs.Frames.{Says}
-use Rattle.hp_proc.specs.Outcomes.{ask_of}
-use Rattle.hp_proc.specs.Party.{Party, after_alloc, after_free}
-use Rattle.hp_proc.specs.Serving.{gives_segments, takes_segments}
-use Rattle.hp_proc.specs.declared.pages_asked.PagesAsked.{PagesAsked}
-use Rattle.hp_proc.proofs.Waits.{waited_past}
+use Rattle.hp_serve.specs.Frames.{Says}
+use Rattle.hp_serve.specs.Asking.{ask_of}
+use Rattle.hp_serve.specs.Party.{Party, after_alloc, after_free}
+use Rattle.hp_serve.specs.Serving.{gives_segments, takes_segments}
+use Rattle.hp_serve.specs.declared.pages_asked.PagesAsked.{PagesAsked}
+use Rattle.hp_serve.proofs.Waits.{waited_past}
 use Rattle.hp_joint.specs.Seats.{Handles, Mails, Path, Quietly, Seat, numbered_on, seated}
 use Rattle.hp_joint.proofs.Paths.{Serves, ServesFrom, path_by, path_handle, path_mail, path_notes, path_quietly, path_then, serves_noted, serves_then, serves_to}
 use Rattle.hp_joint.proofs.PathsWaiting.{wait_path}

@@ -6,9 +6,9 @@ use Rattle.hp_frame.specs.declared.frame.Frame.{Frame}
 use Rattle.hp_frame.specs.declared.message.Body.{Body}
 use Rattle.hp_frame.specs.declared.message.Body.TheVariants.{Sync}
 use Rattle.hp_hall.specs.Mail.{MailStep}
-use Rattle.hp_proc.specs.Frames.{Says}
-use Rattle.hp_proc.specs.Party.{Party}
-use Rattle.hp_proc.specs.Posting.{AreTold, IsPosted, IsToldOne, after_answer, after_syncs, is_told, result_body, syncs_after}
+use Rattle.hp_serve.specs.Frames.{Says}
+use Rattle.hp_serve.specs.Party.{Party}
+use Rattle.hp_serve.specs.Posting.{AreTold, IsPosted, IsToldOne, after_answer, after_syncs, is_told, result_body, syncs_after}
 use Rattle.hp_joint.specs.Seats.{AsksNothing, Mails, Path, Quietly, Seat, seated}
 use Rattle.hp_joint.proofs.Paths.{Serves, ServesFrom, path_by, path_mail, path_quietly, path_then, serves_here, serves_to}
 

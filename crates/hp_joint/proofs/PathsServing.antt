@@ -16,9 +16,9 @@ use Rattle.hp_hall.specs.declared.note.Note.{Note}
 use Rattle.hp_hall.specs.declared.note.Note.TheVariants.{Loaded, Read}
 use Rattle.hp_maps.specs.MapsView.{MapsView}
 use Rattle.hp_segs.specs.SegsView.{SegsView, is_member}
-use Rattle.hp_proc.specs.Coordinating.{IsAnswered, IsCarried, IsCoreServed, IsHanded, IsHandled, IsMapped, IsObeyed, IsPolled, IsRested, IsServed, IsSettled, loads_of, stepping, with_core}
-use Rattle.hp_proc.specs.Party.{Party, after_reply}
-use Rattle.hp_proc.specs.Serving.{IsFollowed, IsHeeded, IsMemberServed, IsTold, Obeys, acks_behind, after_catching_up, gives_segments, hearing, takes_segments}
+use Rattle.hp_serve.specs.Coordinating.{IsAnswered, IsCarried, IsCoreServed, IsHanded, IsHandled, IsMapped, IsObeyed, IsPolled, IsRested, IsServed, IsSettled, loads_of, stepping, with_core}
+use Rattle.hp_serve.specs.Party.{Party, after_reply}
+use Rattle.hp_serve.specs.Serving.{IsFollowed, IsHeeded, IsMemberServed, IsTold, Obeys, acks_behind, after_catching_up, gives_segments, hearing, takes_segments}
 use Rattle.hp_joint.specs.Seats.{Handles, Knows, Mails, Path, Quietly, Seat, seated}
 use Rattle.hp_joint.proofs.Paths.{Serves, ServesFrom, held_notes, noted_of, path_handle, path_mail, path_notes, path_quiet, path_then, serves_behind, serves_here, serves_noted, serves_notes, serves_quietly, serves_then, serves_to}
 use Rattle.hp_joint.proofs.PathsPosting.{posted_path}

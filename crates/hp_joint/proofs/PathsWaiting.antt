@@ -4,8 +4,8 @@ use Rattle.std.proofs.lemmas.Option.{none-some}
 use Rattle.hp_hall.specs.Mail.{MailStep, Notes}
 use Rattle.hp_hall.specs.declared.note.Note.{Note}
 use Rattle.hp_hall.specs.declared.note.Note.TheVariants.{Paused, Read, Yielded}
-use Rattle.hp_proc.specs.Party.{Party}
-use Rattle.hp_proc.specs.Waiting.{AreServings, AreTurns, HaveServed, IsServedOut, IsTurned, IsWaited}
+use Rattle.hp_serve.specs.Party.{Party}
+use Rattle.hp_serve.specs.Waiting.{AreServings, AreTurns, HaveServed, IsServedOut, IsTurned, IsWaited}
 use Rattle.hp_joint.specs.Seats.{Seat}
 use Rattle.hp_solo.specs.Served.{ServesOn}
 use Rattle.hp_joint.proofs.Paths.{Comes, ServesFrom, comes_by, serves_here, serves_noted, serves_notes, serves_then, serves_to}

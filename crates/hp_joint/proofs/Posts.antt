@@ -11,10 +11,10 @@ use Rattle.hp_frame.proofs.SpellingLemmas.{same_message}
 use Rattle.hp_plain.specs.Boxes.{box_after, copies}
 use Rattle.hp_mail.specs.declared.posted.Posted.{Posted}
 use Rattle.hp_segs.specs.declared.ask.Ask.{Ask}
-use Rattle.hp_proc.specs.Asking.{alloc_body, free_body}
-use Rattle.hp_proc.specs.Coordinating.{IsAskIn, asks, frees}
+use Rattle.hp_serve.specs.Asking.{alloc_body, free_body}
+use Rattle.hp_serve.specs.Coordinating.{IsAskIn, asks, frees}
 use Rattle.hp_proc.specs.Doing.{Done}
-use Rattle.hp_proc.specs.Frames.{Says, to_handler}
+use Rattle.hp_serve.specs.Frames.{Says, to_handler}
 use Rattle.hp_joint.proofs.CoreSteps.{Brings}
 use Rattle.hp_joint.proofs.Made.{IsPost, IsTaken, WasAsked, WasGivenUp, asking, asks_nothing, telling}
 use Rattle.hp_joint.specs.Seats.{AsksNothing}

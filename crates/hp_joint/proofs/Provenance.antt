@@ -16,8 +16,9 @@ use Rattle.hp_proc.specs.Acting.{AreAsked}
 use Rattle.hp_proc.specs.Courses.{numbered_in}
 use Rattle.hp_proc.specs.Doing.{Done}
 use Rattle.hp_proc.specs.Doing.Done.{Asked, GaveUp}
-use Rattle.hp_proc.specs.Outcomes.{AreAnsweredSo, AreInTurn, IsOfAnAskOfATrace, IsOfATraceUnlessStale, IsOutcomeOf, ask_of}
-use Rattle.hp_proc.specs.declared.pages_asked.PagesAsked.{PagesAsked}
+use Rattle.hp_proc.specs.Outcomes.{AreAnsweredSo, AreInTurn, IsOfAnAskOfATrace, IsOfATraceUnlessStale, IsOutcomeOf}
+use Rattle.hp_serve.specs.Asking.{ask_of}
+use Rattle.hp_serve.specs.declared.pages_asked.PagesAsked.{PagesAsked}
 use Rattle.hp_joint.proofs.AnsweredTrace.{answers_all}
 use Rattle.hp_joint.proofs.Gone.{AreTrulyFreed, IsTrulyFreed}
 use Rattle.hp_joint.proofs.Made.{IsNumbered, answered as answered_ask, freed, stale_ask, stale_notice, took_number}

@@ -21,7 +21,7 @@ use Rattle.hp_proc.specs.Courses.{call_refused, refusals_in}
 use Rattle.hp_proc.specs.Doing.{Done}
 use Rattle.hp_proc.specs.Doing.Done.{Asked, Called, CaughtUp, GaveUp, Looked}
 use Rattle.hp_proc.specs.Seen.{IsRefusedRow}
-use Rattle.hp_proc.specs.Serving.{CatchesUp}
+use Rattle.hp_serve.specs.Serving.{CatchesUp}
 use Rattle.hp_joint.proofs.TableRows.{row_of_table}
 use Rattle.std.proofs.lemmas.List.Folds.{list_any_at}
 

@@ -14,7 +14,7 @@ use Rattle.hp_segs.specs.LaterSteps.{after_withdraw}
 use Rattle.hp_segs.specs.SegsView.{SegsView}
 use Rattle.hp_segs.specs.Sound.{IsSound}
 use Rattle.hp_segs.specs.Steps.{after_claim, after_retire, insert_by_address}
-use Rattle.hp_proc.specs.Coordinating.{nobody_denies, stepping, with_room}
+use Rattle.hp_serve.specs.Coordinating.{nobody_denies, stepping, with_room}
 use Rattle.hp_proc.specs.Doing.{Done}
 use Rattle.hp_proc.specs.Ends.{HaveGoneBack, KeepsCalls}
 use Rattle.hp_segs.specs.Returned.{gone_in, returned_runs}

@@ -19,10 +19,10 @@ use Rattle.hp_segs.specs.GrowthLaws.{HasArmedGrowth}
 use Rattle.hp_segs.specs.LaterSteps.{after_withdraw}
 use Rattle.hp_segs.specs.SegsView.{SegsView}
 use Rattle.hp_segs.specs.Sound.{IsSound}
-use Rattle.hp_proc.specs.Attaching.{table_left}
-use Rattle.hp_proc.specs.Coordinating.{IsAskIn, stepping}
-use Rattle.hp_proc.specs.Outcomes.{ask_of}
-use Rattle.hp_proc.specs.Party.{first_core}
+use Rattle.hp_serve.specs.Attaching.{table_left}
+use Rattle.hp_serve.specs.Coordinating.{IsAskIn, stepping}
+use Rattle.hp_serve.specs.Asking.{ask_of}
+use Rattle.hp_serve.specs.Party.{first_core}
 use Rattle.hp_joint.specs.Seats.{Handles, Knows, Mails, Quietly, Seat}
 use Rattle.hp_joint.specs.Together.{IsFirst, Joint, Runs, Steps}
 use Rattle.hp_joint.proofs.CallChanges as change

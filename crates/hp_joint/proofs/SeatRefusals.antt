@@ -12,12 +12,12 @@ use Rattle.hp_hall.specs.Mail.{MailStep}
 use Rattle.hp_log.specs.declared.log_record.LogRecord.{LogRecord}
 use Rattle.hp_maps.specs.MapsView.{MapsView}
 use Rattle.hp_segs.specs.SegsView.{SegsView}
-use Rattle.hp_proc.specs.Attaching.{Attaches, table_left}
+use Rattle.hp_serve.specs.Attaching.{Attaches, table_left}
 use Rattle.hp_proc.specs.Courses.{call_refused, refusals_in}
 use Rattle.hp_proc.specs.Doing.{Done}
 use Rattle.hp_proc.specs.Doing.Done.{Asked, Called, CaughtUp, GaveUp, Looked}
-use Rattle.hp_proc.specs.Party.{Party}
-use Rattle.hp_proc.specs.Serving.{CatchesUp}
+use Rattle.hp_serve.specs.Party.{Party}
+use Rattle.hp_serve.specs.Serving.{CatchesUp}
 use Rattle.hp_joint.specs.Seats.{Handles, Mails, Quietly, Seat}
 use Rattle.hp_joint.proofs.RefusedCalls.{BringsCalls, IsOfLog, catching_brings, catching_longer, catching_row, none, one, refusals_both, rising_push}
 

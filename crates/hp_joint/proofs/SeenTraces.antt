@@ -12,7 +12,7 @@ use Rattle.hp_proc.specs.Doing.{Done}
 use Rattle.hp_proc.specs.Doing.Done.{Asked, Called, CaughtUp, GaveUp, Looked}
 use Rattle.hp_proc.specs.Outcomes.{AreAnsweredSo, IsAnsweredSo}
 use Rattle.hp_proc.specs.Seen.{seen_by, seen_by_ask, seen_in}
-use Rattle.hp_proc.specs.declared.pages_asked.PagesAsked.{PagesAsked}
+use Rattle.hp_serve.specs.declared.pages_asked.PagesAsked.{PagesAsked}
 use Rattle.hp_proc.proofs.LawLemmas.{find_stays}
 use Rattle.hp_joint.proofs.GrantTurns.{among_read}
 use Rattle.hp_joint.proofs.LaterGrants.{GrantsLater, failed_stays}

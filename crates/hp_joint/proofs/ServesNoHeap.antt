@@ -13,10 +13,10 @@ use Rattle.hp_base.specs.declared.plan_entry.PlanEntry.{PlanEntry}
 use Rattle.hp_hall.specs.Mail.{MailStep, Notes}
 use Rattle.hp_hall.specs.declared.note.Note.{Note}
 use Rattle.hp_segs.specs.SegsView.{SegsView}
-use Rattle.hp_proc.specs.Coordinating.{IsAnswered, IsCarried, IsCoreServed, IsHanded, IsHandled, IsMapped, IsObeyed, IsPolled, IsRested, IsServed, IsSettled, loads_of}
-use Rattle.hp_proc.specs.Party.{Party}
-use Rattle.hp_proc.specs.Posting.{AreTold, IsPosted, IsToldOne, is_told, syncs_after}
-use Rattle.hp_proc.specs.Serving.{IsFollowed, IsHeeded, IsMemberServed, IsTold, acks_behind}
+use Rattle.hp_serve.specs.Coordinating.{IsAnswered, IsCarried, IsCoreServed, IsHanded, IsHandled, IsMapped, IsObeyed, IsPolled, IsRested, IsServed, IsSettled, loads_of}
+use Rattle.hp_serve.specs.Party.{Party}
+use Rattle.hp_serve.specs.Posting.{AreTold, IsPosted, IsToldOne, is_told, syncs_after}
+use Rattle.hp_serve.specs.Serving.{IsFollowed, IsHeeded, IsMemberServed, IsTold, acks_behind}
 use Rattle.hp_solo.specs.Served.{ServesOn}
 use Rattle.hp_joint.proofs.HeapGivers.{GiveNoHeap, IsNoGive}
 

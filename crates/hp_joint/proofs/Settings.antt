@@ -8,7 +8,7 @@ use Rattle.hp_base.specs.declared.caught.Caught.TheVariants as caught
 use Rattle.hp_hall.specs.Mail.{MailStep}
 use Rattle.hp_maps.specs.MapsView.{MapsView}
 use Rattle.hp_segs.specs.SegsView.{SegsView}
-use Rattle.hp_proc.specs.Attaching.{table_left}
+use Rattle.hp_serve.specs.Attaching.{table_left}
 use Rattle.hp_joint.specs.Seats.{Handles, Mails, Quietly, Seat}
 use Rattle.hp_joint.specs.Together.{Joint, Runs, Steps}
 use Rattle.hp_joint.proofs.RunChanges.{AreSetSo}

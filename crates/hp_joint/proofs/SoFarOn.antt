@@ -15,10 +15,10 @@ use Rattle.hp_proc.specs.Doing.{Done}
 use Rattle.hp_proc.specs.Ends.{history_by, none_made}
 use Rattle.hp_proc.specs.Histories.{entries_for, granted_runs, grown_runs}
 use Rattle.hp_proc.specs.LinesDone.{AreDone, Course, courses_of, opening_standing, standing_after}
-use Rattle.hp_proc.specs.Party.{Party}
+use Rattle.hp_serve.specs.Party.{Party}
 use Rattle.hp_proc.specs.Progress.{MayDo, moment_of}
 use Rattle.hp_proc.specs.Seen.{AreSeen, seen_by_lines}
-use Rattle.hp_proc.specs.Tied.{IsTied}
+use Rattle.hp_serve.specs.Tied.{IsTied}
 use Rattle.hp_joint.specs.Seats.{Seat}
 use Rattle.hp_joint.specs.SoFar.{IsOfDeclared, IsSoFarFor, SoFar, context_of, first_hall, trace_for}
 use Rattle.hp_joint.specs.Together.{Joint, Runs}

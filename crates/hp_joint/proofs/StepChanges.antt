@@ -41,7 +41,7 @@ use Rattle.hp_segs.specs.declared.outcome.Outcome.{Outcome}
 use Rattle.hp_segs.specs.declared.plan_refusal.PlanRefusal.{PlanRefusal}
 use Rattle.hp_segs.proofs.Moves.{moves_keep}
 use Rattle.hp_maps.specs.Catching.{HasReason}
-use Rattle.hp_proc.specs.Coordinating.{nobody_denies, stepping, with_room}
+use Rattle.hp_serve.specs.Coordinating.{nobody_denies, stepping, with_room}
 use Rattle.hp_joint.proofs.Changes.{Changes, by_failure, by_lateness, goes_on, stays}
 use Rattle.hp_joint.proofs.CallChanges.{agrees, cancels, catches, drops, finds_stale, frees, opens, refuses, reserves}
 use Rattle.hp_joint.proofs.Leaving.{room_sound}

@@ -11,12 +11,12 @@ use Rattle.hp_segs.specs.SegsView.{closed_number}
 use Rattle.hp_segs.specs.declared.ask.Ask.{Ask}
 use Rattle.hp_segs.specs.declared.outcome.AskLog.{AskLog}
 use Rattle.hp_segs.proofs.ListFacts.{get_pushed}
-use Rattle.hp_proc.specs.Asking.{free_body, next_number}
+use Rattle.hp_serve.specs.Asking.{free_body, next_number}
 use Rattle.hp_proc.specs.Doing.{Done}
 use Rattle.hp_proc.specs.Doing.Done.{Asked, GaveUp}
-use Rattle.hp_proc.specs.Frames.{Says}
-use Rattle.hp_proc.specs.Outcomes.{ask_of}
-use Rattle.hp_proc.specs.declared.pages_asked.PagesAsked.{PagesAsked}
+use Rattle.hp_serve.specs.Frames.{Says}
+use Rattle.hp_serve.specs.Asking.{ask_of}
+use Rattle.hp_serve.specs.declared.pages_asked.PagesAsked.{PagesAsked}
 use Rattle.hp_joint.proofs.Boxes.{posts_posted, read_set}
 use Rattle.hp_joint.proofs.Made.{IsNumbered, WasGivenUp, telling, took_number}
 use Rattle.hp_joint.proofs.Numbers.{its_numbers, more_numbers, numbers_of}

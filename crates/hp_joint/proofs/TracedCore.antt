@@ -6,9 +6,9 @@ use Rattle.std.proofs.lemmas.List.Elements.{All-contains}
 use Rattle.hp_core.specs.Core.{Core}
 use Rattle.hp_core.specs.declared.event.CoreEvent.{CoreEvent}
 use Rattle.hp_segs.specs.GrowthLaws.{HasArmedGrowth}
-use Rattle.hp_proc.specs.Coordinating.{nobody_denies, stepping, with_core, with_room}
+use Rattle.hp_serve.specs.Coordinating.{nobody_denies, stepping, with_core, with_room}
 use Rattle.hp_proc.specs.Doing.{Done}
-use Rattle.hp_proc.specs.Party.{Party}
+use Rattle.hp_serve.specs.Party.{Party}
 use Rattle.hp_joint.proofs.CoreLogs.{IsLoggedBy}
 use Rattle.hp_joint.proofs.CoreSteps.{Brings, step_keeps, step_logs}
 use Rattle.hp_joint.proofs.CoreWalk.{AreHeld}

@@ -13,7 +13,7 @@ use Rattle.hp_plain.specs.Boxes.{box_of}
 use Rattle.hp_segs.specs.SegsView.{SegsView}
 use Rattle.hp_proc.specs.Courses.{numbered_in}
 use Rattle.hp_proc.specs.Doing.{Done}
-use Rattle.hp_proc.specs.Party.{first_core}
+use Rattle.hp_serve.specs.Party.{first_core}
 use Rattle.hp_proc.proofs.Unarmed.{all_alike, unarmed_new}
 use Rattle.hp_joint.proofs.CoreWalk.{AreHeld}
 use Rattle.hp_joint.proofs.SegsAlong.{armed_along}

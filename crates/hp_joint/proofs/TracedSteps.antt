@@ -15,10 +15,11 @@ use Rattle.hp_segs.specs.LaterSteps.{after_withdraw}
 use Rattle.hp_segs.specs.SegsView.{SegsView}
 use Rattle.hp_segs.specs.Sound.{IsSound}
 use Rattle.hp_segs.specs.Steps.{after_claim}
-use Rattle.hp_proc.specs.Attaching.{Attaches, after_attaching}
+use Rattle.hp_serve.specs.Attaching.{Attaches, after_attaching}
 use Rattle.hp_proc.specs.Doing.{Done}
-use Rattle.hp_proc.specs.Party.{Party, with_standing}
-use Rattle.hp_proc.specs.Serving.{after_catching_up}
+use Rattle.hp_serve.specs.Party.{Party}
+use Rattle.hp_proc.specs.ParticipantView.{with_standing}
+use Rattle.hp_serve.specs.Serving.{after_catching_up}
 use Rattle.hp_proc.specs.Courses.{Standing}
 use Rattle.hp_joint.proofs.Boxes.{fetched_post, posts_fetched, posts_posted}
 use Rattle.hp_joint.proofs.Leaving.{claim_leaves, withdraw_leaves}

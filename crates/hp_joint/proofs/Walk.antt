@@ -15,7 +15,7 @@ use Rattle.hp_hall.specs.declared.kept.Kept.{Kept}
 use Rattle.hp_hall.specs.declared.kept.Kept.TheVariants.{Heap, Segments}
 use Rattle.hp_hall.specs.declared.note.Note.{Note}
 use Rattle.hp_plain.proofs.Slotted.{slice_get-set_other}
-use Rattle.hp_proc.specs.Serving.{gives_segments}
+use Rattle.hp_serve.specs.Serving.{gives_segments}
 use Rattle.hp_segs.specs.SegsView.{SegsView}
 use Rattle.hp_segs.specs.Sound.{IsSound}
 use Rattle.hp_joint.specs.Seats.{Handles, IsOfHeap, Mails, Path, Seat}

@@ -15,7 +15,7 @@ use Rattle.hp_hall.specs.declared.kept.Kept.{Kept}
 use Rattle.hp_hall.specs.declared.kept.Kept.TheVariants.{Segments}
 use Rattle.hp_hall.specs.declared.note.Note.{Note}
 use Rattle.hp_plain.proofs.Slotted.{slice_get-set_same}
-use Rattle.hp_proc.specs.Serving.{gives_segments, takes_segments}
+use Rattle.hp_serve.specs.Serving.{gives_segments, takes_segments}
 use Rattle.hp_segs.specs.SegsView.{SegsView}
 use Rattle.hp_joint.specs.Seats.{Handles, Mails, Path, Seat}
 use Rattle.hp_joint.specs.Together.{Joint, Runs, Steps, behind_step, with_seat, with_segs}

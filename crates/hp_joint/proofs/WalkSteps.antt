@@ -5,7 +5,7 @@ use Rattle.hp_frame.specs.declared.frame.Frame.{Frame}
 use Rattle.hp_hall.specs.Mail.{MailStep, Notes}
 use Rattle.hp_plain.specs.Boxes.{IsMailStep, after_step}
 use Rattle.hp_hall.specs.declared.note.Note.{Note}
-use Rattle.hp_proc.specs.Serving.{gives_segments, takes_segments}
+use Rattle.hp_serve.specs.Serving.{gives_segments, takes_segments}
 use Rattle.hp_segs.specs.SegsView.{SegsView}
 use Rattle.std.proofs.lemmas.List.{length-set}
 use Rattle.hp_joint.specs.Seats.{Handles, IsOfHeap, Mails, Path, Quietly, Seat}

@@ -10,7 +10,7 @@ use Rattle.hp_hall.specs.Mail.{MailStep, Notes, steps_of}
 use Rattle.hp_plain.specs.Boxes.{IsMail}
 use Rattle.hp_hall.specs.declared.kept.Kept.{Kept}
 use Rattle.hp_hall.specs.declared.note.Note.{Note}
-use Rattle.hp_proc.specs.Serving.{gives_segments}
+use Rattle.hp_serve.specs.Serving.{gives_segments}
 use Rattle.hp_segs.specs.SegsView.{SegsView}
 use Rattle.hp_joint.specs.Seats.{Path, Seat}
 use Rattle.hp_joint.specs.Together.{Joint, Runs}

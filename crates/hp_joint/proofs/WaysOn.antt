@@ -8,7 +8,7 @@ use Rattle.hp_plain.specs.Course.{IsCourse}
 use Rattle.hp_plain.specs.HallView.{HallView, HasDone}
 use Rattle.hp_hall.specs.Mail.{MailStep, steps_of}
 use Rattle.hp_proc.specs.Doing.{Done}
-use Rattle.hp_proc.specs.Party.{Party}
+use Rattle.hp_serve.specs.Party.{Party}
 use Rattle.hp_joint.specs.Seats.{Path, Seat}
 use Rattle.hp_joint.specs.Together.{Joint}
 use Rattle.hp_joint.proofs.HallWay.{Begins, HasGone, has_gone}

@@ -26,17 +26,18 @@ use Rattle.hp_segs.specs.SegsView.{SegsView, is_member}
 use Rattle.hp_segs.specs.Sound.{IsSound}
 use Rattle.hp_segs.specs.Steps.{after_retire}
 use Rattle.hp_proc.proofs.Unarmed.{armed_new}
-use Rattle.hp_proc.specs.Asking.{alloc_body}
-use Rattle.hp_proc.specs.Attaching.{after_detaching}
+use Rattle.hp_serve.specs.Asking.{alloc_body}
+use Rattle.hp_serve.specs.Attaching.{after_detaching}
 use Rattle.hp_proc.specs.Contexts.{Context}
 use Rattle.hp_proc.specs.Doing.{Done}
 use Rattle.hp_proc.specs.Doing.Done.{Called}
-use Rattle.hp_proc.specs.Frames.{Says}
+use Rattle.hp_serve.specs.Frames.{Says}
 use Rattle.hp_proc.specs.Histories.{run_cut}
-use Rattle.hp_proc.specs.Outcomes.{ask_of}
-use Rattle.hp_proc.specs.Party.{after_call, opening_party, with_standing}
-use Rattle.hp_proc.specs.Serving.{gives_segments, takes_segments}
-use Rattle.hp_proc.specs.declared.pages_asked.PagesAsked.{PagesAsked}
+use Rattle.hp_serve.specs.Asking.{ask_of}
+use Rattle.hp_proc.specs.ParticipantView.{after_call, with_standing}
+use Rattle.hp_serve.specs.Party.{opening_party}
+use Rattle.hp_serve.specs.Serving.{gives_segments, takes_segments}
+use Rattle.hp_serve.specs.declared.pages_asked.PagesAsked.{PagesAsked}
 use Rattle.hp_joint.specs.Seats.{Handles, IsOfHeap, Mails, Path, Quietly, Seat, armed_with, having_done}
 use Rattle.hp_joint.specs.Together.{IsFirst, IsFirstSeat, Joint, Runs, Steps, behind_step, with_seat, with_segs}
 use Rattle.hp_joint.proofs.Returned.{cuts_by_all}

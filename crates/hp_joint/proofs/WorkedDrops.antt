@@ -24,7 +24,7 @@ use Rattle.hp_proc.specs.Doing.{Done}
 use Rattle.hp_proc.specs.Doing.Done.{Asked, Called, GaveUp}
 use Rattle.hp_proc.specs.LinesDone.{Course, courses_of, trace_of}
 use Rattle.hp_proc.specs.Seen.{seen_in}
-use Rattle.hp_proc.specs.declared.pages_asked.PagesAsked.{PagesAsked}
+use Rattle.hp_serve.specs.declared.pages_asked.PagesAsked.{PagesAsked}
 use Rattle.hp_joint.proofs.DropsOn.{one_else}
 use Rattle.hp_joint.specs.Drops.{DropsComeFirst, HasGoneBetween, cut_by_lines, numbers_made}
 

@@ -18,7 +18,7 @@ use Rattle.hp_proc.specs.Courses.{calls_in, numbered_in}
 use Rattle.hp_proc.specs.Doing.{Done}
 use Rattle.hp_proc.specs.Histories.{run_cut}
 use Rattle.hp_proc.specs.LinesDone.{Course, courses_of, trace_of}
-use Rattle.hp_proc.specs.Party.{Party}
+use Rattle.hp_serve.specs.Party.{Party}
 use Rattle.hp_proc.specs.Seen.{seen_in}
 use Rattle.hp_joint.specs.EndLaws.{GoesBy, IsGiven, OthersServe}
 use Rattle.hp_joint.specs.SoFar.{SoFar}

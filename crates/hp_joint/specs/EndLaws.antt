@@ -28,12 +28,13 @@ use Rattle.hp_segs.specs.declared.outcome.AskLog.{AskLog}
 use Rattle.hp_segs.specs.declared.outcome.Cause.TheVariants.{MapFailed}
 use Rattle.hp_segs.specs.declared.outcome.Outcome.TheVariants.{Refused}
 use Rattle.hp_proc.specs.Contexts.{Said, opening_context}
-use Rattle.hp_proc.specs.Ending.{LeavesTable}
+use Rattle.hp_serve.specs.Ending.{LeavesTable}
 use Rattle.hp_proc.specs.Ends.{IsSoloEnd}
 use Rattle.hp_proc.specs.LinesDone.{Course}
-use Rattle.hp_proc.specs.Party.{IsSameParty, Party, opening_party, with_context}
+use Rattle.hp_serve.specs.Party.{IsSameParty, Party, opening_party}
+use Rattle.hp_proc.specs.ParticipantView.{with_context}
 use Rattle.hp_proc.specs.Progress.{DoesLine, IsLineBuilt, MayDo, moment_of}
-use Rattle.hp_proc.specs.Tied.{IsTied}
+use Rattle.hp_serve.specs.Tied.{IsTied}
 use Rattle.hp_solo.specs.Served.{HasServed}
 use Rattle.hp_joint.specs.SoFar.{AreFirstHeaps, SoFar, first_hall}
 

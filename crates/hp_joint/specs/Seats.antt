@@ -24,19 +24,21 @@ use Rattle.hp_segs.specs.LaterSteps.{after_arm, after_leave, after_withdraw}
 use Rattle.hp_segs.specs.SegsView.{SegsView, is_member}
 use Rattle.hp_segs.specs.Steps.{after_claim, after_retire}
 use Rattle.hp_segs.specs.declared.ask.Ask.{Ask}
-use Rattle.hp_proc.specs.Asking.{alloc_body, free_body, next_number}
-use Rattle.hp_proc.specs.Attaching.{Attaches, after_attaching, after_detaching, standing_tried}
-use Rattle.hp_proc.specs.Coordinating.{IsAskIn, stepping, with_core}
+use Rattle.hp_serve.specs.Asking.{alloc_body, free_body, next_number}
+use Rattle.hp_serve.specs.Attaching.{Attaches, after_attaching, after_detaching}
+use Rattle.hp_proc.specs.Courses.{standing_tried}
+use Rattle.hp_serve.specs.Coordinating.{IsAskIn, stepping, with_core}
 use Rattle.hp_proc.specs.Doing.{Done}
 use Rattle.hp_proc.specs.Doing.Done.{Asked, Called, CaughtUp, GaveUp, Looked}
-use Rattle.hp_proc.specs.Frames.{Says}
+use Rattle.hp_serve.specs.Frames.{Says}
 use Rattle.hp_proc.specs.Histories.{run_cut}
-use Rattle.hp_proc.specs.Outcomes.{ask_of}
-use Rattle.hp_proc.specs.Party.{Party, after_call, with_standing}
-use Rattle.hp_proc.specs.Serving.{CatchesUp, after_catching_up, gives_segments, takes_segments}
+use Rattle.hp_serve.specs.Asking.{ask_of}
+use Rattle.hp_serve.specs.Party.{Party}
+use Rattle.hp_proc.specs.ParticipantView.{after_call, with_standing}
+use Rattle.hp_serve.specs.Serving.{CatchesUp, after_catching_up, gives_segments, takes_segments}
 use Rattle.hp_proc.specs.declared.own_element.OwnElement.{OwnElement}
-use Rattle.hp_proc.specs.declared.pages_asked.PagesAsked.{PagesAsked}
-use Rattle.hp_proc.specs.declared.sent.Sent.{Sent}
+use Rattle.hp_serve.specs.declared.pages_asked.PagesAsked.{PagesAsked}
+use Rattle.hp_serve.specs.declared.sent.Sent.{Sent}
 
 -- a participant in the course of a run: itself, what was done for its lines so far, the frames that it has fetched, and the ask with which
 -- it armed itself last

@@ -9,7 +9,7 @@ use Rattle.hp_plain.specs.Boxes.{IsMailStep, after_step}
 use Rattle.hp_segs.specs.Opening.{opening}
 use Rattle.hp_segs.specs.SegsView.{SegsView, is_member}
 use Rattle.hp_segs.specs.Sound.{IsSound}
-use Rattle.hp_proc.specs.Party.{first_core}
+use Rattle.hp_serve.specs.Party.{first_core}
 use Rattle.hp_joint.specs.Seats.{Handles, Mails, Quietly, Seat}
 
 -- all participants by number, the segment value at a moment at which nobody holds it, and the mailboxes

@@ -28,7 +28,8 @@ use Rattle.hp_proc.specs.Courses.{HasRequest, Standing, after_line, attached_aft
 use Rattle.hp_proc.specs.Doing.{Doing, Done, Leads}
 use Rattle.hp_proc.specs.Heaps.{heaps_for, names_socket, socket_heaps, sockets_of}
 use Rattle.hp_proc.specs.Lines.{Facts, allocating, doing_of, if_attached, judged, tag_of}
-use Rattle.hp_proc.specs.Party.{Party, after_answer, with_context, with_standing}
+use Rattle.hp_serve.specs.Party.{Party}
+use Rattle.hp_proc.specs.ParticipantView.{after_answer, with_context, with_standing}
 use Rattle.hp_proc.specs.Progress.{Brings, Does, DoesLine, Moment, moment_of}
 use Rattle.hp_proc.specs.declared.own_element.OwnElement.{OwnElement}
 use Rattle.hp_proc.specs.declared.socket_heap.SocketHeap.{SocketHeap}

@@ -16,15 +16,17 @@ use Rattle.hp_segs.specs.LaterSteps.{after_leave}
 use Rattle.hp_segs.specs.SegsView.{SegsView}
 use Rattle.hp_segs.specs.declared.outcome.AskLog.{AskLog}
 use Rattle.hp_proc.specs.Acting.{Acts, AreAsked}
-use Rattle.hp_proc.specs.Attaching.{Attaches, after_attaching, after_detaching, standing_tried}
+use Rattle.hp_serve.specs.Attaching.{Attaches, after_attaching, after_detaching}
+use Rattle.hp_proc.specs.Courses.{standing_tried}
 use Rattle.hp_proc.specs.Contexts.{AreFactsOf, Context, after_calls}
 use Rattle.hp_proc.specs.Courses.{HasRequest, Standing, after_line, attached_after, element_brought, records_after}
 use Rattle.hp_proc.specs.Doing.{Doing, Done as Did, Goes, Leads}
 use Rattle.hp_proc.specs.Doing.Done.{CaughtUp, Looked}
 use Rattle.hp_proc.specs.Lines.{Facts, attached_with, attaching, doing_of, if_attached}
-use Rattle.hp_proc.specs.Party.{IsSameParty, Party, with_standing}
+use Rattle.hp_serve.specs.Party.{IsSameParty, Party}
+use Rattle.hp_proc.specs.ParticipantView.{with_standing}
 use Rattle.hp_proc.specs.Progress.{Does, DoesLine, IsLineBuilt, MayDo, Moment, moment_of}
-use Rattle.hp_proc.specs.Serving.{acks_behind, gives_segments, takes_segments}
+use Rattle.hp_serve.specs.Serving.{acks_behind, gives_segments, takes_segments}
 use Rattle.hp_proc.specs.declared.own_element.OwnElement.{OwnElement}
 use Rattle.hp_proc.proofs.Joining.{does_same}
 use Rattle.hp_proc.proofs.LineFacts.{IsLineOfOne, facts_for, facts_known}

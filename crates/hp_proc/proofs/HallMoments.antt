@@ -4,8 +4,8 @@ use Rattle.hp_hall.specs.HallState.{HallState}
 use Rattle.hp_hall.specs.Mail.{MailStep}
 use Rattle.hp_hall.proofs.HallStates.{did_then}
 use Rattle.hp_proc.specs.Doing.{Doing}
-use Rattle.hp_proc.specs.InHall.{did_in, moment}
-use Rattle.hp_proc.specs.Party.{Party}
+use Rattle.hp_proc.specs.LineInHall.{did_in, moment}
+use Rattle.hp_serve.specs.Party.{Party}
 use Rattle.hp_proc.specs.Progress.{Does, Moment}
 use Rattle.hp_proc.proofs.Joining.{does_then}
 

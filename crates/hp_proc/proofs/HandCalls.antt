@@ -27,7 +27,8 @@ use Rattle.hp_proc.specs.Courses.{OwnCall}
 use Rattle.hp_proc.specs.Doing.{Doing, Goes, Leads}
 use Rattle.hp_proc.specs.Doing.Done.{Called}
 use Rattle.hp_proc.specs.Histories.{entries_for, entry_for, run_cut}
-use Rattle.hp_proc.specs.Party.{Party, after_call}
+use Rattle.hp_serve.specs.Party.{Party}
+use Rattle.hp_proc.specs.ParticipantView.{after_call}
 use Rattle.hp_proc.specs.Progress.{Does, DoesIn, IsInHand, Moment, caller_of, in_hand, moment_of, with_hand}
 
 -- a call leaves index and socket of a heap

@@ -17,7 +17,7 @@ use Rattle.hp_heap.specs.declared.entry.HeapAnswer.TheVariants as gives
 use Rattle.hp_heap.specs.declared.entry.HeapCall.TheVariants as call
 use Rattle.hp_heap.specs.declared.freeing.FreeFault.{FreeFault}
 use Rattle.hp_heap.specs.declared.freeing.FreeFault.TheVariants as fault
-use Rattle.hp_proc.specs.Asking.{GivesUp, IsCutFrom, without_run}
+use Rattle.hp_serve.specs.Asking.{GivesUp, IsCutFrom, without_run}
 use Rattle.hp_proc.specs.Histories.{run_cut}
 use Rattle.hp_proc.proofs.HandMoved.{IsSamePart}
 

@@ -21,13 +21,13 @@ use Rattle.hp_hall.specs.declared.slot.TheConstants.{SLOTS}
 use Rattle.hp_hall.specs.Mail.{MailStep}
 use Rattle.hp_hall.specs.Values.{Fits, HasEntries, IsSoundKept}
 use Rattle.hp_proc.specs.Acting.{Acts}
-use Rattle.hp_proc.specs.Asking.{HasSettledAsks}
-use Rattle.hp_proc.specs.Waiting.{IsTurned}
+use Rattle.hp_serve.specs.Asking.{HasSettledAsks}
+use Rattle.hp_serve.specs.Waiting.{IsTurned}
 use Rattle.hp_log.specs.declared.log_record.LogRecord.{LogRecord}
 use Rattle.hp_segs.specs.declared.outcome.AskLog.{AskLog}
-use Rattle.hp_proc.specs.Party.{IsSameParty, Party}
+use Rattle.hp_serve.specs.Party.{IsSameParty, Party}
 use Rattle.hp_proc.specs.Progress.{AreSettled, IsInHand, MayDo, moment_of, with_hand}
-use Rattle.hp_proc.proofs.AskedAlong.{settled_more}
+use Rattle.hp_serve.proofs.AskedAlong.{settled_more}
 use Rattle.hp_proc.proofs.HandCalls.{entries_of_on, hand_apart, hand_here}
 
 -- entries that are numbered on are all of that participant

@@ -18,7 +18,8 @@ use Rattle.hp_log.specs.declared.log_record.LogRecord.{LogRecord}
 use Rattle.hp_segs.specs.declared.outcome.AskLog.{AskLog}
 use Rattle.hp_proc.specs.Contexts.{Context}
 use Rattle.hp_proc.specs.Heaps.{sockets_of}
-use Rattle.hp_proc.specs.Party.{IsSameParty, Party, after_call}
+use Rattle.hp_serve.specs.Party.{IsSameParty, Party}
+use Rattle.hp_proc.specs.ParticipantView.{after_call}
 use Rattle.hp_proc.specs.Progress.{IsInHand, caller_of, moment_of, with_hand}
 use Rattle.hp_proc.proofs.HandCalls.{call_index, call_serves, hand_apart, hand_here, hand_serves, numbered_on}
 use Rattle.hp_proc.proofs.HandGiven.{sums_same}

@@ -14,7 +14,8 @@ use Rattle.hp_proc.specs.Contexts.{Context}
 use Rattle.hp_proc.specs.Courses.{OwnCall, calls_in, last_heap}
 use Rattle.hp_proc.specs.Doing.{Doing, Done}
 use Rattle.hp_proc.specs.Histories.{run_cut}
-use Rattle.hp_proc.specs.Party.{Party, after_call}
+use Rattle.hp_serve.specs.Party.{Party}
+use Rattle.hp_proc.specs.ParticipantView.{after_call}
 use Rattle.hp_proc.specs.Progress.{Brings, Does, DoesIn, Moment, Tries, caller_of, in_hand, moment_of}
 use Rattle.hp_proc.proofs.HandCalls.{call_in}
 use Rattle.hp_proc.proofs.Joining.{calls_on, does_then, then_trace}

@@ -5,15 +5,18 @@ use Rattle.hp_hall.proofs.HallStates.{did_then, later_same, later_then, may_stil
 use Rattle.hp_heap.specs.History.{HeapView, IsCall}
 use Rattle.hp_heap.specs.declared.entry.HeapAnswer.{HeapAnswer}
 use Rattle.hp_heap.specs.declared.entry.HeapCall.{HeapCall}
-use Rattle.hp_proc.specs.Asking.{HasSettledAsks}
+use Rattle.hp_serve.specs.Asking.{HasSettledAsks}
 use Rattle.hp_proc.specs.Contexts.{Context}
 use Rattle.hp_proc.specs.Courses.{Standing}
 use Rattle.hp_proc.specs.Doing.{Doing}
-use Rattle.hp_proc.specs.InHall.{AreFreeBut, CanServe, ChangesRoster, HasRoom, HoldsIn, IsFreeAt, IsIdleAgain, IsIdleIn, IsTiedIn, KeepsHeld, RemainsIn, StaysIn, did_in, moment}
-use Rattle.hp_proc.specs.Party.{IsSameParty, Party, after_call, with_calls, with_context, with_standing}
+use Rattle.hp_proc.specs.LineInHall.{AreFreeBut, ChangesRoster, HasRoom, HoldsIn, IsFreeAt, IsIdleAgain, IsIdleIn, KeepsHeld, did_in, moment}
+use Rattle.hp_serve.specs.InHall.{CanServe, IsTiedIn, RemainsIn, StaysIn}
+use Rattle.hp_serve.specs.Party.{IsSameParty, Party}
+use Rattle.hp_proc.specs.ParticipantView.{after_call, with_calls, with_context, with_standing}
 use Rattle.hp_proc.specs.Progress.{AreSettled, Does, IsInHand, Moment, caller_of}
 use Rattle.hp_proc.proofs.HandCalls.{call_index, call_serves, hand_stays}
-use Rattle.hp_proc.proofs.InHalls.{idle_again, idle_in, idle_still, in_same, remains_by}
+use Rattle.hp_proc.proofs.LinesInHall.{idle_again, idle_in, idle_still}
+use Rattle.hp_serve.proofs.InHalls.{in_same, remains_by}
 use Rattle.hp_proc.proofs.Joining.{does_then}
 
 -- who is the same is so but for the number of its calls

@@ -12,8 +12,8 @@ use Rattle.hp_segs.specs.SegsView.{closed_number, grants_or_refuses, is_outcome_
 use Rattle.hp_segs.specs.declared.outcome.AskLog.{AskLog}
 use Rattle.hp_proc.specs.Laws.{AnswersInTurn}
 use Rattle.hp_proc.specs.Outcomes.{AreInTurn}
-use Rattle.hp_proc.proofs.Armed.{closed_more}
-use Rattle.hp_proc.proofs.AskLooks.{narrower}
+use Rattle.hp_serve.proofs.Armed.{closed_more}
+use Rattle.hp_serve.proofs.AskLooks.{narrower}
 
 -- an element at a place is what is read there
 read_at : {X : Type 0} (xs : List X) (k : ℕ) (y : X) → k < length xs → get_or xs k y ≡ y → slice_get xs k ≡ Some y

@@ -9,15 +9,15 @@ use Rattle.hp_segs.specs.SegsView.{grants_or_refuses}
 use Rattle.hp_segs.specs.declared.ask.Ask.{Ask}
 use Rattle.hp_segs.specs.declared.outcome.AskLog.{AskLog}
 use Rattle.hp_proc.specs.Acting.{Acts, AreAsked}
-use Rattle.hp_proc.specs.Asking.{HasAnswer, IsAsked}
+use Rattle.hp_serve.specs.Asking.{HasAnswer, IsAsked}
 use Rattle.hp_proc.specs.Contexts.{Context, after_calls}
 use Rattle.hp_proc.specs.Courses.{OwnCall, calls_in}
 use Rattle.hp_proc.specs.Doing.{Doing, Done, Leads}
 use Rattle.hp_proc.specs.Doing.Done.{Asked, Called, CaughtUp, GaveUp, Looked}
 use Rattle.hp_proc.specs.Histories.{entries_for}
-use Rattle.hp_proc.specs.Party.{IsSameParty}
+use Rattle.hp_serve.specs.Party.{IsSameParty}
 use Rattle.hp_proc.specs.Progress.{Does, Moment}
-use Rattle.hp_proc.specs.declared.pages_asked.PagesAsked.{PagesAsked}
+use Rattle.hp_serve.specs.declared.pages_asked.PagesAsked.{PagesAsked}
 use Rattle.hp_proc.proofs.LawLemmas.{entries_go_on, find_stays, gives_stays, leads_on}
 
 -- the calls of what was done one after another

@@ -25,7 +25,8 @@ use Rattle.hp_proc.specs.Heaps.{has_name, socket_heaps}
 use Rattle.hp_proc.proofs.Joining.{does_same}
 use Rattle.hp_proc.specs.Freeing.{freeing, if_sized, looking, resize_refusal, resizing_to}
 use Rattle.hp_proc.specs.Lines.{Facts, allocating, doing_of, dumping, if_attached, on_element, tag_of}
-use Rattle.hp_proc.specs.Party.{IsSameParty, Party, with_calls}
+use Rattle.hp_serve.specs.Party.{IsSameParty, Party}
+use Rattle.hp_proc.specs.ParticipantView.{with_calls}
 use Rattle.hp_proc.specs.Progress.{Does, DoesLine, Moment}
 
 -- a test that refuses nothing fails, and the next ones refuse nothing

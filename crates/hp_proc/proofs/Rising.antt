@@ -13,13 +13,13 @@ use Rattle.hp_hall.specs.Weights.{pending_at}
 use Rattle.hp_base.specs.Flags.{is_hint, names_page, names_pages}
 use Rattle.hp_script.specs.declared.options.SocketChoice.{SocketChoice}
 use Rattle.hp_script.specs.declared.options.SocketChoice.TheVariants.{Any, Number}
-use Rattle.hp_proc.specs.AskSteps.{waits_until}
-use Rattle.hp_proc.specs.Clocks.{IsOneClock, RisesWithin, longest_wait}
+use Rattle.hp_serve.specs.AskSteps.{waits_until}
+use Rattle.hp_serve.specs.Clocks.{IsOneClock, RisesWithin, longest_wait}
 use Rattle.hp_proc.specs.Contexts.{named_heap}
 use Rattle.hp_proc.specs.Heaps.{NamedHeap, has_name, has_pool, heaps_for, names_socket, page_sizes_for, socket_heaps, sockets_of, takes_pages_of}
 use Rattle.hp_proc.specs.declared.socket_heap.SocketHeap.{SocketHeap}
 use Rattle.hp_proc.proofs.Mapped.{length-filter_le}
-use Rattle.hp_proc.proofs.Waits.{clock_still}
+use Rattle.hp_serve.proofs.Waits.{clock_still}
 use Rattle.hp_proc.proofs.SocketHeapLemmas.{length-heaps_from, length-named}
 
 -- a hall in one thread, in which no slot is found held, has one clock

@@ -16,7 +16,7 @@ use Rattle.hp_script.specs.declared.options.SocketChoice.TheVariants as choose
 use Rattle.hp_segs.specs.declared.outcome.AskLog.{AskLog}
 use Rattle.hp_segs.specs.declared.outcome.Outcome.TheVariants.{Granted}
 use Rattle.hp_proc.specs.Doing.{Doing, Done, Goes, Leads}
-use Rattle.hp_proc.specs.declared.pages_asked.PagesAsked.{PagesAsked}
+use Rattle.hp_serve.specs.declared.pages_asked.PagesAsked.{PagesAsked}
 use Rattle.hp_proc.specs.Doing.Done.{Called, Asked, GaveUp}
 use Rattle.hp_proc.specs.Heaps.{NamedHeap, heaps_for, own_first, page_sizes_for}
 use Rattle.hp_proc.specs.Allocating.{with_hint, without_hint, serving}

@@ -14,17 +14,19 @@ use Rattle.hp_segs.specs.LaterSteps.{after_leave}
 use Rattle.hp_segs.specs.SegsView.{SegsView}
 use Rattle.hp_segs.specs.Steps.{after_retire}
 use Rattle.hp_segs.specs.declared.outcome.AskLog.{AskLog}
-use Rattle.hp_proc.specs.AskSteps.{DoesAsk, DoesNotify}
-use Rattle.hp_proc.specs.Asking.{IsAsked}
-use Rattle.hp_proc.specs.Attaching.{Attaches, after_attaching, after_detaching, standing_tried}
+use Rattle.hp_serve.specs.AskSteps.{DoesAsk, DoesNotify}
+use Rattle.hp_serve.specs.Asking.{IsAsked}
+use Rattle.hp_serve.specs.Attaching.{Attaches, after_attaching, after_detaching}
+use Rattle.hp_proc.specs.Courses.{standing_tried}
 use Rattle.hp_proc.specs.Doing.{Done}
 use Rattle.hp_proc.specs.Doing.Done.{Asked, Called, CaughtUp, GaveUp, Looked}
 use Rattle.hp_proc.specs.Histories.{run_cut}
-use Rattle.hp_proc.specs.Party.{Party, after_call, with_standing}
-use Rattle.hp_proc.specs.Serving.{acks_behind, gives_segments, takes_segments}
-use Rattle.hp_proc.specs.Waiting.{IsTurned}
+use Rattle.hp_serve.specs.Party.{Party}
+use Rattle.hp_proc.specs.ParticipantView.{after_call, with_standing}
+use Rattle.hp_serve.specs.Serving.{acks_behind, gives_segments, takes_segments}
+use Rattle.hp_serve.specs.Waiting.{IsTurned}
 use Rattle.hp_proc.specs.declared.own_element.OwnElement.{OwnElement}
-use Rattle.hp_proc.specs.declared.pages_asked.PagesAsked.{PagesAsked}
+use Rattle.hp_serve.specs.declared.pages_asked.PagesAsked.{PagesAsked}
 
 -- what a participant did, with the steps that it made in the hall
 pub data Acts (count : ℕ) : Party → Party → List Done → List MailStep → Type 0 where

@@ -4,11 +4,12 @@ use Rattle.hp_base.specs.declared.row.Run.{Run}
 use Rattle.hp_log.specs.declared.log_record.LogRecord.{LogRecord}
 use Rattle.hp_segs.specs.declared.outcome.AskLog.{AskLog}
 use Rattle.hp_proc.specs.Doing.{Doing, Done, Leads}
-use Rattle.hp_proc.specs.declared.pages_asked.PagesAsked.{PagesAsked}
+use Rattle.hp_serve.specs.declared.pages_asked.PagesAsked.{PagesAsked}
 use Rattle.hp_proc.specs.Courses.{OwnCall}
 use Rattle.hp_proc.specs.Histories.{entries_for}
-use Rattle.hp_proc.specs.Outcomes.{AreInTurn, IsAnsweredSo, ask_of}
-use Rattle.hp_proc.specs.Asking.{HasAnswer}
+use Rattle.hp_proc.specs.Outcomes.{AreInTurn, IsAnsweredSo}
+use Rattle.hp_serve.specs.Asking.{ask_of}
+use Rattle.hp_serve.specs.Asking.{HasAnswer}
 
 -- the outcome of an ask stays, whatever records and outcomes follow
 abbrev pub StaysAnswered : List LogRecord → List AskLog → Type 0

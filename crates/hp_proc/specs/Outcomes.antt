@@ -17,7 +17,7 @@ use Rattle.hp_segs.specs.declared.outcome.Cause.TheVariants as why
 use Rattle.hp_segs.specs.declared.outcome.Outcome.{Outcome}
 use Rattle.hp_segs.specs.declared.outcome.Outcome.TheVariants.{Granted, Refused, Freed}
 use Rattle.hp_proc.specs.Doing.{Done}
-use Rattle.hp_proc.specs.declared.pages_asked.PagesAsked.{PagesAsked}
+use Rattle.hp_serve.specs.declared.pages_asked.PagesAsked.{PagesAsked}
 use Rattle.hp_proc.specs.Doing.Done.{Asked, GaveUp}
 use Rattle.hp_proc.specs.Courses.{numbered_in}
 

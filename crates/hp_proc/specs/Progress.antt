@@ -24,14 +24,15 @@ use Rattle.hp_script.specs.Part.{Part}
 use Rattle.hp_segs.specs.declared.outcome.AskLog.{AskLog}
 use Rattle.hp_proc.specs.Acting.{Acts, AreAsked}
 use Rattle.hp_proc.specs.Allocating.{unless_answered}
-use Rattle.hp_proc.specs.Asking.{HasSettledAsks}
+use Rattle.hp_serve.specs.Asking.{HasSettledAsks}
 use Rattle.hp_proc.specs.Contexts.{AreFactsOf, after_calls}
 use Rattle.hp_proc.specs.Courses.{IsRequestFor, after_line, calls_in, last_heap}
 use Rattle.hp_proc.specs.Doing.{Doing, Done, Leads}
 use Rattle.hp_proc.specs.Heaps.{sockets_of}
 use Rattle.hp_proc.specs.Lines.{Facts, doing_of}
 use Rattle.hp_proc.specs.Histories.{entries_for}
-use Rattle.hp_proc.specs.Party.{IsSameParty, Party, with_context}
+use Rattle.hp_serve.specs.Party.{IsSameParty, Party}
+use Rattle.hp_proc.specs.ParticipantView.{with_context}
 
 -- a participant at a moment of its line: itself, its parts in the heaps, and what it has seen of the log and of the outcomes
 pub record Moment : Type 0 where

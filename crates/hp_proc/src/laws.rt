@@ -3,12 +3,12 @@ ghost use Rattle.std.specs.Prelude.{Bool, List, Option, ℕ};
 ghost use Rattle.hp_hall.specs.Mail.{MailStep};
 ghost use Rattle.hp_log.specs.declared.log_record.LogRecord.{LogRecord};
 ghost use Rattle.hp_segs.specs.declared.outcome.AskLog.{AskLog};
-ghost use Rattle.hp_proc.specs.Coordinating.{IsServed};
+ghost use Rattle.hp_serve.specs.Coordinating.{IsServed};
 ghost use Rattle.hp_proc.specs.Doing.{Doing};
 ghost use Rattle.hp_proc.specs.Laws.{AnswersInTurn, GoesOnNumbered, LeadsOn, StaysAnswered};
-ghost use Rattle.hp_proc.specs.Party.{Party};
-ghost use Rattle.hp_proc.specs.Servings.{ServesSo};
-ghost use Rattle.hp_proc.specs.Waiting.{LeavesAsked};
+ghost use Rattle.hp_serve.specs.Party.{Party};
+ghost use Rattle.hp_serve.specs.Servings.{ServesSo};
+ghost use Rattle.hp_serve.specs.Waiting.{LeavesAsked};
 
 /// The outcome of an ask that a segment value has stays, whatever is logged after it. So what was said of a line stays true in
 /// every later step. Own.

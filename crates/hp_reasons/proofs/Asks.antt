@@ -15,12 +15,12 @@ use Rattle.hp_hall.specs.declared.note.Note.TheVariants.{Read}
 use Rattle.hp_segs.specs.LaterSteps.{after_arm}
 use Rattle.hp_segs.specs.SegsView.{SegsView, closed_number}
 use Rattle.hp_segs.specs.declared.ask.Ask.{Ask}
-use Rattle.hp_proc.specs.AskSteps.{DoesAsk, IsSentAs}
-use Rattle.hp_proc.specs.Asking.{alloc_body}
-use Rattle.hp_proc.specs.Outcomes.{ask_of}
-use Rattle.hp_proc.specs.Party.{Party, after_alloc, one_more}
-use Rattle.hp_proc.specs.Serving.{gives_segments}
-use Rattle.hp_proc.specs.declared.pages_asked.PagesAsked.{PagesAsked}
+use Rattle.hp_serve.specs.AskSteps.{DoesAsk, IsSentAs}
+use Rattle.hp_serve.specs.Asking.{alloc_body}
+use Rattle.hp_serve.specs.Asking.{ask_of}
+use Rattle.hp_serve.specs.Party.{Party, after_alloc, one_more}
+use Rattle.hp_serve.specs.Serving.{gives_segments}
+use Rattle.hp_serve.specs.declared.pages_asked.PagesAsked.{PagesAsked}
 use Rattle.hp_solo.specs.Sequence.{Sequence}
 use Rattle.hp_solo.specs.Solo.{SoloView}
 use Rattle.hp_reasons.specs.Counting.{LosesNothing, is_doubled, is_lost, lost_among}

@@ -17,7 +17,7 @@ use Rattle.hp_segs.specs.declared.outcome.AskLog.{AskLog}
 use Rattle.hp_segs.specs.declared.outcome.Cause.{Cause}
 use Rattle.hp_segs.specs.declared.outcome.Cause.TheVariants.{Withdrawn}
 use Rattle.hp_segs.proofs.ClosedLemmas.{and_false, closed_push}
-use Rattle.hp_proc.specs.Party.{Party}
+use Rattle.hp_serve.specs.Party.{Party}
 use Rattle.hp_reasons.specs.Counting.{LosesNothing, lost_among}
 use Rattle.hp_reasons.specs.Episode.{AreLevel, IsBase, IsExcused, IsInPlace, Setting, World, losses, missed_among, number_of_party}
 use Rattle.hp_reasons.specs.Quiet.{IsQuietOwing, IsQuietWorld}

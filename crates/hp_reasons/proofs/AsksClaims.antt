@@ -12,7 +12,7 @@ use Rattle.hp_segs.specs.declared.outcome.AskLog.{AskLog}
 use Rattle.hp_segs.specs.declared.outcome.Cause.TheVariants.{Withdrawn}
 use Rattle.hp_segs.specs.declared.outcome.Outcome.TheVariants as outcome
 use Rattle.hp_segs.proofs.Finds.{any_found}
-use Rattle.hp_proc.specs.Asking.{after_settling}
+use Rattle.hp_serve.specs.Asking.{after_settling}
 
 -- a segment value of which states of rows alone may be others, and armed asks
 pub record HasOutcomes (old new : SegsView) : Type 0 where

@@ -9,7 +9,7 @@ use Rattle.hp_core.specs.declared.asked.Asked.TheVariants as want
 use Rattle.hp_core.specs.declared.phase.Phase.TheVariants.{Idle}
 use Rattle.hp_segs.specs.SegsView.{grants_or_refuses}
 use Rattle.hp_segs.specs.declared.ask.Ask.{Ask}
-use Rattle.hp_proc.specs.Party.{Party}
+use Rattle.hp_serve.specs.Party.{Party}
 use Rattle.hp_reasons.specs.Counting.{LosesNothing}
 use Rattle.hp_reasons.specs.Episode.{AreDoubled, AreOthersEmpty, EndsLevel, HasCoordinator, HasRoomBack, IsAnsweredFor, IsUnanswered, MayBeTakenBack, MayMissOne, Setting, Stage, World, mail_of}
 use Rattle.hp_reasons.specs.Quiet.{IsQuietOwing, IsQuietWorld}

@@ -5,10 +5,10 @@ use Rattle.hp_segs.specs.Standing.{IsArmed}
 use Rattle.hp_hall.specs.Mail.{MailStep}
 use Rattle.hp_segs.specs.SegsView.{SegsView}
 use Rattle.hp_segs.specs.Sound.{IsSound}
-use Rattle.hp_proc.specs.Party.{Party}
-use Rattle.hp_proc.specs.Serving.{gives_segments, takes_segments}
+use Rattle.hp_serve.specs.Party.{Party}
+use Rattle.hp_serve.specs.Serving.{gives_segments, takes_segments}
 use Rattle.hp_solo.specs.Sequence.{Sequence}
-use Rattle.hp_solo.specs.Solo.{ServerView, SoloView, has_stopped, party_at}
+use Rattle.hp_solo.specs.Solo.{AloneView, SoloView, has_stopped, party_at}
 use Rattle.hp_reasons.specs.Episode.{World}
 use Rattle.hp_reasons.specs.Shared.{IsSharedIn, with_segs}
 use Rattle.hp_reasons.specs.Stages.{world_with}
@@ -26,7 +26,7 @@ world_own me old new party after world later its shared order servers own others
   order = order;
   going = ap has_stopped servers ∙ its.going;
   own = own;
-  others = λ who other. others who other ∙ its.others who other ∙ sym (ap (λ (servers : List ServerView). party_at servers who) servers);
+  others = λ who other. others who other ∙ its.others who other ∙ sym (ap (λ (servers : List AloneView). party_at servers who) servers);
 }
 
 -- one held the segment value, and gave this back

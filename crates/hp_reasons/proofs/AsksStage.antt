@@ -19,10 +19,10 @@ use Rattle.hp_hall.specs.Weights.{box_weight, boxes_weight, pending_at}
 use Rattle.hp_mail.specs.declared.posted.Posted.{Posted}
 use Rattle.hp_log.proofs.Counts.{count_cons}
 use Rattle.hp_segs.specs.SegsView.{SegsView, closed_number}
-use Rattle.hp_proc.specs.Falling.{own_weight}
-use Rattle.hp_proc.specs.Frames.{Says}
-use Rattle.hp_proc.specs.Party.{Party}
-use Rattle.hp_proc.specs.Waiting.{most_servings}
+use Rattle.hp_serve.specs.Falling.{own_weight}
+use Rattle.hp_serve.specs.Frames.{Says}
+use Rattle.hp_serve.specs.Party.{Party}
+use Rattle.hp_serve.specs.Waiting.{most_servings}
 use Rattle.hp_reasons.specs.Counting.{LosesNothing, is_doubled, is_lost}
 use Rattle.hp_reasons.specs.Episode.{AreDoubled, AreOthersEmpty, HasCoordinator, IsBase, IsCopy, IsGoneBefore, IsToDo, IsToldBefore, IsUnanswered, MayBeTakenBack, MayMissOne, Setting, Stage, StartsLevel, World, doubles, is_call, is_result_of, losses, made_before, mail_of, missed_among}
 use Rattle.hp_reasons.specs.Quiet.{IsQuietWorld}

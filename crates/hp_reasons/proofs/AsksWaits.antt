@@ -7,11 +7,11 @@ use Rattle.hp_hall.specs.Mail.{MailStep}
 use Rattle.hp_segs.specs.SegsView.{SegsView}
 use Rattle.hp_segs.specs.Steps.{after_claim}
 use Rattle.hp_segs.specs.declared.ask.Ask.{Ask}
-use Rattle.hp_proc.specs.AskSteps.{IsAwaitedBy, IsSettledLate, waits_until}
-use Rattle.hp_proc.specs.Asking.{after_settling}
-use Rattle.hp_proc.specs.Party.{Party}
-use Rattle.hp_proc.specs.Serving.{gives_segments, takes_segments}
-use Rattle.hp_proc.specs.Waiting.{IsWaited}
+use Rattle.hp_serve.specs.AskSteps.{IsAwaitedBy, IsSettledLate, waits_until}
+use Rattle.hp_serve.specs.Asking.{after_settling}
+use Rattle.hp_serve.specs.Party.{Party}
+use Rattle.hp_serve.specs.Serving.{gives_segments, takes_segments}
+use Rattle.hp_serve.specs.Waiting.{IsWaited}
 use Rattle.hp_solo.specs.Sequence.{Sequence}
 use Rattle.hp_solo.specs.Solo.{SoloView}
 use Rattle.hp_reasons.specs.Episode.{Setting, World}

@@ -11,7 +11,7 @@ use Rattle.hp_plain.specs.Boxes.{box_of, copies}
 use Rattle.hp_hall.specs.Weights.{box_weight, boxes_weight, counted, frame_weight}
 use Rattle.hp_mail.specs.declared.posted.Posted.{Posted}
 use Rattle.hp_mail.specs.declared.posted.Posted.TheVariants.{Full, Lost, Sent, Twice}
-use Rattle.hp_proc.specs.Falling.{held_sum, least_weight, own_weight}
+use Rattle.hp_serve.specs.Falling.{held_sum, least_weight, own_weight}
 
 kind_most : (first second : Bool) → (if first then 188 else (if second then 3 else 1)) ≤ 188
 kind_most true second = omega arith

@@ -25,7 +25,7 @@ use Rattle.hp_segs.specs.declared.outcome.Cause.{Cause}
 use Rattle.hp_segs.specs.declared.outcome.Cause.TheVariants.{CannotHold, Denied, Late, ListFull, MapFailed, NoList, TooFew, Withdrawn}
 use Rattle.hp_segs.specs.declared.outcome.Outcome.{Outcome}
 use Rattle.hp_segs.specs.declared.outcome.Outcome.TheVariants.{Freed, Granted, Refused, Stale}
-use Rattle.hp_proc.specs.Serving.{CatchesUp}
+use Rattle.hp_serve.specs.Serving.{CatchesUp}
 use Rattle.hp_reasons.specs.Failing.{failing_call}
 
 -- WHAT IS NOTED

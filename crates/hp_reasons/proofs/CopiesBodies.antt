@@ -14,10 +14,10 @@ use Rattle.hp_core.proofs.SameAsk.{same_ask}
 use Rattle.hp_frame.specs.declared.message.Body.{Body}
 use Rattle.hp_frame.specs.declared.message.Body.TheVariants.{Alloc, Answer, Free, Sync}
 use Rattle.hp_segs.specs.declared.ask.Ask.{Ask}
-use Rattle.hp_proc.specs.Asking.{alloc_body}
-use Rattle.hp_proc.specs.Coordinating.{IsAskIn, IsNoAsk, IsRequestOf, answers, asks, frees, is_sync_reply, no_request, syncs, undeclared_asker, undeclared_giver}
-use Rattle.hp_proc.specs.Party.{Party}
-use Rattle.hp_proc.specs.Serving.{is_answer_to}
+use Rattle.hp_serve.specs.Asking.{alloc_body}
+use Rattle.hp_serve.specs.Coordinating.{IsAskIn, IsNoAsk, IsRequestOf, answers, asks, frees, is_sync_reply, no_request, syncs, undeclared_asker, undeclared_giver}
+use Rattle.hp_serve.specs.Party.{Party}
+use Rattle.hp_serve.specs.Serving.{is_answer_to}
 use Rattle.hp_reasons.specs.Episode.{AreAnswersOrCopies, IsCopy, is_answer, is_call, is_result_of, is_sync}
 use Rattle.hp_reasons.proofs.CopiesRequests.{not_refused, raised_again, rounded_again}
 

@@ -15,9 +15,9 @@ use Rattle.hp_log.specs.declared.log_record.LogRecord.{LogRecord}
 use Rattle.hp_segs.specs.SegsView.{is_member}
 use Rattle.hp_segs.specs.declared.ask.Ask.{Ask}
 use Rattle.hp_segs.specs.declared.growth.Growth.{Growth}
-use Rattle.hp_proc.specs.Party.{Party}
-use Rattle.hp_proc.specs.Posting.{times_sent}
-use Rattle.hp_proc.specs.declared.sent.Sent.{Sent}
+use Rattle.hp_serve.specs.Party.{Party}
+use Rattle.hp_serve.specs.Posting.{times_sent}
+use Rattle.hp_serve.specs.declared.sent.Sent.{Sent}
 use Rattle.hp_reasons.specs.Counting.{lost_among}
 use Rattle.hp_reasons.specs.Episode.{AreAnswersOrCopies, AreDoubled, EndsLevel, FollowsGrowth, GrowsLevel, HasCoordinator, IsAnsweredFor, IsAwaited, IsClosed, IsCopy, IsToDo, IsUnanswered, Setting, SettlesLevel, Stage, WaitsToSettle, World, is_answer, is_result_of, is_sync, mail_of}
 use Rattle.hp_reasons.specs.Outcomes.{late_outcomes}

@@ -11,7 +11,7 @@ use Rattle.hp_core.specs.declared.phase.Phase.TheVariants.{Idle, Waiting}
 use Rattle.hp_frame.specs.declared.message.Body.{Body}
 use Rattle.hp_plain.specs.Boxes.{box_of}
 use Rattle.hp_log.proofs.Counts.{count_cons}
-use Rattle.hp_proc.specs.Party.{Party}
+use Rattle.hp_serve.specs.Party.{Party}
 use Rattle.hp_reasons.specs.Episode.{AreAnswersOrCopies, AreDoubled, HasCoordinator, IsBase, IsCopy, IsUnanswered, Setting, Stage, WaitsToSettle, World, is_answer, is_call, is_sync, mail_of, number_of_party}
 use Rattle.hp_reasons.specs.Stages.{HasOneMore, HasRoomFor, IsSent, IsStarting, MayPoll}
 use Rattle.hp_reasons.proofs.CopiesAlong.{IsAlong, IsSameBut, all_first, told_along}

@@ -14,11 +14,11 @@ use Rattle.hp_core.specs.declared.phase.Phase.TheVariants.{Waiting}
 use Rattle.hp_frame.specs.declared.frame.Frame.{Frame}
 use Rattle.hp_frame.specs.declared.message.Body.{Body}
 use Rattle.hp_plain.specs.Boxes.{box_of}
-use Rattle.hp_proc.specs.Coordinating.{IsAskIn, IsNoAsk, is_sync_reply}
-use Rattle.hp_proc.specs.Falling.{HasPassedAt, IsDue}
-use Rattle.hp_proc.specs.Frames.{Says}
-use Rattle.hp_proc.specs.Party.{Party}
-use Rattle.hp_proc.specs.Serving.{hearing, is_answer_to}
+use Rattle.hp_serve.specs.Coordinating.{IsAskIn, IsNoAsk, is_sync_reply}
+use Rattle.hp_serve.specs.Falling.{HasPassedAt, IsDue}
+use Rattle.hp_serve.specs.Frames.{Says}
+use Rattle.hp_serve.specs.Party.{Party}
+use Rattle.hp_serve.specs.Serving.{hearing, is_answer_to}
 use Rattle.hp_reasons.specs.Episode.{IsBase, IsCopy, IsUnanswered, Setting, Stage, World, is_result_of, mail_of}
 use Rattle.hp_reasons.specs.Servings.{CoreServes, Handles, Polls}
 use Rattle.hp_reasons.specs.Shared.{Shared, fetched_by}

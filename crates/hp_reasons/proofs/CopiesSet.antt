@@ -10,7 +10,7 @@ use Rattle.hp_segs.specs.Standing.{IsArmed}
 use Rattle.hp_plain.specs.Boxes.{box_of}
 use Rattle.hp_segs.specs.SegsView.{SegsView}
 use Rattle.hp_segs.specs.Sound.{IsSound}
-use Rattle.hp_proc.specs.Party.{Party}
+use Rattle.hp_serve.specs.Party.{Party}
 use Rattle.hp_reasons.specs.Episode.{AreSaid, IsBase, Setting, World, mail_of}
 use Rattle.hp_reasons.proofs.CopiesAlong.{CameOf, IsAlong, IsLike, IsSameBut, base_along}
 use Rattle.hp_reasons.proofs.CopiesCarried.{IsUnheard}

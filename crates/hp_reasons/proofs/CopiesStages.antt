@@ -12,9 +12,9 @@ use Rattle.hp_core.specs.declared.phase.Phase.{Phase}
 use Rattle.hp_core.specs.declared.phase.Phase.TheVariants.{Idle, Waiting}
 use Rattle.hp_segs.specs.LaterSteps.{after_stale}
 use Rattle.hp_segs.specs.SegsView.{SegsView}
-use Rattle.hp_proc.specs.Coordinating.{with_core, with_room}
-use Rattle.hp_proc.specs.Party.{Party}
-use Rattle.hp_proc.specs.declared.sent.Sent.{Sent}
+use Rattle.hp_serve.specs.Coordinating.{with_core, with_room}
+use Rattle.hp_serve.specs.Party.{Party}
+use Rattle.hp_serve.specs.declared.sent.Sent.{Sent}
 use Rattle.hp_reasons.specs.Counting.{doubled_among}
 use Rattle.hp_reasons.specs.Episode.{AreDoubled, HasCoordinator, IsBase, Setting, Stage, World, doubles, is_call, mail_of}
 use Rattle.hp_reasons.specs.Shared.{Shared, with_segs}

@@ -23,8 +23,8 @@ use Rattle.hp_segs.specs.SegsView.{SegsView, closed_number, grants_or_refuses}
 use Rattle.hp_segs.specs.Sound.{IsSound}
 use Rattle.hp_segs.specs.declared.growth.Growth.{Growth}
 use Rattle.hp_segs.specs.declared.outcome.AskLog.{AskLog}
-use Rattle.hp_proc.specs.Coordinating.{MustMap, nobody_denies, stepping, with_core, with_room}
-use Rattle.hp_proc.specs.Party.{Party}
+use Rattle.hp_serve.specs.Coordinating.{MustMap, nobody_denies, stepping, with_core, with_room}
+use Rattle.hp_serve.specs.Party.{Party}
 use Rattle.hp_reasons.specs.Episode.{IsClosed, IsToDo, World}
 use Rattle.hp_reasons.specs.Failing.{AreGrantsWithin}
 use Rattle.hp_reasons.specs.Outcomes.{late_outcomes, stale_outcomes, withdrawn_outcomes, IsApart}

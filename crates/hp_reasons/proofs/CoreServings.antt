@@ -16,11 +16,11 @@ use Rattle.hp_plain.specs.Boxes.{box_of}
 use Rattle.hp_hall.specs.declared.note.Note.TheVariants.{Loaded, Read}
 use Rattle.hp_segs.specs.SegsView.{SegsView}
 use Rattle.hp_segs.specs.Sound.{IsSound}
-use Rattle.hp_proc.specs.Coordinating.{IsAnswered, IsCarried, IsCoreServed, IsHanded, IsHandled, IsMapped, IsNoAsk, IsObeyed, IsPolled, IsRested, IsSettled, IsToComeAt, loads_of, with_core}
-use Rattle.hp_proc.specs.Falling.{IsDue}
-use Rattle.hp_proc.specs.Frames.{Says}
-use Rattle.hp_proc.specs.Party.{Party, due_in}
-use Rattle.hp_proc.specs.Serving.{CatchesUp, acks_behind}
+use Rattle.hp_serve.specs.Coordinating.{IsAnswered, IsCarried, IsCoreServed, IsHanded, IsHandled, IsMapped, IsNoAsk, IsObeyed, IsPolled, IsRested, IsSettled, IsToComeAt, loads_of, with_core}
+use Rattle.hp_serve.specs.Falling.{IsDue}
+use Rattle.hp_serve.specs.Frames.{Says}
+use Rattle.hp_serve.specs.Party.{Party, due_in}
+use Rattle.hp_serve.specs.Serving.{CatchesUp, acks_behind}
 use Rattle.hp_reasons.specs.Servings.{CarriesOut, CoordinatesSo, CoreServes, Handles, MapsItself, Polls, Steps, numbered}
 use Rattle.hp_reasons.specs.Shared.{MakesAll, Shared, fetched_by}
 use Rattle.hp_reasons.proofs.Postings.{posted}

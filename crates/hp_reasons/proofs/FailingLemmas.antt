@@ -18,7 +18,7 @@ use Rattle.hp_maps.specs.Catching.{HasAnswered, HasFailed, new_rows, newer}
 use Rattle.hp_maps.specs.MapsView.{MapsView}
 use Rattle.hp_reasons.proofs.BroughtRows.{IsBrought, page_in_run, row_brought, slice_get-drop}
 use Rattle.hp_reasons.specs.Failing.{AreGrantsWithin, FailsAtTheGrowth, IsOfTheGrowth, NotesAFailure, failing_call, failing_row}
-use Rattle.hp_proc.specs.Serving.{CatchesUp}
+use Rattle.hp_serve.specs.Serving.{CatchesUp}
 use Rattle.hp_segs.specs.LaterSteps.{after_note, has_failed_from, is_failure, is_growth_row, is_noted, noted_failure, noting}
 use Rattle.hp_segs.specs.SegsView.{SegsView, added_run, granted_by}
 use Rattle.hp_segs.specs.Sound.{IsSound}

@@ -10,8 +10,8 @@ use Rattle.hp_core.specs.declared.phase.Phase.{Phase}
 use Rattle.hp_core.specs.declared.phase.Phase.TheVariants.{Idle}
 use Rattle.hp_frame.specs.declared.frame.Frame.{Frame}
 use Rattle.hp_plain.specs.Boxes.{box_of}
-use Rattle.hp_proc.specs.Falling.{IsDue}
-use Rattle.hp_proc.specs.Party.{Party, due_in}
+use Rattle.hp_serve.specs.Falling.{IsDue}
+use Rattle.hp_serve.specs.Party.{Party, due_in}
 use Rattle.hp_reasons.specs.Servings.{CoreServes, MemberServes}
 use Rattle.hp_reasons.specs.Shared.{Shared}
 

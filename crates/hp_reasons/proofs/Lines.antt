@@ -14,12 +14,13 @@ use Rattle.hp_segs.proofs.ListFacts.{or_off_parts}
 use Rattle.hp_segs.specs.LaterSteps.{after_leave}
 use Rattle.hp_segs.specs.SegsView.{is_member}
 use Rattle.hp_proc.specs.Acting.{Acts}
-use Rattle.hp_proc.specs.Attaching.{Attaches, after_attaching}
+use Rattle.hp_serve.specs.Attaching.{Attaches, after_attaching}
 use Rattle.hp_proc.specs.Courses.{Standing}
 use Rattle.hp_proc.specs.Doing.{Done}
 use Rattle.hp_proc.specs.Doing.Done.{Asked, GaveUp}
-use Rattle.hp_proc.specs.Party.{Party, with_standing}
-use Rattle.hp_proc.specs.Serving.{acks_behind, gives_segments, takes_segments}
+use Rattle.hp_serve.specs.Party.{Party}
+use Rattle.hp_proc.specs.ParticipantView.{with_standing}
+use Rattle.hp_serve.specs.Serving.{acks_behind, gives_segments, takes_segments}
 use Rattle.hp_solo.specs.Sequence.{Sequence}
 use Rattle.hp_solo.specs.Solo.{SoloView}
 use Rattle.hp_reasons.specs.Episode.{IsSetting, Setting, World}

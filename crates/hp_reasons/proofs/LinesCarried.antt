@@ -9,10 +9,10 @@ use Rattle.hp_hall.specs.Mail.{Fetches, Gives, MailStep, Notes, Posts, Takes}
 use Rattle.hp_hall.specs.declared.note.Note.{Note}
 use Rattle.hp_hall.specs.declared.note.Note.TheVariants.{Acked, Loaded, Paused, Read, Yielded}
 use Rattle.hp_proc.specs.Acting.{Acts}
-use Rattle.hp_proc.specs.Attaching.{after_attaching}
+use Rattle.hp_serve.specs.Attaching.{after_attaching}
 use Rattle.hp_proc.specs.Doing.{Done}
-use Rattle.hp_proc.specs.Party.{Party}
-use Rattle.hp_proc.specs.Serving.{acks_behind, gives_segments}
+use Rattle.hp_serve.specs.Party.{Party}
+use Rattle.hp_serve.specs.Serving.{acks_behind, gives_segments}
 use Rattle.hp_solo.specs.Sequence.{IsCall, IsCallNote, IsMadeBy, Makes, Sequence, ServesOnce, ServesSome, Visit, Visits, VisitsBeside}
 use Rattle.hp_solo.specs.Solo.{IsNextDue, SoloView}
 use Rattle.hp_reasons.specs.Worlds.{AreCalls}

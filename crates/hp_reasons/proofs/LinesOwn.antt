@@ -20,10 +20,10 @@ use Rattle.hp_segs.specs.Steps.{after_retire}
 use Rattle.hp_segs.specs.declared.outcome.AskLog.{AskLog}
 use Rattle.hp_segs.specs.declared.outcome.Outcome.{Outcome}
 use Rattle.hp_segs.specs.declared.outcome.Outcome.TheVariants as outcome
-use Rattle.hp_proc.specs.Attaching.{after_attaching, table_left}
-use Rattle.hp_proc.specs.Party.{Party}
-use Rattle.hp_proc.specs.Serving.{CatchesUp, acks_behind, gives_segments, takes_segments}
-use Rattle.hp_solo.specs.Solo.{ServerView, SoloView, has_stopped, party_at}
+use Rattle.hp_serve.specs.Attaching.{after_attaching, table_left}
+use Rattle.hp_serve.specs.Party.{Party}
+use Rattle.hp_serve.specs.Serving.{CatchesUp, acks_behind, gives_segments, takes_segments}
+use Rattle.hp_solo.specs.Solo.{AloneView, SoloView, has_stopped, party_at}
 use Rattle.hp_reasons.specs.Counting.{LosesNothing}
 use Rattle.hp_reasons.specs.Episode.{Setting, World, number_of_party}
 use Rattle.hp_reasons.specs.Quiet.{IsQuietOwing, IsQuietWorld}
@@ -113,7 +113,7 @@ module _ (set : Setting) (me : ℕ) (old new : SoloView) (party after : Party) (
       others = λ who other.
           set_unfound world.parties me who after other
           ∙ its.others who other
-          ∙ sym (ap (λ (servers : List ServerView). party_at servers who) servers);
+          ∙ sym (ap (λ (servers : List AloneView). party_at servers who) servers);
     };
     holds = record { quiet = quiet_stays set me world at party after quiet its.own goes shares known; gone = gone };
   }

@@ -14,10 +14,10 @@ use Rattle.hp_hall.specs.declared.kept.Kept.TheVariants.{Heap, Segments}
 use Rattle.hp_plain.proofs.Slotted.{slice_get-set_other, slice_get-set_same}
 use Rattle.hp_segs.specs.SegsView.{SegsView, is_member}
 use Rattle.hp_proc.specs.Acting.{Acts}
-use Rattle.hp_proc.specs.Coordinating.{IsServed}
+use Rattle.hp_serve.specs.Coordinating.{IsServed}
 use Rattle.hp_proc.specs.Doing.{Done}
-use Rattle.hp_proc.specs.Party.{Party}
-use Rattle.hp_proc.specs.Serving.{IsFollowed, IsHeeded, IsMemberServed, IsTold}
+use Rattle.hp_serve.specs.Party.{Party}
+use Rattle.hp_serve.specs.Serving.{IsFollowed, IsHeeded, IsMemberServed, IsTold}
 use Rattle.hp_solo.specs.Sequence.{IsMadeBy, Sequence}
 use Rattle.hp_solo.specs.Solo.{SoloView}
 use Rattle.hp_reasons.specs.Episode.{World}

@@ -22,16 +22,16 @@ use Rattle.hp_segs.specs.declared.outcome.Cause.{Cause}
 use Rattle.hp_segs.specs.declared.outcome.Cause.TheVariants.{Withdrawn}
 use Rattle.hp_segs.specs.declared.outcome.Outcome.{Outcome}
 use Rattle.hp_proc.specs.Acting.{Acts}
-use Rattle.hp_proc.specs.AskSteps.{DoesAsk, DoesNotify, IsAwaitedBy, IsSentAs, IsSettledLate}
-use Rattle.hp_proc.specs.Asking.{after_settling}
-use Rattle.hp_proc.specs.Attaching.{after_attaching}
-use Rattle.hp_proc.specs.Coordinating.{IsServed}
+use Rattle.hp_serve.specs.AskSteps.{DoesAsk, DoesNotify, IsAwaitedBy, IsSentAs, IsSettledLate}
+use Rattle.hp_serve.specs.Asking.{after_settling}
+use Rattle.hp_serve.specs.Attaching.{after_attaching}
+use Rattle.hp_serve.specs.Coordinating.{IsServed}
 use Rattle.hp_proc.specs.Doing.{Done}
-use Rattle.hp_proc.specs.Outcomes.{ask_of}
-use Rattle.hp_proc.specs.Party.{Party, after_alloc, after_free}
-use Rattle.hp_proc.specs.Serving.{acks_behind, gives_segments, takes_segments}
-use Rattle.hp_proc.specs.Waiting.{AreServings, AreTurns, HaveServed, IsServedOut, IsTurned, IsWaited, PausesAt}
-use Rattle.hp_proc.specs.declared.pages_asked.PagesAsked.{PagesAsked}
+use Rattle.hp_serve.specs.Asking.{ask_of}
+use Rattle.hp_serve.specs.Party.{Party, after_alloc, after_free}
+use Rattle.hp_serve.specs.Serving.{acks_behind, gives_segments, takes_segments}
+use Rattle.hp_serve.specs.Waiting.{AreServings, AreTurns, HaveServed, IsServedOut, IsTurned, IsWaited, PausesAt}
+use Rattle.hp_serve.specs.declared.pages_asked.PagesAsked.{PagesAsked}
 use Rattle.hp_reasons.specs.Lines.{is_looked}
 
 -- THE ROSTER STAYS

@@ -12,7 +12,7 @@ use Rattle.hp_base.specs.declared.plan_entry.MsgKind.{MsgKind}
 use Rattle.hp_base.specs.declared.plan_entry.PlanEntry.{PlanEntry}
 use Rattle.hp_base.specs.declared.plan_entry.PlanEntry.TheVariants.{Mapping, Message}
 use Rattle.hp_base.specs.declared.plan.Action.{Action}
-use Rattle.hp_proc.specs.Party.{one_more}
+use Rattle.hp_serve.specs.Party.{one_more}
 use Rattle.hp_reasons.specs.Counting.{LosesNothing, doubled_among, is_doubled, is_lost, is_sent, lost_among}
 use Rattle.hp_reasons.specs.Episode.{IsCounted}
 use Rattle.hp_reasons.proofs.CountingLemmas.{delivered, named_number, one_if}

@@ -12,10 +12,10 @@ use Rattle.hp_plain.specs.Boxes.{box_of}
 use Rattle.hp_maps.specs.MapsView.{MapsView, calls_of}
 use Rattle.hp_segs.proofs.ListFacts.{or_off_parts}
 use Rattle.hp_segs.specs.SegsView.{is_member}
-use Rattle.hp_proc.specs.Frames.{Says}
-use Rattle.hp_proc.specs.Party.{Party}
-use Rattle.hp_proc.specs.Serving.{hearing, is_answer_to}
-use Rattle.hp_proc.specs.Serving as serving
+use Rattle.hp_serve.specs.Frames.{Says}
+use Rattle.hp_serve.specs.Party.{Party}
+use Rattle.hp_serve.specs.Serving.{hearing, is_answer_to}
+use Rattle.hp_serve.specs.Serving as serving
 use Rattle.hp_reasons.specs.Episode.{IsBase, IsInPlace, IsUnanswered, Setting, Stage, World, is_result_of, is_sync, mail_of}
 use Rattle.hp_reasons.specs.Shared.{Shared, fetched_by}
 use Rattle.hp_reasons.specs.Stages.{ComesTo, world_with}

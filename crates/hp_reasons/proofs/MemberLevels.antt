@@ -7,7 +7,7 @@ use Rattle.std.proofs.lemmas.Bool.{cases_eq}
 use Rattle.hp_frame.specs.declared.message.Body.{Body}
 use Rattle.hp_segs.specs.SegsView.{is_member}
 use Rattle.hp_segs.specs.declared.growth.Growth.{Growth}
-use Rattle.hp_proc.specs.Party.{Party}
+use Rattle.hp_serve.specs.Party.{Party}
 use Rattle.hp_reasons.specs.Episode.{AreLevel, EndsLevel, GrowsLevel, Setting, SettlesLevel, World, is_sync, mail_of, number_of_party}
 use Rattle.hp_reasons.specs.Shared.{Shared}
 use Rattle.hp_reasons.specs.Stages.{world_with}

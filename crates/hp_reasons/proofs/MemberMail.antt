@@ -13,7 +13,7 @@ use Rattle.hp_log.proofs.Counts.{count_append, count_none}
 use Rattle.hp_segs.proofs.ListFacts.{or_off_parts}
 use Rattle.hp_segs.specs.LaterSteps.{noted_failure}
 use Rattle.hp_segs.specs.SegsView.{is_member}
-use Rattle.hp_proc.specs.Party.{Party}
+use Rattle.hp_serve.specs.Party.{Party}
 use Rattle.hp_reasons.specs.Episode.{IsUnanswered, World, is_sync, mail_of}
 use Rattle.hp_reasons.specs.Shared.{Shared}
 

@@ -17,9 +17,9 @@ use Rattle.hp_mail.specs.declared.posted.Posted.{Posted}
 use Rattle.hp_maps.specs.MapsView.{calls_of}
 use Rattle.hp_segs.specs.SegsView.{is_member}
 use Rattle.hp_segs.specs.Sound.{IsSound}
-use Rattle.hp_proc.specs.Frames.{Says}
-use Rattle.hp_proc.specs.Party.{Party, after_reply, one_more}
-use Rattle.hp_proc.specs.Serving.{CatchesUp, after_catching_up}
+use Rattle.hp_serve.specs.Frames.{Says}
+use Rattle.hp_serve.specs.Party.{Party, after_reply, one_more}
+use Rattle.hp_serve.specs.Serving.{CatchesUp, after_catching_up}
 use Rattle.hp_reasons.specs.Episode.{IsBase, IsInPlace, Setting, Stage, World, mail_of, number_of_party}
 use Rattle.hp_reasons.specs.Failing.{AreGrantsWithin, failing_call}
 use Rattle.hp_reasons.specs.Servings.{ObeysIn, caught_up, drops, hears, is_out, numbered, obeys, rests}

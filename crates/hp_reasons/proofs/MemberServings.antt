@@ -11,9 +11,9 @@ use Rattle.hp_hall.specs.Mail.{MailStep}
 use Rattle.hp_plain.specs.Boxes.{box_of}
 use Rattle.hp_segs.specs.SegsView.{SegsView, is_member}
 use Rattle.hp_segs.specs.Sound.{IsSound}
-use Rattle.hp_proc.specs.Frames.{Says}
-use Rattle.hp_proc.specs.Party.{Party, one_more}
-use Rattle.hp_proc.specs.Serving.{IsFollowed, IsHeeded, IsMemberServed, IsTold, Obeys, gives_segments, is_sync}
+use Rattle.hp_serve.specs.Frames.{Says}
+use Rattle.hp_serve.specs.Party.{Party, one_more}
+use Rattle.hp_serve.specs.Serving.{IsFollowed, IsHeeded, IsMemberServed, IsTold, Obeys, gives_segments, is_sync}
 use Rattle.hp_reasons.specs.Servings.{MemberServes, MembersServeSo, ObeysIn, numbered}
 use Rattle.hp_reasons.specs.Shared.{MakesAll, Shared, fetched_by, posted_to, with_segs}
 use Rattle.hp_reasons.proofs.Sharing.{acked, fetched_one, found_nothing, gave, numbered_segs, posted_one, took}

@@ -20,8 +20,8 @@ use Rattle.hp_segs.specs.SegsView.{SegsView, closed_number, grants_or_refuses, i
 use Rattle.hp_segs.specs.Sound.{IsSound}
 use Rattle.hp_segs.specs.declared.growth.Growth.{Growth}
 use Rattle.hp_segs.specs.declared.outcome.AskLog.{AskLog}
-use Rattle.hp_proc.specs.Party.{Party}
-use Rattle.hp_proc.specs.Posting.{times_sent}
+use Rattle.hp_serve.specs.Party.{Party}
+use Rattle.hp_serve.specs.Posting.{times_sent}
 use Rattle.hp_reasons.specs.Counting.{doubled_among, lost_among}
 use Rattle.hp_reasons.specs.Episode.{AreAnswersOrCopies, AreDoubled, AreOthersEmpty, FollowsGrowth, HasCoordinator, IsAnsweredFor, IsClosed, IsCopy, IsToDo, IsToldBefore, IsUnanswered, Setting, Stage, World, copies_left, doubles, fails, fresh, growing, has, is_answer, is_call, is_result_of, is_sync, lost, mail_of, over, settling, told}
 use Rattle.hp_reasons.specs.Outcomes.{late_outcomes, stale_outcomes}

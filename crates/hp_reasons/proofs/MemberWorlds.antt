@@ -11,7 +11,7 @@ use Rattle.hp_segs.specs.SegsView.{closed_number, is_member}
 use Rattle.hp_segs.specs.Sound.{IsSound}
 use Rattle.hp_segs.specs.declared.outcome.AskLog.{AskLog}
 use Rattle.hp_segs.specs.declared.outcome.Cause.{Cause}
-use Rattle.hp_proc.specs.Party.{Party}
+use Rattle.hp_serve.specs.Party.{Party}
 use Rattle.hp_reasons.specs.Counting.{lost_among}
 use Rattle.hp_reasons.specs.Episode.{IsBase, IsExcused, IsInPlace, IsNotedCall, Setting, World, number_of_party}
 use Rattle.hp_reasons.specs.Outcomes.{late_outcomes, withdrawn_outcomes, IsApart}

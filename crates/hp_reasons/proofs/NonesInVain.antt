@@ -28,7 +28,7 @@ use Rattle.hp_proc.specs.Doing.Done.{Asked}
 use Rattle.hp_proc.specs.Heaps.{NamedHeap, page_sizes_for}
 use Rattle.hp_proc.specs.LinesDone.{AreDone, Course, IsNoneUngranted, courses_of, is_grant, opening_standing}
 use Rattle.hp_proc.specs.Lines.{Facts, allocating, doing_of, if_attached, judged, tag_of}
-use Rattle.hp_proc.specs.declared.pages_asked.PagesAsked.{PagesAsked}
+use Rattle.hp_serve.specs.declared.pages_asked.PagesAsked.{PagesAsked}
 use Rattle.hp_reasons.specs.Nones.{CameToNothing, IsNoAddress, IsNoneInVain, NonesAreInVain}
 
 -- each trace through a tree to the answer that there is no memory, in which nothing is granted, came to nothing

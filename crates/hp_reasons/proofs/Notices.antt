@@ -15,11 +15,11 @@ use Rattle.hp_hall.specs.Mail.{MailStep, Notes, Posts}
 use Rattle.hp_hall.specs.declared.note.Note.TheVariants.{Read}
 use Rattle.hp_heap.specs.Growing.{run_bytes}
 use Rattle.hp_segs.specs.SegsView.{closed_number}
-use Rattle.hp_proc.specs.AskSteps.{DoesNotify, waits_until}
-use Rattle.hp_proc.specs.Asking.{free_body}
-use Rattle.hp_proc.specs.Frames.{Says}
-use Rattle.hp_proc.specs.Party.{Party, after_free, one_more}
-use Rattle.hp_proc.specs.Waiting.{IsWaited}
+use Rattle.hp_serve.specs.AskSteps.{DoesNotify, waits_until}
+use Rattle.hp_serve.specs.Asking.{free_body}
+use Rattle.hp_serve.specs.Frames.{Says}
+use Rattle.hp_serve.specs.Party.{Party, after_free, one_more}
+use Rattle.hp_serve.specs.Waiting.{IsWaited}
 use Rattle.hp_solo.specs.Sequence.{Sequence}
 use Rattle.hp_solo.specs.Solo.{SoloView}
 use Rattle.hp_reasons.specs.Counting.{LosesNothing, is_doubled, is_lost, lost_among}

@@ -28,9 +28,9 @@ use Rattle.hp_segs.specs.declared.outcome.AskLog.{AskLog}
 use Rattle.hp_segs.specs.declared.outcome.Cause.{Cause}
 use Rattle.hp_segs.specs.declared.outcome.Cause.TheVariants.{Late, MapFailed}
 use Rattle.hp_segs.specs.declared.outcome.Outcome.TheVariants.{Refused}
-use Rattle.hp_proc.specs.Coordinating.{with_core, with_room}
-use Rattle.hp_proc.specs.Party.{Party}
-use Rattle.hp_proc.specs.Posting.{times_sent}
+use Rattle.hp_serve.specs.Coordinating.{with_core, with_room}
+use Rattle.hp_serve.specs.Party.{Party}
+use Rattle.hp_serve.specs.Posting.{times_sent}
 use Rattle.hp_reasons.specs.Counting.{lost_among}
 use Rattle.hp_reasons.specs.Episode.{FollowsGrowth, IsBase, IsCoordinator, IsNotedCall, Setting, World, is_sync, mail_of, number_of_party}
 use Rattle.hp_reasons.specs.Outcomes.{late_outcomes, IsCauseApart}

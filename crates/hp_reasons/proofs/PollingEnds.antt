@@ -5,7 +5,7 @@ use Rattle.hp_core.specs.Asks.{answer_by, asker, is_good}
 use Rattle.hp_core.specs.declared.asked.Asked.{Asked}
 use Rattle.hp_core.specs.declared.out.Out.TheVariants as out
 use Rattle.hp_segs.specs.declared.outcome.Outcome.{Outcome}
-use Rattle.hp_proc.specs.Party.{Party}
+use Rattle.hp_serve.specs.Party.{Party}
 use Rattle.hp_reasons.specs.Episode.{IsBase, Setting, Stage, World}
 use Rattle.hp_reasons.specs.Servings.{CarriesOut}
 use Rattle.hp_reasons.specs.Shared.{Shared}

@@ -7,9 +7,9 @@ use Rattle.hp_core.specs.Core.{Core}
 use Rattle.hp_core.specs.declared.asked.Asked.{Asked}
 use Rattle.hp_core.specs.declared.phase.Phase.{Phase}
 use Rattle.hp_segs.specs.SegsView.{SegsView}
-use Rattle.hp_proc.specs.Coordinating.{with_core}
-use Rattle.hp_proc.specs.Party.{Party}
-use Rattle.hp_proc.specs.declared.sent.Sent.{Sent}
+use Rattle.hp_serve.specs.Coordinating.{with_core}
+use Rattle.hp_serve.specs.Party.{Party}
+use Rattle.hp_serve.specs.declared.sent.Sent.{Sent}
 use Rattle.hp_reasons.specs.Episode.{AreDoubled, HasCoordinator, IsCoordinator, IsUnanswered, Setting, World}
 use Rattle.hp_reasons.specs.Outcomes.{stale_outcomes}
 use Rattle.hp_reasons.specs.Shared.{with_segs}

@@ -18,8 +18,8 @@ use Rattle.hp_segs.specs.SoundRows.{IsGrowth, IsLogged}
 use Rattle.hp_segs.specs.Steps.{after_grant, lowest_member_below}
 use Rattle.hp_segs.specs.declared.outcome.AskLog.{AskLog}
 use Rattle.hp_segs.specs.declared.outcome.Outcome.TheVariants.{Granted}
-use Rattle.hp_proc.specs.Coordinating.{with_core, with_room}
-use Rattle.hp_proc.specs.Party.{Party}
+use Rattle.hp_serve.specs.Coordinating.{with_core, with_room}
+use Rattle.hp_serve.specs.Party.{Party}
 use Rattle.hp_reasons.specs.Episode.{AreAnswersOrCopies, AreDoubled, AreLevel, FollowsGrowth, GrowsLevel, HasCoordinator, IsAwaited, IsBase, IsCoordinator, IsToDo, IsUnanswered, Setting, World, is_sync, mail_of, number_of_party}
 use Rattle.hp_reasons.specs.Shared.{Shared, with_segs}
 use Rattle.hp_reasons.specs.Stages.{ComesTo, IsSent}

@@ -16,8 +16,8 @@ use Rattle.hp_segs.specs.SegsView.{SegsView, outcome_of}
 use Rattle.hp_segs.specs.Steps.{lowest_member_below}
 use Rattle.hp_segs.specs.declared.fault.NotAll.{NotAll}
 use Rattle.hp_segs.specs.declared.outcome.Cause.TheVariants.{Late}
-use Rattle.hp_proc.specs.Coordinating.{with_core, with_room}
-use Rattle.hp_proc.specs.Party.{Party}
+use Rattle.hp_serve.specs.Coordinating.{with_core, with_room}
+use Rattle.hp_serve.specs.Party.{Party}
 use Rattle.hp_reasons.specs.Counting.{LosesNothing}
 use Rattle.hp_reasons.specs.Episode.{AreAnswersOrCopies, AreDoubled, AreLevel, HasCoordinator, IsAnsweredFor, IsBase, IsClosed, IsCoordinator, IsUnanswered, Setting, SettlesLevel, Stage, WaitsToSettle, World, is_sync, mail_of, number_of_party}
 use Rattle.hp_reasons.specs.Servings.{Polls}

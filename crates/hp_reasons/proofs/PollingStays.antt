@@ -9,9 +9,9 @@ use Rattle.hp_segs.specs.Standing.{IsArmed}
 use Rattle.hp_segs.specs.SegsView.{SegsView}
 use Rattle.hp_segs.specs.Sound.{IsSound}
 use Rattle.hp_segs.specs.declared.ask.Ask.{Ask}
-use Rattle.hp_proc.specs.Coordinating.{with_core}
-use Rattle.hp_proc.specs.Party.{Party}
-use Rattle.hp_proc.specs.declared.sent.Sent.{Sent}
+use Rattle.hp_serve.specs.Coordinating.{with_core}
+use Rattle.hp_serve.specs.Party.{Party}
+use Rattle.hp_serve.specs.declared.sent.Sent.{Sent}
 use Rattle.hp_reasons.specs.Counting.{lost_among}
 use Rattle.hp_reasons.specs.Episode.{HasRoomBack, IsBase, MayBeTakenBack, MayMissOne, Setting, Stage, World}
 use Rattle.hp_reasons.specs.Shared.{Shared, with_segs}

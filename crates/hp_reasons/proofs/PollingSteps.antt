@@ -8,8 +8,8 @@ use Rattle.hp_core.specs.declared.out.Out.TheVariants as out
 use Rattle.hp_segs.specs.Standing.{IsArmed}
 use Rattle.hp_segs.specs.SegsView.{SegsView}
 use Rattle.hp_segs.specs.Sound.{IsSound}
-use Rattle.hp_proc.specs.Coordinating.{stepping, with_core}
-use Rattle.hp_proc.specs.Party.{Party}
+use Rattle.hp_serve.specs.Coordinating.{stepping, with_core}
+use Rattle.hp_serve.specs.Party.{Party}
 use Rattle.hp_reasons.specs.Servings.{CarriesOut, Handles, PostsFor, Steps}
 use Rattle.hp_reasons.specs.Shared.{Shared, with_segs}
 use Rattle.hp_reasons.proofs.CopiesTaken.{IsTaken}

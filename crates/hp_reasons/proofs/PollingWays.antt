@@ -21,7 +21,7 @@ use Rattle.hp_segs.specs.Steps.{lowest_member_below}
 use Rattle.hp_segs.specs.declared.fault.NotAll.{NotAll}
 use Rattle.hp_segs.specs.declared.outcome.Cause.{Cause}
 use Rattle.hp_segs.specs.declared.outcome.Cause.TheVariants.{Late}
-use Rattle.hp_proc.specs.Coordinating.{nobody_denies, stepping, with_room}
+use Rattle.hp_serve.specs.Coordinating.{nobody_denies, stepping, with_room}
 use Rattle.hp_reasons.proofs.HeldAsks.{all_released, its_ask, lowest_one, none_held}
 
 -- a poll in a round that began at a reading, at the present one, and whether its deadline has passed

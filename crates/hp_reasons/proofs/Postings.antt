@@ -6,8 +6,8 @@ use Rattle.hp_base.specs.declared.plan_entry.PlanEntry.{PlanEntry}
 use Rattle.hp_core.specs.declared.out.Out.{Out}
 use Rattle.hp_frame.specs.declared.frame.Frame.{Frame}
 use Rattle.hp_hall.specs.Mail.{MailStep}
-use Rattle.hp_proc.specs.Party.{Party, one_more}
-use Rattle.hp_proc.specs.Posting.{AreTold, IsPosted, IsToldOne, is_told, syncs_after, times_sent}
+use Rattle.hp_serve.specs.Party.{Party, one_more}
+use Rattle.hp_serve.specs.Posting.{AreTold, IsPosted, IsToldOne, is_told, syncs_after, times_sent}
 use Rattle.hp_reasons.specs.Servings.{PostsFor, synced}
 use Rattle.hp_reasons.specs.Shared.{MakesAll, Shared, posted_to}
 use Rattle.hp_reasons.proofs.Sharing.{cut_at, posted_one}

@@ -16,7 +16,7 @@ use Rattle.hp_plain.specs.declared.mailbox.TheConstants.{MAILBOX_FRAMES}
 use Rattle.hp_mail.specs.declared.posted.Posted.{Posted}
 use Rattle.hp_mail.specs.declared.posted.Posted.TheVariants.{Full, Sent, Twice}
 use Rattle.hp_plain.proofs.Slotted.{slice_get-set_other, slice_get-set_same}
-use Rattle.hp_proc.specs.Frames.{Says, SaysNothing, to_handler}
+use Rattle.hp_serve.specs.Frames.{Says, SaysNothing, to_handler}
 use Rattle.hp_reasons.specs.Counting.{is_lost}
 use Rattle.hp_reasons.specs.Episode.{AreSaid}
 

@@ -4,9 +4,9 @@ use Rattle.std.proofs.lemmas.List.{length-map}
 use Rattle.hp_plain.specs.Course.{IsCourse}
 use Rattle.hp_plain.specs.HallView.{HallView}
 use Rattle.hp_hall.specs.Mail.{MailStep}
-use Rattle.hp_proc.specs.Coordinating.{IsCoreServed}
-use Rattle.hp_proc.specs.Party.{Party}
-use Rattle.hp_proc.specs.Serving.{IsMemberServed}
+use Rattle.hp_serve.specs.Coordinating.{IsCoreServed}
+use Rattle.hp_serve.specs.Party.{Party}
+use Rattle.hp_serve.specs.Serving.{IsMemberServed}
 use Rattle.hp_reasons.specs.Servings.{CoreServes, MemberServes}
 use Rattle.hp_reasons.specs.Shared.{IsSharedIn, MakesAll, Shared}
 use Rattle.hp_reasons.specs.Worlds.{IsInOrder}

@@ -7,10 +7,10 @@ use Rattle.hp_core.specs.declared.out.Out.{Out}
 use Rattle.hp_core.specs.declared.out.Out.TheVariants as out
 use Rattle.hp_frame.specs.declared.frame.Frame.{Frame}
 use Rattle.hp_frame.specs.declared.message.Body.TheVariants.{Sync}
-use Rattle.hp_proc.specs.Coordinating.{MustMap}
-use Rattle.hp_proc.specs.Frames.{Says}
-use Rattle.hp_proc.specs.Party.{Party}
-use Rattle.hp_proc.specs.Posting.{after_syncs, is_told}
+use Rattle.hp_serve.specs.Coordinating.{MustMap}
+use Rattle.hp_serve.specs.Frames.{Says}
+use Rattle.hp_serve.specs.Party.{Party}
+use Rattle.hp_serve.specs.Posting.{after_syncs, is_told}
 use Rattle.hp_reasons.specs.Episode.{AreDoubled, IsUnanswered, Setting, World, copies_left, doubles}
 use Rattle.hp_reasons.specs.Outcomes.{stale_outcomes}
 use Rattle.hp_reasons.specs.Servings.{CarriesOut, MapsItself, PostsFor, answers, maps, nobody, nothing, posts, synced, syncs}

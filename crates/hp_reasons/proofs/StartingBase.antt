@@ -12,9 +12,9 @@ use Rattle.hp_segs.specs.Sound.{IsSound}
 use Rattle.hp_segs.specs.declared.outcome.AskLog.{AskLog}
 use Rattle.hp_segs.specs.declared.outcome.Cause.{Cause}
 use Rattle.hp_base.specs.declared.plan_entry.MsgKind.TheVariants as message
-use Rattle.hp_proc.specs.Party.{Party}
-use Rattle.hp_proc.specs.Posting.{times_sent}
-use Rattle.hp_proc.specs.declared.sent.Sent.{Sent}
+use Rattle.hp_serve.specs.Party.{Party}
+use Rattle.hp_serve.specs.Posting.{times_sent}
+use Rattle.hp_serve.specs.declared.sent.Sent.{Sent}
 use Rattle.hp_reasons.specs.Counting.{doubled_among, lost_among}
 use Rattle.hp_reasons.specs.Episode.{AreSaid, IsBase, IsExcused, IsInPlace, IsNotedCall, Setting, World, doubles, mail_of, number_of_party}
 use Rattle.hp_reasons.specs.Failing.{AreGrantsWithin}

@@ -13,8 +13,8 @@ use Rattle.hp_core.specs.declared.event.CoreEvent.{CoreEvent}
 use Rattle.hp_core.specs.declared.event.CoreEvent.TheVariants.{Grow, Poll, SelfMapped, Shrink}
 use Rattle.hp_core.specs.declared.phase.Phase.TheVariants.{Idle}
 use Rattle.hp_segs.specs.declared.ask.Ask.{Ask}
-use Rattle.hp_proc.specs.Coordinating.{nobody_denies, stepping, with_room}
-use Rattle.hp_proc.specs.Party.{Party}
+use Rattle.hp_serve.specs.Coordinating.{nobody_denies, stepping, with_room}
+use Rattle.hp_serve.specs.Party.{Party}
 use Rattle.hp_reasons.specs.Episode.{IsBase, IsSetting, IsToDo, Setting, World}
 use Rattle.hp_reasons.specs.Servings.{Handles}
 use Rattle.hp_reasons.specs.Shared.{Shared, with_segs}

@@ -18,8 +18,8 @@ use Rattle.hp_segs.specs.LaterSteps.{noted_failure}
 use Rattle.hp_segs.specs.SegsView.{SegsView}
 use Rattle.hp_segs.specs.Sound.{IsSound}
 use Rattle.hp_segs.specs.declared.outcome.Cause.{Cause}
-use Rattle.hp_proc.specs.Coordinating.{with_room}
-use Rattle.hp_proc.specs.Party.{Party}
+use Rattle.hp_serve.specs.Coordinating.{with_room}
+use Rattle.hp_serve.specs.Party.{Party}
 use Rattle.hp_reasons.specs.Episode.{AreDoubled, AreOthersEmpty, HasCoordinator, IsBase, IsCopy, IsNotedCall, IsSetting, IsToDo, IsUnanswered, Setting, World, mail_of, number_of_party}
 use Rattle.hp_reasons.specs.Failing.{failing_call}
 use Rattle.hp_reasons.specs.Shared.{Shared}

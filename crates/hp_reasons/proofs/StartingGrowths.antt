@@ -5,8 +5,8 @@ use Rattle.hp_core.specs.Asks.{asker}
 use Rattle.hp_core.specs.declared.asked.Asked.{Asked}
 use Rattle.hp_core.specs.declared.out.Out.{Out}
 use Rattle.hp_core.specs.declared.phase.Round.{Round}
-use Rattle.hp_proc.specs.Coordinating.{MustMap}
-use Rattle.hp_proc.specs.Party.{Party}
+use Rattle.hp_serve.specs.Coordinating.{MustMap}
+use Rattle.hp_serve.specs.Party.{Party}
 use Rattle.hp_reasons.specs.Episode.{IsSetting, Setting, World}
 use Rattle.hp_reasons.specs.Servings.{CarriesOut}
 use Rattle.hp_reasons.specs.Shared.{Shared}

@@ -8,7 +8,7 @@ use Rattle.hp_core.specs.Following.{failure_of}
 use Rattle.hp_core.specs.declared.out.Out.{Out}
 use Rattle.hp_core.specs.declared.phase.Round.{Round}
 use Rattle.hp_segs.specs.declared.growth.Growth.{Growth}
-use Rattle.hp_proc.specs.Party.{Party}
+use Rattle.hp_serve.specs.Party.{Party}
 use Rattle.hp_reasons.specs.Episode.{IsBase, Setting, World}
 use Rattle.hp_reasons.specs.Failing.{AreGrantsWithin, IsOfTheGrowth}
 use Rattle.hp_reasons.specs.Shared.{Shared}

@@ -21,9 +21,9 @@ use Rattle.hp_segs.specs.LaterSteps.{noted_failure}
 use Rattle.hp_segs.specs.SegsView.{SegsView}
 use Rattle.hp_segs.specs.Sound.{IsSound}
 use Rattle.hp_segs.specs.declared.outcome.Cause.{Cause}
-use Rattle.hp_proc.specs.Coordinating.{stepping, with_core, with_room}
-use Rattle.hp_proc.specs.Party.{Party}
-use Rattle.hp_proc.specs.Serving.{CatchesUp, after_catching_up}
+use Rattle.hp_serve.specs.Coordinating.{stepping, with_core, with_room}
+use Rattle.hp_serve.specs.Party.{Party}
+use Rattle.hp_serve.specs.Serving.{CatchesUp, after_catching_up}
 use Rattle.hp_reasons.specs.Episode.{HasCoordinator, IsBase, IsNotedCall, Setting, Stage, World, number_of_party}
 use Rattle.hp_reasons.specs.Servings.{MapsItself, numbered}
 use Rattle.hp_reasons.specs.Shared.{Shared, with_segs}

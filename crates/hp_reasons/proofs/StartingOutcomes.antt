@@ -19,7 +19,7 @@ use Rattle.hp_segs.specs.declared.outcome.Outcome.TheVariants.{Freed, Granted, R
 use Rattle.hp_segs.specs.declared.plan_refusal.PlanRefusal.{PlanRefusal}
 use Rattle.hp_segs.specs.declared.plan_refusal.PlanRefusal.TheVariants as plan
 use Rattle.hp_segs.proofs.ClosedLemmas.{closed_push}
-use Rattle.hp_proc.specs.Party.{Party}
+use Rattle.hp_serve.specs.Party.{Party}
 use Rattle.hp_reasons.specs.Episode.{IsAnsweredFor, IsClosed, IsToDo, World, number_of_party}
 use Rattle.hp_reasons.specs.Outcomes.{is_late, is_withdrawn}
 use Rattle.hp_reasons.proofs.CaughtUp.{IsOwnFailure}

@@ -18,9 +18,9 @@ use Rattle.hp_frame.specs.declared.message.Body.{Body}
 use Rattle.hp_plain.specs.Boxes.{box_after, box_of, copies, posted_as}
 use Rattle.hp_log.proofs.Counts.{count_append, count_none}
 use Rattle.hp_segs.specs.SegsView.{grants_or_refuses}
-use Rattle.hp_proc.specs.Frames.{Says}
-use Rattle.hp_proc.specs.Party.{Party, one_more}
-use Rattle.hp_proc.specs.Posting.{after_answer, is_asker, result_body, times_sent}
+use Rattle.hp_serve.specs.Frames.{Says}
+use Rattle.hp_serve.specs.Party.{Party, one_more}
+use Rattle.hp_serve.specs.Posting.{after_answer, is_asker, result_body, times_sent}
 use Rattle.hp_reasons.specs.Episode.{AreAnswersOrCopies, AreDoubled, EndsLevel, HasCoordinator, IsAnsweredFor, IsBase, IsClosed, IsCopy, Setting, World, is_answer, is_call, is_sync, mail_of}
 use Rattle.hp_reasons.specs.Episode.Stage.{over}
 use Rattle.hp_reasons.specs.Servings.{PostsFor, answers, nobody, nothing, syncs}

@@ -24,9 +24,9 @@ use Rattle.hp_segs.specs.declared.growth.Growth.{Growth}
 use Rattle.hp_segs.specs.declared.outcome.AskLog.{AskLog}
 use Rattle.hp_segs.specs.declared.outcome.Cause.{Cause}
 use Rattle.hp_segs.specs.declared.outcome.Outcome.{Outcome}
-use Rattle.hp_proc.specs.Coordinating.{MustMap, with_room}
-use Rattle.hp_proc.specs.Frames.{Says}
-use Rattle.hp_proc.specs.Party.{Party}
+use Rattle.hp_serve.specs.Coordinating.{MustMap, with_room}
+use Rattle.hp_serve.specs.Frames.{Says}
+use Rattle.hp_serve.specs.Party.{Party}
 use Rattle.hp_reasons.specs.Counting.{LosesNothing}
 use Rattle.hp_reasons.specs.Episode.{AreAnswersOrCopies, AreDoubled, HasCoordinator, IsAnsweredFor, IsBase, IsClosed, IsCopy, IsSetting, IsUnanswered, Setting, World, is_call, is_result_of, is_sync, mail_of, number_of_party}
 use Rattle.hp_reasons.specs.Servings.{CarriesOut}

@@ -17,9 +17,9 @@ use Rattle.hp_plain.specs.declared.mailbox.TheConstants.{MAILBOX_FRAMES}
 use Rattle.hp_base.specs.Flags.{has_bit}
 use Rattle.hp_segs.proofs.QueryLemmas.{get_within}
 use Rattle.hp_segs.specs.SegsView.{is_member}
-use Rattle.hp_proc.specs.Frames.{Says}
-use Rattle.hp_proc.specs.Party.{Party, one_more}
-use Rattle.hp_proc.specs.Posting.{after_syncs, is_told, syncs_after, times_sent}
+use Rattle.hp_serve.specs.Frames.{Says}
+use Rattle.hp_serve.specs.Party.{Party, one_more}
+use Rattle.hp_serve.specs.Posting.{after_syncs, is_told, syncs_after, times_sent}
 use Rattle.hp_reasons.specs.Counting.{LosesNothing, is_lost, is_sent, lost_among}
 use Rattle.hp_reasons.specs.Episode.{IsBase, IsSetting, Setting, World, is_sync, mail_of}
 use Rattle.hp_reasons.specs.Outcomes.{late_outcomes}

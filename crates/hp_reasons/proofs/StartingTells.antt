@@ -15,9 +15,9 @@ use Rattle.hp_frame.specs.declared.frame.Frame.{Frame}
 use Rattle.hp_frame.specs.declared.message.Body.TheVariants.{Sync}
 use Rattle.hp_segs.specs.LaterSteps.{noted_failure}
 use Rattle.hp_segs.specs.SegsView.{SegsView}
-use Rattle.hp_proc.specs.Coordinating.{MustMap}
-use Rattle.hp_proc.specs.Frames.{Says}
-use Rattle.hp_proc.specs.Party.{Party}
+use Rattle.hp_serve.specs.Coordinating.{MustMap}
+use Rattle.hp_serve.specs.Frames.{Says}
+use Rattle.hp_serve.specs.Party.{Party}
 use Rattle.hp_reasons.specs.Episode.{AreAnswersOrCopies, FollowsGrowth, IsBase, IsSetting, IsToDo, Setting, World, is_call, is_result_of, mail_of, number_of_party}
 use Rattle.hp_reasons.specs.Episode.Stage.{growing}
 use Rattle.hp_reasons.specs.Servings.{CarriesOut}

@@ -8,9 +8,9 @@ use Rattle.hp_base.specs.declared.plan_entry.MsgKind.TheVariants as message
 use Rattle.hp_frame.specs.declared.frame.Frame.{Frame}
 use Rattle.hp_frame.specs.declared.message.Body.{Body}
 use Rattle.hp_plain.specs.Boxes.{box_after, box_of, copies, posted_as}
-use Rattle.hp_proc.specs.Frames.{Says}
-use Rattle.hp_proc.specs.Party.{Party, one_more}
-use Rattle.hp_proc.specs.Posting.{sent_once_more, syncs_after, times_sent}
+use Rattle.hp_serve.specs.Frames.{Says}
+use Rattle.hp_serve.specs.Party.{Party, one_more}
+use Rattle.hp_serve.specs.Posting.{sent_once_more, syncs_after, times_sent}
 use Rattle.hp_reasons.specs.Servings.{synced}
 use Rattle.hp_reasons.specs.Shared.{Shared, posted_to, with_boxes}
 use Rattle.hp_reasons.proofs.Said.{AreAllSaid, index_set, index_unset, mail_posted, said_posted, set_long}

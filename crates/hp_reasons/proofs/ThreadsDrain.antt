@@ -5,11 +5,11 @@ use Rattle.std.proofs.lemmas.Bool.{cases_eq}
 use Rattle.std.proofs.lemmas.List.{set-get_or}
 use Rattle.std.proofs.lemmas.Option.{get_or_from_slice_get, none-some, slice_get_within}
 use Rattle.hp_plain.specs.Boxes.{box_of}
-use Rattle.hp_proc.specs.Coordinating.{IsServed}
-use Rattle.hp_proc.specs.Party.{Party, due_in}
+use Rattle.hp_serve.specs.Coordinating.{IsServed}
+use Rattle.hp_serve.specs.Party.{Party, due_in}
 use Rattle.hp_solo.specs.Draining.{Drains}
 use Rattle.hp_solo.specs.Sequence.{ServesOnce, ServesSome, Visit, Visits, going_place}
-use Rattle.hp_solo.specs.Solo.{IsPendingDue, ServerView, SoloView, due_at, has_stopped, party_at, party_in}
+use Rattle.hp_solo.specs.Solo.{IsPendingDue, AloneView, SoloView, due_at, has_stopped, party_at, party_in}
 use Rattle.hp_reasons.specs.Episode.{Setting, World, mail_of}
 use Rattle.hp_reasons.specs.Quiet.{IsQuietWorld}
 use Rattle.hp_reasons.specs.Shared.{IsSharedIn, Shared}
@@ -103,7 +103,7 @@ module _ (set : Setting) (world : World) (quiet : IsQuietWorld set world) where
     servers_same =
         once.servers
         ∙ ap (λ (after : Party). slice_set old.servers who (going_place after)) rested.after_is
-        ∙ sym (ap (λ (place : ServerView). slice_set old.servers who place)
+        ∙ sym (ap (λ (place : AloneView). slice_set old.servers who place)
         (get_or_from_slice_get old.servers who (going_place party) (going_place party) once.there))
         ∙ set-get_or old.servers who (going_place party)
 
@@ -116,7 +116,7 @@ module _ (set : Setting) (world : World) (quiet : IsQuietWorld set world) where
       shared = rested.shared;
       order = rested.order;
       going = ap has_stopped servers_same ∙ at.going;
-      all = λ who. at.all who ∙ sym (ap (λ (servers : List ServerView). party_at servers who) servers_same);
+      all = λ who. at.all who ∙ sym (ap (λ (servers : List AloneView). party_at servers who) servers_same);
     }
 
   some_quiet : (who : ℕ) (old new : SoloView) → IsWorldAt old world → ServesSome who old new → IsWorldAt new world

@@ -11,7 +11,7 @@ use Rattle.hp_plain.proofs.Slotted.{slice_get-set_other, slice_get-set_same}
 use Rattle.hp_script.specs.declared.answer.Answer.{Answer}
 use Rattle.hp_script.specs.declared.line.Line.{Line}
 use Rattle.hp_proc.specs.Acting.{Acts}
-use Rattle.hp_solo.specs.Solo.{ServerView, SoloView, party_at, party_in}
+use Rattle.hp_solo.specs.Solo.{AloneView, SoloView, party_at, party_in}
 use Rattle.hp_reasons.specs.Episode.{IsSetting, Setting, World}
 use Rattle.hp_reasons.specs.Quiet.{IsQuietOwing, IsQuietWorld}
 use Rattle.hp_reasons.specs.Lines.{ActsInQuiet, AreWaitsQuiet, AttachesOnce, LinesOweNothing, Owes}
@@ -50,7 +50,7 @@ module _ (set : Setting) (sets : IsSetting set) (waits : AreWaitsQuiet) (acts : 
   is_there : party_at old.servers me ≡ Some does.party
   is_there = ap party_in does.there
 
-  apart : (servers : List ServerView) (place : ServerView) (who : ℕ) → who ≢ me
+  apart : (servers : List AloneView) (place : AloneView) (who : ℕ) → who ≢ me
       → party_at servers who ≡ party_at (slice_set servers me place) who
   apart servers place who other = sym (ap party_in (slice_get-set_other servers me who place other))
 
@@ -93,7 +93,7 @@ module _ (set : Setting) (sets : IsSetting set) (waits : AreWaitsQuiet) (acts : 
         long,
         before,
         length-set old.servers me vacated,
-        ap (λ (servers : List ServerView). length servers) gone_servers,
+        ap (λ (servers : List AloneView). length servers) gone_servers,
       )
 
   all_there : (who : ℕ) → slice_get leads.world.parties who ≡ party_at (slice_set does.back.servers me (filled does.after)) who

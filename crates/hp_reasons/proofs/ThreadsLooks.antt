@@ -13,7 +13,7 @@ use Rattle.hp_proc.specs.Doing.{Doing, Done, Goes, Leads}
 use Rattle.hp_proc.specs.Doing.Doing.{CatchesUp}
 use Rattle.hp_proc.specs.Doing.Done.{Asked, Called, CaughtUp, GaveUp, Looked}
 use Rattle.hp_proc.specs.Lines.{Facts, attached_with, attaching, doing_of}
-use Rattle.hp_proc.specs.Party.{Party}
+use Rattle.hp_serve.specs.Party.{Party}
 use Rattle.hp_joint.proofs.NoLooks.{IsNoLook, LooksNowhere, none_looked, nowhere_line}
 use Rattle.hp_reasons.specs.Lines.{AttachesOnce, is_looked}
 

@@ -19,7 +19,7 @@ use Rattle.hp_segs.specs.declared.outcome.Outcome.TheVariants.{Freed, Granted, R
 use Rattle.hp_proc.specs.Doing.{Done}
 use Rattle.hp_proc.specs.LinesDone.{Course}
 use Rattle.hp_proc.specs.Outcomes.{IsRefusedIn}
-use Rattle.hp_proc.specs.Party.{Party}
+use Rattle.hp_serve.specs.Party.{Party}
 use Rattle.hp_proc.specs.Courses.{numbered_in}
 use Rattle.hp_joint.specs.SoFar.{SoFar}
 use Rattle.hp_joint.specs.Seats.{Seat}

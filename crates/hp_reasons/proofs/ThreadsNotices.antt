@@ -10,11 +10,11 @@ use Rattle.hp_plain.specs.HallView.{segs_in, slot_at}
 use Rattle.hp_proc.specs.Courses.{numbered_in}
 use Rattle.hp_proc.specs.Doing.{Done}
 use Rattle.hp_proc.specs.LinesDone.{Course, courses_of, trace_of}
-use Rattle.hp_proc.specs.Party.{Party}
+use Rattle.hp_serve.specs.Party.{Party}
 use Rattle.hp_script.specs.declared.workload.Workload.{Workload}
 use Rattle.hp_segs.specs.SegsView.{SegsView}
 use Rattle.hp_segs.specs.declared.outcome.AskLog.{AskLog}
-use Rattle.hp_solo.specs.Solo.{ServerView, SoloView, party_at, party_in}
+use Rattle.hp_solo.specs.Solo.{AloneView, SoloView, party_at, party_in}
 use Rattle.hp_joint.specs.SoFar.{SoFar}
 use Rattle.hp_joint.proofs.GoneSoFar.{none_of_others, outcomes_so_far}
 use Rattle.hp_joint.proofs.SoFarFacts.{at_place}
@@ -33,10 +33,10 @@ filled_at None = refl
 filled_at (Some party) = refl
 
 -- who is in a place is there
-placed : (servers : List ServerView) (parties : List Party) → servers ≡ map filled parties → (who : ℕ)
+placed : (servers : List AloneView) (parties : List Party) → servers ≡ map filled parties → (who : ℕ)
     → party_at servers who ≡ slice_get parties who
 placed servers parties are who =
-    ap (λ (servers : List ServerView). party_at servers who) are
+    ap (λ (servers : List AloneView). party_at servers who) are
     ∙ ap party_in (slice_get-map filled parties who)
     ∙ filled_at (slice_get parties who)
 

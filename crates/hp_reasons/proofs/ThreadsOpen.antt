@@ -20,9 +20,9 @@ use Rattle.hp_heap.specs.History.{HeapView}
 use Rattle.hp_script.specs.declared.workload.Workload.{Workload}
 use Rattle.hp_segs.specs.Opening.{opening_roster}
 use Rattle.hp_segs.specs.SegsView.{is_member}
-use Rattle.hp_proc.specs.Party.{Party, first_core}
+use Rattle.hp_serve.specs.Party.{Party, first_core}
 use Rattle.hp_proc.proofs.Unarmed.{all_alike}
-use Rattle.hp_solo.specs.Solo.{ServerView, SoloView, has_stopped, party_at, party_in}
+use Rattle.hp_solo.specs.Solo.{AloneView, SoloView, has_stopped, party_at, party_in}
 use Rattle.hp_joint.specs.EndLaws.{IsFirstParty, IsGiven, first_party}
 use Rattle.hp_joint.specs.SoFar.{AreFirstHeaps, first_hall, first_segs}
 use Rattle.hp_joint.proofs.FirstSegs.{armed_first, member_first, nobody_first, present_declared, sound_first}
@@ -188,7 +188,7 @@ at_first workload first few opens = record {
   order = subst IsInOrder (sym opens.plain) (in_order_first workload opens.heaps opens.first_heaps few);
   going = ap has_stopped opens.are ∙ none_stopped_of opens.parties;
   all = λ who.
-      sym (ap (λ (servers : List ServerView). party_at servers who) opens.are
+      sym (ap (λ (servers : List AloneView). party_at servers who) opens.are
       ∙ ap party_in (slice_get-map filled opens.parties who)
       ∙ party_filled (slice_get opens.parties who));
 }

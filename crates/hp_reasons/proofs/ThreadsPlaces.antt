@@ -5,13 +5,13 @@ use Rattle.std.proofs.Math.ListN.{length-set}
 use Rattle.std.proofs.lemmas.Bool.{or_from, or_parts}
 use Rattle.hp_hall.specs.Mail.{MailStep}
 use Rattle.hp_solo.specs.Sequence.{Makes, Sequence, ServesOnce, ServesSome, Visit, Visits, VisitsBeside, going_place}
-use Rattle.hp_solo.specs.Solo.{ServerView, SoloView, has_stopped}
+use Rattle.hp_solo.specs.Solo.{AloneView, SoloView, has_stopped}
 
 -- AS MANY PLACES AS BEFORE
 
 once_long : (who : ℕ) (moved : Bool) (old new : SoloView) → ServesOnce who moved old new → length new.servers ≡ length old.servers
 once_long who moved old new once =
-    ap (λ (servers : List ServerView). length servers) once.servers ∙ length-set old.servers who (going_place once.after)
+    ap (λ (servers : List AloneView). length servers) once.servers ∙ length-set old.servers who (going_place once.after)
 
 some_long : (who : ℕ) (old new : SoloView) → ServesSome who old new → length new.servers ≡ length old.servers
 some_long who _ _ (ServesSome.none hall) = refl
@@ -30,10 +30,10 @@ beside_long me false old new visits = visits_long 0 me old new visits
 beside_long me true old new visits = visits_long (suc me) (length old.servers) old new visits
 
 makes_long : (me : ℕ) (old new : SoloView) (step : MailStep) → Makes me old new step → length new.servers ≡ length old.servers
-makes_long me old new _ (Makes.calls step call made servers clock) = ap (λ (servers : List ServerView). length servers) servers
+makes_long me old new _ (Makes.calls step call made servers clock) = ap (λ (servers : List AloneView). length servers) servers
 makes_long me old new _ (Makes.yields above moved between visits quiet is) =
     ap (λ (hall : SoloView). length hall.servers) is ∙ beside_long me above old between visits
-makes_long me old new _ (Makes.pauses moved until is servers stands goes) = ap (λ (servers : List ServerView). length servers) servers
+makes_long me old new _ (Makes.pauses moved until is servers stands goes) = ap (λ (servers : List AloneView). length servers) servers
 
 -- behind a sequence of calls
 pub sequence_long : (me : ℕ) (old new : SoloView) (steps : List MailStep) → Sequence me old steps new
@@ -42,12 +42,12 @@ sequence_long me _ _ _ (Sequence.stands hall) = refl
 sequence_long me old new _ (Sequence.goes_on _ mid _ step steps makes more) =
     sequence_long me mid new steps more ∙ makes_long me old mid step makes
 sequence_long me old new steps (Sequence.tells _ mid _ _ made servers clock more) =
-    sequence_long me mid new steps more ∙ ap (λ (servers : List ServerView). length servers) servers
+    sequence_long me mid new steps more ∙ ap (λ (servers : List AloneView). length servers) servers
 
 -- NOBODY HAS STOPPED
 
 -- nor has anybody, where one place came to one that hasn't
-pub none_set : (servers : List ServerView) (who : ℕ) (place : ServerView) → place.stopped ≡ false → has_stopped servers ≡ false
+pub none_set : (servers : List AloneView) (who : ℕ) (place : AloneView) → place.stopped ≡ false → has_stopped servers ≡ false
     → has_stopped (slice_set servers who place) ≡ false
 none_set [] who place going off = refl
 none_set (server ∷ servers) zero place going off =

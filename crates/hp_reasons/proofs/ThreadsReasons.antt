@@ -10,8 +10,8 @@ use Rattle.hp_script.specs.declared.workload.Workload.{Workload}
 use Rattle.hp_segs.specs.SegsView.{SegsView}
 use Rattle.hp_segs.specs.declared.outcome.AskLog.{AskLog}
 use Rattle.hp_proc.specs.LinesDone.{Course}
-use Rattle.hp_proc.specs.Party.{Party}
-use Rattle.hp_proc.specs.Posting.{times_sent}
+use Rattle.hp_serve.specs.Party.{Party}
+use Rattle.hp_serve.specs.Posting.{times_sent}
 use Rattle.hp_solo.specs.Solo.{SoloView}
 use Rattle.hp_joint.specs.SoFar.{SoFar}
 use Rattle.hp_joint.proofs.SoFarFacts.{at_place}

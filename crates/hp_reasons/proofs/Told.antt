@@ -8,7 +8,7 @@ use Rattle.hp_core.specs.Asks.{asker, number_of}
 use Rattle.hp_core.specs.declared.asked.Asked.{Asked}
 use Rattle.hp_segs.specs.SegsView.{closed_number, is_outcome_for, is_stale}
 use Rattle.hp_segs.specs.declared.outcome.AskLog.{AskLog}
-use Rattle.hp_proc.specs.Party.{Party}
+use Rattle.hp_serve.specs.Party.{Party}
 use Rattle.hp_reasons.specs.Counting.{lost_among}
 use Rattle.hp_reasons.specs.Episode.{IsToldBefore, Setting, losses, made_before, missed_among}
 use Rattle.hp_reasons.specs.Outcomes.{unanswered_among, withdrawn_outcomes}

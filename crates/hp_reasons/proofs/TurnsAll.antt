@@ -9,10 +9,10 @@ use Rattle.hp_hall.specs.Mail.{MailStep, Notes}
 use Rattle.hp_plain.specs.Boxes.{box_of}
 use Rattle.hp_hall.specs.declared.note.Note.{Note}
 use Rattle.hp_hall.specs.declared.note.Note.TheVariants.{Read, Yielded}
-use Rattle.hp_proc.specs.Party.{Party}
-use Rattle.hp_proc.specs.Waiting.{HaveServed, IsServedOut}
+use Rattle.hp_serve.specs.Party.{Party}
+use Rattle.hp_serve.specs.Waiting.{HaveServed, IsServedOut}
 use Rattle.hp_solo.specs.Sequence.{Sequence}
-use Rattle.hp_solo.specs.Solo.{HaveNotStopped, IsBeside, ServerView, SoloView, has_stopped, party_at, party_in, server_at}
+use Rattle.hp_solo.specs.Solo.{HaveNotStopped, IsBeside, AloneView, SoloView, has_stopped, party_at, party_in, server_at}
 use Rattle.hp_reasons.specs.Episode.{Setting, World}
 use Rattle.hp_reasons.specs.Shared.{IsSharedIn, Shared}
 use Rattle.hp_reasons.specs.Waits.{AreServingsKnown}
@@ -46,24 +46,24 @@ read_on known me old new party now world sequence its =
       its = record {
         shared = subst (λ (at : Shared). IsSharedIn new.plain at) same own.along.shared;
         order = own.along.order;
-        going = subst (λ (servers : List ServerView). has_stopped servers ≡ false) (sym own.servers) its.going;
+        going = subst (λ (servers : List AloneView). has_stopped servers ≡ false) (sym own.servers) its.going;
         own = its.own;
-        others = λ other beside. its.others other beside ∙ sym (ap (λ (servers : List ServerView). party_at servers other) own.servers);
+        others = λ other beside. its.others other beside ∙ sym (ap (λ (servers : List AloneView). party_at servers other) own.servers);
       };
       now_is = own.along.made.1.0;
     }
 
 -- nobody has stopped
-none_stopped : (servers : List ServerView) (who : ℕ) (server : ServerView) → has_stopped servers ≡ false → server_at servers who ≡ Some server
+none_stopped : (servers : List AloneView) (who : ℕ) (server : AloneView) → has_stopped servers ≡ false → server_at servers who ≡ Some server
     → server.stopped ≡ false
 none_stopped [] who server going is = cc
 none_stopped (first ∷ servers) zero server going is =
     let one : first ≡ server = cc in
-    ap (λ (s : ServerView). s.stopped) (sym one) ∙ (or_parts first.stopped (has_stopped servers) going).0
+    ap (λ (s : AloneView). s.stopped) (sym one) ∙ (or_parts first.stopped (has_stopped servers) going).0
 none_stopped (first ∷ servers) (suc who) server going is =
     none_stopped servers who server (or_parts first.stopped (has_stopped servers) going).1 is
 
-have_not_stopped : (beside : ℕ → Type 0) (servers : List ServerView) → has_stopped servers ≡ false → HaveNotStopped beside servers
+have_not_stopped : (beside : ℕ → Type 0) (servers : List AloneView) → has_stopped servers ≡ false → HaveNotStopped beside servers
 have_not_stopped beside servers going = λ who server is there. none_stopped servers who server going there
 
 some_there : (parties : List Party) → 0 < length parties → is_some (slice_get parties 0) ≡ true

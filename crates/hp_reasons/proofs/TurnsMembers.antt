@@ -15,8 +15,8 @@ use Rattle.hp_frame.specs.declared.message.Body.{Body}
 use Rattle.hp_frame.specs.declared.message.Body.TheVariants.{Alloc, Answer, Free, Sync}
 use Rattle.hp_plain.specs.Boxes.{box_of}
 use Rattle.hp_segs.specs.SegsView.{closed_number}
-use Rattle.hp_proc.specs.Party.{Party}
-use Rattle.hp_proc.specs.Serving as serving
+use Rattle.hp_serve.specs.Party.{Party}
+use Rattle.hp_serve.specs.Serving as serving
 use Rattle.hp_reasons.specs.Episode.{HasCoordinator, IsBase, IsClosed, IsToDo, Setting, Stage, World, is_sync, mail_of}
 use Rattle.hp_reasons.specs.Servings.{MemberServes, numbered}
 use Rattle.hp_reasons.specs.Shared.{Shared, fetched_by}

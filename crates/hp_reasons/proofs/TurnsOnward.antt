@@ -10,10 +10,10 @@ use Rattle.hp_plain.specs.HallView.{HallView}
 use Rattle.hp_hall.specs.Mail.{MailStep, Notes}
 use Rattle.hp_plain.specs.Boxes.{box_of}
 use Rattle.hp_hall.specs.declared.note.Note.TheVariants.{Paused, Read}
-use Rattle.hp_proc.specs.Party.{Party, due_in}
-use Rattle.hp_proc.specs.Waiting.{HaveServed, IsTurned, PausesAt}
+use Rattle.hp_serve.specs.Party.{Party, due_in}
+use Rattle.hp_serve.specs.Waiting.{HaveServed, IsTurned, PausesAt}
 use Rattle.hp_solo.specs.Sequence.{Sequence}
-use Rattle.hp_solo.specs.Solo.{ServerView, SoloView, due_at, party_at}
+use Rattle.hp_solo.specs.Solo.{AloneView, SoloView, due_at, party_at}
 use Rattle.hp_reasons.specs.Episode.{Setting, World, mail_of}
 use Rattle.hp_reasons.specs.Stages.{IsSent}
 use Rattle.hp_reasons.specs.Waits.{AreServingsKnown, IsAtTurn, LeadsTo, TurnsOn}
@@ -63,7 +63,7 @@ pause_on known me until old new party steps moved world its sequence pauses =
     let now : ℕ = begins.behind.plain.clock in
     let there : IsWorldOf begins.behind me party (at_clock now world) =
     subst (λ (plain : HallView). IsWorldOf (record { plain = plain; servers = begins.behind.servers }) me party (at_clock now world)) (sym paused.is)
-    (subst (λ (servers : List ServerView).
+    (subst (λ (servers : List AloneView).
     IsWorldOf (record { plain = after_pause me moved (Some pauses.next) now begins.at.plain; servers = servers }) me party (at_clock now world))
     (sym paused.servers) (paused_world me pauses.next now moved begins.at party world told)) in
     record {

@@ -12,8 +12,8 @@ use Rattle.hp_frame.specs.declared.message.Body.{Body}
 use Rattle.hp_plain.specs.Boxes.{box_of}
 use Rattle.hp_hall.specs.Weights.{pending_at}
 use Rattle.hp_hall.proofs.Pending.{pending_falls}
-use Rattle.hp_proc.specs.Party.{Party, due_in}
-use Rattle.hp_proc.proofs.Scaled.{own_weight_lower}
+use Rattle.hp_serve.specs.Party.{Party, due_in}
+use Rattle.hp_serve.proofs.Scaled.{own_weight_lower}
 use Rattle.hp_reasons.specs.Episode.{AreDoubled, AreOthersEmpty, EndsLevel, FollowsGrowth, GrowsLevel, HasCoordinator, IsAnsweredFor, IsBase, IsToDo, IsUnanswered, MayBeTakenBack, SettlesLevel, Setting, Stage, World, is_sync, mail_of}
 use Rattle.hp_reasons.specs.Quiet.{IsQuietOwing, IsQuietWorld}
 use Rattle.hp_reasons.specs.Stages.{IsSent}

@@ -10,8 +10,8 @@ use Rattle.hp_core.specs.declared.phase.Phase.{Phase}
 use Rattle.hp_core.specs.declared.phase.Phase.TheVariants.{Idle}
 use Rattle.hp_frame.specs.declared.message.Body.{Body}
 use Rattle.hp_segs.specs.SegsView.{closed_number}
-use Rattle.hp_proc.specs.Coordinating.{core_holds}
-use Rattle.hp_proc.specs.Party.{Party}
+use Rattle.hp_serve.specs.Coordinating.{core_holds}
+use Rattle.hp_serve.specs.Party.{Party}
 use Rattle.hp_reasons.specs.Counting.{LosesNothing}
 use Rattle.hp_reasons.specs.Episode.{AreAnswersOrCopies, AreDoubled, AreLevel, AreOthersEmpty, EndsLevel, HasCoordinator, IsAnsweredFor, IsBase, IsClosed, MayMissOne, Setting, Stage, World, doubles, is_sync, losses, mail_of, missed_among}
 use Rattle.hp_reasons.specs.Quiet.{IsQuietWorld}

@@ -5,13 +5,13 @@ use Rattle.hp_plain.specs.HallSteps.{after_pause, with_note}
 use Rattle.hp_hall.specs.Mail.{MailStep, Notes}
 use Rattle.hp_hall.specs.declared.note.Note.TheVariants.{Paused, Yielded}
 use Rattle.hp_solo.specs.Sequence.{IsCall, IsMadeBy, Makes, Sequence, VisitsBeside}
-use Rattle.hp_solo.specs.Solo.{IsBeside, IsNextDue, IsQuiet, ServerView, SoloView}
+use Rattle.hp_solo.specs.Solo.{IsBeside, IsNextDue, IsQuiet, AloneView, SoloView}
 use Rattle.hp_reasons.specs.Shared.{IsSharedIn, Shared}
 use Rattle.hp_reasons.specs.Worlds.{AreCalls, CoursesGoAlong, IsInOrder, GoesAlong}
 use Rattle.hp_reasons.proofs.Sharing.{made_then}
 
 -- one alone did this with what is shared, and the others stand as they stood
-pub record IsOwn (me : ℕ) (steps : List MailStep) (old : List ServerView) (new : SoloView) (at : Shared) : Type 0 where
+pub record IsOwn (me : ℕ) (steps : List MailStep) (old : List AloneView) (new : SoloView) (at : Shared) : Type 0 where
   pub along : GoesAlong me steps at new.plain
   pub servers : new.servers ≡ old
 

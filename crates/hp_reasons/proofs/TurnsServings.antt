@@ -8,10 +8,10 @@ use Rattle.hp_core.specs.declared.asked.Asked.{Asked}
 use Rattle.hp_core.specs.declared.phase.Phase.TheVariants.{Idle, Waiting}
 use Rattle.hp_frame.specs.declared.message.Body.{Body}
 use Rattle.hp_plain.specs.Boxes.{box_of}
-use Rattle.hp_proc.specs.Coordinating.{IsToComeAt, core_holds}
-use Rattle.hp_proc.specs.Falling.{if_moved}
-use Rattle.hp_proc.specs.Party.{Party, due_in}
-use Rattle.hp_proc.specs.Waiting.{most_servings}
+use Rattle.hp_serve.specs.Coordinating.{IsToComeAt, core_holds}
+use Rattle.hp_serve.specs.Falling.{if_moved}
+use Rattle.hp_serve.specs.Party.{Party, due_in}
+use Rattle.hp_serve.specs.Waiting.{most_servings}
 use Rattle.hp_reasons.specs.Episode.{AreOthersEmpty, IsBase, Setting, Stage, World, is_sync, mail_of}
 use Rattle.hp_reasons.specs.Servings.{CoreServes, MemberServes}
 use Rattle.hp_reasons.specs.Shared.{Shared}

@@ -5,8 +5,8 @@ use Rattle.std.proofs.lemmas.Bool.{cases_eq}
 use Rattle.std.proofs.lemmas.List.{get_or_past}
 use Rattle.hp_core.specs.declared.asked.Asked.{Asked}
 use Rattle.hp_plain.specs.Boxes.{box_of}
-use Rattle.hp_proc.specs.Party.{Party}
-use Rattle.hp_proc.specs.Waiting.{most_servings}
+use Rattle.hp_serve.specs.Party.{Party}
+use Rattle.hp_serve.specs.Waiting.{most_servings}
 use Rattle.hp_solo.specs.Solo.{SoloView, party_at}
 use Rattle.hp_reasons.specs.Episode.{IsBase, Setting, World}
 use Rattle.hp_reasons.specs.Stages.{IsSent}

@@ -7,12 +7,12 @@ use Rattle.std.proofs.lemmas.Option.{none-some, slice_get_within}
 use Rattle.hp_hall.specs.Mail.{MailStep}
 use Rattle.hp_plain.specs.Boxes.{box_of}
 use Rattle.hp_hall.specs.Own.{Own}
-use Rattle.hp_proc.specs.Coordinating.{IsServed}
-use Rattle.hp_proc.specs.Falling.{if_moved}
-use Rattle.hp_proc.specs.Party.{Party}
-use Rattle.hp_proc.specs.Waiting.{AreServings, IsServedOut, most_servings}
+use Rattle.hp_serve.specs.Coordinating.{IsServed}
+use Rattle.hp_serve.specs.Falling.{if_moved}
+use Rattle.hp_serve.specs.Party.{Party}
+use Rattle.hp_serve.specs.Waiting.{AreServings, IsServedOut, most_servings}
 use Rattle.hp_solo.specs.Sequence.{Sequence, ServesOnce, ServesSome, Visit, Visits, going_place}
-use Rattle.hp_solo.specs.Solo.{ServerView, SoloView, has_stopped, party_at, party_in}
+use Rattle.hp_solo.specs.Solo.{AloneView, SoloView, has_stopped, party_at, party_in}
 use Rattle.hp_reasons.specs.Episode.{IsBase, IsSetting, Setting, World}
 use Rattle.hp_reasons.specs.Servings.{CoreServes, MemberServes}
 use Rattle.hp_reasons.specs.Shared.{IsSharedIn, MakesAll, Shared}
@@ -25,7 +25,7 @@ use Rattle.hp_reasons.proofs.TurnsSequence.{calls_own, cut_in}
 use Rattle.hp_reasons.proofs.TurnsServings.{ServedTo, next_behind}
 
 -- who serves goes on
-still_going : (servers : List ServerView) (who : ℕ) (party : Party) → has_stopped servers ≡ false
+still_going : (servers : List AloneView) (who : ℕ) (party : Party) → has_stopped servers ≡ false
     → has_stopped (slice_set servers who (going_place party)) ≡ false
 still_going [] who party going = going
 still_going (server ∷ servers) zero party going = (or_parts server.stopped (has_stopped servers) going).1
@@ -95,17 +95,17 @@ module _ (known : AreServingsKnown) (set : Setting) (me : ℕ) (During : ℕ →
         its = record {
           shared = along.shared;
           order = along.order;
-          going = subst (λ (servers : List ServerView). has_stopped servers ≡ false) (sym one.servers)
+          going = subst (λ (servers : List AloneView). has_stopped servers ≡ false) (sym one.servers)
               (still_going old.servers who one.after its.going);
           own = set_unfound world.parties who me one.after (λ (same : me ≡ who). apart (sym same)) ∙ its.own;
           others = λ other beside. elim (cases_eq other who) [
             | inl same ↦
                 ap (slice_get (slice_set world.parties who one.after)) same ∙ set_found world.parties who one.party one.after there
-                ∙ sym (ap (λ (n : ℕ). party_at new.servers n) same ∙ ap (λ (servers : List ServerView). party_at servers who) one.servers
+                ∙ sym (ap (λ (n : ℕ). party_at new.servers n) same ∙ ap (λ (servers : List AloneView). party_at servers who) one.servers
                 ∙ ap party_in (set_found old.servers who (going_place one.party) (going_place one.after) one.there))
             | inr other_one ↦
                 set_unfound world.parties who other one.after other_one ∙ its.others other beside
-                ∙ sym (ap (λ (servers : List ServerView). party_at servers other) one.servers
+                ∙ sym (ap (λ (servers : List AloneView). party_at servers other) one.servers
                 ∙ ap party_in (set_unfound old.servers who other (going_place one.after) other_one))
           ];
         };
@@ -149,9 +149,9 @@ told_on known me old new party steps world sequence none its =
     record {
       shared = subst (λ (at : Shared). IsSharedIn new.plain at) same own.along.shared;
       order = own.along.order;
-      going = subst (λ (servers : List ServerView). has_stopped servers ≡ false) (sym own.servers) its.going;
+      going = subst (λ (servers : List AloneView). has_stopped servers ≡ false) (sym own.servers) its.going;
       own = its.own;
-      others = λ other beside. its.others other beside ∙ sym (ap (λ (servers : List ServerView). party_at servers other) own.servers);
+      others = λ other beside. its.others other beside ∙ sym (ap (λ (servers : List AloneView). party_at servers other) own.servers);
     }
 
 -- ITS OWN PART
@@ -205,11 +205,11 @@ module _ (known : AreServingsKnown) (set : Setting) (me : ℕ) (During : ℕ →
           its = record {
             shared = own.along.shared;
             order = own.along.order;
-            going = subst (λ (servers : List ServerView). has_stopped servers ≡ false) (sym own.servers) its.going;
+            going = subst (λ (servers : List AloneView). has_stopped servers ≡ false) (sym own.servers) its.going;
             own = set_found world.parties me party after its.own;
             others = λ other beside.
                 set_unfound world.parties me other after beside ∙ its.others other beside
-                ∙ sym (ap (λ (servers : List ServerView). party_at servers other) own.servers);
+                ∙ sym (ap (λ (servers : List AloneView). party_at servers other) own.servers);
           };
           during = «to».during;
           lighter = «to».lighter;

@@ -12,10 +12,10 @@ use Rattle.hp_frame.specs.declared.message.Body.TheVariants.{Sync}
 use Rattle.hp_plain.specs.Boxes.{box_after, box_of, posted_as}
 use Rattle.hp_hall.specs.Weights.{boxes_weight, fetched_weight, frame_weight}
 use Rattle.hp_plain.proofs.Mailed.{fetch_weighs, post_weighs}
-use Rattle.hp_proc.specs.Frames.{Says}
-use Rattle.hp_proc.specs.Party.{Party, one_more}
-use Rattle.hp_proc.specs.Posting.{syncs_after, times_sent}
-use Rattle.hp_proc.proofs.Weighs.{sync_weighs}
+use Rattle.hp_serve.specs.Frames.{Says}
+use Rattle.hp_serve.specs.Party.{Party, one_more}
+use Rattle.hp_serve.specs.Posting.{syncs_after, times_sent}
+use Rattle.hp_serve.proofs.Weighs.{sync_weighs}
 use Rattle.hp_reasons.specs.Servings.{synced}
 use Rattle.hp_reasons.specs.Shared.{Shared, fetched_by, posted_to}
 use Rattle.hp_reasons.specs.Weighing.{weight_of}

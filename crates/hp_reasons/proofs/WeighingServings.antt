@@ -14,16 +14,16 @@ use Rattle.hp_frame.specs.declared.message.Body.{Body}
 use Rattle.hp_frame.specs.declared.message.Body.TheVariants.{Alloc, Answer, Free, Sync}
 use Rattle.hp_plain.specs.Boxes.{box_of}
 use Rattle.hp_hall.specs.Weights.{frame_weight, pending_at, pending_most_one}
-use Rattle.hp_proc.specs.Coordinating.{nobody_denies, stepping, with_core, with_room}
-use Rattle.hp_proc.specs.Falling.{Falls, IsDue, IsDueAt, UsesUp, brought, out_weight, used_up}
-use Rattle.hp_proc.specs.Frames.{Says}
-use Rattle.hp_proc.specs.Party.{Party, one_more}
-use Rattle.hp_proc.specs.Posting.{is_told, result_body, times_sent}
-use Rattle.hp_proc.specs.Serving.{is_sync}
-use Rattle.hp_proc.proofs.MemberLemmas.{reply_weighs}
-use Rattle.hp_proc.proofs.Scaled.{scaled, scaled_used}
-use Rattle.hp_proc.proofs.StepFalls.{due_step_uses, step_falls}
-use Rattle.hp_proc.proofs.Weighs.{ask_weighs, some_weight, sync_weighs}
+use Rattle.hp_serve.specs.Coordinating.{nobody_denies, stepping, with_core, with_room}
+use Rattle.hp_serve.specs.Falling.{Falls, IsDue, IsDueAt, UsesUp, brought, out_weight, used_up}
+use Rattle.hp_serve.specs.Frames.{Says}
+use Rattle.hp_serve.specs.Party.{Party, one_more}
+use Rattle.hp_serve.specs.Posting.{is_told, result_body, times_sent}
+use Rattle.hp_serve.specs.Serving.{is_sync}
+use Rattle.hp_serve.proofs.MemberLemmas.{reply_weighs}
+use Rattle.hp_serve.proofs.Scaled.{scaled, scaled_used}
+use Rattle.hp_serve.proofs.StepFalls.{due_step_uses, step_falls}
+use Rattle.hp_serve.proofs.Weighs.{ask_weighs, some_weight, sync_weighs}
 use Rattle.hp_reasons.specs.Servings.{CarriesOut, CoreServes, Handles, MapsItself, MemberServes, ObeysIn, PostsFor, Steps, caught_up, numbered, synced}
 use Rattle.hp_reasons.specs.Shared.{Shared, fetched_by, posted_to}
 use Rattle.hp_reasons.specs.Weighing.{CoreWeighsLess, MemberWeighsLess, weight_of}

@@ -27,10 +27,10 @@ use Rattle.hp_segs.specs.Sound.{IsSound}
 use Rattle.hp_segs.specs.declared.outcome.AskLog.{AskLog}
 use Rattle.hp_segs.specs.declared.outcome.Cause.{Cause}
 use Rattle.hp_segs.specs.declared.outcome.Cause.TheVariants.{MapFailed}
-use Rattle.hp_proc.specs.Asking.{alloc_body}
-use Rattle.hp_proc.specs.Frames.{Says}
-use Rattle.hp_proc.specs.Party.{Party}
-use Rattle.hp_proc.specs.Posting.{times_sent}
+use Rattle.hp_serve.specs.Asking.{alloc_body}
+use Rattle.hp_serve.specs.Frames.{Says}
+use Rattle.hp_serve.specs.Party.{Party}
+use Rattle.hp_serve.specs.Posting.{times_sent}
 use Rattle.hp_reasons.specs.Counting.{LosesNothing, doubled_among, lost_among}
 use Rattle.hp_reasons.specs.Outcomes.{IsApart, late_outcomes, stale_outcomes, unanswered_among, withdrawn_outcomes}
 use Rattle.hp_reasons.specs.Failing.{AreGrantsWithin}

@@ -10,7 +10,7 @@ use Rattle.hp_segs.specs.SegsView.{SegsView, granted_by}
 use Rattle.hp_segs.specs.Sound.{IsSound}
 use Rattle.hp_segs.specs.declared.growth.Growth.{Growth}
 use Rattle.hp_segs.specs.declared.outcome.AskLog.{AskLog}
-use Rattle.hp_proc.specs.Serving.{CatchesUp}
+use Rattle.hp_serve.specs.Serving.{CatchesUp}
 
 -- each record that was granted is among so many
 abbrev pub AreGrantsWithin : ℕ → List AskLog → Type 0

@@ -10,8 +10,8 @@ use Rattle.hp_proc.specs.Acting.{Acts}
 use Rattle.hp_proc.specs.Doing.{Doing, Done, Leads}
 use Rattle.hp_proc.specs.Doing.Done.{Asked, Called, CaughtUp, GaveUp, Looked}
 use Rattle.hp_proc.specs.Lines.{Facts, doing_of}
-use Rattle.hp_proc.specs.Party.{Party}
-use Rattle.hp_proc.specs.Waiting.{IsTurned}
+use Rattle.hp_serve.specs.Party.{Party}
+use Rattle.hp_serve.specs.Waiting.{IsTurned}
 use Rattle.hp_script.specs.declared.answer.Answer.{Answer}
 use Rattle.hp_script.specs.declared.line.Line.{Line}
 use Rattle.hp_solo.specs.Sequence.{Sequence}

@@ -2,7 +2,7 @@
 use Rattle.std.specs.Prelude.{◌≡◌, ℕ, ◌≤◌, Bool, false, [], Some, None, replicate, slice_get}
 use Rattle.hp_core.specs.Core.{Core}
 use Rattle.hp_core.specs.declared.phase.Phase.TheVariants.{Idle}
-use Rattle.hp_proc.specs.Party.{Party}
+use Rattle.hp_serve.specs.Party.{Party}
 use Rattle.hp_reasons.specs.Counting.{LosesNothing}
 use Rattle.hp_reasons.specs.Episode.{AreLevel, IsBase, Setting, World, doubles, losses, mail_of, missed_among}
 use Rattle.hp_reasons.specs.Outcomes.{stale_outcomes}

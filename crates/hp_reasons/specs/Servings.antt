@@ -19,12 +19,12 @@ use Rattle.hp_plain.specs.Boxes.{box_of}
 use Rattle.hp_maps.specs.MapsView.{MapsView}
 use Rattle.hp_segs.specs.SegsView.{is_member}
 use Rattle.hp_segs.specs.Sound.{IsSound}
-use Rattle.hp_proc.specs.Coordinating.{IsAskIn, IsCoreServed, IsNoAsk, IsToComeAt, MustMap, core_holds, is_sync_reply, stepping, with_core}
-use Rattle.hp_proc.specs.Falling.{IsDue}
-use Rattle.hp_proc.specs.Frames.{Says, SaysNothing}
-use Rattle.hp_proc.specs.Party.{Party, after_reply, due_in, one_more}
-use Rattle.hp_proc.specs.Posting.{after_answer, after_syncs, is_asker, is_told, result_body, syncs_after, times_sent}
-use Rattle.hp_proc.specs.Serving.{CatchesUp, IsMemberServed, after_catching_up, hearing, is_sync}
+use Rattle.hp_serve.specs.Coordinating.{IsAskIn, IsCoreServed, IsNoAsk, IsToComeAt, MustMap, core_holds, is_sync_reply, stepping, with_core}
+use Rattle.hp_serve.specs.Falling.{IsDue}
+use Rattle.hp_serve.specs.Frames.{Says, SaysNothing}
+use Rattle.hp_serve.specs.Party.{Party, after_reply, due_in, one_more}
+use Rattle.hp_serve.specs.Posting.{after_answer, after_syncs, is_asker, is_told, result_body, syncs_after, times_sent}
+use Rattle.hp_serve.specs.Serving.{CatchesUp, IsMemberServed, after_catching_up, hearing, is_sync}
 use Rattle.hp_reasons.specs.Shared.{MakesAll, Shared, fetched_by, posted_to, with_number, with_segs}
 
 -- the numbers behind a catching up: who has caught up has acknowledged all records

@@ -6,7 +6,7 @@ use Rattle.hp_base.specs.declared.plan_entry.MsgKind.TheVariants as message
 use Rattle.hp_heap.specs.History.{HeapView}
 use Rattle.hp_plain.specs.HallView.{HasDone, heard_in, part_in, seen_in, segs_in, slot_at}
 use Rattle.hp_proc.specs.LinesDone.{Course}
-use Rattle.hp_proc.specs.Party.{Party}
+use Rattle.hp_serve.specs.Party.{Party}
 use Rattle.hp_proc.specs.Progress.{DoesLine, moment_of}
 use Rattle.hp_script.specs.declared.answer.Answer.{Answer}
 use Rattle.hp_script.specs.declared.line.Line.{Line}
@@ -15,7 +15,7 @@ use Rattle.hp_segs.specs.SegsView.{SegsView}
 use Rattle.hp_segs.specs.declared.outcome.AskLog.{AskLog}
 use Rattle.hp_solo.specs.Draining.{Drains}
 use Rattle.hp_solo.specs.Sequence.{Sequence}
-use Rattle.hp_solo.specs.Solo.{ServerView, SoloView, has_stopped, party_at, server_at}
+use Rattle.hp_solo.specs.Solo.{AloneView, SoloView, has_stopped, party_at, server_at}
 use Rattle.hp_joint.specs.EndLaws.{IsFirstParty, IsGiven}
 use Rattle.hp_joint.specs.SoFar.{AreFirstHeaps, SoFar, first_hall}
 use Rattle.hp_reasons.specs.Counting.{LosesNothing, planned_losses, planned_repeats}
@@ -27,14 +27,14 @@ use Rattle.hp_reasons.specs.Shared.{IsSharedIn}
 use Rattle.hp_reasons.specs.Worlds.{IsInOrder}
 
 -- a place with its participant, which has met no refusal of memory, and the place while that does its line
-abbrev pub filled : Party → ServerView
+abbrev pub filled : Party → AloneView
 filled party = record { party = Some party; stopped = false }
 
-abbrev pub vacated : ServerView
+abbrev pub vacated : AloneView
 vacated = record { party = None; stopped = false }
 
 -- a place has come to this
-abbrev pub with_place : ℕ → ServerView → SoloView → SoloView
+abbrev pub with_place : ℕ → AloneView → SoloView → SoloView
 with_place who place hall = record hall { servers = slice_set hall.servers who place }
 
 -- a participant leaves its place, does a line while the others serve whenever it waits, and comes back
@@ -74,7 +74,7 @@ pub record HaveReasons (workload : Workload) (asks : List AskLog) : Type 0 where
   pub apart : All (IsApart workload.deadline) asks
 
 -- nothing is left to do: nothing of what was given up is left, and who is attached has taken in all records
-pub record IsAllDone (segs : SegsView) (servers : List ServerView) : Type 0 where
+pub record IsAllDone (segs : SegsView) (servers : List AloneView) : Type 0 where
   pub gone : segs.retiring ≡ []
   pub level : (who : ℕ) (party : Party) → party_at servers who ≡ Some party → party.joined ≡ true → party.maps.number ≡ length segs.log
 

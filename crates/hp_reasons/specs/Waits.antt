@@ -5,10 +5,10 @@ use Rattle.hp_core.specs.Asks.{asker}
 use Rattle.hp_core.specs.Core.{Core}
 use Rattle.hp_core.specs.declared.asked.Asked.{Asked}
 use Rattle.hp_hall.specs.Mail.{MailStep}
-use Rattle.hp_proc.specs.AskSteps.{DoesAsk, DoesNotify, waits_until}
-use Rattle.hp_proc.specs.Party.{Party}
-use Rattle.hp_proc.specs.Waiting.{IsTurned, IsWaited, most_servings}
-use Rattle.hp_proc.specs.declared.pages_asked.PagesAsked.{PagesAsked}
+use Rattle.hp_serve.specs.AskSteps.{DoesAsk, DoesNotify, waits_until}
+use Rattle.hp_serve.specs.Party.{Party}
+use Rattle.hp_serve.specs.Waiting.{IsTurned, IsWaited, most_servings}
+use Rattle.hp_serve.specs.declared.pages_asked.PagesAsked.{PagesAsked}
 use Rattle.hp_solo.specs.Sequence.{Sequence}
 use Rattle.hp_solo.specs.Solo.{SoloView}
 use Rattle.hp_reasons.specs.Episode.{AreOthersEmpty, IsBase, IsSetting, Setting, Stage, World}

@@ -2,8 +2,8 @@
 use Rattle.std.specs.Prelude.{◌≡◌, ◌+◌, ◌≤◌, ℕ, Bool, Option}
 use Rattle.hp_core.specs.Core.{Core}
 use Rattle.hp_hall.specs.Weights.{boxes_weight, pending_at}
-use Rattle.hp_proc.specs.Falling.{if_moved, own_weight}
-use Rattle.hp_proc.specs.Party.{Party}
+use Rattle.hp_serve.specs.Falling.{if_moved, own_weight}
+use Rattle.hp_serve.specs.Party.{Party}
 use Rattle.hp_reasons.specs.Servings.{CoreServes, MemberServes}
 use Rattle.hp_reasons.specs.Shared.{Shared}
 

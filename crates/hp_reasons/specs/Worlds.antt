@@ -5,7 +5,7 @@ use Rattle.hp_base.specs.declared.limits.TheConstants.{MAX_PARTICIPANTS}
 use Rattle.hp_plain.specs.HallView.{HallView, SlotView, slot_at}
 use Rattle.hp_hall.specs.Mail.{MailStep}
 use Rattle.hp_hall.specs.Values.{Fits}
-use Rattle.hp_proc.specs.Party.{Party}
+use Rattle.hp_serve.specs.Party.{Party}
 use Rattle.hp_solo.specs.Sequence.{IsCall, IsMadeBy}
 use Rattle.hp_solo.specs.Solo.{SoloView, has_stopped, party_at}
 use Rattle.hp_reasons.specs.Episode.{World}

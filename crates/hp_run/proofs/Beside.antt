@@ -4,9 +4,9 @@ use Rattle.std.specs.List.{slice_get}
 use Rattle.std.specs.Option.{option_map}
 use Rattle.std.proofs.lemmas.Option.{same_Some}
 use Rattle.hp_plain.specs.HallView.{HallView}
-use Rattle.hp_proc.specs.Party.{IsSameParty, Party}
+use Rattle.hp_serve.specs.Party.{IsSameParty, Party}
 use Rattle.hp_solo.specs.Served.{HasServed}
-use Rattle.hp_solo.specs.Solo.{AreLater, IsLaterAt, IsLaterParty, IsLaterServer, ServerView, SoloView, server_at, with_party}
+use Rattle.hp_solo.specs.Solo.{AreLater, IsLaterAt, IsLaterParty, IsLaterServer, AloneView, SoloView, server_at, with_party}
 use Rattle.hp_run.specs.Running.{place_of}
 use Rattle.hp_run.proofs.Places.{IsFilled, filled_by}
 
@@ -16,33 +16,33 @@ same_there party None later = absurd later
 same_there party (Some after) later = (after, refl)
 
 -- whose place has one later on had one before, which it went on from
-later_from : (old new : HallView) (who : ℕ) (before : Option Party) (now : Option ServerView) (server : ServerView)
+later_from : (old new : HallView) (who : ℕ) (before : Option Party) (now : Option AloneView) (server : AloneView)
     → IsLaterAt old new who (option_map place_of before) now → now ≡ Some server
     → (party : Party) × (before ≡ Some party) × IsLaterServer old new who (place_of party) server
 later_from old new who None None server later is = cc
 later_from old new who None (Some now) server later is = absurd later
 later_from old new who (Some party) None server later is = absurd later
 later_from old new who (Some party) (Some now) server later is =
-    (party, refl, subst (λ (s : ServerView). IsLaterServer old new who (place_of party) s) (same_Some now server is) later)
+    (party, refl, subst (λ (s : AloneView). IsLaterServer old new who (place_of party) s) (same_Some now server is) later)
 
 -- whose place was one that a participant came to has that participant
-pub came_to : (after : Party) (before : Option ServerView) (server : ServerView) → option_map (with_party (Some after)) before ≡ Some server
+pub came_to : (after : Party) (before : Option AloneView) (server : AloneView) → option_map (with_party (Some after)) before ≡ Some server
     → server.party ≡ Some after
 came_to after None server is = cc
 came_to after (Some before) server is =
-    ap (λ (s : ServerView). s.party) (sym (same_Some (with_party (Some after) before) server is))
+    ap (λ (s : AloneView). s.party) (sym (same_Some (with_party (Some after) before) server is))
 
 -- others serve from one state to a later one: each that was there and has met no want of memory is there, and only served
 module _ (old new : SoloView) (parties : List Party) (who : ℕ) (place : server_at old.servers who ≡ option_map place_of (slice_get parties who))
     (later : AreLater old new) where
-  later_here : (server : ServerView) → server_at new.servers who ≡ Some server
+  later_here : (server : AloneView) → server_at new.servers who ≡ Some server
       → (party : Party) × (slice_get parties who ≡ Some party) × IsLaterServer old.plain new.plain who (place_of party) server
   later_here server is =
       later_from old.plain new.plain who (slice_get parties who) (server_at new.servers who) server
-      (subst (λ (before : Option ServerView). IsLaterAt old.plain new.plain who before (server_at new.servers who)) place
+      (subst (λ (before : Option AloneView). IsLaterAt old.plain new.plain who before (server_at new.servers who)) place
       (later who)) is
 
-  pub served_filled : (server : ServerView) → server_at new.servers who ≡ Some server → server.stopped ≡ false → IsFilled server
+  pub served_filled : (server : AloneView) → server_at new.servers who ≡ Some server → server.stopped ≡ false → IsFilled server
   served_filled server is going =
       let was = later_here server is in
       let now = same_there was.0 server.party was.2.party in

@@ -12,10 +12,10 @@ use Rattle.hp_hall.specs.Own.{Own, after_ack}
 use Rattle.hp_log.specs.declared.log_record.LogRecord.{LogRecord}
 use Rattle.hp_maps.specs.MapsView.{MapsView, chunk_rows, table_in}
 use Rattle.hp_script.specs.declared.workload.Workload.{Workload}
-use Rattle.hp_proc.specs.Party.{Party}
-use Rattle.hp_proc.specs.Tied.{HasTable, IsTied, nothing_yet, part_of}
+use Rattle.hp_serve.specs.Party.{Party}
+use Rattle.hp_serve.specs.Tied.{HasTable, IsTied, nothing_yet, part_of}
 use Rattle.hp_proc.proofs.Unarmed.{all_alike}
-use Rattle.hp_solo.specs.Solo.{IsTiedAt, ServerView, SoloView, nobody, server_at, with_party}
+use Rattle.hp_solo.specs.Solo.{IsTiedAt, AloneView, SoloView, nobody, server_at, with_party}
 use Rattle.hp_solo.proofs.SoloWaits.{tied_first}
 use Rattle.hp_joint.specs.Drops.{DropsOpen}
 use Rattle.hp_joint.specs.EndLaws.{IsFirstParty, IsGiven, OpensSoFar}
@@ -62,7 +62,7 @@ nobody_at (suc count) zero within = refl
 nobody_at (suc count) (suc who) within = nobody_at count who (omega arith)
 
 -- those below a number have come, and nobody else
-pub record HaveComeBelow (workload : Workload) (mappers : List (Option (List FailingCall))) (who : ℕ) (servers : List ServerView) : Type 0 where
+pub record HaveComeBelow (workload : Workload) (mappers : List (Option (List FailingCall))) (who : ℕ) (servers : List AloneView) : Type 0 where
   pub parties : List Party
   pub count : length parties ≡ who
   pub each : (other : ℕ) (party : Party) → slice_get parties other ≡ Some party → IsPartyOver workload mappers other party
@@ -70,18 +70,18 @@ pub record HaveComeBelow (workload : Workload) (mappers : List (Option (List Fai
   pub free : (other : ℕ) → who ≤ other → server_at servers other ≡ server_at (replicate workload.participants nobody) other
 
 module _ (workload : Workload) (mappers : List (Option (List FailingCall))) where
-  pub none_come : (servers : List ServerView) → servers ≡ replicate workload.participants nobody
+  pub none_come : (servers : List AloneView) → servers ≡ replicate workload.participants nobody
       → HaveComeBelow workload mappers 0 servers
   none_come servers is = record {
     parties = [];
     count = refl;
     each = λ other party there. cc;
     come = λ other below. absurd (omega (arith, below));
-    free = λ other above. ap (λ (servers : List ServerView). server_at servers other) is;
+    free = λ other above. ap (λ (servers : List AloneView). server_at servers other) is;
   }
 
   -- one more comes
-  pub one_comes : (who : ℕ) (party : Party) (old new : List ServerView) → who < workload.participants
+  pub one_comes : (who : ℕ) (party : Party) (old new : List AloneView) → who < workload.participants
       → HaveComeBelow workload mappers who old → IsPartyOver workload mappers who party
       → server_at new who ≡ option_map (with_party (Some party)) (server_at old who)
       → ((other : ℕ) → other ≢ who → server_at new other ≡ server_at old other) → HaveComeBelow workload mappers (who + 1) new
@@ -126,7 +126,7 @@ module _ (workload : Workload) (mappers : List (Option (List FailingCall))) wher
       }
 
   -- all have come
-  pub all_come : (servers : List ServerView) → HaveComeBelow workload mappers workload.participants servers
+  pub all_come : (servers : List AloneView) → HaveComeBelow workload mappers workload.participants servers
       → HaveCome workload mappers servers
   all_come servers was = record {
     parties = was.parties;

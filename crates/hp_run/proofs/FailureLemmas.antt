@@ -22,8 +22,8 @@ use Rattle.hp_script.specs.declared.workload.Workload.{Workload}
 use Rattle.hp_segs.specs.SegsView.{SegsView}
 use Rattle.hp_segs.specs.declared.ask.Ask.{Ask}
 use Rattle.hp_proc.specs.LinesDone.{Course}
-use Rattle.hp_proc.specs.Party.{Party}
-use Rattle.hp_solo.specs.Solo.{ServerView, SoloView}
+use Rattle.hp_serve.specs.Party.{Party}
+use Rattle.hp_solo.specs.Solo.{AloneView, SoloView}
 use Rattle.hp_joint.specs.EndLaws.{FailsByReason, FailsFor, FailsOnce, IsGiven, IsRefusedAttach, MayHaveFailed, MayHaveFailedSo, RefusesByReason, RefusesOnce}
 use Rattle.hp_run.specs.Ending.{AreAsMay, AreNamed}
 use Rattle.hp_run.specs.Failures.{IsFailedAsPlanned, IsFailureNamed, IsRefusedAt, IsUnsteady, MayFailIn, MayFailSoIn, planned_answer}
@@ -41,7 +41,7 @@ named_there plan mappers who (Some (other ∷ others)) call there may =
     inr (record { may_fail = Some (other ∷ others); its = there; unsteady = λ steady. cc })
 
 -- where the mapper of a first one may fail at a call, that is named
-named_of : (workload : Workload) (mappers : List (Option (List FailingCall))) (servers : List ServerView) (who call : ℕ)
+named_of : (workload : Workload) (mappers : List (Option (List FailingCall))) (servers : List AloneView) (who call : ℕ)
     → HaveCome workload mappers servers → MayFailIn servers who call → IsFailureNamed workload.plan.items mappers who call
 named_of workload mappers servers who call come may =
     let over = come.each who may.party (sym (party_there servers come.parties come.are who) ∙ may.its) in
@@ -89,7 +89,7 @@ failed_there plan mappers who (Some (other ∷ others)) call addr got kept there
     inr (record { may_fail = Some (other ∷ others); its = there; unsteady = λ steady. cc })
 
 -- where the mapper of a first one may fail so, the plan has it, or the mapper is not steady
-failed_of : (workload : Workload) (mappers : List (Option (List FailingCall))) (servers : List ServerView) (who call addr : ℕ) (got : MapAnswer)
+failed_of : (workload : Workload) (mappers : List (Option (List FailingCall))) (servers : List AloneView) (who call addr : ℕ) (got : MapAnswer)
     (kept : Option Ask) → HaveCome workload mappers servers → MayFailSoIn servers who call addr got kept
     → IsFailedAsPlanned workload.plan.items who call addr got kept ⊎ IsUnsteady mappers who
 failed_of workload mappers servers who call addr got kept come may =
@@ -100,7 +100,7 @@ failed_of workload mappers servers who call addr got kept come may =
     (subst (λ (may_fail : Option (List FailingCall)). FailsFor may_fail call addr got kept) began may.fails)
 
 -- what is said by the participants that have come is said by the plan and the mappers
-pub named_all : (workload : Workload) (mappers : List (Option (List FailingCall))) (servers : List ServerView) (answers : List Answer)
+pub named_all : (workload : Workload) (mappers : List (Option (List FailingCall))) (servers : List AloneView) (answers : List Answer)
     (segs : SegsView) → HaveCome workload mappers servers → AreAsMay workload servers answers segs → AreNamed workload mappers answers segs
 named_all workload mappers servers answers segs come are = record {
   failures = λ entry who call logged failed.

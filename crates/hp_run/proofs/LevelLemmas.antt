@@ -10,10 +10,10 @@ use Rattle.hp_script.specs.declared.workload.Workload.{Workload}
 use Rattle.hp_segs.specs.SegsView.{SegsView, is_retiring}
 use Rattle.hp_segs.specs.Sound.{IsSound}
 use Rattle.hp_segs.specs.SoundRows.{in_runs}
-use Rattle.hp_proc.specs.Ending.{LeavesTable}
-use Rattle.hp_proc.specs.Party.{Party}
+use Rattle.hp_serve.specs.Ending.{LeavesTable}
+use Rattle.hp_serve.specs.Party.{Party}
 use Rattle.hp_solo.specs.Ending.{LeaveTables, LeavesThere}
-use Rattle.hp_solo.specs.Solo.{ServerView, SoloView, party_at}
+use Rattle.hp_solo.specs.Solo.{AloneView, SoloView, party_at}
 use Rattle.hp_joint.proofs.HallHeaps.{all_from_places}
 use Rattle.hp_reasons.specs.Counting.{LosesNothing}
 use Rattle.hp_reasons.specs.Threads.{IsAllDone, ThreadsEndLevel}
@@ -32,7 +32,7 @@ there_for : (place : Option Party) (table : Table) → LeavesThere place table
 there_for None table leaves = absurd leaves
 there_for (Some party) table leaves = (party, refl, leaves)
 
-module _ (servers : List ServerView) (segs : SegsView) (tables : List Table) (leave : LeaveTables servers tables)
+module _ (servers : List AloneView) (segs : SegsView) (tables : List Table) (leave : LeaveTables servers tables)
     (done : IsAllDone segs servers) where
   -- the table of one that is attached has taken in all records
   has_taken_in : (who : ℕ) (table : Table) → slice_get tables who ≡ Some table → table.joined ≡ true → table.number ≡ length segs.log

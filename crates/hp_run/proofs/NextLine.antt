@@ -27,7 +27,7 @@ use Rattle.hp_proc.specs.Contexts.{Context, IsNextLine}
 use Rattle.hp_proc.specs.Courses.{Standing, after_line, calls_in, element_brought, element_in, last_heap}
 use Rattle.hp_proc.specs.Doing.{Done}
 use Rattle.hp_proc.specs.LinesDone.{Course, courses_of, opening_standing, standing_after}
-use Rattle.hp_proc.specs.Party.{Party}
+use Rattle.hp_serve.specs.Party.{Party}
 use Rattle.hp_proc.specs.Progress.{IsLineBuilt, MayComeAndGo}
 use Rattle.hp_proc.specs.declared.own_element.OwnElement.{OwnElement}
 use Rattle.hp_joint.specs.SoFar.{SoFar, first_hall, first_segs}

@@ -9,10 +9,11 @@ use Rattle.hp_script.specs.declared.line.Line.{Line}
 use Rattle.hp_script.specs.declared.workload.Workload.{Workload}
 use Rattle.hp_proc.specs.Contexts.{Context}
 use Rattle.hp_proc.specs.LinesDone.{Course}
-use Rattle.hp_proc.specs.Party.{IsSameParty, Party, with_context}
+use Rattle.hp_serve.specs.Party.{IsSameParty, Party}
+use Rattle.hp_proc.specs.ParticipantView.{with_context}
 use Rattle.hp_proc.specs.Progress.{DoesLine, IsLineBuilt, MayDo, moment_of}
-use Rattle.hp_proc.specs.Tied.{IsTied}
-use Rattle.hp_solo.specs.Solo.{ServerView, SoloView}
+use Rattle.hp_serve.specs.Tied.{IsTied}
+use Rattle.hp_solo.specs.Solo.{AloneView, SoloView}
 use Rattle.hp_joint.specs.Drops.{DropsGoOnByLine}
 use Rattle.hp_joint.specs.EndLaws.{GoesBy, GoesOnByLine, IsGiven, MayFailAsBefore, OthersServe}
 use Rattle.hp_joint.specs.SoFar.{SoFar}
@@ -39,7 +40,7 @@ pub record HasDoneIts (line : Line) (answer : Answer) (party after : Party) (old
   pub home : (number : ℕ) → number ≤ MAX_HEAPS → IsHome (slot_at new number)
 
 -- the mapper of each place may fail as before, where that of each participant may
-pub fail_alike : (old new : List ServerView) (parties behind : List Party) → AreParties old parties → AreParties new behind
+pub fail_alike : (old new : List AloneView) (parties behind : List Party) → AreParties old parties → AreParties new behind
     → MayFailAsBefore parties behind → FailAsBefore old new
 fail_alike old new parties behind were are alike = λ who party after there now.
     alike who party after (sym (party_there old parties were who) ∙ there) (sym (party_there new behind are who) ∙ now)

@@ -8,9 +8,9 @@ use Rattle.hp_plain.specs.Opening.{AreHome}
 use Rattle.hp_script.specs.declared.answer.Answer.{Answer}
 use Rattle.hp_script.specs.declared.line.Line.{Line}
 use Rattle.hp_script.specs.declared.workload.Workload.{Workload}
-use Rattle.hp_proc.specs.Party.{Party}
+use Rattle.hp_serve.specs.Party.{Party}
 use Rattle.hp_solo.specs.Draining.{Drains}
-use Rattle.hp_solo.specs.Solo.{AreLater, IsSolo, IsTiedAt, ServerView, SoloView, has_stopped, party_in, server_at}
+use Rattle.hp_solo.specs.Solo.{AreLater, IsSolo, IsTiedAt, AloneView, SoloView, has_stopped, party_in, server_at}
 use Rattle.hp_solo.proofs.SoloDrained.{none_stopped}
 use Rattle.hp_joint.specs.Drops.{DropsRest}
 use Rattle.hp_joint.specs.EndLaws.{IsGiven, OthersServe, RestsSoFar}
@@ -26,7 +26,7 @@ module _ (workload : Workload) (lines : List Line) (answers : List Answer) (old 
     (drains : has_stopped new.servers ≡ false → Drains old new)
     (home : (number : ℕ) → IsHome (slot_at old.plain number) → IsHome (slot_at new.plain number)) (sound : IsSolo new)
     (going : has_stopped new.servers ≡ false) where
-  filled : (who : ℕ) (server : ServerView) → server_at new.servers who ≡ Some server → IsFilled server
+  filled : (who : ℕ) (server : AloneView) → server_at new.servers who ≡ Some server → IsFilled server
   filled who server there =
       served_filled old new was.parties who (place_at old.servers was.parties was.are who) later server there
       (none_stopped new.servers who server going there)

@@ -8,10 +8,10 @@ use Rattle.std.proofs.lemmas.Option.{slice_get_within}
 use Rattle.hp_plain.specs.HallView.{HallView, HasDone, own_at, seen_in}
 use Rattle.hp_hall.specs.Mail.{MailStep, steps_of}
 use Rattle.hp_plain.proofs.Slotted.{slice_get-set_other, slice_get-set_same}
-use Rattle.hp_proc.specs.Party.{Party}
-use Rattle.hp_proc.specs.Tied.{IsTied}
+use Rattle.hp_serve.specs.Party.{Party}
+use Rattle.hp_serve.specs.Tied.{IsTied}
 use Rattle.hp_solo.specs.Sequence.{IsAloneAway, Sequence}
-use Rattle.hp_solo.specs.Solo.{IsAway, IsSolo, IsTiedAt, ServerView, SoloView, has_stopped, party_at, party_in, server_at, with_party}
+use Rattle.hp_solo.specs.Solo.{IsAway, IsSolo, IsTiedAt, AloneView, SoloView, has_stopped, party_at, party_in, server_at, with_party}
 use Rattle.hp_solo.specs.SoloCourse.{IsSoloCourse}
 use Rattle.hp_solo.proofs.SoloDrained.{none_stopped}
 use Rattle.hp_joint.specs.EndLaws.{OthersServe}
@@ -45,7 +45,7 @@ module _ (who : ℕ) (after : Party) (parties : List Party) (first away back las
   stays_last : (other : ℕ) → other ≢ who → server_at last.servers other ≡ server_at back.servers other
   stays_last other differ = is.came_others other (λ same. differ (same ∙ is.me))
 
-  filled : (other : ℕ) (server : ServerView) → server_at last.servers other ≡ Some server → IsFilled server
+  filled : (other : ℕ) (server : AloneView) → server_at last.servers other ≡ Some server → IsFilled server
   filled other server there =
       let going : server.stopped ≡ false = none_stopped last.servers other server is.going there in
       ⊎_elim
@@ -91,10 +91,10 @@ module _ (who : ℕ) (after : Party) (parties : List Party) (first away back las
 -- WHAT IT DID IS A SEQUENCE OF CALLS
 
 -- whether places have stopped, one by one
-abbrev stopped_in : Option ServerView → Option Bool
+abbrev stopped_in : Option AloneView → Option Bool
 stopped_in place = option_map (λ server. server.stopped) place
 
-stopped_alike : (old new : List ServerView) → ((who : ℕ) → stopped_in (server_at old who) ≡ stopped_in (server_at new who))
+stopped_alike : (old new : List AloneView) → ((who : ℕ) → stopped_in (server_at old who) ≡ stopped_in (server_at new who))
     → has_stopped old ≡ has_stopped new
 stopped_alike [] [] each = refl
 stopped_alike [] (server ∷ new) each = let none = each 0 in cc
@@ -105,13 +105,13 @@ stopped_alike (server ∷ old) (after ∷ new) each =
     ap (λ (stopped : Bool). stopped || has_stopped old) same
     ∙ ap (λ (others : Bool). after.stopped || others) (stopped_alike old new (λ who. each (suc who)))
 
-came_stopped : (after : Party) (place : Option ServerView) → stopped_in (option_map (with_party (Some after)) place) ≡ stopped_in place
+came_stopped : (after : Party) (place : Option AloneView) → stopped_in (option_map (with_party (Some after)) place) ≡ stopped_in place
 came_stopped after None = refl
 came_stopped after (Some server) = refl
 
 -- something stood where something of it stands
-stood_before : (after : Party) (place : Option ServerView) (now : ServerView) → option_map (with_party (Some after)) place ≡ Some now
-    → (server : ServerView) × (place ≡ Some server)
+stood_before : (after : Party) (place : Option AloneView) (now : AloneView) → option_map (with_party (Some after)) place ≡ Some now
+    → (server : AloneView) × (place ≡ Some server)
 stood_before after None now is = cc
 stood_before after (Some server) now is = (server, refl)
 
@@ -125,7 +125,7 @@ steps_same : (old new : HallView) (who : ℕ) (one other : List MailStep) → Ha
 steps_same old new who one other first second = append_cancel_left (steps_of who old.mail) one other (sym first ∙ second)
 
 -- a hall whose places are those of another but for one
-placed : (who : ℕ) (place : ServerView) (old new : SoloView) → who < length old.servers → new.plain ≡ old.plain
+placed : (who : ℕ) (place : AloneView) (old new : SoloView) → who < length old.servers → new.plain ≡ old.plain
     → server_at new.servers who ≡ Some place → ((other : ℕ) → other ≢ who → server_at new.servers other ≡ server_at old.servers other)
     → new ≡ with_place who place old
 placed who place old new within plain here others =
@@ -138,7 +138,7 @@ placed who place old new within plain here others =
     (λ (differ : other ≢ who). others other differ ∙ sym (slice_get-set_other old.servers who other place differ))
     (cases_eq other who)) in
     ap (λ (plain : HallView). record { plain = plain; servers = new.servers }) plain
-    ∙ ap (λ (servers : List ServerView). record { plain = old.plain; servers = servers }) servers
+    ∙ ap (λ (servers : List AloneView). record { plain = old.plain; servers = servers }) servers
 
 module _ (who : ℕ) (party after : Party) (parties : List Party) (first away back last : SoloView)
     (is : IsBackFrom who after parties first away back last) (there : slice_get parties who ≡ Some party) where

@@ -17,7 +17,7 @@ use Rattle.hp_joint.specs.Drops.{DropsComeFirst}
 use Rattle.hp_joint.specs.SoFar.{first_segs}
 use Rattle.hp_agreed.specs.Alike.{PagesAlike, TablesAlike}
 use Rattle.hp_agreed.specs.Restored.{FailuresLeaveNoRow, GrowthsRestore, TablesRestore}
-use Rattle.hp_solo.specs.Solo.{ServerView}
+use Rattle.hp_solo.specs.Solo.{AloneView}
 use Rattle.hp_reasons.specs.Counting.{LosesNothing}
 use Rattle.hp_reasons.specs.Nones.{IsNoneInVain, IsRefusedForWant}
 use Rattle.hp_reasons.specs.Notices.{NoticesAreHeard}
@@ -33,7 +33,7 @@ pub record AreNamed (workload : Workload) (mappers : List (Option (List FailingC
   pub refused_once : RefuseOnce workload.lines.items answers
 
 -- a mapping failed only at a call at which the mapper of its participant may answer so, and at no call twice
-pub record AreAsMay (workload : Workload) (servers : List ServerView) (answers : List Answer) (segs : SegsView) : Type 0 where
+pub record AreAsMay (workload : Workload) (servers : List AloneView) (answers : List Answer) (segs : SegsView) : Type 0 where
   pub failures : FailAsMay servers segs.asks
   pub once : FailOnce segs.asks
   pub refusals : RefuseAsMay servers workload.lines.items answers

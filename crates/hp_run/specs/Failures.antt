@@ -14,8 +14,8 @@ use Rattle.hp_script.specs.declared.line.Act.TheVariants.{Attach}
 use Rattle.hp_script.specs.declared.line.Line.{Line}
 use Rattle.hp_segs.specs.declared.ask.Ask.{Ask}
 use Rattle.hp_segs.specs.declared.outcome.AskLog.{AskLog}
-use Rattle.hp_proc.specs.Party.{Party}
-use Rattle.hp_solo.specs.Solo.{ServerView, party_at}
+use Rattle.hp_serve.specs.Party.{Party}
+use Rattle.hp_solo.specs.Solo.{AloneView, party_at}
 use Rattle.hp_joint.specs.EndLaws.{FailsFor, IsFailedMapping}
 
 -- the participant has a mapper, which is not steady; of each mapper the list has the calls at which it may fail, and how, where these are told
@@ -73,23 +73,23 @@ RefuseOnce lines answers = (place other participant call : ℕ) → IsRefusedAt 
     → IsRefusedAt lines answers other participant call → place ≡ other
 
 -- the mapper of the participant in that place may fail at a call
-pub record MayFailIn (servers : List ServerView) (participant call : ℕ) : Type 0 where
+pub record MayFailIn (servers : List AloneView) (participant call : ℕ) : Type 0 where
   pub party : Party
   pub its : party_at servers participant ≡ Some party
   pub may : may_fail_at party.maps.may_fail call ≡ true
 
 -- the mapper of the participant in that place may have failed so
-pub record MayFailSoIn (servers : List ServerView) (participant call addr : ℕ) (got : MapAnswer) (kept : Option Ask) : Type 0 where
+pub record MayFailSoIn (servers : List AloneView) (participant call addr : ℕ) (got : MapAnswer) (kept : Option Ask) : Type 0 where
   pub party : Party
   pub its : party_at servers participant ≡ Some party
   pub fails : FailsFor party.maps.may_fail call addr got kept
 
 -- each mapping that failed is of a participant that is there, at a call at which its mapper may answer so
-abbrev pub FailAsMay : List ServerView → List AskLog → Type 0
+abbrev pub FailAsMay : List AloneView → List AskLog → Type 0
 FailAsMay servers asks = (entry : AskLog) (participant call : ℕ) → Contains asks entry → (failed : IsFailedMapping participant call entry)
     → MayFailSoIn servers participant call failed.addr failed.got entry.ask
 
 -- each call at which a line that attaches was refused is one at which the mapper of its participant may fail
-abbrev pub RefuseAsMay : List ServerView → List Line → List Answer → Type 0
+abbrev pub RefuseAsMay : List AloneView → List Line → List Answer → Type 0
 RefuseAsMay servers lines answers = (place participant call : ℕ) → IsRefusedAt lines answers place participant call
     → MayFailIn servers participant call

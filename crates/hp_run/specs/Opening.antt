@@ -7,8 +7,8 @@ use Rattle.hp_heap.specs.PlainHeap.{opening_heap}
 use Rattle.hp_maps.specs.MapsView.{MapsView}
 use Rattle.hp_maps.specs.PlannedView.{may_fail_by}
 use Rattle.hp_script.specs.declared.workload.Workload.{Workload}
-use Rattle.hp_proc.specs.Party.{Party}
-use Rattle.hp_solo.specs.Solo.{ServerView, SoloView, nobody}
+use Rattle.hp_serve.specs.Party.{Party}
+use Rattle.hp_solo.specs.Solo.{AloneView, SoloView, nobody}
 use Rattle.hp_joint.specs.EndLaws.{first_party}
 use Rattle.hp_joint.specs.SoFar.{AreFirstHeaps, first_hall}
 use Rattle.hp_run.specs.Running.{AreParties}
@@ -51,7 +51,7 @@ pub record IsPartyOver (workload : Workload) (mappers : List (Option (List Faili
   pub planned : IsPlannedParty workload who may_fail party
 
 -- all participants have come to their places before the first line, each over its mapper
-pub record HaveCome (workload : Workload) (mappers : List (Option (List FailingCall))) (servers : List ServerView) : Type 0 where
+pub record HaveCome (workload : Workload) (mappers : List (Option (List FailingCall))) (servers : List AloneView) : Type 0 where
   pub parties : List Party
   pub are : AreParties servers parties
   pub count : length parties ≡ workload.participants

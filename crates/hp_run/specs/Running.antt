@@ -14,8 +14,8 @@ use Rattle.hp_script.specs.declared.workload.Workload.{Workload}
 use Rattle.hp_plain.specs.HallView.{segs_in, slot_at}
 use Rattle.hp_segs.specs.SegsView.{SegsView}
 use Rattle.hp_proc.specs.LinesDone.{Course}
-use Rattle.hp_proc.specs.Party.{Party}
-use Rattle.hp_solo.specs.Solo.{ServerView, SoloView, party_at}
+use Rattle.hp_serve.specs.Party.{Party}
+use Rattle.hp_solo.specs.Solo.{AloneView, SoloView, party_at}
 use Rattle.hp_joint.specs.Drops.{DropsComeFirst}
 use Rattle.hp_joint.specs.SoFar.{SoFar}
 use Rattle.hp_reasons.specs.Counting.{LosesNothing}
@@ -33,11 +33,11 @@ pub record IsRunnable (workload : Workload) : Type 0 where
   pub acts : All IsLineOf workload.lines.items
 
 -- the place of a participant that is there to serve, and has met no want of memory
-abbrev pub place_of : Party → ServerView
+abbrev pub place_of : Party → AloneView
 place_of party = record { party = Some party; stopped = false }
 
 -- each of these participants is in its place, and none has met want of memory
-abbrev pub AreParties : List ServerView → List Party → Type 0
+abbrev pub AreParties : List AloneView → List Party → Type 0
 AreParties servers parties = servers ≡ map place_of parties
 
 -- these lines led to a hall in one thread, one after another, from the hall that opens for the workload
@@ -60,7 +60,7 @@ pub record HaveDoneLines (workload : Workload) (lines : List Line) (answers : Li
       → DropsComeFirst workload.participants segs.log segs.asks courses
 
 -- the mapper of each participant that is there may fail at the calls at which it might before
-abbrev pub FailAsBefore : List ServerView → List ServerView → Type 0
+abbrev pub FailAsBefore : List AloneView → List AloneView → Type 0
 FailAsBefore old new = (who : ℕ) (party after : Party) → party_at old who ≡ Some party → party_at new who ≡ Some after
     → after.maps.may_fail ≡ party.maps.may_fail
 

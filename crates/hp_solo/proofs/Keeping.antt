@@ -5,10 +5,10 @@ use Rattle.std.proofs.lemmas.Option.{slice_get_within}
 use Rattle.hp_hall.specs.Mail.{MailStep}
 use Rattle.hp_plain.specs.Course.{done_then}
 use Rattle.hp_plain.specs.HallView.{HallView, HasDone}
-use Rattle.hp_proc.specs.Coordinating.{IsServed}
-use Rattle.hp_proc.specs.Party.{Party}
+use Rattle.hp_serve.specs.Coordinating.{IsServed}
+use Rattle.hp_serve.specs.Party.{Party}
 use Rattle.hp_solo.specs.Served.{KeepsServing, KeepsServingAs, KeepsServingAt}
-use Rattle.hp_solo.specs.Solo.{ServerView, IsPartyServed, party_at, party_in, server_at}
+use Rattle.hp_solo.specs.Solo.{AloneView, IsPartyServed, party_at, party_in, server_at}
 use Rattle.hp_solo.proofs.SoloQuiet.{below_or_same}
 
 -- its first serving
@@ -88,7 +88,7 @@ keeps_one old new number (Some party) numbered kept =
     subst (λ (who : ℕ). KeepsServing (length old.owns) who old new party) (numbered party refl) kept
 
 -- those from one number on served, and then the next one
-pub keeps_more : (from number : ℕ) (a b c : HallView) (first mid : List ServerView) → length b.owns ≡ length a.owns → HasDone a b number []
+pub keeps_more : (from number : ℕ) (a b c : HallView) (first mid : List AloneView) → length b.owns ≡ length a.owns → HasDone a b number []
     → ((who : ℕ) → who ≢ number → HasDone b c who []) → server_at mid number ≡ server_at first number
     → ((who : ℕ) → from ≤ who → who < number → KeepsServingAt a b who (party_at first who))
     → KeepsServingAt b c number (party_at mid number) → (who : ℕ) → from ≤ who → who < number + 1
@@ -101,16 +101,16 @@ keeps_more from number a b c first mid count before others stays so_far next who
     (λ (same : who ≡ number).
     subst (λ (n : ℕ). KeepsServingAt a c n (party_at first n)) (sym same)
     (since_at a b c number (party_at first number) count before
-    (subst (λ (server : Option ServerView). KeepsServingAt b c number (party_in server)) stays next)))
+    (subst (λ (server : Option AloneView). KeepsServingAt b c number (party_in server)) stays next)))
     (below_or_same number who below)
 
 -- nobody is to have served whom the hall does not have
-keeps_some : (old new : HallView) (who : ℕ) (server : Option ServerView)
-    → ((there : ServerView) → server ≡ Some there → KeepsServingAt old new who (party_in server)) → KeepsServingAt old new who (party_in server)
+keeps_some : (old new : HallView) (who : ℕ) (server : Option AloneView)
+    → ((there : AloneView) → server ≡ Some there → KeepsServingAt old new who (party_in server)) → KeepsServingAt old new who (party_in server)
 keeps_some old new who None keeps = tt
 keeps_some old new who (Some there) keeps = keeps there refl
 
-pub keeps_within : (old new : HallView) (servers : List ServerView) (who : ℕ)
+pub keeps_within : (old new : HallView) (servers : List AloneView) (who : ℕ)
     → (who < length servers → KeepsServingAt old new who (party_at servers who)) → KeepsServingAt old new who (party_at servers who)
 keeps_within old new servers who keeps =
     keeps_some old new who (server_at servers who) (λ there is. keeps (slice_get_within servers who there is))

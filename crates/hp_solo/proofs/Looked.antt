@@ -8,9 +8,9 @@ use Rattle.hp_plain.specs.HallView.{HallView, HasDone}
 use Rattle.hp_hall.specs.Mail.{MailStep, Fetches}
 use Rattle.hp_plain.specs.Boxes.{IsMail, box_of}
 use Rattle.hp_plain.specs.Meters.{AreMetered, Meters, meters_in}
-use Rattle.hp_proc.specs.Coordinating.{IsCoreServed, IsRested, IsServed}
-use Rattle.hp_proc.specs.Party.{Party}
-use Rattle.hp_proc.specs.Serving.{IsMemberServed, answer_behind}
+use Rattle.hp_serve.specs.Coordinating.{IsCoreServed, IsRested, IsServed}
+use Rattle.hp_serve.specs.Party.{Party}
+use Rattle.hp_serve.specs.Serving.{IsMemberServed, answer_behind}
 use Rattle.hp_solo.proofs.Steps.{done_between}
 use Rattle.hp_solo.specs.Solo.{FindsNothing, looks_in_vain}
 use Rattle.hp_solo.proofs.SoloSteps.{sole_steps, steps_by}

@@ -9,7 +9,7 @@ use Rattle.hp_hall.specs.declared.note.Note.TheVariants.{Paused, Yielded}
 use Rattle.hp_solo.proofs.Steps.{done_between}
 use Rattle.hp_solo.specs.Beside.{HaveServedBeside}
 use Rattle.hp_solo.specs.Sequence.{IsInSequence, IsMadeBy, Makes, Sequence, VisitsBeside}
-use Rattle.hp_solo.specs.Solo.{IsAway, IsNextDue, ServerView, SoloView, has_stopped, server_at}
+use Rattle.hp_solo.specs.Solo.{IsAway, IsNextDue, AloneView, SoloView, has_stopped, server_at}
 use Rattle.hp_solo.proofs.SoloSteps.{did_itself, sole_steps}
 use Rattle.hp_solo.proofs.SoloTurns.{not_beside}
 
@@ -68,7 +68,7 @@ yielded me above moved old between new away served visits plain servers =
     done_then old.plain between.plain new.plain me [] (step ∷ []) (served.serving.did me (not_beside me above))
     (did_itself between.plain new.plain me step (ap (λ (hall : HallView). hall.mail) plain)) in
     let noted : new ≡ record between { plain = with_note me (Yielded above (Some moved)) between.plain } =
-    ap (λ (all : List ServerView). record new { servers = all }) servers ∙ ap (λ (hall : HallView). record between { plain = hall }) plain in
+    ap (λ (all : List AloneView). record new { servers = all }) servers ∙ ap (λ (hall : HallView). record between { plain = hall }) plain in
     one_call me old new away step did
     (λ going. Makes.yields above moved between
-    (visits (subst (λ (all : List ServerView). has_stopped all ≡ false) servers going)) served.quiet noted)
+    (visits (subst (λ (all : List AloneView). has_stopped all ≡ false) servers going)) served.quiet noted)

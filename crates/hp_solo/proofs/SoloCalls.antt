@@ -7,23 +7,23 @@ use Rattle.hp_plain.specs.HallView.{HallView, HasDone, own_at}
 use Rattle.hp_hall.specs.HallState.{Did, OthersStay}
 use Rattle.hp_hall.specs.Mail.{MailStep, steps_of}
 use Rattle.hp_plain.specs.PlainState.{plain_state}
-use Rattle.hp_proc.specs.Party.{Party}
+use Rattle.hp_serve.specs.Party.{Party}
 use Rattle.hp_solo.specs.Sequence.{IsCall, IsInSequence, Makes}
-use Rattle.hp_solo.specs.Solo.{AreLater, AreTied, IsAway, IsSolo, ServerView, SoloView, party_at, party_in, server_at}
+use Rattle.hp_solo.specs.Solo.{AreLater, AreTied, IsAway, IsSolo, AloneView, SoloView, party_at, party_in, server_at}
 use Rattle.hp_solo.specs.SoloCourse.{IsSoloCourse, server_stays}
 use Rattle.hp_solo.proofs.Sequenced.{made_by, one_call, told}
 use Rattle.hp_solo.proofs.SoloTies.{tied_on}
 
 -- who is away is not there
-away_none : (server : Option ServerView) → IsAway server → party_in server ≡ None
+away_none : (server : Option AloneView) → IsAway server → party_in server ≡ None
 away_none None away = absurd away
 away_none (Some server) away = away
 
-away_some : (server : Option ServerView) → IsAway server → (there : ServerView) × (server ≡ Some there)
+away_some : (server : Option AloneView) → IsAway server → (there : AloneView) × (server ≡ Some there)
 away_some None away = absurd away
 away_some (Some server) away = (server, refl)
 
-pub away_below : (servers : List ServerView) (who : ℕ) → IsAway (server_at servers who) → who < length servers
+pub away_below : (servers : List AloneView) (who : ℕ) → IsAway (server_at servers who) → who < length servers
 away_below servers who away =
     let there = away_some (server_at servers who) away in slice_get_within servers who there.0 there.1
 
@@ -35,7 +35,7 @@ none_not_there None none there = cc
 none_not_there (Some party) none there = cc
 
 -- after a call of one that is away all others are tied still
-pub tied_after_call : (old new : HallView) (servers : List ServerView) (me : ℕ) → IsAway (server_at servers me) → IsCourse old new
+pub tied_after_call : (old new : HallView) (servers : List AloneView) (me : ℕ) → IsAway (server_at servers me) → IsCourse old new
     → ((who : ℕ) → who ≢ me → own_at new who ≡ own_at old who) → AreTied old servers → AreTied new servers
 tied_after_call old new servers me away course own tied who party there =
     let apart : who ≢ me = λ (same : who ≡ me).
@@ -44,7 +44,7 @@ tied_after_call old new servers me away course own tied who party there =
 
 -- a hall that is opened for a call of one that is away: who calls is one of the values', the course of the whole is that of the values, and
 -- what holds of every hall holds after it
-module _ (value : SoloView) (old : HallView) (servers : List ServerView)
+module _ (value : SoloView) (old : HallView) (servers : List AloneView)
     (value_is : ◌≡◌ {A = SoloView} (record { plain = old; servers = servers }) value) (me : ℕ) (away : IsAway (server_at value.servers me)) where
   away_here : IsAway (server_at servers me)
   away_here = subst (λ (hall : SoloView). IsAway (server_at hall.servers me)) (sym value_is) away

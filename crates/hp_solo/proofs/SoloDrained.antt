@@ -8,10 +8,10 @@ use Rattle.hp_hall.proofs.Pending.{later_from_pending}
 use Rattle.hp_plain.specs.Course.{IsCourse, course_same, course_then, done_same}
 use Rattle.hp_plain.specs.HallSteps.{after_pause}
 use Rattle.hp_plain.specs.HallView.{HallView, IsHome, part_in, slot_at, taken_from}
-use Rattle.hp_proc.specs.Party.{Party}
+use Rattle.hp_serve.specs.Party.{Party}
 use Rattle.hp_solo.specs.Draining.{AreEmpty, Drains, HasNoRound, IsDrained, IsLeastDue, IsNoneDue, NeverPasses, TurnsLeave}
 use Rattle.hp_solo.specs.Sequence.{Visits}
-use Rattle.hp_solo.specs.Solo.{AreLater, IsAtRest, IsBetween, IsLaterAt, IsLaterParty, IsPendingDue, IsQuiet, IsServerAtRest, IsServing, ServerView, SoloView, due_at, has_stopped, party_at, party_in, server_at, solo_weight}
+use Rattle.hp_solo.specs.Solo.{AreLater, IsAtRest, IsBetween, IsLaterAt, IsLaterParty, IsPendingDue, IsQuiet, IsServerAtRest, IsServing, AloneView, SoloView, due_at, has_stopped, party_at, party_in, server_at, solo_weight}
 use Rattle.hp_solo.specs.SoloCourse.{later_then, not_before, server_stays}
 use Rattle.hp_solo.proofs.SoloEnds.{neither_first, neither_second}
 use Rattle.hp_solo.proofs.SoloTurns.{weighs_paused}
@@ -63,10 +63,10 @@ pub drains_turn : (old mid new : SoloView) (goes : Bool) → (has_stopped mid.se
     → (goes ≡ true → new.plain ≡ after_pause 0 false None new.plain.clock mid.plain) → (goes ≡ false → new ≡ mid)
     → new.servers ≡ mid.servers → has_stopped new.servers ≡ false → (first : SoloView) → Drains first old → Drains first new
 drains_turn old mid new true visits quiet least pauses still servers going first drains =
-    Drains.jumps first old mid new drains (visits (subst (λ (all : List ServerView). has_stopped all ≡ false) servers going)) quiet (least refl)
+    Drains.jumps first old mid new drains (visits (subst (λ (all : List AloneView). has_stopped all ≡ false) servers going)) quiet (least refl)
     (pauses refl) servers
 drains_turn old mid new false visits quiet least pauses still servers going first drains =
-    let off : has_stopped mid.servers ≡ false = subst (λ (all : List ServerView). has_stopped all ≡ false) servers going in
+    let off : has_stopped mid.servers ≡ false = subst (λ (all : List AloneView). has_stopped all ≡ false) servers going in
     subst (Drains first) (sym (still refl)) (Drains.turns first old mid drains (visits off))
 
 -- a pause until a deadline of somebody uses up one
@@ -85,41 +85,41 @@ at_rest clock (Some party) rests none due is =
     (λ (late : 2 ^ 64 - 1 ≤ due). late)
     (cases_lt due (2 ^ 64 - 1))
 
-at_rest_here : (clock : ℕ) (server : ServerView) (place : Option ServerView) → place ≡ Some server → IsServerAtRest clock place → server.stopped ≡ false
+at_rest_here : (clock : ℕ) (server : AloneView) (place : Option AloneView) → place ≡ Some server → IsServerAtRest clock place → server.stopped ≡ false
     → IsAtRest clock server.party
 at_rest_here clock server None is rests going = cc
 at_rest_here clock server (Some there) is rests going =
     let same : there ≡ server = cc in
-    subst (λ (s : ServerView). s.stopped ≡ false → IsAtRest clock s.party) same rests going
+    subst (λ (s : AloneView). s.stopped ≡ false → IsAtRest clock s.party) same rests going
 
 -- where nobody has stopped later on, nobody had before
-pub none_stopped : (servers : List ServerView) (who : ℕ) (server : ServerView) → has_stopped servers ≡ false → server_at servers who ≡ Some server
+pub none_stopped : (servers : List AloneView) (who : ℕ) (server : AloneView) → has_stopped servers ≡ false → server_at servers who ≡ Some server
     → server.stopped ≡ false
 none_stopped [] who server off is = cc
 none_stopped (first ∷ servers) zero server off is =
-    subst (λ (s : ServerView). s.stopped ≡ false) (same_Some first server is) (neither_first first.stopped (has_stopped servers) off)
+    subst (λ (s : AloneView). s.stopped ≡ false) (same_Some first server is) (neither_first first.stopped (has_stopped servers) off)
 none_stopped (first ∷ servers) (suc who) server off is =
     none_stopped servers who server (neither_second first.stopped (has_stopped servers) off) is
 
-going_before : (a b : HallView) (who : ℕ) (old new : Option ServerView) (server : ServerView) → old ≡ Some server → IsLaterAt a b who old new
-    → ((there : ServerView) → new ≡ Some there → there.stopped ≡ false) → server.stopped ≡ false
+going_before : (a b : HallView) (who : ℕ) (old new : Option AloneView) (server : AloneView) → old ≡ Some server → IsLaterAt a b who old new
+    → ((there : AloneView) → new ≡ Some there → there.stopped ≡ false) → server.stopped ≡ false
 going_before a b who None new server is later going = cc
 going_before a b who (Some old) None server is later going = absurd later
 going_before a b who (Some old) (Some new) server is later going =
-    subst (λ (s : ServerView). s.stopped ≡ false) (same_Some old server is) (not_before old.stopped new.stopped later.stopped (going new refl))
+    subst (λ (s : AloneView). s.stopped ≡ false) (same_Some old server is) (not_before old.stopped new.stopped later.stopped (going new refl))
 
 party_before : (old new : Option Party) → IsLaterParty old new → IsSome new → IsSome old
 party_before None None later some = some
 party_before None (Some new) later some = absurd later
 party_before (Some old) new later some = refl
 
-there_before : (a b : HallView) (who : ℕ) (old new : Option ServerView) → IsLaterAt a b who old new → IsSome (party_in new) → IsSome (party_in old)
+there_before : (a b : HallView) (who : ℕ) (old new : Option AloneView) → IsLaterAt a b who old new → IsSome (party_in new) → IsSome (party_in old)
 there_before a b who None None later some = some
 there_before a b who None (Some new) later some = absurd later
 there_before a b who (Some old) None later some = cc
 there_before a b who (Some old) (Some new) later some = party_before old.party new.party later.party some
 
-there_below : (servers : List ServerView) (who : ℕ) (server : Option ServerView) → server_at servers who ≡ server → IsSome (party_in server)
+there_below : (servers : List AloneView) (who : ℕ) (server : Option AloneView) → server_at servers who ≡ server → IsSome (party_in server)
     → who < length servers
 there_below servers who None is some = cc
 there_below servers who (Some server) is some = slice_get_within servers who server is
@@ -144,7 +144,7 @@ drained hall rests none empty = record {
   rounds = λ who server there going.
       at_rest hall.plain.clock server.party
       (at_rest_here hall.plain.clock server (server_at hall.servers who) there (rests who) going)
-      (λ due is later. none due (who, ap (λ (place : Option ServerView). due_at (party_in place)) there ∙ is, later));
+      (λ due is later. none due (who, ap (λ (place : Option AloneView). due_at (party_in place)) there ∙ is, later));
   none_due = none;
   empty = empty;
 }

@@ -6,8 +6,8 @@ use Rattle.std.proofs.lemmas.Option.{slice_get_within}
 use Rattle.hp_plain.specs.Course.{done_then}
 use Rattle.hp_plain.specs.HallView.{HallView, HasDone}
 use Rattle.hp_hall.specs.Mail.{MailStep}
-use Rattle.hp_proc.specs.Party.{Party}
-use Rattle.hp_solo.specs.Solo.{HasLookedLast, IsLaterParty, LooksLast, LooksLastAt, ServerView, looks_in_vain, server_at}
+use Rattle.hp_serve.specs.Party.{Party}
+use Rattle.hp_solo.specs.Solo.{HasLookedLast, IsLaterParty, LooksLast, LooksLastAt, AloneView, looks_in_vain, server_at}
 use Rattle.hp_solo.proofs.SoloQuiet.{below_or_same}
 
 -- who looked last into its mailbox did so where it did nothing behind it, and where it had done nothing before
@@ -25,18 +25,18 @@ last_behind a b c who steps did looked = (
       (done_then a b c who steps (looked.0 ++ looks_in_vain who c.clock) did looked.1),
 )
 
-last_on_at : (a b c : HallView) (who : ℕ) (server : Option ServerView) → c.clock ≡ b.clock → HasDone b c who [] → LooksLastAt a b who server
+last_on_at : (a b c : HallView) (who : ℕ) (server : Option AloneView) → c.clock ≡ b.clock → HasDone b c who [] → LooksLastAt a b who server
     → LooksLastAt a c who server
 last_on_at a b c who None clock nothing looked = tt
 last_on_at a b c who (Some server) clock nothing looked = λ going some. last_on a b c who clock (looked going some) nothing
 
-last_behind_at : (a b c : HallView) (who : ℕ) (server : Option ServerView) → HasDone a b who [] → LooksLastAt b c who server
+last_behind_at : (a b c : HallView) (who : ℕ) (server : Option AloneView) → HasDone a b who [] → LooksLastAt b c who server
     → LooksLastAt a c who server
 last_behind_at a b c who None nothing looked = tt
 last_behind_at a b c who (Some server) nothing looked = λ going some. last_behind a b c who [] nothing (looked going some)
 
 -- those from one number on looked last into their mailboxes, and then the next one
-pub looks_more : (from number : ℕ) (a b c : HallView) (old new : List ServerView) → c.clock ≡ b.clock → HasDone a b number []
+pub looks_more : (from number : ℕ) (a b c : HallView) (old new : List AloneView) → c.clock ≡ b.clock → HasDone a b number []
     → ((who : ℕ) → who ≢ number → HasDone b c who []) → ((who : ℕ) → who ≢ number → server_at new who ≡ server_at old who)
     → ((who : ℕ) → from ≤ who → who < number → LooksLastAt a b who (server_at old who)) → LooksLastAt b c number (server_at new number)
     → (who : ℕ) → from ≤ who → who < number + 1 → LooksLastAt a c who (server_at new who)
@@ -59,12 +59,12 @@ last_one old new number (Some party) None numbered later looked some = absurd la
 last_one old new number (Some party) (Some after) numbered later looked some = subst (LooksLast old new) (numbered party refl) looked
 
 -- nobody is to have looked whom the hall does not have
-looks_some : (old new : HallView) (who : ℕ) (server : Option ServerView) → ((there : ServerView) → server ≡ Some there → LooksLastAt old new who server)
+looks_some : (old new : HallView) (who : ℕ) (server : Option AloneView) → ((there : AloneView) → server ≡ Some there → LooksLastAt old new who server)
     → LooksLastAt old new who server
 looks_some old new who None looks = tt
 looks_some old new who (Some there) looks = looks there refl
 
-pub looks_within : (old new : HallView) (servers : List ServerView) (who : ℕ)
+pub looks_within : (old new : HallView) (servers : List AloneView) (who : ℕ)
     → (who < length servers → LooksLastAt old new who (server_at servers who)) → LooksLastAt old new who (server_at servers who)
 looks_within old new servers who looks =
     looks_some old new who (server_at servers who) (λ there is. looks (slice_get_within servers who there is))

@@ -11,8 +11,8 @@ use Rattle.hp_plain.specs.Course.{done_then}
 use Rattle.hp_plain.specs.HallView.{HallView, HasDone}
 use Rattle.hp_hall.specs.Mail.{MailStep}
 use Rattle.hp_plain.specs.Boxes.{box_of}
-use Rattle.hp_proc.specs.Party.{Party}
-use Rattle.hp_solo.specs.Solo.{FindsNothing, HasNothingToDo, HaveNotStopped, IsBetween, IsIdle, IsQuiet, ServerView, SoloView, looks_in_vain, party_in, server_at}
+use Rattle.hp_serve.specs.Party.{Party}
+use Rattle.hp_solo.specs.Solo.{FindsNothing, HasNothingToDo, HaveNotStopped, IsBetween, IsIdle, IsQuiet, AloneView, SoloView, looks_in_vain, party_in, server_at}
 
 -- before anybody has served
 pub quiet_first : (from : ℕ) (hall : SoloView) → IsQuiet (IsBetween from from) hall hall
@@ -34,7 +34,7 @@ module _ (from number : ℕ) (a b c : SoloView) (begun : from ≤ number) (clock
     (others : (who : ℕ) → who ≢ number → HasDone b.plain c.plain who [])
     (stay : (who : ℕ) → who ≢ number → server_at c.servers who ≡ server_at b.servers who) (first : IsQuiet (IsBetween from number) a b)
     (next : IsQuiet (λ who. who ≡ number) b c) where
-  idle_more : (who : ℕ) (server : ServerView) → IsBetween from (number + 1) who → server_at a.servers who ≡ Some server
+  idle_more : (who : ℕ) (server : AloneView) → IsBetween from (number + 1) who → server_at a.servers who ≡ Some server
       → server.stopped ≡ false → IsIdle a c who server
   idle_more who server between is going =
       ⊎_elim
@@ -78,7 +78,7 @@ module _ (from number : ℕ) (a b c : SoloView) (begun : from ≤ number) (clock
       (λ (same : who ≡ number).
       let kept : server_at b.servers who ≡ server_at a.servers who =
       subst (λ (n : ℕ). server_at b.servers n ≡ server_at a.servers n) (sym same) there in
-      next.empty (going_next going) who same (subst (λ (o : Option ServerView). IsSome (party_in o)) (sym kept) some))
+      next.empty (going_next going) who same (subst (λ (o : Option AloneView). IsSome (party_in o)) (sym kept) some))
       (below_or_same number who between.1)
 
   pub quiet_more : IsQuiet (IsBetween from (number + 1)) a c
@@ -88,7 +88,7 @@ module _ (from number : ℕ) (a b c : SoloView) (begun : from ≤ number) (clock
     empty = empty_more;
   }
 
-there_within : (servers : List ServerView) (who : ℕ) (server : Option ServerView) → server_at servers who ≡ server → IsSome (party_in server)
+there_within : (servers : List AloneView) (who : ℕ) (server : Option AloneView) → server_at servers who ≡ server → IsSome (party_in server)
     → who < length servers
 there_within servers who None is some = cc
 there_within servers who (Some server) is some = slice_get_within servers who server is
@@ -116,26 +116,26 @@ nothing_found old new who None numbered nothing some = cc
 nothing_found old new who (Some party) numbered nothing some = subst (FindsNothing old new) (numbered party refl) nothing
 
 -- one that had nothing to do stands where it stood
-module _ (old new : HallView) (servers : List ServerView) (number : ℕ) (server after : ServerView) (there : slice_get servers number ≡ Some server)
+module _ (old new : HallView) (servers : List AloneView) (number : ℕ) (server after : AloneView) (there : slice_get servers number ≡ Some server)
     (numbered : (party : Party) → server.party ≡ Some party → party.me ≡ number) (stays : server.stopped ≡ false → after ≡ server)
     (nothing : server.stopped ≡ false → HasNothingToDo old new server.party) where
-  here : (who : ℕ) (other : ServerView) → who ≡ number → server_at servers who ≡ Some other → server ≡ other
+  here : (who : ℕ) (other : AloneView) → who ≡ number → server_at servers who ≡ Some other → server ≡ other
   here who other same is = same_Some server other (sym there ∙ ap (server_at servers) (sym same) ∙ is)
 
   found : server.stopped ≡ false → IsSome server.party → FindsNothing old new number
   found going some = nothing_found old new number server.party numbered (nothing going) some
 
-  idle : (who : ℕ) (other : ServerView) → who ≡ number → server_at servers who ≡ Some other → other.stopped ≡ false
+  idle : (who : ℕ) (other : AloneView) → who ≡ number → server_at servers who ≡ Some other → other.stopped ≡ false
       → IsIdle (record { plain = old; servers = servers }) (record { plain = new; servers = set servers number after }) who other
   idle who other same is still =
       let one : server ≡ other = here who other same is in
-      let going : server.stopped ≡ false = ap (λ (s : ServerView). s.stopped) one ∙ still in
+      let going : server.stopped ≡ false = ap (λ (s : AloneView). s.stopped) one ∙ still in
       record {
         stays = ap (server_at (set servers number after)) same
             ∙ slice_get-set_same servers number after (slice_get_within servers number server there)
             ∙ ap Some (stays going ∙ one);
         looked = λ some. subst (λ (n : ℕ). HasDone old new n (looks_in_vain n new.clock)) (sym same)
-            (found going (ap (λ (s : ServerView). is_some s.party) one ∙ some)).did;
+            (found going (ap (λ (s : AloneView). is_some s.party) one ∙ some)).did;
       }
 
   pub quiet_one : IsQuiet (λ who. who ≡ number) (record { plain = old; servers = servers })
@@ -145,5 +145,5 @@ module _ (old new : HallView) (servers : List ServerView) (number : ℕ) (server
     boxes = λ going. nothing_boxes old new server.party (nothing (going number server refl there));
     empty = λ going who same some. subst (λ (n : ℕ). box_of new.boxes n ≡ []) (sym same)
         (found (going number server refl there)
-        (ap (λ (o : Option ServerView). is_some (party_in o)) (sym there ∙ ap (server_at servers) (sym same)) ∙ some)).empty;
+        (ap (λ (o : Option AloneView). is_some (party_in o)) (sym there ∙ ap (server_at servers) (sym same)) ∙ some)).empty;
   }

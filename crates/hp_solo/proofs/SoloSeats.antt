@@ -4,9 +4,9 @@ use Rattle.std.specs.Option.{IfSome}
 use Rattle.std.proofs.lemmas.List.{length-replicate}
 use Rattle.hp_plain.proofs.Slotted.{slice_get-set_other, slice_get-set_same}
 use Rattle.hp_plain.specs.HallView.{HallView}
-use Rattle.hp_proc.proofs.MemberLemmas.{at_each}
-use Rattle.hp_proc.specs.Party.{Party}
-use Rattle.hp_solo.specs.Solo.{AreTied, IsSolo, IsTiedAt, ServerView, nobody, party_at, party_in}
+use Rattle.hp_serve.proofs.MemberLemmas.{at_each}
+use Rattle.hp_serve.specs.Party.{Party}
+use Rattle.hp_solo.specs.Solo.{AreTied, IsSolo, IsTiedAt, AloneView, nobody, party_at, party_in}
 
 none_not_some : (o : Option Party) (party : Party) → o ≡ None → o ≡ Some party → ⊥
 none_not_some o party none some = cc
@@ -15,7 +15,7 @@ same_party : (o : Option Party) (party other : Party) → o ≡ Some party → o
 same_party o party other here there = cc
 
 -- the one of a number goes away
-pub solo_away : (hall : HallView) (servers : List ServerView) (me : ℕ) (after : ServerView) → IsSolo (record { plain = hall; servers = servers })
+pub solo_away : (hall : HallView) (servers : List AloneView) (me : ℕ) (after : AloneView) → IsSolo (record { plain = hall; servers = servers })
     → me < length servers → after.party ≡ None → IsSolo (record { plain = hall; servers = set servers me after })
 solo_away hall servers me after is below gone = record {
   count = length-set servers me after ∙ is.count;
@@ -26,13 +26,13 @@ solo_away hall servers me after is below gone = record {
 }
 
 -- who is there is tied
-pub who_goes : (hall : HallView) (servers : List ServerView) (me : ℕ) (party : Option Party) → AreTied hall servers → party ≡ party_at servers me
+pub who_goes : (hall : HallView) (servers : List AloneView) (me : ℕ) (party : Option Party) → AreTied hall servers → party ≡ party_at servers me
     → IfSome party (IsTiedAt hall me)
 who_goes hall servers me None tied is = tt
 who_goes hall servers me (Some party) tied is = tied me party (sym is)
 
 -- the one of a number comes back
-pub solo_back : (hall : HallView) (servers : List ServerView) (me : ℕ) (after : ServerView) (party : Party)
+pub solo_back : (hall : HallView) (servers : List AloneView) (me : ℕ) (after : AloneView) (party : Party)
     → IsSolo (record { plain = hall; servers = servers }) → me < length servers → after.party ≡ Some party → IsTiedAt hall me party
     → IsSolo (record { plain = hall; servers = set servers me after })
 solo_back hall servers me after party is below there tied = record {

@@ -8,12 +8,12 @@ use Rattle.hp_hall.specs.Weights.{boxes_weight, pending_at}
 use Rattle.hp_hall.specs.declared.kept.Kept.{Kept}
 use Rattle.hp_plain.specs.HallView.{HallView}
 use Rattle.hp_plain.specs.PlainState.{plain_state}
-use Rattle.hp_solo.specs.Solo.{ServerView, SoloView, servers_weight, solo_weight}
+use Rattle.hp_solo.specs.Solo.{AloneView, SoloView, servers_weight, solo_weight}
 use Rattle.hp_solo.specs.SoloCourse.{IsSoloCourse}
 use Rattle.hp_solo.specs.SoloState.{solo_later, solo_state}
 
 -- the values went from one state to another, and those who serve stayed
-module _ (me : ℕ) (old new : HallView) (servers : List ServerView) where
+module _ (me : ℕ) (old new : HallView) (servers : List AloneView) where
   abbrev before : SoloView
   before = record { plain = old; servers = servers }
 

@@ -10,14 +10,14 @@ use Rattle.hp_plain.specs.HallView.{HallView, HasDone, SlotView, IsHome, own_at,
 use Rattle.hp_hall.specs.Mail.{MailStep}
 use Rattle.hp_hall.specs.Own.{Own}
 use Rattle.hp_maps.specs.MapsView.{MapsView}
-use Rattle.hp_proc.specs.Coordinating.{IsServed}
-use Rattle.hp_proc.specs.Party.{Party}
-use Rattle.hp_proc.specs.Tied.{IsTied}
-use Rattle.hp_proc.proofs.MemberLemmas.{at_each}
-use Rattle.hp_proc.proofs.Tying.{tied_along}
+use Rattle.hp_serve.specs.Coordinating.{IsServed}
+use Rattle.hp_serve.specs.Party.{Party}
+use Rattle.hp_serve.specs.Tied.{IsTied}
+use Rattle.hp_serve.proofs.MemberLemmas.{at_each}
+use Rattle.hp_serve.proofs.Tying.{tied_along}
 use Rattle.hp_solo.specs.Served.{HasServed, HasServedAs, HasServedAt}
 use Rattle.hp_solo.specs.Served.ServesOn.{serves}
-use Rattle.hp_solo.specs.Solo.{AreLater, AreTied, IsLaterAt, IsLaterParty, IsPartyServed, IsServedAs, IsServing, IsTiedAt, IsTiedIn, ServerView, party_at, party_in, server_at}
+use Rattle.hp_solo.specs.Solo.{AreLater, AreTied, IsLaterAt, IsLaterParty, IsPartyServed, IsServedAs, IsServing, IsTiedAt, IsTiedIn, AloneView, party_at, party_in, server_at}
 use Rattle.hp_solo.specs.SoloCourse.{same_then, server_stays}
 
 -- a table is tied along the course of a hall
@@ -122,7 +122,7 @@ served_at old new number (Some party) (Some after) numbered served =
     subst (λ (who : ℕ). HasServed (length old.owns) who old new party after) (numbered party refl) served
 
 -- the participant of a number has served
-pub record IsServedOne (old new : HallView) (servers : List ServerView) (number : ℕ) (after : ServerView) : Type 0 where
+pub record IsServedOne (old new : HallView) (servers : List AloneView) (number : ℕ) (after : AloneView) : Type 0 where
   pub serving : IsServing (λ who. who ≢ number) old new
   pub tied : AreTied new (set servers number after)
   pub later : AreLater (record { plain = old; servers = servers }) (record { plain = new; servers = set servers number after })
@@ -154,7 +154,7 @@ served_later old new None (Some after) served = absurd served
 served_later old new (Some party) None served = absurd served
 served_later old new (Some party) (Some after) served = served.same
 
-module _ (old new : HallView) (servers : List ServerView) (number : ℕ) (server after : ServerView) (there : slice_get servers number ≡ Some server)
+module _ (old new : HallView) (servers : List AloneView) (number : ℕ) (server after : AloneView) (there : slice_get servers number ≡ Some server)
     (tied : AreTied old servers) (served : IsServedAs old new server.party after.party) (stops : server.stopped ≡ true → after.stopped ≡ true)
     (going : after.stopped ≡ false → HasServedAs old new server.party after.party) where
   here : slice_get (set servers number after) number ≡ Some after
@@ -179,8 +179,8 @@ module _ (old new : HallView) (servers : List ServerView) (number : ℕ) (server
 
   later_here : IsLaterAt old new number (server_at servers number) (server_at (set servers number after) number)
   later_here =
-      subst (λ (o : Option ServerView). IsLaterAt old new number o (server_at (set servers number after) number)) (sym there)
-      (subst (λ (o : Option ServerView). IsLaterAt old new number (Some server) o) (sym here) (record {
+      subst (λ (o : Option AloneView). IsLaterAt old new number o (server_at (set servers number after) number)) (sym there)
+      (subst (λ (o : Option AloneView). IsLaterAt old new number (Some server) o) (sym here) (record {
         party = served_later old new server.party after.party served;
         stopped = stops;
         served = λ goes. served_at old new number server.party after.party numbered (going goes);
@@ -190,20 +190,20 @@ module _ (old new : HallView) (servers : List ServerView) (number : ℕ) (server
   later_one =
       at_each (λ who. IsLaterAt old new who (server_at servers who) (server_at (set servers number after) who)) number later_here
       (λ who apart.
-      subst (λ (o : Option ServerView). IsLaterAt old new who (server_at servers who) o) (sym (slice_get-set_other servers number who after apart))
+      subst (λ (o : Option AloneView). IsLaterAt old new who (server_at servers who) o) (sym (slice_get-set_other servers number who after apart))
       (server_stays old new who (server_at servers who) (λ some. apart_from.did who apart)))
 
   pub served_one : IsServedOne old new servers number after
   served_one = record { serving = apart_from; tied = tied_one; later = later_one }
 
 -- who is there may serve
-tied_some : (hall : HallView) (servers : List ServerView) (number : ℕ) (party : Option Party) → party_at servers number ≡ party
+tied_some : (hall : HallView) (servers : List AloneView) (number : ℕ) (party : Option Party) → party_at servers number ≡ party
     → number < length hall.owns → AreTied hall servers → IsTiedIn hall party
 tied_some hall servers number None is below tied = tt
 tied_some hall servers number (Some party) is below tied =
     let at = tied number party is in
     (omega (arith, at.number, below), subst (λ (who : ℕ). IsTied (seen_in hall) (own_at hall who) party.joined party.maps) (sym at.number) at.tied)
 
-pub tied_in : (hall : HallView) (servers : List ServerView) (number : ℕ) (server : ServerView) → slice_get servers number ≡ Some server
+pub tied_in : (hall : HallView) (servers : List AloneView) (number : ℕ) (server : AloneView) → slice_get servers number ≡ Some server
     → number < length hall.owns → AreTied hall servers → IsTiedIn hall server.party
 tied_in hall servers number server there below tied = tied_some hall servers number server.party (ap party_in there) below tied

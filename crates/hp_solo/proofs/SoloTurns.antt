@@ -8,16 +8,16 @@ use Rattle.hp_plain.specs.HallView.{HallView, HasDone}
 use Rattle.hp_hall.specs.Mail.{Notes}
 use Rattle.hp_hall.specs.Weights.{IsPending, boxes_weight, counted, pause_weight, pending_at}
 use Rattle.hp_hall.specs.declared.note.Note.TheVariants.{Paused}
-use Rattle.hp_proc.specs.Party.{Party}
-use Rattle.hp_proc.proofs.MemberLemmas.{at_each}
+use Rattle.hp_serve.specs.Party.{Party}
+use Rattle.hp_serve.proofs.MemberLemmas.{at_each}
 use Rattle.hp_solo.specs.Served.{HasServedAt, ServesOn}
-use Rattle.hp_solo.specs.Solo.{AreLater, IsLaterAt, IsNextDue, IsNotBeside, IsServerAtRest, IsSolo, ServerView, SoloView, server_at, servers_weight, solo_weight}
+use Rattle.hp_solo.specs.Solo.{AreLater, IsLaterAt, IsNextDue, IsNotBeside, IsServerAtRest, IsSolo, AloneView, SoloView, server_at, servers_weight, solo_weight}
 use Rattle.hp_solo.specs.SoloCourse.{party_same, server_stays}
 use Rattle.hp_solo.proofs.SoloSteps.{did_apart, did_itself}
 use Rattle.hp_solo.proofs.SoloWeights.{jump_falls}
 
 -- the invariant of the hall behind a pause
-pub solo_paused : (old new : HallView) (servers : List ServerView) (me : ℕ) (moved : Bool) (until : Option ℕ) (reading : ℕ)
+pub solo_paused : (old new : HallView) (servers : List AloneView) (me : ℕ) (moved : Bool) (until : Option ℕ) (reading : ℕ)
     → new ≡ after_pause me moved until reading old → IsSolo (record { plain = old; servers = servers })
     → IsSolo (record { plain = new; servers = servers })
 solo_paused old new servers me moved until reading same is =
@@ -36,7 +36,7 @@ served_paused old new who (Some party) did = record {
   serves = ServesOn.pauses party party [] (ServesOn.rests party);
 }
 
-server_paused : (old new : HallView) (who : ℕ) (server : Option ServerView) → HasDone old new who (Notes (Paused false None) ∷ [])
+server_paused : (old new : HallView) (who : ℕ) (server : Option AloneView) → HasDone old new who (Notes (Paused false None) ∷ [])
     → IsLaterAt old new who server server
 server_paused old new who None did = tt
 server_paused old new who (Some server) did = record {
@@ -46,7 +46,7 @@ server_paused old new who (Some server) did = record {
 }
 
 -- who serves in the hall over a pause of participant 0 in which nothing moved
-pub later_paused : (old new : HallView) (servers : List ServerView) (reading : ℕ) → new ≡ after_pause 0 false None reading old
+pub later_paused : (old new : HallView) (servers : List AloneView) (reading : ℕ) → new ≡ after_pause 0 false None reading old
     → AreLater (record { plain = old; servers = servers }) (record { plain = new; servers = servers })
 later_paused old new servers reading same =
     let step = Notes (Paused false None) in
@@ -103,13 +103,13 @@ pub not_beside : (me : ℕ) (above : Bool) → IsNotBeside me above me
 not_beside me false below = omega (arith, below)
 not_beside me true below = omega (arith, below)
 
-rests_some : (clock : ℕ) (server : Option ServerView) → ((there : ServerView) → server ≡ Some there → IsServerAtRest clock server)
+rests_some : (clock : ℕ) (server : Option AloneView) → ((there : AloneView) → server ≡ Some there → IsServerAtRest clock server)
     → IsServerAtRest clock server
 rests_some clock None rests = tt
 rests_some clock (Some there) rests = rests there refl
 
 -- nobody is to rest whom the hall does not have
-pub rests_within : (clock : ℕ) (servers : List ServerView) (who : ℕ) → (who < length servers → IsServerAtRest clock (server_at servers who))
+pub rests_within : (clock : ℕ) (servers : List AloneView) (who : ℕ) → (who < length servers → IsServerAtRest clock (server_at servers who))
     → IsServerAtRest clock (server_at servers who)
 rests_within clock servers who rests =
     rests_some clock (server_at servers who) (λ there is. rests (slice_get_within servers who there is))

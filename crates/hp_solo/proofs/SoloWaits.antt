@@ -4,8 +4,8 @@ use Rattle.hp_base.specs.declared.limits.TheConstants.{MAX_HEAPS}
 use Rattle.hp_plain.specs.HallView.{HallView, IsHome, own_at, seen_in, slot_at}
 use Rattle.hp_hall.specs.Own.{Own}
 use Rattle.hp_log.specs.declared.log_record.LogRecord.{LogRecord}
-use Rattle.hp_proc.specs.Party.{Party}
-use Rattle.hp_proc.specs.Tied.{IsTied, nothing_yet}
+use Rattle.hp_serve.specs.Party.{Party}
+use Rattle.hp_serve.specs.Tied.{IsTied, nothing_yet}
 use Rattle.hp_solo.specs.Solo.{IsAway, IsTiedAt, MayWait, SoloView, server_at}
 use Rattle.hp_solo.specs.SoloCourse.{IsSoloCourse, solo_serves}
 use Rattle.hp_solo.proofs.SoloTies.{tied_on}

@@ -7,9 +7,9 @@ use Rattle.hp_core.specs.Core.{Core, due_of}
 use Rattle.hp_hall.proofs.Pending.{pending_falls, pending_later, pending_past}
 use Rattle.hp_plain.specs.HallView.{HallView}
 use Rattle.hp_hall.specs.Weights.{boxes_weight, counted, pending_at}
-use Rattle.hp_proc.specs.Falling.{if_moved, own_weight}
-use Rattle.hp_proc.specs.Party.{Party, due_in}
-use Rattle.hp_solo.specs.Solo.{IsNextDue, IsPendingDue, ServerView, due_at, party_in, party_weight, server_at, server_weight, servers_weight}
+use Rattle.hp_serve.specs.Falling.{if_moved, own_weight}
+use Rattle.hp_serve.specs.Party.{Party, due_in}
+use Rattle.hp_solo.specs.Solo.{IsNextDue, IsPendingDue, AloneView, due_at, party_in, party_weight, server_at, server_weight, servers_weight}
 
 -- a sum falls where no term rises and one falls
 sum_falls : {X : Type 0} (f g : X → ℕ) (xs : List X) (i : ℕ) (x : X) → ((y : X) → f y ≤ g y) → slice_get xs i ≡ Some x → f x + 1 ≤ g x
@@ -33,7 +33,7 @@ party_falls : (clock next : ℕ) (party : Option Party) → clock ≤ next → p
 party_falls clock next None later = omega arith
 party_falls clock next (Some party) later = core_falls clock next party.core later
 
-server_falls : (clock next : ℕ) (server : ServerView) → clock ≤ next → server_weight (pending_at next) server ≤ server_weight (pending_at clock) server
+server_falls : (clock next : ℕ) (server : AloneView) → clock ≤ next → server_weight (pending_at next) server ≤ server_weight (pending_at clock) server
 server_falls clock next server later = omega (arith, party_falls clock next server.party later)
 
 -- at its deadline what is under way weighs one less
@@ -54,12 +54,12 @@ party_due clock next None later due = cc
 party_due clock next (Some party) later due = core_due clock next party.core later due
 
 -- who has a deadline is there
-due_there : (servers : List ServerView) (who : ℕ) (next : ℕ) (server : Option ServerView) → server_at servers who ≡ server
-    → due_at (party_in server) ≡ Some next → (there : ServerView) × (server_at servers who ≡ Some there) × (due_at there.party ≡ Some next)
+due_there : (servers : List AloneView) (who : ℕ) (next : ℕ) (server : Option AloneView) → server_at servers who ≡ server
+    → due_at (party_in server) ≡ Some next → (there : AloneView) × (server_at servers who ≡ Some there) × (due_at there.party ≡ Some next)
 due_there servers who next None is due = cc
 due_there servers who next (Some server) is due = (server, is, due)
 
-pub servers_due : (clock next : ℕ) (servers : List ServerView) → IsPendingDue clock servers next
+pub servers_due : (clock next : ℕ) (servers : List AloneView) → IsPendingDue clock servers next
     → servers_weight (pending_at next) servers + 1 ≤ servers_weight (pending_at clock) servers
 servers_due clock next servers is =
     let later = is.2 in
@@ -69,7 +69,7 @@ servers_due clock next servers is =
     (omega (arith, party_due clock next there.0.party later there.2))
 
 -- a jump to the next deadline makes what is awaited smaller
-pub jump_falls : (clock next until : ℕ) (servers : List ServerView) → IsNextDue clock servers until next
+pub jump_falls : (clock next until : ℕ) (servers : List AloneView) → IsNextDue clock servers until next
     → servers_weight (pending_at next) servers + pending_at next until + 1 ≤ servers_weight (pending_at clock) servers + pending_at clock until
 jump_falls clock next until servers is =
     let all : servers_weight (pending_at next) servers ≤ servers_weight (pending_at clock) servers =
@@ -82,7 +82,7 @@ jump_falls clock next until servers is =
     is.whose
 
 -- one that served weighs as it does now, and all others as before
-served_weighs : (pending : ℕ → ℕ) (servers : List ServerView) (number : ℕ) (server after : ServerView) → slice_get servers number ≡ Some server
+served_weighs : (pending : ℕ → ℕ) (servers : List AloneView) (number : ℕ) (server after : AloneView) → slice_get servers number ≡ Some server
     → servers_weight pending (set servers number after) + server_weight pending server ≡ servers_weight pending servers + server_weight pending after
 served_weighs pending servers number server after there =
     let put = sum_by-set (server_weight pending) servers number after server (slice_get_within servers number server there) in
@@ -90,7 +90,7 @@ served_weighs pending servers number server after there =
     omega (arith, put, ap (server_weight pending) was)
 
 -- by as much as one that served weighs less, all weigh less
-pub served_falls : (old new : HallView) (servers : List ServerView) (number : ℕ) (server after : ServerView) (moved : Bool)
+pub served_falls : (old new : HallView) (servers : List AloneView) (number : ℕ) (server after : AloneView) (moved : Bool)
     → slice_get servers number ≡ Some server → new.clock ≡ old.clock
     → boxes_weight new.boxes + server_weight (pending_at new.clock) after + if_moved moved
     ≤ boxes_weight old.boxes + server_weight (pending_at old.clock) server

@@ -6,7 +6,7 @@ use Rattle.std.proofs.lemmas.List.{append_cancel_left, map-append}
 use Rattle.std.proofs.lemmas.List.Elements.{filter-append}
 use Rattle.hp_plain.specs.HallView.{HallView, HasDone}
 use Rattle.hp_hall.specs.Mail.{MailStep, steps_of}
-use Rattle.hp_proc.proofs.MemberLemmas.{at_each}
+use Rattle.hp_serve.proofs.MemberLemmas.{at_each}
 
 -- whether a participant made a step, and what it did there
 abbrev made_by : ℕ → ℕ × MailStep → Bool

@@ -7,10 +7,10 @@ use Rattle.std.proofs.lemmas.Option.{get_or_from_slice_get, slice_get_within}
 use Rattle.hp_plain.proofs.Slotted.{slice_get-set_same}
 use Rattle.hp_plain.specs.HallView.{HallView, HasDone}
 use Rattle.hp_hall.specs.Mail.{MailStep}
-use Rattle.hp_proc.specs.Coordinating.{IsServed}
-use Rattle.hp_proc.specs.Party.{Party}
+use Rattle.hp_serve.specs.Coordinating.{IsServed}
+use Rattle.hp_serve.specs.Party.{Party}
 use Rattle.hp_solo.specs.Sequence.{IsServedSome, IsVisited, IsVisitedAs, ServesOnce, ServesSome, Visit, Visits, VisitsBeside, going_place}
-use Rattle.hp_solo.specs.Solo.{AreLater, IsPartyServed, IsServedAs, ServerView, SoloView, has_stopped, party_in, server_at}
+use Rattle.hp_solo.specs.Solo.{AreLater, IsPartyServed, IsServedAs, AloneView, SoloView, has_stopped, party_in, server_at}
 use Rattle.hp_solo.specs.SoloCourse.{going_before, not_before}
 use Rattle.hp_solo.proofs.Sequenced.{made_by}
 use Rattle.hp_solo.proofs.SoloDrained.{none_stopped}
@@ -25,7 +25,7 @@ set_there xs i x there = subst (λ y. set xs i y ≡ xs) (get_or_from_slice_get 
 pub some_first : (hall : HallView) (party : Party) → IsServedSome hall hall party party
 some_first hall party servers there =
     subst
-    (λ (all : List ServerView). ServesSome party.me (record { plain = hall; servers = servers }) (record { plain = hall; servers = all }))
+    (λ (all : List AloneView). ServesSome party.me (record { plain = hall; servers = servers }) (record { plain = hall; servers = all }))
     (sym (set_there servers party.me (going_place party) there))
     (ServesSome.none (record { plain = hall; servers = servers }))
 
@@ -36,8 +36,8 @@ HasServedOnce old new party after answer = (steps : List MailStep) × HasDone ol
 
 module _ (a b c : HallView) (party mid after : Party) (moved : Bool) (answer : Option Bool) (is : answer ≡ Some moved)
     (so_far : IsPartyServed a b party mid) (here : IsPartyServed b c mid after) (one : HasServedOnce b c mid after answer)
-    (servers : List ServerView) (there : server_at servers party.me ≡ Some (going_place party)) where
-  abbrev before : List ServerView
+    (servers : List AloneView) (there : server_at servers party.me ≡ Some (going_place party)) where
+  abbrev before : List AloneView
   before = set servers party.me (going_place mid)
 
   once : ServesOnce party.me moved (record { plain = b; servers = before }) (record { plain = c; servers = set before party.me (going_place after) })
@@ -55,7 +55,7 @@ module _ (a b c : HallView) (party mid after : Party) (moved : Bool) (answer : O
   last_once : ServesOnce party.me moved (record { plain = b; servers = before })
       (record { plain = c; servers = set servers party.me (going_place after) })
   last_once =
-      subst (λ (all : List ServerView). ServesOnce party.me moved (record { plain = b; servers = before }) (record { plain = c; servers = all }))
+      subst (λ (all : List AloneView). ServesOnce party.me moved (record { plain = b; servers = before }) (record { plain = c; servers = all }))
       (set-set servers party.me (going_place mid) (going_place after)) once
 
 -- it did something once more
@@ -76,7 +76,7 @@ visited_by a b c party mid after answer is so_far here one was servers there =
 -- THOSE OF A HALL
 
 -- one that has not stopped was visited at its place
-visit_of : (old new : HallView) (servers : List ServerView) (number : ℕ) (party after : Option Party) (stopped ended : Bool)
+visit_of : (old new : HallView) (servers : List AloneView) (number : ℕ) (party after : Option Party) (stopped ended : Bool)
     → server_at servers number ≡ Some (record { party = party; stopped = stopped })
     → ((there : Party) → party ≡ Some there → there.me ≡ number) → IsServedAs old new party after → stopped ≡ false → ended ≡ false
     → IsVisitedAs old new party after
@@ -87,7 +87,7 @@ visit_of old new servers number party after false true there numbered served goi
 visit_of old new servers number None None false false there numbered served going ends visited =
     Visit.is_away (ap party_in there)
     (ap (λ (hall : HallView). record { plain = hall; servers = set servers number (record { party = None; stopped = false }) }) served
-    ∙ ap (λ (all : List ServerView). record { plain = old; servers = all }) (set_there servers number (record { party = None; stopped = false }) there))
+    ∙ ap (λ (all : List AloneView). record { plain = old; servers = all }) (set_there servers number (record { party = None; stopped = false }) there))
 visit_of old new servers number None (Some after) false false there numbered served going ends visited = absurd served
 visit_of old new servers number (Some party) None false false there numbered served going ends visited = absurd served
 visit_of old new servers number (Some party) (Some after) false false there numbered served going ends visited =
@@ -96,7 +96,7 @@ visit_of old new servers number (Some party) (Some after) false false there numb
     (λ (n : ℕ). Visit n (record { plain = old; servers = servers }) (record { plain = new; servers = set servers n (going_place after) })) me
     (visited servers (subst (λ (n : ℕ). server_at servers n ≡ Some (going_place party)) (sym me) there))
 
-pub visit_one : (old new : HallView) (servers : List ServerView) (number : ℕ) (server after : ServerView) → slice_get servers number ≡ Some server
+pub visit_one : (old new : HallView) (servers : List AloneView) (number : ℕ) (server after : AloneView) → slice_get servers number ≡ Some server
     → ((party : Party) → server.party ≡ Some party → party.me ≡ number) → IsServedAs old new server.party after.party
     → (server.stopped ≡ true → after.stopped ≡ true) → (after.stopped ≡ false → IsVisitedAs old new server.party after.party)
     → has_stopped (set servers number after) ≡ false

@@ -5,7 +5,7 @@ use Rattle.hp_plain.specs.HallSteps.{after_pause}
 use Rattle.hp_plain.specs.HallView.{IsHome, part_in, slot_at, taken_from}
 use Rattle.hp_plain.specs.Boxes.{box_of}
 use Rattle.hp_solo.specs.Sequence.{Visits}
-use Rattle.hp_solo.specs.Solo.{AreLater, IsPendingDue, IsQuiet, ServerView, SoloView, due_at, has_stopped, party_at, server_at}
+use Rattle.hp_solo.specs.Solo.{AreLater, IsPendingDue, IsQuiet, AloneView, SoloView, due_at, has_stopped, party_at, server_at}
 
 -- what turns of all participants leave: the plain values go on, and so does each that serves; and the slots and the parts in heaps are as
 -- they were
@@ -21,7 +21,7 @@ abbrev pub NeverPasses : ℕ → Type 0
 NeverPasses due = 2 ^ 64 - 1 ≤ due
 
 -- the least deadline of participants that are there that is still to come
-pub record IsLeastDue (clock : ℕ) (servers : List ServerView) (next : ℕ) : Type 0 where
+pub record IsLeastDue (clock : ℕ) (servers : List AloneView) (next : ℕ) : Type 0 where
   pub pending : IsPendingDue clock servers next
   pub least : (due : ℕ) → IsPendingDue clock servers due → next ≤ due
 
@@ -35,7 +35,7 @@ pub data Drains : SoloView → SoloView → Type 0 where
       → new.servers ≡ next.servers → Drains old new
 
 -- no deadline of theirs is still to come, but such as never pass
-abbrev pub IsNoneDue : ℕ → List ServerView → Type 0
+abbrev pub IsNoneDue : ℕ → List AloneView → Type 0
 IsNoneDue clock servers = (due : ℕ) → IsPendingDue clock servers due → NeverPasses due
 
 -- no round is under way, but one whose deadline never passes
@@ -49,6 +49,6 @@ AreEmpty hall = (who : ℕ) → IsSome (party_at hall.servers who) → box_of ha
 -- nothing is left: who has met no refusal of memory has no round under way, no deadline is still to come, and where nobody has met one the
 -- mailboxes of those who are there are empty
 pub record IsDrained (hall : SoloView) : Type 0 where
-  pub rounds : (who : ℕ) (server : ServerView) → server_at hall.servers who ≡ Some server → server.stopped ≡ false → HasNoRound (due_at server.party)
+  pub rounds : (who : ℕ) (server : AloneView) → server_at hall.servers who ≡ Some server → server.stopped ≡ false → HasNoRound (due_at server.party)
   pub none_due : IsNoneDue hall.plain.clock hall.servers
   pub empty : has_stopped hall.servers ≡ false → AreEmpty hall

@@ -6,9 +6,9 @@ use Rattle.hp_plain.specs.HallView.{HallView, HasDone}
 use Rattle.hp_hall.specs.Mail.{MailStep, Fetches, Gives, Notes, Posts, Takes}
 use Rattle.hp_hall.specs.declared.note.Note.{Note}
 use Rattle.hp_hall.specs.declared.note.Note.TheVariants.{Acked, Loaded, Paused, Read, Yielded}
-use Rattle.hp_proc.specs.Coordinating.{IsServed}
-use Rattle.hp_proc.specs.Party.{Party}
-use Rattle.hp_solo.specs.Solo.{IsAway, IsBeside, IsNextDue, IsQuiet, ServerView, SoloView, has_stopped, party_at, server_at}
+use Rattle.hp_serve.specs.Coordinating.{IsServed}
+use Rattle.hp_serve.specs.Party.{Party}
+use Rattle.hp_solo.specs.Solo.{IsAway, IsBeside, IsNextDue, IsQuiet, AloneView, SoloView, has_stopped, party_at, server_at}
 
 -- from one state of the values to a later one, one participant made these steps, and nobody else any
 pub record IsMadeBy (who : ℕ) (steps : List MailStep) (old new : HallView) : Type 0 where
@@ -16,7 +16,7 @@ pub record IsMadeBy (who : ℕ) (steps : List MailStep) (old new : HallView) : T
   pub are : course.steps ≡ map (λ step. (who, step)) steps
 
 -- the place of one that is there and has met no refusal of memory
-abbrev pub going_place : Party → ServerView
+abbrev pub going_place : Party → AloneView
 going_place party = record { party = Some party; stopped = false }
 
 -- one that is there served once, and tells whether it did something
@@ -90,7 +90,7 @@ pub data Sequence (me : ℕ) : SoloView → List MailStep → SoloView → Type 
       → mid.plain.clock ≡ old.plain.clock → Sequence me mid steps new → Sequence me old steps new
 
 -- one alone is away
-pub record IsAloneAway (me : ℕ) (servers : List ServerView) : Type 0 where
+pub record IsAloneAway (me : ℕ) (servers : List AloneView) : Type 0 where
   pub away : IsAway (server_at servers me)
   pub alone : (who : ℕ) → IsAway (server_at servers who) → who ≡ me
 
@@ -101,13 +101,13 @@ IsInSequence old new = (me : ℕ) → IsAloneAway me old.servers → has_stopped
 
 -- one that is there served some times, and did something each time, whoever else is there
 abbrev pub IsServedSome : HallView → HallView → Party → Party → Type 0
-IsServedSome old new party after = (servers : List ServerView) → server_at servers party.me ≡ Some (going_place party)
+IsServedSome old new party after = (servers : List AloneView) → server_at servers party.me ≡ Some (going_place party)
     → ServesSome party.me (record { plain = old; servers = servers })
     (record { plain = new; servers = slice_set servers party.me (going_place after) })
 
 -- it was visited, whoever else is there
 abbrev pub IsVisited : HallView → HallView → Party → Party → Type 0
-IsVisited old new party after = (servers : List ServerView) → server_at servers party.me ≡ Some (going_place party)
+IsVisited old new party after = (servers : List AloneView) → server_at servers party.me ≡ Some (going_place party)
     → Visit party.me (record { plain = old; servers = servers }) (record { plain = new; servers = slice_set servers party.me (going_place after) })
 
 -- so was one that is there; of one that is away nothing is said

@@ -8,43 +8,43 @@ use Rattle.hp_hall.specs.Mail.{Fetches, MailStep, Notes}
 use Rattle.hp_plain.specs.Boxes.{box_of}
 use Rattle.hp_hall.specs.Weights.{boxes_weight, pending_at}
 use Rattle.hp_hall.specs.declared.note.Note.TheVariants.{Read}
-use Rattle.hp_proc.specs.Falling.{own_weight}
-use Rattle.hp_proc.specs.Party.{IsSameParty, Party, due_in}
-use Rattle.hp_proc.specs.Tied.{IsTied}
+use Rattle.hp_serve.specs.Falling.{own_weight}
+use Rattle.hp_serve.specs.Party.{IsSameParty, Party, due_in}
+use Rattle.hp_serve.specs.Tied.{IsTied}
 use Rattle.hp_solo.specs.Served.{HasServedAt}
 
 -- who serves while others do their lines: a participant, which is away while its own line is done, and whether it has met a refusal of
 -- memory, and does no further line
-pub record ServerView : Type 0 where
+pub record AloneView : Type 0 where
   pub party : Option Party
   pub stopped : Bool
 
 -- the plain values, and who serves, by number
 pub record SoloView : Type 0 where
   pub plain : HallView
-  pub servers : List ServerView
+  pub servers : List AloneView
 
 -- a place whose participant is away
-abbrev pub nobody : ServerView
+abbrev pub nobody : AloneView
 nobody = record { party = None; stopped = false }
 
 -- a place once its participant has gone, or one has come; whether it has stopped stays
-abbrev pub with_party : Option Party → ServerView → ServerView
+abbrev pub with_party : Option Party → AloneView → AloneView
 with_party party server = record server { party = party }
 
-abbrev pub server_at : List ServerView → ℕ → Option ServerView
+abbrev pub server_at : List AloneView → ℕ → Option AloneView
 server_at servers who = slice_get servers who
 
-abbrev pub party_in : Option ServerView → Option Party
+abbrev pub party_in : Option AloneView → Option Party
 party_in None = None
 party_in (Some server) = server.party
 
 -- the participant of a number that is there to serve
-abbrev pub party_at : List ServerView → ℕ → Option Party
+abbrev pub party_at : List AloneView → ℕ → Option Party
 party_at servers who = party_in (server_at servers who)
 
 -- the participant of a number is away
-abbrev pub IsAway : Option ServerView → Type 0
+abbrev pub IsAway : Option AloneView → Type 0
 IsAway None = ⊥
 IsAway (Some server) = server.party ≡ None
 
@@ -54,7 +54,7 @@ pub record IsTiedAt (hall : HallView) (who : ℕ) (party : Party) : Type 0 where
   pub tied : IsTied (seen_in hall) (own_at hall who) party.joined party.maps
 
 -- each that is there to serve is tied
-abbrev pub AreTied : HallView → List ServerView → Type 0
+abbrev pub AreTied : HallView → List AloneView → Type 0
 AreTied hall servers = (who : ℕ) (party : Party) → party_at servers who ≡ Some party → IsTiedAt hall who party
 
 -- what holds of every such hall: each participant of its values is there to serve, and tied, or is away
@@ -75,10 +75,10 @@ party_weight pending None = 0
 party_weight pending (Some party) = own_weight 1 pending party.core
 
 -- who has not stopped weighs 1 besides, since it may
-abbrev pub server_weight : (ℕ → ℕ) → ServerView → ℕ
+abbrev pub server_weight : (ℕ → ℕ) → AloneView → ℕ
 server_weight pending server = (if server.stopped then 0 else 1) + party_weight pending server.party
 
-abbrev pub servers_weight : (ℕ → ℕ) → List ServerView → ℕ
+abbrev pub servers_weight : (ℕ → ℕ) → List AloneView → ℕ
 servers_weight pending servers = sum_by (server_weight pending) servers
 
 -- the number by which serving returns: what the mailboxes weigh, and all that serve
@@ -93,12 +93,12 @@ IsLaterParty (Some old) (Some new) = IsSameParty old new
 
 -- who serves is later on the same participant, or as before away; one that has stopped stays so, and one that has not came to what it is
 -- by servings alone
-pub record IsLaterServer (old new : HallView) (who : ℕ) (server after : ServerView) : Type 0 where
+pub record IsLaterServer (old new : HallView) (who : ℕ) (server after : AloneView) : Type 0 where
   pub party : IsLaterParty server.party after.party
   pub stopped : server.stopped ≡ true → after.stopped ≡ true
   pub served : after.stopped ≡ false → HasServedAt old new who server.party after.party
 
-abbrev pub IsLaterAt : HallView → HallView → ℕ → Option ServerView → Option ServerView → Type 0
+abbrev pub IsLaterAt : HallView → HallView → ℕ → Option AloneView → Option AloneView → Type 0
 IsLaterAt old new who None None = ⊤
 IsLaterAt old new who None (Some after) = ⊥
 IsLaterAt old new who (Some server) None = ⊥
@@ -163,7 +163,7 @@ HasLookedLast old new None = ⊤
 HasLookedLast old new (Some party) = LooksLast old new party.me
 
 -- so does one that is there and serves still
-abbrev pub LooksLastAt : HallView → HallView → ℕ → Option ServerView → Type 0
+abbrev pub LooksLastAt : HallView → HallView → ℕ → Option AloneView → Type 0
 LooksLastAt old new who None = ⊤
 LooksLastAt old new who (Some server) = server.stopped ≡ false → IsSome server.party → LooksLast old new who
 
@@ -199,34 +199,34 @@ IsAtRest clock None = ⊤
 IsAtRest clock (Some party) = IsResting clock party
 
 -- nothing is left for one that serves still
-abbrev pub IsServerAtRest : ℕ → Option ServerView → Type 0
+abbrev pub IsServerAtRest : ℕ → Option AloneView → Type 0
 IsServerAtRest clock None = ⊤
 IsServerAtRest clock (Some server) = server.stopped ≡ false → IsAtRest clock server.party
 
 -- of those on a side nobody has met a refusal of memory
-abbrev pub HaveNotStopped : (ℕ → Type 0) → List ServerView → Type 0
-HaveNotStopped beside servers = (who : ℕ) (server : ServerView) → beside who → server_at servers who ≡ Some server → server.stopped ≡ false
+abbrev pub HaveNotStopped : (ℕ → Type 0) → List AloneView → Type 0
+HaveNotStopped beside servers = (who : ℕ) (server : AloneView) → beside who → server_at servers who ≡ Some server → server.stopped ≡ false
 
 -- a place is as it was, and the participant that is there looked into its mailbox, found it empty, and did nothing else
-pub record IsIdle (old new : SoloView) (who : ℕ) (server : ServerView) : Type 0 where
+pub record IsIdle (old new : SoloView) (who : ℕ) (server : AloneView) : Type 0 where
   pub stays : server_at new.servers who ≡ Some server
   pub looked : IsSome server.party → HasDone old.plain new.plain who (looks_in_vain who new.plain.clock)
 
 -- nothing moved on a side: whoever there had met no refusal of memory was idle; and if nobody had, the mailboxes are as they were, and
 -- those of the side are empty
 pub record IsQuiet (beside : ℕ → Type 0) (old new : SoloView) : Type 0 where
-  pub idle : (who : ℕ) (server : ServerView) → beside who → server_at old.servers who ≡ Some server → server.stopped ≡ false
+  pub idle : (who : ℕ) (server : AloneView) → beside who → server_at old.servers who ≡ Some server → server.stopped ≡ false
       → IsIdle old new who server
   pub boxes : HaveNotStopped beside old.servers → new.plain.boxes ≡ old.plain.boxes
   pub empty : HaveNotStopped beside old.servers → (who : ℕ) → beside who → IsSome (party_at old.servers who)
       → box_of new.plain.boxes who ≡ []
 
 -- a deadline of a participant is still to come
-abbrev pub IsPendingDue : ℕ → List ServerView → ℕ → Type 0
+abbrev pub IsPendingDue : ℕ → List AloneView → ℕ → Type 0
 IsPendingDue clock servers due = (who : ℕ) × (due_at (party_at servers who) ≡ Some due) × (clock < due)
 
 -- the least of a deadline and those of participants that are still to come
-pub record IsNextDue (clock : ℕ) (servers : List ServerView) (until next : ℕ) : Type 0 where
+pub record IsNextDue (clock : ℕ) (servers : List AloneView) (until next : ℕ) : Type 0 where
   pub later : clock < next
   pub within : next ≤ until
   pub whose : (next ≡ until) ⊎ IsPendingDue clock servers next
@@ -240,5 +240,5 @@ pub record IsSooner (clock next : ℕ) (due : Option ℕ) (sooner : ℕ) : Type 
   pub least : (other : ℕ) → due ≡ Some other → clock < other → sooner ≤ other
 
 -- one of them has stopped
-abbrev pub has_stopped : List ServerView → Bool
+abbrev pub has_stopped : List AloneView → Bool
 has_stopped servers = list_any (λ server. server.stopped) servers

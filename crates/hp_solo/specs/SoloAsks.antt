@@ -9,9 +9,9 @@ use Rattle.hp_plain.specs.Opening.{AreHome}
 use Rattle.hp_heap.specs.PlainHeap.{PlainHeap}
 use Rattle.hp_segs.specs.LaterSteps.{armed_ask}
 use Rattle.hp_segs.specs.SegsView.{SegsView}
-use Rattle.hp_proc.specs.Asking.{HasSettledAsks, IsCutFrom}
-use Rattle.hp_proc.specs.Party.{Party}
-use Rattle.hp_proc.specs.Tied.{nothing_yet}
+use Rattle.hp_serve.specs.Asking.{HasSettledAsks, IsCutFrom}
+use Rattle.hp_serve.specs.Party.{Party}
+use Rattle.hp_serve.specs.Tied.{nothing_yet}
 use Rattle.hp_solo.specs.Solo.{MayWait, SoloView}
 
 -- a hall of two as it opens over a segment value: all values are there, nobody has acknowledged a record, each is armed as in that value,

@@ -8,11 +8,11 @@ use Rattle.hp_plain.specs.Course.{IsCourse, course_same, course_then, done_same,
 use Rattle.hp_plain.specs.HallView.{HallView, HasDone}
 use Rattle.hp_hall.specs.Mail.{MailStep, Notes}
 use Rattle.hp_hall.specs.declared.note.Note.TheVariants.{Paused}
-use Rattle.hp_proc.specs.Party.{IsSameParty, Party}
+use Rattle.hp_serve.specs.Party.{IsSameParty, Party}
 use Rattle.hp_solo.specs.Sequence.{IsAloneAway, IsInSequence, Sequence}
 use Rattle.hp_solo.specs.Served.{HasServed, HasServedAt, ServesOn}
 use Rattle.hp_solo.specs.Served.ServesOn.{pauses, rests, serves}
-use Rattle.hp_solo.specs.Solo.{AreLater, IsAway, IsLaterAt, IsLaterParty, ServerView, SoloView, has_stopped, party_in, server_at}
+use Rattle.hp_solo.specs.Solo.{AreLater, IsAway, IsLaterAt, IsLaterParty, AloneView, SoloView, has_stopped, party_in, server_at}
 
 -- from one state to a later one: the plain values go on, and so does each that serves; and where one alone is away, what it did and what
 -- the others did meanwhile stands in a sequence of its calls
@@ -59,7 +59,7 @@ party_same None = tt
 party_same (Some party) = record { me = refl; socket = refl; plan = refl; deadline = refl; context = refl }
 
 -- a place stays where one that is there does nothing
-pub server_stays : (old new : HallView) (who : ℕ) (server : Option ServerView) → (IsSome (party_in server) → HasDone old new who [])
+pub server_stays : (old new : HallView) (who : ℕ) (server : Option AloneView) → (IsSome (party_in server) → HasDone old new who [])
     → IsLaterAt old new who server server
 server_stays old new who None nothing = tt
 server_stays old new who (Some server) nothing = record {
@@ -90,7 +90,7 @@ pub not_before : (old new : Bool) → (old ≡ true → new ≡ true) → new �
 not_before false new later going = refl
 not_before true new later going = let is : new ≡ true = later refl in cc
 
-server_then : (a b c : HallView) (who : ℕ) → length b.owns ≡ length a.owns → (first second third : Option ServerView)
+server_then : (a b c : HallView) (who : ℕ) → length b.owns ≡ length a.owns → (first second third : Option AloneView)
     → IsLaterAt a b who first second → IsLaterAt b c who second third → IsLaterAt a c who first third
 server_then a b c who count None None None here next = tt
 server_then a b c who count None None (Some third) here next = absurd next
@@ -116,7 +116,7 @@ none_stays None (Some b) later none = absurd later
 none_stays (Some a) None later none = refl
 none_stays (Some a) (Some b) later none = cc
 
-away_stays : (old new : HallView) (who : ℕ) (a b : Option ServerView) → IsLaterAt old new who a b → IsAway a → IsAway b
+away_stays : (old new : HallView) (who : ℕ) (a b : Option AloneView) → IsLaterAt old new who a b → IsAway a → IsAway b
 away_stays old new who None b later away = absurd away
 away_stays old new who (Some a) None later away = absurd later
 away_stays old new who (Some a) (Some b) later away = none_stays a.party b.party later.party away
@@ -126,7 +126,7 @@ none_before None b later none = refl
 none_before (Some a) None later none = absurd later
 none_before (Some a) (Some b) later none = cc
 
-away_before : (old new : HallView) (who : ℕ) (a b : Option ServerView) → IsLaterAt old new who a b → IsAway b → IsAway a
+away_before : (old new : HallView) (who : ℕ) (a b : Option AloneView) → IsLaterAt old new who a b → IsAway b → IsAway a
 away_before old new who None None later away = absurd away
 away_before old new who None (Some b) later away = absurd later
 away_before old new who (Some a) None later away = absurd later
@@ -141,17 +141,17 @@ alone_later a b me later is = record {
 }
 
 -- who has stopped has stopped later on
-abbrev StaysStopped : Option ServerView → Option ServerView → Type 0
+abbrev StaysStopped : Option AloneView → Option AloneView → Type 0
 StaysStopped None after = ⊤
 StaysStopped (Some server) None = ⊥
 StaysStopped (Some server) (Some after) = server.stopped ≡ true → after.stopped ≡ true
 
-stays_stopped : (old new : HallView) (who : ℕ) (a b : Option ServerView) → IsLaterAt old new who a b → StaysStopped a b
+stays_stopped : (old new : HallView) (who : ℕ) (a b : Option AloneView) → IsLaterAt old new who a b → StaysStopped a b
 stays_stopped old new who None b later = tt
 stays_stopped old new who (Some a) None later = later
 stays_stopped old new who (Some a) (Some b) later = later.stopped
 
-none_so_far : (old new : List ServerView) → ((who : ℕ) → StaysStopped (server_at old who) (server_at new who)) → has_stopped new ≡ false
+none_so_far : (old new : List AloneView) → ((who : ℕ) → StaysStopped (server_at old who) (server_at new who)) → has_stopped new ≡ false
     → has_stopped old ≡ false
 none_so_far [] new stays off = refl
 none_so_far (server ∷ old) [] stays off = absurd (stays zero)

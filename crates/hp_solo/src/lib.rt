@@ -1,7 +1,7 @@
 //! A hall in which participants take turns in one thread: while one of them does its line, the others serve whenever it waits.
 #![tactic(auto)]
 
-mod server;
+mod alone;
 mod solo_end;
 mod solo_hall;
 

@@ -9,11 +9,11 @@ mod ending;
 mod serving;
 mod waiting;
 
-use crate::server::{Server, places};
+use crate::alone::{Alone, places};
 use hp_base::Mapper;
 use hp_hall::Hall;
 use hp_plain::PlainHall;
-use hp_proc::Participant;
+use hp_serve::Server;
 use std::alloc::{AllocError, Global};
 use std::marker::Model;
 
@@ -22,7 +22,7 @@ use std::marker::Model;
 #[derive(Drop)]
 pub struct SoloHall<'p, M: Mapper> {
     plain: PlainHall,
-    servers: Vec<Server<'p, M>>,
+    servers: Vec<Alone<'p, M>>,
 }
 
 impl<'p, M: Mapper> Model for SoloHall<'p, M> {
@@ -45,7 +45,7 @@ impl<'p, M: Mapper> SoloHall<'p, M> {
     }
 
     /// Takes a participant out, which does its line from then on; it is `None` where it is out already. Own.
-    pub fn away(&mut self, me: u8) -> Option<Participant<'p, M>>
+    pub fn away(&mut self, me: u8) -> Option<Server<'p, M>>
         requires declared { me < length self.old.plain.owns }
         ensures party { result ≡ party_at self.old.servers me }
         ensures tied { IfSome result (λ party. IsTiedAt self.new.plain me party) }
@@ -58,7 +58,7 @@ impl<'p, M: Mapper> SoloHall<'p, M> {
     }
 
     /// A participant comes back from its line, and serves from then on. Own.
-    pub fn back(&mut self, participant: Participant<'p, M>)
+    pub fn back(&mut self, participant: Server<'p, M>)
         requires declared { participant.me < length self.old.plain.owns }
         requires tied { IsTiedAt self.old.plain participant.me participant }
         ensures party { party_at self.new.servers participant.entry.me ≡ Some participant.entry }

@@ -10,10 +10,10 @@ use Rattle.hp_plain.specs.Course.{IsCourse}
 use Rattle.hp_plain.specs.HallView.{HallView, IsHome, joined_in, own_at, part_in, slot_at}
 use Rattle.hp_plain.specs.Opening.{AreHome}
 use Rattle.hp_plain.specs.PlainState.{plain_state}
-use Rattle.hp_proc.proofs.MemberLemmas.{at_each}
-use Rattle.hp_proc.specs.InHall.{CanServe, IsTiedIn, StaysAlone}
-use Rattle.hp_proc.specs.Party.{IsSameParty, Party}
-use Rattle.hp_proc.specs.SegmentSlot.{MayHold}
+use Rattle.hp_serve.proofs.MemberLemmas.{at_each}
+use Rattle.hp_serve.specs.InHall.{CanServe, IsTiedIn, StaysAlone}
+use Rattle.hp_serve.specs.Party.{IsSameParty, Party}
+use Rattle.hp_serve.specs.SegmentSlot.{MayHold}
 use Rattle.hp_solo.specs.Solo.{IsPartyServed, IsTiedAt, MayWait, SoloView}
 use Rattle.hp_solo.specs.SoloCourse.{IsSoloCourse}
 use Rattle.hp_solo.specs.SoloState.{solo_state}

@@ -30,9 +30,9 @@ use Rattle.hp_hall.specs.Values.{Fits, IsHeap, IsSoundKept}
 use Rattle.hp_hall.specs.declared.kept.Kept.{Kept}
 use Rattle.hp_hall.specs.declared.kept.Kept.TheVariants.{Heap, Segments}
 use Rattle.hp_plain.proofs.Opened.{opened_home, opened_segs}
-use Rattle.hp_proc.specs.Asking.{GrowsHeld, HasSettledAsks}
-use Rattle.hp_proc.specs.Party.{Party}
-use Rattle.hp_proc.specs.Tied.{nothing_yet}
+use Rattle.hp_serve.specs.Asking.{GrowsHeld, HasSettledAsks}
+use Rattle.hp_serve.specs.Party.{Party}
+use Rattle.hp_serve.specs.Tied.{nothing_yet}
 use Rattle.hp_proc.proofs.Unarmed.{all_alike, unarmed_new}
 use Rattle.hp_solo.specs.Solo.{MayWait, SoloView}
 use Rattle.hp_solo.specs.SoloAsks.{IsInHand, IsOpening, MayAsk, MayBeginToAsk, MayGiveUp}

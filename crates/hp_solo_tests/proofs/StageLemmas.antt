@@ -7,8 +7,8 @@ use Rattle.hp_plain.specs.Course.{IsCourse}
 use Rattle.hp_plain.specs.HallView.{HallView, IsHome, own_at, seen_in, slot_at}
 use Rattle.hp_plain.specs.Opening.{AreHome}
 use Rattle.hp_hall.specs.Own.{Own}
-use Rattle.hp_proc.specs.Party.{Party}
-use Rattle.hp_proc.specs.Tied.{IsTied, nothing_yet}
+use Rattle.hp_serve.specs.Party.{Party}
+use Rattle.hp_serve.specs.Tied.{IsTied, nothing_yet}
 use Rattle.hp_solo.specs.Solo.{IsPartyServed, IsTiedAt}
 use Rattle.hp_solo.specs.SoloAsks.{IsOpening}
 use Rattle.hp_solo.proofs.SoloTies.{tied_on}

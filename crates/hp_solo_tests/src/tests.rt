@@ -6,7 +6,7 @@ ghost use Rattle.hp_plain.specs.Opening.{AreInOrder};
 ghost use Rattle.hp_heap.specs.History.{HeapView};
 ghost use Rattle.hp_log.specs.declared.log_record.LogRecord.{LogRecord};
 ghost use Rattle.hp_segs.specs.Opening.{opening};
-ghost use Rattle.hp_proc.specs.Tied.{IsTied, nothing_yet};
+ghost use Rattle.hp_serve.specs.Tied.{IsTied, nothing_yet};
 ghost use Rattle.hp_solo.specs.SoloAsks.{IsOpening};
 
 mod acts;

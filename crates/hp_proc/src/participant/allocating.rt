@@ -8,14 +8,14 @@ ghost use Rattle.hp_script.specs.Part.{Part};
 ghost use Rattle.hp_script.specs.declared.answer.Answer.{Answer};
 ghost use Rattle.hp_script.specs.declared.line.Act.TheVariants as act;
 ghost use Rattle.hp_proc.specs.Allocating.{serving, trying};
-ghost use Rattle.hp_proc.specs.Clocks.{RisesWithin, longest_allocation, longest_growth};
+ghost use Rattle.hp_serve.specs.Clocks.{RisesWithin, longest_allocation, longest_growth};
 ghost use Rattle.hp_proc.specs.Contexts.{IsNextLine, IsSocketHeapOf, named_heap};
 ghost use Rattle.hp_proc.specs.Heaps.{NamedHeap, heaps_for, socket_heaps};
-ghost use Rattle.hp_proc.specs.Party.{after_answer, with_calls, with_context};
+ghost use Rattle.hp_proc.specs.ParticipantView.{after_answer, with_calls, with_context};
 ghost use Rattle.hp_proc.specs.Progress.{AreSettled, Brings, IsAllocation, MayDo, Tries};
 ghost use Rattle.hp_proc.specs.declared.socket_heap.SocketHeap.{SocketHeap};
 ghost use Rattle.hp_hall.specs.HallState.{IsBusy};
-ghost use Rattle.hp_proc.specs.InHall.{DoesLineHere, HasRoom, HoldsIn, IsIdleAgain, IsReadyIn, KeepsHeld, did_in, moment, moment_with};
+ghost use Rattle.hp_proc.specs.LineInHall.{DoesLineHere, HasRoom, HoldsIn, IsIdleAgain, IsReadyIn, KeepsHeld, did_in, moment, moment_with};
 
 use super::Participant;
 use crate::page_sizes::without_hint;

@@ -6,11 +6,11 @@ ghost use Rattle.hp_heap.specs.Step.{resize_answer};
 ghost use Rattle.hp_heap.specs.declared.entry.HeapCall.TheVariants as call;
 ghost use Rattle.hp_script.specs.declared.answer.Answer.TheVariants as gives;
 ghost use Rattle.hp_proc.specs.Freeing.{MayAct, acting, cutting, freeing, left_of, resized_answer};
-ghost use Rattle.hp_proc.specs.Party.{after_call};
+ghost use Rattle.hp_proc.specs.ParticipantView.{after_call};
 ghost use Rattle.hp_proc.specs.Progress.{AreSettled, caller_of};
 ghost use Rattle.hp_proc.specs.declared.searched_heap.SearchedHeap.{SearchedHeap};
 ghost use Rattle.hp_hall.specs.HallState.{OthersStay};
-ghost use Rattle.hp_proc.specs.InHall.{DoesHeld, HasRoom, HoldsIn, KeepsHeld, moment};
+ghost use Rattle.hp_proc.specs.LineInHall.{DoesHeld, HasRoom, HoldsIn, KeepsHeld, moment};
 
 use super::Participant;
 use crate::element_act::{ElementAct, Left};

@@ -2,16 +2,16 @@
 ghost use Rattle.std.specs.Prelude.{◌≡◌, ◌+◌, ◌<◌, ◌≤◌, Some, None, IfOk, OnOk, IsSome, false};
 ghost use Rattle.hp_base.specs.declared.tag.Tag.{Tag};
 ghost use Rattle.hp_proc.specs.Allocating.{asking, behind_asking, with_run};
-ghost use Rattle.hp_proc.specs.Clocks.{RisesWithin, longest_growth, longest_wait};
+ghost use Rattle.hp_serve.specs.Clocks.{RisesWithin, longest_growth, longest_wait};
 ghost use Rattle.hp_proc.specs.Doing.{Doing};
 ghost use Rattle.hp_proc.specs.Heaps.{page_sizes_for};
 ghost use Rattle.hp_proc.specs.Progress.{AreSettled};
 ghost use Rattle.hp_hall.specs.HallState.{IsBusy};
-ghost use Rattle.hp_proc.specs.InHall.{DoesHeld, HasRoom, HoldsIn, KeepsHeld, moment};
+ghost use Rattle.hp_proc.specs.LineInHall.{DoesHeld, HasRoom, HoldsIn, KeepsHeld, moment};
 
 use super::Participant;
 use crate::page_sizes::page_sizes_for;
-use crate::pages_asked::PagesAsked;
+use hp_serve::PagesAsked;
 use crate::socket_heap::SocketHeap;
 use hp_base::{Mapper, Request};
 use hp_hall::Waiting;

@@ -10,7 +10,7 @@ ghost use Rattle.hp_heap.specs.Step.{address_answer, resize_answer, run_answer};
 ghost use Rattle.hp_heap.specs.Tagged.{HasTaggedAt};
 ghost use Rattle.hp_heap.specs.declared.entry.HeapAnswer.TheVariants as gives;
 ghost use Rattle.hp_heap.specs.declared.entry.HeapCall.TheVariants as call;
-ghost use Rattle.hp_proc.specs.Party.{after_call};
+ghost use Rattle.hp_proc.specs.ParticipantView.{after_call};
 ghost use Rattle.hp_proc.specs.Progress.{caller_of};
 
 use super::Participant;

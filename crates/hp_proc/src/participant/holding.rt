@@ -3,12 +3,13 @@ ghost use Rattle.std.specs.Prelude.{◌≡◌, ◌<◌, IfOk, OnErr};
 ghost use Rattle.hp_base.specs.declared.limits.TheConstants.{MAX_HEAPS};
 ghost use Rattle.hp_hall.specs.Mail.{Gives};
 ghost use Rattle.hp_hall.specs.declared.kept.Kept.{Kept};
-ghost use Rattle.hp_proc.specs.Clocks.{RisesWithin};
+ghost use Rattle.hp_serve.specs.Clocks.{RisesWithin};
 ghost use Rattle.hp_proc.specs.Doing.{Doing};
-ghost use Rattle.hp_proc.specs.Party.{IsSameParty};
+ghost use Rattle.hp_serve.specs.Party.{IsSameParty};
 ghost use Rattle.hp_proc.specs.Progress.{AreSettled, Does, IsInHand, MayDo, in_hand};
 ghost use Rattle.hp_hall.specs.HallState.{IsBusy, OthersStay, SlotsStayBut};
-ghost use Rattle.hp_proc.specs.InHall.{AreFreeBut, HasRoom, HoldsIn, IsFreeAt, IsIdleIn, IsReadyIn, IsTiedIn, did_in, moment, moment_with};
+ghost use Rattle.hp_proc.specs.LineInHall.{AreFreeBut, HasRoom, HoldsIn, IsFreeAt, IsIdleIn, IsReadyIn, did_in, moment, moment_with};
+ghost use Rattle.hp_serve.specs.InHall.{IsTiedIn};
 
 use super::Participant;
 use hp_base::Mapper;

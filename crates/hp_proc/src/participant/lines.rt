@@ -3,13 +3,13 @@ ghost use Rattle.std.specs.Prelude.{◌≡◌, ◌^◌, ◌<◌, ◌≤◌, Some
 ghost use Rattle.hp_base.specs.Requests.{rounded_size};
 ghost use Rattle.hp_base.specs.declared.request.BadRequest.TheVariants as bad;
 ghost use Rattle.hp_script.specs.declared.line.Act.TheVariants as act;
-ghost use Rattle.hp_proc.specs.Clocks.{RisesWithin, longest_wait};
+ghost use Rattle.hp_serve.specs.Clocks.{RisesWithin, longest_wait};
 ghost use Rattle.hp_proc.specs.Contexts.{IsNextLine};
 ghost use Rattle.hp_proc.specs.Freeing.{resize_refusal};
-ghost use Rattle.hp_proc.specs.Party.{with_context};
+ghost use Rattle.hp_proc.specs.ParticipantView.{with_context};
 ghost use Rattle.hp_proc.specs.Progress.{IsLineBuilt, MayDo};
 ghost use Rattle.hp_hall.specs.HallState.{IsBusy};
-ghost use Rattle.hp_proc.specs.InHall.{DoesLineHere, IsIdleAgain, IsReadyIn, moment};
+ghost use Rattle.hp_proc.specs.LineInHall.{DoesLineHere, IsIdleAgain, IsReadyIn, moment};
 
 use super::Participant;
 use hp_base::{BadRequest, Mapper, round64};

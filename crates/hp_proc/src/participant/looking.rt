@@ -3,16 +3,16 @@ ghost use Rattle.std.specs.Prelude.{◌≡◌, ◌<◌, ◌∷◌, List, Some, N
 ghost use Rattle.hp_base.specs.declared.tag.Tag.{Tag};
 ghost use Rattle.hp_script.specs.Acts.{label_used};
 ghost use Rattle.hp_proc.specs.Allocating.{unless_answered};
-ghost use Rattle.hp_proc.specs.Clocks.{RisesWithin, longest_wait};
+ghost use Rattle.hp_serve.specs.Clocks.{RisesWithin, longest_wait};
 ghost use Rattle.hp_proc.specs.Contexts.{AreFactsOf, IsPlaceOf};
 ghost use Rattle.hp_proc.specs.Doing.{Doing};
 ghost use Rattle.hp_proc.specs.Freeing.{IsSizedWell, act_for, acting, behind_looking, left_of, looking};
 ghost use Rattle.hp_proc.specs.Lines.{Facts, on_element};
-ghost use Rattle.hp_proc.specs.Party.{with_calls};
+ghost use Rattle.hp_proc.specs.ParticipantView.{with_calls};
 ghost use Rattle.hp_proc.specs.Progress.{AreSettled, MayDo};
 ghost use Rattle.hp_proc.specs.declared.searched_heap.SearchedHeap.{SearchedHeap};
 ghost use Rattle.hp_hall.specs.HallState.{IsBusy, OthersStay};
-ghost use Rattle.hp_proc.specs.InHall.{DoesHeld, DoesHere, HasRoom, HoldsIn, IsIdleAgain, IsReadyIn, KeepsHeld, moment};
+ghost use Rattle.hp_proc.specs.LineInHall.{DoesHeld, DoesHere, HasRoom, HoldsIn, IsIdleAgain, IsReadyIn, KeepsHeld, moment};
 
 use super::Participant;
 use crate::element_act::{ElementAct, Left};

@@ -3,11 +3,11 @@ ghost use Rattle.std.specs.Prelude.{◌≡◌, ◌<◌, ◌≤◌, ◌⊎◌, �
 ghost use Rattle.hp_solo.specs.Draining.{IsLeastDue, IsNoneDue};
 ghost use Rattle.hp_solo.specs.Solo.{IsNextDue, IsSooner};
 
-use crate::server::Server;
+use crate::alone::Alone;
 use hp_base::Mapper;
 
 // The least of a deadline and those of participants that are there, of such as are still to come.
-pub fn next_due<M: Mapper>(servers: &[Server<'_, M>], clock: u64, until: u64) -> u64
+pub fn next_due<M: Mapper>(servers: &[Alone<'_, M>], clock: u64, until: u64) -> u64
     requires { clock < until }
     ensures { IsNextDue clock servers.now until result }
 {
@@ -21,7 +21,7 @@ pub fn next_due<M: Mapper>(servers: &[Server<'_, M>], clock: u64, until: u64) ->
 
 // The least deadline of participants that are there that is still to come. One at the end of the clock's type never passes, and counts for
 // none.
-pub fn least_due<M: Mapper>(servers: &[Server<'_, M>], clock: u64) -> Option<u64>
+pub fn least_due<M: Mapper>(servers: &[Alone<'_, M>], clock: u64) -> Option<u64>
     ensures least { IfSome result (IsLeastDue clock servers.now) }
     ensures none { IfNone result (IsNoneDue clock servers.now) }
 {

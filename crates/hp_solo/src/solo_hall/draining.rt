@@ -4,7 +4,7 @@ ghost use Rattle.hp_base.specs.declared.limits.TheConstants.{MAX_HEAPS};
 ghost use Rattle.hp_plain.specs.Course.{IsCourse};
 ghost use Rattle.hp_plain.specs.HallSteps.{after_pause};
 ghost use Rattle.hp_plain.specs.HallView.{IsHome, part_in, slot_at, taken_from};
-ghost use Rattle.hp_proc.specs.Falling.{if_moved};
+ghost use Rattle.hp_serve.specs.Falling.{if_moved};
 ghost use Rattle.hp_solo.specs.Draining.{AreEmpty, Drains, IsDrained, IsLeastDue, IsNoneDue, TurnsLeave};
 ghost use Rattle.hp_solo.specs.Sequence.{Visits};
 ghost use Rattle.hp_solo.specs.Served.{IsInRisingNumber};

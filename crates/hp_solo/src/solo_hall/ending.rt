@@ -5,7 +5,7 @@ ghost use Rattle.hp_solo.specs.Ending.{AreThere, LeaveTables, has_absent};
 ghost use Rattle.hp_solo.specs.Solo.{AreTied};
 
 use super::SoloHall;
-use crate::server::Server;
+use crate::alone::Alone;
 use crate::solo_end::SoloEnd;
 use hp_base::Mapper;
 use hp_maps::Table;
@@ -55,7 +55,7 @@ impl<'p, M: Mapper> SoloHall<'p, M> {
 }
 
 // The tables of participants that are all there, by number.
-fn tables_of<M: Mapper>(alloc: Global, servers: &[Server<'_, M>]) -> Result<Vec<Table>, AllocError>
+fn tables_of<M: Mapper>(alloc: Global, servers: &[Alone<'_, M>]) -> Result<Vec<Table>, AllocError>
     requires { AreThere servers.now }
     ensures { IfOk result (λ tables. LeaveTables servers.now tables.items) }
 {

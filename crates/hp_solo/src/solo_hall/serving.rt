@@ -3,7 +3,7 @@ ghost use Rattle.std.specs.Prelude.{◌≡◌, ◌≢◌, ℕ, ◌+◌, ◌≤�
 ghost use Rattle.hp_base.specs.declared.limits.TheConstants.{MAX_HEAPS};
 ghost use Rattle.hp_plain.specs.HallView.{IsHome, slot_at};
 ghost use Rattle.hp_hall.specs.Weights.{boxes_weight, pending_at};
-ghost use Rattle.hp_proc.specs.Falling.{if_moved};
+ghost use Rattle.hp_serve.specs.Falling.{if_moved};
 ghost use Rattle.hp_solo.specs.Sequence.{Visit, Visits};
 ghost use Rattle.hp_solo.specs.Served.{IsInRisingNumber, KeepsServingAt};
 ghost use Rattle.hp_solo.specs.Solo.{
@@ -21,14 +21,14 @@ ghost use Rattle.hp_solo.specs.Solo.{
   servers_weight,
 };
 
-use crate::server::Server;
+use crate::alone::Alone;
 use hp_base::Mapper;
 use hp_plain::PlainHall;
 
 // Serves those from one number to below another, in rising number, each until nothing is left for it, and tells whether something moved.
 pub fn serve_range<M: Mapper>(
     hall: &mut PlainHall,
-    servers: &mut Vec<Server<'_, M>>,
+    servers: &mut Vec<Alone<'_, M>>,
     from: usize,
     to: usize,
 ) -> bool
@@ -65,7 +65,7 @@ pub fn serve_range<M: Mapper>(
 // Serves the one of a number.
 fn serve_at<M: Mapper>(
     hall: &mut PlainHall,
-    servers: &mut Vec<Server<'_, M>>,
+    servers: &mut Vec<Alone<'_, M>>,
     number: usize,
 ) -> bool
     requires there { IsHome (slot_at hall.old MAX_HEAPS) }

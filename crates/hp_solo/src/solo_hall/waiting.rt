@@ -5,7 +5,7 @@ ghost use Rattle.hp_plain.specs.HallSteps.{with_note};
 ghost use Rattle.hp_plain.specs.HallView.{IsHome, slot_at};
 ghost use Rattle.hp_hall.specs.Weights.{IsPending, pending_at};
 ghost use Rattle.hp_hall.specs.declared.note.Note.{Note};
-ghost use Rattle.hp_proc.specs.Falling.{if_moved};
+ghost use Rattle.hp_serve.specs.Falling.{if_moved};
 ghost use Rattle.hp_solo.specs.Beside.{HaveServedBeside};
 ghost use Rattle.hp_solo.specs.Sequence.{VisitsBeside};
 ghost use Rattle.hp_solo.specs.Solo.{

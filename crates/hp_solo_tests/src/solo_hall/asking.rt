@@ -3,7 +3,7 @@ ghost use Rattle.std.specs.Prelude.{◌≡◌, ◌≤◌, IfOk, IfSome};
 ghost use Rattle.hp_heap.specs.Growing.{CanGrow, after_grow};
 ghost use Rattle.hp_heap.specs.Laws.{IsRunCut};
 ghost use Rattle.hp_plain.specs.HallView.{part_in};
-ghost use Rattle.hp_proc.specs.Asking.{GrowsHeld};
+ghost use Rattle.hp_serve.specs.Asking.{GrowsHeld};
 ghost use Rattle.hp_solo.specs.Solo.{MayWait};
 ghost use Rattle.hp_solo.specs.SoloAsks.{IsInHand, MayAsk, MayBeginToAsk, MayGiveUp};
 
@@ -11,7 +11,8 @@ use crate::tests::PAGE;
 use hp_base::{Caller, MemMapper, Request, Run};
 use hp_hall::{Hall, Slot};
 use hp_heap::Heap;
-use hp_proc::{PagesAsked, Participant};
+use hp_proc::Participant;
+use hp_serve::PagesAsked;
 use hp_solo::SoloHall;
 use std::alloc::AllocError;
 

@@ -3,7 +3,7 @@ ghost use Rattle.std.specs.Prelude.{◌≡◌, ◌<◌, ℕ, [], IfOk, OnOk, len
 ghost use Rattle.hp_base.specs.declared.limits.TheConstants.{MAX_HEAPS};
 ghost use Rattle.hp_plain.specs.HallView.{IsHome, own_at, slot_at};
 ghost use Rattle.hp_segs.specs.Standing.{IsArmed, owned_by};
-ghost use Rattle.hp_proc.specs.Tied.{nothing_yet};
+ghost use Rattle.hp_serve.specs.Tied.{nothing_yet};
 ghost use Rattle.hp_solo.specs.SoloAsks.{IsOpening, MayBeginToAsk};
 
 use crate::tests::{armed_segs, member, opening_segs, plain_hall};

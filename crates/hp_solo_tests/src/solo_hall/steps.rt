@@ -8,7 +8,8 @@ use crate::tests::shown::{End, SegsShown, shown_in};
 use hp_base::{Action, MemMapper};
 use hp_frame::Body;
 use hp_hall::{Hall, Posted, Waiting};
-use hp_proc::{Participant, framed, put_back, take_segments};
+use hp_proc::Participant;
+use hp_serve::{framed, put_back, take_segments};
 use hp_solo::SoloHall;
 use std::alloc::AllocError;
 

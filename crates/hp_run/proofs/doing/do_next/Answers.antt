@@ -7,11 +7,11 @@ use Rattle.hp_hall.specs.Weights.{pending_at}
 use Rattle.hp_plain.specs.HallView.{HallView, heard_in, own_at, part_in, seen_in}
 use Rattle.hp_script.specs.declared.answer.Answer.{Answer}
 use Rattle.hp_script.specs.declared.line.Line.{Line}
-use Rattle.hp_proc.specs.Clocks.{IsOneClock}
+use Rattle.hp_serve.specs.Clocks.{IsOneClock}
 use Rattle.hp_proc.specs.LinesDone.{Course}
 use Rattle.hp_proc.specs.Progress.{DoesLine, IsLineBuilt, MayDo, Moment, moment_of}
-use Rattle.hp_proc.specs.Tied.{IsTied}
-use Rattle.hp_proc.proofs.Rising.{one_clock}
+use Rattle.hp_serve.specs.Tied.{IsTied}
+use Rattle.hp_serve.proofs.Rising.{one_clock}
 use Rattle.hp_solo.specs.Solo.{IsAway, SoloView, server_at}
 use Rattle.hp_solo.specs.SoloState.{solo_state}
 use Rattle.hp_joint.specs.SoFar.{SoFar}

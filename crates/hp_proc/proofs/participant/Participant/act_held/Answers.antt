@@ -7,7 +7,8 @@ use Rattle.hp_script.specs.declared.answer.Answer.{Answer}
 use Rattle.hp_script.specs.declared.answer.Answer.TheVariants as answer
 use Rattle.hp_proc.specs.Doing.{Doing}
 use Rattle.hp_proc.specs.Freeing.{acting, resized, resized_answer, resizing}
-use Rattle.hp_proc.specs.Party.{Party, after_call}
+use Rattle.hp_serve.specs.Party.{Party}
+use Rattle.hp_proc.specs.ParticipantView.{after_call}
 use Rattle.hp_proc.specs.Progress.{AreSettled, Does, caller_of}
 use Rattle.hp_proc.specs.declared.element_act.ElementAct.{ElementAct}
 use Rattle.hp_proc.specs.declared.searched_heap.SearchedHeap.{SearchedHeap}
@@ -17,7 +18,7 @@ use Rattle.hp_proc.proofs.Joining.{does_same}
 use Rattle.hp_proc.proofs.PagesStay.{resize_pages}
 use Rattle.hp_hall.specs.HallState.{HallState}
 use Rattle.hp_hall.proofs.HallStates.{did_same, others_same}
-use Rattle.hp_proc.specs.InHall.{HoldsIn, KeepsHeld, did_in, moment, moment_with}
+use Rattle.hp_proc.specs.LineInHall.{HoldsIn, KeepsHeld, did_in, moment, moment_with}
 use Rattle.hp_proc.proofs.Holds.{keeps_called, keeps_same, settled_called}
 use Rattle.hp_proc.proofs.participant.Participant.act_held.Goals as goal
 

@@ -10,15 +10,15 @@ use Rattle.hp_proc.specs.Courses.{is_zone_act, maker_from}
 use Rattle.hp_proc.specs.Doing.{Doing}
 use Rattle.hp_proc.specs.Freeing.{act_for, acting, looking}
 use Rattle.hp_proc.specs.Lines.{Facts, on_element, tag_made}
-use Rattle.hp_proc.specs.Party.{Party}
+use Rattle.hp_serve.specs.Party.{Party}
 use Rattle.hp_proc.specs.Progress.{Does}
 use Rattle.hp_proc.specs.declared.element_act.ElementAct.{ElementAct}
 use Rattle.hp_proc.specs.declared.searched_heap.SearchedHeap.{SearchedHeap}
-use Rattle.hp_proc.proofs.AskedAlong.{if_ok}
+use Rattle.hp_serve.proofs.AskedAlong.{if_ok}
 use Rattle.hp_proc.proofs.Joining.{does_same}
 use Rattle.hp_proc.proofs.Makers.{made, unmade}
 use Rattle.hp_hall.proofs.HallStates.{did_same}
-use Rattle.hp_proc.specs.InHall.{DoesHere, did_in, moment}
+use Rattle.hp_proc.specs.LineInHall.{DoesHere, did_in, moment}
 use Rattle.hp_proc.proofs.Holds.{again_same}
 use Rattle.hp_proc.proofs.participant.Participant.act_on.Goals as goal
 

@@ -13,8 +13,9 @@ use Rattle.hp_proc.specs.Allocating.{asking, behind_asking, trying, unless_found
 use Rattle.hp_proc.specs.Contexts.{named_heap}
 use Rattle.hp_proc.specs.Doing.{Doing}
 use Rattle.hp_proc.specs.Heaps.{NamedHeap, page_sizes_for}
-use Rattle.hp_proc.specs.InHall.{HoldsIn, KeepsHeld, DoesHeld, did_in, moment, moment_with}
-use Rattle.hp_proc.specs.Party.{Party, after_call}
+use Rattle.hp_proc.specs.LineInHall.{HoldsIn, KeepsHeld, DoesHeld, did_in, moment, moment_with}
+use Rattle.hp_serve.specs.Party.{Party}
+use Rattle.hp_proc.specs.ParticipantView.{after_call}
 use Rattle.hp_proc.specs.Progress.{AreSettled, DoesIn, Tries, caller_of}
 use Rattle.hp_proc.specs.declared.socket_heap.SocketHeap.{SocketHeap}
 use Rattle.hp_proc.proofs.HandCalls.{call_index, call_serves}

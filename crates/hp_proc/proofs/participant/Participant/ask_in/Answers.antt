@@ -6,15 +6,15 @@ use Rattle.hp_proc.specs.Contexts.{Context}
 use Rattle.hp_heap.specs.declared.entry.HeapAnswer.TheVariants as gives
 use Rattle.hp_heap.specs.declared.entry.HeapCall.TheVariants as call
 use Rattle.hp_proc.specs.Allocating.{searching_again, with_run}
-use Rattle.hp_proc.specs.Asking.{GrowsHeld, HasSettledAsks}
+use Rattle.hp_serve.specs.Asking.{GrowsHeld, HasSettledAsks}
 use Rattle.hp_proc.specs.Doing.{Doing}
-use Rattle.hp_proc.specs.Party.{Party}
+use Rattle.hp_serve.specs.Party.{Party}
 use Rattle.hp_proc.specs.Progress.{Does, in_hand, moment_of}
 use Rattle.hp_proc.proofs.HandAsked.{held_some, asked_entries, asked_serves, can_grow, does_ask, hand_asked, hand_grown, none_asked}
-use Rattle.hp_proc.proofs.AskedAlong.{held_same}
+use Rattle.hp_serve.proofs.AskedAlong.{held_same}
 use Rattle.hp_proc.proofs.HandCalls.{call_index, call_serves}
 use Rattle.hp_proc.proofs.HandTried.{called_then}
-use Rattle.hp_proc.specs.InHall.{did_in}
+use Rattle.hp_proc.specs.LineInHall.{did_in}
 use Rattle.hp_proc.proofs.Holds.{remains_called, remains_calls}
 use Rattle.hp_proc.proofs.participant.Participant.ask_in.Goals as goal
 

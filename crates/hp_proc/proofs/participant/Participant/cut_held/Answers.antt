@@ -7,27 +7,28 @@ use Rattle.hp_heap.specs.declared.entry.HeapCall.TheVariants as call
 use Rattle.hp_segs.specs.Steps.{after_retire}
 use Rattle.hp_script.specs.declared.answer.Answer.TheVariants as answer
 use Rattle.hp_proc.specs.Acting.{Acts}
-use Rattle.hp_proc.specs.Asking.{GivesUp, HasSettledAsks}
+use Rattle.hp_serve.specs.Asking.{GivesUp, HasSettledAsks}
 use Rattle.hp_proc.specs.Doing.{Doing}
 use Rattle.hp_proc.specs.Freeing.{cutting, giving_up, left_of}
-use Rattle.hp_proc.specs.Party.{IsSameParty, Party, after_call}
+use Rattle.hp_serve.specs.Party.{IsSameParty, Party}
+use Rattle.hp_proc.specs.ParticipantView.{after_call}
 use Rattle.hp_proc.specs.Progress.{Does, caller_of, in_hand, moment_of}
-use Rattle.hp_proc.specs.Serving.{gives_segments, takes_segments}
+use Rattle.hp_serve.specs.Serving.{gives_segments, takes_segments}
 use Rattle.hp_proc.specs.declared.element_act.Left.TheVariants.{GaveUp}
 use Rattle.hp_proc.specs.declared.searched_heap.SearchedHeap.{SearchedHeap}
-use Rattle.hp_proc.proofs.AskedAlong.{settled_more}
-use Rattle.hp_proc.proofs.Carrying.{same_party}
+use Rattle.hp_serve.proofs.AskedAlong.{settled_more}
+use Rattle.hp_serve.proofs.Carrying.{same_party}
 use Rattle.hp_proc.proofs.HandCalls.{call_index, call_serves, does_acted, does_call}
 use Rattle.hp_proc.proofs.HandCut.{cut_from_held, cut_leaves, cut_nothing, given_up_armed, given_up_part, held_behind_cut}
 use Rattle.hp_proc.proofs.HandMoved.{hand_moved, hand_same}
 use Rattle.hp_proc.proofs.Joining.{does_same, does_still, does_then}
 use Rattle.hp_hall.specs.HallState.{Did, OthersStay}
-use Rattle.hp_proc.specs.SegmentSlot.{MayHold}
+use Rattle.hp_serve.specs.SegmentSlot.{MayHold}
 use Rattle.hp_hall.proofs.HallStates.{did_same, did_then, others_same}
-use Rattle.hp_proc.specs.InHall.{did_in, moment_with}
+use Rattle.hp_proc.specs.LineInHall.{did_in, moment_with}
 use Rattle.hp_proc.proofs.Holds.{keeps_called, keeps_same, remains_called, settled_called}
-use Rattle.hp_proc.proofs.InHalls.{in_same, remains_by, tied_later}
-use Rattle.hp_proc.proofs.SegmentSlots.{may_hold}
+use Rattle.hp_serve.proofs.InHalls.{in_same, remains_by, tied_later}
+use Rattle.hp_serve.proofs.SegmentSlots.{may_hold}
 use Rattle.hp_proc.proofs.participant.Participant.cut_held.Goals as goal
 
 external_ends : (place : SearchedHeap) (addr : ℕ) (none : Bool) → none ≡ true → is_some place.serves ≡ not none

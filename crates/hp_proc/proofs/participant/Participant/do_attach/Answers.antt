@@ -1,12 +1,12 @@
 -- One that is attached already does nothing; else it has caught up, or tried to, and notes what that left.
 use Rattle.std.proofs.Common.{◌∙◌, ap, refl, sym}
 use Rattle.hp_script.specs.declared.answer.Answer.TheVariants as answer
-use Rattle.hp_proc.specs.Attaching.{standing_tried}
-use Rattle.hp_proc.specs.Party.{Party}
+use Rattle.hp_proc.specs.Courses.{standing_tried}
+use Rattle.hp_serve.specs.Party.{Party}
 use Rattle.hp_proc.proofs.AttachedLines.{attached_same, joined_by, joined_still, line_already, line_tried, ready_noted, refused_failed}
 use Rattle.hp_proc.proofs.HandGiven.{ready_still}
 use Rattle.hp_hall.proofs.HallStates.{did_same}
-use Rattle.hp_proc.specs.InHall.{did_in}
+use Rattle.hp_proc.specs.LineInHall.{did_in}
 use Rattle.hp_proc.proofs.Holds.{changes_noted, changes_same}
 use Rattle.hp_proc.proofs.participant.Participant.do_attach.Goals as goal
 

@@ -18,9 +18,10 @@ use Rattle.hp_proc.specs.Courses.{HasRequest}
 use Rattle.hp_proc.specs.Doing.{Doing}
 use Rattle.hp_proc.specs.Heaps.{NamedHeap, has_name, socket_heaps}
 use Rattle.hp_proc.specs.Lines.{Facts, doing_of, dumping, if_attached, with_statistics}
-use Rattle.hp_proc.specs.Party.{IsSameParty, Party, after_call, with_calls}
+use Rattle.hp_serve.specs.Party.{IsSameParty, Party}
+use Rattle.hp_proc.specs.ParticipantView.{after_call, with_calls}
 use Rattle.hp_proc.specs.Progress.{Does, MayDo, caller_of}
-use Rattle.hp_proc.proofs.Carrying.{same_party}
+use Rattle.hp_serve.proofs.Carrying.{same_party}
 use Rattle.hp_proc.proofs.HandCalls.{call_index, does_call}
 use Rattle.hp_proc.proofs.Joining.{does_same, does_then}
 use Rattle.hp_proc.proofs.LineFacts.{facts_for, facts_known, line_done}
@@ -28,7 +29,7 @@ use Rattle.hp_proc.proofs.Mapped.{All-found}
 use Rattle.hp_proc.proofs.PagesStay.{stats_pages}
 use Rattle.hp_proc.proofs.SocketHeapLemmas.{IsListed, all_listed}
 use Rattle.hp_hall.proofs.HallStates.{did_same, did_then, slots_same}
-use Rattle.hp_proc.specs.InHall.{HoldsIn, IsIdleIn, did_in, moment, moment_with}
+use Rattle.hp_proc.specs.LineInHall.{HoldsIn, IsIdleIn, did_in, moment, moment_with}
 use Rattle.hp_hall.specs.HallState.{HallState}
 use Rattle.hp_heap.specs.History.{HeapView, IsCall}
 use Rattle.hp_heap.specs.declared.entry.HeapAnswer.{HeapAnswer}

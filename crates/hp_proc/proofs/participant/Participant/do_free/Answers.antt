@@ -9,9 +9,9 @@ use Rattle.hp_proc.specs.Doing.{Doing}
 use Rattle.hp_proc.specs.Freeing.{acting, act_for, freeing, looking}
 use Rattle.hp_proc.specs.Lines.{Facts, doing_of, if_attached, on_element}
 use Rattle.hp_proc.specs.Progress.{Does, DoesLine}
-use Rattle.hp_proc.proofs.AskedAlong.{if_ok}
+use Rattle.hp_serve.proofs.AskedAlong.{if_ok}
 use Rattle.hp_proc.proofs.LineFacts.{facts_for, facts_known, line_done}
-use Rattle.hp_proc.specs.InHall.{did_in, moment}
+use Rattle.hp_proc.specs.LineInHall.{did_in, moment}
 use Rattle.hp_proc.proofs.Holds.{line_by}
 use Rattle.hp_proc.proofs.participant.Participant.do_free.Goals as goal
 

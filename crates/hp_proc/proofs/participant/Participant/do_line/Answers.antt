@@ -1,13 +1,13 @@
 -- Who is not attached is answered so at once.
 use Rattle.std.proofs.Common.{◌∙◌, ap, sym}
-use Rattle.hp_proc.specs.Party.{Party}
+use Rattle.hp_serve.specs.Party.{Party}
 use Rattle.hp_proc.proofs.AttachedLines.{one_built}
 use Rattle.hp_proc.proofs.LineFacts.{detached_done}
 use Rattle.hp_hall.proofs.HallStates.{did_same}
-use Rattle.hp_proc.specs.InHall.{did_in, moment}
+use Rattle.hp_proc.specs.LineInHall.{did_in, moment}
 use Rattle.hp_proc.proofs.Holds.{again_line, idle_changed}
-use Rattle.hp_proc.proofs.InHalls.{idle_may}
-use Rattle.hp_proc.proofs.SegmentSlots.{may_hold}
+use Rattle.hp_proc.proofs.LinesInHall.{idle_may}
+use Rattle.hp_serve.proofs.SegmentSlots.{may_hold}
 use Rattle.hp_proc.proofs.participant.Participant.do_line.Goals as goal
 
 pub returns-then-not-self-clause-does : goal.returns-then-not-self-clause-does

@@ -3,16 +3,17 @@ use Rattle.std.proofs.Common.{rules, ◌≡◌, ◌≤◌, ◌<◌, ◌∙◌, �
 use Rattle.std.specs.Prelude.{◌^◌}
 use Rattle.std.proofs.lemmas.List.{drop_all, drop_more}
 use Rattle.hp_proc.specs.Allocating.{asking, behind_asking, searching_again}
-use Rattle.hp_proc.specs.Clocks.{longest_wait}
+use Rattle.hp_serve.specs.Clocks.{longest_wait}
 use Rattle.hp_proc.specs.Progress.{AreSettled, Does, IsInHand, in_hand}
 use Rattle.hp_hall.specs.HallState.{IsBusy}
 use Rattle.hp_hall.proofs.HallStates.{did_same, later_then, slots_then}
 use Rattle.hp_heap.specs.History.{HeapView}
 use Rattle.hp_proc.specs.Contexts.{Context}
-use Rattle.hp_proc.specs.InHall.{IsTiedIn, did_in, moment}
+use Rattle.hp_serve.specs.InHall.{IsTiedIn}
+use Rattle.hp_proc.specs.LineInHall.{did_in, moment}
 use Rattle.hp_proc.proofs.HallMoments.{does_more}
 use Rattle.hp_proc.proofs.Holds.{holds_on, keeps_after, keeps_same, same_to_calls}
-use Rattle.hp_proc.proofs.InHalls.{in_same, remains_by}
+use Rattle.hp_serve.proofs.InHalls.{in_same, remains_by}
 use Rattle.hp_proc.proofs.Joining.{does_same}
 use Rattle.hp_proc.proofs.Rising.{few_page_sizes, rises_more, rises_within}
 use Rattle.hp_proc.proofs.participant.Participant.grow.Goals as goal

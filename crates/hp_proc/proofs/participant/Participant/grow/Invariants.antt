@@ -1,12 +1,13 @@
 use Rattle.std.proofs.Common.{◌≡◌, ◌*◌, ◌≤◌, drop, length}
 use Rattle.hp_base.specs.declared.tag.Tag.{Tag}
 use Rattle.hp_proc.specs.Allocating.{asking}
-use Rattle.hp_proc.specs.Clocks.{RisesWithin, longest_wait}
+use Rattle.hp_serve.specs.Clocks.{RisesWithin, longest_wait}
 use Rattle.hp_proc.specs.Doing.{Doing}
 use Rattle.hp_proc.specs.Heaps.{page_sizes_for}
 use Rattle.hp_proc.specs.Progress.{Does, in_hand}
 use Rattle.hp_hall.specs.HallState.{IsBusy}
-use Rattle.hp_proc.specs.InHall.{HoldsIn, RemainsIn, did_in, moment}
+use Rattle.hp_proc.specs.LineInHall.{HoldsIn, did_in, moment}
+use Rattle.hp_serve.specs.InHall.{RemainsIn}
 use Rattle.hp_proc.proofs.participant.Participant.grow.Given as goal
 
 -- it was granted no page of the sizes so far

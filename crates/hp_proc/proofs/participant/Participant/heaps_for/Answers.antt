@@ -3,7 +3,7 @@ use Rattle.std.proofs.Common.{◌≡◌, Contains, IfOk, map, subst}
 use Rattle.std.specs.Option.{option_map}
 use Rattle.hp_proc.specs.Contexts.{IsSocketHeapOf, named_heap}
 use Rattle.hp_proc.specs.Heaps.{heaps_for, socket_heaps}
-use Rattle.hp_proc.specs.Party.{Party}
+use Rattle.hp_serve.specs.Party.{Party}
 use Rattle.hp_proc.specs.declared.socket_heap.SocketHeap.{SocketHeap}
 use Rattle.hp_proc.proofs.participant.Participant.heaps_for.Goals as goal
 

@@ -1,10 +1,11 @@
 -- The heap that was taken has room, or goes back.
 use Rattle.std.proofs.Common.{◌∙◌, ℕ, ap, sym, subst, arith}
 use Rattle.hp_heap.specs.PlainHeap.{PlainHeap}
-use Rattle.hp_proc.specs.InHall.{AreFreeBut, IsFreeAt, IsTiedIn, moment}
+use Rattle.hp_proc.specs.LineInHall.{AreFreeBut, IsFreeAt, moment}
+use Rattle.hp_serve.specs.InHall.{IsTiedIn}
 use Rattle.hp_proc.specs.Progress.{IsInHand}
 use Rattle.hp_proc.proofs.HandCalls.{does_spared, hand_spared}
-use Rattle.hp_proc.proofs.InHalls.{idle_again}
+use Rattle.hp_proc.proofs.LinesInHall.{idle_again}
 use Rattle.hp_proc.proofs.participant.Participant.hold.Goals as goal
 
 pub put-requires-clause-serves : goal.put-requires-clause-serves

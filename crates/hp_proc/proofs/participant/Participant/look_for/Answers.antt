@@ -9,13 +9,13 @@ use Rattle.hp_proc.specs.Allocating.{unless_answered}
 use Rattle.hp_proc.specs.Doing.{Doing}
 use Rattle.hp_proc.specs.Freeing.{acting, looking}
 use Rattle.hp_proc.specs.Contexts.{Context, IsPlaceOf}
-use Rattle.hp_proc.specs.Party.{Party}
+use Rattle.hp_serve.specs.Party.{Party}
 use Rattle.hp_proc.specs.Progress.{Does, MayDo, Moment}
 use Rattle.hp_proc.specs.declared.searched_heap.SearchedHeap.{SearchedHeap}
 use Rattle.hp_proc.proofs.Joining.{does_same, does_then}
 use Rattle.hp_hall.specs.HallState.{HallState}
 use Rattle.hp_hall.proofs.HallStates.{did_same, did_then}
-use Rattle.hp_proc.specs.InHall.{DoesHere, IsIdleIn, did_in, moment}
+use Rattle.hp_proc.specs.LineInHall.{DoesHere, IsIdleIn, did_in, moment}
 use Rattle.hp_proc.proofs.Holds.{again_same, again_then}
 use Rattle.hp_proc.proofs.participant.Participant.look_for.Goals as goal
 

@@ -1,9 +1,9 @@
 use Rattle.std.proofs.Common.{drop}
 use Rattle.hp_hall.specs.HallState.{IsBusy}
-use Rattle.hp_proc.specs.Clocks.{RisesWithin}
+use Rattle.hp_serve.specs.Clocks.{RisesWithin}
 use Rattle.hp_proc.specs.Freeing.{acting, looking}
-use Rattle.hp_proc.specs.InHall.{DoesHere, IsIdleAgain, moment}
-use Rattle.hp_proc.specs.Party.{with_calls}
+use Rattle.hp_proc.specs.LineInHall.{DoesHere, IsIdleAgain, moment}
+use Rattle.hp_proc.specs.ParticipantView.{with_calls}
 use Rattle.hp_proc.specs.Progress.{MayDo}
 use Rattle.hp_proc.proofs.participant.Participant.look_for.Given as goal
 

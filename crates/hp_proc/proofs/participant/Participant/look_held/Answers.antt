@@ -12,7 +12,8 @@ use Rattle.hp_segs.specs.declared.outcome.AskLog.{AskLog}
 use Rattle.hp_proc.specs.Doing.{Doing}
 use Rattle.hp_proc.specs.Freeing.{acting, behind_looking, going_on, looking}
 use Rattle.hp_proc.specs.Histories.{run_cut}
-use Rattle.hp_proc.specs.Party.{Party, after_call}
+use Rattle.hp_serve.specs.Party.{Party}
+use Rattle.hp_proc.specs.ParticipantView.{after_call}
 use Rattle.hp_proc.specs.Progress.{AreSettled, Does, caller_of, in_hand, moment_of}
 use Rattle.hp_proc.specs.declared.element_act.Left.{Left}
 use Rattle.hp_proc.specs.declared.searched_heap.SearchedHeap.{SearchedHeap}
@@ -20,7 +21,7 @@ use Rattle.hp_proc.proofs.HandCalls.{call_index, call_serves, does_call}
 use Rattle.hp_proc.proofs.PagesStay.{find_pages}
 use Rattle.hp_hall.specs.HallState.{OthersStay}
 use Rattle.hp_hall.proofs.HallStates.{did_same, others_same}
-use Rattle.hp_proc.specs.InHall.{did_in, moment, moment_with}
+use Rattle.hp_proc.specs.LineInHall.{did_in, moment, moment_with}
 use Rattle.hp_proc.proofs.Holds.{does_next, holds_on, keeps_called, keeps_then, room_called, settled_called}
 use Rattle.hp_proc.proofs.participant.Participant.look_held.Goals as goal
 

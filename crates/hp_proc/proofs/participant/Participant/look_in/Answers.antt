@@ -3,7 +3,7 @@ use Rattle.std.proofs.Common.{sym, ℕ, ◌∷◌, Option, subst, arith}
 use Rattle.hp_proc.specs.Freeing.{acting, behind_looking, looking}
 use Rattle.hp_proc.specs.Progress.{Does, MayDo}
 use Rattle.hp_proc.specs.declared.element_act.Left.{Left}
-use Rattle.hp_proc.specs.InHall.{IsIdleIn, did_in, moment}
+use Rattle.hp_proc.specs.LineInHall.{IsIdleIn, did_in, moment}
 use Rattle.hp_proc.proofs.Holds.{again_then, does_next}
 use Rattle.hp_proc.proofs.participant.Participant.look_in.Goals as goal
 

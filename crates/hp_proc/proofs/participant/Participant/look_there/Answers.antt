@@ -10,11 +10,11 @@ use Rattle.hp_proc.specs.Contexts.{Context, IsPlaceOf}
 use Rattle.hp_proc.specs.Doing.{Doing}
 use Rattle.hp_proc.specs.Freeing.{acting, behind_looking, looking}
 use Rattle.hp_proc.specs.Heaps.{sockets_of}
-use Rattle.hp_proc.specs.Party.{IsSameParty, Party}
+use Rattle.hp_serve.specs.Party.{IsSameParty, Party}
 use Rattle.hp_proc.specs.Progress.{IsInHand, MayDo, moment_of}
 use Rattle.hp_proc.specs.declared.searched_heap.SearchedHeap.{SearchedHeap}
 use Rattle.hp_hall.specs.HallState.{MayServe}
-use Rattle.hp_proc.specs.InHall.{HoldsIn, moment, moment_with}
+use Rattle.hp_proc.specs.LineInHall.{HoldsIn, moment, moment_with}
 use Rattle.hp_proc.proofs.Holds.{again_put, but_kept, idle_put, same_to_calls, does_next, holds_on}
 use Rattle.hp_proc.proofs.participant.Participant.look_there.Goals as goal
 

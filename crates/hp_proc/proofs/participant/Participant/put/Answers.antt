@@ -5,13 +5,13 @@ use Rattle.hp_hall.specs.Holding.{IsGivenAs}
 use Rattle.hp_hall.specs.Mail.{Gives, MailStep}
 use Rattle.hp_hall.specs.declared.kept.Kept.TheVariants.{Heap}
 use Rattle.hp_proc.specs.Acting.{Acts}
-use Rattle.hp_proc.specs.InHall.{IsFreeAt, moment}
-use Rattle.hp_proc.specs.Party.{Party}
+use Rattle.hp_proc.specs.LineInHall.{IsFreeAt, moment}
+use Rattle.hp_serve.specs.Party.{Party}
 use Rattle.hp_proc.specs.Progress.{in_hand}
-use Rattle.hp_proc.proofs.Carrying.{same_party}
+use Rattle.hp_serve.proofs.Carrying.{same_party}
 use Rattle.hp_proc.proofs.HandCalls.{hand_serves}
 use Rattle.hp_proc.proofs.HandGiven.{given_entries, given_serves, ready_given}
-use Rattle.hp_proc.proofs.InHalls.{tied_later}
+use Rattle.hp_serve.proofs.InHalls.{tied_later}
 use Rattle.hp_proc.proofs.Joining.{does_still}
 use Rattle.hp_proc.proofs.participant.Participant.put.Goals as goal
 

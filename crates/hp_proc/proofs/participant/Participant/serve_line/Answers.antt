@@ -8,17 +8,18 @@ use Rattle.hp_script.specs.declared.answer.Answer.{Answer}
 use Rattle.hp_script.specs.declared.answer.Answer.TheVariants as gives
 use Rattle.hp_segs.specs.declared.outcome.AskLog.{AskLog}
 use Rattle.hp_proc.specs.Allocating.{serving}
-use Rattle.hp_proc.specs.Clocks.{RisesWithin, longest_growth}
+use Rattle.hp_serve.specs.Clocks.{RisesWithin, longest_growth}
 use Rattle.hp_proc.specs.Contexts.{Context, named_heap}
 use Rattle.hp_proc.specs.Heaps.{NamedHeap, heaps_for, socket_heaps}
 use Rattle.hp_proc.specs.Lines.{tag_of}
-use Rattle.hp_proc.specs.Party.{IsSameParty, Party, after_answer, with_calls, with_context}
+use Rattle.hp_serve.specs.Party.{IsSameParty, Party}
+use Rattle.hp_proc.specs.ParticipantView.{after_answer, with_calls, with_context}
 use Rattle.hp_proc.specs.Progress.{Brings, MayDo, moment_of}
 use Rattle.hp_proc.specs.declared.socket_heap.SocketHeap.{SocketHeap}
 use Rattle.hp_proc.proofs.AllocFacts.{line_answered}
 use Rattle.hp_proc.proofs.Rising.{few_places, rises_within}
 use Rattle.hp_hall.specs.HallState.{HallState, IsBusy}
-use Rattle.hp_proc.specs.InHall.{IsIdleAgain, IsIdleIn, did_in, moment}
+use Rattle.hp_proc.specs.LineInHall.{IsIdleAgain, IsIdleIn, did_in, moment}
 use Rattle.hp_proc.proofs.Holds.{again_line, line_by}
 use Rattle.hp_proc.proofs.participant.Participant.serve_line.Goals as goal
 

@@ -3,7 +3,7 @@ use Rattle.std.proofs.Common.{◌≡◌, ◌+◌, ◌<◌, ◌∷◌, ◌==◌, 
 use Rattle.std.proofs.lemmas.List.{drop_all, drop_more}
 use Rattle.std.proofs.lemmas.List.Elements.{Contains-get_or}
 use Rattle.hp_proc.specs.Allocating.{serving, trying}
-use Rattle.hp_proc.specs.Clocks.{longest_growth}
+use Rattle.hp_serve.specs.Clocks.{longest_growth}
 use Rattle.hp_proc.specs.Contexts.{Context, IsSocketHeapOf, named_heap}
 use Rattle.hp_proc.specs.Progress.{Brings, Does, MayDo, Moment, Tries}
 use Rattle.hp_proc.specs.declared.socket_heap.SocketHeap.{SocketHeap}
@@ -22,7 +22,7 @@ use Rattle.std.proofs.lemmas.Bool.{eqb-true, false≢true}
 use Rattle.hp_proc.specs.Doing.{Doing}
 use Rattle.hp_hall.specs.HallState.{IsBusy}
 use Rattle.hp_hall.proofs.HallStates.{did_same, did_then}
-use Rattle.hp_proc.specs.InHall.{IsIdleIn, did_in, moment}
+use Rattle.hp_proc.specs.LineInHall.{IsIdleIn, did_in, moment}
 use Rattle.hp_proc.proofs.Holds.{again_same, again_then}
 use Rattle.hp_proc.proofs.participant.Participant.serve_request.Goals as goal
 

@@ -2,10 +2,10 @@ use Rattle.std.proofs.Common.{◌*◌, ◌<◌, ◌≤◌, drop, length, map}
 use Rattle.hp_base.specs.declared.limits.TheConstants.{MAX_HEAPS}
 use Rattle.hp_hall.specs.HallState.{IsBusy}
 use Rattle.hp_proc.specs.Allocating.{trying}
-use Rattle.hp_proc.specs.Clocks.{RisesWithin, longest_growth}
+use Rattle.hp_serve.specs.Clocks.{RisesWithin, longest_growth}
 use Rattle.hp_proc.specs.Contexts.{named_heap}
-use Rattle.hp_proc.specs.InHall.{DoesHere, IsIdleAgain, moment}
-use Rattle.hp_proc.specs.Party.{with_calls}
+use Rattle.hp_proc.specs.LineInHall.{DoesHere, IsIdleAgain, moment}
+use Rattle.hp_proc.specs.ParticipantView.{with_calls}
 use Rattle.hp_proc.specs.Progress.{MayDo}
 use Rattle.hp_proc.proofs.participant.Participant.serve_request.Given as goal
 

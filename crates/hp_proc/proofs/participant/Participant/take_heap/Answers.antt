@@ -8,17 +8,19 @@ use Rattle.hp_hall.specs.declared.kept.Kept.{Kept}
 use Rattle.hp_hall.specs.declared.kept.Kept.TheVariants.{Heap}
 use Rattle.hp_hall.proofs.HallStates.{did_same, did_then, later_then}
 use Rattle.hp_proc.specs.Acting.{Acts}
-use Rattle.hp_proc.specs.Asking.{HasSettledAsks}
-use Rattle.hp_proc.specs.InHall.{moment}
-use Rattle.hp_proc.specs.Party.{Party}
+use Rattle.hp_serve.specs.Asking.{HasSettledAsks}
+use Rattle.hp_proc.specs.LineInHall.{moment}
+use Rattle.hp_serve.specs.Party.{Party}
 use Rattle.hp_proc.specs.Progress.{in_hand, with_hand}
-use Rattle.hp_proc.proofs.AskedAlong.{settled_more}
-use Rattle.hp_proc.proofs.Carrying.{same_party}
+use Rattle.hp_serve.proofs.AskedAlong.{settled_more}
+use Rattle.hp_serve.proofs.Carrying.{same_party}
 use Rattle.hp_proc.proofs.HandCalls.{hand_serves}
-use Rattle.hp_proc.proofs.HandGiven.{on_err_any, ready_still, take_shows, taken_in_hand, took_armed, took_hand, took_serves, waits_more}
-use Rattle.hp_proc.proofs.InHalls.{free_but, idle_can, idle_in, idle_may, in_can, in_did, in_may, in_others, in_same, in_then, in_tied, may_but, tied_later}
+use Rattle.hp_serve.proofs.AskedAlong.{on_err_any}
+use Rattle.hp_proc.proofs.HandGiven.{ready_still, take_shows, taken_in_hand, took_armed, took_hand, took_serves, waits_more}
+use Rattle.hp_proc.proofs.LinesInHall.{free_but, idle_can, idle_in, idle_may, may_but}
+use Rattle.hp_serve.proofs.InHalls.{in_can, in_did, in_may, in_others, in_same, in_then, in_tied, tied_later}
 use Rattle.hp_proc.proofs.Joining.{does_still}
-use Rattle.hp_proc.proofs.Scaled.{own_weight_still}
+use Rattle.hp_serve.proofs.Scaled.{own_weight_still}
 use Rattle.hp_proc.proofs.participant.Participant.take_heap.Goals as goal
 
 pub taking-init : goal.taking-init

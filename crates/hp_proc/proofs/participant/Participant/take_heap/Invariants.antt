@@ -2,8 +2,8 @@ use Rattle.std.proofs.Common.{◌≡◌, ◌+◌, ◌-◌, ◌^◌, List, []}
 use Rattle.hp_hall.specs.HallState.{Did, IsBusy}
 use Rattle.hp_hall.specs.Mail.{MailStep}
 use Rattle.hp_proc.specs.Acting.{Acts}
-use Rattle.hp_proc.specs.Clocks.{RisesWithin}
-use Rattle.hp_proc.specs.InHall.{StaysIn, left_to_do}
+use Rattle.hp_serve.specs.Clocks.{RisesWithin}
+use Rattle.hp_serve.specs.InHall.{StaysIn, left_to_do}
 use Rattle.hp_proc.proofs.participant.Participant.take_heap.Given as goal
 
 abbrev pub invariant-taking : goal.invariant-taking

@@ -7,18 +7,18 @@ use Rattle.hp_log.specs.declared.log_record.LogRecord.{LogRecord}
 use Rattle.hp_segs.specs.declared.outcome.AskLog.{AskLog}
 use Rattle.hp_script.specs.declared.answer.Answer.TheVariants as answer
 use Rattle.hp_proc.specs.Acting.{Acts, AreAsked}
-use Rattle.hp_proc.specs.AskSteps.{DoesNotify}
+use Rattle.hp_serve.specs.AskSteps.{DoesNotify}
 use Rattle.hp_proc.specs.Doing.{Doing, Done, Goes, Leads}
 use Rattle.hp_proc.specs.Freeing.{left_of}
-use Rattle.hp_proc.specs.Party.{IsSameParty, Party}
+use Rattle.hp_serve.specs.Party.{IsSameParty, Party}
 use Rattle.hp_proc.specs.declared.element_act.Left.{Left}
 use Rattle.hp_proc.specs.Progress.{Does, moment_of}
 use Rattle.hp_proc.proofs.HandGiven.{ready_still}
 use Rattle.hp_proc.proofs.Joining.{context_still, does_same}
 use Rattle.hp_hall.proofs.HallStates.{did_same}
-use Rattle.hp_proc.specs.InHall.{did_in, moment}
+use Rattle.hp_proc.specs.LineInHall.{did_in, moment}
 use Rattle.hp_proc.proofs.Holds.{again_by, again_same}
-use Rattle.hp_proc.proofs.InHalls.{idle_can}
+use Rattle.hp_proc.proofs.LinesInHall.{idle_can}
 use Rattle.hp_proc.proofs.participant.Participant.tell.Goals as goal
 
 module _ (count : ℕ) (party after : Party) (heap : ℕ) (run : Run) (parts later : ℕ → HeapPart) (log now more : List LogRecord)

@@ -7,11 +7,11 @@ use Rattle.hp_hall.proofs.HallStates.{did_then}
 use Rattle.hp_proc.specs.Allocating.{trying, unless_answered}
 use Rattle.hp_proc.specs.Contexts.{Context, named_heap}
 use Rattle.hp_proc.specs.Heaps.{sockets_of}
-use Rattle.hp_proc.specs.InHall.{HoldsIn, did_in, moment, moment_with}
+use Rattle.hp_proc.specs.LineInHall.{HoldsIn, did_in, moment, moment_with}
 use Rattle.hp_proc.specs.Progress.{AreSettled, Does, IsInHand, MayDo, Tries, in_hand}
 use Rattle.hp_proc.proofs.AllocFacts.{socket_few}
-use Rattle.hp_proc.proofs.AskedAlong.{if_ok}
-use Rattle.hp_proc.proofs.Carrying.{on_ok_then}
+use Rattle.hp_serve.proofs.AskedAlong.{if_ok}
+use Rattle.hp_serve.proofs.Carrying.{on_ok_then}
 use Rattle.hp_proc.proofs.HallMoments.{told_alike}
 use Rattle.hp_proc.proofs.HandTried.{tries_passed, tries_then}
 use Rattle.hp_proc.proofs.Holds.{again_put, but_kept, can_on, idle_put, same_to_calls}

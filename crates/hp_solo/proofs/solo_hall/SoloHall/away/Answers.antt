@@ -2,7 +2,7 @@ use Rattle.std.proofs.Common.{◌≡◌, ◌<◌, length, None, Some, option_map
 use Rattle.std.specs.List.{slice_get}
 use Rattle.std.proofs.lemmas.Option.{slice_get_read}
 use Rattle.hp_plain.proofs.Slotted.{slice_get-set_other, slice_get-set_same}
-use Rattle.hp_solo.specs.Solo.{IsAway, ServerView, SoloView, party_at, party_in, server_at, with_party}
+use Rattle.hp_solo.specs.Solo.{IsAway, AloneView, SoloView, party_at, party_in, server_at, with_party}
 use Rattle.hp_solo.proofs.SoloSeats.{solo_away, who_goes}
 use Rattle.hp_solo.proofs.solo_hall.SoloHall.away.Goals as goal
 
@@ -12,7 +12,7 @@ invariant_of-self g c =
     subst (λ n. c.args.me < n) (sym c.self.invariant.count)
     (subst (λ (hall : SoloView). c.args.me < length hall.plain.owns) (sym c.self.view_is) c.requires.declared) in
     solo_away c.self.inside.plain c.self.inside.servers.items c.args.me c.away.new.self c.self.invariant below
-    (ap (λ (server : ServerView). server.party) c.away.ensures.away)
+    (ap (λ (server : AloneView). server.party) c.away.ensures.away)
 
 pub returns-clause-party : goal.returns-clause-party
 returns-clause-party g c =
@@ -42,7 +42,7 @@ returns-clause-away g c =
     subst (λ n. c.args.me < n) (sym c.self.invariant.count)
     (subst (λ (hall : SoloView). c.args.me < length hall.plain.owns) (sym c.self.view_is) c.requires.declared) in
     subst IsAway (sym (slice_get-set_same c.self.inside.servers.items c.args.me c.away.new.self below))
-    (ap (λ (server : ServerView). server.party) c.away.ensures.away)
+    (ap (λ (server : AloneView). server.party) c.away.ensures.away)
 
 pub returns-clause-others : goal.returns-clause-others
 returns-clause-others g c =
@@ -60,6 +60,6 @@ returns-clause-place g c =
     let there : slice_get servers c.args.me ≡ Some server =
     slice_get_read servers (length servers) c.args.me server refl below c.index_mut.ensures.value in
     slice_get-set_same servers c.args.me c.away.new.self below
-    ∙ ap (λ (place : ServerView). Some place) c.away.ensures.away
+    ∙ ap (λ (place : AloneView). Some place) c.away.ensures.away
     ∙ sym (ap (option_map (with_party None)) there)
     ∙ ap (λ (hall : SoloView). option_map (with_party None) (server_at hall.servers c.args.me)) c.self.view_is

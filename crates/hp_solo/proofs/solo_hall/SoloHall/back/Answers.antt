@@ -2,7 +2,7 @@ use Rattle.std.proofs.Common.{◌≡◌, ◌<◌, length, option_map, set, Some,
 use Rattle.std.specs.List.{slice_get}
 use Rattle.std.proofs.lemmas.Option.{slice_get_read}
 use Rattle.hp_plain.proofs.Slotted.{slice_get-set_other, slice_get-set_same}
-use Rattle.hp_solo.specs.Solo.{IsTiedAt, ServerView, SoloView, party_at, party_in, server_at, with_party}
+use Rattle.hp_solo.specs.Solo.{IsTiedAt, AloneView, SoloView, party_at, party_in, server_at, with_party}
 use Rattle.hp_solo.proofs.SoloSeats.{solo_back}
 use Rattle.hp_solo.proofs.solo_hall.SoloHall.back.Goals as goal
 
@@ -15,7 +15,7 @@ invariant_of-self g c =
     let tied : IsTiedAt c.self.inside.plain c.args.participant.me c.args.participant =
     subst (λ (hall : SoloView). IsTiedAt hall.plain c.args.participant.me c.args.participant) (sym c.self.view_is) c.requires.tied in
     solo_back c.self.inside.plain c.self.inside.servers.items c.number-me.result c.back.new.self c.args.participant c.self.invariant
-    (subst (λ n. n < length c.self.inside.servers.items) (sym me) below) (ap (λ (server : ServerView). server.party) c.back.ensures)
+    (subst (λ n. n < length c.self.inside.servers.items) (sym me) below) (ap (λ (server : AloneView). server.party) c.back.ensures)
     (subst (λ n. IsTiedAt c.self.inside.plain n c.args.participant) (sym me) tied)
 
 pub returns-clause-party : goal.returns-clause-party
@@ -26,7 +26,7 @@ returns-clause-party g c =
     (subst (λ (hall : SoloView). c.args.participant.me < length hall.plain.owns) (sym c.self.view_is) c.requires.declared) in
     subst (λ n. party_at (set c.self.inside.servers.items n c.back.new.self) c.args.participant.me ≡ Some c.args.participant) (sym me)
     (ap party_in (slice_get-set_same c.self.inside.servers.items c.args.participant.me c.back.new.self below)
-    ∙ ap (λ (server : ServerView). server.party) c.back.ensures)
+    ∙ ap (λ (server : AloneView). server.party) c.back.ensures)
 
 pub returns-clause-others : goal.returns-clause-others
 returns-clause-others g c =
@@ -50,6 +50,6 @@ returns-clause-place g c =
     subst (λ n. slice_get (set servers n c.back.new.self) participant.me ≡ Some c.back.new.self) (sym me)
     (slice_get-set_same servers participant.me c.back.new.self below) in
     here
-    ∙ ap (λ (place : ServerView). Some place) c.back.ensures
+    ∙ ap (λ (place : AloneView). Some place) c.back.ensures
     ∙ sym (ap (option_map (with_party (Some participant))) (subst (λ n. slice_get servers n ≡ Some server) me there))
     ∙ ap (λ (hall : SoloView). option_map (with_party (Some participant)) (server_at hall.servers participant.me)) c.self.view_is

@@ -1,7 +1,7 @@
 -- A pause until the least deadline that is still to come, or none.
 use Rattle.std.proofs.Common.{ℕ, ◌+◌, ◌≤◌, List, None, false, refl, subst}
 use Rattle.hp_solo.specs.Draining.{IsNoneDue, TurnsLeave}
-use Rattle.hp_solo.specs.Solo.{IsPendingDue, ServerView, SoloView, solo_weight}
+use Rattle.hp_solo.specs.Solo.{IsPendingDue, AloneView, SoloView, solo_weight}
 use Rattle.hp_solo.proofs.SoloDrained.{due_falls, turns_paused, turns_same}
 use Rattle.hp_solo.proofs.SoloTurns.{later_paused, solo_paused}
 use Rattle.hp_solo.proofs.solo_hall.SoloHall.jump_due.Goals as goal
@@ -17,7 +17,7 @@ pub returns-in-None-clause-none : goal.returns-in-None-clause-none
 returns-in-None-clause-none g c = λ still.
     subst (λ (hall : SoloView). IsNoneDue hall.plain.clock hall.servers) c.self.view_is
     (subst (λ (clock : ℕ). IsNoneDue clock c.self.inside.servers.items) c.clock.ensures
-    (subst (λ (servers : List ServerView). IsNoneDue c.clock.result servers) c.as_slice.ensures.value c.in-None.ensures.none))
+    (subst (λ (servers : List AloneView). IsNoneDue c.clock.result servers) c.as_slice.ensures.value c.in-None.ensures.none))
 
 pub returns-in-Some-clause-leaves : goal.returns-in-Some-clause-leaves
 returns-in-Some-clause-leaves g c =
@@ -36,6 +36,6 @@ returns-in-Some-clause-weight g c =
     let new : SoloView = record { plain = c.pause.new.self; servers = servers } in
     let pending : IsPendingDue old.plain.clock servers due =
     subst (λ (clock : ℕ). IsPendingDue clock servers due) c.clock.ensures
-    (subst (λ (all : List ServerView). IsPendingDue c.clock.result all due) c.as_slice.ensures.value c.in-Some.ensures.least.pending) in
+    (subst (λ (all : List AloneView). IsPendingDue c.clock.result all due) c.as_slice.ensures.value c.in-Some.ensures.least.pending) in
     subst (λ (before : SoloView). solo_weight new + 1 ≤ solo_weight before) c.self.view_is
     (due_falls old new due pending c.pause.ensures.hall refl)

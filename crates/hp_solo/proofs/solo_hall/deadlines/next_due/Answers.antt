@@ -2,22 +2,22 @@
 use Rattle.std.proofs.Common.{◌≡◌, ℕ, ◌+◌, ◌<◌, ◌≤◌, ◌⊎◌, List, get_or, length, Option, Some, None, refl, sym, ap, subst, ◌∙◌, ⊎_elim, inr, arith}
 use Rattle.std.proofs.lemmas.Bool.{cases_lt}
 use Rattle.std.proofs.lemmas.Option.{slice_get-get_or, slice_get_within}
-use Rattle.hp_solo.specs.Solo.{IsPendingDue, IsSooner, ServerView, due_at, party_at, party_in, server_at}
+use Rattle.hp_solo.specs.Solo.{IsPendingDue, IsSooner, AloneView, due_at, party_at, party_in, server_at}
 use Rattle.hp_solo.proofs.solo_hall.deadlines.next_due.Goals as goal
 
 -- the one at an index
-due_here : (servers : List ServerView) (number : ℕ) (server : ServerView) → number < length servers → server ≡ get_or servers number server
+due_here : (servers : List AloneView) (number : ℕ) (server : AloneView) → number < length servers → server ≡ get_or servers number server
     → due_at (party_at servers number) ≡ due_at server.party
 due_here servers number server below is =
-    ap (λ (o : Option ServerView). due_at (party_in o)) (slice_get-get_or servers number server below ∙ ap Some (sym is))
+    ap (λ (o : Option AloneView). due_at (party_in o)) (slice_get-get_or servers number server below ∙ ap Some (sym is))
 
 -- who has a deadline is one of them
-due_below : (servers : List ServerView) (who due : ℕ) (server : Option ServerView) → server_at servers who ≡ server
+due_below : (servers : List AloneView) (who due : ℕ) (server : Option AloneView) → server_at servers who ≡ server
     → due_at (party_in server) ≡ Some due → who < length servers
 due_below servers who due None is some = cc
 due_below servers who due (Some server) is some = slice_get_within servers who server is
 
-next_whose : (clock next until sooner : ℕ) (servers : List ServerView) (number : ℕ) (due : Option ℕ) → due_at (party_at servers number) ≡ due
+next_whose : (clock next until sooner : ℕ) (servers : List AloneView) (number : ℕ) (due : Option ℕ) → due_at (party_at servers number) ≡ due
     → IsSooner clock next due sooner → (next ≡ until) ⊎ IsPendingDue clock servers next → (sooner ≡ until) ⊎ IsPendingDue clock servers sooner
 next_whose clock next until sooner servers number due here is whose =
     ⊎_elim
@@ -25,7 +25,7 @@ next_whose clock next until sooner servers number due here is whose =
     (λ (some : due ≡ Some sooner). inr (number, here ∙ some, is.later))
     is.whose
 
-next_least : (clock next sooner : ℕ) (servers : List ServerView) (number : ℕ) (due : Option ℕ) → due_at (party_at servers number) ≡ due
+next_least : (clock next sooner : ℕ) (servers : List AloneView) (number : ℕ) (due : Option ℕ) → due_at (party_at servers number) ≡ due
     → IsSooner clock next due sooner
     → ((who other : ℕ) → who < number → due_at (party_at servers who) ≡ Some other → clock < other → next ≤ other)
     → (who other : ℕ) → who < number + 1 → due_at (party_at servers who) ≡ Some other → clock < other → sooner ≤ other

@@ -3,7 +3,7 @@ use Rattle.std.proofs.Common.{◌≡◌, length, Some, refl, sym, ap, subst, ◌
 use Rattle.std.specs.List.{slice_get}
 use Rattle.std.proofs.lemmas.Option.{slice_get_read}
 use Rattle.hp_plain.proofs.Slotted.{slice_get-set_other, slice_get-set_same}
-use Rattle.hp_proc.specs.Party.{Party}
+use Rattle.hp_serve.specs.Party.{Party}
 use Rattle.hp_solo.specs.Served.{KeepsServingAt}
 use Rattle.hp_solo.specs.Solo.{IsServerAtRest, LooksLastAt, party_in}
 use Rattle.hp_solo.proofs.Keeping.{keeps_one}

@@ -3,9 +3,9 @@ use Rattle.std.proofs.Common.{◌≡◌, ◌≢◌, ℕ, ◌+◌, ◌<◌, ◌�
 use Rattle.std.proofs.lemmas.Bool.{cases_lt}
 use Rattle.hp_base.specs.declared.limits.TheConstants.{MAX_HEAPS}
 use Rattle.hp_plain.specs.Course.{done_same}
-use Rattle.hp_proc.specs.Falling.{if_moved}
+use Rattle.hp_serve.specs.Falling.{if_moved}
 use Rattle.hp_solo.specs.Sequence.{Visits}
-use Rattle.hp_solo.specs.Solo.{IsBetween, IsOutside, IsServerAtRest, ServerView, SoloView, server_at}
+use Rattle.hp_solo.specs.Solo.{IsBetween, IsOutside, IsServerAtRest, AloneView, SoloView, server_at}
 use Rattle.hp_solo.specs.SoloCourse.{later_then, server_stays}
 use Rattle.hp_solo.proofs.Keeping.{keeps_more}
 use Rattle.hp_solo.proofs.SoloLooks.{looks_more}
@@ -55,7 +55,7 @@ moved_once true false both is = omega (arith, ap if_moved is)
 moved_once true true both is = omega (arith, ap if_moved is)
 
 -- nothing is left for those before, and for the one that served last
-rests_more : (was now : ℕ) (old new : List ServerView) (from number : ℕ) → now ≡ was
+rests_more : (was now : ℕ) (old new : List AloneView) (from number : ℕ) → now ≡ was
     → ((who : ℕ) → who ≢ number → server_at new who ≡ server_at old who)
     → ((who : ℕ) → from ≤ who → who < number → IsServerAtRest was (server_at old who)) → IsServerAtRest now (server_at new number)
     → (who : ℕ) → from ≤ who → who < number + 1 → IsServerAtRest now (server_at new who)

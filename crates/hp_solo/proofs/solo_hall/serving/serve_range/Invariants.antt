@@ -1,6 +1,6 @@
 use Rattle.std.proofs.Common.{◌≡◌, ℕ, ◌+◌, ◌<◌, ◌≤◌, ◌⊎◌, false, length}
 use Rattle.hp_hall.specs.Weights.{boxes_weight, pending_at}
-use Rattle.hp_proc.specs.Falling.{if_moved}
+use Rattle.hp_serve.specs.Falling.{if_moved}
 use Rattle.hp_solo.specs.Sequence.{Visits}
 use Rattle.hp_solo.specs.Served.{IsInRisingNumber, KeepsServingAt}
 use Rattle.hp_solo.specs.Solo.{AreLater, AreTied, IsBetween, IsOutside, IsQuiet, IsServerAtRest, IsServing, LooksLastAt, has_stopped, party_at, server_at, servers_weight}

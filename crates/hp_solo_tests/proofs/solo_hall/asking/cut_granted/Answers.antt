@@ -2,7 +2,7 @@
 use Rattle.std.proofs.Common.{ℕ, Option, Some, sym, subst, IfSome}
 use Rattle.hp_base.specs.declared.row.Run.{Run}
 use Rattle.hp_plain.specs.HallView.{part_in}
-use Rattle.hp_proc.specs.Asking.{GrowsHeld}
+use Rattle.hp_serve.specs.Asking.{GrowsHeld}
 use Rattle.hp_solo.specs.SoloAsks.{MayGiveUp}
 use Rattle.hp_solo_tests.proofs.SoloOpened.{cuts_may}
 use Rattle.hp_solo_tests.proofs.solo_hall.asking.cut_granted.Goals as goal

@@ -1,6 +1,6 @@
 use Rattle.std.proofs.Common.{ap}
 use Rattle.hp_segs.specs.SegsView.{SegsView}
-use Rattle.hp_proc.proofs.AskedAlong.{if_ok}
+use Rattle.hp_serve.proofs.AskedAlong.{if_ok}
 use Rattle.hp_solo_tests.proofs.SoloOpened.{may_begin}
 use Rattle.hp_solo_tests.proofs.solo_hall.opening.hall_for_asks.Goals as goal
 

@@ -3,7 +3,7 @@ use Rattle.std.proofs.Common.{◌<◌, ℕ, Option, length, sym, subst}
 use Rattle.std.specs.Option.{IfSome}
 use Rattle.hp_base.specs.declared.limits.TheConstants.{MAX_HEAPS}
 use Rattle.hp_plain.specs.HallView.{HallView, IsHome, slot_at}
-use Rattle.hp_proc.specs.Party.{Party}
+use Rattle.hp_serve.specs.Party.{Party}
 use Rattle.hp_solo.specs.Solo.{IsTiedAt}
 use Rattle.hp_solo.specs.SoloAsks.{MayBeginToAsk}
 use Rattle.hp_solo.proofs.SoloWaits.{waits_first}

@@ -1,7 +1,7 @@
 -- The segment value was taken and put back.
 use Rattle.std.proofs.Common.{ℕ, sym, subst}
-use Rattle.hp_proc.proofs.SegmentSlots.{Took, put_stays, took_has}
-use Rattle.hp_proc.specs.SegmentSlot.{MayHold}
+use Rattle.hp_serve.proofs.SegmentSlots.{Took, put_stays, took_has}
+use Rattle.hp_serve.specs.SegmentSlot.{MayHold}
 use Rattle.hp_solo.specs.Solo.{IsAway, server_at}
 use Rattle.hp_solo.specs.SoloCourse.{solo_then}
 use Rattle.hp_solo.specs.SoloState.{solo_state}

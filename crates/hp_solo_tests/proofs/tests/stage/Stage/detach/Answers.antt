@@ -1,7 +1,7 @@
 -- Participant 1 does its line, and participant 0 stays as it was.
 use Rattle.std.proofs.Common.{refl, arith}
 use Rattle.hp_solo_tests.proofs.Callers.{stage_can}
-use Rattle.hp_proc.proofs.SegmentSlots.{may_hold}
+use Rattle.hp_serve.proofs.SegmentSlots.{may_hold}
 use Rattle.hp_solo_tests.proofs.StageLemmas.{staged_attached}
 use Rattle.hp_solo_tests.proofs.tests.stage.Stage.detach.Goals as goal
 

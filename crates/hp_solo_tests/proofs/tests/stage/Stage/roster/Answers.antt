@@ -2,7 +2,7 @@
 use Rattle.std.proofs.Common.{arith}
 use Rattle.hp_plain.specs.Course.{course_then}
 use Rattle.hp_plain.specs.PlainState.{plain_state}
-use Rattle.hp_proc.proofs.SegmentSlots.{Took, put_stays, took_has}
+use Rattle.hp_serve.proofs.SegmentSlots.{Took, put_stays, took_has}
 use Rattle.hp_solo_tests.proofs.Callers.{stage_holds, stage_owns}
 use Rattle.hp_solo_tests.proofs.StageLemmas.{staged_on}
 use Rattle.hp_solo_tests.proofs.tests.stage.Stage.roster.Goals as goal

@@ -1,0 +1,137 @@
+-- What was settled along what comes before and behind: who asked has its answer, and its asks are settled.
+use Rattle.std.proofs.Common.{◌≡◌, ◌∙◌, ℕ, ◌≤◌, true, false, List, ◌++◌, Option, Some, refl, ap, sym, subst, arith}
+use Rattle.std.specs.Prelude.{IfOk, IsSome, OnErr, OnOk, Result, Ok, Err}
+use Rattle.std.specs.Option.{option_map_or}
+use Rattle.hp_base.specs.declared.row.Run.{Run}
+use Rattle.hp_hall.proofs.StandingAsks.{closed_above}
+use Rattle.hp_hall.specs.Holding.{HeapPart}
+use Rattle.hp_log.specs.declared.log_record.LogRecord.{LogRecord}
+use Rattle.hp_segs.specs.SegsView.{closed_number, is_grant_or_refusal, is_stale}
+use Rattle.hp_segs.specs.declared.ask.Ask.{Ask}
+use Rattle.hp_segs.specs.declared.outcome.AskLog.{AskLog}
+use Rattle.hp_segs.specs.declared.outcome.Outcome.{Outcome}
+use Rattle.hp_segs.specs.declared.outcome.Outcome.TheVariants.{Granted, Refused, Stale, Freed}
+use Rattle.hp_serve.specs.Asking.{GrowsHeld, HasAnswer, IsAsked, IsAwaiting, IsHeldAsBefore, HasSettledAsks, Settles, next_number}
+use Rattle.hp_serve.specs.Asking.{ask_of}
+use Rattle.hp_serve.specs.declared.pages_asked.PagesAsked.{PagesAsked}
+use Rattle.hp_serve.proofs.AskOutcomes.{outcome_found}
+use Rattle.hp_serve.proofs.Armed.{closed_more}
+
+-- it awaits its answer as before, where its parts are as they were
+pub awaits_along : (ask : Ask) (old new : ℕ → HeapPart) → ((heap : ℕ) → new heap ≡ old heap) → IsAwaiting ask old → IsAwaiting ask new
+awaits_along ask old new same awaits = record {
+  armed = record {
+    armed = λ heap. ap (λ (part : HeapPart). part.armed) (same heap) ∙ awaits.armed.armed heap;
+    unclaimed = λ heap holding entry is among from.
+        awaits.armed.unclaimed heap holding entry (ap (λ (part : HeapPart). part.holding) (sym (same heap)) ∙ is) among from;
+  };
+  holds = subst (λ (part : HeapPart). IsSome part.holding) (sym (same ask.heap)) awaits.holds;
+}
+
+grows_along : (index : ℕ) (run : Option Run) (old mid new : HeapPart) → IsHeldAsBefore old mid → GrowsHeld index run mid new
+    → GrowsHeld index run old new
+grows_along index run old mid new same grows = record {
+  entries = grows.entries ∙ same.entries;
+  serves = grows.serves ∙ same.serves;
+  before = grows.before;
+  behind = grows.behind;
+  held = sym same.holding ∙ grows.held;
+  holds = grows.holds;
+  grows = grows.grows;
+}
+
+pub held_same : (old new : HeapPart) → new ≡ old → IsHeldAsBefore old new
+held_same old new same = record {
+  entries = ap (λ (part : HeapPart). part.entries) same;
+  serves = ap (λ (part : HeapPart). part.serves) same;
+  holding = ap (λ (part : HeapPart). part.holding) same;
+}
+
+pub held_then : (old mid new : HeapPart) → IsHeldAsBefore old mid → IsHeldAsBefore mid new → IsHeldAsBefore old new
+held_then old mid new here next = record {
+  entries = next.entries ∙ here.entries;
+  serves = next.serves ∙ here.serves;
+  holding = next.holding ∙ here.holding;
+}
+
+-- what was settled, where the parts before it were as they were earlier on
+pub settles_along : (log : List LogRecord) (asks : List AskLog) (ask : Ask) (old mid new : ℕ → HeapPart) (run : Option Run)
+    → ((heap : ℕ) → mid heap ≡ old heap) → Settles log asks ask mid new run → Settles log asks ask old new run
+settles_along log asks ask old mid new run same settles = record {
+  answer = settles.answer;
+  grows = grows_along ask.heap run (old ask.heap) (mid ask.heap) (new ask.heap) (held_same (old ask.heap) (mid ask.heap) (same ask.heap))
+      settles.grows;
+  others = λ heap apart. settles.others heap apart ∙ same heap;
+  armed = λ heap. settles.armed heap ∙ ap (λ (part : HeapPart). part.armed) (same heap);
+}
+
+-- what grew from what was held as before
+pub grows_from : (log : List LogRecord) (asks : List AskLog) (ask : Ask) (old mid new : ℕ → HeapPart) (run : Option Run)
+    → ((heap : ℕ) → IsHeldAsBefore (old heap) (mid heap)) → Settles log asks ask mid new run
+    → GrowsHeld ask.heap run (old ask.heap) (new ask.heap)
+grows_from log asks ask old mid new run same settles =
+    grows_along ask.heap run (old ask.heap) (mid ask.heap) (new ask.heap) (same ask.heap) settles.grows
+
+fresh_by : (outcome : Outcome) → is_grant_or_refusal outcome ≡ true → is_stale outcome ≡ false
+fresh_by (Granted generation) is = refl
+fresh_by (Refused cause) is = refl
+fresh_by (Stale done) is = cc
+fresh_by (Freed generation) is = cc
+
+-- an ask that has its answer is closed
+pub answer_closes : (log : List LogRecord) (asks : List AskLog) (ask : Ask) (run : Option Run) → HasAnswer log asks ask run
+    → ask.number ≤ closed_number asks ask.from
+answer_closes log asks ask run answer =
+    let its = outcome_found asks ask answer.entry answer.logged in
+    let below = closed_above asks answer.entry its.among (fresh_by answer.entry.outcome its.settles) in
+    let same : closed_number asks answer.entry.from ≡ closed_number asks ask.from = ap (closed_number asks) its.who in
+    omega (arith, below, same, its.which)
+
+-- so the asks of its participant are settled
+pub settled_by : (log : List LogRecord) (asks : List AskLog) (ask : Ask) (mid new : ℕ → HeapPart) (run : Option Run)
+    → ((heap : ℕ) → (mid heap).armed ≡ Some ask) → Settles log asks ask mid new run → HasSettledAsks ask.from new asks
+settled_by log asks ask mid new run armed settles heap other is =
+    let both : Some ask ≡ Some other = sym (settles.armed heap ∙ armed heap) ∙ is in
+    let same : ask.number ≡ other.number = ap (λ (o : Option Ask). option_map_or (λ (ask : Ask). ask.number) o 0) both in
+    omega (arith, answer_closes log asks ask run settles.answer, same)
+
+-- settled asks stay settled where outcomes follow
+pub settled_more : (who : ℕ) (old new : ℕ → HeapPart) (asks now more : List AskLog) → now ≡ asks ++ more
+    → ((heap : ℕ) → (new heap).armed ≡ (old heap).armed) → HasSettledAsks who old asks → HasSettledAsks who new now
+settled_more who old new asks now more grown same settled heap ask is =
+    let whole : closed_number now who ≡ closed_number (asks ++ more) who = ap (λ asks. closed_number asks who) grown in
+    omega (arith, settled heap ask (sym (same heap) ∙ is), closed_more asks more who, whole)
+
+-- it asked by the next number, and was answered so
+pub is_asked : (log : List LogRecord) (asks found since : List AskLog) (who before after : ℕ) (asked : PagesAsked) (ask : Ask)
+    (mid new : ℕ → HeapPart) (run : Option Run) → ask ≡ ask_of who ask.number asked → after ≡ ask.number
+    → ask.number ≡ next_number before found who
+    → asks ≡ found ++ since → Settles log asks ask mid new run → IsAsked log asks who before after asked run
+is_asked log asks found since who before after asked ask mid new run ask_is after_is number_is grown settles = record {
+  found = found;
+  since = since;
+  heard = grown;
+  number = after_is ∙ number_is;
+  answer = subst (λ number. HasAnswer log asks (ask_of who number asked) run) (sym after_is)
+      (subst (λ ask. HasAnswer log asks ask run) ask_is settles.answer);
+}
+
+module _ {T E : Type 0} where
+  -- what an answer that is there shows
+  pub if_ok : (P Q : T → Type 0) (result : Result T E) → ((value : T) → P value → Q value) → IfOk result P → IfOk result Q
+  if_ok P Q (Ok value) shows is = shows value is
+  if_ok P Q (Err refusal) shows is = tt
+
+  pub on_ok : (P : T → Type 0) (Q : Type 0) (result : Result T E) → ((value : T) → P value → Q) → IfOk result P → OnOk result Q
+  on_ok P Q (Ok value) shows is = shows value is
+  on_ok P Q (Err refusal) shows is = tt
+
+  -- and what either shows
+  pub in_both : (P : T → Type 0) (Q R : Type 0) (result : Result T E) → ((value : T) → P value → R) → (Q → R) → IfOk result P
+      → OnErr result Q → R
+  in_both P Q R (Ok value) shows tells is err = shows value is
+  in_both P Q R (Err refusal) shows tells is err = tells err
+
+  pub on_err : (Q R : Type 0) (result : Result T E) → (Q → R) → OnErr result Q → OnErr result R
+  on_err Q R (Ok value) tells err = tt
+  on_err Q R (Err refusal) tells err = tells err

@@ -1,0 +1,119 @@
+-- A participant that attaches or detaches: the table that it is left with, and the segment value that it gives back.
+use Rattle.std.proofs.Common.{◌≡◌, ◌∙◌, ℕ, ◌<◌, ◌≤◌, Bool, true, false, ◌||◌, List, [], ◌∷◌, Option, length, refl, ap, sym, arith}
+use Rattle.std.specs.Prelude.{slice_set}
+use Rattle.std.proofs.lemmas.List.{get_or-set_same, set-get_or}
+use Rattle.hp_base.specs.Mapping.{FailingCall, Held, is_done, owned}
+use Rattle.hp_base.specs.declared.caught.Caught.{Caught}
+use Rattle.hp_base.specs.declared.caught.Caught.TheVariants.{Done, Refused, Elsewhere}
+use Rattle.hp_base.specs.declared.limits.TheConstants.{MAX_SEGMENTS}
+use Rattle.hp_base.specs.declared.map_answer.MapAnswer.{MapAnswer}
+use Rattle.hp_base.specs.declared.row.Row.{Row}
+use Rattle.hp_hall.specs.Mail.{Notes}
+use Rattle.hp_hall.specs.Own.{Own, after_ack}
+use Rattle.hp_hall.specs.declared.note.Note.TheVariants.{Acked}
+use Rattle.hp_log.specs.declared.log_record.LogRecord.{LogRecord}
+use Rattle.hp_maps.specs.MapsView.{IsMapped, MapsView}
+use Rattle.hp_segs.specs.LaterSteps.{after_join, after_leave}
+use Rattle.hp_segs.specs.SegsView.{SegsView, is_member}
+use Rattle.hp_serve.specs.Attaching.{after_attaching, emptied, table_left}
+use Rattle.hp_serve.specs.Serving.{acks_behind}
+use Rattle.hp_serve.specs.Tied.{IsTied, own_after}
+
+-- a table of which all is unmapped is emptied
+pub emptied_is : (old new : MapsView) → new.rows ≡ [] → new.number ≡ 0 → new.answers ≡ old.answers → new.capacity ≡ old.capacity
+    → new.faults ≡ old.faults → new.may_fail ≡ old.may_fail → IsMapped new → new ≡ emptied old
+emptied_is old new rows number answers capacity faults may_fail mapped =
+    ap (λ (held : List Held). record new { held = held }) mapped
+    ∙ ap (λ (rows : List Row). record new { rows = rows; held = owned rows }) rows
+    ∙ ap (λ (number : ℕ). record new { rows = []; number = number; held = [] }) number
+    ∙ ap (λ (answers : List MapAnswer). record new { rows = []; number = 0; answers = answers; held = [] }) answers
+    ∙ ap (λ (capacity : ℕ). record new { rows = []; number = 0; capacity = capacity; answers = old.answers; held = [] }) capacity
+    ∙ ap (λ (faults : ℕ). record new {
+      rows = [];
+      number = 0;
+      capacity = old.capacity;
+      answers = old.answers;
+      faults = faults;
+      held = [];
+    }) faults
+    ∙ ap (λ (may_fail : Option (List FailingCall)). record old { rows = []; number = 0; may_fail = may_fail; held = [] }) may_fail
+
+-- an emptied table is that of a participant that is out, whatever it has acknowledged
+pub emptied_tied : (log : List LogRecord) (own : Own) (maps : MapsView) → own.number ≤ length log → MAX_SEGMENTS ≤ maps.capacity
+    → IsTied log own false (emptied maps)
+emptied_tied log own maps within room = record {
+  within = within;
+  table = record {
+    number = refl;
+    rows = refl;
+    behind = omega arith;
+    seen = omega arith;
+    chunks = refl;
+    room = room;
+  };
+}
+
+-- where a mapping failed, the table that is left is emptied
+pub left_emptied : (caught : Caught) (maps : MapsView) → is_done caught ≡ false → emptied maps ≡ table_left caught maps
+left_emptied Done maps failed = cc
+left_emptied (Refused row call) maps failed = refl
+left_emptied (Elsewhere row call got) maps failed = refl
+
+-- and else it is the whole one
+pub left_whole : (caught : Caught) (maps : MapsView) → is_done caught ≡ true → maps ≡ table_left caught maps
+left_whole Done maps done = refl
+left_whole (Refused row call) maps done = cc
+left_whole (Elsewhere row call got) maps done = cc
+
+-- where all was mapped, all records are acknowledged
+pub acks_whole : (caught : Caught) (records number : ℕ) → is_done caught ≡ true → records ≡ number
+    → Notes (Acked records) ∷ [] ≡ acks_behind caught number
+acks_whole Done records number done same = ap (λ (number : ℕ). Notes (Acked number) ∷ []) same
+acks_whole (Refused row call) records number done same = cc
+acks_whole (Elsewhere row call got) records number done same = cc
+
+-- who is in the roster comes in once more, and who is out leaves it once more
+pub joined_same : (who : ℕ) (segs : SegsView) → is_member segs.roster who ≡ true → segs ≡ after_join who segs
+joined_same who segs is =
+    ap (λ (roster : List Bool). record segs { roster = roster })
+    (sym (ap (λ (member : Bool). slice_set segs.roster who member) (sym is) ∙ set-get_or segs.roster who false))
+
+pub left_same : (who : ℕ) (segs : SegsView) → is_member segs.roster who ≡ false → segs ≡ after_leave who segs
+left_same who segs is =
+    ap (λ (roster : List Bool). record segs { roster = roster })
+    (sym (ap (λ (member : Bool). slice_set segs.roster who member) (sym is) ∙ set-get_or segs.roster who false))
+
+-- its own part is what was acknowledged, and it has a table
+pub done_own : (caught : Caught) (records : ℕ) (own : Own) → is_done caught ≡ true → after_ack records ≡ own_after caught records own
+done_own Done records own done = refl
+done_own (Refused row call) records own done = cc
+done_own (Elsewhere row call got) records own done = cc
+
+pub done_joined : (joined done : Bool) → done ≡ true → (joined || done) ≡ done
+done_joined true done is = sym is
+done_joined false done is = refl
+
+-- where a mapping failed, nothing is acknowledged
+pub acks_none : (caught : Caught) (number : ℕ) → is_done caught ≡ false → [] ≡ acks_behind caught number
+acks_none Done number failed = cc
+acks_none (Refused row call) number failed = refl
+acks_none (Elsewhere row call got) number failed = refl
+
+or_true : (joined : Bool) → true ≡ (joined || true)
+or_true true = refl
+or_true false = refl
+
+or_false : (joined : Bool) → joined ≡ (joined || false)
+or_false true = refl
+or_false false = refl
+
+-- who has caught up comes into the roster, and who has not stays as it was
+pub attached_roster : (who : ℕ) (caught : Caught) (segs : SegsView) → who < length segs.roster
+    → is_member (after_attaching who caught segs).roster who ≡ (is_member segs.roster who || is_done caught)
+attached_roster who Done segs within = get_or-set_same segs.roster who true false within ∙ or_true (is_member segs.roster who)
+attached_roster who (Refused row call) segs within = or_false (is_member segs.roster who)
+attached_roster who (Elsewhere row call got) segs within = or_false (is_member segs.roster who)
+
+-- who leaves it is out
+pub left_roster : (who : ℕ) (segs : SegsView) → who < length segs.roster → is_member (after_leave who segs).roster who ≡ false
+left_roster who segs within = get_or-set_same segs.roster who false false within

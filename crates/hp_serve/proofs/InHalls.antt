@@ -1,0 +1,212 @@
+-- A participant in a hall, over what calls leave.
+use Rattle.std.proofs.Common.{Bool, ◌<◌, ◌≢◌, ap, inl, inr, ◌≡◌, ◌∙◌, ◌≤◌, ℕ, List, sym, subst, arith}
+use Rattle.std.proofs.lemmas.Bool.{cases_eq}
+use Rattle.hp_base.specs.declared.limits.TheConstants.{MAX_HEAPS}
+use Rattle.hp_hall.specs.HallState.{Did, HallState, IsLater, MayServe, MineStay, OthersStay, PartsStay, SlotsStay, SlotsStayBut, Stays, Waits}
+use Rattle.hp_hall.specs.Mail.{MailStep}
+use Rattle.hp_hall.proofs.HallStates.{later_then, may_still, others_same, others_then, slots_then, waits_by, waits_same, waits_then}
+use Rattle.hp_maps.specs.MapsView.{MapsView}
+use Rattle.hp_proc.specs.LineInHall.{AreFreeBut, IsFreeAt, IsIdleIn}
+use Rattle.hp_serve.specs.InHall.{CanCoordinate, CanServe, IsTiedIn, RemainsIn, StaysAlone, StaysIn}
+use Rattle.hp_serve.specs.Party.{IsSameParty, Party}
+use Rattle.hp_serve.specs.Tied.{IsTied}
+use Rattle.hp_serve.proofs.Carrying.{same_party, same_then}
+use Rattle.hp_serve.proofs.Handed.{tied_still}
+
+-- its table stays tied while its own part does
+pub tied_later : (me : ℕ) (party : Party) {a b : HallState} → IsLater a b → b.own me ≡ a.own me → IsTiedIn me party a → IsTiedIn me party b
+tied_later me party {a} {b} later own tied =
+    let seen = later.seen me in
+    tied_still (a.seen me) (b.seen me) seen.0 (a.own me) (b.own me) party.joined party.maps seen.1 own tied
+
+pub in_same : (me : ℕ) (party : Party) (a : HallState) → IsTiedIn me party a → StaysIn me party party a a
+in_same me party a tied = record { same = same_party party; tied = tied; waits = waits_same me a }
+
+-- one number throughout
+pub as_then : {me : ℕ} {first mid last : Party} {a b c : HallState} → StaysIn me first mid a b → StaysIn me mid last b c
+    → StaysIn me first last a c
+as_then {me} {first} {mid} {last} here next = record {
+  same = same_then first mid last here.same next.same;
+  tied = next.tied;
+  waits = waits_then here.waits next.waits;
+}
+
+-- each time as who it is
+pub in_then : {first mid last : Party} {a b c : HallState} → StaysIn first.me first mid a b → StaysIn mid.me mid last b c
+    → StaysIn first.me first last a c
+in_then {first} {mid} {last} {a} {b} {c} here next =
+    as_then here (subst (λ (who : ℕ). StaysIn who mid last b c) here.same.me next)
+
+-- what it did next, it did as who it was
+pub in_did : {first mid : Party} {a b c : HallState} {steps : List MailStep} → StaysIn first.me first mid a b → Did mid.me steps b c
+    → Did first.me steps b c
+in_did {first} {mid} {a} {b} {c} {steps} here did = subst (λ (who : ℕ). Did who steps b c) here.same.me did
+
+pub in_tied : {first mid : Party} {a b : HallState} → StaysIn first.me first mid a b → IsTiedIn mid.me mid b
+in_tied {first} {mid} {a} {b} here = subst (λ (who : ℕ). IsTiedIn who mid b) (sym here.same.me) here.tied
+
+pub in_may : {first mid : Party} {a b : HallState} → StaysIn first.me first mid a b → MayServe first.me a → MayServe mid.me b
+in_may {first} {mid} {a} {b} here may =
+    subst (λ (who : ℕ). MayServe who b) (sym here.same.me) (may_still here.waits.slots here.waits.later may)
+
+pub in_can : {first mid : Party} {a b : HallState} → StaysIn first.me first mid a b → CanServe first.me first a → CanServe mid.me mid b
+in_can here can = record { may = in_may here can.may; tied = in_tied here }
+
+-- a call of the hall that leaves all of it
+pub in_stays : (me : ℕ) (party : Party) {a b : HallState} → Stays me a b → IsTiedIn me party a → StaysIn me party party a b
+in_stays me party {a} {b} stays tied = record {
+  same = same_party party;
+  tied = tied_later me party stays.others.later stays.mine.own tied;
+  waits = waits_by stays;
+}
+
+pub can_still : {me : ℕ} {party : Party} {a b : HallState} → Stays me a b → CanServe me party a → CanServe me party b
+can_still {me} {party} stays can = record {
+  may = may_still stays.slots stays.others.later can.may;
+  tied = tied_later me party stays.others.later stays.mine.own can.tied;
+}
+
+-- others served for it, or it paused
+pub in_others : (party : Party) {inside : ℕ} {a b : HallState} → inside ≡ party.me → SlotsStay a b → MineStay inside a b → IsLater a b
+    → IsTiedIn party.me party a → StaysIn party.me party party a b
+in_others party {inside} {a} {b} here slots mine later tied =
+    let stay : MineStay party.me a b = subst (λ (who : ℕ). MineStay who a b) here mine in
+    record {
+      same = same_party party;
+      tied = tied_later party.me party later stay.own tied;
+      waits = record { slots = slots; parts = stay.parts; later = later };
+    }
+
+pub in_waits : (party : Party) {a b : HallState} → Waits party.me a b → b.own party.me ≡ a.own party.me → IsTiedIn party.me party a
+    → StaysIn party.me party party a b
+in_waits party waits own tied = record { same = same_party party; tied = tied_later party.me party waits.later own tied; waits = waits }
+
+-- while nobody else does anything
+pub alone_same : (me : ℕ) (party : Party) (a : HallState) → IsTiedIn me party a → StaysAlone me party party a a
+alone_same me party a tied = record { stays = in_same me party a tied; others = others_same me a }
+
+pub alone_by : (me : ℕ) (party : Party) {a b : HallState} → Stays me a b → IsTiedIn me party a → StaysAlone me party party a b
+alone_by me party stays tied = record { stays = in_stays me party stays tied; others = stays.others }
+
+pub alone_then : {me : ℕ} {first mid last : Party} {a b c : HallState} → StaysAlone me first mid a b → StaysAlone me mid last b c
+    → StaysAlone me first last a c
+alone_then here next = record { stays = as_then here.stays next.stays; others = others_then here.others next.others }
+
+pub alone_next : {first mid last : Party} {a b c : HallState} → StaysAlone first.me first mid a b → StaysAlone mid.me mid last b c
+    → StaysAlone first.me first last a c
+alone_next {first} {mid} {last} {a} {b} {c} here next =
+    alone_then here (subst (λ (who : ℕ). StaysAlone who mid last b c) here.stays.same.me next)
+
+-- participant 0 goes on coordinating
+pub coordinates_on : {first mid : Party} {a b : HallState} → StaysAlone 0 first mid a b → CanCoordinate first a → CanCoordinate mid b
+coordinates_on here can = record {
+  primary = here.stays.same.me ∙ can.primary;
+  may = may_still here.stays.waits.slots here.others.later can.may;
+  tied = here.stays.tied;
+}
+
+pub coordinates_still : {party : Party} {a b : HallState} → Stays 0 a b → CanCoordinate party a → CanCoordinate party b
+coordinates_still {party} stays can = coordinates_on (alone_by 0 party stays can.tied) can
+
+-- a wait that goes on behind what changed its parts
+pub remains_then : {me : ℕ} {first mid last : Party} {a b c : HallState} → RemainsIn me first mid a b → RemainsIn me mid last b c
+    → RemainsIn me first last a c
+remains_then {me} {first} {mid} {last} here next = record {
+  same = same_then first mid last here.same next.same;
+  tied = next.tied;
+  slots = slots_then here.slots next.slots;
+  joined = next.joined ∙ here.joined;
+  later = later_then here.later next.later;
+}
+
+pub remains_by : {me : ℕ} {old new : Party} {a b : HallState} → StaysIn me old new a b → RemainsIn me old new a b
+remains_by here = record {
+  same = here.same;
+  tied = here.tied;
+  slots = here.waits.slots;
+  joined = here.waits.parts.joined;
+  later = here.waits.later;
+}
+
+-- who holds no slot may serve, and goes on holding none
+pub idle_may : {me : ℕ} {party : Party} {a : HallState} → IsIdleIn me party a → MayServe me a
+idle_may idle = record { serves = idle.serves; declared = idle.declared; free = idle.free MAX_HEAPS; home = idle.home MAX_HEAPS (omega arith) }
+
+pub idle_can : {me : ℕ} {party : Party} {a : HallState} → IsIdleIn me party a → CanServe me party a
+idle_can idle = record { may = idle_may idle; tied = idle.tied }
+
+pub idle_still : {me : ℕ} {old new : Party} {a b : HallState} → SlotsStay a b → IsLater a b → IsTiedIn me new b → IsIdleIn me old a
+    → IsIdleIn me new b
+idle_still {me} slots later tied idle = record {
+  serves = later.serves me idle.serves;
+  declared = omega (arith, later.count, idle.declared);
+  free = λ number. slots.taken number ∙ idle.free number;
+  home = λ number few. slots.home number (idle.home number few);
+  tied = tied;
+}
+
+pub idle_in : {me : ℕ} {old new : Party} {a b : HallState} → StaysIn me old new a b → IsIdleIn me old a → IsIdleIn me new b
+idle_in here idle = idle_still here.waits.slots here.waits.later here.tied idle
+
+-- it holds that slot at most, behind a call that leaves the others
+pub free_but : {me slot : ℕ} {party : Party} {a b : HallState} → SlotsStayBut slot a b → IsIdleIn me party a → AreFreeBut slot b
+free_but slots idle = record {
+  taken = λ number apart. slots.taken number apart ∙ idle.free number;
+  home = λ number few apart. slots.home number apart (idle.home number few);
+}
+
+pub free_at : {me slot : ℕ} {party : Party} {a : HallState} → slot ≤ MAX_HEAPS → IsIdleIn me party a → IsFreeAt slot a
+free_at {me} {slot} few idle = record { taken = idle.free slot; home = idle.home slot few }
+
+-- it did something by parts of itself, and is the same one
+pub alone_of : {me : ℕ} {old inside new : Party} {a b : HallState} → inside ≡ old → IsSameParty inside new → IsTiedIn me new b → SlotsStay a b
+    → PartsStay me a b → OthersStay me a b → StaysAlone me old new a b
+alone_of {me} {old} {inside} {new} is same tied slots parts others = record {
+  stays = record {
+    same = subst (λ (party : Party). IsSameParty party new) is same;
+    tied = tied;
+    waits = record { slots = slots; parts = parts; later = others.later };
+  };
+  others = others;
+}
+
+-- and its table is as it was
+pub alone_with : {me : ℕ} {old inside new : Party} {a b : HallState} → inside ≡ old → IsSameParty inside new → new.joined ≡ inside.joined
+    → new.maps ≡ inside.maps → Stays me a b → IsTiedIn me old a → StaysAlone me old new a b
+alone_with {me} {old} {inside} {new} {a} {b} is same joined maps stays tied =
+    let later = tied_later me old stays.others.later stays.mine.own tied in
+    let held : IsTied (b.seen me) (b.own me) inside.joined inside.maps =
+    subst (λ (party : Party). IsTiedIn me party b) (sym is) later in
+    let table : IsTied (b.seen me) (b.own me) inside.joined new.maps =
+    subst (λ (maps : MapsView). IsTied (b.seen me) (b.own me) inside.joined maps) (sym maps) held in
+    alone_of is same (subst (λ (joined : Bool). IsTied (b.seen me) (b.own me) joined new.maps) (sym joined) table) stays.slots stays.mine.parts
+    stays.others
+
+-- who holds one heap may serve
+pub may_but : {me slot : ℕ} {party : Party} {a b : HallState} → slot < MAX_HEAPS → IsLater a b → SlotsStayBut slot a b → IsIdleIn me party a
+    → MayServe me b
+may_but {me} {slot} few later slots idle =
+    let apart : MAX_HEAPS ≢ slot = λ same. omega (arith, few, same) in
+    record {
+      serves = later.serves me idle.serves;
+      declared = omega (arith, later.count, idle.declared);
+      free = slots.taken MAX_HEAPS apart ∙ idle.free MAX_HEAPS;
+      home = slots.home MAX_HEAPS apart (idle.home MAX_HEAPS (omega arith));
+    }
+
+-- who held one slot at most, and holds that no longer, holds none
+pub idle_again : {me slot : ℕ} {party : Party} {a : HallState} → a.serves me → me < a.count → IsTiedIn me party a → AreFreeBut slot a
+    → IsFreeAt slot a → IsIdleIn me party a
+idle_again {me} {slot} {party} {a} serves declared tied others here = record {
+  serves = serves;
+  declared = declared;
+  free = λ number. elim (cases_eq number slot) [
+    | inl is ↦ ap a.taken is ∙ here.taken
+    | inr apart ↦ others.taken number apart
+  ];
+  home = λ number few. elim (cases_eq number slot) [
+    | inl is ↦ subst a.may_take (sym is) here.home
+    | inr apart ↦ others.home number few apart
+  ];
+  tied = tied;
+}

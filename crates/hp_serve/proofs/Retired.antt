@@ -1,0 +1,84 @@
+-- A run that was cut from a heap is its own, and what the value has for that heap is without the run's rows once it is given up.
+use Rattle.std.proofs.Common.{◌≡◌, ◌≢◌, ◌∙◌, ℕ, [], append-nil, Option, Some, None, refl, ap, sym, subst}
+use Rattle.std.specs.Option.{option_map}
+use Rattle.hp_base.specs.declared.row.Run.{Run}
+use Rattle.hp_hall.specs.Giving.{GivesSegments, Knows, owns}
+use Rattle.hp_hall.specs.Holding.{AreStanding, HasPages, HeapPart, part_behind}
+use Rattle.hp_segs.specs.Standing.{Holding, owned_by, standing_of}
+use Rattle.hp_hall.specs.Standings.{IsGivenUpWith, RetireLeavesOthers, RetireTakesPages, RetireTakesRows}
+use Rattle.hp_heap.specs.Cut.{after_cut}
+use Rattle.hp_heap.specs.PlainHeap.{PlainHeap}
+use Rattle.hp_segs.specs.Calls.{OwnsRun}
+use Rattle.hp_segs.specs.LaterSteps.{armed_ask}
+use Rattle.hp_segs.specs.Moved.{Retire, is_owner_call}
+use Rattle.hp_segs.specs.SegsView.{SegsView}
+use Rattle.hp_segs.specs.Sound.{IsSound}
+use Rattle.hp_segs.specs.Steps.{after_retire}
+use Rattle.hp_segs.specs.declared.ask.Ask.{Ask}
+use Rattle.hp_segs.proofs.Moves.{calls_move}
+use Rattle.hp_serve.specs.Asking.{GivesUp, IsCutFrom, without_run}
+use Rattle.hp_serve.proofs.AskSettled.{held_by, part_alike}
+
+module _ (who heap : ℕ) (run : Run) (parts : ℕ → HeapPart) (segs : SegsView) (sound : IsSound segs) (standing : AreStanding who parts segs)
+    (holding : Holding) (held : (parts heap).holding ≡ Some holding) (takes : RetireTakesPages) where
+  -- of a heap from which it was cut
+  given_up : (left : PlainHeap) (cut : IsCutFrom heap run holding left) → IsGivenUpWith cut.address cut.whole run segs
+  given_up left cut =
+      takes segs cut.address cut.whole run sound cut.cut
+      (subst (λ index. HasPages cut.whole.pages (owned_by index segs)) (sym cut.its_index)
+      (subst (λ (holding : Holding). HasPages cut.whole.pages holding.owned) (standing.held heap holding held) cut.pages))
+
+  module _ (left : PlainHeap) (cut : IsCutFrom heap run holding left) where
+    -- the heap owns the run
+    pub owns_run : OwnsRun heap run segs
+    owns_run = subst (λ index. OwnsRun index run segs) cut.its_index (given_up left cut).own
+
+    module _ (leaves : RetireLeavesOthers) where
+      others_stay : (other : ℕ) → other ≢ heap → standing_of other (after_retire heap run segs) ≡ standing_of other segs
+      others_stay = leaves segs heap run sound owns_run
+
+      -- the value without it may be given back by the holder of the heap
+      pub retire_gives : (knows : Knows) → ((other : ℕ) → knows.part other ≡ parts other) → GivesSegments knows segs (after_retire heap run segs)
+      retire_gives knows same = record {
+        more = [];
+        log = sym (append-nil segs.log);
+        form = owns (record {
+          moved = calls_move is_owner_call (Retire heap run) segs refl owns_run;
+          others = λ other none. others_stay other (λ is.
+              let here : (parts heap).holding ≡ None =
+              ap (λ other. (parts other).holding) (sym is) ∙ (ap (λ (part : HeapPart). part.holding) (sym (same other)) ∙ none) in
+              let wrong : Some holding ≡ None = sym held ∙ here in
+              cc);
+        });
+      }
+
+      module _ (rows : RetireTakesRows) (now : ℕ → HeapPart)
+          (is : (heap : ℕ) → now heap ≡ part_behind who (after_retire heap run segs) heap (parts heap)) where
+        abbrev given : SegsView
+        given = after_retire heap run segs
+
+        left_is : standing_of heap given ≡ without_run run holding
+        left_is = rows segs heap run sound owns_run ∙ ap (without_run run) (sym (standing.held heap holding held))
+
+        -- the part in another heap stays
+        pub part_stays : (other : ℕ) → other ≢ heap → now other ≡ parts other
+        part_stays other apart =
+            is other ∙ part_alike who other given (parts other)
+            (held_by other segs given (parts other).holding (others_stay other apart) (standing.held other)) (sym (standing.armed other))
+
+        -- and the part in this one is without the run
+        pub gives_up : GivesUp heap run (parts heap) (now heap)
+        gives_up = record {
+          before = holding;
+          held = held;
+          left = is heap
+              ∙ (ap (λ (holding : Option Holding). record (parts heap) { holding = holding; armed = armed_ask given who })
+              (ap (option_map (λ holding. standing_of heap given)) held ∙ ap Some left_is)
+              ∙ ap (λ (ask : Option Ask). record (parts heap) { holding = Some (without_run run holding); armed = ask })
+              (sym (standing.armed heap)));
+          pages = λ left cut.
+              subst (λ (heap : PlainHeap). HasPages heap.pages (without_run run holding).owned) (sym cut.left_is)
+              (subst (λ (holding : Holding). HasPages (after_cut cut.address cut.whole).pages holding.owned) left_is
+              (subst (λ index. HasPages (after_cut cut.address cut.whole).pages (owned_by index given)) cut.its_index
+              (given_up left cut).pages));
+        }

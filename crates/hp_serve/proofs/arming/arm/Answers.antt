@@ -1,0 +1,134 @@
+-- No growth of the participant is open, so it may be armed; and nothing is claimed for the new number.
+use Rattle.std.proofs.Common.{◌∙◌, ℕ, ap, refl, sym, subst}
+use Rattle.std.specs.Prelude.{IsSome}
+use Rattle.hp_hall.specs.Holding.{HeapPart}
+use Rattle.hp_hall.proofs.HallStates.{did_then}
+use Rattle.hp_segs.specs.declared.ask.Ask.{Ask}
+use Rattle.hp_serve.specs.Asking.{next_number}
+use Rattle.hp_serve.proofs.Armed.{may_arm, next_above, none_claimed}
+use Rattle.hp_serve.proofs.AskedAlong.{held_same, held_then}
+use Rattle.hp_serve.proofs.SegmentSlots.{Took, gave_parts, put_parts, took_has}
+use Rattle.hp_serve.proofs.arming.arm.Goals as goal
+
+pub take_segments-segs-requires : goal.take_segments-segs-requires
+take_segments-segs-requires g c = record { serves = c.requires.may.serves; home = c.requires.may.home }
+
+pub put_back-requires : goal.put_back-requires
+put_back-requires g c =
+    let is = c.take_segments-segs.ensures in
+    let took : Took c.args.me c.take_segments-segs.result (g.H.Hall.state c.args.hall.now) (g.H.Hall.state c.take_segments-segs.new.hall) =
+    record { may = c.requires.may; took = is.took; slots = is.slots; others = is.others; weight = is.weight } in
+    record { has = took_has took }
+
+pub arm_taken-requires-clause-has : goal.arm_taken-requires-clause-has
+arm_taken-requires-clause-has g c =
+    let is = c.take_segments-segs.ensures in
+    let took : Took c.args.me c.take_segments-segs.result (g.H.Hall.state c.args.hall.now) (g.H.Hall.state c.take_segments-segs.new.hall) =
+    record { may = c.requires.may; took = is.took; slots = is.slots; others = is.others; weight = is.weight } in
+    took_has took
+
+pub arm_taken-requires-clause-sound : goal.arm_taken-requires-clause-sound
+arm_taken-requires-clause-sound g c = c.take_segments-segs.ensures.took.sound
+
+pub arm_taken-requires-clause-may : goal.arm_taken-requires-clause-may
+arm_taken-requires-clause-may g c =
+    let me = c.args.me in
+    let old = g.H.Hall.state c.args.hall.now in
+    let mid = g.H.Hall.state c.take_segments-segs.new.hall in
+    let took = c.take_segments-segs.ensures.took in
+    let grown = c.take_segments-segs.ensures.others.later.heard me in
+    may_arm me (old.part me) (mid.part me) c.take_segments-segs.result (old.heard me) grown.0 (took.asks ∙ grown.1) took.part took.stands
+    c.requires.settled c.ask_of-ask.result (ap (λ (ask : Ask). ask.from) c.ask_of-ask.ensures) c.requires.few
+
+pub arm_taken-requires-clause-holds : goal.arm_taken-requires-clause-holds
+arm_taken-requires-clause-holds g c =
+    let me = c.args.me in
+    let old = g.H.Hall.state c.args.hall.now in
+    let mid = g.H.Hall.state c.take_segments-segs.new.hall in
+    let its_heap = ap (λ (ask : Ask). ask.heap) c.ask_of-ask.ensures in
+    subst (λ holding. IsSome holding)
+    (sym (ap (λ (part : HeapPart). part.holding) (c.take_segments-segs.ensures.took.part c.ask_of-ask.result.heap)
+    ∙ ap (λ (heap : ℕ). (old.part me heap).holding) its_heap))
+    c.requires.holds
+
+pub returns-clause-number : goal.returns-clause-number
+returns-clause-number g c =
+    let me = c.args.me in
+    let number = ap (λ (ask : Ask). ask.number) c.ask_of-ask.ensures ∙ c.in-Some.ensures in
+    number ∙ ap (λ asks. next_number c.args.before asks me) (c.in_ok-arm_taken.ensures.ok.gave.asks)
+
+pub returns-clause-awaits : goal.returns-clause-awaits
+returns-clause-awaits g c =
+    let me = c.args.me in
+    let ask = c.ask_of-ask.result in
+    let segs = c.take_segments-segs.result in
+    let old = g.H.Hall.state c.args.hall.now in
+    let new = (g.H.Hall.state c.arm_taken.new.hall).part me in
+    let took = c.take_segments-segs.ensures.took in
+    let from = ap (λ (ask : Ask). ask.from) c.ask_of-ask.ensures in
+    let number = ap (λ (ask : Ask). ask.number) c.ask_of-ask.ensures ∙ c.in-Some.ensures in
+    let held = c.in_ok-arm_taken.ensures.held in
+    record {
+      armed = record {
+        armed = c.in_ok-arm_taken.ensures.armed;
+        unclaimed = none_claimed me ask new segs (λ heap holding is. took.stands.held heap holding (sym (held heap).holding ∙ is)) from
+            (next_above c.args.before ask.number _ number);
+      };
+      holds =
+          let its_heap = ap (λ (ask : Ask). ask.heap) c.ask_of-ask.ensures in
+          let stays =
+          (held ask.heap).holding
+          ∙ (ap (λ (part : HeapPart). part.holding) (took.part ask.heap) ∙ ap (λ (heap : ℕ). (old.part me heap).holding) its_heap) in
+          subst (λ holding. IsSome holding) (sym stays) c.requires.holds;
+    }
+
+pub returns-clause-held : goal.returns-clause-held
+returns-clause-held g c = λ heap.
+    held_then _ _ _ (held_same _ _ (c.take_segments-segs.ensures.took.part heap)) (c.in_ok-arm_taken.ensures.held heap)
+
+pub returns-clause-did : goal.returns-clause-did
+returns-clause-did g c = (
+  c.take_segments-segs.result,
+  ap (λ (ask : Ask). ask.number) c.ask_of-ask.ensures ∙ c.in-Some.ensures,
+  did_then c.take_segments-segs.ensures.took.did c.in_ok-arm_taken.ensures.ok.gave.did,
+)
+
+pub returns-clause-stays : goal.returns-clause-stays
+returns-clause-stays g c =
+    let is = c.take_segments-segs.ensures in
+    let took : Took c.args.me c.take_segments-segs.result (g.H.Hall.state c.args.hall.now) (g.H.Hall.state c.take_segments-segs.new.hall) =
+    record { may = c.requires.may; took = is.took; slots = is.slots; others = is.others; weight = is.weight } in
+    gave_parts took refl c.in_ok-arm_taken.ensures.ok
+
+pub returns-clause-goes_on : goal.returns-clause-goes_on
+returns-clause-goes_on g c = g.met.H.Hall.goes_on_then _ _ _ c.take_segments-segs.ensures.goes_on c.in_ok-arm_taken.ensures.goes_on
+
+pub returns-in_err-arm_taken-clause-held : goal.returns-in_err-arm_taken-clause-held
+returns-in_err-arm_taken-clause-held g c = λ heap.
+    held_then _ _ _ (held_same _ _ (c.take_segments-segs.ensures.took.part heap)) (c.in_err-arm_taken.ensures.held heap)
+
+pub returns-in_err-arm_taken-clause-stays : goal.returns-in_err-arm_taken-clause-stays
+returns-in_err-arm_taken-clause-stays g c =
+    let is = c.take_segments-segs.ensures in
+    let took : Took c.args.me c.take_segments-segs.result (g.H.Hall.state c.args.hall.now) (g.H.Hall.state c.take_segments-segs.new.hall) =
+    record { may = c.requires.may; took = is.took; slots = is.slots; others = is.others; weight = is.weight } in
+    gave_parts took refl c.in_err-arm_taken.ensures.err
+
+pub returns-in_err-arm_taken-clause-goes_on : goal.returns-in_err-arm_taken-clause-goes_on
+returns-in_err-arm_taken-clause-goes_on g c =
+    g.met.H.Hall.goes_on_then _ _ _ c.take_segments-segs.ensures.goes_on c.in_err-arm_taken.ensures.goes_on
+
+pub returns-in_default-clause-held : goal.returns-in_default-clause-held
+returns-in_default-clause-held g c = λ heap.
+    held_same _ _ (c.put_back.ensures.back.parts.part heap ∙ c.take_segments-segs.ensures.took.part heap)
+
+pub returns-in_default-clause-stays : goal.returns-in_default-clause-stays
+returns-in_default-clause-stays g c =
+    let is = c.take_segments-segs.ensures in
+    let took : Took c.args.me c.take_segments-segs.result (g.H.Hall.state c.args.hall.now) (g.H.Hall.state c.take_segments-segs.new.hall) =
+    record { may = c.requires.may; took = is.took; slots = is.slots; others = is.others; weight = is.weight } in
+    put_parts took c.put_back.ensures.back
+
+pub returns-in_default-clause-goes_on : goal.returns-in_default-clause-goes_on
+returns-in_default-clause-goes_on g c =
+    g.met.H.Hall.goes_on_then _ _ _ c.take_segments-segs.ensures.goes_on c.put_back.ensures.goes_on

@@ -1,0 +1,93 @@
+-- The steps follow one another: the value is taken, the log is taken in, and the value is given back.
+use Rattle.std.proofs.Common.{◌∙◌, ◌||◌, sym, ap, subst, arith}
+use Rattle.hp_base.specs.Mapping.{is_done}
+use Rattle.hp_hall.proofs.HallStates.{but_then, did_then, others_then, slots_but}
+use Rattle.hp_serve.specs.Tied.{IsTied}
+use Rattle.hp_serve.proofs.Attached.{attached_roster}
+use Rattle.hp_serve.proofs.SegmentSlots.{Took, closed, has_still, took_has, took_serves}
+use Rattle.hp_serve.proofs.Tying.{tied_since}
+use Rattle.hp_serve.proofs.attaching.attach.Goals as goal
+
+pub take_segments-segs-requires : goal.take_segments-segs-requires
+take_segments-segs-requires g c = record { serves = c.requires.may.serves; home = c.requires.may.home }
+
+pub take_whole_log-caught-requires : goal.take_whole_log-caught-requires
+take_whole_log-caught-requires g c =
+    let me = c.args.me in
+    let old = g.H.Hall.state c.args.hall.now in
+    let mid = g.H.Hall.state c.take_segments-segs.new.hall in
+    let segs = c.take_segments-segs.result in
+    let is = c.take_segments-segs.ensures in
+    let took : Took me c.take_segments-segs.result (g.H.Hall.state c.args.hall.now) (g.H.Hall.state c.take_segments-segs.new.hall) =
+    record { may = c.requires.may; took = is.took; slots = is.slots; others = is.others; weight = is.weight } in
+    let seen = is.others.later.seen me in
+    record {
+      serves = took_serves took;
+      seen = is.took.log;
+      tied = tied_since (old.seen me) segs.log seen.0 (old.own me) (mid.own me) c.args.joined c.args.maps.now (is.took.log ∙ seen.1) is.took.own
+          c.requires.tied;
+      calls = c.requires.calls;
+    }
+
+pub give_attached-requires-clause-has : goal.give_attached-requires-clause-has
+give_attached-requires-clause-has g c =
+    let stays = c.take_whole_log-caught.ensures.stays in
+    let is = c.take_segments-segs.ensures in
+    let took : Took c.args.me c.take_segments-segs.result (g.H.Hall.state c.args.hall.now) (g.H.Hall.state c.take_segments-segs.new.hall) =
+    record { may = c.requires.may; took = is.took; slots = is.slots; others = is.others; weight = is.weight } in
+    has_still stays.slots stays.parts stays.others (took_has took)
+
+pub returns-clause-did : goal.returns-clause-did
+returns-clause-did g c =
+    let caught = c.take_whole_log-caught.ensures.caught in (
+      c.take_segments-segs.result,
+      caught.0,
+      caught.1,
+      caught.2,
+      did_then c.take_segments-segs.ensures.took.did (did_then c.take_whole_log-caught.ensures.did c.give_attached.ensures.back.gave.did),
+    )
+
+pub returns-clause-tied : goal.returns-clause-tied
+returns-clause-tied g c =
+    let me = c.args.me in
+    let mid = g.H.Hall.state c.take_whole_log-caught.new.hall in
+    let new = g.H.Hall.state c.give_attached.new.hall in
+    let caught = c.take_whole_log-caught in
+    subst (λ log. IsTied log (new.own me) (is_done caught.result) caught.new.maps) (sym c.give_attached.ensures.log)
+    (subst (λ own. IsTied c.take_segments-segs.result.log own (is_done caught.result) caught.new.maps)
+    (sym c.give_attached.ensures.back.gave.own) caught.ensures.tied)
+
+pub returns-clause-failed : goal.returns-clause-failed
+returns-clause-failed g c = λ failed.
+    c.give_attached.ensures.back.gave.own ∙ c.take_whole_log-caught.ensures.failed failed ∙ c.take_segments-segs.ensures.took.own
+
+pub returns-clause-roster : goal.returns-clause-roster
+returns-clause-roster g c =
+    let me = c.args.me in
+    let old = g.H.Hall.state c.args.hall.now in
+    let caught = c.take_whole_log-caught.result in
+    let segs = c.take_segments-segs.result in
+    let few = c.requires.few in
+    c.give_attached.ensures.back.gave.joined
+    ∙ (attached_roster me caught segs (omega (arith, few, c.take_segments-segs.ensures.took.sound.places.roster_places))
+    ∙ ap (λ joined. joined || is_done caught) c.take_segments-segs.ensures.took.roster)
+
+pub returns-clause-stays : goal.returns-clause-stays
+returns-clause-stays g c =
+    let is = c.take_segments-segs.ensures in
+    let caught = c.take_whole_log-caught.ensures.stays in
+    let given = c.give_attached.ensures in
+    let first = is.weight in
+    let second = caught.weight in
+    let third = given.back.weight in
+    record {
+      slots = closed c.requires.may (but_then is.slots (slots_but caught.slots)) given.back.slots given.back.gave.taken given.back.gave.home;
+      part = λ heap. given.part heap ∙ (caught.parts.part heap ∙ is.took.part heap);
+      others = others_then is.others (others_then caught.others given.back.others);
+      weight = omega (arith, first, second, third);
+    }
+
+pub returns-clause-goes_on : goal.returns-clause-goes_on
+returns-clause-goes_on g c =
+    g.met.H.Hall.goes_on_then _ _ _ c.take_segments-segs.ensures.goes_on
+    (g.met.H.Hall.goes_on_then _ _ _ c.take_whole_log-caught.ensures.goes_on c.give_attached.ensures.goes_on)

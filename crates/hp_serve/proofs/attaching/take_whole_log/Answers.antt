@@ -1,0 +1,98 @@
+-- What the participant knows of its table lets it catch up, and few events come; the acknowledgement is its own step.
+use Rattle.std.proofs.Common.{◌≡◌, ◌∙◌, ◌≤◌, true, false, List, length, sym, ap, subst, arith}
+use Rattle.hp_base.specs.Mapping.{is_done}
+use Rattle.hp_base.specs.declared.caught.Caught.TheVariants.{Done}
+use Rattle.hp_hall.specs.HallState.{Did}
+use Rattle.hp_hall.specs.Mail.{MailStep}
+use Rattle.hp_hall.specs.Own.{Own}
+use Rattle.hp_hall.proofs.HallStates.{did_same, others_same, parts_same, slots_same}
+use Rattle.hp_log.specs.Places.{slots_in}
+use Rattle.hp_log.specs.declared.log_record.LogRecord.{LogRecord}
+use Rattle.hp_maps.proofs.ReadyLemmas.{ready_to_catch_up, tells_one_a_record}
+use Rattle.hp_segs.specs.LogPlaces.{places_of}
+use Rattle.hp_maps.specs.MapsView.{MapsView}
+use Rattle.hp_serve.specs.Tied.{IsTied}
+use Rattle.hp_serve.proofs.Attached.{acks_none, acks_whole, done_joined, done_own, emptied_tied}
+use Rattle.hp_serve.proofs.Tying.{tied_by, tied_can}
+use Rattle.hp_serve.proofs.attaching.take_whole_log.Goals as goal
+
+pub catch_up-caught-requires-clause-can : goal.catch_up-caught-requires-clause-can
+catch_up-caught-requires-clause-can g c =
+    let segs = c.args.segs.now in
+    let records = c.records-records.result.now in
+    let sound = c.records-records.ensures.sound in
+    let few : slots_in (places_of segs.pools) ≤ 16384 = omega (arith, c.log_law.ensures.few segs sound) in
+    ready_to_catch_up (places_of segs.pools) c.args.maps.now records (length records)
+    (tied_can (places_of segs.pools) segs.log records ((g.H.Hall.state c.args.hall.now).own c.args.me) c.args.joined c.args.maps.now
+    c.records-records.ensures.records (c.log_law.ensures.placed segs sound) few c.requires.tied c.requires.calls)
+
+pub catch_up-caught-requires-clause-spare : goal.catch_up-caught-requires-clause-spare
+catch_up-caught-requires-clause-spare g c =
+    let segs = c.args.segs.now in
+    let records = c.records-records.result.now in
+    let sound = c.records-records.ensures.sound in
+    let few : slots_in (places_of segs.pools) ≤ 16384 = omega (arith, c.log_law.ensures.few segs sound) in
+    let told =
+    tells_one_a_record (places_of segs.pools) c.args.maps.now records (length records) Done
+    (tied_can (places_of segs.pools) segs.log records ((g.H.Hall.state c.args.hall.now).own c.args.me) c.args.joined c.args.maps.now
+    c.records-records.ensures.records (c.log_law.ensures.placed segs sound) few c.requires.tied c.requires.calls) in
+    omega (arith, told, c.records-records.type_inv.1)
+
+pub returns-then-is_done-clause-did : goal.returns-then-is_done-clause-did
+returns-then-is_done-clause-did g c =
+    let caught = c.catch_up-caught.result in
+    let records = length c.records-records.result.now in
+    let done : is_done caught ≡ true = sym c.is_done.ensures ∙ c.if-is_done.true in
+    subst (λ (steps : List MailStep). Did c.args.me steps (g.H.Hall.state c.args.hall.now) (g.H.Hall.state c.ack.new.self))
+    (acks_whole caught records (length c.args.segs.now.log) done (ap (λ (log : List LogRecord). length log) c.records-records.ensures.records))
+    c.ack.ensures.own.did
+
+pub returns-then-is_done-clause-tied : goal.returns-then-is_done-clause-tied
+returns-then-is_done-clause-tied g c =
+    let me = c.args.me in
+    let old = g.H.Hall.state c.args.hall.now in
+    let new = g.H.Hall.state c.ack.new.self in
+    let caught = c.catch_up-caught.result in
+    let records = c.records-records.result.now in
+    let up = c.catch_up-caught.ensures in
+    let done : is_done caught ≡ true = sym c.is_done.ensures ∙ c.if-is_done.true in
+    subst (λ b. IsTied c.args.segs.now.log (new.own me) b c.catch_up-caught.new.self) (done_joined c.args.joined (is_done caught) done)
+    (tied_by c.args.segs.now.log records (old.own me) (new.own me) c.args.joined c.args.maps.now c.catch_up-caught.new.self caught
+    c.records-records.ensures.records (c.ack.ensures.own.own ∙ done_own caught (length records) (old.own me) done) c.requires.tied up.number
+    up.rows up.table up.chunks up.capacity)
+
+pub returns-then-is_done-clause-whole : goal.returns-then-is_done-clause-whole
+returns-then-is_done-clause-whole g c = λ done.
+    ap (λ (own : Own). own.number) c.ack.ensures.own.own ∙ ap (λ (log : List LogRecord). length log) c.records-records.ensures.records
+
+pub returns-then-is_done-clause-stays : goal.returns-then-is_done-clause-stays
+returns-then-is_done-clause-stays g c =
+    let own = c.ack.ensures.own in
+    record { slots = own.slots; parts = own.parts; others = own.others; weight = c.ack.ensures.weight }
+
+pub returns-clause-did : goal.returns-clause-did
+returns-clause-did g c =
+    let old = g.H.Hall.state c.args.hall.now in
+    let failed : is_done c.catch_up-caught.result ≡ false = sym c.is_done.ensures ∙ c.if-is_done.false in
+    subst (λ (steps : List MailStep). Did c.args.me steps old old)
+    (acks_none c.catch_up-caught.result (length c.args.segs.now.log) failed) (did_same c.args.me old)
+
+pub returns-clause-tied : goal.returns-clause-tied
+returns-clause-tied g c =
+    let own = (g.H.Hall.state c.args.hall.now).own c.args.me in
+    let log = c.args.segs.now.log in
+    let tied = c.requires.tied in
+    let room = tied.table.room in
+    let capacity = c.catch_up-caught.ensures.capacity in
+    let failed : is_done c.catch_up-caught.result ≡ false = sym c.is_done.ensures ∙ c.if-is_done.false in
+    subst (λ b. IsTied log own b c.empty.new.maps) (sym failed)
+    (subst (λ (maps : MapsView). IsTied log own false maps) (sym c.empty.ensures)
+    (emptied_tied log own c.catch_up-caught.new.self tied.within (omega (arith, room, capacity))))
+
+pub returns-clause-stays : goal.returns-clause-stays
+returns-clause-stays g c =
+    let old = g.H.Hall.state c.args.hall.now in
+    record { slots = slots_same old; parts = parts_same c.args.me old; others = others_same c.args.me old; weight = omega arith }
+
+pub returns-clause-goes_on : goal.returns-clause-goes_on
+returns-clause-goes_on g c = g.met.H.Hall.goes_on_same _

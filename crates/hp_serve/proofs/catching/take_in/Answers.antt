@@ -1,0 +1,53 @@
+-- What the participant knows of its table lets it catch up, and as few events come as records.
+use Rattle.std.proofs.Common.{◌≤◌, List, length, subst, arith}
+use Rattle.hp_base.specs.declared.caught.Caught.TheVariants.{Done}
+use Rattle.hp_hall.specs.HallState.{Did}
+use Rattle.hp_log.specs.Places.{slots_in}
+use Rattle.hp_log.specs.declared.log_record.LogRecord.{LogRecord}
+use Rattle.hp_maps.proofs.ReadyLemmas.{ready_to_catch_up, tells_one_a_record}
+use Rattle.hp_segs.specs.LogPlaces.{places_of}
+use Rattle.hp_serve.specs.Serving.{acks_behind}
+use Rattle.hp_serve.proofs.Tying.{tied_by, tied_can}
+use Rattle.hp_serve.proofs.catching.take_in.Goals as goal
+
+pub catch_up-caught-requires-clause-can : goal.catch_up-caught-requires-clause-can
+catch_up-caught-requires-clause-can g c =
+    let segs = c.args.segs.now in
+    let records = c.records-records.result.now in
+    let sound = c.records-records.ensures.sound in
+    let few : slots_in (places_of segs.pools) ≤ 16384 = omega (arith, c.log_law.ensures.few segs sound) in
+    ready_to_catch_up (places_of segs.pools) c.args.maps.now records (length records)
+    (tied_can (places_of segs.pools) segs.log records ((g.H.Hall.state c.args.hall.now).own c.args.me) c.args.joined c.args.maps.now
+    c.records-records.ensures.records (c.log_law.ensures.placed segs sound) few c.requires.may.tied c.requires.may.calls)
+
+pub catch_up-caught-requires-clause-spare : goal.catch_up-caught-requires-clause-spare
+catch_up-caught-requires-clause-spare g c =
+    let segs = c.args.segs.now in
+    let records = c.records-records.result.now in
+    let sound = c.records-records.ensures.sound in
+    let few : slots_in (places_of segs.pools) ≤ 16384 = omega (arith, c.log_law.ensures.few segs sound) in
+    let told =
+    tells_one_a_record (places_of segs.pools) c.args.maps.now records (length records) Done
+    (tied_can (places_of segs.pools) segs.log records ((g.H.Hall.state c.args.hall.now).own c.args.me) c.args.joined c.args.maps.now
+    c.records-records.ensures.records (c.log_law.ensures.placed segs sound) few c.requires.may.tied c.requires.may.calls) in
+    omega (arith, told, c.records-records.type_inv.1)
+
+pub returns-clause-tied : goal.returns-clause-tied
+returns-clause-tied g c =
+    let records = c.records-records.result.now in
+    let up = c.catch_up-caught.ensures in
+    tied_by c.args.segs.now.log records ((g.H.Hall.state c.args.hall.now).own c.args.me)
+    ((g.H.Hall.state c.tell_number.new.hall).own c.args.me) c.args.joined c.args.maps.now c.catch_up-caught.new.self c.catch_up-caught.result
+    c.records-records.ensures.records c.tell_number.ensures.own.own c.requires.may.tied up.number up.rows up.table up.chunks up.capacity
+
+pub returns-clause-did : goal.returns-clause-did
+returns-clause-did g c =
+    subst
+    (λ (records : List LogRecord). Did c.args.me (acks_behind c.catch_up-caught.result (length records)) (g.H.Hall.state c.args.hall.now)
+    (g.H.Hall.state c.tell_number.new.hall))
+    c.records-records.ensures.records c.tell_number.ensures.own.did
+
+pub returns-clause-stays : goal.returns-clause-stays
+returns-clause-stays g c =
+    let own = c.tell_number.ensures.own in
+    record { slots = own.slots; parts = own.parts; others = own.others; weight = c.tell_number.ensures.weight }

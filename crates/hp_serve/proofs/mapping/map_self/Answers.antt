@@ -1,0 +1,91 @@
+-- Participant 0 has caught up, or its mapper has made too many calls.
+use Rattle.std.proofs.Common.{◌∙◌, [], ◌∷◌, ◌++◌, length, arith}
+use Rattle.hp_hall.specs.Mail.{Notes}
+use Rattle.hp_hall.specs.declared.note.Note.TheVariants.{Loaded, Read}
+use Rattle.hp_hall.proofs.HallStates.{did_then}
+use Rattle.hp_serve.specs.Serving.{acks_behind, gives_segments, takes_segments}
+use Rattle.hp_serve.proofs.Handed.{mapped_by, tied_still, worn_by}
+use Rattle.hp_serve.proofs.SegmentSlots.{Took, freed_own, may_hold, put_own, put_stays, took_has}
+use Rattle.hp_serve.proofs.mapping.map_self.Goals as goal
+
+pub take_segments-segs-requires : goal.take_segments-segs-requires
+take_segments-segs-requires g c = record { serves = c.requires.may.serves; home = c.requires.may.home }
+
+pub put_back-requires : goal.put_back-requires
+put_back-requires g c =
+    let is = c.take_segments-segs.ensures in
+    let took : Took 0 c.take_segments-segs.result (g.H.Hall.state c.args.hall.now) (g.H.Hall.state c.take_segments-segs.new.hall) =
+    record { may = may_hold c.requires.may; took = is.took; slots = is.slots; others = is.others; weight = is.weight } in
+    record { has = took_has took }
+
+pub returns-then-is_worn-clause-mapped : goal.returns-then-is_worn-clause-mapped
+returns-then-is_worn-clause-mapped g c =
+    let segs = c.take_segments-segs.result in (
+      takes_segments segs ∷ gives_segments segs ∷ [],
+      did_then c.take_segments-segs.ensures.took.did c.put_back.ensures.back.back.gave.did,
+      λ party. worn_by party c.args.core.now c.args.maps.now c.args.joined.now segs (c.is_worn.ensures.worn c.if-is_worn.true),
+    )
+
+pub returns-then-is_worn-clause-tied : goal.returns-then-is_worn-clause-tied
+returns-then-is_worn-clause-tied g c =
+    let old = g.H.Hall.state c.args.hall.now in
+    let new = g.H.Hall.state c.put_back.new.hall in
+    let is = c.take_segments-segs.ensures in
+    let took : Took 0 c.take_segments-segs.result old (g.H.Hall.state c.take_segments-segs.new.hall) =
+    record { may = may_hold c.requires.may; took = is.took; slots = is.slots; others = is.others; weight = is.weight } in
+    let stays = put_stays took c.put_back.ensures.back in
+    let seen = stays.others.later.seen 0 in
+    tied_still (old.seen 0) (new.seen 0) seen.0 (old.own 0) (new.own 0) c.args.joined.now c.args.maps.now seen.1 stays.mine.own c.requires.tied
+
+pub returns-then-is_worn-clause-stays : goal.returns-then-is_worn-clause-stays
+returns-then-is_worn-clause-stays g c =
+    let is = c.take_segments-segs.ensures in
+    let took : Took 0 c.take_segments-segs.result (g.H.Hall.state c.args.hall.now) (g.H.Hall.state c.take_segments-segs.new.hall) =
+    record { may = may_hold c.requires.may; took = is.took; slots = is.slots; others = is.others; weight = is.weight } in
+    put_own took c.put_back.ensures.back
+
+pub returns-then-is_worn-clause-goes_on : goal.returns-then-is_worn-clause-goes_on
+returns-then-is_worn-clause-goes_on g c = g.met.H.Hall.goes_on_then _ _ _ c.take_segments-segs.ensures.goes_on c.put_back.ensures.goes_on
+
+pub catch_and_hand-requires : goal.catch_and_hand-requires
+catch_and_hand-requires g c =
+    let old = g.H.Hall.state c.args.hall.now in
+    let mid = g.H.Hall.state c.take_segments-segs.new.hall in
+    let is = c.take_segments-segs.ensures in
+    let took : Took 0 c.take_segments-segs.result old mid =
+    record { may = may_hold c.requires.may; took = is.took; slots = is.slots; others = is.others; weight = is.weight } in
+    let seen = is.others.later.seen 0 in
+    record {
+      has = took_has took;
+      declared =
+          let declared = c.requires.may.declared in
+          let count = is.others.later.count in
+          omega (arith, declared, count);
+      sound = is.took.sound;
+      log = is.took.log;
+      tied = tied_still (old.seen 0) c.take_segments-segs.result.log seen.0 (old.own 0) (mid.own 0) c.args.joined.now c.args.maps.now
+          (is.took.log ∙ seen.1) is.took.own c.requires.tied;
+      calls = c.is_worn.ensures.fresh c.if-is_worn.false;
+    }
+
+pub returns-clause-mapped : goal.returns-clause-mapped
+returns-clause-mapped g c =
+    let segs = c.take_segments-segs.result in
+    let handed = c.catch_and_hand.ensures.handed in
+    let behind =
+    acks_behind handed.0 (length segs.log) ++ (Notes (Loaded 0 handed.1) ∷ Notes (Read handed.2) ∷ handed.3) in (
+      takes_segments segs ∷ behind,
+      did_then c.take_segments-segs.ensures.took.did handed.4,
+      λ party. mapped_by party c.args.core.now c.catch_and_hand.new.core c.args.maps.now c.catch_and_hand.new.maps c.args.joined.now
+          c.catch_and_hand.new.joined segs handed.0 handed.1 handed.2 handed.3 _ handed.6 handed.5 handed.7,
+    )
+
+pub returns-clause-stays : goal.returns-clause-stays
+returns-clause-stays g c =
+    let is = c.take_segments-segs.ensures in
+    let took : Took 0 c.take_segments-segs.result (g.H.Hall.state c.args.hall.now) (g.H.Hall.state c.take_segments-segs.new.hall) =
+    record { may = may_hold c.requires.may; took = is.took; slots = is.slots; others = is.others; weight = is.weight } in
+    freed_own took c.catch_and_hand.ensures.back c.catch_and_hand.ensures.weight
+
+pub returns-clause-goes_on : goal.returns-clause-goes_on
+returns-clause-goes_on g c = g.met.H.Hall.goes_on_then _ _ _ c.take_segments-segs.ensures.goes_on c.catch_and_hand.ensures.goes_on

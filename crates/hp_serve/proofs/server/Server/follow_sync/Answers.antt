@@ -1,0 +1,219 @@
+-- The value is taken and given back: as it was, or by one that obeys.
+use Rattle.std.proofs.Common.{◌≡◌, ◌∙◌, ◌++◌, ℕ, arith, true, false, [], ◌∷◌, length, refl, sym, ap, subst}
+use Rattle.hp_base.specs.Plans.{action_of}
+use Rattle.hp_base.specs.declared.plan_entry.MsgKind.TheVariants.{Reply}
+use Rattle.hp_core.specs.Following.{after_catching}
+use Rattle.hp_hall.specs.Mail.{Posts}
+use Rattle.hp_serve.specs.Party.{Party, one_more}
+use Rattle.hp_serve.specs.Serving.{IsWorn, acks_behind, gives_segments, takes_segments}
+use Rattle.hp_serve.specs.Serving.{is_out, is_worn}
+use Rattle.hp_serve.specs.Tied.{IsTied}
+use Rattle.hp_serve.proofs.MemberLemmas.{has_followed}
+use Rattle.hp_serve.proofs.Tying.{tied_since}
+use Rattle.hp_segs.specs.SegsView.{is_member}
+use Rattle.hp_hall.specs.HallState.{Did, OthersStay, PartsStay, Stays}
+use Rattle.hp_hall.proofs.HallStates.{did_then, others_then, parts_then}
+use Rattle.hp_serve.specs.SegmentSlot.{MayHold}
+use Rattle.hp_serve.proofs.InHalls.{alone_by, alone_of}
+use Rattle.hp_serve.proofs.SegmentSlots.{Took, closed, may_hold, put_stays, took_has, took_parts}
+use Rattle.hp_serve.proofs.server.Server.follow_sync.Goals as goal
+
+pub take_segments-segs-requires : goal.take_segments-segs-requires
+take_segments-segs-requires g c =
+    let me = ap (λ (party : Party). party.me) c.self.view_is in
+    record {
+      serves = subst (λ (who : ℕ). (g.H.Hall.state c.args.hall.now).serves who) (sym me) c.requires.can.may.serves;
+      home = c.requires.can.may.home;
+    }
+
+pub put_back-requires : goal.put_back-requires
+put_back-requires g c =
+    let me = ap (λ (party : Party). party.me) c.self.view_is in
+    let is = c.take_segments-segs.ensures in
+    let took : Took c.self.inside.me c.take_segments-segs.result (g.H.Hall.state c.args.hall.now) (g.H.Hall.state c.take_segments-segs.new.hall) =
+    record {
+      may = subst (λ (who : ℕ). MayHold who (g.H.Hall.state c.args.hall.now)) (sym me) (may_hold c.requires.can.may);
+      took = is.took;
+      slots = is.slots;
+      others = is.others;
+      weight = is.weight;
+    } in
+    record { has = took_has took }
+
+pub put_back-requires-then-is_worn : goal.put_back-requires-then-is_worn
+put_back-requires-then-is_worn g c =
+    let me = ap (λ (party : Party). party.me) c.self.view_is in
+    let is = c.take_segments-segs.ensures in
+    let took : Took c.self.inside.me c.take_segments-segs.result (g.H.Hall.state c.args.hall.now) (g.H.Hall.state c.take_segments-segs.new.hall) =
+    record {
+      may = subst (λ (who : ℕ). MayHold who (g.H.Hall.state c.args.hall.now)) (sym me) (may_hold c.requires.can.may);
+      took = is.took;
+      slots = is.slots;
+      others = is.others;
+      weight = is.weight;
+    } in
+    record { has = took_has took }
+
+pub obey-caught-requires-clause-has : goal.obey-caught-requires-clause-has
+obey-caught-requires-clause-has g c =
+    let me = ap (λ (party : Party). party.me) c.self.view_is in
+    let is = c.take_segments-segs.ensures in
+    let took : Took c.self.inside.me c.take_segments-segs.result (g.H.Hall.state c.args.hall.now) (g.H.Hall.state c.take_segments-segs.new.hall) =
+    record {
+      may = subst (λ (who : ℕ). MayHold who (g.H.Hall.state c.args.hall.now)) (sym me) (may_hold c.requires.can.may);
+      took = is.took;
+      slots = is.slots;
+      others = is.others;
+      weight = is.weight;
+    } in
+    took_has took
+
+pub obey-caught-requires-clause-some : goal.obey-caught-requires-clause-some
+obey-caught-requires-clause-some g c =
+    let declared = c.requires.can.may.declared in
+    let count = c.take_segments-segs.ensures.others.later.count in
+    omega (arith, declared, count)
+
+pub obey-caught-requires-clause-seen : goal.obey-caught-requires-clause-seen
+obey-caught-requires-clause-seen g c = c.take_segments-segs.ensures.took.log
+
+pub obey-caught-requires-clause-may : goal.obey-caught-requires-clause-may
+obey-caught-requires-clause-may g c =
+    let me = ap (λ (party : Party). party.me) c.self.view_is in
+    let who = c.args.self.now.me in
+    let old = g.H.Hall.state c.args.hall.now in
+    let mid = g.H.Hall.state c.take_segments-segs.new.hall in
+    let is = c.take_segments-segs.ensures in
+    let log = c.take_segments-segs.result.log in
+    let seen = is.others.later.seen who in
+    record {
+      tied = subst (λ (party : Party). IsTied log (mid.own party.me) party.joined party.maps) (sym c.self.view_is)
+          (tied_since (old.seen who) log seen.0 (old.own who) (mid.own who) c.args.self.now.joined c.args.self.now.maps
+          (subst (λ (who : ℕ). log ≡ mid.seen who) me is.took.log ∙ seen.1) (subst (λ (who : ℕ). mid.own who ≡ old.own who) me is.took.own)
+          c.requires.can.tied);
+      calls = c.is_worn.ensures.fresh c.if-is_worn.false;
+    }
+
+pub returns-then-not-is_member-clause-weight : goal.returns-then-not-is_member-clause-weight
+returns-then-not-is_member-clause-weight g c =
+    let first = c.take_segments-segs.ensures.weight in
+    let then = c.put_back.ensures.back.back.weight in
+    omega (arith, first, then)
+
+pub returns-then-not-is_member-clause-alone : goal.returns-then-not-is_member-clause-alone
+returns-then-not-is_member-clause-alone g c =
+    let me = ap (λ (party : Party). party.me) c.self.view_is in
+    let is = c.take_segments-segs.ensures in
+    let took : Took c.self.inside.me c.take_segments-segs.result (g.H.Hall.state c.args.hall.now) (g.H.Hall.state c.take_segments-segs.new.hall) =
+    record {
+      may = subst (λ (who : ℕ). MayHold who (g.H.Hall.state c.args.hall.now)) (sym me) (may_hold c.requires.can.may);
+      took = is.took;
+      slots = is.slots;
+      others = is.others;
+      weight = is.weight;
+    } in
+    alone_by c.args.self.now.me c.args.self.now
+    (subst (λ (who : ℕ). Stays who (g.H.Hall.state c.args.hall.now) (g.H.Hall.state c.put_back.new.hall)) me
+    (put_stays took c.put_back.ensures.back)) c.requires.can.tied
+
+pub returns-then-is_worn-clause-weight : goal.returns-then-is_worn-clause-weight
+returns-then-is_worn-clause-weight g c =
+    let first = c.take_segments-segs.ensures.weight in
+    let then = c.put_back-then-is_worn.ensures.back.back.weight in
+    omega (arith, first, then)
+
+pub returns-then-is_worn-clause-alone : goal.returns-then-is_worn-clause-alone
+returns-then-is_worn-clause-alone g c =
+    let me = ap (λ (party : Party). party.me) c.self.view_is in
+    let is = c.take_segments-segs.ensures in
+    let took : Took c.self.inside.me c.take_segments-segs.result (g.H.Hall.state c.args.hall.now) (g.H.Hall.state c.take_segments-segs.new.hall) =
+    record {
+      may = subst (λ (who : ℕ). MayHold who (g.H.Hall.state c.args.hall.now)) (sym me) (may_hold c.requires.can.may);
+      took = is.took;
+      slots = is.slots;
+      others = is.others;
+      weight = is.weight;
+    } in
+    alone_by c.args.self.now.me c.args.self.now
+    (subst (λ (who : ℕ). Stays who (g.H.Hall.state c.args.hall.now) (g.H.Hall.state c.put_back-then-is_worn.new.hall)) me
+    (put_stays took c.put_back-then-is_worn.ensures.back)) c.requires.can.tied
+
+pub returns-clause-weight : goal.returns-clause-weight
+returns-clause-weight g c =
+    let first = c.take_segments-segs.ensures.weight in
+    let then = c.obey-caught.ensures.weight in
+    omega (arith, first, then)
+
+pub returns-clause-alone : goal.returns-clause-alone
+returns-clause-alone g c =
+    let me = ap (λ (party : Party). party.me) c.self.view_is in
+    let is = c.take_segments-segs.ensures in
+    let took : Took c.self.inside.me c.take_segments-segs.result (g.H.Hall.state c.args.hall.now) (g.H.Hall.state c.take_segments-segs.new.hall) =
+    record {
+      may = subst (λ (who : ℕ). MayHold who (g.H.Hall.state c.args.hall.now)) (sym me) (may_hold c.requires.can.may);
+      took = is.took;
+      slots = is.slots;
+      others = is.others;
+      weight = is.weight;
+    } in
+    let old = g.H.Hall.state c.args.hall.now in
+    let new = g.H.Hall.state c.obey-caught.new.hall in
+    let back = c.obey-caught.ensures.back in
+    alone_of c.self.view_is (record { me = refl; socket = refl; plan = refl; deadline = refl; context = refl })
+    (subst (λ (who : ℕ). IsTied (new.seen who) (new.own who) c.has_table-self-inside.result c.obey-caught.new.maps) me
+    (subst (λ joined. IsTied (new.seen c.self.inside.me) (new.own c.self.inside.me) joined c.obey-caught.new.maps)
+    (sym c.has_table-self-inside.ensures) c.obey-caught.ensures.tied))
+    (closed took.may is.slots back.slots back.taken back.home)
+    (subst (λ (who : ℕ). PartsStay who old new) me (parts_then (took_parts took) back.parts))
+    (subst (λ (who : ℕ). OthersStay who old new) me (others_then is.others back.others))
+
+pub returns-then-not-is_member-clause-goes_on : goal.returns-then-not-is_member-clause-goes_on
+returns-then-not-is_member-clause-goes_on g c = g.met.H.Hall.goes_on_then _ _ _ c.take_segments-segs.ensures.goes_on c.put_back.ensures.goes_on
+
+pub returns-then-is_worn-clause-goes_on : goal.returns-then-is_worn-clause-goes_on
+returns-then-is_worn-clause-goes_on g c =
+    g.met.H.Hall.goes_on_then _ _ _ c.take_segments-segs.ensures.goes_on c.put_back-then-is_worn.ensures.goes_on
+
+pub returns-clause-goes_on : goal.returns-clause-goes_on
+returns-clause-goes_on g c = g.met.H.Hall.goes_on_then _ _ _ c.take_segments-segs.ensures.goes_on c.obey-caught.ensures.goes_on
+
+pub returns-then-not-is_member-clause-followed : goal.returns-then-not-is_member-clause-followed
+returns-then-not-is_member-clause-followed g c =
+    let me = ap (λ (party : Party). party.me) c.self.view_is in
+    let segs = c.take_segments-segs.result in (
+      segs,
+      gives_segments segs ∷ [],
+      subst (λ who. Did who (takes_segments segs ∷ gives_segments segs ∷ []) (g.H.Hall.state c.args.hall.now) (g.H.Hall.state c.put_back.new.hall)) me
+          (did_then c.take_segments-segs.ensures.took.did c.put_back.ensures.back.back.gave.did),
+      is_out (subst (λ who. is_member segs.roster who ≡ false) me (sym c.is_member.ensures ∙ c.if-not-is_member.true)) refl refl refl,
+    )
+
+pub returns-then-is_worn-clause-followed : goal.returns-then-is_worn-clause-followed
+returns-then-is_worn-clause-followed g c =
+    let me = ap (λ (party : Party). party.me) c.self.view_is in
+    let segs = c.take_segments-segs.result in (
+      segs,
+      gives_segments segs ∷ [],
+      subst (λ who. Did who (takes_segments segs ∷ gives_segments segs ∷ []) (g.H.Hall.state c.args.hall.now) (g.H.Hall.state c.put_back-then-is_worn.new.hall)) me
+          (did_then c.take_segments-segs.ensures.took.did c.put_back-then-is_worn.ensures.back.back.gave.did),
+      is_worn (subst (λ who. is_member segs.roster who ≡ true) me (sym c.is_member.ensures ∙ c.if-not-is_member.false))
+          (subst (λ (party : Party). IsWorn party.maps) c.self.view_is (c.is_worn.ensures.worn c.if-is_worn.true)) refl refl refl,
+    )
+
+pub returns-clause-followed : goal.returns-clause-followed
+returns-clause-followed g c =
+    let me = ap (λ (party : Party). party.me) c.self.view_is in
+    let segs = c.take_segments-segs.result in
+    let did = c.obey-caught.ensures.did in
+    let gives = gives_segments (after_catching c.self.inside.me c.obey-caught.result segs) in
+    let posts =
+    Posts 0 did.0 (action_of c.self.inside.plan.now Reply c.self.inside.me (one_more c.self.inside.sent.replies)) did.1 in
+    let more = acks_behind c.obey-caught.result (length segs.log) ++ (gives ∷ posts ∷ []) in (
+      segs,
+      more,
+      subst (λ who. Did who (takes_segments segs ∷ more) (g.H.Hall.state c.args.hall.now) (g.H.Hall.state c.obey-caught.new.hall)) me
+          (did_then c.take_segments-segs.ensures.took.did did.3),
+      has_followed c.args.self.now _ segs c.obey-caught.result c.obey-caught.new.maps c.has_table-self-inside.result
+          c.one_more-self-inside.result did.0 did.1 c.self.view_is (sym c.is_member.ensures ∙ c.if-not-is_member.false) did.2
+          c.obey-caught.ensures.caught c.has_table-self-inside.ensures c.one_more-self-inside.ensures,
+    )

@@ -1,0 +1,28 @@
+-- What an asker's look in the segment value finds.
+use Rattle.std.specs.Prelude.{◌≡◌, ℕ, List, [], ◌∷◌}
+use Rattle.hp_hall.specs.Holding.{HeapPart}
+use Rattle.hp_hall.specs.Mail.{MailStep}
+use Rattle.hp_log.specs.declared.log_record.LogRecord.{LogRecord}
+use Rattle.hp_segs.specs.SegsView.{SegsView}
+use Rattle.hp_segs.specs.Steps.{after_claim}
+use Rattle.hp_segs.specs.declared.ask.Ask.{Ask}
+use Rattle.hp_segs.specs.declared.outcome.AskLog.{AskLog}
+use Rattle.hp_serve.specs.Asking.{Settles}
+use Rattle.hp_serve.specs.Serving.{gives_segments, takes_segments}
+use Rattle.hp_serve.specs.declared.settling.Found.{Found}
+use Rattle.hp_serve.specs.declared.settling.Found.TheVariants.{Settled, Open}
+
+-- the ask is settled, or all is as it was
+abbrev pub HasFound : List LogRecord → List AskLog → Ask → (ℕ → HeapPart) → (ℕ → HeapPart) → Found → Type 0
+HasFound log asks ask old new (Settled run) = Settles log asks ask old new run
+HasFound log asks ask old new Open = (heap : ℕ) → new heap ≡ old heap
+
+-- what a look gives back in place of the segment value that it takes: a grant is claimed
+abbrev pub after_look : Ask → Found → SegsView → SegsView
+after_look ask (Settled run) segs = after_claim ask.from ask.number segs
+after_look ask Open segs = segs
+
+-- the steps of a look
+pub record IsLookAt (ask : Ask) (steps : List MailStep) (found : Found) : Type 0 where
+  pub taken : SegsView
+  pub are : steps ≡ takes_segments taken ∷ gives_segments (after_look ask found taken) ∷ []

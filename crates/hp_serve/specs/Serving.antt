@@ -1,0 +1,124 @@
+-- What a participant does when it serves: the rule "Serving" of docs/PARTICIPANTS.md.
+use Rattle.std.specs.Prelude.{◌≡◌, ℕ, ◌<◌, ◌^◌, Bool, true, false, ◌||◌, ◌&&◌, ◌==◌, List, [], ◌∷◌, ◌++◌, length, Option, Some, None}
+use Rattle.hp_base.specs.Mapping.{is_done}
+use Rattle.hp_base.specs.Plans.{action_of}
+use Rattle.hp_base.specs.declared.caught.Caught.{Caught}
+use Rattle.hp_base.specs.declared.caught.Caught.TheVariants as caught
+use Rattle.hp_base.specs.declared.limits.TheConstants.{MAX_HEAPS}
+use Rattle.hp_base.specs.declared.plan_entry.MsgKind.TheVariants as message
+use Rattle.hp_core.specs.Following.{after_catching, reply_of}
+use Rattle.hp_frame.specs.declared.frame.Frame.{Frame}
+use Rattle.hp_frame.specs.declared.message.Body.{Body}
+use Rattle.hp_frame.specs.declared.message.Body.TheVariants.{Sync, Answer}
+use Rattle.hp_hall.specs.Mail.{MailStep, Fetches, Gives, Notes, Posts, Takes}
+use Rattle.hp_hall.specs.declared.kept.Kept.TheVariants.{Segments}
+use Rattle.hp_hall.specs.declared.note.Note.TheVariants.{Acked}
+use Rattle.hp_mail.specs.declared.posted.Posted.{Posted}
+use Rattle.hp_log.specs.declared.log_record.LogRecord.{LogRecord}
+use Rattle.hp_maps.specs.Catching.{HasAnswered, HasReason, new_rows, newer, number_after}
+use Rattle.hp_maps.specs.MapsView.{MapsView, calls_of}
+use Rattle.hp_segs.specs.SegsView.{SegsView, is_member}
+use Rattle.hp_serve.specs.Frames.{Says, SaysNothing}
+use Rattle.hp_serve.specs.Party.{Party, after_reply, one_more}
+
+-- the segment value is taken out of its slot, and given back
+abbrev pub takes_segments : SegsView → MailStep
+takes_segments segs = Takes MAX_HEAPS (Segments segs)
+
+abbrev pub gives_segments : SegsView → MailStep
+gives_segments segs = Gives MAX_HEAPS (Segments segs)
+
+-- a table catches up with a log, or fails to, by these calls of its mapper; one that fails is a call at which the mapper may fail
+pub record CatchesUp (log : List LogRecord) (old new : MapsView) (caught : Caught) : Type 0 where
+  pub answered : HasAnswered (new_rows old.number (newer log old.number (length log))) old.answers new.answers caught
+  pub number : new.number ≡ number_after old.number (length log) caught
+  pub reason : HasReason old.may_fail caught
+  pub stays : new.may_fail ≡ old.may_fail
+
+-- what is acknowledged behind a catching up with so many records: all of them, or nothing where a mapping failed
+abbrev pub acks_behind : Caught → ℕ → List MailStep
+acks_behind caught.Done records = Notes (Acked records) ∷ []
+acks_behind (caught.Refused row call) records = []
+acks_behind (caught.Elsewhere row call got) records = []
+
+-- a reply is posted to participant 0, as the plan has it for the next reply
+pub record Replies (party : Party) (body : Body) (step : MailStep) : Type 0 where
+  pub frame : Frame
+  pub posted : Posted
+  pub says : Says frame body
+  pub posts : step ≡ Posts 0 frame (action_of party.plan message.Reply party.me (one_more party.sent.replies)) posted
+
+-- a participant that has caught up with the log, or failed to: it has a table, if it had one or has caught up
+abbrev pub after_catching_up : Caught → MapsView → Party → Party
+after_catching_up caught maps party = record party { maps = maps; joined = party.joined || is_done caught }
+
+-- a member that holds the segment value obeys a SYNC: it catches up with the log as it stands, whatever generation is named, acknowledges
+-- that or notes a mapping that failed, gives the value back and posts its reply
+pub record Obeys (party after : Party) (taken : SegsView) (steps : List MailStep) : Type 0 where
+  pub caught : Caught
+  pub caught_up : CatchesUp taken.log party.maps after.maps caught
+  pub reply : MailStep
+  pub replied : Replies party (reply_of party.me caught taken) reply
+  pub done : steps
+      ≡ acks_behind caught (length taken.log) ++ (gives_segments (after_catching party.me caught taken) ∷ reply ∷ [])
+  pub after_is : after ≡ after_reply (after_catching_up caught after.maps party)
+
+-- a mapper has made so many calls that its participant stops
+abbrev pub IsWorn : MapsView → Type 0
+IsWorn maps = 2 ^ 63 < calls_of maps
+
+-- what a SYNC makes of its receiver, by the segment value that it takes; the last part tells whether it goes on, or stopped
+pub data IsFollowed (party after : Party) (taken : SegsView) (steps : List MailStep) (goes : Bool) : Type 0 where
+  obeys : is_member taken.roster party.me ≡ true → Obeys party after taken steps → goes ≡ true → IsFollowed party after taken steps goes
+  -- it is not in the roster
+  is_out : is_member taken.roster party.me ≡ false → steps ≡ gives_segments taken ∷ [] → after ≡ party → goes ≡ true
+      → IsFollowed party after taken steps goes
+  -- it is, and its mapper has made too many calls
+  is_worn : is_member taken.roster party.me ≡ true → IsWorn party.maps → steps ≡ gives_segments taken ∷ [] → after ≡ party → goes ≡ false
+      → IsFollowed party after taken steps goes
+
+-- a RESULT to the participant's last ask came
+abbrev pub is_answer_to : Party → Body → Bool
+is_answer_to party (Answer from number what code) = ((what == 2) || (what == 3)) && (number == party.asked)
+is_answer_to party _ = false
+
+-- a participant has heard that
+abbrev pub hearing : Body → Party → Party
+hearing body party = record party { answered = party.answered || is_answer_to party body }
+
+-- it is a RESULT
+abbrev pub is_reply : Body → Bool
+is_reply (Answer from number what code) = true
+is_reply _ = false
+
+-- it is a SYNC
+abbrev pub is_sync : Body → Bool
+is_sync (Sync generation round) = true
+is_sync _ = false
+
+-- what a message to the handler makes of a participant without a coordinator; the last part tells whether it goes on, or stopped
+pub data IsTold (party after : Party) (body : Body) (steps : List MailStep) (goes : Bool) : Type 0 where
+  -- it is no SYNC: an answer to its last ask is noted, anything else is dropped
+  hears : is_sync body ≡ false → steps ≡ [] → after ≡ hearing body party → goes ≡ true → IsTold party after body steps goes
+  -- a SYNC makes it take the segment value
+  follows : (taken : SegsView) (more : List MailStep) → is_sync body ≡ true → steps ≡ takes_segments taken ∷ more
+      → IsFollowed party after taken more goes → IsTold party after body steps goes
+
+-- what a frame makes of it
+pub data IsHeeded (party after : Party) (frame : Frame) (steps : List MailStep) (goes : Bool) : Type 0 where
+  -- it says nothing to it, and is dropped
+  drops : SaysNothing frame → steps ≡ [] → after ≡ party → goes ≡ true → IsHeeded party after frame steps goes
+  tells : (body : Body) → Says frame body → IsTold party after body steps goes → IsHeeded party after frame steps goes
+
+-- what serving answers behind a frame: that it did something, or that it stopped
+abbrev pub answer_behind : Bool → Option Bool
+answer_behind true = Some true
+answer_behind false = None
+
+-- what serving makes of a participant without a coordinator, by what it did, and its answer: whether it did something, or that it stopped
+pub data IsMemberServed (party after : Party) (steps : List MailStep) (answer : Option Bool) : Type 0 where
+  -- its mailbox was empty
+  rests : steps ≡ Fetches None ∷ [] → after ≡ party → answer ≡ Some false → IsMemberServed party after steps answer
+  -- it fetched a frame
+  heeds : (frame : Frame) (more : List MailStep) (goes : Bool) → steps ≡ Fetches (Some frame) ∷ more → IsHeeded party after frame more goes
+      → answer ≡ answer_behind goes → IsMemberServed party after steps answer

@@ -1,0 +1,113 @@
+-- What a participant does while it waits: the rule "Turns of a wait" of docs/PARTICIPANTS.md.
+use Rattle.std.specs.Prelude.{◌≡◌, ℕ, zero, suc, ◌<◌, ◌≤◌, ◌⊎◌, Bool, true, false, ◌||◌, ◌&&◌, List, [], ◌∷◌, ◌++◌, Option, Some, None, nat_lt}
+use Rattle.hp_hall.specs.Mail.{MailStep, Notes}
+use Rattle.hp_hall.specs.declared.note.Note.TheVariants.{Paused, Read, Yielded}
+use Rattle.hp_serve.specs.Coordinating.{IsServed}
+use Rattle.hp_serve.specs.Party.{Party, due_in}
+
+-- how often a participant serves itself in a turn at most
+abbrev pub most_servings : ℕ
+most_servings = 1024
+
+-- what so many servings make of a participant, one after another, each of which did something
+unfoldable pub AreServings : ℕ → ℕ → Party → Party → List MailStep → Type 0
+AreServings count zero party after steps = (after ≡ party) × (steps ≡ [])
+AreServings count (suc n) party after steps =
+    (mid : Party) × (before : List MailStep) × (last : List MailStep) × AreServings count n party mid before
+    × IsServed count mid after last (Some true) × (steps ≡ before ++ last)
+
+-- what its own serving in a turn makes of it, by what it did, and its answer: whether it did something, or that it stopped
+pub data IsServedOut (count : ℕ) (party after : Party) (steps : List MailStep) (answer : Option Bool) : Type 0 where
+  -- it served until nothing was left for it
+  rests : (times : ℕ) (mid : Party) (first last : List MailStep) → times < most_servings → AreServings count times party mid first
+      → IsServed count mid after last (Some false) → steps ≡ first ++ last → answer ≡ Some (nat_lt 0 times) → IsServedOut count party after steps answer
+  -- it stopped
+  stops : (times : ℕ) (mid : Party) (first last : List MailStep) → times < most_servings → AreServings count times party mid first
+      → IsServed count mid after last None → steps ≡ first ++ last → answer ≡ None → IsServedOut count party after steps answer
+  -- it served as often as it may
+  enough : AreServings count most_servings party after steps → answer ≡ Some true → IsServedOut count party after steps answer
+
+-- all serve in a turn: those below it first, then the participant itself, then those above; and the answer: whether something moved, or that
+-- somebody stopped
+pub data HaveServed (count : ℕ) (party after : Party) (steps : List MailStep) (answer : Option Bool) : Type 0 where
+  -- one of those below met a refusal, before it served itself
+  below_stops : steps ≡ Notes (Yielded false None) ∷ [] → after ≡ party → answer ≡ None → HaveServed count party after steps answer
+  -- it stopped itself
+  stops : (below : Bool) (own : List MailStep) → IsServedOut count party after own None → steps ≡ Notes (Yielded false (Some below)) ∷ own
+      → answer ≡ None → HaveServed count party after steps answer
+  -- one of those above met a refusal, after it had served
+  above_stops : (below mine : Bool) (own : List MailStep) → IsServedOut count party after own (Some mine)
+      → steps ≡ Notes (Yielded false (Some below)) ∷ (own ++ Notes (Yielded true None) ∷ []) → answer ≡ None
+      → HaveServed count party after steps answer
+  -- all have served, and it or others moved something
+  ends : (below mine above : Bool) (own : List MailStep) → IsServedOut count party after own (Some mine)
+      → steps ≡ Notes (Yielded false (Some below)) ∷ (own ++ Notes (Yielded true (Some above)) ∷ [])
+      → answer ≡ Some (mine || (below || above)) → HaveServed count party after steps answer
+
+-- the sooner of the deadline that is waited for and that of its own round, where a reading of the clock has not reached that
+pub record IsSoonerOf (reading until : ℕ) (due : Option ℕ) (sooner : ℕ) : Type 0 where
+  pub within : sooner ≤ until
+  pub whose : (sooner ≡ until) ⊎ ((due ≡ Some sooner) × (reading < sooner))
+  pub least : (other : ℕ) → due ≡ Some other → reading < other → sooner ≤ other
+
+-- a turn in which something moved, or nothing, ends with a pause until the sooner deadline, by a reading of the clock
+pub record PausesAt (until : ℕ) (due : Option ℕ) (moved : Bool) (steps : List MailStep) : Type 0 where
+  pub now : ℕ
+  pub next : ℕ
+  pub sooner : IsSoonerOf now until due next
+  pub are : steps ≡ Notes (Read now) ∷ Notes (Paused moved (Some next)) ∷ []
+
+-- what a turn of its wait until a deadline makes of it, by what it did, and the turn's answer: whether something moved, or that a refusal of
+-- memory ended it
+pub data IsTurned (count until : ℕ) (party after : Party) (steps : List MailStep) (answer : Option Bool) : Type 0 where
+  stops : HaveServed count party after steps None → answer ≡ None → IsTurned count until party after steps answer
+  ends : (moved : Bool) (served paused : List MailStep) → HaveServed count party after served (Some moved)
+      → PausesAt until (due_in after.core) moved paused → steps ≡ served ++ paused → answer ≡ Some moved
+      → IsTurned count until party after steps answer
+
+-- its wait is over at the answer to its last ask, where it heeds that
+abbrev pub is_over : Bool → Party → Bool
+is_over heeds party = heeds && party.answered
+
+-- its wait until a deadline has ended at a reading of its clock: it is over, or that has reached the deadline
+abbrev pub HasWaited : Bool → Party → ℕ → ℕ → Type 0
+HasWaited heeds party until now = (is_over heeds party ≡ true) ⊎ (until ≤ now)
+
+-- it has not
+pub record WaitsOn (heeds : Bool) (party : Party) (until now : ℕ) : Type 0 where
+  pub still : is_over heeds party ≡ false
+  pub early : now < until
+
+-- what so many turns make of it, each of which began at a reading at which its wait had not ended, and came to its end
+unfoldable pub AreTurns : ℕ → ℕ → Bool → ℕ → Party → Party → List MailStep → Type 0
+AreTurns count until heeds zero party after steps = (after ≡ party) × (steps ≡ [])
+AreTurns count until heeds (suc n) party after steps =
+    (mid : Party) × (before : List MailStep) × (last : List MailStep) × (now : ℕ) × (moved : Bool)
+    × AreTurns count until heeds n party mid before × WaitsOn heeds mid until now × IsTurned count until mid after last (Some moved)
+    × (steps ≡ before ++ (Notes (Read now) ∷ last))
+
+-- what a wait until a deadline makes of it, by what it did; the last part is the reading at which it ended, or none where a refusal of memory
+-- ended it
+pub data IsWaited (count until : ℕ) (heeds : Bool) (party after : Party) (steps : List MailStep) (ended : Option ℕ) : Type 0 where
+  ends : (turns now : ℕ) (first : List MailStep) → AreTurns count until heeds turns party after first → HasWaited heeds after until now
+      → steps ≡ first ++ (Notes (Read now) ∷ []) → ended ≡ Some now → IsWaited count until heeds party after steps ended
+  stops : (turns now : ℕ) (mid : Party) (first last : List MailStep) → AreTurns count until heeds turns party mid first
+      → WaitsOn heeds mid until now → IsTurned count until mid after last None → steps ≡ first ++ (Notes (Read now) ∷ last)
+      → ended ≡ None → IsWaited count until heeds party after steps ended
+
+-- a reading of the clock: every deadline behind it is still to come
+abbrev pub IsReading : (ℕ → Type 0) → ℕ → Type 0
+IsReading IsToCome reading = (deadline : ℕ) → reading < deadline → IsToCome deadline
+
+-- a turn pauses for the sooner deadline at a reading: the clock stands, or goes on to no further than there
+pub record PausesFor (IsToCome : ℕ → Type 0) (until : ℕ) (due : Option ℕ) (clock behind : ℕ) : Type 0 where
+  pub reading : ℕ
+  pub sooner : ℕ
+  pub read : IsReading IsToCome reading
+  pub is_sooner : IsSoonerOf reading until due sooner
+  pub goes : (behind ≡ clock) ⊎ (behind ≤ sooner)
+
+-- what serving leaves of its asks: the number of the last one, and its answer, once that has come
+pub record LeavesAsked (old new : Party) : Type 0 where
+  pub asked : new.asked ≡ old.asked
+  pub answered : old.answered ≡ true → new.answered ≡ true

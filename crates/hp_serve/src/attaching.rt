@@ -1,0 +1,171 @@
+//! What a participant does that attaches or detaches, in one hold of the segment value.
+ghost use Rattle.std.specs.Prelude.{◌≡◌, ℕ, ◌^◌, ◌<◌, ◌≤◌, ◌++◌, ◌||◌, [], ◌∷◌, true, false, length};
+ghost use Rattle.hp_base.specs.Mapping.{is_done};
+ghost use Rattle.hp_base.specs.declared.limits.TheConstants.{MAX_PARTICIPANTS};
+ghost use Rattle.hp_maps.specs.MapsView.{MapsView, calls_of, chunk_rows};
+ghost use Rattle.hp_segs.specs.LaterSteps.{after_join, after_leave};
+ghost use Rattle.hp_segs.specs.SegsView.{SegsView};
+ghost use Rattle.hp_serve.specs.Attaching.{after_attaching, emptied, table_left};
+ghost use Rattle.hp_serve.specs.Serving.{CatchesUp, acks_behind, gives_segments, takes_segments};
+ghost use Rattle.hp_serve.specs.Tied.{IsTied};
+ghost use Rattle.hp_hall.specs.HallState.{Did};
+ghost use Rattle.hp_serve.specs.SegmentSlot.{GivesBack, HasSegs, MayHold, StaysButOwn, StaysButRoster};
+
+use crate::calls::{give_segments, put_back, take_segments};
+use crate::catching::is_done;
+use hp_base::{Caught, Mapper, Silent};
+use hp_hall::Hall;
+use hp_maps::LocalMaps;
+use hp_segs::{Segs, log_law};
+
+// Unmaps the whole table.
+fn empty<M: Mapper>(maps: &mut LocalMaps<M>)
+    requires no_chunk { chunk_rows maps.old.rows ≡ [] }
+    ensures { maps.new ≡ emptied maps.old }
+{
+    // As few rows are told of as a slice has.
+    let _rows = maps.rows();
+    maps.unmap_all(&mut Silent);
+}
+
+// Takes the whole log in and acknowledges it. Where a mapping failed the table is emptied, and what was acknowledged stays.
+fn take_whole_log<H: Hall, M: Mapper>(
+    hall: &mut H,
+    me: u8,
+    joined: bool,
+    maps: &mut LocalMaps<M>,
+    segs: &Segs,
+) -> Caught
+    requires serves { (H.state hall.old).serves me }
+    requires seen { segs.now.log ≡ (H.state hall.old).seen me }
+    requires tied { IsTied segs.now.log ((H.state hall.old).own me) joined maps.old }
+    requires calls { calls_of maps.old ≤ 2 ^ 63 }
+    ensures caught { (mid : MapsView) × CatchesUp segs.now.log maps.old mid result × (maps.new ≡ table_left result mid) }
+    ensures tied { IsTied segs.now.log ((H.state hall.new).own me) (is_done result) maps.new }
+    ensures whole { is_done result ≡ true → ((H.state hall.new).own me).number ≡ length segs.now.log }
+    ensures failed { is_done result ≡ false → (H.state hall.new).own me ≡ (H.state hall.old).own me }
+    ensures did { Did me (acks_behind result (length segs.now.log)) (H.state hall.old) (H.state hall.new) }
+    ensures stays { StaysButOwn me (H.state hall.old) (H.state hall.new) }
+    ensures goes_on { H.goes_on hall.old hall.new }
+{
+    log_law();
+    let records = segs.records();
+    let to = records.len() as u64;
+    let caught = maps.catch_up(records, to, &mut Silent);
+    if is_done(&caught) {
+        hall.ack(me, to);
+        return caught;
+    }
+    empty(maps);
+    caught
+}
+
+// Comes into the roster, where it is not in it, and gives the segment value back.
+fn give_joined<H: Hall>(hall: &mut H, me: u8, segs: Segs)
+    requires has { HasSegs me segs (H.state hall.old) }
+    requires few { me < MAX_PARTICIPANTS }
+    requires whole { ((H.state hall.old).own me).number ≡ length segs.log }
+    ensures log { (H.state hall.new).seen me ≡ segs.log }
+    ensures part { (heap : ℕ) → (H.state hall.new).part me heap ≡ (H.state hall.old).part me heap }
+    ensures back { GivesBack me (after_join me segs) (H.state hall.old) (H.state hall.new) }
+    ensures goes_on { H.goes_on hall.old hall.new }
+{
+    if segs.is_member(me) {
+        put_back(hall, me, segs);
+        return;
+    }
+    let mut given = segs;
+    let records = given.records().len() as u64;
+    given.join_roster(me, records);
+    give_segments(hall, me, given);
+}
+
+// Leaves the roster, where it is in it, and gives the segment value back: once nothing is mapped in its table.
+fn give_left<H: Hall, M: Mapper>(hall: &mut H, me: u8, segs: Segs, _table: &LocalMaps<M>)
+    requires unmapped { _table.now.rows ≡ [] }
+    requires has { HasSegs me segs (H.state hall.old) }
+    requires few { me < MAX_PARTICIPANTS }
+    requires secondary { 0 < me }
+    ensures log { (H.state hall.new).seen me ≡ segs.log }
+    ensures part { (heap : ℕ) → (H.state hall.new).part me heap ≡ (H.state hall.old).part me heap }
+    ensures back { GivesBack me (after_leave me segs) (H.state hall.old) (H.state hall.new) }
+    ensures goes_on { H.goes_on hall.old hall.new }
+{
+    if !segs.is_member(me) {
+        put_back(hall, me, segs);
+        return;
+    }
+    let mut given = segs;
+    given.leave_roster(me);
+    give_segments(hall, me, given);
+}
+
+// Gives the segment value back behind a catching up: it comes into the roster, or leaves all as it was.
+fn give_attached<H: Hall>(hall: &mut H, me: u8, caught: &Caught, segs: Segs)
+    requires has { HasSegs me segs (H.state hall.old) }
+    requires few { me < MAX_PARTICIPANTS }
+    requires whole { is_done caught.now ≡ true → ((H.state hall.old).own me).number ≡ length segs.log }
+    ensures log { (H.state hall.new).seen me ≡ segs.log }
+    ensures part { (heap : ℕ) → (H.state hall.new).part me heap ≡ (H.state hall.old).part me heap }
+    ensures back { GivesBack me (after_attaching me caught.now segs) (H.state hall.old) (H.state hall.new) }
+    ensures goes_on { H.goes_on hall.old hall.new }
+{
+    match caught {
+        Caught::Done => give_joined(hall, me, segs),
+        Caught::Refused { .. } | Caught::Elsewhere { .. } => put_back(hall, me, segs),
+    }
+}
+
+/// A participant that is out takes the segment value, catches up with its whole log, acknowledges that, comes into the roster and gives the
+/// value back. Where a mapping failed its table is emptied, and all else is as it was. `joined` says whether it had a table before.
+pub(crate) fn attach<H: Hall, M: Mapper>(
+    hall: &mut H,
+    me: u8,
+    joined: bool,
+    maps: &mut LocalMaps<M>,
+) -> Caught
+    requires may { MayHold me (H.state hall.old) }
+    requires few { me < MAX_PARTICIPANTS }
+    requires tied { IsTied ((H.state hall.old).seen me) ((H.state hall.old).own me) joined maps.old }
+    requires calls { calls_of maps.old ≤ 2 ^ 63 }
+    ensures did { (segs : SegsView) × (mid : MapsView) × CatchesUp segs.log maps.old mid result
+        × (maps.new ≡ table_left result mid) × Did me (takes_segments segs
+        ∷ (acks_behind result (length segs.log) ++ (gives_segments (after_attaching me result segs) ∷ []))) (H.state hall.old)
+        (H.state hall.new) }
+    ensures tied { IsTied ((H.state hall.new).seen me) ((H.state hall.new).own me) (is_done result) maps.new }
+    ensures failed { is_done result ≡ false → (H.state hall.new).own me ≡ (H.state hall.old).own me }
+    ensures roster { (H.state hall.new).joined me ≡ ((H.state hall.old).joined me || is_done result) }
+    ensures stays { StaysButRoster me (H.state hall.old) (H.state hall.new) }
+    ensures goes_on { H.goes_on hall.old hall.new }
+{
+    let segs = take_segments(hall, me);
+    let caught = take_whole_log(hall, me, joined, maps, &segs);
+    give_attached(hall, me, &caught, segs);
+    caught
+}
+
+/// A secondary that is attached takes the segment value, unmaps its whole table, leaves the roster and gives the value back. How many
+/// records it has acknowledged stays. `joined` says whether it had a table before.
+pub(crate) fn detach<H: Hall, M: Mapper>(
+    hall: &mut H,
+    me: u8,
+    joined: bool,
+    table: &mut LocalMaps<M>,
+)
+    requires may { MayHold me (H.state hall.old) }
+    requires few { me < MAX_PARTICIPANTS }
+    requires secondary { 0 < me }
+    requires tied { IsTied ((H.state hall.old).seen me) ((H.state hall.old).own me) joined table.old }
+    ensures maps { table.new ≡ emptied table.old }
+    ensures did { (segs : SegsView) × Did me (takes_segments segs ∷ gives_segments (after_leave me segs) ∷ []) (H.state hall.old)
+        (H.state hall.new) }
+    ensures tied { IsTied ((H.state hall.new).seen me) ((H.state hall.new).own me) false table.new }
+    ensures own { (H.state hall.new).own me ≡ (H.state hall.old).own me }
+    ensures roster { (H.state hall.new).joined me ≡ false }
+    ensures stays { StaysButRoster me (H.state hall.old) (H.state hall.new) }
+    ensures goes_on { H.goes_on hall.old hall.new }
+{
+    let segs = take_segments(hall, me);
+    empty(table);
+    give_left(hall, me, segs, table);
+}

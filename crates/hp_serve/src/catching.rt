@@ -1,0 +1,68 @@
+//! A participant's table catches up with the log of the segment value that the participant has taken.
+ghost use Rattle.std.specs.Prelude.{◌≡◌, ◌^◌, ◌≤◌, ◌||◌, true, false, length};
+ghost use Rattle.hp_base.specs.Mapping.{is_done};
+ghost use Rattle.hp_maps.specs.MapsView.{calls_of};
+ghost use Rattle.hp_serve.specs.Serving.{CatchesUp, IsWorn, acks_behind};
+ghost use Rattle.hp_serve.specs.Tied.{IsTied};
+ghost use Rattle.hp_hall.specs.HallState.{Did};
+ghost use Rattle.hp_serve.specs.SegmentSlot.{MayCatchUp, StaysButOwn};
+
+use crate::calls::tell_number;
+use hp_base::{Caught, Mapper, Silent};
+use hp_hall::Hall;
+use hp_maps::LocalMaps;
+use hp_segs::{Segs, log_law};
+
+// A mapper that has made more calls than these stops its participant.
+const MOST_CALLS: u64 = 1 << 63;
+
+/// Whether a participant stops, since its mapper has made too many calls.
+pub(crate) fn is_worn<M: Mapper>(maps: &LocalMaps<M>) -> bool
+    ensures worn { result ≡ true → IsWorn maps.now }
+    ensures fresh { result ≡ false → calls_of maps.now ≤ 2 ^ 63 }
+{
+    maps.calls() > MOST_CALLS
+}
+
+/// Whether all rows are mapped.
+pub(crate) fn is_done(caught: &Caught) -> bool
+    ensures { result ≡ is_done caught.now }
+{
+    match caught {
+        Caught::Done => true,
+        Caught::Refused { .. } | Caught::Elsewhere { .. } => false,
+    }
+}
+
+/// Whether a participant has a table once it has caught up, or failed to; `joined` says whether it had one before.
+pub(crate) fn has_table(joined: bool, caught: &Caught) -> bool
+    ensures { result ≡ (joined || is_done caught.now) }
+{
+    if joined { true } else { is_done(caught) }
+}
+
+/// Takes the whole log of the segment value in, and tells the hall how far the table has come. `joined` says whether the
+/// participant had a table before.
+pub(crate) fn take_in<H: Hall, M: Mapper>(
+    hall: &mut H,
+    me: u8,
+    joined: bool,
+    maps: &mut LocalMaps<M>,
+    segs: &Segs,
+) -> Caught
+    requires serves { (H.state hall.old).serves me }
+    requires seen { segs.now.log ≡ (H.state hall.old).seen me }
+    requires may { MayCatchUp segs.now.log ((H.state hall.old).own me) joined maps.old }
+    ensures caught { CatchesUp segs.now.log maps.old maps.new result }
+    ensures tied { IsTied segs.now.log ((H.state hall.new).own me) (joined || is_done result) maps.new }
+    ensures did { Did me (acks_behind result (length segs.now.log)) (H.state hall.old) (H.state hall.new) }
+    ensures stays { StaysButOwn me (H.state hall.old) (H.state hall.new) }
+    ensures goes_on { H.goes_on hall.old hall.new }
+{
+    log_law();
+    let records = segs.records();
+    let to = records.len() as u64;
+    let caught = maps.catch_up(records, to, &mut Silent);
+    tell_number(hall, me, &caught, to);
+    caught
+}

@@ -1,0 +1,30 @@
+//! The end of a participant.
+ghost use Rattle.std.specs.Prelude.{IfOk};
+ghost use Rattle.hp_serve.specs.Ending.{LeavesTable};
+
+use super::Server;
+use crate::end::End;
+use hp_base::Mapper;
+use hp_maps::Table;
+use std::alloc::{AllocError, Global};
+
+impl<'p, M: Mapper> Server<'p, M> {
+    /// Its table as it stands. It is refused only where there is no memory for the rows. Own.
+    pub fn table(&self, alloc: Global) -> Result<Table, AllocError>
+        ensures { IfOk result (λ table. LeavesTable self.now table) }
+    {
+        Ok(Table {
+            joined: self.joined,
+            number: self.maps.number(),
+            rows: Vec::from_slice(alloc, self.maps.rows())?,
+        })
+    }
+
+    /// Ends the participant, and hands out its table as it stands. It is refused only where there is no memory for the rows. Own.
+    pub fn end(self, alloc: Global) -> Result<End, AllocError>
+        ensures { IfOk result (λ end. LeavesTable self.entry end.table) }
+    {
+        let table = self.table(alloc)?;
+        Ok(End { table })
+    }
+}

@@ -1,0 +1,86 @@
+//! How participant 0 serves, and how every participant does.
+ghost use Rattle.std.specs.Prelude.{◌≡◌, ℕ, ◌+◌, ◌-◌, ◌*◌, ◌^◌, ◌<◌, ◌≤◌, ◌==◌, List, Bool, false, None, Ok, Some};
+ghost use Rattle.std.specs.Result.{result_ok};
+ghost use Rattle.hp_hall.specs.Mail.{MailStep};
+ghost use Rattle.hp_hall.specs.Weights.{frame_weight};
+ghost use Rattle.hp_serve.specs.Coordinating.{IsCoreServed, IsObeyed, IsServed};
+ghost use Rattle.hp_serve.specs.Falling.{served_of};
+ghost use Rattle.hp_serve.specs.Party.{due_in};
+ghost use Rattle.hp_serve.specs.Serving.{answer_behind};
+ghost use Rattle.hp_hall.specs.HallState.{Did};
+ghost use Rattle.hp_serve.specs.InHall.{CanCoordinate, CanServe, StaysAlone, left_to_do};
+
+use super::Server;
+use hp_base::Mapper;
+use hp_frame::Frame;
+use hp_hall::Hall;
+use std::alloc::AllocError;
+
+impl<'p, M: Mapper> Server<'p, M> {
+    // Whether it is participant 0, which alone has a coordinator.
+    fn is_primary(&self) -> bool
+        ensures primary { result ≡ (self.now.me == 0) }
+        ensures other { result ≡ false → due_in self.now.core ≡ None }
+    {
+        self.me == 0
+    }
+
+    // Serves by a frame that it has fetched.
+    fn heed_frame<H: Hall>(&mut self, hall: &mut H, frame: &Frame) -> Result<bool, AllocError>
+        requires can { CanCoordinate self.old (H.state hall.old) }
+        ensures obeyed { (goes : Bool) × (steps : List MailStep) × Did 0 steps (H.state hall.old) (H.state hall.new)
+            × IsObeyed (H.state hall.old).count self.old self.new frame.now steps goes × (result_ok result ≡ answer_behind goes) }
+        ensures weight { left_to_do H.scale H.pending self.new (H.state hall.new) + H.scale * served_of result
+            ≤ left_to_do H.scale H.pending self.old (H.state hall.old) + H.scale * frame_weight frame.now }
+        ensures moves { result ≡ Ok false → ⊥ }
+        ensures alone { StaysAlone 0 self.old self.new (H.state hall.old) (H.state hall.new) }
+        ensures goes_on { H.goes_on hall.old hall.new }
+    {
+        self.obey(hall, frame)?;
+        Ok(true)
+    }
+
+    // How participant 0 serves.
+    fn serve_core<H: Hall>(&mut self, hall: &mut H) -> Result<bool, AllocError>
+        requires can { CanCoordinate self.old (H.state hall.old) }
+        ensures served { (steps : List MailStep) × Did 0 steps (H.state hall.old) (H.state hall.new)
+            × IsCoreServed (H.state hall.old).count self.old self.new steps (result_ok result) }
+        ensures weight { left_to_do H.scale H.pending self.new (H.state hall.new) + H.scale * served_of result
+            ≤ left_to_do H.scale H.pending self.old (H.state hall.old) }
+        ensures rests { result ≡ Ok false → (deadline : ℕ) → due_in self.new.core ≡ Some deadline → deadline < 2 ^ 64 - 1
+            → H.pending (H.state hall.new).clock deadline ≡ H.scale }
+        ensures alone { StaysAlone 0 self.old self.new (H.state hall.old) (H.state hall.new) }
+        ensures goes_on { H.goes_on hall.old hall.new }
+    {
+        match hall.fetch(0) {
+            Some(frame) => self.heed_frame(hall, &frame),
+            None => self.rest(hall),
+        }
+    }
+
+    /// Serves once: heeds the first frame of its mailbox, and participant 0, where that is empty, polls for what is due. It answers
+    /// whether it did something, and that memory ran out, or its mapper's calls, where it stopped. Between two servings it holds the
+    /// slots that it held before. After the handling of messages in Multi-process Support.
+    pub fn serve<H: Hall>(&mut self, hall: &mut H) -> Result<bool, AllocError>
+        requires can { CanServe self.old.me self.old (H.state hall.old) }
+
+        // What it did, and what that makes of it.
+        ensures served { (steps : List MailStep) × Did self.old.me steps (H.state hall.old) (H.state hall.new)
+            × IsServed (H.state hall.old).count self.old self.new steps (result_ok result) }
+
+        // Each serving that does something makes this number smaller. One that did nothing leaves no deadline that has passed, but
+        // one at the end of the clock's type, which never does.
+        ensures weight { left_to_do H.scale H.pending self.new (H.state hall.new) + H.scale * served_of result
+            ≤ left_to_do H.scale H.pending self.old (H.state hall.old) }
+        ensures rests { result ≡ Ok false → (deadline : ℕ) → due_in self.new.core ≡ Some deadline → deadline < 2 ^ 64 - 1
+            → H.pending (H.state hall.new).clock deadline ≡ H.scale }
+        ensures alone { StaysAlone self.old.me self.old self.new (H.state hall.old) (H.state hall.new) }
+        ensures goes_on { H.goes_on hall.old hall.new }
+    {
+        if self.is_primary() {
+            self.serve_core(hall)
+        } else {
+            self.serve_member(hall)
+        }
+    }
+}

@@ -1,0 +1,227 @@
+//! Who serves in a hall of one thread.
+ghost use Rattle.std.specs.Prelude.{◌≡◌, ◌+◌, ◌<◌, ◌≤◌, List, false, None, Ok, Some, true, IfOk, IsSome, is_none, length, replicate};
+ghost use Rattle.std.specs.Result.{result_ok};
+ghost use Rattle.hp_base.specs.declared.limits.TheConstants.{MAX_HEAPS};
+ghost use Rattle.hp_plain.specs.HallView.{HasDone, IsHome, own_at, seen_in, slot_at};
+ghost use Rattle.hp_hall.specs.Mail.{MailStep};
+ghost use Rattle.hp_hall.specs.Weights.{boxes_weight, pending_at};
+ghost use Rattle.hp_serve.specs.Coordinating.{IsServed};
+ghost use Rattle.hp_serve.specs.Falling.{if_moved, served_of};
+ghost use Rattle.hp_serve.specs.Tied.{IsTied};
+ghost use Rattle.hp_solo.specs.Ending.{LeavesThere};
+ghost use Rattle.hp_solo.specs.Sequence.{IsVisited, IsVisitedAs};
+ghost use Rattle.hp_solo.specs.Served.{HasServed, HasServedAs, KeepsServing, KeepsServingAs};
+ghost use Rattle.hp_solo.specs.Solo.{
+  FindsNothing,
+  HasLookedLast,
+  HasNothingToDo,
+  IsAtRest,
+  IsPartyServed,
+  IsResting,
+  IsServedAs,
+  IsTiedIn,
+  LooksLast,
+  due_at,
+  nobody,
+  party_weight,
+  server_weight,
+};
+
+use hp_base::Mapper;
+use hp_maps::Table;
+use hp_plain::PlainHall;
+use hp_serve::Server;
+use std::alloc::{AllocError, Global};
+use std::marker::Model;
+
+// A participant that serves while others do their lines. It is away while its own line is done. Once it has met a refusal of memory it has
+// stopped: it does no further line, and goes on serving.
+#[derive(Drop)]
+pub(crate) struct Alone<'p, M: Mapper> {
+    participant: Option<Server<'p, M>>,
+    stopped: bool,
+}
+
+impl<'p, M: Mapper> Model for Alone<'p, M> {
+    ghost use Rattle.hp_solo.specs.Solo.{AloneView};
+
+    ghost Value = { AloneView };
+
+    ghost view = { λ a. record { party = a.participant; stopped = a.stopped } };
+}
+
+impl<'p, M: Mapper> Alone<'p, M> {
+    // A place whose participant is away.
+    pub fn vacant() -> Alone<'p, M>
+        ensures { result ≡ nobody }
+    {
+        Alone {
+            participant: None,
+            stopped: false,
+        }
+    }
+
+    // Serves until nothing is left for it or memory is refused, and tells whether it did something. The first refusal counts as something.
+    // One that has stopped serves too.
+    pub fn serve(&mut self, hall: &mut PlainHall) -> bool
+        requires there { IsHome (slot_at hall.old MAX_HEAPS) }
+        requires tied { IsTiedIn hall.old self.old.party }
+        ensures served { IsServedAs hall.old hall.new self.old.party self.new.party }
+        ensures keeps { KeepsServingAs hall.old hall.new self.old.party }
+        ensures serves { self.new.stopped ≡ false → HasServedAs hall.old hall.new self.old.party self.new.party }
+        ensures visited { self.new.stopped ≡ false → IsVisitedAs hall.old hall.new self.old.party self.new.party }
+        ensures weight { boxes_weight hall.new.boxes + server_weight (pending_at hall.new.clock) self.new + if_moved result
+            ≤ boxes_weight hall.old.boxes + server_weight (pending_at hall.old.clock) self.old }
+        ensures rests { self.new.stopped ≡ false → IsAtRest hall.new.clock self.new.party }
+        ensures looks { self.new.stopped ≡ false → HasLookedLast hall.old hall.new self.old.party }
+        ensures idle { result ≡ false → self.old.stopped ≡ false → self.new ≡ self.old }
+        ensures found { result ≡ false → self.old.stopped ≡ false → HasNothingToDo hall.old hall.new self.old.party }
+        ensures stopped { self.old.stopped ≡ true → self.new.stopped ≡ true }
+    {
+        match serve_some(hall, &mut self.participant) {
+            Ok(moved) => moved,
+            Err(AllocError) => {
+                let first = !self.stopped;
+                self.stopped = true;
+                first
+            }
+        }
+    }
+
+    // Its participant goes away, for its line.
+    pub fn away(&mut self) -> Option<Server<'p, M>>
+        ensures party { result ≡ self.old.party }
+        ensures away { self.new ≡ record self.old { party = None } }
+    {
+        self.participant.take()
+    }
+
+    // A participant comes back from its line.
+    pub fn back(&mut self, participant: Server<'p, M>)
+        ensures { self.new ≡ record self.old { party = Some participant.entry } }
+    {
+        self.participant = Some(participant);
+    }
+
+    // When the deadline of its participant's round passes.
+    pub fn due(&self) -> Option<u64>
+        ensures { result ≡ due_at self.now.party }
+    {
+        match &self.participant {
+            None => None,
+            Some(participant) => participant.due(),
+        }
+    }
+
+    // The table of its participant, which is there.
+    pub fn table(&self, alloc: Global) -> Result<Table, AllocError>
+        requires { IsSome self.now.party }
+        ensures { IfOk result (λ table. LeavesThere self.now.party table) }
+    {
+        match &self.participant {
+            None => unreachable!(),
+            Some(participant) => participant.table(alloc),
+        }
+    }
+
+    // Whether its participant is away.
+    pub fn is_away(&self) -> bool
+        ensures { result ≡ is_none self.now.party }
+    {
+        self.participant.is_none()
+    }
+
+    // Whether it has stopped.
+    pub fn is_stopped(&self) -> bool
+        ensures { result ≡ self.now.stopped }
+    {
+        self.stopped
+    }
+}
+
+// A participant that is there serves until nothing is left for it.
+fn serve_some<M: Mapper>(
+    hall: &mut PlainHall,
+    participant: &mut Option<Server<'_, M>>,
+) -> Result<bool, AllocError>
+    requires there { IsHome (slot_at hall.old MAX_HEAPS) }
+    requires tied { IsTiedIn hall.old participant.old }
+    ensures served { IsServedAs hall.old hall.new participant.old participant.new }
+    ensures keeps { KeepsServingAs hall.old hall.new participant.old }
+    ensures serves { IfOk result (λ moved. HasServedAs hall.old hall.new participant.old participant.new) }
+    ensures visited { IfOk result (λ moved. IsVisitedAs hall.old hall.new participant.old participant.new) }
+    ensures weight { boxes_weight hall.new.boxes + party_weight (pending_at hall.new.clock) participant.new + served_of result
+        ≤ boxes_weight hall.old.boxes + party_weight (pending_at hall.old.clock) participant.old }
+    ensures rests { IfOk result (λ moved. IsAtRest hall.new.clock participant.new) }
+    ensures looks { IfOk result (λ moved. HasLookedLast hall.old hall.new participant.old) }
+    ensures idle { result ≡ Ok false → participant.new ≡ participant.old }
+    ensures found { result ≡ Ok false → HasNothingToDo hall.old hall.new participant.old }
+{
+    match participant {
+        None => Ok(false),
+        Some(participant) => serve_out(hall, participant),
+    }
+}
+
+// A participant serves until nothing is left for it, and tells whether it did something.
+fn serve_out<M: Mapper>(
+    hall: &mut PlainHall,
+    participant: &mut Server<'_, M>,
+) -> Result<bool, AllocError>
+    requires me { participant.old.me < length hall.old.owns }
+    requires there { IsHome (slot_at hall.old MAX_HEAPS) }
+    requires tied { IsTied (seen_in hall.old) (own_at hall.old participant.old.me) participant.old.joined participant.old.maps }
+    ensures served { IsPartyServed hall.old hall.new participant.old participant.new }
+    ensures keeps { KeepsServing (length hall.old.owns) participant.old.me hall.old hall.new participant.old }
+    ensures serves { IfOk result (λ moved. HasServed (length hall.old.owns) participant.old.me hall.old hall.new participant.old participant.new) }
+    ensures visited { IfOk result (λ moved. IsVisited hall.old hall.new participant.old participant.new) }
+    ensures weight { boxes_weight hall.new.boxes + party_weight (pending_at hall.new.clock) (Some participant.new) + served_of result
+        ≤ boxes_weight hall.old.boxes + party_weight (pending_at hall.old.clock) (Some participant.old) }
+    ensures rests { IfOk result (λ moved. IsResting hall.new.clock participant.new) }
+    ensures looks { IfOk result (λ moved. LooksLast hall.old hall.new participant.old.me) }
+    ensures idle { result ≡ Ok false → participant.new ≡ participant.old }
+    ensures found { result ≡ Ok false → FindsNothing hall.old hall.new participant.old.me }
+{
+    let mut moved = false;
+    'serving: loop {
+        let more = serve_once(hall, participant)?;
+        if !more {
+            return Ok(moved);
+        }
+        moved = true;
+    }
+}
+
+// A participant serves once.
+fn serve_once<M: Mapper>(
+    hall: &mut PlainHall,
+    participant: &mut Server<'_, M>,
+) -> Result<bool, AllocError>
+    requires me { participant.old.me < length hall.old.owns }
+    requires there { IsHome (slot_at hall.old MAX_HEAPS) }
+    requires tied { IsTied (seen_in hall.old) (own_at hall.old participant.old.me) participant.old.joined participant.old.maps }
+    ensures served { IsPartyServed hall.old hall.new participant.old participant.new }
+    ensures weight { boxes_weight hall.new.boxes + party_weight (pending_at hall.new.clock) (Some participant.new) + served_of result
+        ≤ boxes_weight hall.old.boxes + party_weight (pending_at hall.old.clock) (Some participant.old) }
+    ensures rests { result ≡ Ok false → IsResting hall.new.clock participant.new }
+    ensures serves { (steps : List MailStep) × HasDone hall.old hall.new participant.old.me steps
+        × IsServed (length hall.old.owns) participant.old participant.new steps (result_ok result) }
+    ensures idle { result ≡ Ok false → participant.new ≡ participant.old }
+    ensures found { result ≡ Ok false → FindsNothing hall.old hall.new participant.old.me }
+{
+    participant.serve(hall)
+}
+
+// Places for so many participants, all of which are away.
+pub(crate) fn places<'p, M: Mapper>(
+    alloc: Global,
+    count: u8,
+) -> Result<Vec<Alone<'p, M>>, AllocError>
+    ensures { IfOk result (λ servers. servers.items ≡ replicate count nobody) }
+{
+    let mut servers = Vec::with_capacity(alloc, count as usize)?;
+    for _place in 0..count {
+        servers.push_reserved(Alone::vacant());
+    }
+    Ok(servers)
+}
