@@ -28,9 +28,8 @@ use Rattle.hp_proc.specs.Courses.{HasRequest, Standing, after_line, attached_aft
 use Rattle.hp_proc.specs.Doing.{Doing, Done, Leads}
 use Rattle.hp_proc.specs.Heaps.{heaps_for, names_socket, socket_heaps, sockets_of}
 use Rattle.hp_proc.specs.Lines.{Facts, allocating, doing_of, if_attached, judged, tag_of}
-use Rattle.hp_serve.specs.Party.{Party}
-use Rattle.hp_proc.specs.ParticipantView.{after_answer, with_context, with_standing}
-use Rattle.hp_proc.specs.Progress.{Brings, Does, DoesLine, Moment, moment_of}
+use Rattle.hp_proc.specs.ParticipantView.{ParticipantView, after_answer, with_context, with_standing}
+use Rattle.hp_proc.specs.Progress.{Brings, Does, DoesLine, Moment, doer_at, moment_of}
 use Rattle.hp_proc.specs.declared.own_element.OwnElement.{OwnElement}
 use Rattle.hp_proc.specs.declared.socket_heap.SocketHeap.{SocketHeap}
 use Rattle.hp_proc.proofs.HandTried.{calls_stay, none_done}
@@ -42,22 +41,22 @@ socket_few pools place is =
     omega (arith, slice_get_within (sockets_of pools) place.index place.socket is, length-filter_le (names_socket pools) (range_with_len 0 32))
 
 -- where the elements of its lines lie is noted, which is none of its calls and asks
-pub does_noted : (count : ℕ) (did : List MailStep → Type 0) (doing : Doing) (party after : Party) (parts : ℕ → HeapPart) (log : List LogRecord)
-    (asks : List AskLog) (elements : List OwnElement) → after ≡ with_standing (record party.context.standing { elements = elements }) party → did []
-    → Does count did doing doing (moment_of party parts log asks) (moment_of after parts log asks)
+pub does_noted : (count : ℕ) (did : List MailStep → Type 0) (doing : Doing) (doer after : ParticipantView) (parts : ℕ → HeapPart) (log : List LogRecord)
+    (asks : List AskLog) (elements : List OwnElement) → after ≡ with_standing (record doer.context.standing { elements = elements }) doer → did []
+    → Does count did doing doing (moment_of doer parts log asks) (moment_of after parts log asks)
 unfolding Leads AreAsked
-does_noted count did doing party after parts log asks elements noted none =
-    subst (λ (after : Party). Does count did doing doing (moment_of party parts log asks) (moment_of after parts log asks)) (sym noted) (record {
+does_noted count did doing doer after parts log asks elements noted none =
+    subst (λ (after : ParticipantView). Does count did doing doing (moment_of doer parts log asks) (moment_of after parts log asks)) (sym noted) (record {
       trace = [];
       steps = [];
       leads = refl;
       made = none;
-      acts = Acts.notes_left party elements;
+      acts = Acts.nothing doer.party;
       entries = λ heap. sym (append-nil (parts heap).entries);
       serves = λ heap. refl;
-      counted = ap (λ (calls : ℕ). record party.context { standing = record party.context.standing { elements = elements }; calls = calls })
+      counted = ap (λ (calls : ℕ). record doer.context { standing = record doer.context.standing { elements = elements }; calls = calls })
           (omega arith);
-      same = record { me = refl; socket = refl; plan = refl; deadline = refl; context = refl };
+      same = record { me = refl; socket = refl; plan = refl; deadline = refl };
       asked = refl;
       more = [];
       log = sym (append-nil log);
@@ -144,19 +143,19 @@ module _ (line : Line) (label : Part) (size : ℕ) (options : Options) (its_act 
         ∙ ap (λ (attached : Bool). if_attached attached (allocating (facts_for request) (tag_of line) size options)) attached
         ∙ ap (λ (refused : Option BadRequest). judged (facts_for request) (tag_of line) options refused request) is
 
-  module _ (old : Moment) (attached : old.party.context.standing.attached ≡ true) (count : ℕ) (did : List MailStep → Type 0) where
+  module _ (old : Moment) (attached : old.context.standing.attached ≡ true) (count : ℕ) (did : List MailStep → Type 0) where
     -- a request that is refused
     pub line_refused : (kind : BadRequest) → refusal_of size options.align options.bound ≡ Some kind → did []
         → DoesLine count did line (gives.BadRequest kind) old old
     line_refused kind refused none =
-        let tree = judged_tree old.party.socket old.party.context None (Some kind) attached refused in
+        let tree = judged_tree old.party.socket old.context None (Some kind) attached refused in
         let does = subst (λ (doing : Doing). Does count did doing (Doing.Ended (gives.BadRequest kind)) old old) (sym tree)
         (does_same count did (Doing.Ended (gives.BadRequest kind)) old none) in
         record {
-          facts = facts_for old.party.socket old.party.context None;
-          known = known_facts old.party.socket old.party.context None (λ accepted. absurd (differs kind (sym refused ∙ accepted)));
+          facts = facts_for old.party.socket old.context None;
+          known = known_facts old.party.socket old.context None (λ accepted. absurd (differs kind (sym refused ∙ accepted)));
           does = does;
-          left = left_none (gives.BadRequest kind) does.trace old.party.context.standing (λ address same. bad_differs kind address same);
+          left = left_none (gives.BadRequest kind) does.trace old.context.standing (λ address same. bad_differs kind address same);
         }
       where
         differs : (kind : BadRequest) → Some kind ≡ None → ⊥
@@ -167,43 +166,43 @@ module _ (line : Line) (label : Part) (size : ℕ) (options : Options) (its_act 
 
     module _ (request : Request) (accepted : refusal_of size options.align options.bound ≡ None)
         (has : HasRequest (act.Alloc label size options) (Some request)) (heap : ℕ) (answer : Answer) (mid : Moment)
-        (brings : Brings heap count did (serving old.party.context.pools request (tag_of line)
-        (heaps_for old.party.socket (socket_heaps old.party.context.pools) (option_map (λ name. name.text) options.heap) options.socket))
+        (brings : Brings heap count did (serving old.context.pools request (tag_of line)
+        (heaps_for old.party.socket (socket_heaps old.context.pools) (option_map (λ name. name.text) options.heap) options.socket))
         answer old mid) where
-      its_tree : doing_of line line.act (facts_for old.party.socket old.party.context (Some request))
-          ≡ serving old.party.context.pools request (tag_of line)
-          (heaps_for old.party.socket (socket_heaps old.party.context.pools) (option_map (λ name. name.text) options.heap) options.socket)
-      its_tree = judged_tree old.party.socket old.party.context (Some request) None attached accepted
+      its_tree : doing_of line line.act (facts_for old.party.socket old.context (Some request))
+          ≡ serving old.context.pools request (tag_of line)
+          (heaps_for old.party.socket (socket_heaps old.context.pools) (option_map (λ name. name.text) options.heap) options.socket)
+      its_tree = judged_tree old.party.socket old.context (Some request) None attached accepted
 
-      its_brings : Brings heap count did (doing_of line line.act (facts_for old.party.socket old.party.context (Some request))) answer old mid
+      its_brings : Brings heap count did (doing_of line line.act (facts_for old.party.socket old.context (Some request))) answer old mid
       its_brings = subst (λ (doing : Doing). Brings heap count did doing answer old mid) (sym its_tree) brings
 
       -- one that is served, and brings no address
-      pub line_served : mid.party.context.standing ≡ old.party.context.standing → ((address : ℕ) → answer ≢ gives.Address address)
+      pub line_served : mid.context.standing ≡ old.context.standing → ((address : ℕ) → answer ≢ gives.Address address)
           → DoesLine count did line answer old mid
       line_served same other = record {
-        facts = facts_for old.party.socket old.party.context (Some request);
-        known = known_facts old.party.socket old.party.context (Some request) has;
+        facts = facts_for old.party.socket old.context (Some request);
+        known = known_facts old.party.socket old.context (Some request) has;
         does = its_brings.does;
-        left = same ∙ left_none answer its_brings.does.trace old.party.context.standing other;
+        left = same ∙ left_none answer its_brings.does.trace old.context.standing other;
       }
 
       -- and one that brings one, once its element is noted
-      module _ (address : ℕ) (is : answer ≡ gives.Address address) (after : Party)
-          (noted : after ≡ with_context (with_element (record { line = line.line; heap = heap }) mid.party.context) mid.party)
-          (same : mid.party.context.standing ≡ old.party.context.standing) where
+      module _ (address : ℕ) (is : answer ≡ gives.Address address) (after : ParticipantView)
+          (noted : after ≡ with_context (with_element (record { line = line.line; heap = heap }) mid.context) (doer_at mid))
+          (same : mid.context.standing ≡ old.context.standing) where
         abbrev after_it : Moment
         after_it = moment_of after mid.parts mid.log mid.asks
 
         abbrev elements : List OwnElement
-        elements = mid.party.context.standing.elements ++ record { line = line.line; heap = heap } ∷ []
+        elements = mid.context.standing.elements ++ record { line = line.line; heap = heap } ∷ []
 
         abbrev doing : Doing
-        doing = doing_of line line.act (facts_for old.party.socket old.party.context (Some request))
+        doing = doing_of line line.act (facts_for old.party.socket old.context (Some request))
 
         behind : Does count (λ steps. steps ≡ []) (Doing.Ended answer) (Doing.Ended answer) mid after_it
         behind =
-            does_noted count (λ steps. steps ≡ []) (Doing.Ended answer) mid.party after mid.parts mid.log mid.asks elements noted refl
+            does_noted count (λ steps. steps ≡ []) (Doing.Ended answer) (doer_at mid) after mid.parts mid.log mid.asks elements noted refl
 
         whole : Does count did doing (Doing.Ended answer) old after_it
         whole =
@@ -215,30 +214,30 @@ module _ (line : Line) (label : Part) (size : ℕ) (options : Options) (its_act 
         last_is =
             ap last_heap
             (calls_stay count did (λ steps. steps ≡ []) did doing (Doing.Ended answer) (Doing.Ended answer) old mid after_it (none_done did)
-            its_brings.does behind (ap (λ (party : Party). party.context.calls) noted))
+            its_brings.does behind (ap (λ (doer : ParticipantView). doer.context.calls) noted))
             ∙ its_brings.last address is
 
         pub line_noted : DoesLine count did line answer old after_it
         line_noted = record {
-          facts = facts_for old.party.socket old.party.context (Some request);
-          known = known_facts old.party.socket old.party.context (Some request) has;
+          facts = facts_for old.party.socket old.context (Some request);
+          known = known_facts old.party.socket old.context (Some request) has;
           does = whole;
-          left = ap (λ (party : Party). party.context.standing) noted
-              ∙ left_one address heap whole.trace mid.party.context.standing last_is
-              ∙ ap (λ (given : Answer). after_line line given whole.trace mid.party.context.standing) (sym is)
+          left = ap (λ (doer : ParticipantView). doer.context.standing) noted
+              ∙ left_one address heap whole.trace mid.context.standing last_is
+              ∙ ap (λ (given : Answer). after_line line given whole.trace mid.context.standing) (sym is)
               ∙ ap (after_line line answer whole.trace) same;
         }
 
       -- so is one whose answer was noted
-      pub line_answered : (after : Party) → mid.party.context.standing ≡ old.party.context.standing
-          → after ≡ after_answer line.line heap answer mid.party
+      pub line_answered : (after : ParticipantView) → mid.context.standing ≡ old.context.standing
+          → after ≡ after_answer line.line heap answer (doer_at mid)
           → DoesLine count did line answer old (moment_of after mid.parts mid.log mid.asks)
       line_answered after same noted = by_answer answer refl (sym noted)
         where
-          by_answer : (given : Answer) → answer ≡ given → after_answer line.line heap given mid.party ≡ after
+          by_answer : (given : Answer) → answer ≡ given → after_answer line.line heap given (doer_at mid) ≡ after
               → DoesLine count did line answer old (moment_of after mid.parts mid.log mid.asks)
           by_answer (gives.Address address) is noted =
               line_noted address is after (sym noted) same
           by_answer _ is noted =
-              subst (λ (after : Party). DoesLine count did line answer old (moment_of after mid.parts mid.log mid.asks)) noted
+              subst (λ (after : ParticipantView). DoesLine count did line answer old (moment_of after mid.parts mid.log mid.asks)) noted
               (line_served same (λ address given. cc))

@@ -17,14 +17,13 @@ use Rattle.hp_segs.specs.SegsView.{SegsView}
 use Rattle.hp_segs.specs.declared.outcome.AskLog.{AskLog}
 use Rattle.hp_proc.specs.Acting.{Acts, AreAsked}
 use Rattle.hp_serve.specs.Attaching.{Attaches, after_attaching, after_detaching}
-use Rattle.hp_proc.specs.Courses.{standing_tried}
 use Rattle.hp_proc.specs.Contexts.{AreFactsOf, Context, after_calls}
-use Rattle.hp_proc.specs.Courses.{HasRequest, Standing, after_line, attached_after, element_brought, records_after}
+use Rattle.hp_proc.specs.Courses.{HasRequest, Standing, after_line, attached_after, element_brought, records_after, standing_tried}
 use Rattle.hp_proc.specs.Doing.{Doing, Done as Did, Goes, Leads}
 use Rattle.hp_proc.specs.Doing.Done.{CaughtUp, Looked}
 use Rattle.hp_proc.specs.Lines.{Facts, attached_with, attaching, doing_of, if_attached}
 use Rattle.hp_serve.specs.Party.{IsSameParty, Party}
-use Rattle.hp_proc.specs.ParticipantView.{with_standing}
+use Rattle.hp_proc.specs.ParticipantView.{ParticipantView, with_standing}
 use Rattle.hp_proc.specs.Progress.{Does, DoesLine, IsLineBuilt, MayDo, Moment, moment_of}
 use Rattle.hp_serve.specs.Serving.{acks_behind, gives_segments, takes_segments}
 use Rattle.hp_proc.specs.declared.own_element.OwnElement.{OwnElement}
@@ -128,20 +127,19 @@ left_by line deed given trace standing left is leaves =
     }) (sym is)
 
 -- a participant that may do its line may do the next one whatever it noted
-pub ready_noted : (party after : Party) (parts : ℕ → HeapPart) (log : List LogRecord) (asks : List AskLog) (standing : Standing)
-    → after ≡ with_standing standing party → MayDo (moment_of party parts log asks) → MayDo (moment_of after parts log asks)
-ready_noted party after parts log asks standing noted ready =
-    subst (λ (after : Party). MayDo (moment_of after parts log asks)) (sym noted)
+pub ready_noted : (doer after : ParticipantView) (parts : ℕ → HeapPart) (log : List LogRecord) (asks : List AskLog) (standing : Standing)
+    → after ≡ with_standing standing doer → MayDo (moment_of doer parts log asks) → MayDo (moment_of after parts log asks)
+ready_noted doer after parts log asks standing noted ready =
+    subst (λ (after : ParticipantView). MayDo (moment_of after parts log asks)) (sym noted)
     (record { sockets = ready.sockets; unheld = ready.unheld; settled = ready.settled; counted = ready.counted })
 
--- who attached, or tried to, or detached, is the same participant, with what it knew
+-- who attached, or tried to, or detached, is the same participant
 pub attached_same : (party mid : Party) (log : List LogRecord) (caught : Caught) → Attaches party mid log caught → IsSameParty party mid
 attached_same party mid log caught at = record {
   me = ap (λ (party : Party). party.me) at.after_is;
   socket = ap (λ (party : Party). party.socket) at.after_is;
   plan = ap (λ (party : Party). party.plan) at.after_is;
   deadline = ap (λ (party : Party). party.deadline) at.after_is;
-  context = ap (λ (party : Party). party.context) at.after_is;
 }
 
 pub detached_same : (party mid : Party) → mid ≡ after_detaching party → IsSameParty party mid
@@ -150,7 +148,6 @@ detached_same party mid is = record {
   socket = ap (λ (party : Party). party.socket) is;
   plan = ap (λ (party : Party). party.plan) is;
   deadline = ap (λ (party : Party). party.deadline) is;
-  context = ap (λ (party : Party). party.context) is;
 }
 
 -- where all was mapped, its table has taken in as many records as the log has; where not, nothing is said of records
@@ -179,16 +176,16 @@ tried_alike party mid log Done standing at = ap (λ (records : ℕ). standing_tr
 tried_alike party mid log (Refused row call) standing at = refl
 tried_alike party mid log (Elsewhere row call got) standing at = refl
 
-module _ (count : ℕ) (did : List MailStep → Type 0) (line : Line) (party : Party) (parts : ℕ → HeapPart) (log : List LogRecord)
+module _ (count : ℕ) (did : List MailStep → Type 0) (line : Line) (doer : ParticipantView) (parts : ℕ → HeapPart) (log : List LogRecord)
     (asks : List AskLog) where
   abbrev before : Moment
-  before = moment_of party parts log asks
+  before = moment_of doer parts log asks
 
   abbrev facts : Facts
-  facts = facts_for party.socket party.context line.act None
+  facts = facts_for doer.party.socket doer.context line.act None
 
   -- who is attached already does nothing of a line that attaches
-  pub line_already : line.act ≡ act.Attach → party.context.standing.attached ≡ true → did []
+  pub line_already : line.act ≡ act.Attach → doer.context.standing.attached ≡ true → did []
       → DoesLine count did line answer.Already before before
   unfolding doing_of
   line_already its_act attached none =
@@ -199,15 +196,15 @@ module _ (count : ℕ) (did : List MailStep → Type 0) (line : Line) (party : P
       (does_same count did (Doing.Ended answer.Already) before none) in
       record {
         facts = facts;
-        known = known_none party.socket party.context line act.Attach its_act tt;
+        known = known_none doer.party.socket doer.context line act.Attach its_act tt;
         does = does;
-        left = left_by line act.Attach answer.Already does.trace party.context.standing party.context.standing its_act
-            (ap (λ (elements : List OwnElement). record party.context.standing { elements = elements })
-            (sym (append-nil party.context.standing.elements)));
+        left = left_by line act.Attach answer.Already does.trace doer.context.standing doer.context.standing its_act
+            (ap (λ (elements : List OwnElement). record doer.context.standing { elements = elements })
+            (sym (append-nil doer.context.standing.elements)));
       }
 
   -- who is out does nothing of a line that detaches
-  pub line_detached : line.act ≡ act.Detach → party.context.standing.attached ≡ false → did []
+  pub line_detached : line.act ≡ act.Detach → doer.context.standing.attached ≡ false → did []
       → DoesLine count did line answer.Detached before before
   unfolding doing_of
   line_detached its_act attached none =
@@ -219,48 +216,48 @@ module _ (count : ℕ) (did : List MailStep → Type 0) (line : Line) (party : P
       (does_same count did (Doing.Ended answer.Detached) before none) in
       record {
         facts = facts;
-        known = known_none party.socket party.context line act.Detach its_act tt;
+        known = known_none doer.party.socket doer.context line act.Detach its_act tt;
         does = does;
-        left = left_by line act.Detach answer.Detached does.trace party.context.standing party.context.standing its_act
-            (ap (λ (elements : List OwnElement). record party.context.standing { elements = elements })
-            (sym (append-nil party.context.standing.elements)));
+        left = left_by line act.Detach answer.Detached does.trace doer.context.standing doer.context.standing its_act
+            (ap (λ (elements : List OwnElement). record doer.context.standing { elements = elements })
+            (sym (append-nil doer.context.standing.elements)));
       }
 
-  module _ (mid after : Party) (later : ℕ → HeapPart) (now more : List LogRecord) (heard others : List AskLog)
+  module _ (mid after : ParticipantView) (later : ℕ → HeapPart) (now more : List LogRecord) (heard others : List AskLog)
       (alike : (heap : ℕ) → later heap ≡ parts heap) (log_is : now ≡ log ++ more) (asks_is : heard ≡ asks ++ others) where
     abbrev behind : Moment
     behind = moment_of after later now heard
 
     -- what it knew of its lines, but for what the line left
-    known_but : (knew : Context) (standing : Standing) → knew ≡ party.context
-        → record knew { standing = standing } ≡ record (after_calls 0 party.context) { standing = standing }
+    known_but : (knew : Context) (standing : Standing) → knew ≡ doer.context
+        → record knew { standing = standing } ≡ record (after_calls 0 doer.context) { standing = standing }
     known_but knew standing same =
         ap (λ (context : Context). record context { standing = standing }) same
-        ∙ ap (λ (calls : ℕ). record party.context { standing = standing; calls = calls }) (omega arith)
+        ∙ ap (λ (calls : ℕ). record doer.context { standing = standing; calls = calls }) (omega arith)
 
     -- it looked at the log and caught up with it, or tried to, and noted what that left
-    does_attach : (taken : SegsView) (caught : Caught) → Attaches party mid taken.log caught
+    does_attach : (taken : SegsView) (caught : Caught) → Attaches doer.party mid.party taken.log caught → mid.context ≡ doer.context
         → after ≡ with_standing (standing_tried (length taken.log) caught mid.context.standing) mid
         → did
-        (takes_segments taken ∷ (acks_behind caught (length taken.log) ++ (gives_segments (after_attaching party.me caught taken) ∷ [])))
+        (takes_segments taken ∷ (acks_behind caught (length taken.log) ++ (gives_segments (after_attaching doer.party.me caught taken) ∷ [])))
         → Does count did (attaching false) (attached_with (length taken.log) caught) before behind
     unfolding Leads Goes AreAsked
-    does_attach taken caught attaches noted made =
-        let same = attached_same party mid taken.log caught attaches in
+    does_attach taken caught attaches knew noted made =
+        let same = attached_same doer.party mid.party taken.log caught attaches in
         let left : Standing = standing_tried (length taken.log) caught mid.context.standing in
         subst
-        (λ (after : Party). Does count did (attaching false) (attached_with (length taken.log) caught) before (moment_of after later now heard))
+        (λ (after : ParticipantView). Does count did (attaching false) (attached_with (length taken.log) caught) before (moment_of after later now heard))
         (sym noted)
         (record {
           trace = Looked (length taken.log) ∷ CaughtUp (length taken.log) caught ∷ [];
-          steps = takes_segments taken ∷ (acks_behind caught (length taken.log) ++ (gives_segments (after_attaching party.me caught taken) ∷ []));
+          steps = takes_segments taken ∷ (acks_behind caught (length taken.log) ++ (gives_segments (after_attaching doer.party.me caught taken) ∷ []));
           leads = (length taken.log, refl, (caught, refl, refl));
           made = made;
-          acts = Acts.attaches party mid taken caught attaches;
+          acts = Acts.attaches doer.party mid.party taken caught attaches;
           entries = λ heap. ap (λ (part : HeapPart). part.entries) (alike heap) ∙ sym (append-nil (parts heap).entries);
           serves = λ heap. ap (λ (part : HeapPart). part.serves) (alike heap);
-          counted = known_but mid.context left same.context;
-          same = record { me = same.me; socket = same.socket; plan = same.plan; deadline = same.deadline; context = refl };
+          counted = known_but mid.context left knew;
+          same = same;
           asked = ap (λ (party : Party). party.asked) attaches.after_is;
           more = more;
           log = log_is;
@@ -269,21 +266,21 @@ module _ (count : ℕ) (did : List MailStep → Type 0) (line : Line) (party : P
         })
 
     -- it left the roster, and noted that
-    does_detach : (doing : Doing) (taken : SegsView) → 0 < party.me
-        → after ≡ with_standing (record party.context.standing { attached = false }) (after_detaching party)
-        → did (takes_segments taken ∷ gives_segments (after_leave party.me taken) ∷ []) → Does count did doing doing before behind
+    does_detach : (doing : Doing) (taken : SegsView) → 0 < doer.party.me
+        → after ≡ with_standing (record doer.context.standing { attached = false }) (record doer { party = after_detaching doer.party })
+        → did (takes_segments taken ∷ gives_segments (after_leave doer.party.me taken) ∷ []) → Does count did doing doing before behind
     unfolding Leads AreAsked
     does_detach doing taken secondary noted made =
-        subst (λ (after : Party). Does count did doing doing before (moment_of after later now heard)) (sym noted) (record {
+        subst (λ (after : ParticipantView). Does count did doing doing before (moment_of after later now heard)) (sym noted) (record {
           trace = [];
-          steps = takes_segments taken ∷ gives_segments (after_leave party.me taken) ∷ [];
+          steps = takes_segments taken ∷ gives_segments (after_leave doer.party.me taken) ∷ [];
           leads = refl;
           made = made;
-          acts = Acts.detaches party taken secondary;
+          acts = Acts.detaches doer.party taken secondary;
           entries = λ heap. ap (λ (part : HeapPart). part.entries) (alike heap) ∙ sym (append-nil (parts heap).entries);
           serves = λ heap. ap (λ (part : HeapPart). part.serves) (alike heap);
-          counted = known_but party.context (record party.context.standing { attached = false }) refl;
-          same = record { me = refl; socket = refl; plan = refl; deadline = refl; context = refl };
+          counted = known_but doer.context (record doer.context.standing { attached = false }) refl;
+          same = record { me = refl; socket = refl; plan = refl; deadline = refl };
           asked = refl;
           more = more;
           log = log_is;
@@ -292,59 +289,61 @@ module _ (count : ℕ) (did : List MailStep → Type 0) (line : Line) (party : P
         })
 
     -- its line was done, once it noted what that left
-    pub line_tried : line.act ≡ act.Attach → party.context.standing.attached ≡ false → (taken : SegsView) (caught : Caught)
-        → Attaches party mid taken.log caught
+    pub line_tried : line.act ≡ act.Attach → doer.context.standing.attached ≡ false → (taken : SegsView) (caught : Caught)
+        → Attaches doer.party mid.party taken.log caught → mid.context ≡ doer.context
         → did
-        (takes_segments taken ∷ (acks_behind caught (length taken.log) ++ (gives_segments (after_attaching party.me caught taken) ∷ [])))
-        → (given : Answer) → attached_with mid.maps.number caught ≡ Doing.Ended given
-        → after ≡ with_standing (standing_tried mid.maps.number caught mid.context.standing) mid
+        (takes_segments taken ∷ (acks_behind caught (length taken.log) ++ (gives_segments (after_attaching doer.party.me caught taken) ∷ [])))
+        → (given : Answer) → attached_with mid.party.maps.number caught ≡ Doing.Ended given
+        → after ≡ with_standing (standing_tried mid.party.maps.number caught mid.context.standing) mid
         → DoesLine count did line given before behind
     unfolding doing_of
-    line_tried its_act out taken caught attaches made given by_table noted_so =
+    line_tried its_act out taken caught attaches knew made given by_table noted_so =
         let answered : attached_with (length taken.log) caught ≡ Doing.Ended given =
-        answered_alike party mid taken.log caught attaches ∙ by_table in
+        answered_alike doer.party mid.party taken.log caught attaches ∙ by_table in
         let noted : after ≡ with_standing (standing_tried (length taken.log) caught mid.context.standing) mid =
         noted_so
-        ∙ ap (λ (standing : Standing). with_standing standing mid) (tried_alike party mid taken.log caught mid.context.standing attaches) in
+        ∙ ap (λ (standing : Standing). with_standing standing mid) (tried_alike doer.party mid.party taken.log caught mid.context.standing attaches) in
         let tree : doing_of line line.act facts ≡ attaching false =
         ap (λ (deed : Act). doing_of line deed facts) its_act ∙ ap attaching out in
         let whole : Does count did (doing_of line line.act facts) (Doing.Ended given) before behind =
         subst (λ (rest : Doing). Does count did (doing_of line line.act facts) rest before behind) answered
         (subst (λ (doing : Doing). Does count did doing (attached_with (length taken.log) caught) before behind) (sym tree)
-        (does_attach taken caught attaches noted made)) in
+        (does_attach taken caught attaches knew noted made)) in
         record {
           facts = facts;
-          known = known_none party.socket party.context line act.Attach its_act tt;
+          known = known_none doer.party.socket doer.context line act.Attach its_act tt;
           does = whole;
-          left = ap (λ (party : Party). party.context.standing) noted
-              ∙ ap (λ (party : Party). standing_tried (length taken.log) caught party.context.standing) attaches.after_is
-              ∙ left_by line act.Attach given whole.trace party.context.standing
-              (standing_tried (length taken.log) caught party.context.standing) its_act
-              (tried_leaves line (length taken.log) caught given whole.trace party.context.standing answered);
+          left = ap (λ (doer : ParticipantView). doer.context.standing) noted
+              ∙ ap (λ (context : Context). standing_tried (length taken.log) caught context.standing) knew
+              ∙ left_by line act.Attach given whole.trace doer.context.standing
+              (standing_tried (length taken.log) caught doer.context.standing) its_act
+              (tried_leaves line (length taken.log) caught given whole.trace doer.context.standing answered);
         }
 
     -- it left the roster, and noted that
-    pub line_left : line.act ≡ act.Detach → party.context.standing.attached ≡ true → (taken : SegsView) → 0 < party.me
-        → did (takes_segments taken ∷ gives_segments (after_leave party.me taken) ∷ []) → mid ≡ after_detaching party
-        → after ≡ with_standing (record mid.context.standing { attached = false }) mid
+    pub line_left : line.act ≡ act.Detach → doer.context.standing.attached ≡ true → (taken : SegsView) → 0 < doer.party.me
+        → did (takes_segments taken ∷ gives_segments (after_leave doer.party.me taken) ∷ []) → mid.party ≡ after_detaching doer.party
+        → mid.context ≡ doer.context → after ≡ with_standing (record mid.context.standing { attached = false }) mid
         → DoesLine count did line answer.Done before behind
     unfolding doing_of
-    line_left its_act attached taken secondary made mid_is noted =
+    line_left its_act attached taken secondary made mid_is knew noted =
         let tree : doing_of line line.act facts ≡ Doing.Ended answer.Done =
         ap (λ (deed : Act). doing_of line deed facts) its_act
         ∙ ap (λ (attached : Bool). if_attached attached (Doing.Ended answer.Done)) attached in
-        let left : after ≡ with_standing (record party.context.standing { attached = false }) (after_detaching party) =
-        noted ∙ ap (λ (mid : Party). with_standing (record mid.context.standing { attached = false }) mid) mid_is in
+        let out : Party → Context → ParticipantView = λ party context.
+        record { party = party; context = record context { standing = record context.standing { attached = false } } } in
+        let left : after ≡ with_standing (record doer.context.standing { attached = false }) (record doer { party = after_detaching doer.party }) =
+        noted ∙ ap (λ (party : Party). out party mid.context) mid_is ∙ ap (out (after_detaching doer.party)) knew in
         let whole : Does count did (doing_of line line.act facts) (Doing.Ended answer.Done) before behind =
         subst (λ (doing : Doing). Does count did doing (Doing.Ended answer.Done) before behind) (sym tree)
         (does_detach (Doing.Ended answer.Done) taken secondary left made) in
         record {
           facts = facts;
-          known = known_none party.socket party.context line act.Detach its_act tt;
+          known = known_none doer.party.socket doer.context line act.Detach its_act tt;
           does = whole;
-          left = ap (λ (party : Party). party.context.standing) left
-              ∙ left_by line act.Detach answer.Done whole.trace party.context.standing
-              (record party.context.standing { attached = false }) its_act
-              (ap (λ (elements : List OwnElement). record party.context.standing { attached = false; elements = elements })
-              (sym (append-nil party.context.standing.elements)));
+          left = ap (λ (doer : ParticipantView). doer.context.standing) left
+              ∙ left_by line act.Detach answer.Done whole.trace doer.context.standing
+              (record doer.context.standing { attached = false }) its_act
+              (ap (λ (elements : List OwnElement). record doer.context.standing { attached = false; elements = elements })
+              (sym (append-nil doer.context.standing.elements)));
         }

@@ -30,8 +30,8 @@ use Rattle.hp_proc.specs.Contexts.{Context}
 use Rattle.hp_proc.specs.Doing.{Doing, Goes, Leads}
 use Rattle.hp_proc.specs.Doing.Done.{Asked}
 use Rattle.hp_proc.specs.Heaps.{sockets_of}
-use Rattle.hp_serve.specs.Party.{IsSameParty, Party}
-use Rattle.hp_proc.specs.ParticipantView.{after_call}
+use Rattle.hp_serve.specs.Party.{IsSameParty}
+use Rattle.hp_proc.specs.ParticipantView.{ParticipantView, after_call}
 use Rattle.hp_proc.specs.Progress.{Does, IsInHand, caller_of, in_hand, moment_of, with_hand}
 use Rattle.hp_serve.specs.declared.pages_asked.PagesAsked.{PagesAsked}
 use Rattle.hp_proc.proofs.HandCalls.{call_index, call_serves, hand_apart, hand_here, hand_serves, numbered_next, own_behind}
@@ -91,38 +91,38 @@ held_holding : (heap : HeapView) (holding : Option Holding) (one : Holding) → 
     → HasPages heap.plain.pages one.owned
 held_holding heap holding one is held = subst (λ (holding : Option Holding). IsHeldWith heap holding) is held
 
-module _ (party after : Party) (old new : ℕ → HeapPart) (log later : List LogRecord) (asks heard : List AskLog) (heap : HeapView)
-    (same : IsSameParty party after) where
+module _ (doer after : ParticipantView) (old new : ℕ → HeapPart) (log later : List LogRecord) (asks heard : List AskLog) (heap : HeapView)
+    (same : IsSameParty doer.party after.party) (known : after.context ≡ doer.context) where
   -- the next thing that its line does is that ask
   pub does_ask : (count : ℕ) (did : List MailStep → Type 0) (asked : PagesAsked) (then_on : Option Run → Doing) (run : Option Run)
-      (steps : List MailStep) → did steps → DoesAsk count party after asked steps run
-      → IsAsked later heard party.me party.asked after.asked asked run → ((index : ℕ) → (new index).entries ≡ (old index).entries)
+      (steps : List MailStep) → did steps → DoesAsk count doer.party after.party asked steps run
+      → IsAsked later heard doer.party.me doer.party.asked after.party.asked asked run → ((index : ℕ) → (new index).entries ≡ (old index).entries)
       → ((index : ℕ) → (new index).serves ≡ (old index).serves) → (more : List LogRecord) → later ≡ log ++ more
       → (outcomes : List AskLog) → heard ≡ asks ++ outcomes → Does count did (Doing.Asks asked then_on) (then_on run)
-      (in_hand heap (moment_of party old log asks)) (in_hand heap (moment_of after new later heard))
+      (in_hand heap (moment_of doer old log asks)) (in_hand heap (moment_of after new later heard))
   unfolding Leads Goes AreAsked
   does_ask count did asked then_on run steps made acts is entries serves more log_is outcomes asks_are = record {
     trace = Asked asked run ∷ [];
     steps = steps;
     leads = (run, refl, refl);
     made = made;
-    acts = Acts.asks_pages party after asked run steps acts;
+    acts = Acts.asks_pages doer.party after.party asked run steps acts;
     entries = λ index.
-        hand_same party.me after.me heap old new same.me entries index ∙ sym (append-nil (with_hand party.me heap old index).entries);
+        hand_same doer.party.me after.party.me heap old new same.me entries index ∙ sym (append-nil (with_hand doer.party.me heap old index).entries);
     serves = λ index.
-        hand_serves after.me heap new index ∙ serves index ∙ sym (hand_serves party.me heap old index);
-    counted = context_still party.context after.context same.context;
-    same = record { me = same.me; socket = same.socket; plan = same.plan; deadline = same.deadline; context = refl };
-    asked = (after.asked, is, refl);
+        hand_serves after.party.me heap new index ∙ serves index ∙ sym (hand_serves doer.party.me heap old index);
+    counted = context_still doer.context after.context known;
+    same = same;
+    asked = (after.party.asked, is, refl);
     more = more;
     log = log_is;
     outcomes = outcomes;
     asks = asks_are;
   }
 
-module _ (party after : Party) (old new : ℕ → HeapPart) (log later : List LogRecord) (asks heard : List AskLog) (heap : HeapView)
-    (same : IsSameParty party after) (taken out : ℕ → Option Kept) (still : (number : ℕ) → out number ≡ taken number)
-    (hand : IsInHand taken (moment_of party old log asks) heap) where
+module _ (doer after : ParticipantView) (old new : ℕ → HeapPart) (log later : List LogRecord) (asks heard : List AskLog) (heap : HeapView)
+    (same : IsSameParty doer.party after.party) (known : after.context ≡ doer.context) (taken out : ℕ → Option Kept) (still : (number : ℕ) → out number ≡ taken number)
+    (hand : IsInHand taken (moment_of doer old log asks) heap) where
   -- the heap is in hand still, where all is held as before
   pub hand_asked : ((index : ℕ) → IsHeldAsBefore (old index) (new index)) → IsInHand out (moment_of after new later heard) heap
   hand_asked held = record {
@@ -133,7 +133,7 @@ module _ (party after : Party) (old new : ℕ → HeapPart) (log later : List Lo
     serves = hand.serves;
     own = hand.own;
     history = hand.history;
-    numbered = subst (λ (count : ℕ). IsNumbered after.me count hand.own) (sym (made_same old new (λ index. (held index).entries)))
+    numbered = subst (λ (count : ℕ). IsNumbered after.party.me count hand.own) (sym (made_same old new (λ index. (held index).entries)))
         (subst (λ (who : ℕ). IsNumbered who (entries_made old) hand.own) (sym same.me) hand.numbered);
     earlier = ap (λ (who : ℕ). entries_of who hand.was.history) same.me ∙ hand.earlier ∙ sym (held heap.plain.index).entries;
     held = subst (λ (holding : Option Holding). IsHeldWith heap holding) (sym (held heap.plain.index).holding) hand.held;
@@ -141,17 +141,17 @@ module _ (party after : Party) (old new : ℕ → HeapPart) (log later : List Lo
     its_socket = hand.its_socket ∙ sym (held heap.plain.index).serves;
     sockets = λ index.
         (held index).serves ∙ hand.sockets index
-        ∙ ap (λ (context : Context). slice_get (sockets_of context.pools) index) (sym same.context);
+        ∙ ap (λ (context : Context). slice_get (sockets_of context.pools) index) (sym known);
     others = λ other apart. (held other).holding ∙ hand.others other apart;
     counted = omega (
       arith,
-      ap (λ (context : Context). context.calls) same.context,
+      ap (λ (context : Context). context.calls) known,
       hand.counted,
       made_same old new (λ index. (held index).entries),
     );
   }
 
-module _ (after : Party) (old new : ℕ → HeapPart) (log later : List LogRecord) (asks heard : List AskLog) (heap : HeapView)
+module _ (after : ParticipantView) (old new : ℕ → HeapPart) (log later : List LogRecord) (asks heard : List AskLog) (heap : HeapView)
     (out : ℕ → Option Kept) (hand : IsInHand out (moment_of after old log asks) heap) (asked : ℕ) (run : Run)
     (its : asked ≡ heap.plain.index) (others : (index : ℕ) → index ≢ asked → IsHeldAsBefore (old index) (new index))
     (grows : GrowsHeld asked (Some run) (old asked) (new asked)) where
@@ -163,7 +163,7 @@ module _ (after : Party) (old new : ℕ → HeapPart) (log later : List LogRecor
   pub can_grow : IsSome heap.plain.serves → CanGrow run heap.plain
   can_grow some = grows.grows.0 heap.plain (sym its) had some (no_chunks heap.plain some hand.sound.tiled.kind)
 
-  module _ (next : HeapView) (answer : HeapAnswer) (counted : Party) (counted_is : counted ≡ after_call after)
+  module _ (next : HeapView) (answer : HeapAnswer) (counted : ParticipantView) (counted_is : counted ≡ after_call after)
       (is : IsCall (caller_of after) (call.Grow run) answer heap next) where
     abbrev entry : Entry
     entry = record { caller = caller_of after; call = call.Grow run; answer = answer }
@@ -191,7 +191,7 @@ module _ (after : Party) (old new : ℕ → HeapPart) (log later : List LogRecor
     -- once it has, the heap is in hand with it
     pub hand_grown : IsInHand out (moment_of counted new later heard) next
     hand_grown =
-        subst (λ (counted : Party). IsInHand out (moment_of counted new later heard) next) (sym counted_is) (record {
+        subst (λ (counted : ParticipantView). IsInHand out (moment_of counted new later heard) next) (sym counted_is) (record {
           was = hand.was;
           taken_is = ap out index_is ∙ hand.taken_is;
           few = subst (λ (index : ℕ). index < MAX_HEAPS) (sym index_is) hand.few;
@@ -199,7 +199,7 @@ module _ (after : Party) (old new : ℕ → HeapPart) (log later : List LogRecor
           serves = call_serves (caller_of after) (call.Grow run) answer heap next is ∙ hand.serves;
           own = hand.own ++ entry ∷ [];
           history = is.history ∙ sym (own_behind after old log asks (call.Grow run) answer heap next is out hand);
-          numbered = subst (λ (count : ℕ). IsNumbered after.me count (hand.own ++ entry ∷ [])) (sym (made_same old new entries))
+          numbered = subst (λ (count : ℕ). IsNumbered after.party.me count (hand.own ++ entry ∷ [])) (sym (made_same old new entries))
               (numbered_next after old log asks (call.Grow run) answer heap next is out hand);
           earlier = hand.earlier ∙ ap (λ (index : ℕ). (old index).entries) (sym index_is) ∙ sym (entries next.plain.index);
           held = subst (λ (holding : Option Holding). IsHeldWith next holding) (sym holds) pages;

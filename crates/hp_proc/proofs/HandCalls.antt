@@ -27,8 +27,7 @@ use Rattle.hp_proc.specs.Courses.{OwnCall}
 use Rattle.hp_proc.specs.Doing.{Doing, Goes, Leads}
 use Rattle.hp_proc.specs.Doing.Done.{Called}
 use Rattle.hp_proc.specs.Histories.{entries_for, entry_for, run_cut}
-use Rattle.hp_serve.specs.Party.{Party}
-use Rattle.hp_proc.specs.ParticipantView.{after_call}
+use Rattle.hp_proc.specs.ParticipantView.{ParticipantView, after_call}
 use Rattle.hp_proc.specs.Progress.{Does, DoesIn, IsInHand, Moment, caller_of, in_hand, moment_of, with_hand}
 
 -- a call leaves index and socket of a heap
@@ -89,54 +88,54 @@ module _ (who number heap : ℕ) (own : OwnCall) where
       cond-false (eqb own.heap heap) (entry_for who number own ∷ []) []
       (⊎_elim (λ yes. absurd (apart (sym yes.1))) (λ other. other.0) (eqb_tells own.heap heap))
 
-module _ (party : Party) (parts : ℕ → HeapPart) (log : List LogRecord) (asks : List AskLog) (call : HeapCall) (answer : HeapAnswer)
-    (old new : HeapView) (is : IsCall (caller_of party) call answer old new) where
+module _ (doer : ParticipantView) (parts : ℕ → HeapPart) (log : List LogRecord) (asks : List AskLog) (call : HeapCall) (answer : HeapAnswer)
+    (old new : HeapView) (is : IsCall (caller_of doer) call answer old new) where
   abbrev entry : Entry
-  entry = record { caller = caller_of party; call = call; answer = answer }
+  entry = record { caller = caller_of doer; call = call; answer = answer }
 
   abbrev own : OwnCall
   own = record { heap = old.plain.index; call = call; answer = answer }
 
   index_is : new.plain.index ≡ old.plain.index
-  index_is = call_index (caller_of party) call answer old new is
+  index_is = call_index (caller_of doer) call answer old new is
 
-  entries_by : (heap : ℕ) → (with_hand party.me new parts heap).entries
-      ≡ (with_hand party.me old parts heap).entries ++ entries_for party.me heap (party.context.calls + 1) (own ∷ [])
+  entries_by : (heap : ℕ) → (with_hand doer.party.me new parts heap).entries
+      ≡ (with_hand doer.party.me old parts heap).entries ++ entries_for doer.party.me heap (doer.context.calls + 1) (own ∷ [])
   entries_by heap = ⊎_elim
       (λ here.
-      hand_here party.me new parts heap (here.1 ∙ sym index_is)
-      ∙ ap (entries_of party.me) is.history
-      ∙ entries_of_on party.me old.history (entry ∷ [])
-      ∙ ap (λ (more : List Entry). entries_of party.me old.history ++ more) (entry_own party.me entry refl)
-      ∙ ap (λ (before : List Entry). before ++ entry ∷ []) (sym (hand_here party.me old parts heap here.1))
-      ∙ ap (λ (more : List Entry). (with_hand party.me old parts heap).entries ++ more)
-      (sym (one_here party.me (party.context.calls + 1) heap own here.1)))
+      hand_here doer.party.me new parts heap (here.1 ∙ sym index_is)
+      ∙ ap (entries_of doer.party.me) is.history
+      ∙ entries_of_on doer.party.me old.history (entry ∷ [])
+      ∙ ap (λ (more : List Entry). entries_of doer.party.me old.history ++ more) (entry_own doer.party.me entry refl)
+      ∙ ap (λ (before : List Entry). before ++ entry ∷ []) (sym (hand_here doer.party.me old parts heap here.1))
+      ∙ ap (λ (more : List Entry). (with_hand doer.party.me old parts heap).entries ++ more)
+      (sym (one_here doer.party.me (doer.context.calls + 1) heap own here.1)))
       (λ there.
       ap (λ (part : HeapPart). part.entries)
-      (hand_apart party.me new parts heap (ap (eqb heap) index_is ∙ there.0) ∙ sym (hand_apart party.me old parts heap there.0))
-      ∙ sym (append-nil (with_hand party.me old parts heap).entries)
-      ∙ ap (λ (more : List Entry). (with_hand party.me old parts heap).entries ++ more)
-      (sym (one_apart party.me (party.context.calls + 1) heap own there.1)))
+      (hand_apart doer.party.me new parts heap (ap (eqb heap) index_is ∙ there.0) ∙ sym (hand_apart doer.party.me old parts heap there.0))
+      ∙ sym (append-nil (with_hand doer.party.me old parts heap).entries)
+      ∙ ap (λ (more : List Entry). (with_hand doer.party.me old parts heap).entries ++ more)
+      (sym (one_apart doer.party.me (doer.context.calls + 1) heap own there.1)))
       (eqb_tells heap old.plain.index)
 
   -- the next thing that its line does is that call, with the steps that it makes along with it
-  pub does_acted : (count : ℕ) (did : List MailStep → Type 0) (then_on : HeapAnswer → Doing) (after : Party) (steps : List MailStep)
-      → after ≡ after_call party → did steps → Acts count party (after_call party) (Called old.plain.index call answer ∷ []) steps
-      → Does count did (Doing.Calls old.plain.index call then_on) (then_on answer) (in_hand old (moment_of party parts log asks))
+  pub does_acted : (count : ℕ) (did : List MailStep → Type 0) (then_on : HeapAnswer → Doing) (after : ParticipantView) (steps : List MailStep)
+      → after ≡ after_call doer → did steps → Acts count doer.party doer.party (Called old.plain.index call answer ∷ []) steps
+      → Does count did (Doing.Calls old.plain.index call then_on) (then_on answer) (in_hand old (moment_of doer parts log asks))
       (in_hand new (moment_of after parts log asks))
   unfolding Leads Goes AreAsked
   does_acted count did then_on after steps counted made acts =
-      subst (λ (after : Party). Does count did (Doing.Calls old.plain.index call then_on) (then_on answer)
-      (in_hand old (moment_of party parts log asks)) (in_hand new (moment_of after parts log asks))) (sym counted) (record {
+      subst (λ (after : ParticipantView). Does count did (Doing.Calls old.plain.index call then_on) (then_on answer)
+      (in_hand old (moment_of doer parts log asks)) (in_hand new (moment_of after parts log asks))) (sym counted) (record {
         trace = Called old.plain.index call answer ∷ [];
         steps = steps;
         leads = (answer, refl, refl);
         made = made;
         acts = acts;
         entries = entries_by;
-        serves = λ heap. hand_serves party.me new parts heap ∙ sym (hand_serves party.me old parts heap);
+        serves = λ heap. hand_serves doer.party.me new parts heap ∙ sym (hand_serves doer.party.me old parts heap);
         counted = refl;
-        same = record { me = refl; socket = refl; plan = refl; deadline = refl; context = refl };
+        same = record { me = refl; socket = refl; plan = refl; deadline = refl };
         asked = refl;
         more = [];
         log = sym (append-nil log);
@@ -145,50 +144,50 @@ module _ (party : Party) (parts : ℕ → HeapPart) (log : List LogRecord) (asks
       })
 
   -- so it is with a call that cuts no run, which makes none
-  pub does_call : (count : ℕ) (did : List MailStep → Type 0) (then_on : HeapAnswer → Doing) (after : Party) → after ≡ after_call party
+  pub does_call : (count : ℕ) (did : List MailStep → Type 0) (then_on : HeapAnswer → Doing) (after : ParticipantView) → after ≡ after_call doer
       → did [] → run_cut answer ≡ []
-      → Does count did (Doing.Calls old.plain.index call then_on) (then_on answer) (in_hand old (moment_of party parts log asks))
+      → Does count did (Doing.Calls old.plain.index call then_on) (then_on answer) (in_hand old (moment_of doer parts log asks))
       (in_hand new (moment_of after parts log asks))
   does_call count did then_on after counted none whole =
-      does_acted count did then_on after [] counted none (Acts.makes_call party old.plain.index call answer whole)
+      does_acted count did then_on after [] counted none (Acts.makes_call doer.party old.plain.index call answer whole)
 
   -- and that is its last call so far
-  pub call_in : (count : ℕ) (did : List MailStep → Type 0) (then_on : HeapAnswer → Doing) (after : Party) → after ≡ after_call party
+  pub call_in : (count : ℕ) (did : List MailStep → Type 0) (then_on : HeapAnswer → Doing) (after : ParticipantView) → after ≡ after_call doer
       → did [] → run_cut answer ≡ []
-      → DoesIn old.plain.index count did (Doing.Calls old.plain.index call then_on) (then_on answer) (in_hand old (moment_of party parts log asks))
+      → DoesIn old.plain.index count did (Doing.Calls old.plain.index call then_on) (then_on answer) (in_hand old (moment_of doer parts log asks))
       (in_hand new (moment_of after parts log asks))
   unfolding does_acted does_call Leads Goes AreAsked
   call_in count did then_on after counted none whole =
-      subst (λ (after : Party). DoesIn old.plain.index count did (Doing.Calls old.plain.index call then_on) (then_on answer)
-      (in_hand old (moment_of party parts log asks)) (in_hand new (moment_of after parts log asks))) (sym counted)
-      (record { does = does_call count did then_on (after_call party) refl none whole; last = refl })
+      subst (λ (after : ParticipantView). DoesIn old.plain.index count did (Doing.Calls old.plain.index call then_on) (then_on answer)
+      (in_hand old (moment_of doer parts log asks)) (in_hand new (moment_of after parts log asks))) (sym counted)
+      (record { does = does_call count did then_on (after_call doer) refl none whole; last = refl })
 
-  module _ (taken : ℕ → Option Kept) (hand : IsInHand taken (moment_of party parts log asks) old) where
+  module _ (taken : ℕ → Option Kept) (hand : IsInHand taken (moment_of doer parts log asks) old) where
     pub own_behind : hand.was.history ++ (hand.own ++ entry ∷ []) ≡ old.history ++ entry ∷ []
     own_behind = sym (append_assoc hand.was.history hand.own (entry ∷ [])) ∙ ap (λ (history : List Entry). history ++ entry ∷ []) (sym hand.history)
 
-    pub numbered_next : IsNumbered party.me (entries_made parts) (hand.own ++ entry ∷ [])
+    pub numbered_next : IsNumbered doer.party.me (entries_made parts) (hand.own ++ entry ∷ [])
     numbered_next =
-        numbered_on party.me (entries_made parts) hand.own (entry ∷ []) hand.numbered
-        (ap (λ (number : ℕ). record { participant = party.me; number = number + 1 }) hand.counted, tt)
+        numbered_on doer.party.me (entries_made parts) hand.own (entry ∷ []) hand.numbered
+        (ap (λ (number : ℕ). record { participant = doer.party.me; number = number + 1 }) hand.counted, tt)
 
     -- the heap is in hand still, where it has the pages of its own segments
-    pub hand_called : (after : Party) → after ≡ after_call party → IsHeldWith new (parts old.plain.index).holding
+    pub hand_called : (after : ParticipantView) → after ≡ after_call doer → IsHeldWith new (parts old.plain.index).holding
         → IsInHand taken (moment_of after parts log asks) new
     hand_called after counted held =
-        subst (λ (after : Party). IsInHand taken (moment_of after parts log asks) new) (sym counted) (record {
+        subst (λ (after : ParticipantView). IsInHand taken (moment_of after parts log asks) new) (sym counted) (record {
           was = hand.was;
           taken_is = ap taken index_is ∙ hand.taken_is;
           few = subst (λ (index : ℕ). index < MAX_HEAPS) (sym index_is) hand.few;
           index = index_is ∙ hand.index;
-          serves = call_serves (caller_of party) call answer old new is ∙ hand.serves;
+          serves = call_serves (caller_of doer) call answer old new is ∙ hand.serves;
           own = hand.own ++ entry ∷ [];
           history = is.history ∙ sym own_behind;
           numbered = numbered_next;
           earlier = hand.earlier ∙ ap (λ (index : ℕ). (parts index).entries) (sym index_is);
           held = subst (λ (index : ℕ). IsHeldWith new (parts index).holding) (sym index_is) held;
-          sound = calls_keep_sound (caller_of party) call answer old new hand.sound is;
-          its_socket = call_serves (caller_of party) call answer old new is ∙ hand.its_socket
+          sound = calls_keep_sound (caller_of doer) call answer old new hand.sound is;
+          its_socket = call_serves (caller_of doer) call answer old new is ∙ hand.its_socket
               ∙ ap (λ (index : ℕ). (parts index).serves) (sym index_is);
           sockets = hand.sockets;
           others = λ other apart. hand.others other (λ same. apart (same ∙ sym index_is));
@@ -200,7 +199,7 @@ module _ (party : Party) (parts : ℕ → HeapPart) (log : List LogRecord) (asks
     held_still (Some holding) same held = subst (λ (pages : List HeapPage). HasPages pages holding.owned) (sym same) held
 
     -- so it is where its pages stay
-    pub hand_stays : (after : Party) → after ≡ after_call party → new.plain.pages ≡ old.plain.pages
+    pub hand_stays : (after : ParticipantView) → after ≡ after_call doer → new.plain.pages ≡ old.plain.pages
         → IsInHand taken (moment_of after parts log asks) new
     hand_stays after counted same = hand_called after counted (held_still (parts old.plain.index).holding same hand.held)
 

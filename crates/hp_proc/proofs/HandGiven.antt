@@ -26,6 +26,7 @@ use Rattle.hp_serve.specs.Waiting.{IsTurned}
 use Rattle.hp_log.specs.declared.log_record.LogRecord.{LogRecord}
 use Rattle.hp_segs.specs.declared.outcome.AskLog.{AskLog}
 use Rattle.hp_serve.specs.Party.{IsSameParty, Party}
+use Rattle.hp_proc.specs.ParticipantView.{ParticipantView}
 use Rattle.hp_proc.specs.Progress.{AreSettled, IsInHand, MayDo, moment_of, with_hand}
 use Rattle.hp_serve.proofs.AskedAlong.{settled_more}
 use Rattle.hp_proc.proofs.HandCalls.{entries_of_on, hand_apart, hand_here}
@@ -123,13 +124,13 @@ module _ (who : ℕ) (heap : HeapView) (old new : ℕ → HeapPart) (here : new 
       (λ index other. ap (λ (part : HeapPart). length part.entries) (apart index other)) count (omega arith) (omega (arith, few))
 
   -- so it is ready for its next heap
-  pub ready_given : (taken : ℕ → Option Kept) (party : Party) (log later : List LogRecord) (asks now more : List AskLog) → who ≡ party.me
-      → IsInHand taken (moment_of party old log asks) heap → now ≡ asks ++ more → AreSettled (moment_of party old log asks)
-      → MayDo (moment_of party new later now)
-  ready_given taken party log later asks now more same hand grown settled = record {
+  pub ready_given : (taken : ℕ → Option Kept) (doer : ParticipantView) (log later : List LogRecord) (asks now more : List AskLog) → who ≡ doer.party.me
+      → IsInHand taken (moment_of doer old log asks) heap → now ≡ asks ++ more → AreSettled (moment_of doer old log asks)
+      → MayDo (moment_of doer new later now)
+  ready_given taken doer log later asks now more same hand grown settled = record {
     sockets = λ index. given_serves index ∙ hand.sockets index;
     unheld = given_unheld hand.others;
-    settled = settled_more party.me old new asks now more grown given_armed settled;
+    settled = settled_more doer.party.me old new asks now more grown given_armed settled;
     counted = hand.counted
         ∙ sym (given_made hand.was.history hand.own hand.few hand.history
         (own_all who (entries_made old) hand.own (subst (λ (who : ℕ). IsNumbered who (entries_made old) hand.own) (sym same) hand.numbered))
@@ -166,11 +167,11 @@ module _ (heap : HeapView) (old new : ℕ → HeapPart) (here : IsPartTaken (old
       (eqb_tells index heap.plain.index)
 
   -- and is in its taker's hand, where that was ready
-  pub taken_in_hand : (taken : ℕ → Option Kept) (before party : Party) (log later : List LogRecord) (asks now : List AskLog)
-      → IsSameParty before party → MayDo (moment_of before old log asks) → taken heap.plain.index ≡ Some (Heap heap)
-      → heap.plain.index < MAX_HEAPS → entries_of before.me heap.history ≡ (old heap.plain.index).entries
-      → IsAsPart (new heap.plain.index) heap → heaps.IsSound heap → IsInHand taken (moment_of party new later now) heap
-  taken_in_hand taken before party log later asks now same ready out few has stands sound = record {
+  pub taken_in_hand : (taken : ℕ → Option Kept) (before doer : ParticipantView) (log later : List LogRecord) (asks now : List AskLog)
+      → IsSameParty before.party doer.party → doer.context ≡ before.context → MayDo (moment_of before old log asks) → taken heap.plain.index ≡ Some (Heap heap)
+      → heap.plain.index < MAX_HEAPS → entries_of before.party.me heap.history ≡ (old heap.plain.index).entries
+      → IsAsPart (new heap.plain.index) heap → heaps.IsSound heap → IsInHand taken (moment_of doer new later now) heap
+  taken_in_hand taken before doer log later asks now same known ready out few has stands sound = record {
     was = heap;
     taken_is = out;
     few = few;
@@ -183,11 +184,11 @@ module _ (heap : HeapView) (old new : ℕ → HeapPart) (here : IsPartTaken (old
     held = stands.held;
     sound = sound;
     its_socket = stands.serves;
-    sockets = λ index. took_serves index ∙ ready.sockets index ∙ ap (λ (context : Context). slice_get (sockets_of context.pools) index) (sym same.context);
+    sockets = λ index. took_serves index ∙ ready.sockets index ∙ ap (λ (context : Context). slice_get (sockets_of context.pools) index) (sym known);
     others = λ other away. ap (λ (part : HeapPart). part.holding) (apart other away) ∙ ready.unheld other;
     counted = omega (
       arith,
-      ap (λ (context : Context). context.calls) same.context,
+      ap (λ (context : Context). context.calls) known,
       ready.counted,
       sums_same (λ index. length (old index).entries) (λ index. length (new index).entries) (range_with_len 0 SLOTS)
           (λ index. ap (λ (entries : List Entry). length entries) (took_entries index)),
@@ -224,18 +225,18 @@ take_shows who inside number kept heap old new mine is fits sound has stands tak
     }
 
 -- a participant is ready still, where its parts are as they were and outcomes follow
-pub ready_still : (before party : Party) (old new : ℕ → HeapPart) (log later : List LogRecord) (asks now more : List AskLog)
-    → IsSameParty before party → ((heap : ℕ) → new heap ≡ old heap) → now ≡ asks ++ more → MayDo (moment_of before old log asks)
-    → MayDo (moment_of party new later now)
-ready_still before party old new log later asks now more same parts grown ready = record {
+pub ready_still : (before doer : ParticipantView) (old new : ℕ → HeapPart) (log later : List LogRecord) (asks now more : List AskLog)
+    → IsSameParty before.party doer.party → doer.context ≡ before.context → ((heap : ℕ) → new heap ≡ old heap) → now ≡ asks ++ more → MayDo (moment_of before old log asks)
+    → MayDo (moment_of doer new later now)
+ready_still before doer old new log later asks now more same known parts grown ready = record {
   sockets = λ heap. ap (λ (part : HeapPart). part.serves) (parts heap) ∙ ready.sockets heap
-      ∙ ap (λ (context : Context). slice_get (sockets_of context.pools) heap) (sym same.context);
+      ∙ ap (λ (context : Context). slice_get (sockets_of context.pools) heap) (sym known);
   unheld = λ heap. ap (λ (part : HeapPart). part.holding) (parts heap) ∙ ready.unheld heap;
   settled = subst (λ (who : ℕ). HasSettledAsks who new now) (sym same.me)
-      (settled_more before.me old new asks now more grown (λ heap. ap (λ (part : HeapPart). part.armed) (parts heap)) ready.settled);
+      (settled_more before.party.me old new asks now more grown (λ heap. ap (λ (part : HeapPart). part.armed) (parts heap)) ready.settled);
   counted = omega (
     arith,
-    ap (λ (context : Context). context.calls) same.context,
+    ap (λ (context : Context). context.calls) known,
     ready.counted,
     sums_same (λ index. length (old index).entries) (λ index. length (new index).entries) (range_with_len 0 SLOTS)
         (λ index. ap (λ (part : HeapPart). length part.entries) (parts index)),
@@ -259,7 +260,3 @@ pub still_home : (old new : ℕ → Type 0) (index : ℕ) → ((number : ℕ) �
     → ((number : ℕ) → number ≢ index → old number → new number) → new index → (number : ℕ) → number ≤ MAX_HEAPS → new number
 still_home old new index home others still number few = ⊎_elim
     (λ its. subst new (sym its.1) still) (λ other. others number other.1 (home number few)) (eqb_tells number index)
-
-pub on_err_any : {T E : Type 0} (result : Result T E) (P : Type 0) → P → OnErr result P
-on_err_any (Ok value) P holds = tt
-on_err_any (Err refusal) P holds = holds

@@ -16,10 +16,10 @@ use Rattle.hp_hall.specs.declared.kept.Kept.{Kept}
 use Rattle.hp_hall.specs.declared.slot.TheConstants.{SLOTS}
 use Rattle.hp_log.specs.declared.log_record.LogRecord.{LogRecord}
 use Rattle.hp_segs.specs.declared.outcome.AskLog.{AskLog}
-use Rattle.hp_proc.specs.Contexts.{Context}
+use Rattle.hp_proc.specs.Contexts.{Context, after_calls}
 use Rattle.hp_proc.specs.Heaps.{sockets_of}
-use Rattle.hp_serve.specs.Party.{IsSameParty, Party}
-use Rattle.hp_proc.specs.ParticipantView.{after_call}
+use Rattle.hp_serve.specs.Party.{IsSameParty}
+use Rattle.hp_proc.specs.ParticipantView.{ParticipantView}
 use Rattle.hp_proc.specs.Progress.{IsInHand, caller_of, moment_of, with_hand}
 use Rattle.hp_proc.proofs.HandCalls.{call_index, call_serves, hand_apart, hand_here, hand_serves, numbered_on}
 use Rattle.hp_proc.proofs.HandGiven.{sums_same}
@@ -39,48 +39,48 @@ module _ (who : ℕ) (heap : HeapView) (old new : ℕ → HeapPart) (same : (ind
     serves = hand_serves who heap new index ∙ (same index).serves ∙ sym (hand_serves who heap old index);
   }
 
-module _ (party : Party) (parts : ℕ → HeapPart) (log : List LogRecord) (asks : List AskLog) (call : HeapCall) (answer : HeapAnswer)
-    (old new : HeapView) (is : IsCall (caller_of party) call answer old new) (taken : ℕ → Option Kept)
-    (hand : IsInHand taken (moment_of party parts log asks) old) where
+module _ (doer : ParticipantView) (parts : ℕ → HeapPart) (log : List LogRecord) (asks : List AskLog) (call : HeapCall) (answer : HeapAnswer)
+    (old new : HeapView) (is : IsCall (caller_of doer) call answer old new) (taken : ℕ → Option Kept)
+    (hand : IsInHand taken (moment_of doer parts log asks) old) where
   abbrev entry : Entry
-  entry = record { caller = caller_of party; call = call; answer = answer }
+  entry = record { caller = caller_of doer; call = call; answer = answer }
 
   index_is : new.plain.index ≡ old.plain.index
-  index_is = call_index (caller_of party) call answer old new is
+  index_is = call_index (caller_of doer) call answer old new is
 
   -- it is in hand with the call, by what its holder has of it then
-  pub hand_moved : (now : ℕ → Option Kept) (after : Party) (later : ℕ → HeapPart) (behind : List LogRecord) (heard : List AskLog)
-      → ((number : ℕ) → now number ≡ taken number) → IsSameParty (after_call party) after
+  pub hand_moved : (now : ℕ → Option Kept) (after : ParticipantView) (later : ℕ → HeapPart) (behind : List LogRecord) (heard : List AskLog)
+      → ((number : ℕ) → now number ≡ taken number) → IsSameParty doer.party after.party → after.context ≡ after_calls 1 doer.context
       → ((heap : ℕ) → IsSamePart (parts heap) (later heap))
       → ((other : ℕ) → other ≢ old.plain.index → (later other).holding ≡ (parts other).holding)
       → IsHeldWith new (later old.plain.index).holding → IsInHand now (moment_of after later behind heard) new
-  hand_moved now after later behind heard still same parts_are apart held =
+  hand_moved now after later behind heard still same known parts_are apart held =
       let made : entries_made later ≡ entries_made parts =
       sums_same (λ heap. length (parts heap).entries) (λ heap. length (later heap).entries) (range_with_len 0 SLOTS)
       (λ heap. ap (λ (entries : List Entry). length entries) (parts_are heap).entries) in
-      let calls : after.context.calls ≡ party.context.calls + 1 = ap (λ (context : Context). context.calls) same.context in
-      let numbered : IsNumbered party.me (entries_made parts) (hand.own ++ entry ∷ []) =
-      numbered_on party.me (entries_made parts) hand.own (entry ∷ []) hand.numbered
-      (ap (λ (number : ℕ). record { participant = party.me; number = number + 1 }) hand.counted, tt) in
+      let calls : after.context.calls ≡ doer.context.calls + 1 = ap (λ (context : Context). context.calls) known in
+      let numbered : IsNumbered doer.party.me (entries_made parts) (hand.own ++ entry ∷ []) =
+      numbered_on doer.party.me (entries_made parts) hand.own (entry ∷ []) hand.numbered
+      (ap (λ (number : ℕ). record { participant = doer.party.me; number = number + 1 }) hand.counted, tt) in
       record {
         was = hand.was;
         taken_is = still new.plain.index ∙ ap taken index_is ∙ hand.taken_is;
         few = subst (λ (index : ℕ). index < MAX_HEAPS) (sym index_is) hand.few;
         index = index_is ∙ hand.index;
-        serves = call_serves (caller_of party) call answer old new is ∙ hand.serves;
+        serves = call_serves (caller_of doer) call answer old new is ∙ hand.serves;
         own = hand.own ++ entry ∷ [];
         history = is.history ∙ ap (λ (history : List Entry). history ++ entry ∷ []) hand.history
             ∙ append_assoc hand.was.history hand.own (entry ∷ []);
         numbered = subst (λ (who : ℕ). IsNumbered who (entries_made later) (hand.own ++ entry ∷ [])) (sym same.me)
-            (subst (λ (made : ℕ). IsNumbered party.me made (hand.own ++ entry ∷ [])) (sym made) numbered);
+            (subst (λ (made : ℕ). IsNumbered doer.party.me made (hand.own ++ entry ∷ [])) (sym made) numbered);
         earlier = subst (λ (who : ℕ). entries_of who hand.was.history ≡ (later new.plain.index).entries) (sym same.me)
             (hand.earlier ∙ ap (λ (index : ℕ). (parts index).entries) (sym index_is) ∙ sym (parts_are new.plain.index).entries);
         held = subst (λ (index : ℕ). IsHeldWith new (later index).holding) (sym index_is) held;
-        sound = calls_keep_sound (caller_of party) call answer old new hand.sound is;
-        its_socket = call_serves (caller_of party) call answer old new is ∙ hand.its_socket
+        sound = calls_keep_sound (caller_of doer) call answer old new hand.sound is;
+        its_socket = call_serves (caller_of doer) call answer old new is ∙ hand.its_socket
             ∙ ap (λ (index : ℕ). (parts index).serves) (sym index_is) ∙ sym (parts_are new.plain.index).serves;
         sockets = λ heap. (parts_are heap).serves ∙ hand.sockets heap
-            ∙ ap (λ (context : Context). slice_get (sockets_of context.pools) heap) (sym same.context);
+            ∙ ap (λ (context : Context). slice_get (sockets_of context.pools) heap) (sym known);
         others = λ other away.
             let far : other ≢ old.plain.index = λ same. away (same ∙ sym index_is) in
             apart other far ∙ hand.others other far;

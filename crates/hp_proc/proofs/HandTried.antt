@@ -14,8 +14,7 @@ use Rattle.hp_proc.specs.Contexts.{Context}
 use Rattle.hp_proc.specs.Courses.{OwnCall, calls_in, last_heap}
 use Rattle.hp_proc.specs.Doing.{Doing, Done}
 use Rattle.hp_proc.specs.Histories.{run_cut}
-use Rattle.hp_serve.specs.Party.{Party}
-use Rattle.hp_proc.specs.ParticipantView.{after_call}
+use Rattle.hp_proc.specs.ParticipantView.{ParticipantView, after_call}
 use Rattle.hp_proc.specs.Progress.{Brings, Does, DoesIn, Moment, Tries, caller_of, in_hand, moment_of}
 use Rattle.hp_proc.proofs.HandCalls.{call_in}
 use Rattle.hp_proc.proofs.Joining.{calls_on, does_then, then_trace}
@@ -36,7 +35,7 @@ no_length (x ∷ xs) same = absurd (omega (arith, same))
 
 -- where the count of calls stays, none was made
 pub no_calls : (count : ℕ) (did : List MailStep → Type 0) (doing rest : Doing) (old new : Moment) → (does : Does count did doing rest old new)
-    → new.party.context.calls ≡ old.party.context.calls → calls_in does.trace ≡ []
+    → new.context.calls ≡ old.context.calls → calls_in does.trace ≡ []
 no_calls count did doing rest old new does same =
     no_length (calls_in does.trace) (omega (arith, ap (λ (context : Context). context.calls) does.counted, same))
 
@@ -76,7 +75,7 @@ module _ (count : ℕ) (here_did there_did did : List MailStep → Type 0) (doin
 module _ (count : ℕ) (here_did there_did did : List MailStep → Type 0) (doing left rest : Doing) (old mid new : Moment)
     (join : (first second : List MailStep) → here_did first → there_did second → did (first ++ second))
     (here : Does count here_did doing left old mid) (there : Does count there_did left rest mid new)
-    (same : new.party.context.calls ≡ mid.party.context.calls) where
+    (same : new.context.calls ≡ mid.context.calls) where
   pub calls_stay : calls_in (does_then count here_did there_did did doing left rest old mid new join here there).trace ≡ calls_in here.trace
   calls_stay =
       ap (λ (trace : List Done). calls_in trace) (then_trace count here_did there_did did doing left rest old mid new join here there)
@@ -89,7 +88,7 @@ module _ (count : ℕ) (here_did there_did did : List MailStep → Type 0) (doin
     (old mid new : Moment) (join : (first second : List MailStep) → here_did first → there_did second → did (first ++ second))
     (here : Tries heap count here_did doing otherwise given old mid)
     (there : Does count there_did (unless_answered otherwise given) (unless_answered otherwise given) mid new)
-    (same : new.party.context.calls ≡ mid.party.context.calls) where
+    (same : new.context.calls ≡ mid.context.calls) where
   abbrev left : Doing
   left = unless_answered otherwise given
 
@@ -117,17 +116,17 @@ pub none_done : (did : List MailStep → Type 0) (first second : List MailStep) 
 none_done did first second made none =
     subst did (sym (ap (λ (more : List MailStep). first ++ more) none ∙ append-nil first)) made
 
-module _ (party after : Party) (parts : ℕ → HeapPart) (log : List LogRecord) (asks : List AskLog) (call : HeapCall) (answer : HeapAnswer)
-    (heap next : HeapView) (is : IsCall (caller_of party) call answer heap next) (counted : after ≡ after_call party) (index : ℕ)
+module _ (doer after : ParticipantView) (parts : ℕ → HeapPart) (log : List LogRecord) (asks : List AskLog) (call : HeapCall) (answer : HeapAnswer)
+    (heap next : HeapView) (is : IsCall (caller_of doer) call answer heap next) (counted : after ≡ after_call doer) (index : ℕ)
     (its : index ≡ heap.plain.index) (count : ℕ) (did : List MailStep → Type 0) (doing : Doing) (then_on : HeapAnswer → Doing) (old : Moment) where
   -- a call of the heap in hand behind what was done before
   pub called_then : run_cut answer ≡ []
-      → Does count did doing (Doing.Calls index call then_on) old (in_hand heap (moment_of party parts log asks))
+      → Does count did doing (Doing.Calls index call then_on) old (in_hand heap (moment_of doer parts log asks))
       → DoesIn index count did doing (then_on answer) old (in_hand next (moment_of after parts log asks))
   called_then whole here =
       subst (λ (index : ℕ). DoesIn index count did doing (then_on answer) old (in_hand next (moment_of after parts log asks))) (sym its)
       (in_then count did (λ steps. steps ≡ []) did doing (Doing.Calls heap.plain.index call then_on) old
-      (in_hand heap (moment_of party parts log asks)) (in_hand next (moment_of after parts log asks)) (none_done did) (then_on answer)
+      (in_hand heap (moment_of doer parts log asks)) (in_hand next (moment_of after parts log asks)) (none_done did) (then_on answer)
       heap.plain.index
-      (subst (λ (index : ℕ). Does count did doing (Doing.Calls index call then_on) old (in_hand heap (moment_of party parts log asks))) its here)
-      (call_in party parts log asks call answer heap next is count (λ steps. steps ≡ []) then_on after counted refl whole))
+      (subst (λ (index : ℕ). Does count did doing (Doing.Calls index call then_on) old (in_hand heap (moment_of doer parts log asks))) its here)
+      (call_in doer parts log asks call answer heap next is count (λ steps. steps ≡ []) then_on after counted refl whole))

@@ -9,114 +9,104 @@ use Rattle.hp_serve.specs.Asking.{HasSettledAsks}
 use Rattle.hp_proc.specs.Contexts.{Context}
 use Rattle.hp_proc.specs.Courses.{Standing}
 use Rattle.hp_proc.specs.Doing.{Doing}
-use Rattle.hp_proc.specs.LineInHall.{AreFreeBut, ChangesRoster, HasRoom, HoldsIn, IsFreeAt, IsIdleAgain, IsIdleIn, KeepsHeld, did_in, moment}
+use Rattle.hp_proc.specs.LineInHall.{
+  AreFreeBut,
+  ChangesRoster,
+  HasCalled,
+  HasRoom,
+  HoldsIn,
+  IsFreeAt,
+  IsIdleAgain,
+  IsIdleIn,
+  KeepsHeld,
+  did_in,
+  moment,
+}
 use Rattle.hp_serve.specs.InHall.{CanServe, IsTiedIn, RemainsIn, StaysIn}
 use Rattle.hp_serve.specs.Party.{IsSameParty, Party}
-use Rattle.hp_proc.specs.ParticipantView.{after_call, with_calls, with_context, with_standing}
+use Rattle.hp_proc.specs.ParticipantView.{ParticipantView, after_call, with_calls, with_standing}
 use Rattle.hp_proc.specs.Progress.{AreSettled, Does, IsInHand, Moment, caller_of}
 use Rattle.hp_proc.proofs.HandCalls.{call_index, call_serves, hand_stays}
 use Rattle.hp_proc.proofs.LinesInHall.{idle_again, idle_in, idle_still}
-use Rattle.hp_serve.proofs.InHalls.{in_same, remains_by}
+use Rattle.hp_serve.proofs.Carrying.{same_party, same_then}
+use Rattle.hp_serve.proofs.InHalls.{in_same, remains_by, remains_then}
 use Rattle.hp_proc.proofs.Joining.{does_then}
 
--- who is the same is so but for the number of its calls
-pub same_to_calls : (first last : Party) → IsSameParty first last → IsSameParty (with_calls last.context.calls first) last
-same_to_calls first last same = record {
-  me = same.me;
-  socket = same.socket;
-  plan = same.plan;
-  deadline = same.deadline;
-  context = ap (λ (context : Context). record context { calls = last.context.calls }) same.context;
-}
+-- what is known after calls is so but for their number
+pub knew_then : (first mid last : Context) → mid ≡ with_calls mid.calls first → last ≡ with_calls last.calls mid
+    → last ≡ with_calls last.calls first
+knew_then first mid last here next = next ∙ ap (with_calls last.calls) here
 
--- and so is who made calls after it
-pub calls_after : (first mid last : Party) → IsSameParty first mid → IsSameParty (with_calls last.context.calls mid) last
-    → IsSameParty (with_calls last.context.calls first) last
-calls_after first mid last here next = record {
-  me = next.me ∙ here.me;
-  socket = next.socket ∙ here.socket;
-  plan = next.plan ∙ here.plan;
-  deadline = next.deadline ∙ here.deadline;
-  context = next.context ∙ ap (λ (context : Context). record context { calls = last.context.calls }) here.context;
-}
+-- and so it is where it was the same before
+pub knew_same : (first mid : Context) → mid ≡ first → mid ≡ with_calls mid.calls first
+knew_same first mid same = ap (with_calls mid.calls) same
 
-pub calls_then : (first mid last : Party) → IsSameParty (with_calls mid.context.calls first) mid
-    → IsSameParty (with_calls last.context.calls mid) last → IsSameParty (with_calls last.context.calls first) last
-calls_then first mid last here next = record {
-  me = next.me ∙ here.me;
-  socket = next.socket ∙ here.socket;
-  plan = next.plan ∙ here.plan;
-  deadline = next.deadline ∙ here.deadline;
-  context = next.context ∙ ap (λ (context : Context). record context { calls = last.context.calls }) here.context;
-}
+pub knew_after : (first mid last : Context) → mid ≡ first → last ≡ with_calls last.calls mid → last ≡ with_calls last.calls first
+knew_after first mid last here next = next ∙ ap (with_calls last.calls) here
 
 -- a participant goes on for nothing
-pub remains_same : (me : ℕ) (party : Party) (a : HallState) → IsTiedIn me party a → RemainsIn me (with_calls party.context.calls party) party a a
+pub remains_same : (me : ℕ) (party : Party) (a : HallState) → IsTiedIn me party a → RemainsIn me party party a a
 remains_same me party a tied = record {
-  same = record { me = refl; socket = refl; plan = refl; deadline = refl; context = refl };
+  same = same_party party;
   tied = tied;
   slots = slots_same a;
   joined = refl;
   later = later_same a;
 }
 
-pub keeps_same : (me : ℕ) (party : Party) (heap : HeapView) {a : HallState} → HoldsIn me party heap a → KeepsHeld me party party heap heap a a
-keeps_same me party heap {a} holds = record {
+pub keeps_same : (me : ℕ) (doer : ParticipantView) (heap : HeapView) {a : HallState} → HoldsIn me doer heap a
+    → KeepsHeld me doer doer heap heap a a
+keeps_same me doer heap {a} holds = record {
   in_hand = holds.in_hand;
   index = refl;
   its_socket = refl;
-  remains = remains_same me party a holds.can.tied;
+  context = refl;
+  remains = remains_same me doer.party a holds.can.tied;
 }
 
 -- what it did with its heap joins
-pub keeps_then : {first mid last : Party} {one two three : HeapView} {a b c : HallState} → KeepsHeld first.me first mid one two a b
-    → KeepsHeld mid.me mid last two three b c → KeepsHeld first.me first last one three a c
+pub keeps_then : {first mid last : ParticipantView} {one two three : HeapView} {a b c : HallState}
+    → KeepsHeld first.party.me first mid one two a b → KeepsHeld mid.party.me mid last two three b c
+    → KeepsHeld first.party.me first last one three a c
 keeps_then {first} {mid} {last} {one} {two} {three} {a} {b} {c} here next =
-    let me = here.remains.same.me in
-    let there : KeepsHeld first.me mid last two three b c = subst (λ (who : ℕ). KeepsHeld who mid last two three b c) me next in
+    let there : KeepsHeld first.party.me mid last two three b c =
+    subst (λ (who : ℕ). KeepsHeld who mid last two three b c) here.remains.same.me next in
     record {
       in_hand = there.in_hand;
       index = there.index ∙ here.index;
       its_socket = there.its_socket ∙ here.its_socket;
-      remains = record {
-        same = calls_then first mid last here.remains.same there.remains.same;
-        tied = there.remains.tied;
-        slots = slots_then here.remains.slots there.remains.slots;
-        joined = there.remains.joined ∙ here.remains.joined;
-        later = later_then here.remains.later there.remains.later;
-      };
+      context = knew_then first.context mid.context last.context here.context there.context;
+      remains = remains_then here.remains there.remains;
     }
 
 -- and joins with a wait before it, in which the heap stayed as it was
-pub keeps_after : {first mid last : Party} {one two three : HeapView} {a b c : HallState} → RemainsIn first.me first mid a b → two ≡ one
-    → KeepsHeld mid.me mid last two three b c → KeepsHeld first.me first last one three a c
-keeps_after {first} {mid} {last} {one} {two} {three} {a} {b} {c} here heap next =
-    let there : KeepsHeld first.me mid last two three b c = subst (λ (who : ℕ). KeepsHeld who mid last two three b c) here.same.me next in
+pub keeps_after : {first mid last : ParticipantView} {one two three : HeapView} {a b c : HallState}
+    → RemainsIn first.party.me first.party mid.party a b → mid.context ≡ first.context → two ≡ one
+    → KeepsHeld mid.party.me mid last two three b c → KeepsHeld first.party.me first last one three a c
+keeps_after {first} {mid} {last} {one} {two} {three} {a} {b} {c} here knew heap next =
+    let there : KeepsHeld first.party.me mid last two three b c =
+    subst (λ (who : ℕ). KeepsHeld who mid last two three b c) here.same.me next in
     record {
       in_hand = there.in_hand;
       index = there.index ∙ ap (λ (heap : HeapView). heap.plain.index) heap;
       its_socket = there.its_socket ∙ ap (λ (heap : HeapView). heap.plain.serves) heap;
-      remains = record {
-        same = calls_after first mid last here.same there.remains.same;
-        tied = there.remains.tied;
-        slots = slots_then here.slots there.remains.slots;
-        joined = there.remains.joined ∙ here.joined;
-        later = later_then here.later there.remains.later;
-      };
+      context = knew_after first.context mid.context last.context knew there.context;
+      remains = remains_then here there.remains;
     }
 
 -- it may go on with the heap in its hand
-pub can_on : {first last : Party} {before behind : HeapView} {a b : HallState} → KeepsHeld first.me first last before behind a b
-    → MayServe first.me a → CanServe last.me last b
+pub can_on : {first last : ParticipantView} {before behind : HeapView} {a b : HallState}
+    → KeepsHeld first.party.me first last before behind a b → MayServe first.party.me a → CanServe last.party.me last.party b
 can_on {first} {last} {before} {behind} {a} {b} keeps may =
-    let here : CanServe first.me last b = record {
+    let here : CanServe first.party.me last.party b = record {
       may = may_still keeps.remains.slots keeps.remains.later may;
       tied = keeps.remains.tied;
     } in
-    subst (λ (who : ℕ). CanServe who last b) (sym keeps.remains.same.me) here
+    subst (λ (who : ℕ). CanServe who last.party b) (sym keeps.remains.same.me) here
 
-pub holds_on : {first last : Party} {before behind : HeapView} {a b : HallState} → KeepsHeld first.me first last before behind a b
-    → AreSettled (moment first.me last b) → MayServe first.me a → HoldsIn last.me last behind b
+pub holds_on : {first last : ParticipantView} {before behind : HeapView} {a b : HallState}
+    → KeepsHeld first.party.me first last before behind a b → AreSettled (moment first.party.me last b) → MayServe first.party.me a
+    → HoldsIn last.party.me last behind b
 holds_on {first} {last} {before} {behind} {a} {b} keeps settled may = record {
   can = can_on keeps may;
   in_hand = subst (λ (who : ℕ). IsInHand b.taken (moment who last b) behind) (sym keeps.remains.same.me) keeps.in_hand;
@@ -124,69 +114,55 @@ holds_on {first} {last} {before} {behind} {a} {b} keeps settled may = record {
 }
 
 -- lines of which each goes on from where the one before ended
-pub again_then : (first mid last : Party) {a b : HallState} → IsIdleAgain first.me (with_calls mid.context.calls first) mid a
-    → IsIdleAgain mid.me (with_calls last.context.calls mid) last b → IsIdleAgain first.me (with_calls last.context.calls first) last b
+pub again_then : (first mid last : ParticipantView) {a b : HallState} → HasCalled first.party.me first mid a
+    → HasCalled mid.party.me mid last b → HasCalled first.party.me first last b
 again_then first mid last {a} {b} here next = record {
-  same = calls_then first mid last here.same next.same;
-  idle = subst (λ (who : ℕ). IsIdleIn who last b) here.same.me next.idle;
+  again = record {
+    same = same_then first.party mid.party last.party here.again.same next.again.same;
+    idle = subst (λ (who : ℕ). IsIdleIn who last.party b) here.again.same.me next.again.idle;
+  };
+  context = knew_then first.context mid.context last.context here.context next.context;
 }
 
 -- a wait, and a call after it
-pub remains_calls : {me : ℕ} {first last : Party} {a b : HallState} → RemainsIn me first last a b
-    → RemainsIn me (with_calls last.context.calls first) last a b
-remains_calls {me} {first} {last} here = record {
-  same = same_to_calls first last here.same;
-  tied = here.tied;
-  slots = here.slots;
-  joined = here.joined;
-  later = here.later;
-}
+pub knew_called : (first mid last : ParticipantView) → mid.context ≡ first.context → last ≡ after_call mid
+    → last.context ≡ with_calls last.context.calls first.context
+knew_called first mid last knew called =
+    subst (λ (last : ParticipantView). last.context ≡ with_calls last.context.calls first.context) (sym called)
+    (ap (with_calls (mid.context.calls + 1)) knew)
 
-called_after : (first mid : Party) → IsSameParty first mid → IsSameParty (with_calls (mid.context.calls + 1) first) (after_call mid)
-called_after first mid same = record {
-  me = same.me;
-  socket = same.socket;
-  plan = same.plan;
-  deadline = same.deadline;
-  context = ap (λ (context : Context). record context { calls = mid.context.calls + 1 }) same.context;
-}
-
-pub remains_called : {me : ℕ} {first mid last : Party} {a b : HallState} → RemainsIn me first mid a b → last ≡ after_call mid
-    → RemainsIn me (with_calls last.context.calls first) last a b
+pub remains_called : {me : ℕ} {first mid last : ParticipantView} {a b : HallState} → RemainsIn me first.party mid.party a b
+    → last ≡ after_call mid → RemainsIn me first.party last.party a b
 remains_called {me} {first} {mid} {last} {a} {b} here called =
-    subst (λ (last : Party). RemainsIn me (with_calls last.context.calls first) last a b) (sym called)
-    (record {
-      same = called_after first mid here.same;
-      tied = here.tied;
-      slots = here.slots;
-      joined = here.joined;
-      later = here.later;
-    })
+    subst (λ (last : ParticipantView). RemainsIn me first.party last.party a b) (sym called) here
 
 -- a call of the heap in its hand, which leaves the heap its pages
-pub keeps_called : (party after : Party) (heap next : HeapView) {call : HeapCall} {answer : HeapAnswer} {a : HallState}
-    → IsCall (caller_of party) call answer heap next → after ≡ after_call party → next.plain.pages ≡ heap.plain.pages
-    → HoldsIn party.me party heap a → KeepsHeld party.me party after heap next a a
-keeps_called party after heap next {call} {answer} {a} step counted pages holds =
-    let me = party.me in
-    record {
-      in_hand = hand_stays party (a.part me) (a.seen me) (a.heard me) call answer heap next step a.taken holds.in_hand after counted pages;
-      index = call_index (caller_of party) call answer heap next step;
-      its_socket = call_serves (caller_of party) call answer heap next step;
-      remains = remains_called (remains_by (in_same me party a holds.can.tied)) counted;
-    }
+pub keeps_called : (doer after : ParticipantView) (heap next : HeapView) {call : HeapCall} {answer : HeapAnswer} {a : HallState}
+    → IsCall (caller_of doer) call answer heap next → after ≡ after_call doer → next.plain.pages ≡ heap.plain.pages
+    → HoldsIn doer.party.me doer heap a → KeepsHeld doer.party.me doer after heap next a a
+keeps_called doer after heap next {call} {answer} {a} step counted pages holds =
+    let me = doer.party.me in
+    subst (λ (after : ParticipantView). KeepsHeld me doer after heap next a a) (sym counted)
+    (record {
+      in_hand = hand_stays doer (a.part me) (a.seen me) (a.heard me) call answer heap next step a.taken holds.in_hand (after_call doer) refl pages;
+      index = call_index (caller_of doer) call answer heap next step;
+      its_socket = call_serves (caller_of doer) call answer heap next step;
+      context = refl;
+      remains = remains_same me doer.party a holds.can.tied;
+    })
 
-pub settled_called : (party after : Party) (a : HallState) → after ≡ after_call party → AreSettled (moment party.me party a)
-    → AreSettled (moment party.me after a)
-settled_called party after a counted settled =
-    subst (λ (who : ℕ). HasSettledAsks who (a.part party.me) (a.heard party.me)) (sym (ap (λ (party : Party). party.me) counted)) settled
+pub settled_called : (doer after : ParticipantView) (a : HallState) → after ≡ after_call doer → AreSettled (moment doer.party.me doer a)
+    → AreSettled (moment doer.party.me after a)
+settled_called doer after a counted settled =
+    subst (λ (who : ℕ). HasSettledAsks who (a.part doer.party.me) (a.heard doer.party.me))
+    (sym (ap (λ (doer : ParticipantView). doer.party.me) counted)) settled
 
-pub room_called : (calls : ℕ) (party after : Party) (heap next : HeapView) → next.spare + 1 ≡ heap.spare → after ≡ after_call party
-    → HasRoom (calls + 1) heap party → HasRoom calls next after
-room_called calls party after heap next spare counted room =
+pub room_called : (calls : ℕ) (doer after : ParticipantView) (heap next : HeapView) → next.spare + 1 ≡ heap.spare → after ≡ after_call doer
+    → HasRoom (calls + 1) heap doer → HasRoom calls next after
+room_called calls doer after heap next spare counted room =
     let left = room.spare in
     let numbers = room.counted in
-    subst (λ (after : Party). HasRoom calls next after) (sym counted)
+    subst (λ (after : ParticipantView). HasRoom calls next after) (sym counted)
     (record { spare = omega (arith, left, spare); counted = omega (arith, numbers) })
 
 -- what was done of a line, and what was done of it next
@@ -199,13 +175,15 @@ does_next me {inside} first mid last {doing} {rest} {end} {a} {b} {c} here count
     (subst (λ (who : ℕ). Does b.count (did_in who b c) rest end (mid who) (last who)) here next))
 
 -- a line that did nothing, and one that waited alone
-pub again_same : (party : Party) {a : HallState} → IsIdleIn party.me party a
-    → IsIdleAgain party.me (with_calls party.context.calls party) party a
-again_same party idle = record { same = record { me = refl; socket = refl; plan = refl; deadline = refl; context = refl }; idle = idle }
+pub again_same : (doer : ParticipantView) {a : HallState} → IsIdleIn doer.party.me doer.party a → HasCalled doer.party.me doer doer a
+again_same doer idle = record { again = record { same = same_party doer.party; idle = idle }; context = refl }
 
-pub again_by : {me : ℕ} (old new : Party) {a b : HallState} → StaysIn me old new a b → IsIdleIn me old a
-    → IsIdleAgain me (with_calls new.context.calls old) new b
-again_by old new stays idle = record { same = same_to_calls old new stays.same; idle = idle_in stays idle }
+pub again_by : {me : ℕ} (old new : ParticipantView) {a b : HallState} → StaysIn me old.party new.party a b → new.context ≡ old.context
+    → IsIdleIn me old.party a → HasCalled me old new b
+again_by old new stays knew idle = record {
+  again = record { same = stays.same; idle = idle_in stays idle };
+  context = knew_same old.context new.context knew;
+}
 
 -- the other slots are free while a heap is in hand
 pub but_kept : {slot index : ℕ} {a b : HallState} → index ≡ slot → AreFreeBut slot a → SlotsStay a b → AreFreeBut index b
@@ -231,45 +209,37 @@ idle_put party heap {a} {b} can free tied at slots others =
     idle_again (others.later.serves party.me may.serves) (omega (arith, declared, count)) (tied can.tied) but at
 
 -- so it is behind what it did with the heap that it took
-pub again_put : {first mid last : Party} {one two : HeapView} {a b : HallState} {c : HallState} → IsSameParty first mid
-    → KeepsHeld mid.me mid last one two a b → IsIdleIn last.me last c → IsIdleAgain first.me (with_calls last.context.calls first) last c
-again_put {first} {mid} {last} {one} {two} {a} {b} {c} same keeps idle = record {
-  same = calls_after first mid last same keeps.remains.same;
-  idle = subst (λ (who : ℕ). IsIdleIn who last c) (keeps.remains.same.me ∙ same.me) idle;
+pub again_put : {first mid last : ParticipantView} {one two : HeapView} {a b : HallState} {c : HallState} → IsSameParty first.party mid.party
+    → mid.context ≡ first.context → KeepsHeld mid.party.me mid last one two a b → IsIdleIn last.party.me last.party c
+    → HasCalled first.party.me first last c
+again_put {first} {mid} {last} {one} {two} {a} {b} {c} same knew keeps idle = record {
+  again = record {
+    same = same_then first.party mid.party last.party same keeps.remains.same;
+    idle = subst (λ (who : ℕ). IsIdleIn who last.party c) (keeps.remains.same.me ∙ same.me) idle;
+  };
+  context = knew_after first.context mid.context last.context knew keeps.context;
 }
 
 -- so it is to a whole line, behind which it knows other things
-pub again_line : (party : Party) {a : HallState} → IsIdleIn party.me party a → IsIdleAgain party.me (with_context party.context party) party a
-again_line party idle = record { same = record { me = refl; socket = refl; plan = refl; deadline = refl; context = refl }; idle = idle }
+pub again_line : (party : Party) {a : HallState} → IsIdleIn party.me party a → IsIdleAgain party.me party party a
+again_line party idle = record { same = same_party party; idle = idle }
 
-pub line_by : {me : ℕ} (old new : Party) {a : HallState} → IsSameParty (with_calls new.context.calls old) new → IsIdleIn me new a
-    → IsIdleAgain me (with_context new.context old) new a
-line_by old new same idle = record {
-  same = record { me = same.me; socket = same.socket; plan = same.plan; deadline = same.deadline; context = refl };
-  idle = idle;
-}
-
--- it attached or detached, and noted that
+-- it attached or detached
 pub changes_same : (party : Party) {a : HallState} → IsTiedIn party.me party a → ChangesRoster party.me party party a a
 changes_same party {a} tied = record {
-  same = record { me = refl; socket = refl; plan = refl; deadline = refl; context = refl };
+  same = same_party party;
   tied = tied;
   slots = slots_same a;
   others = others_same party.me a;
 }
 
-pub changes_noted : (party mid : Party) (standing : Standing) {after : Party} {a b : HallState} → IsSameParty party mid
-    → after ≡ with_standing standing mid → IsTiedIn party.me mid b → SlotsStay a b → OthersStay party.me a b
-    → ChangesRoster party.me party after a b
-changes_noted party mid standing {after} {a} {b} same noted tied slots others =
-    subst (λ (after : Party). ChangesRoster party.me party after a b) (sym noted)
-    (record {
-      same = record { me = same.me; socket = same.socket; plan = same.plan; deadline = same.deadline; context = refl };
-      tied = tied;
-      slots = slots;
-      others = others;
-    })
+pub changes_noted : (doer mid : ParticipantView) (standing : Standing) {after : ParticipantView} {a b : HallState}
+    → IsSameParty doer.party mid.party → after ≡ with_standing standing mid → IsTiedIn doer.party.me mid.party b → SlotsStay a b
+    → OthersStay doer.party.me a b → ChangesRoster doer.party.me doer.party after.party a b
+changes_noted doer mid standing {after} {a} {b} same noted tied slots others =
+    subst (λ (after : ParticipantView). ChangesRoster doer.party.me doer.party after.party a b) (sym noted)
+    (record { same = same; tied = tied; slots = slots; others = others })
 
 pub idle_changed : {me : ℕ} {old new : Party} {a b : HallState} → ChangesRoster me old new a b → IsIdleIn me old a
-    → IsIdleAgain me (with_context new.context old) new b
+    → IsIdleAgain me old new b
 idle_changed changes idle = record { same = changes.same; idle = idle_still changes.slots changes.others.later changes.tied idle }

@@ -112,12 +112,12 @@ module _ (count : ℕ) (here_did there_did did : List MailStep → Type 0) (doin
   length_is = sym (ap (λ (calls : List OwnCall). length calls) calls_are ∙ length-append (calls_in here.trace) (calls_in there.trace))
 
   entries_are : (heap : ℕ) → (new.parts heap).entries
-      ≡ (old.parts heap).entries ++ entries_for old.party.me heap (old.party.context.calls + 1) (calls_in whole)
+      ≡ (old.parts heap).entries ++ entries_for old.party.me heap (old.context.calls + 1) (calls_in whole)
   entries_are heap =
-      entries_joined old.party.me mid.party.me heap old.party.context.calls mid.party.context.calls (calls_in here.trace) (calls_in there.trace)
+      entries_joined old.party.me mid.party.me heap old.context.calls mid.context.calls (calls_in here.trace) (calls_in there.trace)
       (old.parts heap).entries (mid.parts heap).entries (new.parts heap).entries here.same.me
       (ap (λ (context : Context). context.calls) here.counted) (here.entries heap) (there.entries heap)
-      ∙ ap (λ (calls : List OwnCall). (old.parts heap).entries ++ entries_for old.party.me heap (old.party.context.calls + 1) calls) (sym calls_are)
+      ∙ ap (λ (calls : List OwnCall). (old.parts heap).entries ++ entries_for old.party.me heap (old.context.calls + 1) calls) (sym calls_are)
 
   asked_all : AreAsked new.log new.asks old.party.me old.party.asked new.party.asked whole
   asked_all =
@@ -137,16 +137,15 @@ module _ (count : ℕ) (here_did there_did did : List MailStep → Type 0) (doin
     acts = Acts.and_then old.party mid.party new.party here.trace there.trace here.steps there.steps here.acts there.acts;
     entries = entries_are;
     serves = λ heap. there.serves heap ∙ here.serves heap;
-    counted = subst (λ (calls : ℕ). new.party.context ≡ record (after_calls calls old.party.context) { standing = new.party.context.standing })
+    counted = subst (λ (calls : ℕ). new.context ≡ record (after_calls calls old.context) { standing = new.context.standing })
         length_is
-        (context_joined (length (calls_in here.trace)) (length (calls_in there.trace)) old.party.context mid.party.context new.party.context
+        (context_joined (length (calls_in here.trace)) (length (calls_in there.trace)) old.context mid.context new.context
         here.counted there.counted);
     same = record {
       me = there.same.me ∙ here.same.me;
       socket = there.same.socket ∙ here.same.socket;
       plan = there.same.plan ∙ here.same.plan;
       deadline = there.same.deadline ∙ here.same.deadline;
-      context = refl;
     };
     asked = asked_all;
     more = here.more ++ there.more;
@@ -170,10 +169,10 @@ context_still old new same =
 pub does_still : (count : ℕ) (did : List MailStep → Type 0) (doing : Doing) (old new : Moment) (steps : List MailStep) → did steps
     → Acts count old.party new.party [] steps → ((heap : ℕ) → (new.parts heap).entries ≡ (old.parts heap).entries)
     → ((heap : ℕ) → (new.parts heap).serves ≡ (old.parts heap).serves) → IsSameParty old.party new.party
-    → new.party.asked ≡ old.party.asked → (more : List LogRecord) → new.log ≡ old.log ++ more
+    → new.context ≡ old.context → new.party.asked ≡ old.party.asked → (more : List LogRecord) → new.log ≡ old.log ++ more
     → (outcomes : List AskLog) → new.asks ≡ old.asks ++ outcomes → Does count did doing doing old new
 unfolding Leads
-does_still count did doing old new steps made acts entries serves same asked more log outcomes asks = record {
+does_still count did doing old new steps made acts entries serves same known asked more log outcomes asks = record {
   trace = [];
   steps = steps;
   leads = refl;
@@ -181,8 +180,8 @@ does_still count did doing old new steps made acts entries serves same asked mor
   acts = acts;
   entries = λ heap. entries heap ∙ sym (append-nil (old.parts heap).entries);
   serves = serves;
-  counted = context_still old.party.context new.party.context same.context;
-  same = record { me = same.me; socket = same.socket; plan = same.plan; deadline = same.deadline; context = refl };
+  counted = context_still old.context new.context known;
+  same = same;
   asked = asked_none new.log new.asks old.party.me old.party.asked new.party.asked asked;
   more = more;
   log = log;
@@ -194,5 +193,5 @@ does_still count did doing old new steps made acts entries serves same asked mor
 pub does_same : (count : ℕ) (did : List MailStep → Type 0) (doing : Doing) (moment : Moment) → did [] → Does count did doing doing moment moment
 does_same count did doing moment none =
     does_still count did doing moment moment [] none (Acts.nothing moment.party) (λ heap. refl) (λ heap. refl)
-    (record { me = refl; socket = refl; plan = refl; deadline = refl; context = refl }) refl [] (sym (append-nil moment.log)) []
+    (record { me = refl; socket = refl; plan = refl; deadline = refl }) refl refl [] (sym (append-nil moment.log)) []
     (sym (append-nil moment.asks))

@@ -25,7 +25,6 @@ use Rattle.hp_proc.specs.Heaps.{has_name, socket_heaps}
 use Rattle.hp_proc.proofs.Joining.{does_same}
 use Rattle.hp_proc.specs.Freeing.{freeing, if_sized, looking, resize_refusal, resizing_to}
 use Rattle.hp_proc.specs.Lines.{Facts, allocating, doing_of, dumping, if_attached, on_element, tag_of}
-use Rattle.hp_serve.specs.Party.{IsSameParty, Party}
 use Rattle.hp_proc.specs.ParticipantView.{with_calls}
 use Rattle.hp_proc.specs.Progress.{Does, DoesLine, Moment}
 
@@ -152,28 +151,28 @@ detached_leaves line act.Attach (built, other, stays) trace standing = absurd (o
 detached_leaves line act.Detach (built, other, stays) trace standing = absurd (stays refl)
 detached_leaves line _ (built, other, stays) trace standing = absurd cc
 
-module _ (before after : Party) (same : IsSameParty (with_calls after.context.calls before) after) (line : Line) (given : Answer)
+module _ (before after : Context) (same : after ≡ with_calls after.calls before) (line : Line) (given : Answer)
     (trace : List Done) where
-  standing_is : after.context.standing ≡ before.context.standing
-  standing_is = ap (λ (context : Context). context.standing) same.context
+  standing_is : after.standing ≡ before.standing
+  standing_is = ap (λ (context : Context). context.standing) same
 
   -- what a line left that brings no element
   pub left_behind : (deed : Act) → line.act ≡ deed → BringsNone deed
-      → after.context.standing ≡ after_line line given trace before.context.standing
+      → after.standing ≡ after_line line given trace before.standing
   left_behind deed is none = standing_is
-      ∙ sym (leaves_standing line line.act (subst BringsNone (sym is) none) given trace before.context.standing)
+      ∙ sym (leaves_standing line line.act (subst BringsNone (sym is) none) given trace before.standing)
 
 -- a line that brings no element was done, by what was known of it
 pub line_done : (count : ℕ) (did : List MailStep → Type 0) (line : Line) (given : Answer) (old new : Moment) (facts : Facts) (deed : Act)
-    → AreFactsOf old.party.socket old.party.context line facts
+    → AreFactsOf old.party.socket old.context line facts
     → Does count did (doing_of line line.act facts) (Doing.Ended given) old new
-    → IsSameParty (with_calls new.party.context.calls old.party) new.party → line.act ≡ deed → BringsNone deed
+    → new.context ≡ with_calls new.context.calls old.context → line.act ≡ deed → BringsNone deed
     → DoesLine count did line given old new
 line_done count did line given old new facts deed known does same is none = record {
   facts = facts;
   known = known;
   does = does;
-  left = left_behind old.party new.party same line given does.trace deed is none;
+  left = left_behind old.context new.context same line given does.trace deed is none;
 }
 
 -- the tree of a line whose participant is not attached
@@ -195,17 +194,17 @@ detached_ends line _ (built, other, stays) facts is = absurd cc
 
 -- who is not attached does nothing of its line
 pub detached_done : (count : ℕ) (did : List MailStep → Type 0) → did [] → (line : Line) (moment : Moment) → IsLineOfOne line.act
-    → moment.party.context.standing.attached ≡ false → DoesLine count did line answer.Detached moment moment
+    → moment.context.standing.attached ≡ false → DoesLine count did line answer.Detached moment moment
 detached_done count did none line moment built is =
     let party = moment.party in
     let request = has_request line.act built in
-    let facts : Facts = facts_for party.socket party.context line.act request.0 in
+    let facts : Facts = facts_for party.socket moment.context line.act request.0 in
     let does : Does count did (doing_of line line.act facts) (Doing.Ended answer.Detached) moment moment =
     subst (λ (doing : Doing). Does count did doing (Doing.Ended answer.Detached) moment moment) (sym (detached_ends line line.act built facts is))
     (does_same count did (Doing.Ended answer.Detached) moment none) in
     record {
       facts = facts;
-      known = facts_known party.socket party.context line request.0 request.1;
+      known = facts_known party.socket moment.context line request.0 request.1;
       does = does;
-      left = sym (detached_leaves line line.act built does.trace party.context.standing);
+      left = sym (detached_leaves line line.act built does.trace moment.context.standing);
     }

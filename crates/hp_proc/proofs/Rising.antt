@@ -1,53 +1,23 @@
--- How far the clock of one thread goes on in a wait, and in several one after another.
+-- How far the clock of one thread goes on in several waits one after another.
 use Rattle.std.proofs.Common.{◌≡◌, ℕ, suc, ◌+◌, ◌*◌, ◌-◌, ◌^◌, ◌≤◌, ◌⊎◌, ◌<◌, Bool, true, false, cond, not, ◌&&◌, ◌||◌, List, [], ◌∷◌, ◌++◌, filter, find, length, map, Option, Some, None, is_some, ap, arith, inr, ⊎_elim}
 use Rattle.std.specs.List.{range_with_len}
 use Rattle.std.specs.Option.{option_to_list}
-use Rattle.std.proofs.lemmas.Bool.{cases_lt}
 use Rattle.std.proofs.lemmas.List.{length-append}
-use Rattle.std.proofs.Math.Nat.{add-mul, min-le_left, mul-le-mul_right}
+use Rattle.std.proofs.Math.Nat.{add-mul, mul-le-mul_right}
 use Rattle.hp_base.specs.Pages.{page_sizes}
 use Rattle.hp_base.specs.declared.limits.TheConstants.{MAX_HEAPS}
 use Rattle.hp_base.specs.declared.pool_line.PoolLine.{PoolLine}
-use Rattle.hp_hall.proofs.Pending.{pending_later}
-use Rattle.hp_hall.specs.Weights.{pending_at}
 use Rattle.hp_base.specs.Flags.{is_hint, names_page, names_pages}
 use Rattle.hp_script.specs.declared.options.SocketChoice.{SocketChoice}
 use Rattle.hp_script.specs.declared.options.SocketChoice.TheVariants.{Any, Number}
-use Rattle.hp_serve.specs.AskSteps.{waits_until}
-use Rattle.hp_serve.specs.Clocks.{IsOneClock, RisesWithin, longest_wait}
+use Rattle.hp_serve.specs.Clocks.{RisesWithin}
 use Rattle.hp_proc.specs.Contexts.{named_heap}
 use Rattle.hp_proc.specs.Heaps.{NamedHeap, has_name, has_pool, heaps_for, names_socket, page_sizes_for, socket_heaps, sockets_of, takes_pages_of}
 use Rattle.hp_proc.specs.declared.socket_heap.SocketHeap.{SocketHeap}
 use Rattle.hp_proc.proofs.Mapped.{length-filter_le}
-use Rattle.hp_serve.proofs.Waits.{clock_still}
 use Rattle.hp_proc.proofs.SocketHeapLemmas.{length-heaps_from, length-named}
 
--- a hall in one thread, in which no slot is found held, has one clock
-pub one_clock : {T : Type 0} → IsOneClock {T = T} pending_at (λ hall. ⊥)
-one_clock = record {
-  reads = λ clock deadline past.
-      ⊎_elim (λ (later : clock < deadline). absurd (omega (arith, past, pending_later clock deadline later)))
-      (λ (reached : deadline ≤ clock). reached) (cases_lt clock deadline);
-  free = λ hall busy. busy;
-}
-
--- a wait behind another one up to the same deadline
-pub waits_on : (until old mid new : ℕ) → (mid ≡ old) ⊎ (mid ≤ until) → (new ≡ mid) ⊎ (new ≤ until) → (new ≡ old) ⊎ (new ≤ until)
-waits_on until old mid new before behind =
-    ⊎_elim (λ (stands : new ≡ mid). clock_still until old mid new stands before) (λ (within : new ≤ until). inr within) behind
-
 module _ {T : Type 0} (pending : ℕ → ℕ → ℕ) (IsBusy : T → Type 0) where
-  -- a wait that began at a reading carries the clock by three deadlines at most
-  pub wait_rises : (since deadline old mid new : ℕ) → mid ≡ old → pending mid since ≡ 0
-      → (new ≡ mid) ⊎ (new ≤ waits_until since deadline) → RisesWithin pending IsBusy (longest_wait deadline) old new
-  wait_rises since deadline old mid new still read went = λ one.
-      let reached = one.reads mid since read in
-      ⊎_elim
-      (λ (stands : new ≡ mid). omega (arith, stands, still))
-      (λ (within : new ≤ waits_until since deadline).
-      omega (arith, within, reached, still, min-le_left (since + 3 * deadline) (2 ^ 64 - 1)))
-      went
-
   -- one rise behind another
   pub rises_then : (first second old mid new : ℕ) → RisesWithin pending IsBusy first old mid → RisesWithin pending IsBusy second mid new
       → RisesWithin pending IsBusy (first + second) old new

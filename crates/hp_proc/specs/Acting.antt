@@ -17,18 +17,15 @@ use Rattle.hp_segs.specs.declared.outcome.AskLog.{AskLog}
 use Rattle.hp_serve.specs.AskSteps.{DoesAsk, DoesNotify}
 use Rattle.hp_serve.specs.Asking.{IsAsked}
 use Rattle.hp_serve.specs.Attaching.{Attaches, after_attaching, after_detaching}
-use Rattle.hp_proc.specs.Courses.{standing_tried}
 use Rattle.hp_proc.specs.Doing.{Done}
 use Rattle.hp_proc.specs.Doing.Done.{Asked, Called, CaughtUp, GaveUp, Looked}
 use Rattle.hp_proc.specs.Histories.{run_cut}
 use Rattle.hp_serve.specs.Party.{Party}
-use Rattle.hp_proc.specs.ParticipantView.{after_call, with_standing}
 use Rattle.hp_serve.specs.Serving.{acks_behind, gives_segments, takes_segments}
 use Rattle.hp_serve.specs.Waiting.{IsTurned}
-use Rattle.hp_proc.specs.declared.own_element.OwnElement.{OwnElement}
 use Rattle.hp_serve.specs.declared.pages_asked.PagesAsked.{PagesAsked}
 
--- what a participant did, with the steps that it made in the hall
+-- what a participant did, with the steps that it made in the hall; what it knows of its lines is told apart
 pub data Acts (count : ℕ) : Party → Party → List Done → List MailStep → Type 0 where
   nothing : (party : Party) → Acts count party party [] []
   -- it waited a turn for a heap that another one held
@@ -39,10 +36,10 @@ pub data Acts (count : ℕ) : Party → Party → List Done → List MailStep �
   gives_heap : (party : Party) (heap : HeapView) → Acts count party party [] (Gives heap.plain.index (Heap heap) ∷ [])
   -- it made a call of the heap in its hand, which cut no run from it
   makes_call : (party : Party) (heap : ℕ) (call : HeapCall) (answer : HeapAnswer) → run_cut answer ≡ []
-      → Acts count party (after_call party) (Called heap call answer ∷ []) []
+      → Acts count party party (Called heap call answer ∷ []) []
   -- it cut a run from the heap in its hand, and gave it up
   cuts_run : (party : Party) (heap addr : ℕ) (run : Run) (taken : SegsView)
-      → Acts count party (after_call party) (Called heap (call.Cut addr) (gives.Pages run) ∷ [])
+      → Acts count party party (Called heap (call.Cut addr) (gives.Pages run) ∷ [])
       (takes_segments taken ∷ gives_segments (after_retire heap run taken) ∷ [])
   -- it asked for pages
   asks_pages : (party after : Party) (asked : PagesAsked) (run : Option Run) (steps : List MailStep) → DoesAsk count party after asked steps run
@@ -50,18 +47,14 @@ pub data Acts (count : ℕ) : Party → Party → List Done → List MailStep �
   -- it told the coordinator so
   notifies_run : (party after : Party) (heap : ℕ) (run : Run) (steps : List MailStep) → DoesNotify count party after heap run steps
       → Acts count party after (GaveUp heap run ∷ []) steps
-  -- it attached, or tried to: it looked at the segment value and caught up with its whole log, and noted what that left
+  -- it attached, or tried to: it looked at the segment value and caught up with its whole log
   attaches : (party after : Party) (taken : SegsView) (caught : Caught) → Attaches party after taken.log caught
-      → Acts count party (with_standing (standing_tried (length taken.log) caught after.context.standing) after)
-      (Looked (length taken.log) ∷ CaughtUp (length taken.log) caught ∷ [])
+      → Acts count party after (Looked (length taken.log) ∷ CaughtUp (length taken.log) caught ∷ [])
       (takes_segments taken ∷ (acks_behind caught (length taken.log) ++ (gives_segments (after_attaching party.me caught taken) ∷ [])))
-  -- it detached, which no primary does, and noted that
+  -- it detached, which no primary does
   detaches : (party : Party) (taken : SegsView) → 0 < party.me
-      → Acts count party (with_standing (record party.context.standing { attached = false }) (after_detaching party)) []
+      → Acts count party (after_detaching party) []
       (takes_segments taken ∷ gives_segments (after_leave party.me taken) ∷ [])
-  -- it noted where the elements of its lines lie
-  notes_left : (party : Party) (elements : List OwnElement)
-      → Acts count party (with_standing (record party.context.standing { elements = elements }) party) [] []
   -- one thing after another
   and_then : (party mid after : Party) (first rest : List Done) (before behind : List MailStep) → Acts count party mid first before
       → Acts count mid after rest behind → Acts count party after (first ++ rest) (before ++ behind)

@@ -20,23 +20,7 @@ use Rattle.hp_proc.specs.Doing.{Done}
 use Rattle.hp_serve.specs.declared.pages_asked.PagesAsked.{PagesAsked}
 use Rattle.hp_proc.specs.Doing.Done.{Asked, GaveUp}
 use Rattle.hp_proc.specs.Courses.{numbered_in}
-
--- a participant's ask of that number, for a asked
-abbrev pub ask_of : ℕ → ℕ → PagesAsked → Ask
-ask_of who number asked = record {
-  from = who;
-  number = number;
-  heap = asked.heap;
-  socket = asked.socket;
-  page = asked.page;
-  request = asked.request;
-}
-
--- the outcome grants the run, or refuses where there is none
-abbrev pub Gives : List LogRecord → Outcome → Option Run → Type 0
-Gives log (Granted generation) (Some run) = run_of log generation ≡ Some run
-Gives log (Refused cause) None = ⊤
-Gives log _ _ = ⊥
+use Rattle.hp_serve.specs.Asking.{Gives, ask_of}
 
 -- the participant's ask of that number was this asked, and its outcome gives the run, or none
 pub record IsAnsweredSo (log : List LogRecord) (asks : List AskLog) (who number : ℕ) (asked : PagesAsked) (run : Option Run) : Type 0 where

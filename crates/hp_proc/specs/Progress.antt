@@ -25,24 +25,30 @@ use Rattle.hp_segs.specs.declared.outcome.AskLog.{AskLog}
 use Rattle.hp_proc.specs.Acting.{Acts, AreAsked}
 use Rattle.hp_proc.specs.Allocating.{unless_answered}
 use Rattle.hp_serve.specs.Asking.{HasSettledAsks}
-use Rattle.hp_proc.specs.Contexts.{AreFactsOf, after_calls}
+use Rattle.hp_proc.specs.Contexts.{AreFactsOf, Context, after_calls}
 use Rattle.hp_proc.specs.Courses.{IsRequestFor, after_line, calls_in, last_heap}
 use Rattle.hp_proc.specs.Doing.{Doing, Done, Leads}
 use Rattle.hp_proc.specs.Heaps.{sockets_of}
 use Rattle.hp_proc.specs.Lines.{Facts, doing_of}
 use Rattle.hp_proc.specs.Histories.{entries_for}
 use Rattle.hp_serve.specs.Party.{IsSameParty, Party}
-use Rattle.hp_proc.specs.ParticipantView.{with_context}
+use Rattle.hp_proc.specs.ParticipantView.{ParticipantView}
 
--- a participant at a moment of its line: itself, its parts in the heaps, and what it has seen of the log and of the outcomes
+-- a participant at a moment of its line: itself, what it knows of its lines, its parts in the heaps, and what it has seen of the log and of
+-- the outcomes
 pub record Moment : Type 0 where
   pub party : Party
+  pub context : Context
   pub parts : ℕ → HeapPart
   pub log : List LogRecord
   pub asks : List AskLog
 
-abbrev pub moment_of : Party → (ℕ → HeapPart) → List LogRecord → List AskLog → Moment
-moment_of party parts log asks = record { party = party; parts = parts; log = log; asks = asks }
+abbrev pub moment_of : ParticipantView → (ℕ → HeapPart) → List LogRecord → List AskLog → Moment
+moment_of doer parts log asks = record { party = doer.party; context = doer.context; parts = parts; log = log; asks = asks }
+
+-- the participant at a moment
+abbrev pub doer_at : Moment → ParticipantView
+doer_at moment = record { party = moment.party; context = moment.context }
 
 -- parts with what a heap in hand has of its holder's entries already
 abbrev pub with_hand : ℕ → HeapView → (ℕ → HeapPart) → ℕ → HeapPart
@@ -62,11 +68,11 @@ pub record Does (count : ℕ) (did : List MailStep → Type 0) (doing rest : Doi
   pub made : did steps
   pub acts : Acts count old.party new.party trace steps
   pub entries : (heap : ℕ) → (new.parts heap).entries
-      ≡ (old.parts heap).entries ++ entries_for old.party.me heap (old.party.context.calls + 1) (calls_in trace)
+      ≡ (old.parts heap).entries ++ entries_for old.party.me heap (old.context.calls + 1) (calls_in trace)
   pub serves : (heap : ℕ) → (new.parts heap).serves ≡ (old.parts heap).serves
-  pub counted : new.party.context
-      ≡ record (after_calls (length (calls_in trace)) old.party.context) { standing = new.party.context.standing }
-  pub same : IsSameParty (with_context new.party.context old.party) new.party
+  pub counted : new.context
+      ≡ record (after_calls (length (calls_in trace)) old.context) { standing = new.context.standing }
+  pub same : IsSameParty old.party new.party
   pub asked : AreAsked new.log new.asks old.party.me old.party.asked new.party.asked trace
   pub more : List LogRecord
   pub log : new.log ≡ old.log ++ more
@@ -92,9 +98,9 @@ pub record Brings (heap count : ℕ) (did : List MailStep → Type 0) (doing : D
 -- a line was done, by what is known when it began, and was answered so; what it left is noted
 pub record DoesLine (count : ℕ) (did : List MailStep → Type 0) (line : Line) (answer : Answer) (old new : Moment) : Type 0 where
   pub facts : Facts
-  pub known : AreFactsOf old.party.socket old.party.context line facts
+  pub known : AreFactsOf old.party.socket old.context line facts
   pub does : Does count did (doing_of line line.act facts) (Doing.Ended answer) old new
-  pub left : new.party.context.standing ≡ after_line line answer does.trace old.party.context.standing
+  pub left : new.context.standing ≡ after_line line answer does.trace old.context.standing
 
 -- the line is an allocation with these options, whose size and options are not refused, and this is its request
 pub record IsAllocation (line : Line) (options : Options) (request : Request) : Type 0 where
@@ -116,14 +122,14 @@ IsLineBuilt who deed = IsBuiltAct deed × MayComeAndGo who deed
 
 -- each heap takes the pages of its socket
 abbrev pub AreOfSockets : Moment → Type 0
-AreOfSockets moment = (heap : ℕ) → (moment.parts heap).serves ≡ slice_get (sockets_of moment.party.context.pools) heap
+AreOfSockets moment = (heap : ℕ) → (moment.parts heap).serves ≡ slice_get (sockets_of moment.context.pools) heap
 
 -- the participant may do its line: it holds no heap, its asks are settled, and its calls are those that the heaps keep
 pub record MayDo (moment : Moment) : Type 0 where
   pub sockets : AreOfSockets moment
   pub unheld : (heap : ℕ) → (moment.parts heap).holding ≡ None
   pub settled : HasSettledAsks moment.party.me moment.parts moment.asks
-  pub counted : moment.party.context.calls ≡ entries_made moment.parts
+  pub counted : moment.context.calls ≡ entries_made moment.parts
 
 -- it has a heap in hand, which it has taken: the heap's history is that one's and entries of its own, numbered on over all heaps, and its
 -- pages are those of the heap's own segments; it holds no other
@@ -142,11 +148,11 @@ pub record IsInHand (taken : ℕ → Option Kept) (moment : Moment) (heap : Heap
   pub its_socket : heap.plain.serves ≡ (moment.parts heap.plain.index).serves
   pub sockets : AreOfSockets moment
   pub others : (other : ℕ) → other ≢ heap.plain.index → (moment.parts other).holding ≡ None
-  pub counted : moment.party.context.calls ≡ entries_made moment.parts + length own
+  pub counted : moment.context.calls ≡ entries_made moment.parts + length own
 
 -- the caller of a participant's next call
-abbrev pub caller_of : Party → Caller
-caller_of party = record { participant = party.me; number = party.context.calls + 1 }
+abbrev pub caller_of : ParticipantView → Caller
+caller_of doer = record { participant = doer.party.me; number = doer.context.calls + 1 }
 
 -- it is so with the asks of a participant that are settled
 abbrev pub AreSettled : Moment → Type 0

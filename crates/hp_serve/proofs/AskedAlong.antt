@@ -135,3 +135,8 @@ module _ {T E : Type 0} where
   pub on_err : (Q R : Type 0) (result : Result T E) → (Q → R) → OnErr result Q → OnErr result R
   on_err Q R (Ok value) tells err = tt
   on_err Q R (Err refusal) tells err = tells err
+
+-- what holds holds on a refusal
+pub on_err_any : {T E : Type 0} (result : Result T E) (P : Type 0) → P → OnErr result P
+on_err_any (Ok value) P holds = tt
+on_err_any (Err refusal) P holds = holds

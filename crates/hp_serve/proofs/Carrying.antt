@@ -55,7 +55,7 @@ less_under_way old new before answer must is =
     omega (arith, ap under_way is.old_is, ap under_way is.new_is, told.1, less)
 
 pub same_party : (party : Party) → IsSameParty party party
-same_party party = record { me = refl; socket = refl; plan = refl; deadline = refl; context = refl }
+same_party party = record { me = refl; socket = refl; plan = refl; deadline = refl }
 
 pub same_then : (first second third : Party) → IsSameParty first second → IsSameParty second third → IsSameParty first third
 same_then first second third here there = record {
@@ -63,7 +63,6 @@ same_then first second third here there = record {
   socket = there.socket ∙ here.socket;
   plan = there.plan ∙ here.plan;
   deadline = there.deadline ∙ here.deadline;
-  context = there.context ∙ here.context;
 }
 
 -- an event that was handed over, and whose answer was carried out, is handled

@@ -127,9 +127,9 @@ mapped_spoken party after steps answer (worn taken is_worn did after_is none) = 
 -- what serving leaves as it was stays where participant 0 has caught up
 pub mapped_same : (party after : Party) (steps : List MailStep) (answer : Option Out) → IsMapped party after steps answer → IsSameParty party after
 mapped_same party after steps answer (maps core next taken caught table own now more core_is did caught_up is after_is) =
-    subst (IsSameParty party) (sym after_is) (record { me = refl; socket = refl; plan = refl; deadline = refl; context = refl })
+    subst (IsSameParty party) (sym after_is) (record { me = refl; socket = refl; plan = refl; deadline = refl })
 mapped_same party after steps answer (worn taken is_worn did after_is none) =
-    subst (IsSameParty party) (sym after_is) (record { me = refl; socket = refl; plan = refl; deadline = refl; context = refl })
+    subst (IsSameParty party) (sym after_is) (record { me = refl; socket = refl; plan = refl; deadline = refl })
 
 -- a table stays tied where the log grows and its own part stays
 pub tied_still : (seen log more : List LogRecord) (own later : Own) (joined : Bool) (table : MapsView) → log ≡ seen ++ more → later ≡ own

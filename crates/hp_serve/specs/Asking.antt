@@ -1,5 +1,5 @@
 -- How a participant asks for pages, and gives pages up: the rule "Asking" of docs/PARTICIPANTS.md.
-use Rattle.std.specs.Prelude.{◌≡◌, ◌≢◌, ℕ, ◌+◌, ◌-◌, ◌^◌, ◌<◌, ◌≤◌, max, min, not, List, [], ◌++◌, Contains, Option, Some, None, IsSome, find, filter}
+use Rattle.std.specs.Prelude.{◌≡◌, ◌≢◌, ℕ, ◌+◌, ◌-◌, ◌^◌, ◌<◌, ◌≤◌, max, min, not, List, [], ◌++◌, Contains, Option, Some, None, IsSome, find, filter, ⊤}
 use Rattle.hp_base.specs.declared.row.Run.{Run}
 use Rattle.hp_frame.specs.declared.message.Body.{Body}
 use Rattle.hp_frame.specs.declared.message.Body.TheVariants.{Alloc, Free}
@@ -12,12 +12,30 @@ use Rattle.hp_heap.specs.PlainHeap.{PlainHeap}
 use Rattle.hp_log.specs.Rows.{in_run}
 use Rattle.hp_log.specs.declared.log_record.LogRecord.{LogRecord}
 use Rattle.hp_segs.specs.LaterSteps.{after_withdraw}
-use Rattle.hp_segs.specs.SegsView.{SegsView, closed_number, grants_or_refuses}
+use Rattle.hp_segs.specs.SegsView.{SegsView, closed_number, grants_or_refuses, run_of}
 use Rattle.hp_segs.specs.Steps.{after_claim}
 use Rattle.hp_segs.specs.declared.ask.Ask.{Ask}
 use Rattle.hp_segs.specs.declared.outcome.AskLog.{AskLog}
-use Rattle.hp_serve.specs.Asking.{Gives, ask_of}
+use Rattle.hp_segs.specs.declared.outcome.Outcome.{Outcome}
+use Rattle.hp_segs.specs.declared.outcome.Outcome.TheVariants.{Granted, Refused}
 use Rattle.hp_serve.specs.declared.pages_asked.PagesAsked.{PagesAsked}
+
+-- a participant's ask of that number, for a asked
+abbrev pub ask_of : ℕ → ℕ → PagesAsked → Ask
+ask_of who number asked = record {
+  from = who;
+  number = number;
+  heap = asked.heap;
+  socket = asked.socket;
+  page = asked.page;
+  request = asked.request;
+}
+
+-- the outcome grants the run, or refuses where there is none
+abbrev pub Gives : List LogRecord → Outcome → Option Run → Type 0
+Gives log (Granted generation) (Some run) = run_of log generation ≡ Some run
+Gives log (Refused cause) None = ⊤
+Gives log _ _ = ⊥
 
 -- the number of a participant's next ask: above its last one, and above each of it that has an outcome
 abbrev pub next_number : ℕ → List AskLog → ℕ → ℕ

@@ -1,5 +1,5 @@
 -- What a participant does that attaches or detaches: the rule "Lines" of docs/PARTICIPANTS.md.
-use Rattle.std.specs.Prelude.{◌≡◌, ℕ, ◌<◌, true, false, List, []}
+use Rattle.std.specs.Prelude.{◌≡◌, ℕ, ◌<◌, List, []}
 use Rattle.hp_base.specs.Mapping.{is_done}
 use Rattle.hp_base.specs.declared.caught.Caught.{Caught}
 use Rattle.hp_base.specs.declared.caught.Caught.TheVariants.{Done, Refused, Elsewhere}
@@ -7,7 +7,6 @@ use Rattle.hp_log.specs.declared.log_record.LogRecord.{LogRecord}
 use Rattle.hp_maps.specs.MapsView.{MapsView}
 use Rattle.hp_segs.specs.LaterSteps.{after_join}
 use Rattle.hp_segs.specs.SegsView.{SegsView}
-use Rattle.hp_proc.specs.Courses.{Standing}
 use Rattle.hp_serve.specs.Party.{Party}
 use Rattle.hp_serve.specs.Serving.{CatchesUp}
 
@@ -37,9 +36,3 @@ pub record Attaches (party after : Party) (log : List LogRecord) (caught : Caugh
 -- a participant that has detached: it has no table
 abbrev pub after_detaching : Party → Party
 after_detaching party = record party { maps = emptied party.maps; joined = false }
-
--- what a line leaves that tried to attach: where all was mapped its participant is attached, with so many records; elements stay where they lie
-abbrev pub standing_tried : ℕ → Caught → Standing → Standing
-standing_tried records Done standing = record standing { attached = true; records = records }
-standing_tried records (Refused row call) standing = standing
-standing_tried records (Elsewhere row call got) standing = standing

@@ -1,43 +1,13 @@
--- A participant in a hall: the rules "Tables" and "Lines" of docs/PARTICIPANTS.md.
-use Rattle.std.specs.Prelude.{◌≡◌, ◌≢◌, ℕ, ◌+◌, ◌<◌, ◌≤◌, ◌^◌, List, None}
-use Rattle.hp_base.specs.declared.limits.TheConstants.{MAX_HEAPS}
-use Rattle.hp_hall.specs.HallState.{Did, HallState, IsLater, MayServe, OthersStay, SlotsStay, Waits}
-use Rattle.hp_hall.specs.Mail.{MailStep}
-use Rattle.hp_heap.specs.History.{HeapView}
+-- A participant in a hall: the rules "Serving" and "Tables" of docs/PARTICIPANTS.md.
+use Rattle.std.specs.Prelude.{◌≡◌, ℕ, ◌+◌}
+use Rattle.hp_hall.specs.HallState.{HallState, IsLater, MayServe, OthersStay, SlotsStay, Waits}
 use Rattle.hp_serve.specs.Falling.{own_weight}
 use Rattle.hp_serve.specs.Party.{IsSameParty, Party}
-use Rattle.hp_proc.specs.ParticipantView.{with_calls, with_context}
-use Rattle.hp_script.specs.declared.answer.Answer.{Answer}
-use Rattle.hp_script.specs.declared.line.Line.{Line}
-use Rattle.hp_proc.specs.Doing.{Doing}
-use Rattle.hp_proc.specs.Progress.{AreSettled, Does, DoesLine, IsInHand, MayDo, Moment, in_hand, moment_of}
 use Rattle.hp_serve.specs.Tied.{IsTied}
 
 -- its table is what the hall knows of it
 abbrev pub IsTiedIn : ℕ → Party → HallState → Type 0
 IsTiedIn me party state = IsTied (state.seen me) (state.own me) party.joined party.maps
-
--- a moment of its line, and one at which it has a heap in hand
-abbrev pub moment : ℕ → Party → HallState → Moment
-moment me party state = moment_of party (state.part me) (state.seen me) (state.heard me)
-
-abbrev pub moment_with : HeapView → ℕ → Party → HallState → Moment
-moment_with heap me party state = in_hand heap (moment me party state)
-
--- the steps that it made
-abbrev pub did_in : ℕ → HallState → HallState → List MailStep → Type 0
-did_in me old new steps = Did me steps old new
-
--- what it did of a line, with no heap in hand, and with one; and what it did of a whole line
-abbrev pub DoesHere : ℕ → Party → Party → HallState → HallState → Doing → Doing → Type 0
-DoesHere me old new from to doing rest = Does from.count (did_in me from to) doing rest (moment me old from) (moment me new to)
-
-abbrev pub DoesHeld : ℕ → Party → Party → HeapView → HeapView → HallState → HallState → Doing → Doing → Type 0
-DoesHeld me old new before behind from to doing rest =
-    Does from.count (did_in me from to) doing rest (moment_with before me old from) (moment_with behind me new to)
-
-abbrev pub DoesLineHere : ℕ → Party → Party → HallState → HallState → Line → Answer → Type 0
-DoesLineHere me old new from to line given = DoesLine from.count (did_in me from to) line given (moment me old from) (moment me new to)
 
 -- the number that falls, the participant's own part of it among it
 abbrev pub left_to_do : ℕ → (ℕ → ℕ → ℕ) → Party → HallState → ℕ
@@ -54,34 +24,6 @@ pub record CanCoordinate (party : Party) (state : HallState) : Type 0 where
   pub may : MayServe 0 state
   pub tied : IsTiedIn 0 party state
 
--- it holds no slot and may take each, the hall takes its calls, and its table is tied
-pub record IsIdleIn (me : ℕ) (party : Party) (state : HallState) : Type 0 where
-  pub serves : state.serves me
-  pub declared : me < state.count
-  pub free : (number : ℕ) → state.taken number ≡ None
-  pub home : (number : ℕ) → number ≤ MAX_HEAPS → state.may_take number
-  pub tied : IsTiedIn me party state
-
--- so it is, and may do its line
-pub record IsReadyIn (me : ℕ) (party : Party) (state : HallState) : Type 0 where
-  pub idle : IsIdleIn me party state
-  pub ready : MayDo (moment me party state)
-
--- it is as it was, and so is the hall to it
-pub record IsIdleAgain (me : ℕ) (old new : Party) (state : HallState) : Type 0 where
-  pub same : IsSameParty old new
-  pub idle : IsIdleIn me new state
-
--- it holds no slot but that one at most, and may take each other
-pub record AreFreeBut (slot : ℕ) (state : HallState) : Type 0 where
-  pub taken : (number : ℕ) → number ≢ slot → state.taken number ≡ None
-  pub home : (number : ℕ) → number ≤ MAX_HEAPS → number ≢ slot → state.may_take number
-
--- that one is free
-pub record IsFreeAt (slot : ℕ) (state : HallState) : Type 0 where
-  pub taken : state.taken slot ≡ None
-  pub home : state.may_take slot
-
 -- a participant goes on in a hall, while it does something or waits: it is the same one, its table is tied, and the slots stay
 pub record RemainsIn (me : ℕ) (old new : Party) (from to : HallState) : Type 0 where
   pub same : IsSameParty old new
@@ -96,33 +38,7 @@ pub record StaysIn (me : ℕ) (old new : Party) (from to : HallState) : Type 0 w
   pub tied : IsTiedIn me new to
   pub waits : Waits me from to
 
--- it attached or detached: it is the same one but for what it knows, its table is tied, the slots stay, and nobody else did anything
-pub record ChangesRoster (me : ℕ) (old new : Party) (from to : HallState) : Type 0 where
-  pub same : IsSameParty (with_context new.context old) new
-  pub tied : IsTiedIn me new to
-  pub slots : SlotsStay from to
-  pub others : OthersStay me from to
-
 -- a participant goes on so, and nobody else does anything
 pub record StaysAlone (me : ℕ) (old new : Party) (from to : HallState) : Type 0 where
   pub stays : StaysIn me old new from to
   pub others : OthersStay me from to
-
--- it has a heap in hand, and may do something with it: it can serve, and its asks are settled
-pub record HoldsIn (me : ℕ) (party : Party) (heap : HeapView) (state : HallState) : Type 0 where
-  pub can : CanServe me party state
-  pub in_hand : IsInHand state.taken (moment me party state) heap
-  pub settled : AreSettled (moment me party state)
-
--- a heap in hand has room for so many calls, and so have the numbers of its holder's calls
-pub record HasRoom (calls : ℕ) (heap : HeapView) (party : Party) : Type 0 where
-  pub spare : calls ≤ heap.spare
-  pub counted : party.context.calls + calls < 2 ^ 64
-
--- it did something with the heap in its hand: it has that heap in hand still, it is the same one but for the number of its calls, its table
--- is tied, and the slots stay
-pub record KeepsHeld (me : ℕ) (old new : Party) (before behind : HeapView) (from to : HallState) : Type 0 where
-  pub in_hand : IsInHand to.taken (moment me new to) behind
-  pub index : behind.plain.index ≡ before.plain.index
-  pub its_socket : behind.plain.serves ≡ before.plain.serves
-  pub remains : RemainsIn me (with_calls new.context.calls old) new from to

@@ -1,14 +1,10 @@
--- What contracts see of a participant.
+-- What contracts see of a participant that serves: the rule "Serving" of docs/PARTICIPANTS.md.
 use Rattle.std.specs.Prelude.{◌≡◌, ℕ, ◌+◌, ◌-◌, ◌^◌, ◌<◌, ◌≤◌, ◌==◌, min, Bool, false, List, replicate, Option, Some, None, is_some, if◌then◌else◌}
 use Rattle.hp_base.specs.declared.limits.TheConstants.{MAX_DEADLINE, MAX_PARTICIPANTS}
 use Rattle.hp_base.specs.declared.plan_entry.PlanEntry.{PlanEntry}
 use Rattle.hp_core.specs.Core.{Core, due_of}
 use Rattle.hp_core.specs.declared.phase.Phase.TheVariants.{Idle}
 use Rattle.hp_maps.specs.MapsView.{MapsView}
-use Rattle.hp_script.specs.declared.answer.Answer.{Answer}
-use Rattle.hp_script.specs.declared.answer.Answer.TheVariants.{Address}
-use Rattle.hp_proc.specs.Contexts.{Context, after_calls, with_element}
-use Rattle.hp_proc.specs.Courses.{Standing}
 use Rattle.hp_serve.specs.declared.sent.Sent.{Sent}
 
 pub record Party : Type 0 where
@@ -28,8 +24,6 @@ pub record Party : Type 0 where
   pub asked : ℕ
   pub answered : Bool
   pub sent : Sent
-  -- what it knows when it does a line
-  pub context : Context
 
 -- when the deadline of its coordinator's round passes
 abbrev pub due_in : Option Core → Option ℕ
@@ -46,7 +40,6 @@ pub record IsSameParty (old new : Party) : Type 0 where
   pub socket : new.socket ≡ old.socket
   pub plan : new.plan ≡ old.plan
   pub deadline : new.deadline ≡ old.deadline
-  pub context : new.context ≡ old.context
 
 -- one more, up to the greatest number
 abbrev pub one_more : ℕ → ℕ
@@ -64,8 +57,8 @@ pub record IsParticipant (me deadline : ℕ) (core : Option Core) : Type 0 where
   pub coordinator : is_some core ≡ (me == 0)
 
 -- a participant that has sent and been asked nothing
-abbrev pub opening_party : ℕ → ℕ → Bool → MapsView → List PlanEntry → ℕ → Context → Party
-opening_party me socket joined maps plan deadline context = record {
+abbrev pub opening_party : ℕ → ℕ → Bool → MapsView → List PlanEntry → ℕ → Party
+opening_party me socket joined maps plan deadline = record {
   me = me;
   socket = socket;
   joined = joined;
@@ -76,7 +69,6 @@ opening_party me socket joined maps plan deadline context = record {
   asked = 0;
   answered = false;
   sent = record { allocs = 0; frees = 0; replies = 0; syncs = replicate 16 0; answers = replicate 16 0 };
-  context = context;
 }
 
 -- a participant that has sent one reply more
@@ -98,24 +90,3 @@ after_free number party = record party {
   answered = false;
   sent = record party.sent { frees = one_more party.sent.frees };
 }
-
--- a participant that knows this when it does a line
-abbrev pub with_context : Context → Party → Party
-with_context context party = record party { context = context }
-
--- a participant that has made one call of a heap more
-abbrev pub after_call : Party → Party
-after_call party = with_context (after_calls 1 party.context) party
-
--- a participant that has made so many calls
-abbrev pub with_calls : ℕ → Party → Party
-with_calls calls party = with_context (record party.context { calls = calls }) party
-
--- a participant whose lines left this
-abbrev pub with_standing : Standing → Party → Party
-with_standing standing party = with_context (record party.context { standing = standing }) party
-
--- a participant whose line was answered: where that is an address, its element lies in the heap
-abbrev pub after_answer : ℕ → ℕ → Answer → Party → Party
-after_answer line heap (Address address) party = with_context (with_element (record { line = line; heap = heap }) party.context) party
-after_answer line heap _ party = party

@@ -1,36 +1,31 @@
-ghost use Rattle.std.specs.Prelude.{◌≡◌, ◌≤◌, ◌<◌, []};
+ghost use Rattle.std.specs.Prelude.{◌≡◌, ◌^◌, ◌≤◌, ◌<◌, [], false, true};
 ghost use Rattle.hp_base.specs.declared.limits.TheConstants.{MAX_DEADLINE, MAX_PARTICIPANTS};
+ghost use Rattle.hp_maps.specs.MapsView.{calls_of};
 ghost use Rattle.hp_serve.specs.Party.{due_in, first_core, opening_party};
+ghost use Rattle.hp_serve.specs.Serving.{IsWorn};
 
-use crate::line_context::LineContext;
+use crate::catching::is_worn;
 use crate::sent::Sent;
 use hp_base::{Mapper, Plan};
 use hp_core::Coordinator;
 use hp_maps::{LocalMaps, Planned};
 use std::marker::Model;
 
-mod allocating;
 mod asking;
 mod attaching;
 mod carrying;
 mod ending;
-mod freeing;
 mod giving_up;
-mod growing;
-mod heap_calls;
 mod heeding;
-mod holding;
-mod lines;
-mod looking;
 mod member;
 mod resting;
 mod serving;
 mod waiting;
 
-/// One process: it has a table, and participant 0 also the coordinator of growths. It does the lines of the workload that begin
-/// with its number, and serves what others send it. After a primary or a secondary process of Multi-process Support.
+/// One process, but for the lines of the workload that it does: it has a table, and participant 0 also the coordinator of growths. It serves
+/// what others send it, asks for pages and waits. After a primary or a secondary process of Multi-process Support.
 #[derive(Drop)]
-pub struct Participant<'p, M: Mapper> {
+pub struct Server<'p, M: Mapper> {
     me: u8,
     socket: u32,
     joined: bool,
@@ -41,7 +36,6 @@ pub struct Participant<'p, M: Mapper> {
     asked: u64,
     answered: bool,
     sent: Sent,
-    context: LineContext<'p>,
 }
 
 impl<'p, M: Mapper> Model for Server<'p, M> {
@@ -60,7 +54,6 @@ impl<'p, M: Mapper> Model for Server<'p, M> {
       asked = a.asked;
       answered = a.answered;
       sent = a.sent;
-      context = a.context;
     } };
 
     ghost invariant = { λ a. IsParticipant a.me a.deadline a.coordinator };
@@ -80,7 +73,7 @@ fn coordinator_of(me: u8, deadline: u64) -> Option<Coordinator>
 impl<'p, M: Mapper> Server<'p, M> {
     /// The participant with that number, of 0 to 15, on that NUMA socket. `joined` says whether it is attached at the start, with
     /// no record taken in; its table is over a mapper of that plan's for it. `deadline` is how long it waits for others, 1 to
-    /// 3,600,000 milliseconds, and `context` what it knows when it does a line. Own.
+    /// 3,600,000 milliseconds. Own.
     pub fn new(
         me: u8,
         socket: u32,
@@ -88,7 +81,6 @@ impl<'p, M: Mapper> Server<'p, M> {
         maps: LocalMaps<Planned<'p, M>>,
         plan: &'p Plan,
         deadline: u64,
-        context: LineContext<'p>,
     ) -> Server<'p, M>
         requires declared { me < MAX_PARTICIPANTS }
         requires some { 1 ≤ deadline }
@@ -96,9 +88,9 @@ impl<'p, M: Mapper> Server<'p, M> {
         requires rows { maps.rows ≡ [] }
         requires number { maps.number ≡ 0 }
         requires calls { maps.answers ≡ [] }
-        ensures { result ≡ opening_party me socket joined maps.entry plan.now deadline context.entry }
+        ensures { result ≡ opening_party me socket joined maps.entry plan.now deadline }
     {
-        Participant {
+        Server {
             me,
             socket,
             joined,
@@ -115,7 +107,6 @@ impl<'p, M: Mapper> Server<'p, M> {
                 syncs: [0; 16],
                 answers: [0; 16],
             },
-            context,
         }
     }
 
@@ -124,6 +115,13 @@ impl<'p, M: Mapper> Server<'p, M> {
         ensures { result ≡ self.now.me }
     {
         self.me
+    }
+
+    /// Its own NUMA socket. Own.
+    pub fn socket(&self) -> u32
+        ensures { result ≡ self.now.socket }
+    {
+        self.socket
     }
 
     /// When the deadline of its coordinator's round passes. It is `None` where no round is under way, and for a participant
@@ -135,5 +133,20 @@ impl<'p, M: Mapper> Server<'p, M> {
             None => None,
             Some(coordinator) => coordinator.due(),
         }
+    }
+
+    /// How many records its table has taken in. Own.
+    pub fn records(&self) -> u64
+        ensures { result ≡ self.now.maps.number }
+    {
+        self.maps.number()
+    }
+
+    /// Whether its mapper has made so many calls that it stops where it would map. Own.
+    pub fn is_worn(&self) -> bool
+        ensures worn { result ≡ true → IsWorn self.now.maps }
+        ensures fresh { result ≡ false → calls_of self.now.maps ≤ 2 ^ 63 }
+    {
+        is_worn(&self.maps)
     }
 }

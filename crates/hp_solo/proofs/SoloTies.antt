@@ -83,7 +83,7 @@ pub party_served_same : (hall : HallView) (party : Party) → IsTied (seen_in ha
     → IsPartyServed hall hall party party
 party_served_same hall party tied = record {
   serving = serving_same (λ who. who ≢ party.me) hall;
-  same = record { me = refl; socket = refl; plan = refl; deadline = refl; context = refl };
+  same = record { me = refl; socket = refl; plan = refl; deadline = refl };
   tied = tied;
 }
 

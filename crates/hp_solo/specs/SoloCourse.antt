@@ -56,7 +56,7 @@ served_on a b c who count (Some party) (Some mid) (Some after) here next =
 
 pub party_same : (party : Option Party) → IsLaterParty party party
 party_same None = tt
-party_same (Some party) = record { me = refl; socket = refl; plan = refl; deadline = refl; context = refl }
+party_same (Some party) = record { me = refl; socket = refl; plan = refl; deadline = refl }
 
 -- a place stays where one that is there does nothing
 pub server_stays : (old new : HallView) (who : ℕ) (server : Option AloneView) → (IsSome (party_in server) → HasDone old new who [])
@@ -74,7 +74,6 @@ same_then a b c here next = record {
   socket = next.socket ∙ here.socket;
   plan = next.plan ∙ here.plan;
   deadline = next.deadline ∙ here.deadline;
-  context = next.context ∙ here.context;
 }
 
 party_then : (a b c : Option Party) → IsLaterParty a b → IsLaterParty b c → IsLaterParty a c

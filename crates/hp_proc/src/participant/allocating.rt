@@ -11,11 +11,11 @@ ghost use Rattle.hp_proc.specs.Allocating.{serving, trying};
 ghost use Rattle.hp_serve.specs.Clocks.{RisesWithin, longest_allocation, longest_growth};
 ghost use Rattle.hp_proc.specs.Contexts.{IsNextLine, IsSocketHeapOf, named_heap};
 ghost use Rattle.hp_proc.specs.Heaps.{NamedHeap, heaps_for, socket_heaps};
-ghost use Rattle.hp_proc.specs.ParticipantView.{after_answer, with_calls, with_context};
+ghost use Rattle.hp_proc.specs.ParticipantView.{after_answer};
 ghost use Rattle.hp_proc.specs.Progress.{AreSettled, Brings, IsAllocation, MayDo, Tries};
 ghost use Rattle.hp_proc.specs.declared.socket_heap.SocketHeap.{SocketHeap};
 ghost use Rattle.hp_hall.specs.HallState.{IsBusy};
-ghost use Rattle.hp_proc.specs.LineInHall.{DoesLineHere, HasRoom, HoldsIn, IsIdleAgain, IsReadyIn, KeepsHeld, did_in, moment, moment_with};
+ghost use Rattle.hp_proc.specs.LineInHall.{DoesLineHere, HasCalled, HasRoom, HoldsIn, IsIdleAgain, IsReadyIn, KeepsHeld, did_in, moment, moment_with};
 
 use super::Participant;
 use crate::page_sizes::without_hint;
@@ -52,21 +52,21 @@ impl<'p, M: Mapper> Participant<'p, M> {
         request: &Request,
         tag: Tag,
     ) -> Result<Option<Answer>, AllocError>
-        requires holds { HoldsIn self.old.me self.old heap.old (H.state hall.old) }
+        requires holds { HoldsIn self.old.party.me self.old heap.old (H.state hall.old) }
         requires its { place.now.index ≡ heap.old.plain.index }
         requires of_socket { heap.old.plain.serves ≡ Some place.now.socket }
         requires room { HasRoom 3 heap.old self.old }
         ensures does { IfOk result (λ given. (heaps : List NamedHeap)
             → Tries place.now.index (H.state hall.old).count
-            (did_in self.old.me (H.state hall.old)
+            (did_in self.old.party.me (H.state hall.old)
             (H.state hall.new)) (trying self.old.context.pools request.now tag (named_heap place.now
             ∷ heaps)) (trying self.old.context.pools request.now tag heaps) given
-            (moment_with heap.old self.old.me self.old (H.state hall.old))
-            (moment_with heap.new self.old.me self.new (H.state hall.new))) }
-        ensures settled { OnOk result (AreSettled (moment self.old.me self.new (H.state hall.new))) }
-        ensures clock { RisesWithin H.pending (λ hall. IsBusy (H.state hall)) (longest_growth self.old.deadline)
+            (moment_with heap.old self.old.party.me self.old (H.state hall.old))
+            (moment_with heap.new self.old.party.me self.new (H.state hall.new))) }
+        ensures settled { OnOk result (AreSettled (moment self.old.party.me self.new (H.state hall.new))) }
+        ensures clock { RisesWithin H.pending (λ hall. IsBusy (H.state hall)) (longest_growth self.old.party.deadline)
             (H.state hall.old).clock (H.state hall.new).clock }
-        ensures keeps { KeepsHeld self.old.me self.old self.new heap.old heap.new (H.state hall.old) (H.state hall.new) }
+        ensures keeps { KeepsHeld self.old.party.me self.old self.new heap.old heap.new (H.state hall.old) (H.state hall.new) }
         ensures goes_on { H.goes_on hall.old hall.new }
     {
         let first = with_flags(request, without_hint(request.flags));
@@ -91,17 +91,17 @@ impl<'p, M: Mapper> Participant<'p, M> {
         tag: Tag,
     ) -> Result<Option<Answer>, AllocError>
         requires place { IsSocketHeapOf self.old.context.pools place.now }
-        requires ready { IsReadyIn self.old.me self.old (H.state hall.old) }
+        requires ready { IsReadyIn self.old.party.me self.old (H.state hall.old) }
         ensures does { IfOk result (λ given. (heaps : List NamedHeap)
             → Tries place.now.index (H.state hall.old).count
-            (did_in self.old.me (H.state hall.old)
+            (did_in self.old.party.me (H.state hall.old)
             (H.state hall.new)) (trying self.old.context.pools request.now tag (named_heap place.now
             ∷ heaps)) (trying self.old.context.pools request.now tag heaps) given
-            (moment self.old.me self.old (H.state hall.old)) (moment self.old.me self.new (H.state hall.new))) }
-        ensures ready { OnOk result (MayDo (moment self.old.me self.new (H.state hall.new))) }
-        ensures clock { RisesWithin H.pending (λ hall. IsBusy (H.state hall)) (longest_growth self.old.deadline)
+            (moment self.old.party.me self.old (H.state hall.old)) (moment self.old.party.me self.new (H.state hall.new))) }
+        ensures ready { OnOk result (MayDo (moment self.old.party.me self.new (H.state hall.new))) }
+        ensures clock { RisesWithin H.pending (λ hall. IsBusy (H.state hall)) (longest_growth self.old.party.deadline)
             (H.state hall.old).clock (H.state hall.new).clock }
-        ensures idle { IsIdleAgain self.old.me (with_calls self.new.context.calls self.old) self.new (H.state hall.new) }
+        ensures idle { HasCalled self.old.party.me self.old self.new (H.state hall.new) }
         ensures goes_on { H.goes_on hall.old hall.new }
     {
         let mut heap = self.hold(hall, place.index, CALLS)?;
@@ -119,16 +119,16 @@ impl<'p, M: Mapper> Participant<'p, M> {
         tag: Tag,
     ) -> Result<(Answer, u32), AllocError>
         requires places { (place : SocketHeap) → Contains places.now place → IsSocketHeapOf self.old.context.pools place }
-        requires ready { IsReadyIn self.old.me self.old (H.state hall.old) }
+        requires ready { IsReadyIn self.old.party.me self.old (H.state hall.old) }
         ensures does { IfOk result (λ given. Brings given.1 (H.state hall.old).count
-            (did_in self.old.me (H.state hall.old)
+            (did_in self.old.party.me (H.state hall.old)
             (H.state hall.new)) (serving self.old.context.pools request.now tag (map named_heap places.now)) given.0
-            (moment self.old.me self.old (H.state hall.old)) (moment self.old.me self.new (H.state hall.new))) }
+            (moment self.old.party.me self.old (H.state hall.old)) (moment self.old.party.me self.new (H.state hall.new))) }
         ensures few { IfOk result (λ given. given.1 < MAX_HEAPS) }
-        ensures ready { OnOk result (MayDo (moment self.old.me self.new (H.state hall.new))) }
+        ensures ready { OnOk result (MayDo (moment self.old.party.me self.new (H.state hall.new))) }
         ensures clock { RisesWithin H.pending (λ hall. IsBusy
-            (H.state hall)) (length places.now * longest_growth self.old.deadline) (H.state hall.old).clock (H.state hall.new).clock }
-        ensures idle { IsIdleAgain self.old.me (with_calls self.new.context.calls self.old) self.new (H.state hall.new) }
+            (H.state hall)) (length places.now * longest_growth self.old.party.deadline) (H.state hall.old).clock (H.state hall.new).clock }
+        ensures idle { HasCalled self.old.party.me self.old self.new (H.state hall.new) }
         ensures goes_on { H.goes_on hall.old hall.new }
     {
         if places.is_empty() {
@@ -166,12 +166,12 @@ impl<'p, M: Mapper> Participant<'p, M> {
 
     // The heaps that its allocation tries, in their order.
     fn heaps_for(&self, options: &Options<'_>) -> Result<Vec<SocketHeap>, AllocError>
-        ensures heaps { IfOk result (λ places. map named_heap places.items ≡ heaps_for self.now.socket (socket_heaps self.now.context.pools)
+        ensures heaps { IfOk result (λ places. map named_heap places.items ≡ heaps_for self.now.party.socket (socket_heaps self.now.context.pools)
             (option_map (λ name. name.text) options.now.heap) options.now.socket) }
         ensures of_pools { IfOk result (λ places. (place : SocketHeap) → Contains places.items place
             → IsSocketHeapOf self.now.context.pools place) }
     {
-        self.context.heaps_for(self.socket, options)
+        self.context.heaps_for(self.server.socket(), options)
     }
 
     // Serves the request of an allocation line.
@@ -185,13 +185,13 @@ impl<'p, M: Mapper> Participant<'p, M> {
         requires attached { self.old.context.standing.attached ≡ true }
         requires next { IsNextLine self.old.context line.now }
         requires asks { IsAllocation line.now options.now request.now }
-        requires ready { IsReadyIn self.old.me self.old (H.state hall.old) }
-        ensures does { IfOk result (λ given. DoesLineHere self.old.me self.old self.new (H.state hall.old)
+        requires ready { IsReadyIn self.old.party.me self.old (H.state hall.old) }
+        ensures does { IfOk result (λ given. DoesLineHere self.old.party.me self.old self.new (H.state hall.old)
             (H.state hall.new) line.now given) }
-        ensures ready { OnOk result (MayDo (moment self.old.me self.new (H.state hall.new))) }
-        ensures clock { RisesWithin H.pending (λ hall. IsBusy (H.state hall)) (longest_allocation self.old.deadline)
+        ensures ready { OnOk result (MayDo (moment self.old.party.me self.new (H.state hall.new))) }
+        ensures clock { RisesWithin H.pending (λ hall. IsBusy (H.state hall)) (longest_allocation self.old.party.deadline)
             (H.state hall.old).clock (H.state hall.new).clock }
-        ensures idle { IsIdleAgain self.old.me (with_context self.new.context self.old) self.new (H.state hall.new) }
+        ensures idle { IsIdleAgain self.old.party.me self.old.party self.new.party (H.state hall.new) }
         ensures goes_on { H.goes_on hall.old hall.new }
     {
         self.reserve_element()?;
@@ -215,16 +215,16 @@ impl<'p, M: Mapper> Participant<'p, M> {
         options: &Options<'_>,
     ) -> Result<Answer, AllocError>
         requires attached { self.old.context.standing.attached ≡ true }
-        requires own { line.now.participant ≡ self.old.me }
+        requires own { line.now.participant ≡ self.old.party.me }
         requires next { IsNextLine self.old.context line.now }
         requires act { (label : Part) × (line.now.act ≡ act.Alloc label size options.now) }
-        requires ready { IsReadyIn self.old.me self.old (H.state hall.old) }
-        ensures does { IfOk result (λ given. DoesLineHere self.old.me self.old self.new (H.state hall.old)
+        requires ready { IsReadyIn self.old.party.me self.old (H.state hall.old) }
+        ensures does { IfOk result (λ given. DoesLineHere self.old.party.me self.old self.new (H.state hall.old)
             (H.state hall.new) line.now given) }
-        ensures ready { OnOk result (MayDo (moment self.old.me self.new (H.state hall.new))) }
-        ensures clock { RisesWithin H.pending (λ hall. IsBusy (H.state hall)) (longest_allocation self.old.deadline)
+        ensures ready { OnOk result (MayDo (moment self.old.party.me self.new (H.state hall.new))) }
+        ensures clock { RisesWithin H.pending (λ hall. IsBusy (H.state hall)) (longest_allocation self.old.party.deadline)
             (H.state hall.old).clock (H.state hall.new).clock }
-        ensures idle { IsIdleAgain self.old.me (with_context self.new.context self.old) self.new (H.state hall.new) }
+        ensures idle { IsIdleAgain self.old.party.me self.old.party self.new.party (H.state hall.new) }
         ensures goes_on { H.goes_on hall.old hall.new }
     {
         match Request::new(size, options.align, options.bound, options.flags) {

@@ -1,82 +1,35 @@
 //! The lines by which a participant attaches and detaches.
-ghost use Rattle.std.specs.Prelude.{◌≡◌, ℕ, ◌^◌, ◌<◌, ◌≤◌, ◌∷◌, ◌++◌, ◌||◌, [], IfOk, OnErr, false, true, length};
-ghost use Rattle.hp_base.specs.Mapping.{is_done};
-ghost use Rattle.hp_maps.specs.MapsView.{calls_of};
+ghost use Rattle.std.specs.Prelude.{◌≡◌, ◌<◌, ℕ, IfOk, OnErr};
 ghost use Rattle.hp_script.specs.declared.answer.Answer.TheVariants as answer;
 ghost use Rattle.hp_script.specs.declared.line.Act.TheVariants as act;
-ghost use Rattle.hp_segs.specs.LaterSteps.{after_leave};
-ghost use Rattle.hp_segs.specs.SegsView.{SegsView};
-ghost use Rattle.hp_serve.specs.Attaching.{Attaches, after_attaching, after_detaching};
-ghost use Rattle.hp_proc.specs.Courses.{standing_tried};
-ghost use Rattle.hp_proc.specs.Courses.{attached_after};
+ghost use Rattle.hp_proc.specs.Courses.{attached_after, standing_tried};
 ghost use Rattle.hp_proc.specs.Doing.{Doing};
+ghost use Rattle.hp_proc.specs.LineInHall.{ChangesRoster, DoesLineHere, moment};
 ghost use Rattle.hp_proc.specs.Lines.{attached_with};
 ghost use Rattle.hp_proc.specs.ParticipantView.{with_standing};
 ghost use Rattle.hp_proc.specs.Progress.{MayDo};
-ghost use Rattle.hp_serve.specs.Serving.{IsWorn, acks_behind, gives_segments, takes_segments};
-ghost use Rattle.hp_hall.specs.HallState.{Did};
-ghost use Rattle.hp_proc.specs.LineInHall.{ChangesRoster, DoesLineHere, moment};
 ghost use Rattle.hp_serve.specs.InHall.{IsTiedIn};
-ghost use Rattle.hp_serve.specs.SegmentSlot.{MayHold, StaysButRoster};
+ghost use Rattle.hp_serve.specs.SegmentSlot.{MayHold};
+ghost use Rattle.hp_serve.specs.Serving.{IsWorn};
 
 use super::Participant;
-use hp_serve::{attach, detach};
-use hp_serve::{is_done, is_worn};
 use hp_base::{Caught, Mapper};
 use hp_hall::Hall;
 use hp_script::{Answer, Line};
 use std::alloc::AllocError;
 
 impl<'p, M: Mapper> Participant<'p, M> {
-    // A secondary catches up with the whole log and comes into the roster, or has no table.
-    pub(crate) fn attach<H: Hall>(&mut self, hall: &mut H) -> Caught
-        requires secondary { 0 < self.old.me }
-        requires may { MayHold self.old.me (H.state hall.old) }
-        requires tied { IsTiedIn self.old.me self.old (H.state hall.old) }
-        requires calls { calls_of self.old.maps ≤ 2 ^ 63 }
-        ensures did { (segs : SegsView) × Attaches self.old self.new segs.log result
-            × Did self.old.me (takes_segments segs ∷ (acks_behind result (length segs.log)
-            ++ (gives_segments (after_attaching self.old.me result segs) ∷ []))) (H.state hall.old) (H.state hall.new) }
-        ensures tied { IsTiedIn self.old.me self.new (H.state hall.new) }
-        ensures failed { is_done result ≡ false → (H.state hall.new).own self.old.me ≡ (H.state hall.old).own self.old.me }
-        ensures roster { (H.state hall.new).joined self.old.me ≡ ((H.state hall.old).joined self.old.me || is_done result) }
-        ensures stays { StaysButRoster self.old.me (H.state hall.old) (H.state hall.new) }
-        ensures goes_on { H.goes_on hall.old hall.new }
-    {
-        let caught = attach(hall, self.me, self.joined, &mut self.maps);
-        self.joined = is_done(&caught);
-        caught
-    }
-
-    // A secondary leaves the roster, and has no table.
-    pub(crate) fn detach<H: Hall>(&mut self, hall: &mut H)
-        requires secondary { 0 < self.old.me }
-        requires may { MayHold self.old.me (H.state hall.old) }
-        requires tied { IsTiedIn self.old.me self.old (H.state hall.old) }
-        ensures party { self.new ≡ after_detaching self.old }
-        ensures did { (segs : SegsView) × Did self.old.me (takes_segments segs ∷ gives_segments (after_leave self.old.me segs)
-            ∷ []) (H.state hall.old) (H.state hall.new) }
-        ensures tied { IsTiedIn self.old.me self.new (H.state hall.new) }
-        ensures own { (H.state hall.new).own self.old.me ≡ (H.state hall.old).own self.old.me }
-        ensures roster { (H.state hall.new).joined self.old.me ≡ false }
-        ensures stays { StaysButRoster self.old.me (H.state hall.old) (H.state hall.new) }
-        ensures goes_on { H.goes_on hall.old hall.new }
-    {
-        detach(hall, self.me, self.joined, &mut self.maps);
-        self.joined = false;
-    }
-
     // Notes what a line left that tried to attach, and gives the answer.
     fn note_attached(&mut self, caught: &Caught) -> Answer
-        ensures given { attached_with self.old.maps.number caught.now ≡ Doing.Ended result }
-        ensures noted { self.new ≡ with_standing (standing_tried self.old.maps.number caught.now self.old.context.standing) self.old }
+        ensures given { attached_with self.old.party.maps.number caught.now ≡ Doing.Ended result }
+        ensures noted { self.new ≡ with_standing (standing_tried self.old.party.maps.number caught.now self.old.context.standing) self.old }
     {
         match caught {
             Caught::Done => {
                 self.context.attached = true;
-                self.context.records = self.maps.number();
+                self.context.records = self.server.records();
                 Answer::Records {
-                    records: self.maps.number(),
+                    records: self.server.records(),
                 }
             }
             Caught::Refused { call, .. } | Caught::Elsewhere { call, .. } => {
@@ -101,29 +54,29 @@ impl<'p, M: Mapper> Participant<'p, M> {
         line: &Line<'_>,
     ) -> Result<Answer, AllocError>
         requires act { line.now.act ≡ act.Attach }
-        requires secondary { 0 < self.old.me }
-        requires may { MayHold self.old.me (H.state hall.old) }
-        requires tied { IsTiedIn self.old.me self.old (H.state hall.old) }
-        ensures does { IfOk result (λ given. DoesLineHere self.old.me self.old self.new (H.state hall.old)
+        requires secondary { 0 < self.old.party.me }
+        requires may { MayHold self.old.party.me (H.state hall.old) }
+        requires tied { IsTiedIn self.old.party.me self.old.party (H.state hall.old) }
+        ensures does { IfOk result (λ given. DoesLineHere self.old.party.me self.old self.new (H.state hall.old)
             (H.state hall.new) line.now given) }
-        ensures ready { MayDo (moment self.old.me self.old (H.state hall.old)) → MayDo (moment self.old.me self.new (H.state hall.new)) }
+        ensures ready { MayDo (moment self.old.party.me self.old (H.state hall.old)) → MayDo (moment self.old.party.me self.new (H.state hall.new)) }
 
         // Where a mapping failed, it has acknowledged as many records as before.
         ensures failed { IfOk result (λ given. (call : ℕ) → given ≡ answer.Refused call
-            → (H.state hall.new).own self.old.me ≡ (H.state hall.old).own self.old.me) }
-        ensures err { OnErr result (IsWorn self.old.maps × (self.new ≡ self.old)
-            × ((H.state hall.new).joined self.old.me ≡ (H.state hall.old).joined self.old.me)) }
+            → (H.state hall.new).own self.old.party.me ≡ (H.state hall.old).own self.old.party.me) }
+        ensures err { OnErr result (IsWorn self.old.party.maps × (self.new ≡ self.old)
+            × ((H.state hall.new).joined self.old.party.me ≡ (H.state hall.old).joined self.old.party.me)) }
 
         // It is in the roster as the line leaves it attached.
-        ensures roster { IfOk result (λ given. (H.state hall.new).joined self.old.me
-            ≡ attached_after line.now.act given ((H.state hall.old).joined self.old.me)) }
-        ensures changes { ChangesRoster self.old.me self.old self.new (H.state hall.old) (H.state hall.new) }
+        ensures roster { IfOk result (λ given. (H.state hall.new).joined self.old.party.me
+            ≡ attached_after line.now.act given ((H.state hall.old).joined self.old.party.me)) }
+        ensures changes { ChangesRoster self.old.party.me self.old.party self.new.party (H.state hall.old) (H.state hall.new) }
         ensures goes_on { H.goes_on hall.old hall.new }
     {
         if self.context.attached {
             return Ok(Answer::Already);
         }
-        if is_worn(&self.maps) {
+        if self.server.is_worn() {
             return Err(AllocError);
         }
         let caught = self.attach(hall);
@@ -134,14 +87,14 @@ impl<'p, M: Mapper> Participant<'p, M> {
     /// stay. After rte_eal_cleanup of a secondary process.
     pub fn do_detach<H: Hall>(&mut self, hall: &mut H, line: &Line<'_>) -> Answer
         requires act { line.now.act ≡ act.Detach }
-        requires secondary { 0 < self.old.me }
-        requires may { MayHold self.old.me (H.state hall.old) }
-        requires tied { IsTiedIn self.old.me self.old (H.state hall.old) }
-        ensures does { DoesLineHere self.old.me self.old self.new (H.state hall.old) (H.state hall.new) line.now result }
-        ensures roster { (H.state hall.new).joined self.old.me
-            ≡ attached_after line.now.act result ((H.state hall.old).joined self.old.me) }
-        ensures ready { MayDo (moment self.old.me self.old (H.state hall.old)) → MayDo (moment self.old.me self.new (H.state hall.new)) }
-        ensures changes { ChangesRoster self.old.me self.old self.new (H.state hall.old) (H.state hall.new) }
+        requires secondary { 0 < self.old.party.me }
+        requires may { MayHold self.old.party.me (H.state hall.old) }
+        requires tied { IsTiedIn self.old.party.me self.old.party (H.state hall.old) }
+        ensures does { DoesLineHere self.old.party.me self.old self.new (H.state hall.old) (H.state hall.new) line.now result }
+        ensures roster { (H.state hall.new).joined self.old.party.me
+            ≡ attached_after line.now.act result ((H.state hall.old).joined self.old.party.me) }
+        ensures ready { MayDo (moment self.old.party.me self.old (H.state hall.old)) → MayDo (moment self.old.party.me self.new (H.state hall.new)) }
+        ensures changes { ChangesRoster self.old.party.me self.old.party self.new.party (H.state hall.old) (H.state hall.new) }
         ensures goes_on { H.goes_on hall.old hall.new }
     {
         if !self.context.attached {

@@ -30,15 +30,15 @@ impl<'p, M: Mapper> Participant<'p, M> {
         place: &SearchedHeap,
         addr: u64,
     ) -> Left
-        requires holds { HoldsIn self.old.me self.old heap.old (H.state hall.old) }
+        requires holds { HoldsIn self.old.party.me self.old heap.old (H.state hall.old) }
         requires its { place.now.index ≡ heap.old.plain.index }
         requires of_socket { place.now.serves ≡ heap.old.plain.serves }
         requires room { HasRoom 2 heap.old self.old }
-        ensures does { DoesHeld self.old.me self.old self.new heap.old heap.new (H.state hall.old)
+        ensures does { DoesHeld self.old.party.me self.old self.new heap.old heap.new (H.state hall.old)
             (H.state hall.new) (freeing place.now addr) (left_of place.now.index result) }
-        ensures settled { AreSettled (moment self.old.me self.new (H.state hall.new)) }
-        ensures keeps { KeepsHeld self.old.me self.old self.new heap.old heap.new (H.state hall.old) (H.state hall.new) }
-        ensures others { OthersStay self.old.me (H.state hall.old) (H.state hall.new) }
+        ensures settled { AreSettled (moment self.old.party.me self.new (H.state hall.new)) }
+        ensures keeps { KeepsHeld self.old.party.me self.old self.new heap.old heap.new (H.state hall.old) (H.state hall.new) }
+        ensures others { OthersStay self.old.party.me (H.state hall.old) (H.state hall.new) }
         ensures goes_on { H.goes_on hall.old hall.new }
     {
         match self.free_in(heap, addr) {
@@ -60,15 +60,15 @@ impl<'p, M: Mapper> Participant<'p, M> {
         place: &SearchedHeap,
         addr: u64,
     ) -> Left
-        requires holds { HoldsIn self.old.me self.old heap.old (H.state hall.old) }
+        requires holds { HoldsIn self.old.party.me self.old heap.old (H.state hall.old) }
         requires its { place.now.index ≡ heap.old.plain.index }
         requires of_socket { place.now.serves ≡ heap.old.plain.serves }
         requires room { HasRoom 1 heap.old self.old }
-        ensures does { DoesHeld self.old.me self.old self.new heap.old heap.new (H.state hall.old)
+        ensures does { DoesHeld self.old.party.me self.old self.new heap.old heap.new (H.state hall.old)
             (H.state hall.new) (cutting place.now addr) (left_of place.now.index result) }
-        ensures settled { AreSettled (moment self.old.me self.new (H.state hall.new)) }
-        ensures keeps { KeepsHeld self.old.me self.old self.new heap.old heap.new (H.state hall.old) (H.state hall.new) }
-        ensures others { OthersStay self.old.me (H.state hall.old) (H.state hall.new) }
+        ensures settled { AreSettled (moment self.old.party.me self.new (H.state hall.new)) }
+        ensures keeps { KeepsHeld self.old.party.me self.old self.new heap.old heap.new (H.state hall.old) (H.state hall.new) }
+        ensures others { OthersStay self.old.party.me (H.state hall.old) (H.state hall.new) }
         ensures goes_on { H.goes_on hall.old hall.new }
     {
         let done = Left::Answered {
@@ -115,15 +115,15 @@ impl<'p, M: Mapper> Participant<'p, M> {
         action: ElementAct,
     ) -> Left
         requires may { MayAct action addr heap.old.plain }
-        requires holds { HoldsIn self.old.me self.old heap.old (H.state hall.old) }
+        requires holds { HoldsIn self.old.party.me self.old heap.old (H.state hall.old) }
         requires its { place.now.index ≡ heap.old.plain.index }
         requires of_socket { place.now.serves ≡ heap.old.plain.serves }
         requires room { HasRoom 2 heap.old self.old }
-        ensures does { DoesHeld self.old.me self.old self.new heap.old heap.new (H.state hall.old)
+        ensures does { DoesHeld self.old.party.me self.old self.new heap.old heap.new (H.state hall.old)
             (H.state hall.new) (acting action place.now addr) (left_of place.now.index result) }
-        ensures settled { AreSettled (moment self.old.me self.new (H.state hall.new)) }
-        ensures keeps { KeepsHeld self.old.me self.old self.new heap.old heap.new (H.state hall.old) (H.state hall.new) }
-        ensures others { OthersStay self.old.me (H.state hall.old) (H.state hall.new) }
+        ensures settled { AreSettled (moment self.old.party.me self.new (H.state hall.new)) }
+        ensures keeps { KeepsHeld self.old.party.me self.old self.new heap.old heap.new (H.state hall.old) (H.state hall.new) }
+        ensures others { OthersStay self.old.party.me (H.state hall.old) (H.state hall.new) }
         ensures goes_on { H.goes_on hall.old hall.new }
     {
         match action {

@@ -26,18 +26,18 @@ impl<'p, M: Mapper> Participant<'p, M> {
         heap: &mut Heap,
         asked: &PagesAsked,
     ) -> Result<bool, AllocError>
-        requires holds { HoldsIn self.old.me self.old heap.old (H.state hall.old) }
+        requires holds { HoldsIn self.old.party.me self.old heap.old (H.state hall.old) }
         requires its { asked.now.heap ≡ heap.old.plain.index }
         requires of_socket { IsSome heap.old.plain.serves }
         requires room { HasRoom 1 heap.old self.old }
         ensures does { IfOk result (λ granted. (tag : Tag) (otherwise : Doing)
-            → DoesHeld self.old.me self.old self.new heap.old heap.new (H.state hall.old)
+            → DoesHeld self.old.party.me self.old self.new heap.old heap.new (H.state hall.old)
             (H.state hall.new) (Doing.Asks asked.now (with_run asked.now.heap asked.now.request tag otherwise))
             (behind_asking asked.now.heap asked.now.request tag otherwise granted)) }
-        ensures settled { OnOk result (AreSettled (moment self.old.me self.new (H.state hall.new))) }
-        ensures clock { RisesWithin H.pending (λ hall. IsBusy (H.state hall)) (longest_wait self.old.deadline)
+        ensures settled { OnOk result (AreSettled (moment self.old.party.me self.new (H.state hall.new))) }
+        ensures clock { RisesWithin H.pending (λ hall. IsBusy (H.state hall)) (longest_wait self.old.party.deadline)
             (H.state hall.old).clock (H.state hall.new).clock }
-        ensures keeps { KeepsHeld self.old.me self.old self.new heap.old heap.new (H.state hall.old) (H.state hall.new) }
+        ensures keeps { KeepsHeld self.old.party.me self.old self.new heap.old heap.new (H.state hall.old) (H.state hall.new) }
         ensures goes_on { H.goes_on hall.old hall.new }
         ensures passed { IfOk result (λ granted. granted ≡ false → (heap.new ≡ heap.old) × (self.new.context ≡ self.old.context)) }
         ensures spare { heap.old.spare ≤ heap.new.spare + 1 }
@@ -60,19 +60,19 @@ impl<'p, M: Mapper> Participant<'p, M> {
         place: &SocketHeap,
         request: &Request,
     ) -> Result<bool, AllocError>
-        requires holds { HoldsIn self.old.me self.old heap.old (H.state hall.old) }
+        requires holds { HoldsIn self.old.party.me self.old heap.old (H.state hall.old) }
         requires its { place.now.index ≡ heap.old.plain.index }
         requires of_socket { heap.old.plain.serves ≡ Some place.now.socket }
         requires room { HasRoom 1 heap.old self.old }
         ensures does { IfOk result (λ granted. (tag : Tag) (otherwise : Doing)
-            → DoesHeld self.old.me self.old self.new heap.old heap.new (H.state hall.old)
+            → DoesHeld self.old.party.me self.old self.new heap.old heap.new (H.state hall.old)
             (H.state hall.new) (asking place.now.index place.now.socket request.now tag otherwise
             (page_sizes_for self.old.context.pools place.now.socket request.now.flags)) (behind_asking place.now.index
             request.now tag otherwise granted)) }
-        ensures settled { OnOk result (AreSettled (moment self.old.me self.new (H.state hall.new))) }
-        ensures clock { RisesWithin H.pending (λ hall. IsBusy (H.state hall)) (longest_growth self.old.deadline)
+        ensures settled { OnOk result (AreSettled (moment self.old.party.me self.new (H.state hall.new))) }
+        ensures clock { RisesWithin H.pending (λ hall. IsBusy (H.state hall)) (longest_growth self.old.party.deadline)
             (H.state hall.old).clock (H.state hall.new).clock }
-        ensures keeps { KeepsHeld self.old.me self.old self.new heap.old heap.new (H.state hall.old) (H.state hall.new) }
+        ensures keeps { KeepsHeld self.old.party.me self.old self.new heap.old heap.new (H.state hall.old) (H.state hall.new) }
         ensures goes_on { H.goes_on hall.old hall.new }
         ensures spare { heap.old.spare ≤ heap.new.spare + 1 }
         ensures more { self.new.context.calls ≤ self.old.context.calls + 1 }

@@ -26,7 +26,7 @@ impl<'p, M: Mapper> Participant<'p, M> {
     {
         self.context.calls += 1;
         Caller {
-            participant: self.me,
+            participant: self.number(),
             number: self.context.calls,
         }
     }
@@ -42,7 +42,7 @@ impl<'p, M: Mapper> Participant<'p, M> {
         requires counted { self.old.context.calls + 1 < 2 ^ 64 }
         ensures step { IsCall (caller_of self.old) (call.Alloc request.now tag) (address_answer result) heap.old heap.new }
         ensures counted { self.new ≡ after_call self.old }
-        ensures none { IfNone result (HasNoChoice self.old.me request.now heap.old.plain) }
+        ensures none { IfNone result (HasNoChoice self.old.party.me request.now heap.old.plain) }
     {
         let caller = self.next_caller();
         heap.alloc(caller, request, tag)
@@ -73,7 +73,7 @@ impl<'p, M: Mapper> Participant<'p, M> {
 
     // A resize of the element at an address.
     pub(crate) fn resize_in(&mut self, heap: &mut Heap, addr: u64, size: u64) -> bool
-        requires allowed { IsAllowed self.old.me (call.Resize addr size) heap.old.plain }
+        requires allowed { IsAllowed self.old.party.me (call.Resize addr size) heap.old.plain }
         requires spare { 0 < heap.old.spare }
         requires counted { self.old.context.calls + 1 < 2 ^ 64 }
         ensures step { IsCall (caller_of self.old) (call.Resize addr size) (resize_answer result) heap.old heap.new }
@@ -97,7 +97,7 @@ impl<'p, M: Mapper> Participant<'p, M> {
 
     // A run of pages comes.
     pub(crate) fn grow_in(&mut self, heap: &mut Heap, run: &Run)
-        requires allowed { IsAllowed self.old.me (call.Grow run.now) heap.old.plain }
+        requires allowed { IsAllowed self.old.party.me (call.Grow run.now) heap.old.plain }
         requires spare { 0 < heap.old.spare }
         requires counted { self.old.context.calls + 1 < 2 ^ 64 }
         ensures step { IsCall (caller_of self.old) (call.Grow run.now) gives.Done heap.old heap.new }

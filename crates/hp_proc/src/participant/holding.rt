@@ -21,20 +21,21 @@ impl<'p, M: Mapper> Participant<'p, M> {
     // Tries to take the heap of an index, and takes turns while another one holds it.
     fn take_heap<H: Waiting>(&mut self, hall: &mut H, index: u32) -> Result<Heap, AllocError>
         requires few { index < MAX_HEAPS }
-        requires ready { IsReadyIn self.old.me self.old (H.state hall.old) }
+        requires ready { IsReadyIn self.old.party.me self.old (H.state hall.old) }
         ensures did { IfOk result (λ heap. (doing : Doing) → Does (H.state hall.old).count
-            (did_in self.old.me (H.state hall.old) (H.state hall.new)) doing doing
-            (moment self.old.me self.old (H.state hall.old)) (moment_with heap self.old.me self.new (H.state hall.new))) }
-        ensures holds { IfOk result (λ heap. HoldsIn self.old.me self.new heap (H.state hall.new)) }
+            (did_in self.old.party.me (H.state hall.old) (H.state hall.new)) doing doing
+            (moment self.old.party.me self.old (H.state hall.old)) (moment_with heap self.old.party.me self.new (H.state hall.new))) }
+        ensures holds { IfOk result (λ heap. HoldsIn self.old.party.me self.new heap (H.state hall.new)) }
         ensures index { IfOk result (λ heap. heap.plain.index ≡ index) }
-        ensures same { IsSameParty self.old self.new }
+        ensures same { IsSameParty self.old.party self.new.party }
+        ensures context { self.new.context ≡ self.old.context }
         ensures slots { AreFreeBut index (H.state hall.new) }
-        ensures err { OnErr result (IsIdleIn self.old.me self.new (H.state hall.new)) }
+        ensures err { OnErr result (IsIdleIn self.old.party.me self.new.party (H.state hall.new)) }
         ensures clock { RisesWithin H.pending (λ hall. IsBusy (H.state hall)) 0 (H.state hall.old).clock (H.state hall.new).clock }
         ensures goes_on { H.goes_on hall.old hall.new }
     {
         'taking: loop {
-            match hall.try_take(self.me, Slot::Heap(index)) {
+            match hall.try_take(self.number(), Slot::Heap(index)) {
                 Ok(kept) => return Ok(kept.into_heap()),
                 Err(_) => {
                     self.turn(hall, u64::MAX)?;
@@ -45,21 +46,21 @@ impl<'p, M: Mapper> Participant<'p, M> {
 
     // Gives a heap back.
     pub(crate) fn put<H: Hall>(&self, hall: &mut H, heap: Heap)
-        requires serves { (H.state hall.old).serves self.now.me }
-        requires in_hand { IsInHand (H.state hall.old).taken (moment self.now.me self.now (H.state hall.old)) heap }
+        requires serves { (H.state hall.old).serves self.now.party.me }
+        requires in_hand { IsInHand (H.state hall.old).taken (moment self.now.party.me self.now (H.state hall.old)) heap }
         ensures does { (doing : Doing) → Does (H.state hall.old).count
-            (did_in self.now.me (H.state hall.old) (H.state hall.new)) doing doing
-            (moment_with heap self.now.me self.now (H.state hall.old)) (moment self.now.me self.now (H.state hall.new)) }
-        ensures ready { AreSettled (moment self.now.me self.now (H.state hall.old))
-            → MayDo (moment self.now.me self.now (H.state hall.new)) }
-        ensures tied { IsTiedIn self.now.me self.now (H.state hall.old) → IsTiedIn self.now.me self.now (H.state hall.new) }
+            (did_in self.now.party.me (H.state hall.old) (H.state hall.new)) doing doing
+            (moment_with heap self.now.party.me self.now (H.state hall.old)) (moment self.now.party.me self.now (H.state hall.new)) }
+        ensures ready { AreSettled (moment self.now.party.me self.now (H.state hall.old))
+            → MayDo (moment self.now.party.me self.now (H.state hall.new)) }
+        ensures tied { IsTiedIn self.now.party.me self.now.party (H.state hall.old) → IsTiedIn self.now.party.me self.now.party (H.state hall.new) }
         ensures free { IsFreeAt heap.plain.index (H.state hall.new) }
         ensures slots { SlotsStayBut heap.plain.index (H.state hall.old) (H.state hall.new) }
-        ensures others { OthersStay self.now.me (H.state hall.old) (H.state hall.new) }
+        ensures others { OthersStay self.now.party.me (H.state hall.old) (H.state hall.new) }
         ensures goes_on { H.goes_on hall.old hall.new }
     {
         let index = heap.index();
-        hall.give(self.me, Slot::Heap(index), Kept::Heap(heap));
+        hall.give(self.number(), Slot::Heap(index), Kept::Heap(heap));
     }
 
     // Takes the heap of an index into its hand, with room for so many calls. Where there is no memory for them, it is given back.
@@ -70,16 +71,17 @@ impl<'p, M: Mapper> Participant<'p, M> {
         calls: usize,
     ) -> Result<Heap, AllocError>
         requires few { index < MAX_HEAPS }
-        requires ready { IsReadyIn self.old.me self.old (H.state hall.old) }
+        requires ready { IsReadyIn self.old.party.me self.old (H.state hall.old) }
         ensures did { IfOk result (λ heap. (doing : Doing) → Does (H.state hall.old).count
-            (did_in self.old.me (H.state hall.old) (H.state hall.new)) doing doing
-            (moment self.old.me self.old (H.state hall.old)) (moment_with heap self.old.me self.new (H.state hall.new))) }
-        ensures holds { IfOk result (λ heap. HoldsIn self.old.me self.new heap (H.state hall.new)) }
+            (did_in self.old.party.me (H.state hall.old) (H.state hall.new)) doing doing
+            (moment self.old.party.me self.old (H.state hall.old)) (moment_with heap self.old.party.me self.new (H.state hall.new))) }
+        ensures holds { IfOk result (λ heap. HoldsIn self.old.party.me self.new heap (H.state hall.new)) }
         ensures index { IfOk result (λ heap. heap.plain.index ≡ index) }
         ensures room { IfOk result (λ heap. HasRoom calls heap self.new) }
-        ensures same { IsSameParty self.old self.new }
+        ensures same { IsSameParty self.old.party self.new.party }
+        ensures context { self.new.context ≡ self.old.context }
         ensures slots { AreFreeBut index (H.state hall.new) }
-        ensures err { OnErr result (IsIdleIn self.old.me self.new (H.state hall.new)) }
+        ensures err { OnErr result (IsIdleIn self.old.party.me self.new.party (H.state hall.new)) }
         ensures clock { RisesWithin H.pending (λ hall. IsBusy (H.state hall)) 0 (H.state hall.old).clock (H.state hall.new).clock }
         ensures goes_on { H.goes_on hall.old hall.new }
     {

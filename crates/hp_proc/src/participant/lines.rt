@@ -6,7 +6,6 @@ ghost use Rattle.hp_script.specs.declared.line.Act.TheVariants as act;
 ghost use Rattle.hp_serve.specs.Clocks.{RisesWithin, longest_wait};
 ghost use Rattle.hp_proc.specs.Contexts.{IsNextLine};
 ghost use Rattle.hp_proc.specs.Freeing.{resize_refusal};
-ghost use Rattle.hp_proc.specs.ParticipantView.{with_context};
 ghost use Rattle.hp_proc.specs.Progress.{IsLineBuilt, MayDo};
 ghost use Rattle.hp_hall.specs.HallState.{IsBusy};
 ghost use Rattle.hp_proc.specs.LineInHall.{DoesLineHere, IsIdleAgain, IsReadyIn, moment};
@@ -52,15 +51,15 @@ impl<'p, M: Mapper> Participant<'p, M> {
         label: &Token<'_>,
     ) -> Result<Answer, AllocError>
         requires attached { self.old.context.standing.attached ≡ true }
-        requires own { line.now.participant ≡ self.old.me }
+        requires own { line.now.participant ≡ self.old.party.me }
         requires act { line.now.act ≡ act.Free label.now }
-        requires ready { IsReadyIn self.old.me self.old (H.state hall.old) }
-        ensures does { IfOk result (λ given. DoesLineHere self.old.me self.old self.new (H.state hall.old)
+        requires ready { IsReadyIn self.old.party.me self.old (H.state hall.old) }
+        ensures does { IfOk result (λ given. DoesLineHere self.old.party.me self.old self.new (H.state hall.old)
             (H.state hall.new) line.now given) }
-        ensures ready { OnOk result (MayDo (moment self.old.me self.new (H.state hall.new))) }
-        ensures clock { RisesWithin H.pending (λ hall. IsBusy (H.state hall)) (longest_wait self.old.deadline)
+        ensures ready { OnOk result (MayDo (moment self.old.party.me self.new (H.state hall.new))) }
+        ensures clock { RisesWithin H.pending (λ hall. IsBusy (H.state hall)) (longest_wait self.old.party.deadline)
             (H.state hall.old).clock (H.state hall.new).clock }
-        ensures idle { IsIdleAgain self.old.me (with_context self.new.context self.old) self.new (H.state hall.new) }
+        ensures idle { IsIdleAgain self.old.party.me self.old.party self.new.party (H.state hall.new) }
         ensures goes_on { H.goes_on hall.old hall.new }
     {
         self.act_on(hall, line, label, None)
@@ -75,15 +74,15 @@ impl<'p, M: Mapper> Participant<'p, M> {
         size: u64,
     ) -> Result<Answer, AllocError>
         requires attached { self.old.context.standing.attached ≡ true }
-        requires own { line.now.participant ≡ self.old.me }
+        requires own { line.now.participant ≡ self.old.party.me }
         requires act { line.now.act ≡ act.Resize label.now size }
-        requires ready { IsReadyIn self.old.me self.old (H.state hall.old) }
-        ensures does { IfOk result (λ given. DoesLineHere self.old.me self.old self.new (H.state hall.old)
+        requires ready { IsReadyIn self.old.party.me self.old (H.state hall.old) }
+        ensures does { IfOk result (λ given. DoesLineHere self.old.party.me self.old self.new (H.state hall.old)
             (H.state hall.new) line.now given) }
-        ensures ready { OnOk result (MayDo (moment self.old.me self.new (H.state hall.new))) }
-        ensures clock { RisesWithin H.pending (λ hall. IsBusy (H.state hall)) (longest_wait self.old.deadline)
+        ensures ready { OnOk result (MayDo (moment self.old.party.me self.new (H.state hall.new))) }
+        ensures clock { RisesWithin H.pending (λ hall. IsBusy (H.state hall)) (longest_wait self.old.party.deadline)
             (H.state hall.old).clock (H.state hall.new).clock }
-        ensures idle { IsIdleAgain self.old.me (with_context self.new.context self.old) self.new (H.state hall.new) }
+        ensures idle { IsIdleAgain self.old.party.me self.old.party self.new.party (H.state hall.new) }
         ensures goes_on { H.goes_on hall.old hall.new }
     {
         match rounded(size) {
@@ -100,14 +99,14 @@ impl<'p, M: Mapper> Participant<'p, M> {
         name: &Token<'_>,
     ) -> Result<Answer, AllocError>
         requires attached { self.old.context.standing.attached ≡ true }
-        requires own { line.now.participant ≡ self.old.me }
+        requires own { line.now.participant ≡ self.old.party.me }
         requires act { line.now.act ≡ act.Dump name.now }
-        requires ready { IsReadyIn self.old.me self.old (H.state hall.old) }
-        ensures does { IfOk result (λ given. DoesLineHere self.old.me self.old self.new (H.state hall.old)
+        requires ready { IsReadyIn self.old.party.me self.old (H.state hall.old) }
+        ensures does { IfOk result (λ given. DoesLineHere self.old.party.me self.old self.new (H.state hall.old)
             (H.state hall.new) line.now given) }
-        ensures ready { OnOk result (MayDo (moment self.old.me self.new (H.state hall.new))) }
+        ensures ready { OnOk result (MayDo (moment self.old.party.me self.new (H.state hall.new))) }
         ensures clock { RisesWithin H.pending (λ hall. IsBusy (H.state hall)) 0 (H.state hall.old).clock (H.state hall.new).clock }
-        ensures idle { IsIdleAgain self.old.me (with_context self.new.context self.old) self.new (H.state hall.new) }
+        ensures idle { IsIdleAgain self.old.party.me self.old.party self.new.party (H.state hall.new) }
         ensures goes_on { H.goes_on hall.old hall.new }
     {
         let Some(index) = self.context.index_named(name) else {
@@ -127,17 +126,17 @@ impl<'p, M: Mapper> Participant<'p, M> {
         hall: &mut H,
         line: &Line<'_>,
     ) -> Result<Answer, AllocError>
-        requires own { line.now.participant ≡ self.old.me }
+        requires own { line.now.participant ≡ self.old.party.me }
         requires next { IsNextLine self.old.context line.now }
-        requires built { IsLineBuilt self.old.me line.now.act }
-        requires ready { IsReadyIn self.old.me self.old (H.state hall.old) }
+        requires built { IsLineBuilt self.old.party.me line.now.act }
+        requires ready { IsReadyIn self.old.party.me self.old (H.state hall.old) }
 
         // What it did, by what was known when it began, and what that leaves.
-        ensures does { IfOk result (λ given. DoesLineHere self.old.me self.old self.new (H.state hall.old)
+        ensures does { IfOk result (λ given. DoesLineHere self.old.party.me self.old self.new (H.state hall.old)
             (H.state hall.new) line.now given) }
-        ensures ready { OnOk result (MayDo (moment self.old.me self.new (H.state hall.new))) }
+        ensures ready { OnOk result (MayDo (moment self.old.party.me self.new (H.state hall.new))) }
         ensures clock { RisesWithin H.pending (λ hall. IsBusy (H.state hall)) (2 ^ 40) (H.state hall.old).clock (H.state hall.new).clock }
-        ensures idle { IsIdleAgain self.old.me (with_context self.new.context self.old) self.new (H.state hall.new) }
+        ensures idle { IsIdleAgain self.old.party.me self.old.party self.new.party (H.state hall.new) }
         ensures goes_on { H.goes_on hall.old hall.new }
     {
         match &line.act {

@@ -8,11 +8,10 @@ ghost use Rattle.hp_proc.specs.Contexts.{AreFactsOf, IsPlaceOf};
 ghost use Rattle.hp_proc.specs.Doing.{Doing};
 ghost use Rattle.hp_proc.specs.Freeing.{IsSizedWell, act_for, acting, behind_looking, left_of, looking};
 ghost use Rattle.hp_proc.specs.Lines.{Facts, on_element};
-ghost use Rattle.hp_proc.specs.ParticipantView.{with_calls};
 ghost use Rattle.hp_proc.specs.Progress.{AreSettled, MayDo};
 ghost use Rattle.hp_proc.specs.declared.searched_heap.SearchedHeap.{SearchedHeap};
 ghost use Rattle.hp_hall.specs.HallState.{IsBusy, OthersStay};
-ghost use Rattle.hp_proc.specs.LineInHall.{DoesHeld, DoesHere, HasRoom, HoldsIn, IsIdleAgain, IsReadyIn, KeepsHeld, moment};
+ghost use Rattle.hp_proc.specs.LineInHall.{DoesHeld, DoesHere, HasCalled, HasRoom, HoldsIn, IsReadyIn, KeepsHeld, moment};
 
 use super::Participant;
 use crate::element_act::{ElementAct, Left};
@@ -38,16 +37,16 @@ impl<'p, M: Mapper> Participant<'p, M> {
         action: ElementAct,
     ) -> Option<Left>
         requires size { IsSizedWell action }
-        requires holds { HoldsIn self.old.me self.old heap.old (H.state hall.old) }
+        requires holds { HoldsIn self.old.party.me self.old heap.old (H.state hall.old) }
         requires its { place.now.index ≡ heap.old.plain.index }
         requires of_socket { place.now.serves ≡ heap.old.plain.serves }
         requires room { HasRoom 3 heap.old self.old }
-        ensures does { (places : List SearchedHeap) → DoesHeld self.old.me self.old self.new heap.old heap.new (H.state hall.old)
+        ensures does { (places : List SearchedHeap) → DoesHeld self.old.party.me self.old self.new heap.old heap.new (H.state hall.old)
             (H.state hall.new) (looking tag (acting action) (place.now
             ∷ places)) (behind_looking place.now.index (looking tag (acting action) places) result) }
-        ensures settled { AreSettled (moment self.old.me self.new (H.state hall.new)) }
-        ensures keeps { KeepsHeld self.old.me self.old self.new heap.old heap.new (H.state hall.old) (H.state hall.new) }
-        ensures others { OthersStay self.old.me (H.state hall.old) (H.state hall.new) }
+        ensures settled { AreSettled (moment self.old.party.me self.new (H.state hall.new)) }
+        ensures keeps { KeepsHeld self.old.party.me self.old self.new heap.old heap.new (H.state hall.old) (H.state hall.new) }
+        ensures others { OthersStay self.old.party.me (H.state hall.old) (H.state hall.new) }
         ensures goes_on { H.goes_on hall.old hall.new }
     {
         let addr = self.find_in(heap, tag)?;
@@ -61,13 +60,13 @@ impl<'p, M: Mapper> Participant<'p, M> {
         heap: u32,
         left: Left,
     ) -> Result<Answer, AllocError>
-        requires ready { IsReadyIn self.old.me self.old (H.state hall.old) }
-        ensures does { IfOk result (λ given. DoesHere self.old.me self.old self.new (H.state hall.old)
+        requires ready { IsReadyIn self.old.party.me self.old (H.state hall.old) }
+        ensures does { IfOk result (λ given. DoesHere self.old.party.me self.old self.new (H.state hall.old)
             (H.state hall.new) (left_of heap left) (Doing.Ended given)) }
-        ensures ready { OnOk result (MayDo (moment self.old.me self.new (H.state hall.new))) }
-        ensures clock { RisesWithin H.pending (λ hall. IsBusy (H.state hall)) (longest_wait self.old.deadline)
+        ensures ready { OnOk result (MayDo (moment self.old.party.me self.new (H.state hall.new))) }
+        ensures clock { RisesWithin H.pending (λ hall. IsBusy (H.state hall)) (longest_wait self.old.party.deadline)
             (H.state hall.old).clock (H.state hall.new).clock }
-        ensures idle { IsIdleAgain self.old.me (with_calls self.new.context.calls self.old) self.new (H.state hall.new) }
+        ensures idle { HasCalled self.old.party.me self.old self.new (H.state hall.new) }
         ensures goes_on { H.goes_on hall.old hall.new }
     {
         match left {
@@ -90,14 +89,14 @@ impl<'p, M: Mapper> Participant<'p, M> {
     ) -> Result<Option<Left>, AllocError>
         requires size { IsSizedWell action }
         requires place { IsPlaceOf self.old.context.pools place.now }
-        requires ready { IsReadyIn self.old.me self.old (H.state hall.old) }
+        requires ready { IsReadyIn self.old.party.me self.old (H.state hall.old) }
         ensures does { IfOk result (λ left. (places : List SearchedHeap)
-            → DoesHere self.old.me self.old self.new (H.state hall.old)
+            → DoesHere self.old.party.me self.old self.new (H.state hall.old)
             (H.state hall.new) (looking tag (acting action) (place.now
             ∷ places)) (behind_looking place.now.index (looking tag (acting action) places) left)) }
-        ensures ready { OnOk result (MayDo (moment self.old.me self.new (H.state hall.new))) }
+        ensures ready { OnOk result (MayDo (moment self.old.party.me self.new (H.state hall.new))) }
         ensures clock { RisesWithin H.pending (λ hall. IsBusy (H.state hall)) 0 (H.state hall.old).clock (H.state hall.new).clock }
-        ensures idle { IsIdleAgain self.old.me (with_calls self.new.context.calls self.old) self.new (H.state hall.new) }
+        ensures idle { HasCalled self.old.party.me self.old self.new (H.state hall.new) }
         ensures goes_on { H.goes_on hall.old hall.new }
     {
         let mut heap = self.hold(hall, place.index, CALLS)?;
@@ -116,17 +115,17 @@ impl<'p, M: Mapper> Participant<'p, M> {
     ) -> Result<Option<Answer>, AllocError>
         requires size { IsSizedWell action }
         requires place { IsPlaceOf self.old.context.pools place.now }
-        requires ready { IsReadyIn self.old.me self.old (H.state hall.old) }
+        requires ready { IsReadyIn self.old.party.me self.old (H.state hall.old) }
         ensures does { IfOk result (λ given. (places : List SearchedHeap)
-            → DoesHere self.old.me self.old self.new (H.state hall.old)
+            → DoesHere self.old.party.me self.old self.new (H.state hall.old)
             (H.state hall.new) (looking tag (acting action) (place.now
             ∷ places)) (unless_answered (looking tag (acting action) places) given)) }
-        ensures ready { OnOk result (MayDo (moment self.old.me self.new (H.state hall.new))) }
-        ensures clock { RisesWithin H.pending (λ hall. IsBusy (H.state hall)) (longest_wait self.old.deadline)
+        ensures ready { OnOk result (MayDo (moment self.old.party.me self.new (H.state hall.new))) }
+        ensures clock { RisesWithin H.pending (λ hall. IsBusy (H.state hall)) (longest_wait self.old.party.deadline)
             (H.state hall.old).clock (H.state hall.new).clock }
         ensures passed { IfOk result (λ given. given ≡ None → RisesWithin H.pending (λ hall. IsBusy (H.state hall)) 0
             (H.state hall.old).clock (H.state hall.new).clock) }
-        ensures idle { IsIdleAgain self.old.me (with_calls self.new.context.calls self.old) self.new (H.state hall.new) }
+        ensures idle { HasCalled self.old.party.me self.old self.new (H.state hall.new) }
         ensures goes_on { H.goes_on hall.old hall.new }
     {
         let Some(left) = self.look_there(hall, place, tag, action)? else {
@@ -146,13 +145,13 @@ impl<'p, M: Mapper> Participant<'p, M> {
     ) -> Result<Answer, AllocError>
         requires size { IsSizedWell action }
         requires places { (place : SearchedHeap) → Contains places.now place → IsPlaceOf self.old.context.pools place }
-        requires ready { IsReadyIn self.old.me self.old (H.state hall.old) }
-        ensures does { IfOk result (λ given. DoesHere self.old.me self.old self.new (H.state hall.old)
+        requires ready { IsReadyIn self.old.party.me self.old (H.state hall.old) }
+        ensures does { IfOk result (λ given. DoesHere self.old.party.me self.old self.new (H.state hall.old)
             (H.state hall.new) (looking tag (acting action) places.now) (Doing.Ended given)) }
-        ensures ready { OnOk result (MayDo (moment self.old.me self.new (H.state hall.new))) }
-        ensures clock { RisesWithin H.pending (λ hall. IsBusy (H.state hall)) (longest_wait self.old.deadline)
+        ensures ready { OnOk result (MayDo (moment self.old.party.me self.new (H.state hall.new))) }
+        ensures clock { RisesWithin H.pending (λ hall. IsBusy (H.state hall)) (longest_wait self.old.party.deadline)
             (H.state hall.old).clock (H.state hall.new).clock }
-        ensures idle { IsIdleAgain self.old.me (with_calls self.new.context.calls self.old) self.new (H.state hall.new) }
+        ensures idle { HasCalled self.old.party.me self.old self.new (H.state hall.new) }
         ensures goes_on { H.goes_on hall.old hall.new }
     {
         for place in places {
@@ -173,24 +172,24 @@ impl<'p, M: Mapper> Participant<'p, M> {
     ) -> Result<Answer, AllocError>
         requires label { label_used line.now.act ≡ Some label.now }
         requires size { IsSizedWell (act_for false size) }
-        requires ready { IsReadyIn self.old.me self.old (H.state hall.old) }
-        ensures does { IfOk result (λ given. (facts : Facts) → AreFactsOf self.old.socket self.old.context line.now facts
-            → DoesHere self.old.me self.old self.new (H.state hall.old)
-            (H.state hall.new) (on_element self.old.me facts
+        requires ready { IsReadyIn self.old.party.me self.old (H.state hall.old) }
+        ensures does { IfOk result (λ given. (facts : Facts) → AreFactsOf self.old.party.socket self.old.context line.now facts
+            → DoesHere self.old.party.me self.old self.new (H.state hall.old)
+            (H.state hall.new) (on_element self.old.party.me facts
             (λ tag. looking tag (acting (act_for tag.zone size))) facts.maker) (Doing.Ended given)) }
-        ensures ready { OnOk result (MayDo (moment self.old.me self.new (H.state hall.new))) }
-        ensures clock { RisesWithin H.pending (λ hall. IsBusy (H.state hall)) (longest_wait self.old.deadline)
+        ensures ready { OnOk result (MayDo (moment self.old.party.me self.new (H.state hall.new))) }
+        ensures clock { RisesWithin H.pending (λ hall. IsBusy (H.state hall)) (longest_wait self.old.party.deadline)
             (H.state hall.old).clock (H.state hall.new).clock }
-        ensures idle { IsIdleAgain self.old.me (with_calls self.new.context.calls self.old) self.new (H.state hall.new) }
+        ensures idle { HasCalled self.old.party.me self.old self.new (H.state hall.new) }
         ensures goes_on { H.goes_on hall.old hall.new }
     {
         let Some(maker) = self.context.maker_of(label.as_bytes()) else {
             return Ok(Answer::NoElement);
         };
-        let places = self.context.places_for(self.me, maker)?;
+        let places = self.context.places_for(self.number(), maker)?;
         let zone = is_zone(&maker.act);
         let tag = Tag {
-            who: self.me,
+            who: self.number(),
             zone,
             number: maker.line,
         };

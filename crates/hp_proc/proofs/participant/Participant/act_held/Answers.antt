@@ -7,8 +7,7 @@ use Rattle.hp_script.specs.declared.answer.Answer.{Answer}
 use Rattle.hp_script.specs.declared.answer.Answer.TheVariants as answer
 use Rattle.hp_proc.specs.Doing.{Doing}
 use Rattle.hp_proc.specs.Freeing.{acting, resized, resized_answer, resizing}
-use Rattle.hp_serve.specs.Party.{Party}
-use Rattle.hp_proc.specs.ParticipantView.{after_call}
+use Rattle.hp_proc.specs.ParticipantView.{ParticipantView, after_call}
 use Rattle.hp_proc.specs.Progress.{AreSettled, Does, caller_of}
 use Rattle.hp_proc.specs.declared.element_act.ElementAct.{ElementAct}
 use Rattle.hp_proc.specs.declared.searched_heap.SearchedHeap.{SearchedHeap}
@@ -27,29 +26,29 @@ resized_is : (had : Bool) → resized (resize_answer had) ≡ Doing.Ended (resiz
 resized_is true = refl
 resized_is false = refl
 
-module _ (party : Party) (hall : HallState) (heap : HeapView) (size addr : ℕ) (place : SearchedHeap) (its : place.index ≡ heap.plain.index)
-    (holds : HoldsIn party.me party heap hall) where
+module _ (doer : ParticipantView) (hall : HallState) (heap : HeapView) (size addr : ℕ) (place : SearchedHeap) (its : place.index ≡ heap.plain.index)
+    (holds : HoldsIn doer.party.me doer heap hall) where
   abbrev me : ℕ
-  me = party.me
+  me = doer.party.me
 
   -- what was done of a resize, and what is known then
-  record IsResized (zone : Bool) (given : Answer) (next : HeapView) (after : Party) : Type 0 where
-    pub does : Does hall.count (did_in me hall hall) (resizing zone size place addr) (Doing.Ended given) (moment_with heap me party hall)
+  record IsResized (zone : Bool) (given : Answer) (next : HeapView) (after : ParticipantView) : Type 0 where
+    pub does : Does hall.count (did_in me hall hall) (resizing zone size place addr) (Doing.Ended given) (moment_with heap me doer hall)
         (moment_with next me after hall)
     pub settled : AreSettled (moment me after hall)
-    pub keeps : KeepsHeld me party after heap next hall hall
+    pub keeps : KeepsHeld me doer after heap next hall hall
 
-  is_refused : IsResized true answer.IsZone heap party
+  is_refused : IsResized true answer.IsZone heap doer
   is_refused = record {
-    does = does_same hall.count (did_in me hall hall) (Doing.Ended answer.IsZone) (moment_with heap me party hall) (did_same me hall);
+    does = does_same hall.count (did_in me hall hall) (Doing.Ended answer.IsZone) (moment_with heap me doer hall) (did_same me hall);
     settled = holds.settled;
-    keeps = keeps_same me party heap holds;
+    keeps = keeps_same me doer heap holds;
   }
 
-  is_resized : (zone : Bool) (given : Answer) (next : HeapView) (after : Party)
-      → (zone ≡ true → (given ≡ answer.IsZone) × (next ≡ heap) × (after ≡ party))
-      → (zone ≡ false → (had : Bool) × (given ≡ resized_answer had) × (after ≡ after_call party)
-      × IsCall (caller_of party) (call.Resize addr size) (resize_answer had) heap next) → IsResized zone given next after
+  is_resized : (zone : Bool) (given : Answer) (next : HeapView) (after : ParticipantView)
+      → (zone ≡ true → (given ≡ answer.IsZone) × (next ≡ heap) × (after ≡ doer))
+      → (zone ≡ false → (had : Bool) × (given ≡ resized_answer had) × (after ≡ after_call doer)
+      × IsCall (caller_of doer) (call.Resize addr size) (resize_answer had) heap next) → IsResized zone given next after
   is_resized true given next after refused done =
       let is = refused refl in
       subst (λ (given : Answer). IsResized true given next after) (sym is.0)
@@ -59,30 +58,30 @@ module _ (party : Party) (hall : HallState) (heap : HeapView) (size addr : ℕ) 
       let is = done refl in
       record {
         does = subst (λ (rest : Doing). Does hall.count (did_in me hall hall) (resizing false size place addr) rest
-            (moment_with heap me party hall) (moment_with next me after hall))
+            (moment_with heap me doer hall) (moment_with next me after hall))
             (resized_is is.0 ∙ ap (λ (given : Answer). Doing.Ended given) (sym is.1))
             (subst (λ (index : ℕ). Does hall.count (did_in me hall hall) (Doing.Calls index (call.Resize addr size) resized)
-            (resized (resize_answer is.0)) (moment_with heap me party hall) (moment_with next me after hall)) (sym its)
-            (does_call party (hall.part me) (hall.seen me) (hall.heard me) (call.Resize addr size) (resize_answer is.0) heap next is.3 hall.count
+            (resized (resize_answer is.0)) (moment_with heap me doer hall) (moment_with next me after hall)) (sym its)
+            (does_call doer (hall.part me) (hall.seen me) (hall.heard me) (call.Resize addr size) (resize_answer is.0) heap next is.3 hall.count
             (did_in me hall hall) resized after is.2 (did_same me hall) (resized_whole is.0)));
-        settled = settled_called party after hall is.2 holds.settled;
-        keeps = keeps_called party after heap next is.3 is.2 (resize_pages (caller_of party) addr size (resize_answer is.0) heap next is.3) holds;
+        settled = settled_called doer after hall is.2 holds.settled;
+        keeps = keeps_called doer after heap next is.3 is.2 (resize_pages (caller_of doer) addr size (resize_answer is.0) heap next is.3) holds;
       }
 
 pub returns-in-Resize : goal.returns-in-Resize
 returns-in-Resize g c =
-    let party = c.args.self.now in
-    let me = party.me in
+    let doer = c.args.self.now in
+    let me = doer.party.me in
     let hall = g.H.Hall.state c.args.hall.now in
     let heap = c.args.heap.now in
     let next = c.resize_held.new.heap in
     let after = c.resize_held.new.self in
     let is =
-    is_resized party hall heap c.in-Resize.size c.args.addr c.args.place.now c.requires.its c.requires.holds c.in-Resize.zone c.resize_held.result
+    is_resized doer hall heap c.in-Resize.size c.args.addr c.args.place.now c.requires.its c.requires.holds c.in-Resize.zone c.resize_held.result
     next after c.resize_held.ensures.zone c.resize_held.ensures.resized in
     record {
       does = subst (λ (action : ElementAct). Does hall.count (did_in me hall hall) (acting action c.args.place.now c.args.addr)
-          (Doing.Ended c.resize_held.result) (moment_with heap me party hall) (moment_with next me after hall)) (sym c.in-Resize.is) is.does;
+          (Doing.Ended c.resize_held.result) (moment_with heap me doer hall) (moment_with next me after hall)) (sym c.in-Resize.is) is.does;
       settled = is.settled;
       keeps = is.keeps;
       others = others_same me hall;

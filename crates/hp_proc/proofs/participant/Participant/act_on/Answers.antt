@@ -10,7 +10,7 @@ use Rattle.hp_proc.specs.Courses.{is_zone_act, maker_from}
 use Rattle.hp_proc.specs.Doing.{Doing}
 use Rattle.hp_proc.specs.Freeing.{act_for, acting, looking}
 use Rattle.hp_proc.specs.Lines.{Facts, on_element, tag_made}
-use Rattle.hp_serve.specs.Party.{Party}
+use Rattle.hp_proc.specs.ParticipantView.{ParticipantView}
 use Rattle.hp_proc.specs.Progress.{Does}
 use Rattle.hp_proc.specs.declared.element_act.ElementAct.{ElementAct}
 use Rattle.hp_proc.specs.declared.searched_heap.SearchedHeap.{SearchedHeap}
@@ -40,16 +40,16 @@ looked_for who me context mine maker size zone action places given is_me is_mine
 
 pub returns-in_default-clause-does : goal.returns-in_default-clause-does
 returns-in_default-clause-does g c = λ facts known.
-    let party = c.args.self.now in
-    let me = party.me in
+    let doer = c.args.self.now in
+    let me = doer.party.me in
     let hall = g.H.Hall.state c.args.hall.now in
     let goes : Tag → List SearchedHeap → Doing = λ (tag : Tag). looking tag (acting (act_for tag.zone c.args.size)) in
-    let at = moment me party hall in
-    let none : maker_of party.context.lines c.args.label.now.text ≡ None =
-    subst (λ (text : List ℕ). maker_of party.context.lines text ≡ None) c.as_bytes.ensures.text
-    (subst (λ (party : Party). maker_of party.context.lines c.as_bytes.result.now ≡ None) c.self.view_is (sym c.in_default.ensures)) in
+    let at = moment me doer hall in
+    let none : maker_of doer.context.lines c.args.label.now.text ≡ None =
+    subst (λ (text : List ℕ). maker_of doer.context.lines text ≡ None) c.as_bytes.ensures.text
+    (subst (λ (doer : ParticipantView). maker_of doer.context.lines c.as_bytes.result.now ≡ None) c.self.view_is (sym c.in_default.ensures)) in
     subst (λ (doing : Doing). Does hall.count (did_in me hall hall) doing (Doing.Ended answer.NoElement) at at)
-    (unmade me party.socket party.context c.args.line.now c.args.label.now facts known c.requires.label goes none)
+    (unmade me doer.party.socket doer.context c.args.line.now c.args.label.now facts known c.requires.label goes none)
     (does_same hall.count (did_in me hall hall) (Doing.Ended answer.NoElement) at (did_same me hall))
 
 pub returns-in_default-clause-idle : goal.returns-in_default-clause-idle
@@ -60,30 +60,30 @@ returns-in_err-places-clause-idle g c = again_same c.args.self.now c.requires.re
 
 pub look_for-requires-clause-places : goal.look_for-requires-clause-places
 look_for-requires-clause-places g c = λ place among.
-    subst (λ (party : Party). IsPlaceOf party.context.pools place) c.self.view_is
+    subst (λ (doer : ParticipantView). IsPlaceOf doer.context.pools place) c.self.view_is
     (c.in_ok-places.ensures.of_pools place (subst (λ (places : List SearchedHeap). Contains places place) c.deref.ensures.value among))
 
 pub returns-clause-does : goal.returns-clause-does
 returns-clause-does g c =
-    let party = c.args.self.now in
-    let me = party.me in
+    let doer = c.args.self.now in
+    let me = doer.party.me in
     let old = g.H.Hall.state c.args.hall.now in
     let new = g.H.Hall.state c.look_for.new.hall in
     let after = c.look_for.new.self in
     let maker = c.in-Some.maker.now in
     let zone = c.is_zone-zone.result in
     let goes : Tag → List SearchedHeap → Doing = λ (tag : Tag). looking tag (acting (act_for tag.zone c.args.size)) in
-    let found : maker_of party.context.lines c.args.label.now.text ≡ Some maker =
-    subst (λ (text : List ℕ). maker_of party.context.lines text ≡ Some maker) c.as_bytes.ensures.text
-    (subst (λ (party : Party). maker_of party.context.lines c.as_bytes.result.now ≡ Some maker) c.self.view_is (sym c.in-Some.ensures)) in
-    let is = looked_for me c.self.inside.me party.context c.self.inside.context maker c.args.size zone c.act_for-action.result
-    c.in_ok-places.places.items c.deref.result.now (ap (λ (party : Party). party.me) c.self.view_is)
-    (ap (λ (party : Party). party.context) c.self.view_is) c.is_zone-zone.ensures c.act_for-action.ensures c.deref.ensures.value
+    let found : maker_of doer.context.lines c.args.label.now.text ≡ Some maker =
+    subst (λ (text : List ℕ). maker_of doer.context.lines text ≡ Some maker) c.as_bytes.ensures.text
+    (subst (λ (doer : ParticipantView). maker_of doer.context.lines c.as_bytes.result.now ≡ Some maker) c.self.view_is (sym c.in-Some.ensures)) in
+    let is = looked_for me c.number.result doer.context c.self.inside.context maker c.args.size zone c.act_for-action.result
+    c.in_ok-places.places.items c.deref.result.now c.number.ensures
+    (ap (λ (doer : ParticipantView). doer.context) c.self.view_is) c.is_zone-zone.ensures c.act_for-action.ensures c.deref.ensures.value
     c.in_ok-places.ensures.places in
-    if_ok _ (λ given. (facts : Facts) → AreFactsOf party.socket party.context c.args.line.now facts
-    → DoesHere me party after old new (on_element me facts goes facts.maker) (Doing.Ended given))
+    if_ok _ (λ given. (facts : Facts) → AreFactsOf doer.party.socket doer.context c.args.line.now facts
+    → DoesHere me doer after old new (on_element me facts goes facts.maker) (Doing.Ended given))
     c.look_for.result
     (λ given does facts known.
-    subst (λ (doing : Doing). DoesHere me party after old new doing (Doing.Ended given))
-    (is ∙ made me party.socket party.context c.args.line.now c.args.label.now facts known c.requires.label goes maker found) does)
+    subst (λ (doing : Doing). DoesHere me doer after old new doing (Doing.Ended given))
+    (is ∙ made me doer.party.socket doer.context c.args.line.now c.args.label.now facts known c.requires.label goes maker found) does)
     c.look_for.ensures.does

@@ -14,8 +14,7 @@ use Rattle.hp_proc.specs.Contexts.{named_heap}
 use Rattle.hp_proc.specs.Doing.{Doing}
 use Rattle.hp_proc.specs.Heaps.{NamedHeap, page_sizes_for}
 use Rattle.hp_proc.specs.LineInHall.{HoldsIn, KeepsHeld, DoesHeld, did_in, moment, moment_with}
-use Rattle.hp_serve.specs.Party.{Party}
-use Rattle.hp_proc.specs.ParticipantView.{after_call}
+use Rattle.hp_proc.specs.ParticipantView.{ParticipantView, after_call}
 use Rattle.hp_proc.specs.Progress.{AreSettled, DoesIn, Tries, caller_of}
 use Rattle.hp_proc.specs.declared.socket_heap.SocketHeap.{SocketHeap}
 use Rattle.hp_proc.proofs.HandCalls.{call_index, call_serves}
@@ -26,128 +25,128 @@ use Rattle.hp_proc.proofs.Joining.{does_same}
 use Rattle.hp_proc.proofs.PagesStay.{alloc_pages}
 use Rattle.hp_proc.proofs.participant.Participant.allocate_held.Goals as goal
 
-module _ (party mid : Party) (first : HallState) (heap next : HeapView) (place : SocketHeap) (request asked : Request) (tag : Tag)
+module _ (doer mid : ParticipantView) (first : HallState) (heap next : HeapView) (place : SocketHeap) (request asked : Request) (tag : Tag)
     (found : Option ℕ) (is : asked ≡ with_flags (without_hint request.flags) request)
-    (step : IsCall (caller_of party) (call.Alloc asked tag) (address_answer found) heap next) (counted : mid ≡ after_call party)
+    (step : IsCall (caller_of doer) (call.Alloc asked tag) (address_answer found) heap next) (counted : mid ≡ after_call doer)
     (its : place.index ≡ heap.plain.index) (heaps : List NamedHeap) where
   abbrev otherwise : Doing
-  otherwise = trying party.context.pools request tag heaps
+  otherwise = trying doer.context.pools request tag heaps
 
   abbrev doing : Doing
-  doing = trying party.context.pools request tag (named_heap place ∷ heaps)
+  doing = trying doer.context.pools request tag (named_heap place ∷ heaps)
 
   abbrev left : Doing
-  left = asking place.index place.socket request tag otherwise (page_sizes_for party.context.pools place.socket request.flags)
+  left = asking place.index place.socket request tag otherwise (page_sizes_for doer.context.pools place.socket request.flags)
 
   -- the first search
-  searched : DoesIn place.index first.count (did_in party.me first first) doing (unless_found left (address_answer found))
-      (moment_with heap party.me party first) (moment_with next party.me mid first)
+  searched : DoesIn place.index first.count (did_in doer.party.me first first) doing (unless_found left (address_answer found))
+      (moment_with heap doer.party.me doer first) (moment_with next doer.party.me mid first)
   searched =
-      let me = party.me in
-      called_then party mid (first.part me) (first.seen me) (first.heard me) (call.Alloc (with_flags (without_hint request.flags) request) tag)
+      let me = doer.party.me in
+      called_then doer mid (first.part me) (first.seen me) (first.heard me) (call.Alloc (with_flags (without_hint request.flags) request) tag)
       (address_answer found) heap next
-      (subst (λ (asked : Request). IsCall (caller_of party) (call.Alloc asked tag) (address_answer found) heap next) is step) counted place.index its
-      first.count (did_in me first first) doing (unless_found left) (moment_with heap me party first) (found_whole found)
-      (does_same first.count (did_in me first first) doing (moment_with heap me party first) (did_same me first))
+      (subst (λ (asked : Request). IsCall (caller_of doer) (call.Alloc asked tag) (address_answer found) heap next) is step) counted place.index its
+      first.count (did_in me first first) doing (unless_found left) (moment_with heap me doer first) (found_whole found)
+      (does_same first.count (did_in me first first) doing (moment_with heap me doer first) (did_same me first))
 
   -- it gave an address
-  found_first : (addr : ℕ) → found ≡ Some addr → Tries place.index first.count (did_in party.me first first) doing otherwise
-      (Some (gives.Address addr)) (moment_with heap party.me party first) (moment_with next party.me mid first)
+  found_first : (addr : ℕ) → found ≡ Some addr → Tries place.index first.count (did_in doer.party.me first first) doing otherwise
+      (Some (gives.Address addr)) (moment_with heap doer.party.me doer first) (moment_with next doer.party.me mid first)
   found_first addr some =
-      let me = party.me in
-      tries_in place.index first.count (did_in me first first) doing otherwise (gives.Address addr) (moment_with heap me party first)
+      let me = doer.party.me in
+      tries_in place.index first.count (did_in me first first) doing otherwise (gives.Address addr) (moment_with heap me doer first)
       (moment_with next me mid first)
       (subst (λ (found : Option ℕ). DoesIn place.index first.count (did_in me first first) doing (unless_found left (address_answer found))
-      (moment_with heap me party first) (moment_with next me mid first)) some searched)
+      (moment_with heap me doer first) (moment_with next me mid first)) some searched)
 
-  module _ (grown : Party) (third : HallState) (more : HeapView) (granted : Bool) (none : found ≡ None)
-      (asks : (tag : Tag) (otherwise : Doing) → DoesHeld mid.me mid grown next more first third
+  module _ (grown : ParticipantView) (third : HallState) (more : HeapView) (granted : Bool) (none : found ≡ None)
+      (asks : (tag : Tag) (otherwise : Doing) → DoesHeld mid.party.me mid grown next more first third
       (asking place.index place.socket request tag otherwise (page_sizes_for mid.context.pools place.socket request.flags))
       (behind_asking place.index request tag otherwise granted)) where
     -- it found none, and pages were asked for
-    asked_for : DoesHeld party.me party grown heap more first third doing (behind_asking place.index request tag otherwise granted)
+    asked_for : DoesHeld doer.party.me doer grown heap more first third doing (behind_asking place.index request tag otherwise granted)
     asked_for =
-        let me = party.me in
-        does_next me (moment_with heap me party first) (λ who. moment_with next who mid first) (λ who. moment_with more who grown third)
-        (ap (λ (party : Party). party.me) counted) refl
-        (subst (λ (found : Option ℕ). DoesHeld me party mid heap next first first doing (unless_found left (address_answer found))) none
+        let me = doer.party.me in
+        does_next me (moment_with heap me doer first) (λ who. moment_with next who mid first) (λ who. moment_with more who grown third)
+        (ap (λ (doer : ParticipantView). doer.party.me) counted) refl
+        (subst (λ (found : Option ℕ). DoesHeld me doer mid heap next first first doing (unless_found left (address_answer found))) none
         searched.does)
-        (subst (λ (pools : List PoolLine). DoesHeld mid.me mid grown next more first third
+        (subst (λ (pools : List PoolLine). DoesHeld mid.party.me mid grown next more first third
         (asking place.index place.socket request tag otherwise (page_sizes_for pools place.socket request.flags))
-        (behind_asking place.index request tag otherwise granted)) (ap (λ (party : Party). party.context.pools) counted) (asks tag otherwise))
+        (behind_asking place.index request tag otherwise granted)) (ap (λ (doer : ParticipantView). doer.context.pools) counted) (asks tag otherwise))
 
     -- none were granted
-    passed : granted ≡ false → Tries place.index first.count (did_in party.me first third) doing otherwise None (moment_with heap party.me party first)
-        (moment_with more party.me grown third)
+    passed : granted ≡ false → Tries place.index first.count (did_in doer.party.me first third) doing otherwise None (moment_with heap doer.party.me doer first)
+        (moment_with more doer.party.me grown third)
     passed is_not =
-        let me = party.me in
-        tries_on place.index first.count (did_in me first third) doing otherwise (moment_with heap me party first) (moment_with more me grown third)
-        (subst (λ (granted : Bool). DoesHeld me party grown heap more first third doing (behind_asking place.index request tag otherwise granted))
+        let me = doer.party.me in
+        tries_on place.index first.count (did_in me first third) doing otherwise (moment_with heap me doer first) (moment_with more me grown third)
+        (subst (λ (granted : Bool). DoesHeld me doer grown heap more first third doing (behind_asking place.index request tag otherwise granted))
         is_not asked_for)
 
-    module _ (last : Party) (again : HeapView) (twice : Option ℕ)
+    module _ (last : ParticipantView) (again : HeapView) (twice : Option ℕ)
         (second : IsCall (caller_of grown) (call.Alloc request tag) (address_answer twice) more again) (called : last ≡ after_call grown)
         (grown_its : place.index ≡ more.plain.index) (is_so : granted ≡ true) where
       -- some were, and it was searched again
-      searched_again : DoesIn place.index first.count (did_in party.me first third) doing (unless_found (Doing.Ended gives.None) (address_answer twice))
-          (moment_with heap party.me party first) (moment_with again party.me last third)
+      searched_again : DoesIn place.index first.count (did_in doer.party.me first third) doing (unless_found (Doing.Ended gives.None) (address_answer twice))
+          (moment_with heap doer.party.me doer first) (moment_with again doer.party.me last third)
       searched_again =
-          let me = party.me in
+          let me = doer.party.me in
           called_then grown last (third.part me) (third.seen me) (third.heard me) (call.Alloc request tag) (address_answer twice) more again second
           called place.index grown_its first.count (did_in me first third) doing (unless_found (Doing.Ended gives.None))
-          (moment_with heap me party first) (found_whole twice)
-          (subst (λ (granted : Bool). DoesHeld me party grown heap more first third doing (behind_asking place.index request tag otherwise granted))
+          (moment_with heap me doer first) (found_whole twice)
+          (subst (λ (granted : Bool). DoesHeld me doer grown heap more first third doing (behind_asking place.index request tag otherwise granted))
           is_so asked_for)
 
-      found_again : (addr : ℕ) → twice ≡ Some addr → Tries place.index first.count (did_in party.me first third) doing otherwise
-          (Some (gives.Address addr)) (moment_with heap party.me party first) (moment_with again party.me last third)
+      found_again : (addr : ℕ) → twice ≡ Some addr → Tries place.index first.count (did_in doer.party.me first third) doing otherwise
+          (Some (gives.Address addr)) (moment_with heap doer.party.me doer first) (moment_with again doer.party.me last third)
       found_again addr some =
-          let me = party.me in
-          tries_in place.index first.count (did_in me first third) doing otherwise (gives.Address addr) (moment_with heap me party first)
+          let me = doer.party.me in
+          tries_in place.index first.count (did_in me first third) doing otherwise (gives.Address addr) (moment_with heap me doer first)
           (moment_with again me last third)
           (subst (λ (twice : Option ℕ). DoesIn place.index first.count (did_in me first third) doing
-          (unless_found (Doing.Ended gives.None) (address_answer twice)) (moment_with heap me party first) (moment_with again me last third)) some
+          (unless_found (Doing.Ended gives.None) (address_answer twice)) (moment_with heap me doer first) (moment_with again me last third)) some
           searched_again)
 
-      found_none : twice ≡ None → Tries place.index first.count (did_in party.me first third) doing otherwise (Some gives.None)
-          (moment_with heap party.me party first) (moment_with again party.me last third)
+      found_none : twice ≡ None → Tries place.index first.count (did_in doer.party.me first third) doing otherwise (Some gives.None)
+          (moment_with heap doer.party.me doer first) (moment_with again doer.party.me last third)
       found_none missing =
-          let me = party.me in
-          tries_in place.index first.count (did_in me first third) doing otherwise gives.None (moment_with heap me party first)
+          let me = doer.party.me in
+          tries_in place.index first.count (did_in me first third) doing otherwise gives.None (moment_with heap me doer first)
           (moment_with again me last third)
           (subst (λ (twice : Option ℕ). DoesIn place.index first.count (did_in me first third) doing
-          (unless_found (Doing.Ended gives.None) (address_answer twice)) (moment_with heap me party first) (moment_with again me last third)) missing
+          (unless_found (Doing.Ended gives.None) (address_answer twice)) (moment_with heap me doer first) (moment_with again me last third)) missing
           searched_again)
 
 -- an allocation in the heap in hand
-keeps_alloc : (party after : Party) (heap next : HeapView) (asked : Request) (tag : Tag) (found : Option ℕ) {a : HallState}
-    → IsCall (caller_of party) (call.Alloc asked tag) (address_answer found) heap next → after ≡ after_call party → HoldsIn party.me party heap a
-    → KeepsHeld party.me party after heap next a a
-keeps_alloc party after heap next asked tag found step counted holds =
-    keeps_called party after heap next step counted (alloc_pages _ _ _ _ _ _ step) holds
+keeps_alloc : (doer after : ParticipantView) (heap next : HeapView) (asked : Request) (tag : Tag) (found : Option ℕ) {a : HallState}
+    → IsCall (caller_of doer) (call.Alloc asked tag) (address_answer found) heap next → after ≡ after_call doer → HoldsIn doer.party.me doer heap a
+    → KeepsHeld doer.party.me doer after heap next a a
+keeps_alloc doer after heap next asked tag found step counted holds =
+    keeps_called doer after heap next step counted (alloc_pages _ _ _ _ _ _ step) holds
 
 pub grow-requires : goal.grow-requires
 grow-requires g c =
-    let party = c.args.self.now in
+    let doer = c.args.self.now in
     let mid = c.allocate_in.new.self in
     let heap = c.args.heap.now in
     let next = c.allocate_in.new.heap in
     let step = c.allocate_in.ensures.step in
     let counted = c.allocate_in.ensures.counted in
     record {
-      holds = holds_on (keeps_alloc party mid heap next c.with_flags-first.result c.args.tag c.allocate_in.result step counted c.requires.holds)
-          (settled_called party mid (g.H.Hall.state c.args.hall.now) counted c.requires.holds.settled) c.requires.holds.can.may;
+      holds = holds_on (keeps_alloc doer mid heap next c.with_flags-first.result c.args.tag c.allocate_in.result step counted c.requires.holds)
+          (settled_called doer mid (g.H.Hall.state c.args.hall.now) counted c.requires.holds.settled) c.requires.holds.can.may;
       its = c.requires.its ∙ sym (call_index _ _ _ _ _ step);
       of_socket = call_serves _ _ _ _ _ step ∙ c.requires.of_socket;
       room = record {
         spare = omega (arith, c.requires.room.spare, step.spare);
-        counted = omega (arith, c.requires.room.counted, ap (λ (party : Party). party.context.calls) counted);
+        counted = omega (arith, c.requires.room.counted, ap (λ (doer : ParticipantView). doer.context.calls) counted);
       };
     }
 
 pub returns-in-Some : goal.returns-in-Some
 returns-in-Some g c =
-    let party = c.args.self.now in
+    let doer = c.args.self.now in
     let mid = c.allocate_in.new.self in
     let heap = c.args.heap.now in
     let next = c.allocate_in.new.heap in
@@ -155,12 +154,12 @@ returns-in-Some g c =
     let counted = c.allocate_in.ensures.counted in
     record {
       does = λ heaps.
-          found_first party mid (g.H.Hall.state c.args.hall.now) heap next c.args.place.now c.args.request.now c.with_flags-first.result c.args.tag
+          found_first doer mid (g.H.Hall.state c.args.hall.now) heap next c.args.place.now c.args.request.now c.with_flags-first.result c.args.tag
           c.allocate_in.result (c.with_flags-first.ensures ∙ ap (λ (flags : ℕ). with_flags flags c.args.request.now) c.without_hint.ensures) step
           counted c.requires.its heaps c.in-Some.addr c.in-Some.is;
-      settled = settled_called party mid (g.H.Hall.state c.args.hall.now) counted c.requires.holds.settled;
+      settled = settled_called doer mid (g.H.Hall.state c.args.hall.now) counted c.requires.holds.settled;
       clock = λ one. omega arith;
-      keeps = keeps_alloc party mid heap next c.with_flags-first.result c.args.tag c.allocate_in.result step counted c.requires.holds;
+      keeps = keeps_alloc doer mid heap next c.with_flags-first.result c.args.tag c.allocate_in.result step counted c.requires.holds;
       goes_on = g.met.H.Hall.goes_on_same _;
     }
 
@@ -168,7 +167,7 @@ returns-in-Some g c =
 
 pub returns-in_err-grow-clause-clock : goal.returns-in_err-grow-clause-clock
 returns-in_err-grow-clause-clock g c = λ one.
-    omega (arith, c.grow.ensures.clock one, ap (λ (party : Party). party.deadline) c.allocate_in.ensures.counted)
+    omega (arith, c.grow.ensures.clock one, ap (λ (doer : ParticipantView). doer.party.deadline) c.allocate_in.ensures.counted)
 
 pub returns-in_err-grow-clause-keeps : goal.returns-in_err-grow-clause-keeps
 returns-in_err-grow-clause-keeps g c =
@@ -178,7 +177,7 @@ returns-in_err-grow-clause-keeps g c =
 
 pub returns-then-not-branch : goal.returns-then-not-branch
 returns-then-not-branch g c =
-    let party = c.args.self.now in
+    let doer = c.args.self.now in
     let mid = c.allocate_in.new.self in
     let heap = c.args.heap.now in
     let next = c.allocate_in.new.heap in
@@ -186,14 +185,14 @@ returns-then-not-branch g c =
     let counted = c.allocate_in.ensures.counted in
     record {
       does = λ heaps.
-          passed party mid (g.H.Hall.state c.args.hall.now) heap next c.args.place.now c.args.request.now c.with_flags-first.result c.args.tag
+          passed doer mid (g.H.Hall.state c.args.hall.now) heap next c.args.place.now c.args.request.now c.with_flags-first.result c.args.tag
           c.allocate_in.result (c.with_flags-first.ensures ∙ ap (λ (flags : ℕ). with_flags flags c.args.request.now) c.without_hint.ensures) step
           counted c.requires.its heaps c.grow.new.self (g.H.Hall.state c.grow.new.hall) c.grow.new.heap c.in_ok-grow.field-0 c.in_default.is
           c.in_ok-grow.ensures.does c.if-not-branch.true;
       settled = subst (λ (who : ℕ). AreSettled (moment who c.grow.new.self (g.H.Hall.state c.grow.new.hall)))
-          (ap (λ (party : Party). party.me) counted) c.in_ok-grow.ensures.settled;
-      clock = λ one. omega (arith, c.grow.ensures.clock one, ap (λ (party : Party). party.deadline) counted);
-      keeps = keeps_then (keeps_alloc party mid heap next c.with_flags-first.result c.args.tag c.allocate_in.result step counted c.requires.holds)
+          (ap (λ (doer : ParticipantView). doer.party.me) counted) c.in_ok-grow.ensures.settled;
+      clock = λ one. omega (arith, c.grow.ensures.clock one, ap (λ (doer : ParticipantView). doer.party.deadline) counted);
+      keeps = keeps_then (keeps_alloc doer mid heap next c.with_flags-first.result c.args.tag c.allocate_in.result step counted c.requires.holds)
           c.grow.ensures.keeps;
       goes_on = c.grow.ensures.goes_on;
     }
@@ -202,8 +201,8 @@ returns-then-not-branch g c =
 
 pub returns-in-Some-allocate_in : goal.returns-in-Some-allocate_in
 returns-in-Some-allocate_in g c =
-    let party = c.args.self.now in
-    let me = party.me in
+    let doer = c.args.self.now in
+    let me = doer.party.me in
     let mid = c.allocate_in.new.self in
     let grown = c.grow.new.self in
     let last = c.allocate_in-2.new.self in
@@ -212,20 +211,20 @@ returns-in-Some-allocate_in g c =
     let third = g.H.Hall.state c.grow.new.hall in
     let step = c.allocate_in.ensures.step in
     let counted = c.allocate_in.ensures.counted in
-    let first = keeps_alloc party mid heap next c.with_flags-first.result c.args.tag c.allocate_in.result step counted c.requires.holds in
+    let first = keeps_alloc doer mid heap next c.with_flags-first.result c.args.tag c.allocate_in.result step counted c.requires.holds in
     let here = keeps_then first c.grow.ensures.keeps in
     let same = here.remains.same.me in
-    let settled = subst (λ (who : ℕ). AreSettled (moment who grown third)) (ap (λ (party : Party). party.me) counted) c.in_ok-grow.ensures.settled in
+    let settled = subst (λ (who : ℕ). AreSettled (moment who grown third)) (ap (λ (doer : ParticipantView). doer.party.me) counted) c.in_ok-grow.ensures.settled in
     let holds = holds_on here settled c.requires.holds.can.may in
     record {
       does = λ heaps.
-          found_again party mid (g.H.Hall.state c.args.hall.now) heap next c.args.place.now c.args.request.now c.with_flags-first.result c.args.tag
+          found_again doer mid (g.H.Hall.state c.args.hall.now) heap next c.args.place.now c.args.request.now c.with_flags-first.result c.args.tag
           c.allocate_in.result (c.with_flags-first.ensures ∙ ap (λ (flags : ℕ). with_flags flags c.args.request.now) c.without_hint.ensures) step
           counted c.requires.its heaps grown third c.grow.new.heap c.in_ok-grow.field-0 c.in_default.is c.in_ok-grow.ensures.does last
           c.allocate_in-2.new.heap c.allocate_in-2.result c.allocate_in-2.ensures.step c.allocate_in-2.ensures.counted
           (c.requires.its ∙ sym here.index) c.if-not-branch.false c.in-Some-allocate_in.addr c.in-Some-allocate_in.is;
       settled = subst (λ (who : ℕ). AreSettled (moment who last third)) same (settled_called grown last third c.allocate_in-2.ensures.counted holds.settled);
-      clock = λ one. omega (arith, c.grow.ensures.clock one, ap (λ (party : Party). party.deadline) counted);
+      clock = λ one. omega (arith, c.grow.ensures.clock one, ap (λ (doer : ParticipantView). doer.party.deadline) counted);
       keeps = keeps_then here
           (keeps_alloc grown last c.grow.new.heap c.allocate_in-2.new.heap c.args.request.now c.args.tag c.allocate_in-2.result
           c.allocate_in-2.ensures.step c.allocate_in-2.ensures.counted holds);
@@ -234,8 +233,8 @@ returns-in-Some-allocate_in g c =
 
 pub returns-in-None : goal.returns-in-None
 returns-in-None g c =
-    let party = c.args.self.now in
-    let me = party.me in
+    let doer = c.args.self.now in
+    let me = doer.party.me in
     let mid = c.allocate_in.new.self in
     let grown = c.grow.new.self in
     let last = c.allocate_in-2.new.self in
@@ -244,20 +243,20 @@ returns-in-None g c =
     let third = g.H.Hall.state c.grow.new.hall in
     let step = c.allocate_in.ensures.step in
     let counted = c.allocate_in.ensures.counted in
-    let first = keeps_alloc party mid heap next c.with_flags-first.result c.args.tag c.allocate_in.result step counted c.requires.holds in
+    let first = keeps_alloc doer mid heap next c.with_flags-first.result c.args.tag c.allocate_in.result step counted c.requires.holds in
     let here = keeps_then first c.grow.ensures.keeps in
     let same = here.remains.same.me in
-    let settled = subst (λ (who : ℕ). AreSettled (moment who grown third)) (ap (λ (party : Party). party.me) counted) c.in_ok-grow.ensures.settled in
+    let settled = subst (λ (who : ℕ). AreSettled (moment who grown third)) (ap (λ (doer : ParticipantView). doer.party.me) counted) c.in_ok-grow.ensures.settled in
     let holds = holds_on here settled c.requires.holds.can.may in
     record {
       does = λ heaps.
-          found_none party mid (g.H.Hall.state c.args.hall.now) heap next c.args.place.now c.args.request.now c.with_flags-first.result c.args.tag
+          found_none doer mid (g.H.Hall.state c.args.hall.now) heap next c.args.place.now c.args.request.now c.with_flags-first.result c.args.tag
           c.allocate_in.result (c.with_flags-first.ensures ∙ ap (λ (flags : ℕ). with_flags flags c.args.request.now) c.without_hint.ensures) step
           counted c.requires.its heaps grown third c.grow.new.heap c.in_ok-grow.field-0 c.in_default.is c.in_ok-grow.ensures.does last
           c.allocate_in-2.new.heap c.allocate_in-2.result c.allocate_in-2.ensures.step c.allocate_in-2.ensures.counted
           (c.requires.its ∙ sym here.index) c.if-not-branch.false c.in-None.is;
       settled = subst (λ (who : ℕ). AreSettled (moment who last third)) same (settled_called grown last third c.allocate_in-2.ensures.counted holds.settled);
-      clock = λ one. omega (arith, c.grow.ensures.clock one, ap (λ (party : Party). party.deadline) counted);
+      clock = λ one. omega (arith, c.grow.ensures.clock one, ap (λ (doer : ParticipantView). doer.party.deadline) counted);
       keeps = keeps_then here
           (keeps_alloc grown last c.grow.new.heap c.allocate_in-2.new.heap c.args.request.now c.args.tag c.allocate_in-2.result
           c.allocate_in-2.ensures.step c.allocate_in-2.ensures.counted holds);

@@ -10,8 +10,7 @@ use Rattle.hp_proc.specs.Acting.{Acts}
 use Rattle.hp_serve.specs.Asking.{GivesUp, HasSettledAsks}
 use Rattle.hp_proc.specs.Doing.{Doing}
 use Rattle.hp_proc.specs.Freeing.{cutting, giving_up, left_of}
-use Rattle.hp_serve.specs.Party.{IsSameParty, Party}
-use Rattle.hp_proc.specs.ParticipantView.{after_call}
+use Rattle.hp_proc.specs.ParticipantView.{ParticipantView}
 use Rattle.hp_proc.specs.Progress.{Does, caller_of, in_hand, moment_of}
 use Rattle.hp_serve.specs.Serving.{gives_segments, takes_segments}
 use Rattle.hp_proc.specs.declared.element_act.Left.TheVariants.{GaveUp}
@@ -26,7 +25,7 @@ use Rattle.hp_hall.specs.HallState.{Did, OthersStay}
 use Rattle.hp_serve.specs.SegmentSlot.{MayHold}
 use Rattle.hp_hall.proofs.HallStates.{did_same, did_then, others_same}
 use Rattle.hp_proc.specs.LineInHall.{did_in, moment_with}
-use Rattle.hp_proc.proofs.Holds.{keeps_called, keeps_same, remains_called, settled_called}
+use Rattle.hp_proc.proofs.Holds.{keeps_called, keeps_same, knew_called, remains_called, settled_called}
 use Rattle.hp_serve.proofs.InHalls.{in_same, remains_by, tied_later}
 use Rattle.hp_serve.proofs.SegmentSlots.{may_hold}
 use Rattle.hp_proc.proofs.participant.Participant.cut_held.Goals as goal
@@ -44,40 +43,40 @@ socket_cuts place addr index none is_not is same =
 
 pub returns-then-is_none : goal.returns-then-is_none
 returns-then-is_none g c =
-    let party = c.args.self.now in
-    let me = party.me in
+    let doer = c.args.self.now in
+    let me = doer.party.me in
     let hall = g.H.Hall.state c.args.hall.now in
     let heap = c.args.heap.now in
-    let at = moment_with heap me party hall in
+    let at = moment_with heap me doer hall in
     record {
       does = subst (λ (doing : Doing). Does hall.count (did_in me hall hall) doing (Doing.Ended answer.Done) at at)
           (sym (external_ends c.args.place.now c.args.addr c.is_none.result c.if-is_none.true c.is_none.ensures))
           (does_same hall.count (did_in me hall hall) (Doing.Ended answer.Done) at (did_same me hall));
       settled = c.requires.holds.settled;
-      keeps = keeps_same me party heap c.requires.holds;
+      keeps = keeps_same me doer heap c.requires.holds;
       others = others_same me hall;
       goes_on = g.met.H.Hall.goes_on_same _;
     }
 
 pub retire-requires : goal.retire-requires
 retire-requires g c =
-    let me = c.args.self.now.me in
+    let me = c.args.self.now.party.me in
     let hall = g.H.Hall.state c.args.hall.now in
     let part = hall.part in
     let heap = c.args.heap.now in
     let place = c.args.place.now in
-    let is_me = ap (λ (party : Party). party.me) c.cut_in.ensures.counted in
+    let is_me = ap (λ (doer : ParticipantView). doer.party.me) c.cut_in.ensures.counted in
     let held = subst (λ (index : ℕ). IsHeldWith heap (part me index).holding) (sym c.requires.its) c.requires.holds.in_hand.held in
     record {
       may = subst (λ (who : ℕ). MayHold who hall) (sym is_me) (may_hold c.requires.holds.can.may);
-      cut = cut_from_held c.args.addr place.index c.in-Some.run' heap (part c.cut_in.new.self.me place.index).holding c.requires.its
+      cut = cut_from_held c.args.addr place.index c.in-Some.run' heap (part c.cut_in.new.self.party.me place.index).holding c.requires.its
           (subst (λ (who : ℕ). IsHeldWith heap (part who place.index).holding) (sym is_me) held) c.in-Some.ensures.pages;
     }
 
 pub returns-in-None : goal.returns-in-None
 returns-in-None g c =
-    let party = c.args.self.now in
-    let me = party.me in
+    let doer = c.args.self.now in
+    let me = doer.party.me in
     let hall = g.H.Hall.state c.args.hall.now in
     let heap = c.args.heap.now in
     let next = c.cut_in.new.heap in
@@ -89,23 +88,23 @@ returns-in-None g c =
     let step = c.in-None.ensures.step in
     let counted = c.cut_in.ensures.counted in
     record {
-      does = subst (λ (doing : Doing). Does hall.count (did_in me hall hall) doing (Doing.Ended answer.Done) (moment_with heap me party hall)
+      does = subst (λ (doing : Doing). Does hall.count (did_in me hall hall) doing (Doing.Ended answer.Done) (moment_with heap me doer hall)
           (moment_with next me after hall))
           (sym (socket_cuts place c.args.addr heap.plain.index c.is_none.result c.if-is_none.false c.is_none.ensures c.requires.its))
-          (does_call party part seen heard (call.Cut c.args.addr) gives.Nothing heap next step hall.count (did_in me hall hall)
+          (does_call doer part seen heard (call.Cut c.args.addr) gives.Nothing heap next step hall.count (did_in me hall hall)
           (giving_up place.index) after counted (did_same me hall) refl);
-      settled = settled_called party after hall counted c.requires.holds.settled;
-      keeps = keeps_called party after heap next step counted
-          (ap (λ (heap : PlainHeap). heap.pages) (cut_nothing (caller_of party) c.args.addr heap next step)) c.requires.holds;
+      settled = settled_called doer after hall counted c.requires.holds.settled;
+      keeps = keeps_called doer after heap next step counted
+          (ap (λ (heap : PlainHeap). heap.pages) (cut_nothing (caller_of doer) c.args.addr heap next step)) c.requires.holds;
       others = others_same me hall;
       goes_on = g.met.H.Hall.goes_on_same _;
     }
 
 pub returns-in-Some : goal.returns-in-Some
 returns-in-Some g c =
-    let party = c.args.self.now in
+    let doer = c.args.self.now in
     let after = c.cut_in.new.self in
-    let me = party.me in
+    let me = doer.party.me in
     let old = g.H.Hall.state c.args.hall.now in
     let new = g.H.Hall.state c.retire.new.hall in
     let heap = c.args.heap.now in
@@ -118,7 +117,7 @@ returns-in-Some g c =
     let run = c.in-Some.run' in
     let step = c.in-Some.ensures.step in
     let counted = c.cut_in.ensures.counted in
-    let is_me = ap (λ (party : Party). party.me) counted in
+    let is_me = ap (λ (doer : ParticipantView). doer.party.me) counted in
     let is = c.retire.ensures in
     let gives_up = subst (λ (who : ℕ). GivesUp place.index run (old.part who place.index) (new.part who place.index)) is_me is.gives_up in
     let apart = subst (λ (who : ℕ). (other : ℕ) → other ≢ place.index → new.part who other ≡ old.part who other) is_me is.others in
@@ -128,41 +127,42 @@ returns-in-Some g c =
     let more = others.later.seen me in
     let outcomes = others.later.heard me in
     let parts = given_up_part place.index run part later gives_up apart in
-    let same = hand_same after.me cut part later parts in
+    let same = hand_same after.party.me cut part later parts in
     let left : Doing = left_of place.index (GaveUp run) in
     let taken = is.did.0 in
     let held = subst (λ (index : ℕ). IsHeldWith heap (part index).holding) (sym c.requires.its) c.requires.holds.in_hand.held in
-    let called = remains_called (remains_by (in_same me party old c.requires.holds.can.tied)) counted in
+    let called = remains_called (remains_by (in_same me doer.party old c.requires.holds.can.tied)) counted in
     record {
-      does = subst (λ (doing : Doing). Does old.count (did_in me old new) doing left (moment_with heap me party old) (moment_with cut me after new))
+      does = subst (λ (doing : Doing). Does old.count (did_in me old new) doing left (moment_with heap me doer old) (moment_with cut me after new))
           (sym (socket_cuts place c.args.addr heap.plain.index c.is_none.result c.if-is_none.false c.is_none.ensures c.requires.its))
           (does_then old.count (did_in me old new) (did_in me new new) (did_in me old new)
-          (Doing.Calls heap.plain.index (call.Cut c.args.addr) (giving_up place.index)) left left (moment_with heap me party old)
+          (Doing.Calls heap.plain.index (call.Cut c.args.addr) (giving_up place.index)) left left (moment_with heap me doer old)
           (in_hand cut (moment_of after part seen heard)) (moment_with cut me after new) (λ first second. did_then)
-          (does_acted party part seen heard (call.Cut c.args.addr) (gives.Pages run) heap cut step old.count (did_in me old new)
+          (does_acted doer part seen heard (call.Cut c.args.addr) (gives.Pages run) heap cut step old.count (did_in me old new)
           (giving_up place.index) after (takes_segments taken ∷ gives_segments (after_retire heap.plain.index run taken) ∷ []) counted
           (subst (λ (index : ℕ). Did me (takes_segments taken ∷ gives_segments (after_retire index run taken) ∷ []) old new) c.requires.its
           (subst (λ (who : ℕ). Did who (takes_segments taken ∷ gives_segments (after_retire place.index run taken) ∷ []) old new) is_me is.did.1))
-          (Acts.cuts_run party heap.plain.index c.args.addr run taken))
+          (Acts.cuts_run doer.party heap.plain.index c.args.addr run taken))
           (does_still old.count (did_in me new new) left (in_hand cut (moment_of after part seen heard)) (moment_with cut me after new) []
-          (did_same me new) (Acts.nothing after) (λ at. (same at).entries) (λ at. (same at).serves) (same_party after) refl more.0 more.1 outcomes.0
+          (did_same me new) (Acts.nothing after.party) (λ at. (same at).entries) (λ at. (same at).serves) (same_party after.party) refl refl more.0 more.1 outcomes.0
           outcomes.1));
       settled = subst (λ (who : ℕ). HasSettledAsks who later (new.heard me)) (sym is_me)
           (settled_more me part later heard (new.heard me) outcomes.0 outcomes.1 (given_up_armed place.index run part later gives_up apart)
           c.requires.holds.settled);
       keeps = record {
-        in_hand = hand_moved party part seen heard (call.Cut c.args.addr) (gives.Pages run) heap cut step old.taken c.requires.holds.in_hand new.taken
+        in_hand = hand_moved doer part seen heard (call.Cut c.args.addr) (gives.Pages run) heap cut step old.taken c.requires.holds.in_hand new.taken
             after later (new.seen me) (new.heard me) is.stays.slots.taken
-            (subst (λ (after : Party). IsSameParty (after_call party) after) (sym counted) (same_party (after_call party))) parts
+            called.same (ap (λ (doer : ParticipantView). doer.context) counted) parts
             (λ other far. ap (λ (part : HeapPart). part.holding) (apart other (λ same. far (same ∙ c.requires.its))))
             (subst (λ (index : ℕ). IsHeldWith cut (later index).holding) c.requires.its
             (held_behind_cut c.args.addr place.index run heap cut (part place.index) (later place.index) c.requires.its held
-            c.in-Some.ensures.pages (cut_leaves (caller_of party) c.args.addr (gives.Pages run) heap cut step) gives_up));
+            c.in-Some.ensures.pages (cut_leaves (caller_of doer) c.args.addr (gives.Pages run) heap cut step) gives_up));
         index = call_index _ _ _ _ _ step;
         its_socket = call_serves _ _ _ _ _ step;
+        context = knew_called doer doer after refl counted;
         remains = record {
           same = called.same;
-          tied = tied_later me after others.later own called.tied;
+          tied = tied_later me after.party others.later own called.tied;
           slots = is.stays.slots;
           joined = joined;
           later = others.later;

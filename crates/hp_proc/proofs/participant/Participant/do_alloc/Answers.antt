@@ -8,10 +8,10 @@ use Rattle.hp_proc.proofs.participant.Participant.do_alloc.Goals as goal
 
 pub returns-in-Err-clause-does : goal.returns-in-Err-clause-does
 returns-in-Err-clause-does g c =
-    let party = c.args.self.now in
+    let doer = c.args.self.now in
     let hall = g.H.Hall.state c.args.hall.now in
-    let me = party.me in
-    let at = moment me party hall in
+    let me = doer.party.me in
+    let at = moment me doer hall in
     let label = c.requires.act in
     line_refused c.args.line.now label.0 c.args.size c.args.options.now label.1 at c.requires.attached hall.count
     (did_in me hall hall) c.in-Err.kind (sym c.in-Err.ensures.refused) (did_same me hall)
@@ -31,4 +31,4 @@ serve_line-requires-clause-asks g c = record {
 }
 
 pub returns-in-Err-clause-idle : goal.returns-in-Err-clause-idle
-returns-in-Err-clause-idle g c = again_line c.args.self.now c.requires.ready.idle
+returns-in-Err-clause-idle g c = again_line c.args.self.now.party c.requires.ready.idle

@@ -2,7 +2,7 @@
 use Rattle.std.proofs.Common.{◌∙◌, ap, refl, sym}
 use Rattle.hp_script.specs.declared.answer.Answer.TheVariants as answer
 use Rattle.hp_proc.specs.Courses.{standing_tried}
-use Rattle.hp_serve.specs.Party.{Party}
+use Rattle.hp_proc.specs.ParticipantView.{ParticipantView}
 use Rattle.hp_proc.proofs.AttachedLines.{attached_same, joined_by, joined_still, line_already, line_tried, ready_noted, refused_failed}
 use Rattle.hp_proc.proofs.HandGiven.{ready_still}
 use Rattle.hp_hall.proofs.HallStates.{did_same}
@@ -12,70 +12,71 @@ use Rattle.hp_proc.proofs.participant.Participant.do_attach.Goals as goal
 
 pub returns-then-self-clause-does : goal.returns-then-self-clause-does
 returns-then-self-clause-does g c =
-    let party = c.args.self.now in
-    let me = party.me in
+    let doer = c.args.self.now in
+    let me = doer.party.me in
     let hall = g.H.Hall.state c.args.hall.now in
-    line_already hall.count (did_in me hall hall) c.args.line.now party (hall.part me) (hall.seen me)
+    line_already hall.count (did_in me hall hall) c.args.line.now doer (hall.part me) (hall.seen me)
     (hall.heard me) c.requires.act
-    (ap (λ (party : Party). party.context.standing.attached) (sym c.self.view_is)
+    (ap (λ (doer : ParticipantView). doer.context.standing.attached) (sym c.self.view_is)
     ∙ ap (λ inside. inside.context.standing.attached) (sym c.self-inside.view_is) ∙ c.if-self.true) (did_same me hall)
 
 pub returns-clause-does : goal.returns-clause-does
 returns-clause-does g c =
-    let party = c.args.self.now in
-    let me = party.me in
+    let doer = c.args.self.now in
+    let me = doer.party.me in
     let old = g.H.Hall.state c.args.hall.now in
     let new = g.H.Hall.state c.attach-caught.new.hall in
     let is = c.attach-caught.ensures in
     let more = is.stays.others.later.seen me in
     let others = is.stays.others.later.heard me in
-    line_tried old.count (did_in me old new) c.args.line.now party (old.part me) (old.seen me)
+    line_tried old.count (did_in me old new) c.args.line.now doer (old.part me) (old.seen me)
     (old.heard me) c.attach-caught.new.self c.note_attached.new.self (new.part me) (new.seen me) more.0
     (new.heard me) others.0 is.stays.part more.1 others.1 c.requires.act
-    (ap (λ (party : Party). party.context.standing.attached) (sym c.self.view_is)
-    ∙ ap (λ inside. inside.context.standing.attached) (sym c.self-inside.view_is) ∙ c.if-self.false) is.did.0 c.attach-caught.result is.did.1
+    (ap (λ (doer : ParticipantView). doer.context.standing.attached) (sym c.self.view_is)
+    ∙ ap (λ inside. inside.context.standing.attached) (sym c.self-inside.view_is) ∙ c.if-self.false) is.did.0 c.attach-caught.result is.did.1 is.context
     is.did.2 c.note_attached.result c.note_attached.ensures.given c.note_attached.ensures.noted
 
 pub returns-clause-ready : goal.returns-clause-ready
 returns-clause-ready g c = λ ready.
-    let party = c.args.self.now in
-    let me = party.me in
+    let doer = c.args.self.now in
+    let me = doer.party.me in
     let old = g.H.Hall.state c.args.hall.now in
     let new = g.H.Hall.state c.attach-caught.new.hall in
     let mid = c.attach-caught.new.self in
     let is = c.attach-caught.ensures in
     let others = is.stays.others.later.heard me in
     ready_noted mid c.note_attached.new.self (new.part me) (new.seen me) (new.heard me)
-    (standing_tried mid.maps.number c.attach-caught.result mid.context.standing) c.note_attached.ensures.noted
-    (ready_still party mid (old.part me) (new.part me) (old.seen me) (new.seen me) (old.heard me)
-    (new.heard me) others.0 (attached_same party mid is.did.0.log c.attach-caught.result is.did.1) is.stays.part others.1 ready)
+    (standing_tried mid.party.maps.number c.attach-caught.result mid.context.standing) c.note_attached.ensures.noted
+    (ready_still doer mid (old.part me) (new.part me) (old.seen me) (new.seen me) (old.heard me)
+    (new.heard me) others.0 (attached_same doer.party mid.party is.did.0.log c.attach-caught.result is.did.1) is.context is.stays.part others.1 ready)
 
 pub returns-clause-failed : goal.returns-clause-failed
 returns-clause-failed g c = λ call refused.
     c.attach-caught.ensures.failed
-    (refused_failed c.attach-caught.new.self.maps.number c.attach-caught.result c.note_attached.result call c.note_attached.ensures.given refused)
+    (refused_failed c.attach-caught.new.self.party.maps.number c.attach-caught.result c.note_attached.result call c.note_attached.ensures.given refused)
 
 pub returns-then-self-clause-changes : goal.returns-then-self-clause-changes
-returns-then-self-clause-changes g c = changes_same c.args.self.now c.requires.tied
+returns-then-self-clause-changes g c = changes_same c.args.self.now.party c.requires.tied
 
 pub returns-then-is_worn-clause-changes : goal.returns-then-is_worn-clause-changes
-returns-then-is_worn-clause-changes g c = changes_same c.args.self.now c.requires.tied
+returns-then-is_worn-clause-changes g c = changes_same c.args.self.now.party c.requires.tied
 
 pub returns-clause-changes : goal.returns-clause-changes
 returns-clause-changes g c =
-    let party = c.args.self.now in
+    let doer = c.args.self.now in
     let mid = c.attach-caught.new.self in
     let is = c.attach-caught.ensures in
-    changes_noted party mid (standing_tried mid.maps.number c.attach-caught.result mid.context.standing)
-    (attached_same party mid is.did.0.log c.attach-caught.result is.did.1) c.note_attached.ensures.noted is.tied is.stays.slots is.stays.others
+    changes_noted doer mid (standing_tried mid.party.maps.number c.attach-caught.result mid.context.standing)
+    (attached_same doer.party mid.party is.did.0.log c.attach-caught.result is.did.1) c.note_attached.ensures.noted is.tied is.stays.slots is.stays.others
 
 pub returns-clause-roster : goal.returns-clause-roster
 returns-clause-roster g c =
-    let me = c.args.self.now.me in
-    joined_by c.args.line.now.act c.attach-caught.new.self.maps.number c.attach-caught.result c.note_attached.result
+    let me = c.args.self.now.party.me in
+    joined_by c.args.line.now.act c.attach-caught.new.self.party.maps.number c.attach-caught.result c.note_attached.result
     ((g.H.Hall.state c.args.hall.now).joined me) ((g.H.Hall.state c.attach-caught.new.hall).joined me) c.requires.act c.note_attached.ensures.given
     c.attach-caught.ensures.roster
 
 pub returns-then-self-clause-roster : goal.returns-then-self-clause-roster
 returns-then-self-clause-roster g c =
-    joined_still c.args.line.now.act answer.Already ((g.H.Hall.state c.args.hall.now).joined c.args.self.now.me) c.requires.act refl
+    let me = c.args.self.now.party.me in
+    joined_still c.args.line.now.act answer.Already ((g.H.Hall.state c.args.hall.now).joined me) c.requires.act refl

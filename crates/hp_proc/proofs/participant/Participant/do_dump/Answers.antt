@@ -13,15 +13,13 @@ use Rattle.hp_script.specs.declared.answer.Answer.TheVariants as answer
 use Rattle.hp_script.specs.declared.line.Act.{Act}
 use Rattle.hp_script.specs.declared.line.Act.TheVariants as act
 use Rattle.hp_script.specs.declared.line.Line.{Line}
-use Rattle.hp_proc.specs.Contexts.{Context}
 use Rattle.hp_proc.specs.Courses.{HasRequest}
 use Rattle.hp_proc.specs.Doing.{Doing}
 use Rattle.hp_proc.specs.Heaps.{NamedHeap, has_name, socket_heaps}
 use Rattle.hp_proc.specs.Lines.{Facts, doing_of, dumping, if_attached, with_statistics}
-use Rattle.hp_serve.specs.Party.{IsSameParty, Party}
-use Rattle.hp_proc.specs.ParticipantView.{after_call, with_calls}
+use Rattle.hp_serve.specs.Party.{IsSameParty}
+use Rattle.hp_proc.specs.ParticipantView.{ParticipantView, after_call, with_calls}
 use Rattle.hp_proc.specs.Progress.{Does, MayDo, caller_of}
-use Rattle.hp_serve.proofs.Carrying.{same_party}
 use Rattle.hp_proc.proofs.HandCalls.{call_index, does_call}
 use Rattle.hp_proc.proofs.Joining.{does_same, does_then}
 use Rattle.hp_proc.proofs.LineFacts.{facts_for, facts_known, line_done}
@@ -33,7 +31,7 @@ use Rattle.hp_proc.specs.LineInHall.{HoldsIn, IsIdleIn, did_in, moment, moment_w
 use Rattle.hp_hall.specs.HallState.{HallState}
 use Rattle.hp_heap.specs.History.{HeapView, IsCall}
 use Rattle.hp_heap.specs.declared.entry.HeapAnswer.{HeapAnswer}
-use Rattle.hp_proc.proofs.Holds.{again_line, line_by, but_kept, does_next, holds_on, idle_put, keeps_called, same_to_calls, settled_called}
+use Rattle.hp_proc.proofs.Holds.{again_line, but_kept, does_next, holds_on, idle_put, keeps_called, knew_called, settled_called}
 use Rattle.hp_proc.proofs.participant.Participant.do_dump.Goals as goal
 
 -- the tree of a dump, where its participant is attached
@@ -73,50 +71,44 @@ named_few pools name index is =
     (All-found (IsListed pools) (has_name name) (socket_heaps pools) (all_listed pools))
 
 -- one call more is all that its holder is changed by
-same_called : (party mid after : Party) → IsSameParty party mid → after ≡ after_call mid → IsSameParty (with_calls after.context.calls party) after
-same_called party mid after same counted =
-    subst (λ (after : Party). IsSameParty (with_calls after.context.calls party) after) (sym counted) (record {
-      me = same.me;
-      socket = same.socket;
-      plan = same.plan;
-      deadline = same.deadline;
-      context = ap (λ (context : Context). record context { calls = mid.context.calls + 1 }) same.context;
-    })
+knew_more : (before doer after : ParticipantView) → doer.context ≡ before.context → after ≡ after_call doer
+    → after.context ≡ with_calls after.context.calls before.context
+knew_more before doer after knew counted = knew_called before doer after knew counted
 
 -- the heap is in hand behind its call
-held_after : (before party after : Party) (heap next : HeapView) (hall : HallState) (given : HeapAnswer) → party.me ≡ before.me
-    → HoldsIn before.me party heap hall → IsCall (caller_of party) call.Stats given heap next → after ≡ after_call party
-    → HoldsIn after.me after next hall
-held_after before party after heap next hall given me holds step counted =
-    let here : HoldsIn party.me party heap hall = subst (λ (who : ℕ). HoldsIn who party heap hall) (sym me) holds in
-    holds_on (keeps_called party after heap next step counted (stats_pages (caller_of party) given heap next step) here)
-    (settled_called party after hall counted here.settled) here.can.may
+held_after : (before doer after : ParticipantView) (heap next : HeapView) (hall : HallState) (given : HeapAnswer) → doer.party.me ≡ before.party.me
+    → HoldsIn before.party.me doer heap hall → IsCall (caller_of doer) call.Stats given heap next → after ≡ after_call doer
+    → HoldsIn after.party.me after next hall
+held_after before doer after heap next hall given me holds step counted =
+    let here : HoldsIn doer.party.me doer heap hall = subst (λ (who : ℕ). HoldsIn who doer heap hall) (sym me) holds in
+    holds_on (keeps_called doer after heap next step counted (stats_pages (caller_of doer) given heap next step) here)
+    (settled_called doer after hall counted here.settled) here.can.may
 
 pub returns-in_default-clause-does : goal.returns-in_default-clause-does
 returns-in_default-clause-does g c =
-    let party = c.args.self.now in
-    let me = party.me in
+    let doer = c.args.self.now in
+    let me = doer.party.me in
     let hall = g.H.Hall.state c.args.hall.now in
     let line = c.args.line.now in
     let name = c.args.name.now in
-    let at = moment me party hall in
-    let facts = facts_for party.socket party.context line.act None in
-    let known = facts_known party.socket party.context line None
+    let at = moment me doer hall in
+    let facts = facts_for doer.party.socket doer.context line.act None in
+    let known = facts_known doer.party.socket doer.context line None
     (subst (λ (deed : Act). HasRequest deed None) (sym c.requires.act) tt) in
-    let is = subst (λ (party : Party). None ≡ option_map (λ (heap : NamedHeap). heap.index) (find (has_name name.text) (socket_heaps party.context.pools)))
+    let is = subst (λ (doer : ParticipantView). None ≡ option_map (λ (heap : NamedHeap). heap.index) (find (has_name name.text) (socket_heaps doer.context.pools)))
     c.self.view_is c.in_default.ensures in
     line_done hall.count (did_in me hall hall) line answer.NotFound at at facts (act.Dump name) known
     (subst (λ (doing : Doing). Does hall.count (did_in me hall hall) doing (Doing.Ended answer.NotFound) at at)
     (sym (dumps_none (find (has_name name.text) facts.named) is) ∙ dumps line name facts c.requires.act c.requires.attached)
     (does_same hall.count (did_in me hall hall) (Doing.Ended answer.NotFound) at (did_same me hall)))
-    (same_party party) c.requires.act tt
+    refl c.requires.act tt
 
 pub hold-requires-clause-few : goal.hold-requires-clause-few
 hold-requires-clause-few g c =
     let name = c.args.name.now in
     let index = c.in-Some.index in
     named_few c.args.self.now.context.pools name.text index
-    (subst (λ (party : Party). Some index ≡ option_map (λ (heap : NamedHeap). heap.index) (find (has_name name.text) (socket_heaps party.context.pools)))
+    (subst (λ (doer : ParticipantView). Some index ≡ option_map (λ (heap : NamedHeap). heap.index) (find (has_name name.text) (socket_heaps doer.context.pools)))
     c.self.view_is c.in-Some.ensures)
 
 pub put-requires : goal.put-requires
@@ -127,20 +119,20 @@ put-requires g c =
     record { serves = held.can.may.serves; in_hand = held.in_hand }
 
 pub returns-in_default-clause-idle : goal.returns-in_default-clause-idle
-returns-in_default-clause-idle g c = again_line c.args.self.now c.requires.ready.idle
+returns-in_default-clause-idle g c = again_line c.args.self.now.party c.requires.ready.idle
 
 pub returns-in_err-heap-clause-idle : goal.returns-in_err-heap-clause-idle
 returns-in_err-heap-clause-idle g c =
-    line_by c.args.self.now c.hold.new.self (same_to_calls c.args.self.now c.hold.new.self c.hold.ensures.same) c.in_err-heap.ensures.err
+    record { same = c.hold.ensures.same; idle = c.in_err-heap.ensures.err }
 
 pub returns : goal.returns
 returns g c =
     let before = c.args.self.now in
-    let me = before.me in
+    let me = before.party.me in
     let old = g.H.Hall.state c.args.hall.now in
     let mid = g.H.Hall.state c.hold.new.hall in
     let new = g.H.Hall.state c.put.new.hall in
-    let party = c.hold.new.self in
+    let doer = c.hold.new.self in
     let after = c.stats_in-stats.new.self in
     let heap = c.in_ok-heap.heap in
     let next = c.stats_in-stats.new.heap in
@@ -151,39 +143,42 @@ returns g c =
     let put = c.put.ensures in
     let count = (g.met.H.Hall.goes_on_later _ _ c.hold.ensures.goes_on).count in
     let held_me = c.hold.ensures.same.me in
-    let after_me = ap (λ (party : Party). party.me) counted ∙ held_me in
+    let after_me = ap (λ (doer : ParticipantView). doer.party.me) counted ∙ held_me in
     let line = c.args.line.now in
     let name = c.args.name.now in
     let first = moment me before old in
     let fourth = moment me after new in
     let doing = Doing.Calls heap.plain.index call.Stats with_statistics in
     let ended = Doing.Ended (answer.Statistics stats) in
-    let called : Does old.count (did_in me mid mid) doing ended (moment_with heap me party mid) (moment_with next me after mid) =
-    does_call party (mid.part me) (mid.seen me) (mid.heard me) call.Stats (gives.Statistics stats) heap next step old.count (did_in me mid mid)
+    let called : Does old.count (did_in me mid mid) doing ended (moment_with heap me doer mid) (moment_with next me after mid) =
+    does_call doer (mid.part me) (mid.seen me) (mid.heard me) call.Stats (gives.Statistics stats) heap next step old.count (did_in me mid mid)
     with_statistics after counted (did_same me mid) refl in
     let does : Does old.count (did_in me old new) doing ended first fourth =
     does_next me first (λ who. moment_with next who after mid) (λ who. moment who after new) after_me count
-    (does_then old.count (did_in me old mid) (did_in me mid mid) (did_in me old mid) doing doing ended first (moment_with heap me party mid)
+    (does_then old.count (did_in me old mid) (did_in me mid mid) (did_in me old mid) doing doing ended first (moment_with heap me doer mid)
     (moment_with next me after mid) (λ one other. did_then) (took.did doing) called) (put.does ended) in
-    let facts = facts_for before.socket before.context line.act None in
-    let known = facts_known before.socket before.context line None
+    let facts = facts_for before.party.socket before.context line.act None in
+    let known = facts_known before.party.socket before.context line None
     (subst (λ (deed : Act). HasRequest deed None) (sym c.requires.act) tt) in
     let index = c.in-Some.index in
-    let is = subst (λ (party : Party). Some index ≡ option_map (λ (heap : NamedHeap). heap.index) (find (has_name name.text) (socket_heaps party.context.pools)))
+    let is = subst (λ (doer : ParticipantView). Some index ≡ option_map (λ (heap : NamedHeap). heap.index) (find (has_name name.text) (socket_heaps doer.context.pools)))
     c.self.view_is c.in-Some.ensures in
-    let same = same_called before party after c.hold.ensures.same counted in
-    let its = call_index (caller_of party) call.Stats (gives.Statistics stats) heap next step in
-    let held = held_after before party after heap next mid (gives.Statistics stats) held_me took.holds step counted in
+    let knew = knew_more before doer after c.hold.ensures.context counted in
+    let same = subst (λ (after : ParticipantView). IsSameParty before.party after.party) (sym counted) c.hold.ensures.same in
+    let its = call_index (caller_of doer) call.Stats (gives.Statistics stats) heap next step in
+    let held = held_after before doer after heap next mid (gives.Statistics stats) held_me took.holds step counted in
     record {
       does = line_done old.count (did_in me old new) line (answer.Statistics stats) first fourth facts (act.Dump name) known
           (subst (λ (doing : Doing). Does old.count (did_in me old new) doing ended first fourth)
           (ap (λ (index : ℕ). Doing.Calls index call.Stats with_statistics) took.index
           ∙ dumps_some (find (has_name name.text) facts.named) index is ∙ dumps line name facts c.requires.act c.requires.attached) does)
-          same c.requires.act tt;
+          knew c.requires.act tt;
       ready = subst (λ (who : ℕ). MayDo (moment who after new)) after_me (put.ready held.settled);
       clock = λ one. omega (arith, c.hold.ensures.clock one, put.others.clock);
-      idle = line_by before after same
-          (subst (λ (who : ℕ). IsIdleIn who after new) after_me
-          (idle_put after next held.can (but_kept (its ∙ took.index) c.hold.ensures.slots (slots_same mid)) put.tied put.free put.slots put.others));
+      idle = record {
+        same = same;
+        idle = subst (λ (who : ℕ). IsIdleIn who after.party new) after_me
+          (idle_put after.party next held.can (but_kept (its ∙ took.index) c.hold.ensures.slots (slots_same mid)) put.tied put.free put.slots put.others);
+      };
       goes_on = g.met.H.Hall.goes_on_then _ _ _ c.hold.ensures.goes_on put.goes_on;
     }

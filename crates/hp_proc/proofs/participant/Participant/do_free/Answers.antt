@@ -12,7 +12,6 @@ use Rattle.hp_proc.specs.Progress.{Does, DoesLine}
 use Rattle.hp_serve.proofs.AskedAlong.{if_ok}
 use Rattle.hp_proc.proofs.LineFacts.{facts_for, facts_known, line_done}
 use Rattle.hp_proc.specs.LineInHall.{did_in, moment}
-use Rattle.hp_proc.proofs.Holds.{line_by}
 use Rattle.hp_proc.proofs.participant.Participant.do_free.Goals as goal
 
 -- the tree of a free, where its participant is attached
@@ -26,22 +25,22 @@ frees line who label facts own deed attached =
 
 pub returns-clause-does : goal.returns-clause-does
 returns-clause-does g c =
-    let party = c.args.self.now in
-    let me = party.me in
+    let doer = c.args.self.now in
+    let me = doer.party.me in
     let old = g.H.Hall.state c.args.hall.now in
     let new = g.H.Hall.state c.act_on.new.hall in
     let after = c.act_on.new.self in
     let line = c.args.line.now in
-    let before = moment me party old in
+    let before = moment me doer old in
     let behind = moment me after new in
-    let facts = facts_for party.socket party.context line.act None in
-    let known = facts_known party.socket party.context line None
+    let facts = facts_for doer.party.socket doer.context line.act None in
+    let known = facts_known doer.party.socket doer.context line None
     (subst (λ (deed : Act). HasRequest deed None) (sym c.requires.act) tt) in
     if_ok _ (λ given. DoesLine old.count (did_in me old new) line given before behind) c.act_on.result
     (λ given does. line_done old.count (did_in me old new) line given before behind facts (act.Free c.args.label.now) known
     (subst (λ (doing : Doing). Does old.count (did_in me old new) doing (Doing.Ended given) before behind)
     (frees line me c.args.label.now facts c.requires.own c.requires.act c.requires.attached) (does facts known))
-    c.act_on.ensures.idle.same c.requires.act tt) c.act_on.ensures.does
+    c.act_on.ensures.idle.context c.requires.act tt) c.act_on.ensures.does
 
 pub returns-clause-idle : goal.returns-clause-idle
-returns-clause-idle g c = line_by c.args.self.now c.act_on.new.self c.act_on.ensures.idle.same c.act_on.ensures.idle.idle
+returns-clause-idle g c = c.act_on.ensures.idle.again

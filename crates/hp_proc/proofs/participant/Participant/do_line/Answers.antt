@@ -1,6 +1,6 @@
 -- Who is not attached is answered so at once.
 use Rattle.std.proofs.Common.{◌∙◌, ap, sym}
-use Rattle.hp_serve.specs.Party.{Party}
+use Rattle.hp_proc.specs.ParticipantView.{ParticipantView}
 use Rattle.hp_proc.proofs.AttachedLines.{one_built}
 use Rattle.hp_proc.proofs.LineFacts.{detached_done}
 use Rattle.hp_hall.proofs.HallStates.{did_same}
@@ -12,17 +12,17 @@ use Rattle.hp_proc.proofs.participant.Participant.do_line.Goals as goal
 
 pub returns-then-not-self-clause-does : goal.returns-then-not-self-clause-does
 returns-then-not-self-clause-does g c =
-    let party = c.args.self.now in
-    let me = party.me in
+    let doer = c.args.self.now in
+    let me = doer.party.me in
     let hall = g.H.Hall.state c.args.hall.now in
     detached_done hall.count (did_in me hall hall) (did_same me hall) c.args.line.now
-    (moment me party hall)
+    (moment me doer hall)
     (one_built me c.args.line.now.act c.requires.built c.in_default.not-Attach c.in_default.not-Detach)
-    (ap (λ (party : Party). party.context.standing.attached) (sym c.self.view_is)
+    (ap (λ (doer : ParticipantView). doer.context.standing.attached) (sym c.self.view_is)
     ∙ ap (λ inside. inside.context.standing.attached) (sym c.self-inside.view_is) ∙ c.if-not-self.true)
 
 pub returns-then-not-self-clause-idle : goal.returns-then-not-self-clause-idle
-returns-then-not-self-clause-idle g c = again_line c.args.self.now c.requires.ready.idle
+returns-then-not-self-clause-idle g c = again_line c.args.self.now.party c.requires.ready.idle
 
 pub do_attach-requires-clause-may : goal.do_attach-requires-clause-may
 do_attach-requires-clause-may g c = may_hold (idle_may c.requires.ready.idle)

@@ -17,12 +17,11 @@ use Rattle.hp_proc.specs.Freeing.{acting, act_for, if_sized, looking, resize_ref
 use Rattle.hp_proc.specs.Lines.{Facts, doing_of, if_attached, on_element}
 use Rattle.hp_proc.specs.Progress.{Does, DoesLine}
 use Rattle.hp_serve.proofs.AskedAlong.{if_ok}
-use Rattle.hp_serve.proofs.Carrying.{same_party}
 use Rattle.hp_proc.proofs.Joining.{does_same}
 use Rattle.hp_proc.proofs.LineFacts.{facts_for, facts_known, line_done}
 use Rattle.hp_hall.proofs.HallStates.{did_same}
 use Rattle.hp_proc.specs.LineInHall.{did_in, moment}
-use Rattle.hp_proc.proofs.Holds.{again_line, line_by}
+use Rattle.hp_proc.proofs.Holds.{again_line}
 use Rattle.hp_proc.proofs.participant.Participant.do_resize.Goals as goal
 
 -- a size that can be had is not refused
@@ -69,8 +68,8 @@ act_on-requires-clause-size g c =
 
 pub returns-in-Ok-clause-does : goal.returns-in-Ok-clause-does
 returns-in-Ok-clause-does g c =
-    let party = c.args.self.now in
-    let me = party.me in
+    let doer = c.args.self.now in
+    let me = doer.party.me in
     let old = g.H.Hall.state c.args.hall.now in
     let new = g.H.Hall.state c.act_on.new.hall in
     let after = c.act_on.new.self in
@@ -78,37 +77,37 @@ returns-in-Ok-clause-does g c =
     let deed = act.Resize c.args.label.now c.args.size in
     let rounded = c.in-Ok.size in
     let is = c.in-Ok.ensures in
-    let before = moment me party old in
+    let before = moment me doer old in
     let behind = moment me after new in
-    let facts = facts_for party.socket party.context line.act None in
-    let known = facts_known party.socket party.context line None
+    let facts = facts_for doer.party.socket doer.context line.act None in
+    let known = facts_known doer.party.socket doer.context line None
     (subst (λ (deed : Act). HasRequest deed None) (sym c.requires.act) tt) in
     if_ok _ (λ given. DoesLine old.count (did_in me old new) line given before behind) c.act_on.result
     (λ given does. line_done old.count (did_in me old new) line given before behind facts deed known
     (subst (λ (doing : Doing). Does old.count (did_in me old new) doing (Doing.Ended given) before behind)
     (resizes line me c.args.label.now c.args.size facts c.requires.own c.requires.act c.requires.attached rounded is.0
-    (not_refused c.args.size rounded is.0 is.1 is.2)) (does facts known)) c.act_on.ensures.idle.same c.requires.act tt) c.act_on.ensures.does
+    (not_refused c.args.size rounded is.0 is.1 is.2)) (does facts known)) c.act_on.ensures.idle.context c.requires.act tt) c.act_on.ensures.does
 
 pub returns-in-Err-clause-does : goal.returns-in-Err-clause-does
 returns-in-Err-clause-does g c =
-    let party = c.args.self.now in
-    let me = party.me in
+    let doer = c.args.self.now in
+    let me = doer.party.me in
     let hall = g.H.Hall.state c.args.hall.now in
     let line = c.args.line.now in
     let deed = act.Resize c.args.label.now c.args.size in
     let given = answer.BadRequest c.in-Err.kind in
-    let at = moment me party hall in
-    let facts = facts_for party.socket party.context line.act None in
-    let known = facts_known party.socket party.context line None
+    let at = moment me doer hall in
+    let facts = facts_for doer.party.socket doer.context line.act None in
+    let known = facts_known doer.party.socket doer.context line None
     (subst (λ (deed : Act). HasRequest deed None) (sym c.requires.act) tt) in
     line_done hall.count (did_in me hall hall) line given at at facts deed known
     (subst (λ (doing : Doing). Does hall.count (did_in me hall hall) doing (Doing.Ended given) at at)
     (refuses line me c.args.label.now c.args.size facts c.requires.own c.requires.act c.requires.attached c.in-Err.kind c.in-Err.ensures)
     (does_same hall.count (did_in me hall hall) (Doing.Ended given) at (did_same me hall)))
-    (same_party party) c.requires.act tt
+    refl c.requires.act tt
 
 pub returns-in-Ok-clause-idle : goal.returns-in-Ok-clause-idle
-returns-in-Ok-clause-idle g c = line_by c.args.self.now c.act_on.new.self c.act_on.ensures.idle.same c.act_on.ensures.idle.idle
+returns-in-Ok-clause-idle g c = c.act_on.ensures.idle.again
 
 pub returns-in-Err-clause-idle : goal.returns-in-Err-clause-idle
-returns-in-Err-clause-idle g c = again_line c.args.self.now c.requires.ready.idle
+returns-in-Err-clause-idle g c = again_line c.args.self.now.party c.requires.ready.idle

@@ -12,8 +12,7 @@ use Rattle.hp_log.specs.declared.log_record.LogRecord.{LogRecord}
 use Rattle.hp_segs.specs.declared.outcome.AskLog.{AskLog}
 use Rattle.hp_proc.specs.Doing.{Doing}
 use Rattle.hp_proc.specs.Freeing.{freed, freeing}
-use Rattle.hp_serve.specs.Party.{Party}
-use Rattle.hp_proc.specs.ParticipantView.{after_call}
+use Rattle.hp_proc.specs.ParticipantView.{ParticipantView, after_call}
 use Rattle.hp_proc.specs.Progress.{AreSettled, Does, caller_of, in_hand, moment_of}
 use Rattle.hp_proc.specs.declared.searched_heap.SearchedHeap.{SearchedHeap}
 use Rattle.hp_proc.proofs.HandCalls.{call_index, call_serves, does_call}
@@ -26,40 +25,40 @@ use Rattle.hp_proc.proofs.Holds.{does_next, holds_on, keeps_called, keeps_then, 
 use Rattle.hp_proc.proofs.participant.Participant.free_held.Goals as goal
 
 -- the free was called, with what comes of it
-freed_here : (count : ℕ) (did : List MailStep → Type 0) (party after : Party) (parts : ℕ → HeapPart) (log : List LogRecord) (asks : List AskLog)
+freed_here : (count : ℕ) (did : List MailStep → Type 0) (doer after : ParticipantView) (parts : ℕ → HeapPart) (log : List LogRecord) (asks : List AskLog)
     (heap next : HeapView) (place : SearchedHeap) (addr : ℕ) (fault : Option FreeFault)
-    → IsCall (caller_of party) (call.Free addr false) (fault_answer fault) heap next → after ≡ after_call party → did []
+    → IsCall (caller_of doer) (call.Free addr false) (fault_answer fault) heap next → after ≡ after_call doer → did []
     → place.index ≡ heap.plain.index → (given : HeapAnswer) → fault_answer fault ≡ given
-    → Does count did (freeing place addr) (freed place addr given) (in_hand heap (moment_of party parts log asks))
+    → Does count did (freeing place addr) (freed place addr given) (in_hand heap (moment_of doer parts log asks))
     (in_hand next (moment_of after parts log asks))
-freed_here count did party after parts log asks heap next place addr fault step counted none its given is =
-    subst (λ (given : HeapAnswer). Does count did (freeing place addr) (freed place addr given) (in_hand heap (moment_of party parts log asks))
+freed_here count did doer after parts log asks heap next place addr fault step counted none its given is =
+    subst (λ (given : HeapAnswer). Does count did (freeing place addr) (freed place addr given) (in_hand heap (moment_of doer parts log asks))
     (in_hand next (moment_of after parts log asks))) is
     (subst (λ (index : ℕ). Does count did (Doing.Calls index (call.Free addr false) (freed place addr)) (freed place addr (fault_answer fault))
-    (in_hand heap (moment_of party parts log asks)) (in_hand next (moment_of after parts log asks))) (sym its)
-    (does_call party parts log asks (call.Free addr false) (fault_answer fault) heap next step count did (freed place addr) after counted
+    (in_hand heap (moment_of doer parts log asks)) (in_hand next (moment_of after parts log asks))) (sym its)
+    (does_call doer parts log asks (call.Free addr false) (fault_answer fault) heap next step count did (freed place addr) after counted
     none (freed_whole fault)))
 
 pub cut_held-requires : goal.cut_held-requires
 cut_held-requires g c =
-    let party = c.args.self.now in
+    let doer = c.args.self.now in
     let mid = c.free_in.new.self in
     let heap = c.args.heap.now in
     let next = c.free_in.new.heap in
     let step = c.free_in.ensures.step in
     let counted = c.free_in.ensures.counted in
     record {
-      holds = holds_on (keeps_called party mid heap next step counted (free_pages _ _ false _ heap next step) c.requires.holds)
-          (settled_called party mid (g.H.Hall.state c.args.hall.now) counted c.requires.holds.settled) c.requires.holds.can.may;
+      holds = holds_on (keeps_called doer mid heap next step counted (free_pages _ _ false _ heap next step) c.requires.holds)
+          (settled_called doer mid (g.H.Hall.state c.args.hall.now) counted c.requires.holds.settled) c.requires.holds.can.may;
       its = c.requires.its ∙ sym (call_index _ _ _ _ _ step);
       of_socket = c.requires.of_socket ∙ sym (call_serves _ _ _ _ _ step);
-      room = room_called 1 party mid heap next step.spare counted c.requires.room;
+      room = room_called 1 doer mid heap next step.spare counted c.requires.room;
     }
 
 pub returns-in-Err-NotAnElement : goal.returns-in-Err-NotAnElement
 returns-in-Err-NotAnElement g c =
-    let party = c.args.self.now in
-    let me = party.me in
+    let doer = c.args.self.now in
+    let me = doer.party.me in
     let hall = g.H.Hall.state c.args.hall.now in
     let after = c.free_in.new.self in
     let heap = c.args.heap.now in
@@ -67,19 +66,19 @@ returns-in-Err-NotAnElement g c =
     let step = c.free_in.ensures.step in
     let counted = c.free_in.ensures.counted in
     record {
-      does = freed_here hall.count (did_in me hall hall) party after (hall.part me) (hall.seen me) (hall.heard me) heap next c.args.place.now
+      does = freed_here hall.count (did_in me hall hall) doer after (hall.part me) (hall.seen me) (hall.heard me) heap next c.args.place.now
           c.args.addr (Some c.in-Err-NotAnElement.field-0) c.in-Err-NotAnElement.ensures.step counted (did_same me hall) c.requires.its gives.NotAnElement
           (ap (λ (fault : FreeFault). fault_answer (Some fault)) c.in-Err-NotAnElement.field-0-is);
-      settled = settled_called party after hall counted c.requires.holds.settled;
-      keeps = keeps_called party after heap next step counted (free_pages _ _ false _ heap next step) c.requires.holds;
+      settled = settled_called doer after hall counted c.requires.holds.settled;
+      keeps = keeps_called doer after heap next step counted (free_pages _ _ false _ heap next step) c.requires.holds;
       others = others_same me hall;
       goes_on = g.met.H.Hall.goes_on_same _;
     }
 
 pub returns-in-Err-IsZone : goal.returns-in-Err-IsZone
 returns-in-Err-IsZone g c =
-    let party = c.args.self.now in
-    let me = party.me in
+    let doer = c.args.self.now in
+    let me = doer.party.me in
     let hall = g.H.Hall.state c.args.hall.now in
     let after = c.free_in.new.self in
     let heap = c.args.heap.now in
@@ -87,19 +86,19 @@ returns-in-Err-IsZone g c =
     let step = c.free_in.ensures.step in
     let counted = c.free_in.ensures.counted in
     record {
-      does = freed_here hall.count (did_in me hall hall) party after (hall.part me) (hall.seen me) (hall.heard me) heap next c.args.place.now
+      does = freed_here hall.count (did_in me hall hall) doer after (hall.part me) (hall.seen me) (hall.heard me) heap next c.args.place.now
           c.args.addr (Some c.in-Err-IsZone.field-0) c.in-Err-IsZone.ensures.step counted (did_same me hall) c.requires.its gives.IsZone
           (ap (λ (fault : FreeFault). fault_answer (Some fault)) c.in-Err-IsZone.field-0-is);
-      settled = settled_called party after hall counted c.requires.holds.settled;
-      keeps = keeps_called party after heap next step counted (free_pages _ _ false _ heap next step) c.requires.holds;
+      settled = settled_called doer after hall counted c.requires.holds.settled;
+      keeps = keeps_called doer after heap next step counted (free_pages _ _ false _ heap next step) c.requires.holds;
       others = others_same me hall;
       goes_on = g.met.H.Hall.goes_on_same _;
     }
 
 pub returns-in-Ok : goal.returns-in-Ok
 returns-in-Ok g c =
-    let party = c.args.self.now in
-    let me = party.me in
+    let doer = c.args.self.now in
+    let me = doer.party.me in
     let old = g.H.Hall.state c.args.hall.now in
     let new = g.H.Hall.state c.cut_held.new.hall in
     let heap = c.args.heap.now in
@@ -109,14 +108,14 @@ returns-in-Ok g c =
     let after = c.cut_held.new.self in
     let step = c.free_in.ensures.step in
     let counted = c.free_in.ensures.counted in
-    let here = ap (λ (party : Party). party.me) counted in
+    let here = ap (λ (doer : ParticipantView). doer.party.me) counted in
     let is = c.cut_held.ensures in
     record {
-      does = does_next me (moment_with heap me party old) (λ who. moment_with next who mid old) (λ who. moment_with last who after new) here refl
-          (freed_here old.count (did_in me old old) party mid (old.part me) (old.seen me) (old.heard me) heap next c.args.place.now c.args.addr None
+      does = does_next me (moment_with heap me doer old) (λ who. moment_with next who mid old) (λ who. moment_with last who after new) here refl
+          (freed_here old.count (did_in me old old) doer mid (old.part me) (old.seen me) (old.heard me) heap next c.args.place.now c.args.addr None
           c.in-Ok.ensures.step counted (did_same me old) c.requires.its gives.Done refl) is.does;
       settled = subst (λ (who : ℕ). AreSettled (moment who after new)) here is.settled;
-      keeps = keeps_then (keeps_called party mid heap next step counted (free_pages _ _ false _ heap next step) c.requires.holds) is.keeps;
+      keeps = keeps_then (keeps_called doer mid heap next step counted (free_pages _ _ false _ heap next step) c.requires.holds) is.keeps;
       others = subst (λ (who : ℕ). OthersStay who old new) here is.others;
       goes_on = is.goes_on;
     }

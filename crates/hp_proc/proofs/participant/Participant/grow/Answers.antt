@@ -12,7 +12,7 @@ use Rattle.hp_proc.specs.Contexts.{Context}
 use Rattle.hp_serve.specs.InHall.{IsTiedIn}
 use Rattle.hp_proc.specs.LineInHall.{did_in, moment}
 use Rattle.hp_proc.proofs.HallMoments.{does_more}
-use Rattle.hp_proc.proofs.Holds.{holds_on, keeps_after, keeps_same, same_to_calls}
+use Rattle.hp_proc.proofs.Holds.{holds_on, keeps_after, keeps_same, knew_same}
 use Rattle.hp_serve.proofs.InHalls.{in_same, remains_by}
 use Rattle.hp_proc.proofs.Joining.{does_same}
 use Rattle.hp_proc.proofs.Rising.{few_page_sizes, rises_more, rises_within}
@@ -25,7 +25,7 @@ loop-page-init g c = record {
   holds = c.requires.holds;
   heap = refl;
   context = refl;
-  remains = remains_by (in_same c.args.self.now.me c.args.self.now (g.H.Hall.state c.args.hall.now) c.requires.holds.can.tied);
+  remains = remains_by (in_same c.args.self.now.party.me c.args.self.now.party (g.H.Hall.state c.args.hall.now) c.requires.holds.can.tied);
   goes_on = g.met.H.Hall.goes_on_same _;
   along = omega arith;
   clock = λ one. omega arith;
@@ -45,7 +45,7 @@ ask_in-requires-clause-room g c =
 -- IT STOPPED
 
 pub returns-in_err-ask_in-clause-keeps : goal.returns-in_err-ask_in-clause-keeps
-returns-in_err-ask_in-clause-keeps g c = keeps_after c.loop-page.invariant.remains c.loop-page.invariant.heap c.ask_in.ensures.keeps
+returns-in_err-ask_in-clause-keeps g c = keeps_after c.loop-page.invariant.remains c.loop-page.invariant.context c.loop-page.invariant.heap c.ask_in.ensures.keeps
 
 pub returns-in_err-ask_in-clause-goes_on : goal.returns-in_err-ask_in-clause-goes_on
 returns-in_err-ask_in-clause-goes_on g c = g.met.H.Hall.goes_on_then _ _ _ c.loop-page.invariant.goes_on c.ask_in.ensures.goes_on
@@ -53,7 +53,7 @@ returns-in_err-ask_in-clause-goes_on g c = g.met.H.Hall.goes_on_then _ _ _ c.loo
 -- A RUN WAS GRANTED
 
 pub returns-then-branch-clause-keeps : goal.returns-then-branch-clause-keeps
-returns-then-branch-clause-keeps g c = keeps_after c.loop-page.invariant.remains c.loop-page.invariant.heap c.ask_in.ensures.keeps
+returns-then-branch-clause-keeps g c = keeps_after c.loop-page.invariant.remains c.loop-page.invariant.context c.loop-page.invariant.heap c.ask_in.ensures.keeps
 
 pub returns-then-branch-clause-goes_on : goal.returns-then-branch-clause-goes_on
 returns-then-branch-clause-goes_on g c = g.met.H.Hall.goes_on_then _ _ _ c.loop-page.invariant.goes_on c.ask_in.ensures.goes_on
@@ -62,7 +62,7 @@ pub returns-then-branch-clause-does : goal.returns-then-branch-clause-does
 returns-then-branch-clause-does g c = λ tag otherwise.
     let items = c.deref-page-items.result.now in
     let was = c.loop-page.invariant in
-    let me = c.args.self.now.me in
+    let me = c.args.self.now.party.me in
     let first = c.args.hall.now in
     let second = c.loop-page.hall in
     let third = c.ask_in.new.hall in
@@ -76,18 +76,18 @@ returns-then-branch-clause-does g c = λ tag otherwise.
     (asking index socket request tag otherwise left) before (in_hand c.loop-page.heap (moment me c.loop-page.self (g.H.Hall.state second))))
     (drop_more items c.loop-page.page-index 0 c.loop-page-test.true) (was.does tag otherwise) in
     let there =
-    subst (λ (granted : Bool). Does (g.H.Hall.state second).count (did_in c.loop-page.self.me (g.H.Hall.state second) (g.H.Hall.state third))
+    subst (λ (granted : Bool). Does (g.H.Hall.state second).count (did_in c.loop-page.self.party.me (g.H.Hall.state second) (g.H.Hall.state third))
     (asking index socket request tag otherwise (get_or items c.loop-page.page-index 0 ∷ drop (c.loop-page.page-index + 1) items))
     (behind_asking index request tag next granted)
-    (in_hand c.loop-page.heap (moment c.loop-page.self.me c.loop-page.self (g.H.Hall.state second)))
-    (in_hand c.ask_in.new.heap (moment c.loop-page.self.me c.ask_in.new.self (g.H.Hall.state third))))
+    (in_hand c.loop-page.heap (moment c.loop-page.self.party.me c.loop-page.self (g.H.Hall.state second)))
+    (in_hand c.ask_in.new.heap (moment c.loop-page.self.party.me c.ask_in.new.self (g.H.Hall.state third))))
     c.if-branch.true (c.in_ok-ask_in.ensures.does tag next) in
-    subst (λ (pages : List ℕ). Does (g.H.Hall.state c.args.hall.now).count (did_in c.args.self.now.me (g.H.Hall.state c.args.hall.now) (g.H.Hall.state c.ask_in.new.hall))
+    subst (λ (pages : List ℕ). Does (g.H.Hall.state c.args.hall.now).count (did_in c.args.self.now.party.me (g.H.Hall.state c.args.hall.now) (g.H.Hall.state c.ask_in.new.hall))
     (asking c.args.place.now.index c.args.place.now.socket c.args.request.now tag otherwise pages) (searching_again c.args.place.now.index c.args.request.now tag)
-    (in_hand c.args.heap.now (moment c.args.self.now.me c.args.self.now (g.H.Hall.state c.args.hall.now)))
-    (in_hand c.ask_in.new.heap (moment c.args.self.now.me c.ask_in.new.self (g.H.Hall.state c.ask_in.new.hall))))
+    (in_hand c.args.heap.now (moment c.args.self.now.party.me c.args.self.now (g.H.Hall.state c.args.hall.now)))
+    (in_hand c.ask_in.new.heap (moment c.args.self.now.party.me c.ask_in.new.self (g.H.Hall.state c.ask_in.new.hall))))
     c.loop-page.invariant.pages
-    (does_more (g.H.Hall.state first) (g.H.Hall.state second) (g.H.Hall.state third) c.loop-page.self.me me (in_hand c.loop-page.heap) (in_hand c.ask_in.new.heap) c.loop-page.self c.ask_in.new.self before (asking index socket request tag otherwise items) (asking index socket request tag otherwise (get_or items c.loop-page.page-index 0 ∷ drop (c.loop-page.page-index + 1) items)) (behind_asking index request tag next true) was.remains.same.me
+    (does_more (g.H.Hall.state first) (g.H.Hall.state second) (g.H.Hall.state third) c.loop-page.self.party.me me (in_hand c.loop-page.heap) (in_hand c.ask_in.new.heap) c.loop-page.self c.ask_in.new.self before (asking index socket request tag otherwise items) (asking index socket request tag otherwise (get_or items c.loop-page.page-index 0 ∷ drop (c.loop-page.page-index + 1) items)) (behind_asking index request tag next true) was.remains.same.me
     ((g.met.H.Hall.goes_on_later first second was.goes_on).count) here there)
 
 pub returns-then-branch-clause-settled : goal.returns-then-branch-clause-settled
@@ -102,14 +102,14 @@ loop-page-preserved g c =
     let was = c.loop-page.invariant in
     let one = c.ask_in.ensures in
     let hall = c.ask_in.new.hall in
-    let party = c.ask_in.new.self in
+    let doer = c.ask_in.new.self in
     let passed = c.in_ok-ask_in.ensures.passed c.if-branch.false in
     record {
       pages = was.pages;
       does = λ tag otherwise.
           let items = c.deref-page-items.result.now in
           let was = c.loop-page.invariant in
-          let me = c.args.self.now.me in
+          let me = c.args.self.now.party.me in
           let first = c.args.hall.now in
           let second = c.loop-page.hall in
           let third = c.ask_in.new.hall in
@@ -123,13 +123,13 @@ loop-page-preserved g c =
           (asking index socket request tag otherwise left) before (in_hand c.loop-page.heap (moment me c.loop-page.self (g.H.Hall.state second))))
           (drop_more items c.loop-page.page-index 0 c.loop-page-test.true) (was.does tag otherwise) in
           let there =
-          subst (λ (granted : Bool). Does (g.H.Hall.state second).count (did_in c.loop-page.self.me (g.H.Hall.state second) (g.H.Hall.state third))
+          subst (λ (granted : Bool). Does (g.H.Hall.state second).count (did_in c.loop-page.self.party.me (g.H.Hall.state second) (g.H.Hall.state third))
           (asking index socket request tag otherwise (get_or items c.loop-page.page-index 0 ∷ drop (c.loop-page.page-index + 1) items))
           (behind_asking index request tag next granted)
-          (in_hand c.loop-page.heap (moment c.loop-page.self.me c.loop-page.self (g.H.Hall.state second)))
-          (in_hand c.ask_in.new.heap (moment c.loop-page.self.me c.ask_in.new.self (g.H.Hall.state third))))
+          (in_hand c.loop-page.heap (moment c.loop-page.self.party.me c.loop-page.self (g.H.Hall.state second)))
+          (in_hand c.ask_in.new.heap (moment c.loop-page.self.party.me c.ask_in.new.self (g.H.Hall.state third))))
           c.if-branch.false (c.in_ok-ask_in.ensures.does tag next) in
-          does_more (g.H.Hall.state first) (g.H.Hall.state second) (g.H.Hall.state third) c.loop-page.self.me me (in_hand c.loop-page.heap) (in_hand c.ask_in.new.heap) c.loop-page.self c.ask_in.new.self before (asking index socket request tag otherwise items) (asking index socket request tag otherwise (get_or items c.loop-page.page-index 0 ∷ drop (c.loop-page.page-index + 1) items)) (behind_asking index request tag next false) was.remains.same.me
+          does_more (g.H.Hall.state first) (g.H.Hall.state second) (g.H.Hall.state third) c.loop-page.self.party.me me (in_hand c.loop-page.heap) (in_hand c.ask_in.new.heap) c.loop-page.self c.ask_in.new.self before (asking index socket request tag otherwise items) (asking index socket request tag otherwise (get_or items c.loop-page.page-index 0 ∷ drop (c.loop-page.page-index + 1) items)) (behind_asking index request tag next false) was.remains.same.me
           ((g.met.H.Hall.goes_on_later first second was.goes_on).count) here there;
       holds = holds_on one.keeps c.in_ok-ask_in.ensures.settled was.holds.can.may;
       heap = passed.0 ∙ was.heap;
@@ -140,9 +140,8 @@ loop-page-preserved g c =
           socket = one.keeps.remains.same.socket ∙ was.remains.same.socket;
           plan = one.keeps.remains.same.plan ∙ was.remains.same.plan;
           deadline = one.keeps.remains.same.deadline ∙ was.remains.same.deadline;
-          context = passed.1 ∙ was.remains.same.context;
         };
-        tied = subst (λ (who : ℕ). IsTiedIn who party (g.H.Hall.state hall)) was.remains.same.me one.keeps.remains.tied;
+        tied = subst (λ (who : ℕ). IsTiedIn who doer.party (g.H.Hall.state hall)) was.remains.same.me one.keeps.remains.tied;
         slots = slots_then was.remains.slots one.keeps.remains.slots;
         joined = subst (λ (who : ℕ). (g.H.Hall.state hall).joined who ≡ (g.H.Hall.state c.loop-page.hall).joined who) was.remains.same.me
             one.keeps.remains.joined ∙ was.remains.joined;
@@ -150,8 +149,8 @@ loop-page-preserved g c =
       };
       goes_on = g.met.H.Hall.goes_on_then _ _ _ was.goes_on one.goes_on;
       along = omega (arith, c.loop-page-test.true);
-      clock = rises_more g.H.Hall.pending (λ hall. IsBusy (g.H.Hall.state hall)) c.loop-page.page-index (longest_wait c.args.self.now.deadline)
-          (longest_wait c.loop-page.self.deadline) (g.H.Hall.state c.args.hall.now).clock (g.H.Hall.state c.loop-page.hall).clock (g.H.Hall.state hall).clock
+      clock = rises_more g.H.Hall.pending (λ hall. IsBusy (g.H.Hall.state hall)) c.loop-page.page-index (longest_wait c.args.self.now.party.deadline)
+          (longest_wait c.loop-page.self.party.deadline) (g.H.Hall.state c.args.hall.now).clock (g.H.Hall.state c.loop-page.hall).clock (g.H.Hall.state hall).clock
           (ap longest_wait was.remains.same.deadline) was.clock one.clock;
     }
 
@@ -165,28 +164,23 @@ returns-clause-keeps g c =
           was.holds.in_hand;
       index = ap (λ (heap : HeapView). heap.plain.index) was.heap;
       its_socket = ap (λ (heap : HeapView). heap.plain.serves) was.heap;
-      remains = record {
-        same = same_to_calls c.args.self.now c.loop-page.self was.remains.same;
-        tied = was.remains.tied;
-        slots = was.remains.slots;
-        joined = was.remains.joined;
-        later = was.remains.later;
-      };
+      context = knew_same c.args.self.now.context c.loop-page.self.context was.context;
+      remains = was.remains;
     }
 
 pub returns-clause-does : goal.returns-clause-does
 returns-clause-does g c = λ tag otherwise.
     let items = c.deref-page-items.result.now in
-    subst (λ (pages : List ℕ). Does (g.H.Hall.state c.args.hall.now).count (did_in c.args.self.now.me (g.H.Hall.state c.args.hall.now) (g.H.Hall.state c.loop-page.hall))
+    subst (λ (pages : List ℕ). Does (g.H.Hall.state c.args.hall.now).count (did_in c.args.self.now.party.me (g.H.Hall.state c.args.hall.now) (g.H.Hall.state c.loop-page.hall))
     (asking c.args.place.now.index c.args.place.now.socket c.args.request.now tag otherwise pages) otherwise
-    (in_hand c.args.heap.now (moment c.args.self.now.me c.args.self.now (g.H.Hall.state c.args.hall.now)))
-    (in_hand c.loop-page.heap (moment c.args.self.now.me c.loop-page.self (g.H.Hall.state c.loop-page.hall))))
+    (in_hand c.args.heap.now (moment c.args.self.now.party.me c.args.self.now (g.H.Hall.state c.args.hall.now)))
+    (in_hand c.loop-page.heap (moment c.args.self.now.party.me c.loop-page.self (g.H.Hall.state c.loop-page.hall))))
     c.loop-page.invariant.pages
-    (subst (λ (left : List ℕ). Does (g.H.Hall.state c.args.hall.now).count (did_in c.args.self.now.me (g.H.Hall.state c.args.hall.now) (g.H.Hall.state c.loop-page.hall))
+    (subst (λ (left : List ℕ). Does (g.H.Hall.state c.args.hall.now).count (did_in c.args.self.now.party.me (g.H.Hall.state c.args.hall.now) (g.H.Hall.state c.loop-page.hall))
     (asking c.args.place.now.index c.args.place.now.socket c.args.request.now tag otherwise items)
     (asking c.args.place.now.index c.args.place.now.socket c.args.request.now tag otherwise left)
-    (in_hand c.args.heap.now (moment c.args.self.now.me c.args.self.now (g.H.Hall.state c.args.hall.now)))
-    (in_hand c.loop-page.heap (moment c.args.self.now.me c.loop-page.self (g.H.Hall.state c.loop-page.hall))))
+    (in_hand c.args.heap.now (moment c.args.self.now.party.me c.args.self.now (g.H.Hall.state c.args.hall.now)))
+    (in_hand c.loop-page.heap (moment c.args.self.now.party.me c.loop-page.self (g.H.Hall.state c.loop-page.hall))))
     (drop_all c.loop-page.page-index items (omega (arith, c.loop-page-test.false))) (c.loop-page.invariant.does tag otherwise))
 
 pub returns-clause-settled : goal.returns-clause-settled
@@ -199,45 +193,45 @@ returns-clause-settled g c =
 pub returns-in_err-ask_in-clause-clock : goal.returns-in_err-ask_in-clause-clock
 returns-in_err-ask_in-clause-clock g c =
     let was = c.loop-page.invariant in
-    let party = c.args.self.now in
+    let doer = c.args.self.now in
     let old = (g.H.Hall.state c.args.hall.now).clock in
     let new = (g.H.Hall.state c.ask_in.new.hall).clock in
-    rises_within g.H.Hall.pending (λ hall. IsBusy (g.H.Hall.state hall)) (c.loop-page.page-index + 1) 8 (longest_wait party.deadline) old new
+    rises_within g.H.Hall.pending (λ hall. IsBusy (g.H.Hall.state hall)) (c.loop-page.page-index + 1) 8 (longest_wait doer.party.deadline) old new
     (omega (
       arith,
       c.loop-page-test.true,
       ap length was.pages,
-      few_page_sizes party.context.pools c.args.place.now.socket c.args.request.now.flags,
+      few_page_sizes doer.context.pools c.args.place.now.socket c.args.request.now.flags,
     ))
-    (rises_more g.H.Hall.pending (λ hall. IsBusy (g.H.Hall.state hall)) c.loop-page.page-index (longest_wait party.deadline)
-    (longest_wait c.loop-page.self.deadline) old (g.H.Hall.state c.loop-page.hall).clock new (ap longest_wait was.remains.same.deadline) was.clock
+    (rises_more g.H.Hall.pending (λ hall. IsBusy (g.H.Hall.state hall)) c.loop-page.page-index (longest_wait doer.party.deadline)
+    (longest_wait c.loop-page.self.party.deadline) old (g.H.Hall.state c.loop-page.hall).clock new (ap longest_wait was.remains.same.deadline) was.clock
     c.ask_in.ensures.clock)
 
 pub returns-then-branch-clause-clock : goal.returns-then-branch-clause-clock
 returns-then-branch-clause-clock g c =
     let was = c.loop-page.invariant in
-    let party = c.args.self.now in
+    let doer = c.args.self.now in
     let old = (g.H.Hall.state c.args.hall.now).clock in
     let new = (g.H.Hall.state c.ask_in.new.hall).clock in
-    rises_within g.H.Hall.pending (λ hall. IsBusy (g.H.Hall.state hall)) (c.loop-page.page-index + 1) 8 (longest_wait party.deadline) old new
+    rises_within g.H.Hall.pending (λ hall. IsBusy (g.H.Hall.state hall)) (c.loop-page.page-index + 1) 8 (longest_wait doer.party.deadline) old new
     (omega (
       arith,
       c.loop-page-test.true,
       ap length was.pages,
-      few_page_sizes party.context.pools c.args.place.now.socket c.args.request.now.flags,
+      few_page_sizes doer.context.pools c.args.place.now.socket c.args.request.now.flags,
     ))
-    (rises_more g.H.Hall.pending (λ hall. IsBusy (g.H.Hall.state hall)) c.loop-page.page-index (longest_wait party.deadline)
-    (longest_wait c.loop-page.self.deadline) old (g.H.Hall.state c.loop-page.hall).clock new (ap longest_wait was.remains.same.deadline) was.clock
+    (rises_more g.H.Hall.pending (λ hall. IsBusy (g.H.Hall.state hall)) c.loop-page.page-index (longest_wait doer.party.deadline)
+    (longest_wait c.loop-page.self.party.deadline) old (g.H.Hall.state c.loop-page.hall).clock new (ap longest_wait was.remains.same.deadline) was.clock
     c.ask_in.ensures.clock)
 
 pub returns-clause-clock : goal.returns-clause-clock
 returns-clause-clock g c =
     let was = c.loop-page.invariant in
-    let party = c.args.self.now in
-    rises_within g.H.Hall.pending (λ hall. IsBusy (g.H.Hall.state hall)) c.loop-page.page-index 8 (longest_wait party.deadline)
+    let doer = c.args.self.now in
+    rises_within g.H.Hall.pending (λ hall. IsBusy (g.H.Hall.state hall)) c.loop-page.page-index 8 (longest_wait doer.party.deadline)
     (g.H.Hall.state c.args.hall.now).clock (g.H.Hall.state c.loop-page.hall).clock
-    (omega (arith, was.along, ap length was.pages, few_page_sizes party.context.pools c.args.place.now.socket c.args.request.now.flags))
+    (omega (arith, was.along, ap length was.pages, few_page_sizes doer.context.pools c.args.place.now.socket c.args.request.now.flags))
     was.clock
 
 pub returns-in_err-pages-clause-keeps : goal.returns-in_err-pages-clause-keeps
-returns-in_err-pages-clause-keeps g c = keeps_same c.args.self.now.me c.args.self.now c.args.heap.now c.requires.holds
+returns-in_err-pages-clause-keeps g c = keeps_same c.args.self.now.party.me c.args.self.now c.args.heap.now c.requires.holds

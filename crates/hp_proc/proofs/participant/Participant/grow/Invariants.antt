@@ -14,17 +14,17 @@ use Rattle.hp_proc.proofs.participant.Participant.grow.Given as goal
 abbrev pub invariant-loop-page : goal.invariant-loop-page
 invariant-loop-page g l = record {
   pages : l.page-items ≡ page_sizes_for l.fn.self.context.pools l.fn.place.socket l.fn.request.flags;
-  does : (tag : Tag) (otherwise : Doing) → Does (g.H.Hall.state l.fn.hall).count (did_in l.fn.self.me (g.H.Hall.state l.fn.hall) (g.H.Hall.state l.hall))
+  does : (tag : Tag) (otherwise : Doing) → Does (g.H.Hall.state l.fn.hall).count (did_in l.fn.self.party.me (g.H.Hall.state l.fn.hall) (g.H.Hall.state l.hall))
       (asking l.fn.place.index l.fn.place.socket l.fn.request tag otherwise l.page-items)
       (asking l.fn.place.index l.fn.place.socket l.fn.request tag otherwise (drop l.page-index l.page-items))
-      (in_hand l.fn.heap (moment l.fn.self.me l.fn.self (g.H.Hall.state l.fn.hall)))
-      (in_hand l.heap (moment l.fn.self.me l.self (g.H.Hall.state l.hall)));
-  holds : HoldsIn l.self.me l.self l.heap (g.H.Hall.state l.hall);
+      (in_hand l.fn.heap (moment l.fn.self.party.me l.fn.self (g.H.Hall.state l.fn.hall)))
+      (in_hand l.heap (moment l.fn.self.party.me l.self (g.H.Hall.state l.hall)));
+  holds : HoldsIn l.self.party.me l.self l.heap (g.H.Hall.state l.hall);
   heap : l.heap ≡ l.fn.heap;
   context : l.self.context ≡ l.fn.self.context;
-  remains : RemainsIn l.fn.self.me l.fn.self l.self (g.H.Hall.state l.fn.hall) (g.H.Hall.state l.hall);
+  remains : RemainsIn l.fn.self.party.me l.fn.self.party l.self.party (g.H.Hall.state l.fn.hall) (g.H.Hall.state l.hall);
   goes_on : g.H.Hall.goes_on l.fn.hall l.hall;
   along : l.page-index ≤ length l.page-items;
-  clock : RisesWithin g.H.Hall.pending (λ hall. IsBusy (g.H.Hall.state hall)) (l.page-index * longest_wait l.fn.self.deadline) (g.H.Hall.state l.fn.hall).clock
+  clock : RisesWithin g.H.Hall.pending (λ hall. IsBusy (g.H.Hall.state hall)) (l.page-index * longest_wait l.fn.self.party.deadline) (g.H.Hall.state l.fn.hall).clock
       (g.H.Hall.state l.hall).clock;
 }

@@ -3,7 +3,7 @@ use Rattle.std.proofs.Common.{◌≡◌, Contains, IfOk, map, subst}
 use Rattle.std.specs.Option.{option_map}
 use Rattle.hp_proc.specs.Contexts.{IsSocketHeapOf, named_heap}
 use Rattle.hp_proc.specs.Heaps.{heaps_for, socket_heaps}
-use Rattle.hp_serve.specs.Party.{Party}
+use Rattle.hp_proc.specs.ParticipantView.{ParticipantView}
 use Rattle.hp_proc.specs.declared.socket_heap.SocketHeap.{SocketHeap}
 use Rattle.hp_proc.proofs.participant.Participant.heaps_for.Goals as goal
 
@@ -11,13 +11,13 @@ pub returns-clause-heaps : goal.returns-clause-heaps
 returns-clause-heaps g c =
     let options = c.args.options.now in
     subst
-    (λ (party : Party). IfOk c.heaps_for.result (λ places. map named_heap places.items
-    ≡ heaps_for party.socket (socket_heaps party.context.pools) (option_map (λ name. name.text) options.heap) options.socket))
+    (λ (doer : ParticipantView). IfOk c.heaps_for.result (λ places. map named_heap places.items
+    ≡ heaps_for doer.party.socket (socket_heaps doer.context.pools) (option_map (λ name. name.text) options.heap) options.socket))
     c.self.view_is c.heaps_for.ensures.heaps
 
 pub returns-clause-of_pools : goal.returns-clause-of_pools
 returns-clause-of_pools g c =
     subst
-    (λ (party : Party). IfOk c.heaps_for.result (λ places. (place : SocketHeap) → Contains places.items place
-    → IsSocketHeapOf party.context.pools place))
+    (λ (doer : ParticipantView). IfOk c.heaps_for.result (λ places. (place : SocketHeap) → Contains places.items place
+    → IsSocketHeapOf doer.context.pools place))
     c.self.view_is c.heaps_for.ensures.of_pools

@@ -15,8 +15,8 @@ put-requires-clause-serves g c =
 pub put-requires-clause-in_hand : goal.put-requires-clause-in_hand
 put-requires-clause-in_hand g c =
     let mid = g.H.Hall.state c.take_heap.new.hall in
-    let party = c.take_heap.new.self in
-    subst (λ (who : ℕ). IsInHand mid.taken (moment who party mid) c.reserve.new.self) (sym c.take_heap.ensures.same.me)
+    let doer = c.take_heap.new.self in
+    subst (λ (who : ℕ). IsInHand mid.taken (moment who doer mid) c.reserve.new.self) (sym c.take_heap.ensures.same.me)
     (hand_spared c.in_ok-heap.heap c.reserve.new.self c.reserve.ensures.same _ mid.taken c.in_ok-heap.ensures.holds.in_hand)
 
 pub returns-in-Ok-clause-did : goal.returns-in-Ok-clause-did
@@ -44,13 +44,13 @@ returns-in-Err-clause-slots g c =
 
 pub returns-in-Err-clause-err : goal.returns-in-Err-clause-err
 returns-in-Err-clause-err g c =
-    let me = c.args.self.now.me in
+    let me = c.args.self.now.party.me in
     let index = ap (λ (heap : PlainHeap). heap.index) c.reserve.ensures.same.plain ∙ c.in_ok-heap.ensures.index in
     let was = c.take_heap.ensures.slots in
     let put = c.put.ensures.slots in
     let mid = g.H.Hall.state c.take_heap.new.hall in
     let new = g.H.Hall.state c.put.new.hall in
-    let party = c.take_heap.new.self in
+    let doer = c.take_heap.new.self in
     let can = c.in_ok-heap.ensures.holds.can in
     let later = c.put.ensures.others.later in
     let declared = can.may.declared in
@@ -60,7 +60,7 @@ returns-in-Err-clause-err g c =
       home = λ number few apart. put.home number (λ same. apart (same ∙ index)) (was.home number few apart);
     } in
     idle_again (later.serves me can.may.serves) (omega (arith, declared, count))
-    (subst (λ (who : ℕ). IsTiedIn who party mid → IsTiedIn who party new) c.take_heap.ensures.same.me c.put.ensures.tied can.tied) free
+    (subst (λ (who : ℕ). IsTiedIn who doer.party mid → IsTiedIn who doer.party new) c.take_heap.ensures.same.me c.put.ensures.tied can.tied) free
     (subst (λ (index : ℕ). IsFreeAt index new) index c.put.ensures.free)
 
 pub returns-in-Err-clause-goes_on : goal.returns-in-Err-clause-goes_on

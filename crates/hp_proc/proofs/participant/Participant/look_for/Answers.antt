@@ -9,7 +9,6 @@ use Rattle.hp_proc.specs.Allocating.{unless_answered}
 use Rattle.hp_proc.specs.Doing.{Doing}
 use Rattle.hp_proc.specs.Freeing.{acting, looking}
 use Rattle.hp_proc.specs.Contexts.{Context, IsPlaceOf}
-use Rattle.hp_serve.specs.Party.{Party}
 use Rattle.hp_proc.specs.Progress.{Does, MayDo, Moment}
 use Rattle.hp_proc.specs.declared.searched_heap.SearchedHeap.{SearchedHeap}
 use Rattle.hp_proc.proofs.Joining.{does_same, does_then}
@@ -41,29 +40,29 @@ nowhere = record { index = 0; serves = None }
 
 pub loop-place-init : goal.loop-place-init
 loop-place-init g c =
-    let party = c.args.self.now in
-    let me = party.me in
+    let doer = c.args.self.now in
+    let me = doer.party.me in
     let hall = g.H.Hall.state c.args.hall.now in
     record {
-      does = does_same hall.count (did_in me hall hall) (looking c.args.tag (acting c.args.action) c.args.places.now) (moment me party hall)
+      does = does_same hall.count (did_in me hall hall) (looking c.args.tag (acting c.args.action) c.args.places.now) (moment me doer hall)
           (did_same me hall);
       ready = c.requires.ready.ready;
-      idle = again_same party c.requires.ready.idle;
+      idle = again_same doer c.requires.ready.idle;
       goes_on = g.met.H.Hall.goes_on_same _;
       clock = λ one. omega arith;
     }
 
 -- one heap more
-module _ (party looked after : Party) (old mid new : HallState) (tag : Tag) (found : SearchedHeap → ℕ → Doing) (places : List SearchedHeap)
-    (index : ℕ) (same : looked.me ≡ party.me) (count : mid.count ≡ old.count)
-    (was : DoesHere party.me party looked old mid (looking tag found places) (looking tag found (drop index places)))
+module _ (doer looked after : ParticipantView) (old mid new : HallState) (tag : Tag) (found : SearchedHeap → ℕ → Doing) (places : List SearchedHeap)
+    (index : ℕ) (same : looked.me ≡ doer.party.me) (count : mid.count ≡ old.count)
+    (was : DoesHere doer.party.me doer looked old mid (looking tag found places) (looking tag found (drop index places)))
     (within : index < length places) (given : Option Answer)
     (looks : (others : List SearchedHeap) → DoesHere looked.me looked after mid new (looking tag found (get_or places index nowhere ∷ others))
     (unless_answered (looking tag found others) given)) where
-  looked_here : DoesHere party.me party after old new (looking tag found places) (unless_answered (looking tag found (drop (index + 1) places)) given)
+  looked_here : DoesHere doer.party.me doer after old new (looking tag found places) (unless_answered (looking tag found (drop (index + 1) places)) given)
   looked_here =
-      let me = party.me in
-      looked_on old.count (did_in me old mid) (did_in me mid new) (did_in me old new) tag found places index (moment me party old)
+      let me = doer.party.me in
+      looked_on old.count (did_in me old mid) (did_in me mid new) (did_in me old new) tag found places index (moment me doer old)
       (moment me looked mid) (moment me after new) (λ one two. did_then) was nowhere within given
       (λ others.
       subst (λ (count : ℕ). Does count (did_in me mid new) (looking tag found (get_or places index nowhere ∷ others))
@@ -74,7 +73,7 @@ module _ (party looked after : Party) (old mid new : HallState) (tag : Tag) (fou
 pub look_in-requires-clause-place : goal.look_in-requires-clause-place
 look_in-requires-clause-place g c =
     let place = get_or c.args.places.now c.loop-place.place-index nowhere in
-    subst (λ (context : Context). IsPlaceOf context.pools place) (sym c.loop-place.invariant.idle.same.context)
+    subst (λ (context : Context). IsPlaceOf context.pools place) (sym c.loop-place.invariant.idle.context)
     (c.requires.places place (Contains-get_or c.args.places.now c.loop-place.place-index nowhere c.loop-place-test.true))
 
 pub look_in-requires-clause-ready : goal.look_in-requires-clause-ready
@@ -83,14 +82,14 @@ look_in-requires-clause-ready g c =
     let looked = c.loop-place.self in
     let mid = g.H.Hall.state c.loop-place.hall in
     record {
-      idle = subst (λ (who : ℕ). IsIdleIn who looked mid) (sym was.idle.same.me) was.idle.idle;
-      ready = subst (λ (who : ℕ). MayDo (moment who looked mid)) (sym was.idle.same.me) was.ready;
+      idle = subst (λ (who : ℕ). IsIdleIn who looked.party mid) (sym was.idle.again.same.me) was.idle.again.idle;
+      ready = subst (λ (who : ℕ). MayDo (moment who looked mid)) (sym was.idle.again.same.me) was.ready;
     }
 
 pub loop-place-preserved : goal.loop-place-preserved
 loop-place-preserved g c =
-    let party = c.args.self.now in
-    let me = party.me in
+    let doer = c.args.self.now in
+    let me = doer.party.me in
     let old = g.H.Hall.state c.args.hall.now in
     let mid = g.H.Hall.state c.loop-place.hall in
     let new = g.H.Hall.state c.look_in.new.hall in
@@ -101,12 +100,12 @@ loop-place-preserved g c =
     let found = acting c.args.action in
     let index = c.loop-place.place-index in
     record {
-      does = subst (λ (given : Option Answer). DoesHere me party after old new (looking c.args.tag found c.args.places.now)
+      does = subst (λ (given : Option Answer). DoesHere me doer after old new (looking c.args.tag found c.args.places.now)
           (unless_answered (looking c.args.tag found (drop (index + 1) c.args.places.now)) given)) c.in_default.is
-          (looked_here party looked after old mid new c.args.tag found c.args.places.now index was.idle.same.me
+          (looked_here doer looked after old mid new c.args.tag found c.args.places.now index was.idle.again.same.me
           ((g.met.H.Hall.goes_on_later _ _ was.goes_on).count) was.does c.loop-place-test.true c.in_ok-answer.field-0 one.does);
-      ready = subst (λ (who : ℕ). MayDo (moment who after new)) was.idle.same.me one.ready;
-      idle = again_then party looked after was.idle c.look_in.ensures.idle;
+      ready = subst (λ (who : ℕ). MayDo (moment who after new)) was.idle.again.same.me one.ready;
+      idle = again_then doer looked after was.idle c.look_in.ensures.idle;
       goes_on = g.met.H.Hall.goes_on_then _ _ _ was.goes_on c.look_in.ensures.goes_on;
       clock = λ thread. omega (arith, was.clock thread, one.passed c.in_default.is thread);
     }
@@ -114,7 +113,7 @@ loop-place-preserved g c =
 pub returns-in_err-answer-clause-clock : goal.returns-in_err-answer-clause-clock
 returns-in_err-answer-clause-clock g c = λ one.
     let was = c.loop-place.invariant in
-    omega (arith, was.clock one, c.look_in.ensures.clock one, was.idle.same.deadline)
+    omega (arith, was.clock one, c.look_in.ensures.clock one, was.idle.again.same.deadline)
 
 pub returns-in_err-answer-clause-idle : goal.returns-in_err-answer-clause-idle
 returns-in_err-answer-clause-idle g c = again_then c.args.self.now c.loop-place.self c.look_in.new.self c.loop-place.invariant.idle c.look_in.ensures.idle
@@ -124,8 +123,8 @@ returns-in_err-answer-clause-goes_on g c = g.met.H.Hall.goes_on_then _ _ _ c.loo
 
 pub returns-in-Some : goal.returns-in-Some
 returns-in-Some g c =
-    let party = c.args.self.now in
-    let me = party.me in
+    let doer = c.args.self.now in
+    let me = doer.party.me in
     let old = g.H.Hall.state c.args.hall.now in
     let mid = g.H.Hall.state c.loop-place.hall in
     let new = g.H.Hall.state c.look_in.new.hall in
@@ -136,13 +135,13 @@ returns-in-Some g c =
     let found = acting c.args.action in
     let index = c.loop-place.place-index in
     record {
-      does = subst (λ (given : Option Answer). DoesHere me party after old new (looking c.args.tag found c.args.places.now)
+      does = subst (λ (given : Option Answer). DoesHere me doer after old new (looking c.args.tag found c.args.places.now)
           (unless_answered (looking c.args.tag found (drop (index + 1) c.args.places.now)) given)) c.in-Some.is
-          (looked_here party looked after old mid new c.args.tag found c.args.places.now index was.idle.same.me
+          (looked_here doer looked after old mid new c.args.tag found c.args.places.now index was.idle.again.same.me
           ((g.met.H.Hall.goes_on_later _ _ was.goes_on).count) was.does c.loop-place-test.true c.in_ok-answer.field-0 one.does);
-      ready = subst (λ (who : ℕ). MayDo (moment who after new)) was.idle.same.me one.ready;
-      clock = λ thread. omega (arith, was.clock thread, c.look_in.ensures.clock thread, was.idle.same.deadline);
-      idle = again_then party looked after was.idle c.look_in.ensures.idle;
+      ready = subst (λ (who : ℕ). MayDo (moment who after new)) was.idle.again.same.me one.ready;
+      clock = λ thread. omega (arith, was.clock thread, c.look_in.ensures.clock thread, was.idle.again.same.deadline);
+      idle = again_then doer looked after was.idle c.look_in.ensures.idle;
       goes_on = g.met.H.Hall.goes_on_then _ _ _ was.goes_on c.look_in.ensures.goes_on;
     }
 

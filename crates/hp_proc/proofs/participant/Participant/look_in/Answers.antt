@@ -9,31 +9,31 @@ use Rattle.hp_proc.proofs.participant.Participant.look_in.Goals as goal
 
 pub returns-in_default-clause-does : goal.returns-in_default-clause-does
 returns-in_default-clause-does g c = λ places.
-    let party = c.args.self.now in
-    let me = party.me in
+    let doer = c.args.self.now in
+    let me = doer.party.me in
     let old = g.H.Hall.state c.args.hall.now in
     let new = g.H.Hall.state c.look_there.new.hall in
     let place = c.args.place.now in
     let found = acting c.args.action in
     subst (λ (left : Option Left). Does old.count (did_in me old new) (looking c.args.tag found (place ∷ places))
-    (behind_looking place.index (looking c.args.tag found places) left) (moment me party old) (moment me c.look_there.new.self new)) c.in_default.is
+    (behind_looking place.index (looking c.args.tag found places) left) (moment me doer old) (moment me c.look_there.new.self new)) c.in_default.is
     (c.in_ok-left.ensures.does places)
 
 pub tell-requires : goal.tell-requires
 tell-requires g c =
-    let me = c.look_there.ensures.idle.same.me in
+    let me = c.look_there.ensures.idle.again.same.me in
     let looked = c.look_there.new.self in
     let mid = g.H.Hall.state c.look_there.new.hall in
     record {
       ready = record {
-        idle = subst (λ (who : ℕ). IsIdleIn who looked mid) (sym me) c.look_there.ensures.idle.idle;
+        idle = subst (λ (who : ℕ). IsIdleIn who looked.party mid) (sym me) c.look_there.ensures.idle.again.idle;
         ready = subst (λ (who : ℕ). MayDo (moment who looked mid)) (sym me) c.in_ok-left.ensures.ready;
       };
     }
 
 pub returns-in_err-answer-clause-clock : goal.returns-in_err-answer-clause-clock
 returns-in_err-answer-clause-clock g c = λ one.
-    omega (arith, c.look_there.ensures.clock one, c.tell.ensures.clock one, c.look_there.ensures.idle.same.deadline)
+    omega (arith, c.look_there.ensures.clock one, c.tell.ensures.clock one, c.look_there.ensures.idle.again.same.deadline)
 
 pub returns-in_err-answer-clause-idle : goal.returns-in_err-answer-clause-idle
 returns-in_err-answer-clause-idle g c = again_then c.args.self.now c.look_there.new.self c.tell.new.self c.look_there.ensures.idle c.tell.ensures.idle
@@ -43,28 +43,28 @@ returns-in_err-answer-clause-goes_on g c = g.met.H.Hall.goes_on_then _ _ _ c.loo
 
 pub returns-clause-does : goal.returns-clause-does
 returns-clause-does g c = λ places.
-    let party = c.args.self.now in
-    let me = party.me in
+    let doer = c.args.self.now in
+    let me = doer.party.me in
     let old = g.H.Hall.state c.args.hall.now in
     let mid = g.H.Hall.state c.look_there.new.hall in
     let new = g.H.Hall.state c.tell.new.hall in
     let looked = c.look_there.new.self in
     let place = c.args.place.now in
     let found = acting c.args.action in
-    does_next me (moment me party old) (λ who. moment who looked mid) (λ who. moment who c.tell.new.self new) c.look_there.ensures.idle.same.me
+    does_next me (moment me doer old) (λ who. moment who looked mid) (λ who. moment who c.tell.new.self new) c.look_there.ensures.idle.again.same.me
     ((g.met.H.Hall.goes_on_later _ _ c.look_there.ensures.goes_on).count)
     (subst (λ (left : Option Left). Does old.count (did_in me old mid) (looking c.args.tag found (place ∷ places))
-    (behind_looking place.index (looking c.args.tag found places) left) (moment me party old) (moment me looked mid)) c.in-Some.is
+    (behind_looking place.index (looking c.args.tag found places) left) (moment me doer old) (moment me looked mid)) c.in-Some.is
     (c.in_ok-left.ensures.does places)) c.in_ok-answer.ensures.does
 
 pub returns-clause-ready : goal.returns-clause-ready
 returns-clause-ready g c =
-    subst (λ (who : ℕ). MayDo (moment who c.tell.new.self (g.H.Hall.state c.tell.new.hall))) c.look_there.ensures.idle.same.me
+    subst (λ (who : ℕ). MayDo (moment who c.tell.new.self (g.H.Hall.state c.tell.new.hall))) c.look_there.ensures.idle.again.same.me
     c.in_ok-answer.ensures.ready
 
 pub returns-clause-clock : goal.returns-clause-clock
 returns-clause-clock g c = λ one.
-    omega (arith, c.look_there.ensures.clock one, c.tell.ensures.clock one, c.look_there.ensures.idle.same.deadline)
+    omega (arith, c.look_there.ensures.clock one, c.tell.ensures.clock one, c.look_there.ensures.idle.again.same.deadline)
 
 pub returns-clause-idle : goal.returns-clause-idle
 returns-clause-idle g c = again_then c.args.self.now c.look_there.new.self c.tell.new.self c.look_there.ensures.idle c.tell.ensures.idle

@@ -10,21 +10,21 @@ use Rattle.hp_proc.specs.Contexts.{Context, IsPlaceOf}
 use Rattle.hp_proc.specs.Doing.{Doing}
 use Rattle.hp_proc.specs.Freeing.{acting, behind_looking, looking}
 use Rattle.hp_proc.specs.Heaps.{sockets_of}
-use Rattle.hp_serve.specs.Party.{IsSameParty, Party}
+use Rattle.hp_proc.specs.ParticipantView.{ParticipantView}
 use Rattle.hp_proc.specs.Progress.{IsInHand, MayDo, moment_of}
 use Rattle.hp_proc.specs.declared.searched_heap.SearchedHeap.{SearchedHeap}
 use Rattle.hp_hall.specs.HallState.{MayServe}
 use Rattle.hp_proc.specs.LineInHall.{HoldsIn, moment, moment_with}
-use Rattle.hp_proc.proofs.Holds.{again_put, but_kept, idle_put, same_to_calls, does_next, holds_on}
+use Rattle.hp_proc.proofs.Holds.{again_put, but_kept, does_next, holds_on, idle_put, knew_same}
 use Rattle.hp_proc.proofs.participant.Participant.look_there.Goals as goal
 
 -- a place that was taken is that of the heap in hand
-socket_is : (taken : ℕ → Option Kept) (before party : Party) (parts : ℕ → HeapPart) (log : List LogRecord) (asks : List AskLog)
-    (heap : HeapView) (place : SearchedHeap) → IsSameParty before party → IsPlaceOf before.context.pools place
-    → heap.plain.index ≡ place.index → IsInHand taken (moment_of party parts log asks) heap → place.serves ≡ heap.plain.serves
-socket_is taken before party parts log asks heap place same of its hand =
-    of.serves ∙ ap (λ (context : Context). slice_get (sockets_of context.pools) place.index) (sym same.context)
-    ∙ ap (λ (index : ℕ). slice_get (sockets_of party.context.pools) index) (sym its)
+socket_is : (taken : ℕ → Option Kept) (before doer : ParticipantView) (parts : ℕ → HeapPart) (log : List LogRecord) (asks : List AskLog)
+    (heap : HeapView) (place : SearchedHeap) → doer.context ≡ before.context → IsPlaceOf before.context.pools place
+    → heap.plain.index ≡ place.index → IsInHand taken (moment_of doer parts log asks) heap → place.serves ≡ heap.plain.serves
+socket_is taken before doer parts log asks heap place knew of its hand =
+    of.serves ∙ ap (λ (context : Context). slice_get (sockets_of context.pools) place.index) (sym knew)
+    ∙ ap (λ (index : ℕ). slice_get (sockets_of doer.context.pools) index) (sym its)
     ∙ sym (hand.sockets heap.plain.index) ∙ sym hand.its_socket
 
 pub look_held-left-requires-clause-holds : goal.look_held-left-requires-clause-holds
@@ -34,10 +34,10 @@ look_held-left-requires-clause-holds g c =
 
 pub look_held-left-requires-clause-of_socket : goal.look_held-left-requires-clause-of_socket
 look_held-left-requires-clause-of_socket g c =
-    let me = c.args.self.now.me in
+    let me = c.args.self.now.party.me in
     let hall = g.H.Hall.state c.hold.new.hall in
     socket_is hall.taken c.args.self.now c.hold.new.self (hall.part me) (hall.seen me) (hall.heard me)
-    c.in_ok-heap.heap c.args.place.now c.hold.ensures.same c.requires.place c.in_ok-heap.ensures.index c.in_ok-heap.ensures.holds.in_hand
+    c.in_ok-heap.heap c.args.place.now c.hold.ensures.context c.requires.place c.in_ok-heap.ensures.index c.in_ok-heap.ensures.holds.in_hand
 
 pub put-requires : goal.put-requires
 put-requires g c =
@@ -48,8 +48,8 @@ put-requires g c =
 
 pub returns : goal.returns
 returns g c =
-    let party = c.args.self.now in
-    let me = party.me in
+    let doer = c.args.self.now in
+    let me = doer.party.me in
     let first = g.H.Hall.state c.args.hall.now in
     let second = g.H.Hall.state c.hold.new.hall in
     let third = g.H.Hall.state c.look_held-left.new.hall in
@@ -61,29 +61,29 @@ returns g c =
     let here = c.hold.ensures.same.me in
     let is = c.look_held-left.ensures in
     let count = (g.met.H.Hall.goes_on_later _ _ c.hold.ensures.goes_on).count in
-    let there : after.me ≡ me = is.keeps.remains.same.me ∙ here in
+    let there : after.party.me ≡ me = is.keeps.remains.same.me ∙ here in
     let put = c.put.ensures in
     let took = c.in_ok-heap.ensures in
     let may = subst (λ (who : ℕ). MayServe who second) (sym here) took.holds.can.may in
     let held = holds_on is.keeps is.settled may in
     let idle =
-    idle_put after next held.can (but_kept (is.keeps.index ∙ took.index) c.hold.ensures.slots is.keeps.remains.slots) put.tied put.free put.slots
+    idle_put after.party next held.can (but_kept (is.keeps.index ∙ took.index) c.hold.ensures.slots is.keeps.remains.slots) put.tied put.free put.slots
     put.others in
     record {
       does = λ places.
           let doing : Doing = looking c.args.tag (acting c.args.action) (c.args.place.now ∷ places) in
           let rest : Doing = behind_looking c.args.place.now.index (looking c.args.tag (acting c.args.action) places) c.look_held-left.result in
-          does_next me (moment me party first) (λ who. moment_with next who after third) (λ who. moment who after last) there (is.others.later.count ∙ count)
-          (does_next me (moment me party first) (λ who. moment_with heap who holds second) (λ who. moment_with next who after third) here count
+          does_next me (moment me doer first) (λ who. moment_with next who after third) (λ who. moment who after last) there (is.others.later.count ∙ count)
+          (does_next me (moment me doer first) (λ who. moment_with heap who holds second) (λ who. moment_with next who after third) here count
           (took.did doing) (is.does places)) (put.does rest);
       ready = subst (λ (who : ℕ). MayDo (moment who after last)) there (put.ready held.settled);
       clock = λ one. omega (arith, c.hold.ensures.clock one, is.others.clock, put.others.clock);
-      idle = again_put c.hold.ensures.same is.keeps idle;
+      idle = again_put c.hold.ensures.same c.hold.ensures.context is.keeps idle;
       goes_on = g.met.H.Hall.goes_on_then _ _ _ c.hold.ensures.goes_on (g.met.H.Hall.goes_on_then _ _ _ is.goes_on put.goes_on);
     }
 
 pub returns-in_err-heap-clause-idle : goal.returns-in_err-heap-clause-idle
 returns-in_err-heap-clause-idle g c = record {
-  same = same_to_calls c.args.self.now c.hold.new.self c.hold.ensures.same;
-  idle = c.in_err-heap.ensures.err;
+  again = record { same = c.hold.ensures.same; idle = c.in_err-heap.ensures.err };
+  context = knew_same c.args.self.now.context c.hold.new.self.context c.hold.ensures.context;
 }

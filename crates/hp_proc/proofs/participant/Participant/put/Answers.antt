@@ -6,7 +6,7 @@ use Rattle.hp_hall.specs.Mail.{Gives, MailStep}
 use Rattle.hp_hall.specs.declared.kept.Kept.TheVariants.{Heap}
 use Rattle.hp_proc.specs.Acting.{Acts}
 use Rattle.hp_proc.specs.LineInHall.{IsFreeAt, moment}
-use Rattle.hp_serve.specs.Party.{Party}
+use Rattle.hp_proc.specs.ParticipantView.{ParticipantView}
 use Rattle.hp_proc.specs.Progress.{in_hand}
 use Rattle.hp_serve.proofs.Carrying.{same_party}
 use Rattle.hp_proc.proofs.HandCalls.{hand_serves}
@@ -17,14 +17,14 @@ use Rattle.hp_proc.proofs.participant.Participant.put.Goals as goal
 
 pub returns : goal.returns
 returns g c =
-    let party = c.args.self.now in
-    let me = party.me in
+    let doer = c.args.self.now in
+    let me = doer.party.me in
     let heap = c.args.heap in
     let old = g.H.Hall.state c.args.hall.now in
     let new = g.H.Hall.state c.give.new.self in
     let is = c.give.ensures in
     let index = c.index-index.result in
-    let mine = ap (λ (party : Party). party.me) c.self.view_is in
+    let mine = c.number.ensures in
     let given = subst (λ (who : ℕ). IsGivenAs who (Heap heap) (old.part who) (new.part who)) mine is.gave.part in
     let others = subst (λ (who : ℕ). OthersStay who old new) mine is.others in
     let own = subst (λ (who : ℕ). new.own who ≡ old.own who) mine is.gave.own in
@@ -35,15 +35,15 @@ returns g c =
     (subst (λ (who : ℕ). Did who (Gives index (Heap heap) ∷ []) old new) mine is.gave.did) in
     record {
       does = λ doing.
-          does_still old.count (λ (steps : List MailStep). Did me steps old new) doing (in_hand heap (moment me party old)) (moment me party new)
-          (Gives heap.plain.index (Heap heap) ∷ []) did (Acts.gives_heap party heap)
+          does_still old.count (λ (steps : List MailStep). Did me steps old new) doing (in_hand heap (moment me doer old)) (moment me doer new)
+          (Gives heap.plain.index (Heap heap) ∷ []) did (Acts.gives_heap doer.party heap)
           (given_entries me heap (old.part me) (new.part me) given.0 given.1)
           (λ at. given_serves me heap (old.part me) (new.part me) given.0 given.1 at ∙ sym (hand_serves me heap (old.part me) at))
-          (same_party party) refl seen.0 seen.1 heard.0 heard.1;
+          (same_party doer.party) refl refl seen.0 seen.1 heard.0 heard.1;
       ready = λ settled.
-          ready_given me heap (old.part me) (new.part me) given.0 given.1 old.taken party (old.seen me) (new.seen me) (old.heard me) (new.heard me)
+          ready_given me heap (old.part me) (new.part me) given.0 given.1 old.taken doer (old.seen me) (new.seen me) (old.heard me) (new.heard me)
           heard.0 refl c.requires.in_hand heard.1 settled;
-      tied = λ tied. tied_later me party others.later own tied;
+      tied = λ tied. tied_later me doer.party others.later own tied;
       free = subst (λ (index : ℕ). IsFreeAt index new) c.index-index.ensures (record { taken = is.gave.taken; home = is.gave.home });
       slots = subst (λ (index : ℕ). SlotsStayBut index old new) c.index-index.ensures is.slots;
       others = others;

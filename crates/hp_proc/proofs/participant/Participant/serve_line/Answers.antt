@@ -12,87 +12,75 @@ use Rattle.hp_serve.specs.Clocks.{RisesWithin, longest_growth}
 use Rattle.hp_proc.specs.Contexts.{Context, named_heap}
 use Rattle.hp_proc.specs.Heaps.{NamedHeap, heaps_for, socket_heaps}
 use Rattle.hp_proc.specs.Lines.{tag_of}
-use Rattle.hp_serve.specs.Party.{IsSameParty, Party}
-use Rattle.hp_proc.specs.ParticipantView.{after_answer, with_calls, with_context}
+use Rattle.hp_serve.specs.Party.{Party}
+use Rattle.hp_proc.specs.ParticipantView.{ParticipantView, after_answer}
 use Rattle.hp_proc.specs.Progress.{Brings, MayDo, moment_of}
 use Rattle.hp_proc.specs.declared.socket_heap.SocketHeap.{SocketHeap}
 use Rattle.hp_proc.proofs.AllocFacts.{line_answered}
 use Rattle.hp_proc.proofs.Rising.{few_places, rises_within}
 use Rattle.hp_hall.specs.HallState.{HallState, IsBusy}
-use Rattle.hp_proc.specs.LineInHall.{IsIdleAgain, IsIdleIn, did_in, moment}
-use Rattle.hp_proc.proofs.Holds.{again_line, line_by}
+use Rattle.hp_proc.specs.LineInHall.{HasCalled, IsIdleAgain, did_in, moment}
+use Rattle.hp_proc.proofs.Holds.{again_line}
 use Rattle.hp_proc.proofs.participant.Participant.serve_line.Goals as goal
 
 -- what its line left changes nothing of what it may do
-ready_answered : (line heap : ℕ) (answer : Answer) (party : Party) (parts : ℕ → HeapPart) (log : List LogRecord) (asks : List AskLog)
-    → MayDo (moment_of party parts log asks) → MayDo (moment_of (after_answer line heap answer party) parts log asks)
-ready_answered line heap (gives.Address address) party parts log asks ready =
+ready_answered : (line heap : ℕ) (answer : Answer) (doer : ParticipantView) (parts : ℕ → HeapPart) (log : List LogRecord) (asks : List AskLog)
+    → MayDo (moment_of doer parts log asks) → MayDo (moment_of (after_answer line heap answer doer) parts log asks)
+ready_answered line heap (gives.Address address) doer parts log asks ready =
     record { sockets = ready.sockets; unheld = ready.unheld; settled = ready.settled; counted = ready.counted }
-ready_answered line heap _ party parts log asks ready = ready
+ready_answered line heap _ doer parts log asks ready = ready
 
--- nor of its table and its slots
-idle_answered : (line heap : ℕ) (answer : Answer) (me : ℕ) (party : Party) {a : HallState} → IsIdleIn me party a
-    → IsIdleIn me (after_answer line heap answer party) a
-idle_answered line heap (gives.Address address) me party idle =
-    record { serves = idle.serves; declared = idle.declared; free = idle.free; home = idle.home; tied = idle.tied }
-idle_answered line heap _ me party idle = idle
-
--- nor of who it is
-same_answered : (line heap : ℕ) (answer : Answer) (party mid : Party) → IsSameParty (with_calls mid.context.calls party) mid
-    → IsSameParty (with_context (after_answer line heap answer mid).context party) (after_answer line heap answer mid)
-same_answered line heap (gives.Address address) party mid same =
-    record { me = same.me; socket = same.socket; plan = same.plan; deadline = same.deadline; context = refl }
-same_answered line heap _ party mid same =
-    record { me = same.me; socket = same.socket; plan = same.plan; deadline = same.deadline; context = refl }
+-- nor of who it is and of its table and its slots
+again_answered : (line heap : ℕ) (answer : Answer) (me : ℕ) (party : Party) (mid : ParticipantView) {a : HallState}
+    → IsIdleAgain me party mid.party a → IsIdleAgain me party (after_answer line heap answer mid).party a
+again_answered line heap (gives.Address address) me party mid again = again
+again_answered line heap _ me party mid again = again
 
 -- it holds no slot behind the request
-idle_served : (party start mid : Party) {a : HallState} → start ≡ party → IsIdleAgain start.me (with_calls mid.context.calls start) mid a
-    → IsIdleAgain party.me (with_calls mid.context.calls party) mid a
-idle_served party start mid {a} same idle = subst (λ (party : Party). IsIdleAgain party.me (with_calls mid.context.calls party) mid a) same idle
+called_from : (doer start mid : ParticipantView) {a : HallState} → start ≡ doer → HasCalled start.party.me start mid a
+    → HasCalled doer.party.me doer mid a
+called_from doer start mid {a} same called = subst (λ (doer : ParticipantView). HasCalled doer.party.me doer mid a) same called
 
 pub returns-in_err-reserve_element-clause-idle : goal.returns-in_err-reserve_element-clause-idle
 returns-in_err-reserve_element-clause-idle g c =
-    let party = c.args.self.now in
-    subst (λ (after : Party). IsIdleAgain party.me (with_context after.context party) after (g.H.Hall.state c.args.hall.now))
-    (sym c.reserve_element.ensures) (again_line party c.requires.ready.idle)
+    let doer = c.args.self.now in
+    subst (λ (after : ParticipantView). IsIdleAgain doer.party.me doer.party after.party (g.H.Hall.state c.args.hall.now))
+    (sym c.reserve_element.ensures) (again_line doer.party c.requires.ready.idle)
 
 pub returns-in_err-places-clause-idle : goal.returns-in_err-places-clause-idle
 returns-in_err-places-clause-idle g c =
-    let party = c.args.self.now in
-    subst (λ (after : Party). IsIdleAgain party.me (with_context after.context party) after (g.H.Hall.state c.args.hall.now))
-    (sym c.reserve_element.ensures) (again_line party c.requires.ready.idle)
+    let doer = c.args.self.now in
+    subst (λ (after : ParticipantView). IsIdleAgain doer.party.me doer.party after.party (g.H.Hall.state c.args.hall.now))
+    (sym c.reserve_element.ensures) (again_line doer.party c.requires.ready.idle)
 
 pub returns-in_err-answer-clause-idle : goal.returns-in_err-answer-clause-idle
 returns-in_err-answer-clause-idle g c =
-    let party = c.args.self.now in
+    let doer = c.args.self.now in
     let mid = c.serve_request.new.self in
-    let idle = idle_served party c.reserve_element.new.self mid c.reserve_element.ensures c.serve_request.ensures.idle in
-    line_by party mid idle.same idle.idle
+    let called = called_from doer c.reserve_element.new.self mid c.reserve_element.ensures c.serve_request.ensures.idle in
+    called.again
 
 pub returns-in_err-note_answer-clause-idle : goal.returns-in_err-note_answer-clause-idle
 returns-in_err-note_answer-clause-idle g c =
-    let party = c.args.self.now in
+    let doer = c.args.self.now in
     let mid = c.serve_request.new.self in
-    let idle = idle_served party c.reserve_element.new.self mid c.reserve_element.ensures c.serve_request.ensures.idle in
-    subst (λ (after : Party). IsIdleAgain party.me (with_context after.context party) after (g.H.Hall.state c.serve_request.new.hall))
-    (sym c.in_err-note_answer.ensures.err) (line_by party mid idle.same idle.idle)
+    let called = called_from doer c.reserve_element.new.self mid c.reserve_element.ensures c.serve_request.ensures.idle in
+    subst (λ (after : ParticipantView). IsIdleAgain doer.party.me doer.party after.party (g.H.Hall.state c.serve_request.new.hall))
+    (sym c.in_err-note_answer.ensures.err) called.again
 
 pub returns-clause-idle : goal.returns-clause-idle
 returns-clause-idle g c =
-    let party = c.args.self.now in
+    let doer = c.args.self.now in
     let mid = c.serve_request.new.self in
     let line = c.args.line.now.line in
-    let idle = idle_served party c.reserve_element.new.self mid c.reserve_element.ensures c.serve_request.ensures.idle in
-    subst (λ (after : Party). IsIdleAgain party.me (with_context after.context party) after (g.H.Hall.state c.serve_request.new.hall))
+    let called = called_from doer c.reserve_element.new.self mid c.reserve_element.ensures c.serve_request.ensures.idle in
+    subst (λ (after : ParticipantView). IsIdleAgain doer.party.me doer.party after.party (g.H.Hall.state c.serve_request.new.hall))
     (sym c.in_ok-note_answer.ensures.noted)
-    (record {
-      same = same_answered line c.in_ok-answer.heap c.in_ok-answer.answer party mid idle.same;
-      idle = idle_answered line c.in_ok-answer.heap c.in_ok-answer.answer party.me mid idle.idle;
-    })
+    (again_answered line c.in_ok-answer.heap c.in_ok-answer.answer doer.party.me doer.party mid called.again)
 
 pub returns-clause-does : goal.returns-clause-does
 returns-clause-does g c =
-    let party = c.args.self.now in
+    let doer = c.args.self.now in
     let start = c.reserve_element.new.self in
     let mid = c.serve_request.new.self in
     let old = g.H.Hall.state c.args.hall.now in
@@ -105,23 +93,23 @@ returns-clause-does g c =
     let heap = c.in_ok-answer.heap in
     let same = c.reserve_element.ensures in
     let told = subst
-    (λ (places : List NamedHeap). Brings heap old.count (did_in start.me old new)
+    (λ (places : List NamedHeap). Brings heap old.count (did_in start.party.me old new)
     (serving start.context.pools request (tag_of line) places) answer
-    (moment start.me start old)
-    (moment start.me mid new))
+    (moment start.party.me start old)
+    (moment start.party.me mid new))
     (ap (map named_heap) c.deref.ensures.value ∙ c.in_ok-places.ensures.heaps) c.in_ok-answer.ensures.does in
     let brings = subst
-    (λ (who : Party). Brings heap old.count (did_in who.me old new)
+    (λ (who : ParticipantView). Brings heap old.count (did_in who.party.me old new)
     (serving who.context.pools request (tag_of line)
-    (heaps_for who.socket (socket_heaps who.context.pools) (option_map (λ name. name.text) options.heap) options.socket)) answer
-    (moment who.me who old)
-    (moment who.me mid new))
+    (heaps_for who.party.socket (socket_heaps who.context.pools) (option_map (λ name. name.text) options.heap) options.socket)) answer
+    (moment who.party.me who old)
+    (moment who.party.me mid new))
     same told in
     line_answered line asks.label asks.size options asks.its_act
-    (moment party.me party old) c.requires.attached
-    old.count (did_in party.me old new) request asks.accepted (λ accepted. (request, refl, asks.is)) heap answer
-    (moment party.me mid new) brings c.note_answer.new.self
-    (ap (λ (context : Context). context.standing) c.serve_request.ensures.idle.same.context ∙ ap (λ (who : Party). who.context.standing) same)
+    (moment doer.party.me doer old) c.requires.attached
+    old.count (did_in doer.party.me old new) request asks.accepted (λ accepted. (request, refl, asks.is)) heap answer
+    (moment doer.party.me mid new) brings c.note_answer.new.self
+    (ap (λ (context : Context). context.standing) c.serve_request.ensures.idle.context ∙ ap (λ (who : ParticipantView). who.context.standing) same)
     c.in_ok-note_answer.ensures.noted
 
 pub returns-clause-ready : goal.returns-clause-ready
@@ -129,11 +117,11 @@ returns-clause-ready g c =
     let mid = c.serve_request.new.self in
     let new = g.H.Hall.state c.serve_request.new.hall in
     let line = c.args.line.now in
-    let who = c.args.self.now.me in
+    let who = c.args.self.now.party.me in
     let ready = subst
-    (λ (party : Party). MayDo (moment party.me mid new))
+    (λ (doer : ParticipantView). MayDo (moment doer.party.me mid new))
     c.reserve_element.ensures c.in_ok-answer.ensures.ready in
-    subst (λ (after : Party). MayDo (moment who after new))
+    subst (λ (after : ParticipantView). MayDo (moment who after new))
     (sym c.in_ok-note_answer.ensures.noted)
     (ready_answered line.line c.in_ok-answer.heap c.in_ok-answer.answer mid (new.part who) (new.seen who)
     (new.heard who) ready)
@@ -142,48 +130,48 @@ returns-clause-ready g c =
 
 pub returns-in_err-answer-clause-clock : goal.returns-in_err-answer-clause-clock
 returns-in_err-answer-clause-clock g c =
-    let party = c.args.self.now in
+    let doer = c.args.self.now in
     let start = c.reserve_element.new.self in
     let places = c.in_ok-places.places.items in
     let options = c.args.options.now in
     let old = (g.H.Hall.state c.args.hall.now).clock in
     let new = (g.H.Hall.state c.serve_request.new.hall).clock in
-    rises_within g.H.Hall.pending (λ hall. IsBusy (g.H.Hall.state hall)) (length places) MAX_HEAPS (longest_growth party.deadline) old new
-    (few_places start.context.pools start.socket (option_map (λ name. name.text) options.heap) options.socket places
+    rises_within g.H.Hall.pending (λ hall. IsBusy (g.H.Hall.state hall)) (length places) MAX_HEAPS (longest_growth doer.party.deadline) old new
+    (few_places start.context.pools start.party.socket (option_map (λ name. name.text) options.heap) options.socket places
     c.in_ok-places.ensures.heaps)
-    (subst (λ (party : Party). RisesWithin g.H.Hall.pending (λ hall. IsBusy (g.H.Hall.state hall)) (length places * longest_growth party.deadline) old new)
+    (subst (λ (doer : ParticipantView). RisesWithin g.H.Hall.pending (λ hall. IsBusy (g.H.Hall.state hall)) (length places * longest_growth doer.party.deadline) old new)
     c.reserve_element.ensures
     (subst (λ (places : List SocketHeap). RisesWithin g.H.Hall.pending (λ hall. IsBusy (g.H.Hall.state hall))
-    (length places * longest_growth start.deadline) old new) c.deref.ensures.value c.serve_request.ensures.clock))
+    (length places * longest_growth start.party.deadline) old new) c.deref.ensures.value c.serve_request.ensures.clock))
 
 pub returns-in_err-note_answer-clause-clock : goal.returns-in_err-note_answer-clause-clock
 returns-in_err-note_answer-clause-clock g c =
-    let party = c.args.self.now in
+    let doer = c.args.self.now in
     let start = c.reserve_element.new.self in
     let places = c.in_ok-places.places.items in
     let options = c.args.options.now in
     let old = (g.H.Hall.state c.args.hall.now).clock in
     let new = (g.H.Hall.state c.serve_request.new.hall).clock in
-    rises_within g.H.Hall.pending (λ hall. IsBusy (g.H.Hall.state hall)) (length places) MAX_HEAPS (longest_growth party.deadline) old new
-    (few_places start.context.pools start.socket (option_map (λ name. name.text) options.heap) options.socket places
+    rises_within g.H.Hall.pending (λ hall. IsBusy (g.H.Hall.state hall)) (length places) MAX_HEAPS (longest_growth doer.party.deadline) old new
+    (few_places start.context.pools start.party.socket (option_map (λ name. name.text) options.heap) options.socket places
     c.in_ok-places.ensures.heaps)
-    (subst (λ (party : Party). RisesWithin g.H.Hall.pending (λ hall. IsBusy (g.H.Hall.state hall)) (length places * longest_growth party.deadline) old new)
+    (subst (λ (doer : ParticipantView). RisesWithin g.H.Hall.pending (λ hall. IsBusy (g.H.Hall.state hall)) (length places * longest_growth doer.party.deadline) old new)
     c.reserve_element.ensures
     (subst (λ (places : List SocketHeap). RisesWithin g.H.Hall.pending (λ hall. IsBusy (g.H.Hall.state hall))
-    (length places * longest_growth start.deadline) old new) c.deref.ensures.value c.serve_request.ensures.clock))
+    (length places * longest_growth start.party.deadline) old new) c.deref.ensures.value c.serve_request.ensures.clock))
 
 pub returns-clause-clock : goal.returns-clause-clock
 returns-clause-clock g c =
-    let party = c.args.self.now in
+    let doer = c.args.self.now in
     let start = c.reserve_element.new.self in
     let places = c.in_ok-places.places.items in
     let options = c.args.options.now in
     let old = (g.H.Hall.state c.args.hall.now).clock in
     let new = (g.H.Hall.state c.serve_request.new.hall).clock in
-    rises_within g.H.Hall.pending (λ hall. IsBusy (g.H.Hall.state hall)) (length places) MAX_HEAPS (longest_growth party.deadline) old new
-    (few_places start.context.pools start.socket (option_map (λ name. name.text) options.heap) options.socket places
+    rises_within g.H.Hall.pending (λ hall. IsBusy (g.H.Hall.state hall)) (length places) MAX_HEAPS (longest_growth doer.party.deadline) old new
+    (few_places start.context.pools start.party.socket (option_map (λ name. name.text) options.heap) options.socket places
     c.in_ok-places.ensures.heaps)
-    (subst (λ (party : Party). RisesWithin g.H.Hall.pending (λ hall. IsBusy (g.H.Hall.state hall)) (length places * longest_growth party.deadline) old new)
+    (subst (λ (doer : ParticipantView). RisesWithin g.H.Hall.pending (λ hall. IsBusy (g.H.Hall.state hall)) (length places * longest_growth doer.party.deadline) old new)
     c.reserve_element.ensures
     (subst (λ (places : List SocketHeap). RisesWithin g.H.Hall.pending (λ hall. IsBusy (g.H.Hall.state hall))
-    (length places * longest_growth start.deadline) old new) c.deref.ensures.value c.serve_request.ensures.clock))
+    (length places * longest_growth start.party.deadline) old new) c.deref.ensures.value c.serve_request.ensures.clock))

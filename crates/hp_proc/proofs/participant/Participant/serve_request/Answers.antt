@@ -40,11 +40,11 @@ loop-place-init g c = record {
 pub try_heap-requires-clause-ready : goal.try_heap-requires-clause-ready
 try_heap-requires-clause-ready g c =
     let was = c.loop-place.invariant in
-    let party = c.loop-place.self in
+    let doer = c.loop-place.self in
     let mid = g.H.Hall.state c.loop-place.hall in
     record {
-      idle = subst (λ (who : ℕ). IsIdleIn who party mid) (sym was.idle.same.me) was.idle.idle;
-      ready = subst (λ (who : ℕ). MayDo (moment who party mid)) (sym was.idle.same.me) was.ready;
+      idle = subst (λ (who : ℕ). IsIdleIn who doer.party mid) (sym was.idle.again.same.me) was.idle.again.idle;
+      ready = subst (λ (who : ℕ). MayDo (moment who doer mid)) (sym was.idle.again.same.me) was.ready;
     }
 
 abbrev none_at : SocketHeap
@@ -81,13 +81,13 @@ brings_none heap count did doing answer old new other does = record { does = doe
 pub try_heap-requires-clause-place : goal.try_heap-requires-clause-place
 try_heap-requires-clause-place g c =
     let item = get_or c.args.places.now c.loop-place.place-index none_at in
-    subst (λ (context : Context). IsSocketHeapOf context.pools item) (sym c.loop-place.invariant.idle.same.context)
+    subst (λ (context : Context). IsSocketHeapOf context.pools item) (sym c.loop-place.invariant.idle.context)
     (c.requires.places item (Contains-get_or c.args.places.now c.loop-place.place-index none_at c.loop-place-test.true))
 
 pub loop-place-preserved : goal.loop-place-preserved
 loop-place-preserved g c =
     let was = c.loop-place.invariant in
-    let me = c.args.self.now.me in
+    let me = c.args.self.now.party.me in
     let first = g.H.Hall.state c.args.hall.now in
     let second = g.H.Hall.state c.loop-place.hall in
     let third = g.H.Hall.state c.try_heap.new.hall in
@@ -110,38 +110,38 @@ loop-place-preserved g c =
     subst (λ (context : Context). Tries item.index first.count (did_in me second third)
     (trying context.pools request tag (map named_heap (item ∷ drop (i + 1) places)))
     (trying context.pools request tag (map named_heap (drop (i + 1) places))) None
-    (moment me c.loop-place.self second) (moment me c.try_heap.new.self third)) was.idle.same.context
+    (moment me c.loop-place.self second) (moment me c.try_heap.new.self third)) was.idle.context
     (told_alike (λ count did old new. Tries item.index count did
     (trying c.loop-place.self.context.pools request tag (map named_heap (item ∷ drop (i + 1) places)))
-    (trying c.loop-place.self.context.pools request tag (map named_heap (drop (i + 1) places))) None old new) second.count first.count second third c.loop-place.self.me me (λ moment. moment) (λ moment. moment) c.loop-place.self
-    c.try_heap.new.self was.idle.same.me ((g.met.H.Hall.goes_on_later _ _ was.goes_on).count)
-    (subst (λ (given : Option Answer). Tries item.index second.count (did_in c.loop-place.self.me second third)
+    (trying c.loop-place.self.context.pools request tag (map named_heap (drop (i + 1) places))) None old new) second.count first.count second third c.loop-place.self.party.me me (λ moment. moment) (λ moment. moment) c.loop-place.self
+    c.try_heap.new.self was.idle.again.same.me ((g.met.H.Hall.goes_on_later _ _ was.goes_on).count)
+    (subst (λ (given : Option Answer). Tries item.index second.count (did_in c.loop-place.self.party.me second third)
     (trying c.loop-place.self.context.pools request tag (map named_heap (item ∷ drop (i + 1) places)))
     (trying c.loop-place.self.context.pools request tag (map named_heap (drop (i + 1) places))) given
-    (moment c.loop-place.self.me c.loop-place.self second) (moment c.loop-place.self.me c.try_heap.new.self third))
+    (moment c.loop-place.self.party.me c.loop-place.self second) (moment c.loop-place.self.party.me c.try_heap.new.self third))
     c.in_default.is (c.in_ok-answer.ensures.does (map named_heap (drop (i + 1) places))))) in
     let one = c.try_heap.ensures in
-    let party = c.try_heap.new.self in
+    let doer = c.try_heap.new.self in
     record {
       passed = does_then first.count (did_in me first second) (did_in me second third) (did_in me first third) doing
-          left otherwise before (moment me c.loop-place.self second) (moment me party third) (λ one two. did_then) here
+          left otherwise before (moment me c.loop-place.self second) (moment me doer third) (λ one two. did_then) here
           tried.does;
       few = socket_few c.args.self.now.context.pools (get_or c.args.places.now c.loop-place.place-index none_at)
           (c.requires.places (get_or c.args.places.now c.loop-place.place-index none_at)
           (Contains-get_or c.args.places.now c.loop-place.place-index none_at c.loop-place-test.true));
-      ready = subst (λ (who : ℕ). MayDo (moment who party third)) was.idle.same.me c.in_ok-answer.ensures.ready;
-      idle = again_then c.args.self.now c.loop-place.self party was.idle one.idle;
+      ready = subst (λ (who : ℕ). MayDo (moment who doer third)) was.idle.again.same.me c.in_ok-answer.ensures.ready;
+      idle = again_then c.args.self.now c.loop-place.self doer was.idle one.idle;
       goes_on = g.met.H.Hall.goes_on_then _ _ _ was.goes_on one.goes_on;
       along = omega (arith, c.loop-place-test.true);
-      clock = rises_more g.H.Hall.pending (λ hall. IsBusy (g.H.Hall.state hall)) i (longest_growth c.args.self.now.deadline)
-          (longest_growth c.loop-place.self.deadline) first.clock second.clock third.clock
-          (ap longest_growth was.idle.same.deadline) was.clock one.clock;
+      clock = rises_more g.H.Hall.pending (λ hall. IsBusy (g.H.Hall.state hall)) i (longest_growth c.args.self.now.party.deadline)
+          (longest_growth c.loop-place.self.party.deadline) first.clock second.clock third.clock
+          (ap longest_growth was.idle.again.same.deadline) was.clock one.clock;
     }
 
 pub returns-in-Some-clause-does : goal.returns-in-Some-clause-does
 returns-in-Some-clause-does g c =
     let was = c.loop-place.invariant in
-    let me = c.args.self.now.me in
+    let me = c.args.self.now.party.me in
     let first = g.H.Hall.state c.args.hall.now in
     let second = g.H.Hall.state c.loop-place.hall in
     let third = g.H.Hall.state c.try_heap.new.hall in
@@ -164,15 +164,15 @@ returns-in-Some-clause-does g c =
     subst (λ (context : Context). Tries item.index first.count (did_in me second third)
     (trying context.pools request tag (map named_heap (item ∷ drop (i + 1) places)))
     (trying context.pools request tag (map named_heap (drop (i + 1) places))) (Some c.in-Some.answer)
-    (moment me c.loop-place.self second) (moment me c.try_heap.new.self third)) was.idle.same.context
+    (moment me c.loop-place.self second) (moment me c.try_heap.new.self third)) was.idle.context
     (told_alike (λ count did old new. Tries item.index count did
     (trying c.loop-place.self.context.pools request tag (map named_heap (item ∷ drop (i + 1) places)))
-    (trying c.loop-place.self.context.pools request tag (map named_heap (drop (i + 1) places))) (Some c.in-Some.answer) old new) second.count first.count second third c.loop-place.self.me me (λ moment. moment) (λ moment. moment) c.loop-place.self
-    c.try_heap.new.self was.idle.same.me ((g.met.H.Hall.goes_on_later _ _ was.goes_on).count)
-    (subst (λ (given : Option Answer). Tries item.index second.count (did_in c.loop-place.self.me second third)
+    (trying c.loop-place.self.context.pools request tag (map named_heap (drop (i + 1) places))) (Some c.in-Some.answer) old new) second.count first.count second third c.loop-place.self.party.me me (λ moment. moment) (λ moment. moment) c.loop-place.self
+    c.try_heap.new.self was.idle.again.same.me ((g.met.H.Hall.goes_on_later _ _ was.goes_on).count)
+    (subst (λ (given : Option Answer). Tries item.index second.count (did_in c.loop-place.self.party.me second third)
     (trying c.loop-place.self.context.pools request tag (map named_heap (item ∷ drop (i + 1) places)))
     (trying c.loop-place.self.context.pools request tag (map named_heap (drop (i + 1) places))) given
-    (moment c.loop-place.self.me c.loop-place.self second) (moment c.loop-place.self.me c.try_heap.new.self third))
+    (moment c.loop-place.self.party.me c.loop-place.self second) (moment c.loop-place.self.party.me c.try_heap.new.self third))
     c.in-Some.is (c.in_ok-answer.ensures.does (map named_heap (drop (i + 1) places))))) in
     subst (λ (doing : Doing). Brings item.index first.count (did_in me first third) doing c.in-Some.answer before
     (moment me c.try_heap.new.self third)) (served_within pools request tag places i c.loop-place-test.true)
@@ -187,12 +187,12 @@ returns-in-Some-clause-few g c = socket_few c.args.self.now.context.pools (get_o
 
 pub returns-in-Some-clause-ready : goal.returns-in-Some-clause-ready
 returns-in-Some-clause-ready g c =
-    subst (λ (who : ℕ). MayDo (moment who c.try_heap.new.self (g.H.Hall.state c.try_heap.new.hall))) c.loop-place.invariant.idle.same.me
+    subst (λ (who : ℕ). MayDo (moment who c.try_heap.new.self (g.H.Hall.state c.try_heap.new.hall))) c.loop-place.invariant.idle.again.same.me
     c.in_ok-answer.ensures.ready
 
 pub returns-clause-does : goal.returns-clause-does
 returns-clause-does g c =
-    let me = c.args.self.now.me in
+    let me = c.args.self.now.party.me in
     let first = g.H.Hall.state c.args.hall.now in
     let hall = g.H.Hall.state c.loop-place.hall in
     let pools = c.args.self.now.context.pools in
@@ -216,7 +216,7 @@ returns-in-Some-clause-goes_on g c = g.met.H.Hall.goes_on_then _ _ _ c.loop-plac
 
 pub returns-then-is_empty-clause-does : goal.returns-then-is_empty-clause-does
 returns-then-is_empty-clause-does g c =
-    let me = c.args.self.now.me in
+    let me = c.args.self.now.party.me in
     let first = g.H.Hall.state c.args.hall.now in
     let pools = c.args.self.now.context.pools in
     let at = moment me c.args.self.now first in
@@ -242,29 +242,29 @@ returns-in-Some-clause-idle g c = again_then c.args.self.now c.loop-place.self c
 pub returns-in_err-answer-clause-clock : goal.returns-in_err-answer-clause-clock
 returns-in_err-answer-clause-clock g c =
     let was = c.loop-place.invariant in
-    let party = c.args.self.now in
+    let doer = c.args.self.now in
     let old = (g.H.Hall.state c.args.hall.now).clock in
     let new = (g.H.Hall.state c.try_heap.new.hall).clock in
     let index = c.loop-place.place-index in
-    rises_within g.H.Hall.pending (λ hall. IsBusy (g.H.Hall.state hall)) (index + 1) (length c.args.places.now) (longest_growth party.deadline) old new
+    rises_within g.H.Hall.pending (λ hall. IsBusy (g.H.Hall.state hall)) (index + 1) (length c.args.places.now) (longest_growth doer.party.deadline) old new
     (omega (arith, c.loop-place-test.true))
-    (rises_more g.H.Hall.pending (λ hall. IsBusy (g.H.Hall.state hall)) index (longest_growth party.deadline) (longest_growth c.loop-place.self.deadline) old
-    (g.H.Hall.state c.loop-place.hall).clock new (ap longest_growth was.idle.same.deadline) was.clock c.try_heap.ensures.clock)
+    (rises_more g.H.Hall.pending (λ hall. IsBusy (g.H.Hall.state hall)) index (longest_growth doer.party.deadline) (longest_growth c.loop-place.self.party.deadline) old
+    (g.H.Hall.state c.loop-place.hall).clock new (ap longest_growth was.idle.again.same.deadline) was.clock c.try_heap.ensures.clock)
 
 pub returns-in-Some-clause-clock : goal.returns-in-Some-clause-clock
 returns-in-Some-clause-clock g c =
     let was = c.loop-place.invariant in
-    let party = c.args.self.now in
+    let doer = c.args.self.now in
     let old = (g.H.Hall.state c.args.hall.now).clock in
     let new = (g.H.Hall.state c.try_heap.new.hall).clock in
     let index = c.loop-place.place-index in
-    rises_within g.H.Hall.pending (λ hall. IsBusy (g.H.Hall.state hall)) (index + 1) (length c.args.places.now) (longest_growth party.deadline) old new
+    rises_within g.H.Hall.pending (λ hall. IsBusy (g.H.Hall.state hall)) (index + 1) (length c.args.places.now) (longest_growth doer.party.deadline) old new
     (omega (arith, c.loop-place-test.true))
-    (rises_more g.H.Hall.pending (λ hall. IsBusy (g.H.Hall.state hall)) index (longest_growth party.deadline) (longest_growth c.loop-place.self.deadline) old
-    (g.H.Hall.state c.loop-place.hall).clock new (ap longest_growth was.idle.same.deadline) was.clock c.try_heap.ensures.clock)
+    (rises_more g.H.Hall.pending (λ hall. IsBusy (g.H.Hall.state hall)) index (longest_growth doer.party.deadline) (longest_growth c.loop-place.self.party.deadline) old
+    (g.H.Hall.state c.loop-place.hall).clock new (ap longest_growth was.idle.again.same.deadline) was.clock c.try_heap.ensures.clock)
 
 pub returns-clause-clock : goal.returns-clause-clock
 returns-clause-clock g c =
     let was = c.loop-place.invariant in
     rises_within g.H.Hall.pending (λ hall. IsBusy (g.H.Hall.state hall)) c.loop-place.place-index (length c.args.places.now)
-    (longest_growth c.args.self.now.deadline) (g.H.Hall.state c.args.hall.now).clock (g.H.Hall.state c.loop-place.hall).clock was.along was.clock
+    (longest_growth c.args.self.now.party.deadline) (g.H.Hall.state c.args.hall.now).clock (g.H.Hall.state c.loop-place.hall).clock was.along was.clock

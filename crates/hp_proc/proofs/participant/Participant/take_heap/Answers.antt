@@ -10,7 +10,7 @@ use Rattle.hp_hall.proofs.HallStates.{did_same, did_then, later_then}
 use Rattle.hp_proc.specs.Acting.{Acts}
 use Rattle.hp_serve.specs.Asking.{HasSettledAsks}
 use Rattle.hp_proc.specs.LineInHall.{moment}
-use Rattle.hp_serve.specs.Party.{Party}
+use Rattle.hp_proc.specs.ParticipantView.{ParticipantView}
 use Rattle.hp_proc.specs.Progress.{in_hand, with_hand}
 use Rattle.hp_serve.proofs.AskedAlong.{settled_more}
 use Rattle.hp_serve.proofs.Carrying.{same_party}
@@ -27,8 +27,9 @@ pub taking-init : goal.taking-init
 taking-init g c =
     let old = g.H.Hall.state c.args.hall.now in
     record {
-      waited = ([], did_same _ old, Acts.nothing c.args.self.now);
-      stays = in_same c.args.self.now.me c.args.self.now old c.requires.ready.idle.tied;
+      waited = ([], did_same _ old, Acts.nothing c.args.self.now.party);
+      stays = in_same c.args.self.now.party.me c.args.self.now.party old c.requires.ready.idle.tied;
+      context = refl;
       asked = refl;
       goes_on = g.met.H.Hall.goes_on_same _;
       clock = λ one. omega arith;
@@ -36,7 +37,7 @@ taking-init g c =
 
 pub try_take-requires-clause-serves : goal.try_take-requires-clause-serves
 try_take-requires-clause-serves g c =
-    subst (g.H.Hall.state c.taking.hall).serves (sym (ap (λ (party : Party). party.me) c.self.view_is))
+    subst (g.H.Hall.state c.taking.hall).serves (sym c.number.ensures)
     (in_may c.taking.invariant.stays (idle_may c.requires.ready.idle)).serves
 
 pub try_take-requires-clause-home : goal.try_take-requires-clause-home
@@ -50,16 +51,16 @@ returns-in-Ok g c =
     let was = c.taking.invariant in
     let is = c.in-Ok.ensures in
     let took = is.took in
-    let party = c.args.self.now in
-    let me = party.me in
+    let doer = c.args.self.now in
+    let me = doer.party.me in
     let old = g.H.Hall.state c.args.hall.now in
     let mid = g.H.Hall.state c.taking.hall in
     let new = g.H.Hall.state c.try_take.new.self in
     let heap = c.into_heap.result in
     let kept = c.in-Ok.kept in
-    let mine = ap (λ (party : Party). party.me) c.self.view_is ∙ was.stays.same.me in
+    let mine = c.number.ensures ∙ was.stays.same.me in
     let shown =
-    take_shows me c.self.inside.me c.args.index kept heap mid.part new.part mine c.into_heap.ensures took.fits took.sound took.entries took.stands
+    take_shows me c.number.result c.args.index kept heap mid.part new.part mine c.into_heap.ensures took.fits took.sound took.entries took.stands
     took.part in
     let later = later_then was.stays.waits.later is.others.later in
     let seen = later.seen me in
@@ -71,32 +72,32 @@ returns-in-Ok g c =
     (subst (λ (index : ℕ). Did me (Takes index kept ∷ []) mid new) (sym shown.index)
     (subst (λ (who : ℕ). Did who (Takes c.args.index kept ∷ []) mid new) mine took.did)) in
     let ready =
-    ready_still party party (old.part me) (mid.part me) (old.seen me) (mid.seen me) (old.heard me) (mid.heard me) before.0 (same_party party)
+    ready_still doer doer (old.part me) (mid.part me) (old.seen me) (mid.seen me) (old.heard me) (mid.heard me) before.0 (same_party doer.party) refl
     was.stays.waits.parts.part before.1 c.requires.ready.ready in
     let out =
     subst (λ (kept : Kept). new.taken heap.plain.index ≡ Some kept) c.into_heap.ensures (ap new.taken shown.index ∙ took.taken) in
     record {
       did = λ doing.
-          does_still old.count (λ (steps : List MailStep). Did me steps old new) doing (moment me party old) (in_hand heap (moment me c.taking.self new))
+          does_still old.count (λ (steps : List MailStep). Did me steps old new) doing (moment me doer old) (in_hand heap (moment me c.taking.self new))
           (was.waited.0 ++ Takes heap.plain.index (Heap heap) ∷ []) (did_then was.waited.1 step)
-          (Acts.and_then party c.taking.self c.taking.self [] [] was.waited.0 (Takes heap.plain.index (Heap heap) ∷ []) was.waited.2
-          (Acts.takes_heap c.taking.self heap))
+          (Acts.and_then doer.party c.taking.self.party c.taking.self.party [] [] was.waited.0 (Takes heap.plain.index (Heap heap) ∷ []) was.waited.2
+          (Acts.takes_heap c.taking.self.party heap))
           (λ index.
           subst (λ (who : ℕ). (with_hand who heap (new.part me) index).entries ≡ (mid.part me index).entries) (sym was.stays.same.me)
           (took_hand heap (mid.part me) (new.part me) shown.here shown.apart me shown.has index)
           ∙ ap (λ (part : HeapPart). part.entries) (was.stays.waits.parts.part index))
           (λ index.
-          hand_serves c.taking.self.me heap (new.part me) index
+          hand_serves c.taking.self.party.me heap (new.part me) index
           ∙ took_serves heap (mid.part me) (new.part me) shown.here shown.apart index
           ∙ ap (λ (part : HeapPart). part.serves) (was.stays.waits.parts.part index))
-          was.stays.same was.asked seen.0 seen.1 heard.0 heard.1;
+          was.stays.same was.context was.asked seen.0 seen.1 heard.0 heard.1;
       holds = record {
         can = record {
           may = may_but (omega (arith, c.requires.few)) is.others.later is.slots idle;
-          tied = tied_later me c.taking.self is.others.later (subst (λ (who : ℕ). new.own who ≡ mid.own who) mine took.own) was.stays.tied;
+          tied = tied_later me c.taking.self.party is.others.later (subst (λ (who : ℕ). new.own who ≡ mid.own who) mine took.own) was.stays.tied;
         };
-        in_hand = taken_in_hand heap (mid.part me) (new.part me) shown.here shown.apart new.taken party c.taking.self (mid.seen me) (new.seen me)
-            (mid.heard me) (new.heard me) was.stays.same ready out shown.few shown.has shown.stands shown.sound;
+        in_hand = taken_in_hand heap (mid.part me) (new.part me) shown.here shown.apart new.taken doer c.taking.self (mid.seen me) (new.seen me)
+            (mid.heard me) (new.heard me) was.stays.same was.context ready out shown.few shown.has shown.stands shown.sound;
         settled = subst (λ (who : ℕ). HasSettledAsks who (new.part me) (new.heard me)) (sym was.stays.same.me)
             (settled_more me (old.part me) (new.part me) (old.heard me) (new.heard me) heard.0 heard.1
             (λ index.
@@ -105,6 +106,7 @@ returns-in-Ok g c =
       };
       index = shown.index;
       same = was.stays.same;
+      context = was.context;
       slots = free_but is.slots idle;
       err = tt;
       clock = λ one. omega (arith, was.clock one, is.others.clock);
@@ -119,7 +121,7 @@ turn-requires g c =
     let is = c.in-Err.ensures in
     record {
       can = in_can
-          (in_others c.taking.self (ap (λ (party : Party). party.me) c.self.view_is) is.held.slots is.held.mine is.others.later (in_tied was.stays))
+          (in_others c.taking.self.party c.number.ensures is.held.slots is.held.mine is.others.later (in_tied was.stays))
           (in_can was.stays (idle_can c.requires.ready.idle));
       before = g.met.H.Hall.busy_pending c.try_take.new.self _ (c.args.index, _, is.held.found);
     }
@@ -132,7 +134,7 @@ taking-smaller g c =
     let until = ap (λ (at : ℕ). g.H.Hall.pending at (2 ^ 64 - 1)) clock in
     let own =
     own_weight_still g.H.Hall.scale g.H.Hall.pending (g.H.Hall.state c.taking.hall).clock (g.H.Hall.state c.try_take.new.self).clock
-    c.taking.self.core clock in
+    c.taking.self.party.core clock in
     omega (arith, lighter, falls, until, own)
 
 pub taking-preserved : goal.taking-preserved
@@ -144,18 +146,19 @@ taking-preserved g c =
     let old = g.H.Hall.state c.args.hall.now in
     let mid = g.H.Hall.state c.taking.hall in
     let late = g.H.Hall.state c.try_take.new.self in
-    let here = ap (λ (party : Party). party.me) c.self.view_is in
-    let looked = in_others c.taking.self here tried.held.slots tried.held.mine tried.others.later (in_tied was.stays) in
+    let here = c.number.ensures in
+    let looked = in_others c.taking.self.party here tried.held.slots tried.held.mine tried.others.later (in_tied was.stays) in
     let so_far = in_then was.stays looked in
     record {
       waited = (
         was.waited.0 ++ one.0,
         did_then was.waited.1
             (did_then (in_did was.stays (subst (λ (who : ℕ). Did who [] mid late) here tried.held.did)) (in_did so_far one.1)),
-        waits_more old.count late.count (2 ^ 64 - 1) c.args.self.now c.taking.self c.turn.new.self c.in_ok-turn-in-Err.field-0 was.waited.0 one.0
+        waits_more old.count late.count (2 ^ 64 - 1) c.args.self.now.party c.taking.self.party c.turn.new.self.party c.in_ok-turn-in-Err.field-0 was.waited.0 one.0
             so_far.waits.later.count was.waited.2 one.2,
       );
       stays = in_then so_far is.stays;
+      context = is.context ∙ was.context;
       asked = is.asks.asked ∙ was.asked;
       goes_on = g.met.H.Hall.goes_on_then _ _ _ was.goes_on (g.met.H.Hall.goes_on_then _ _ _ tried.goes_on is.goes_on);
       clock = λ one. absurd (one.free c.try_take.new.self (c.args.index, _, tried.held.found));
@@ -168,9 +171,9 @@ returns-in_err-turn-in-Err g c =
     let was = c.taking.invariant in
     let tried = c.in-Err.ensures in
     let is = c.turn.ensures in
-    let here = ap (λ (party : Party). party.me) c.self.view_is in
+    let here = c.number.ensures in
     let all =
-    in_then (in_then was.stays (in_others c.taking.self here tried.held.slots tried.held.mine tried.others.later (in_tied was.stays))) is.stays in
+    in_then (in_then was.stays (in_others c.taking.self.party here tried.held.slots tried.held.mine tried.others.later (in_tied was.stays))) is.stays in
     let idle = idle_in all c.requires.ready.idle in
     record {
       did = search rules;
@@ -179,6 +182,7 @@ returns-in_err-turn-in-Err g c =
       slots = record { taken = λ number apart. idle.free number; home = λ number few apart. idle.home number few };
       err = on_err_any c.from_residual.result _ idle;
       same = all.same;
+      context = is.context ∙ was.context;
       clock = λ one. absurd (one.free c.try_take.new.self (c.args.index, _, tried.held.found));
       goes_on = g.met.H.Hall.goes_on_then _ _ _ was.goes_on (g.met.H.Hall.goes_on_then _ _ _ tried.goes_on is.goes_on);
     }

@@ -8,14 +8,15 @@ use Rattle.hp_proc.proofs.participant.Participant.take_heap.Given as goal
 
 abbrev pub invariant-taking : goal.invariant-taking
 invariant-taking g l = record {
-  waited : (steps : List MailStep) × Did l.fn.self.me steps (g.H.Hall.state l.fn.hall) (g.H.Hall.state l.hall)
-      × Acts (g.H.Hall.state l.fn.hall).count l.fn.self l.self [] steps;
-  stays : StaysIn l.fn.self.me l.fn.self l.self (g.H.Hall.state l.fn.hall) (g.H.Hall.state l.hall);
-  asked : l.self.asked ≡ l.fn.self.asked;
+  waited : (steps : List MailStep) × Did l.fn.self.party.me steps (g.H.Hall.state l.fn.hall) (g.H.Hall.state l.hall)
+      × Acts (g.H.Hall.state l.fn.hall).count l.fn.self.party l.self.party [] steps;
+  stays : StaysIn l.fn.self.party.me l.fn.self.party l.self.party (g.H.Hall.state l.fn.hall) (g.H.Hall.state l.hall);
+  context : l.self.context ≡ l.fn.self.context;
+  asked : l.self.party.asked ≡ l.fn.self.party.asked;
   goes_on : g.H.Hall.goes_on l.fn.hall l.hall;
   clock : RisesWithin g.H.Hall.pending (λ hall. IsBusy (g.H.Hall.state hall)) 0 (g.H.Hall.state l.fn.hall).clock (g.H.Hall.state l.hall).clock;
 }
 
 abbrev pub decreases-taking : goal.decreases-taking
 decreases-taking g l =
-    left_to_do g.H.Hall.scale g.H.Hall.pending l.self (g.H.Hall.state l.hall) + g.H.Hall.pending (g.H.Hall.state l.hall).clock (2 ^ 64 - 1)
+    left_to_do g.H.Hall.scale g.H.Hall.pending l.self.party (g.H.Hall.state l.hall) + g.H.Hall.pending (g.H.Hall.state l.hall).clock (2 ^ 64 - 1)

@@ -10,7 +10,8 @@ use Rattle.hp_proc.specs.Acting.{Acts, AreAsked}
 use Rattle.hp_serve.specs.AskSteps.{DoesNotify}
 use Rattle.hp_proc.specs.Doing.{Doing, Done, Goes, Leads}
 use Rattle.hp_proc.specs.Freeing.{left_of}
-use Rattle.hp_serve.specs.Party.{IsSameParty, Party}
+use Rattle.hp_serve.specs.Party.{IsSameParty}
+use Rattle.hp_proc.specs.ParticipantView.{ParticipantView}
 use Rattle.hp_proc.specs.declared.element_act.Left.{Left}
 use Rattle.hp_proc.specs.Progress.{Does, moment_of}
 use Rattle.hp_proc.proofs.HandGiven.{ready_still}
@@ -21,13 +22,14 @@ use Rattle.hp_proc.proofs.Holds.{again_by, again_same}
 use Rattle.hp_proc.proofs.LinesInHall.{idle_can}
 use Rattle.hp_proc.proofs.participant.Participant.tell.Goals as goal
 
-module _ (count : ℕ) (party after : Party) (heap : ℕ) (run : Run) (parts later : ℕ → HeapPart) (log now more : List LogRecord)
-    (asks heard others : List AskLog) (alike : (index : ℕ) → later index ≡ parts index) (same : IsSameParty party after)
+module _ (count : ℕ) (doer after : ParticipantView) (heap : ℕ) (run : Run) (parts later : ℕ → HeapPart) (log now more : List LogRecord)
+    (asks heard others : List AskLog) (alike : (index : ℕ) → later index ≡ parts index) (same : IsSameParty doer.party after.party)
+    (known : after.context ≡ doer.context)
     (log_is : now ≡ log ++ more) (asks_is : heard ≡ asks ++ others) where
   -- a run that was given up was told of
-  does_tell : (did : List MailStep → Type 0) (steps : List MailStep) → did steps → DoesNotify count party after heap run steps
-      → after.asked ≡ party.asked + 1
-      → Does count did (Doing.GivesUp heap run (Doing.Ended answer.Done)) (Doing.Ended answer.Done) (moment_of party parts log asks)
+  does_tell : (did : List MailStep → Type 0) (steps : List MailStep) → did steps → DoesNotify count doer.party after.party heap run steps
+      → after.party.asked ≡ doer.party.asked + 1
+      → Does count did (Doing.GivesUp heap run (Doing.Ended answer.Done)) (Doing.Ended answer.Done) (moment_of doer parts log asks)
       (moment_of after later now heard)
   unfolding Leads Goes AreAsked
   does_tell did steps made notifies asked = record {
@@ -35,11 +37,11 @@ module _ (count : ℕ) (party after : Party) (heap : ℕ) (run : Run) (parts lat
     steps = steps;
     leads = (refl, refl);
     made = made;
-    acts = Acts.notifies_run party after heap run steps notifies;
+    acts = Acts.notifies_run doer.party after.party heap run steps notifies;
     entries = λ index. ap (λ (part : HeapPart). part.entries) (alike index) ∙ sym (append-nil (parts index).entries);
     serves = λ index. ap (λ (part : HeapPart). part.serves) (alike index);
-    counted = context_still party.context after.context same.context;
-    same = record { me = same.me; socket = same.socket; plan = same.plan; deadline = same.deadline; context = refl };
+    counted = context_still doer.context after.context known;
+    same = same;
     asked = asked;
     more = more;
     log = log_is;
@@ -49,16 +51,16 @@ module _ (count : ℕ) (party after : Party) (heap : ℕ) (run : Run) (parts lat
 
 pub returns-in-Answered : goal.returns-in-Answered
 returns-in-Answered g c =
-    let party = c.args.self.now in
-    let me = party.me in
+    let doer = c.args.self.now in
+    let me = doer.party.me in
     let hall = g.H.Hall.state c.args.hall.now in
-    let at = moment me party hall in
+    let at = moment me doer hall in
     record {
       does = subst (λ (left : Left). Does hall.count (did_in me hall hall) (left_of c.args.heap left) (Doing.Ended c.in-Answered.answer) at at)
           (sym c.in-Answered.is) (does_same hall.count (did_in me hall hall) (Doing.Ended c.in-Answered.answer) at (did_same me hall));
       ready = c.requires.ready.ready;
       clock = λ one. omega arith;
-      idle = again_same party c.requires.ready.idle;
+      idle = again_same doer c.requires.ready.idle;
       goes_on = g.met.H.Hall.goes_on_same _;
     }
 
@@ -66,12 +68,12 @@ pub notify-requires : goal.notify-requires
 notify-requires g c = record { can = idle_can c.requires.ready.idle }
 
 pub returns-in_err-notify-in-GaveUp-clause-idle : goal.returns-in_err-notify-in-GaveUp-clause-idle
-returns-in_err-notify-in-GaveUp-clause-idle g c = again_by c.args.self.now c.notify.new.self c.notify.ensures.stays c.requires.ready.idle
+returns-in_err-notify-in-GaveUp-clause-idle g c = again_by c.args.self.now c.notify.new.self c.notify.ensures.stays c.notify.ensures.context c.requires.ready.idle
 
 pub returns-in_ok-notify-in-GaveUp : goal.returns-in_ok-notify-in-GaveUp
 returns-in_ok-notify-in-GaveUp g c =
-    let party = c.args.self.now in
-    let me = party.me in
+    let doer = c.args.self.now in
+    let me = doer.party.me in
     let old = g.H.Hall.state c.args.hall.now in
     let new = g.H.Hall.state c.notify.new.hall in
     let after = c.notify.new.self in
@@ -80,13 +82,13 @@ returns-in_ok-notify-in-GaveUp g c =
     let more = stays.waits.later.seen me in
     let others = stays.waits.later.heard me in
     record {
-      does = subst (λ (left : Left). Does old.count (did_in me old new) (left_of c.args.heap left) (Doing.Ended answer.Done) (moment me party old)
+      does = subst (λ (left : Left). Does old.count (did_in me old new) (left_of c.args.heap left) (Doing.Ended answer.Done) (moment me doer old)
           (moment me after new)) (sym c.in-GaveUp.is)
-          (does_tell old.count party after c.args.heap c.in-GaveUp.run' (old.part me) (new.part me) (old.seen me) (new.seen me) more.0 (old.heard me)
-          (new.heard me) others.0 stays.waits.parts.part stays.same more.1 others.1 (did_in me old new) told.did.0 told.did.1 told.did.2 told.asked);
-      ready = ready_still party after (old.part me) (new.part me) (old.seen me) (new.seen me) (old.heard me) (new.heard me) others.0 stays.same
+          (does_tell old.count doer after c.args.heap c.in-GaveUp.run' (old.part me) (new.part me) (old.seen me) (new.seen me) more.0 (old.heard me)
+          (new.heard me) others.0 stays.waits.parts.part stays.same c.notify.ensures.context more.1 others.1 (did_in me old new) told.did.0 told.did.1 told.did.2 told.asked);
+      ready = ready_still doer after (old.part me) (new.part me) (old.seen me) (new.seen me) (old.heard me) (new.heard me) others.0 stays.same c.notify.ensures.context
           stays.waits.parts.part others.1 c.requires.ready.ready;
       clock = c.notify.ensures.clock;
-      idle = again_by party after stays c.requires.ready.idle;
+      idle = again_by doer after stays c.notify.ensures.context c.requires.ready.idle;
       goes_on = c.notify.ensures.goes_on;
     }

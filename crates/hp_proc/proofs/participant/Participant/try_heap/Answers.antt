@@ -14,7 +14,7 @@ use Rattle.hp_serve.proofs.AskedAlong.{if_ok}
 use Rattle.hp_serve.proofs.Carrying.{on_ok_then}
 use Rattle.hp_proc.proofs.HallMoments.{told_alike}
 use Rattle.hp_proc.proofs.HandTried.{tries_passed, tries_then}
-use Rattle.hp_proc.proofs.Holds.{again_put, but_kept, can_on, idle_put, same_to_calls}
+use Rattle.hp_proc.proofs.Holds.{again_put, but_kept, can_on, idle_put, knew_same}
 use Rattle.hp_proc.proofs.participant.Participant.try_heap.Goals as goal
 
 pub hold-requires-clause-few : goal.hold-requires-clause-few
@@ -24,8 +24,8 @@ hold-requires-clause-few g c = socket_few c.args.self.now.context.pools c.args.p
 
 pub returns-in_err-heap-clause-idle : goal.returns-in_err-heap-clause-idle
 returns-in_err-heap-clause-idle g c = record {
-  same = same_to_calls c.args.self.now c.hold.new.self c.hold.ensures.same;
-  idle = c.in_err-heap.ensures.err;
+  again = record { same = c.hold.ensures.same; idle = c.in_err-heap.ensures.err };
+  context = knew_same c.args.self.now.context c.hold.new.self.context c.hold.ensures.context;
 }
 
 pub returns-in_err-heap-clause-clock : goal.returns-in_err-heap-clause-clock
@@ -47,21 +47,21 @@ allocate_held-given-requires-clause-of_socket g c =
     hand.its_socket
     ∙ hand.sockets c.in_ok-heap.heap.plain.index
     ∙ ap (slice_get (sockets_of c.hold.new.self.context.pools)) c.in_ok-heap.ensures.index
-    ∙ ap (λ (context : Context). slice_get (sockets_of context.pools) c.args.place.now.index) c.hold.ensures.same.context
+    ∙ ap (λ (context : Context). slice_get (sockets_of context.pools) c.args.place.now.index) c.hold.ensures.context
     ∙ c.requires.place
 
 -- IT IS GIVEN BACK
 
 pub put-requires : goal.put-requires
 put-requires g c =
-    let party = c.allocate_held-given.new.self in
+    let doer = c.allocate_held-given.new.self in
     let hall = g.H.Hall.state c.allocate_held-given.new.hall in
     let mid = g.H.Hall.state c.hold.new.hall in
     let keeps = c.allocate_held-given.ensures.keeps in
     let may = subst (λ (who : ℕ). MayServe who mid) (sym c.hold.ensures.same.me) c.in_ok-heap.ensures.holds.can.may in
     record {
       serves = (can_on keeps may).may.serves;
-      in_hand = subst (λ (who : ℕ). IsInHand hall.taken (moment who party hall) c.allocate_held-given.new.heap) (sym keeps.remains.same.me)
+      in_hand = subst (λ (who : ℕ). IsInHand hall.taken (moment who doer hall) c.allocate_held-given.new.heap) (sym keeps.remains.same.me)
           keeps.in_hand;
     }
 
@@ -73,7 +73,7 @@ returns-clause-does g c =
     let old = c.args.self.now in
     let mid = c.hold.new.self in
     let new = c.allocate_held-given.new.self in
-    let me = old.me in
+    let me = old.party.me in
     let first = g.H.Hall.state c.args.hall.now in
     let second = g.H.Hall.state c.hold.new.hall in
     let third = g.H.Hall.state c.allocate_held-given.new.hall in
@@ -92,13 +92,13 @@ returns-clause-does g c =
     subst (λ (pools : List PoolLine). Tries place.index first.count (did_in me second third)
     (trying pools request tag (named_heap place ∷ heaps)) (trying pools request tag heaps) given (moment_with heap me mid second)
     (moment_with left me new third))
-    (ap (λ (context : Context). context.pools) c.hold.ensures.same.context)
+    (ap (λ (context : Context). context.pools) c.hold.ensures.context)
     (told_alike (λ count did before behind. Tries place.index count did (trying mid.context.pools request tag (named_heap place ∷ heaps))
-    (trying mid.context.pools request tag heaps) given before behind) second.count first.count second third mid.me me (in_hand heap)
+    (trying mid.context.pools request tag heaps) given before behind) second.count first.count second third mid.party.me me (in_hand heap)
     (in_hand left) mid new mine here_count (tried heaps)) in
     let gone = unless_answered otherwise given in
     let back : Does first.count (did_in me third last) gone gone (moment_with left me new third) (moment me new last) =
-    told_alike (λ count did before behind. Does count did gone gone before behind) third.count first.count third last new.me me (in_hand left)
+    told_alike (λ count did before behind. Does count did gone gone before behind) third.count first.count third last new.party.me me (in_hand left)
     (λ moment. moment) new new (c.allocate_held-given.ensures.keeps.remains.same.me ∙ mine) there_count (c.put.ensures.does gone) in
     tries_passed first.count (did_in me first third) (did_in me third last) (did_in me first last) doing otherwise
     given place.index _ _ _ (λ one two. did_then)
@@ -112,7 +112,7 @@ returns-clause-ready g c =
     let hall = g.H.Hall.state c.allocate_held-given.new.hall in
     let last = g.H.Hall.state c.put.new.hall in
     let mine = c.allocate_held-given.ensures.keeps.remains.same.me in
-    on_ok_then c.allocate_held-given.result (AreSettled (moment c.hold.new.self.me new hall)) (MayDo (moment c.args.self.now.me new last))
+    on_ok_then c.allocate_held-given.result (AreSettled (moment c.hold.new.self.party.me new hall)) (MayDo (moment c.args.self.now.party.me new last))
     (λ settled.
     subst (λ (who : ℕ). MayDo (moment who new last)) (mine ∙ c.hold.ensures.same.me)
     (c.put.ensures.ready (subst (λ (who : ℕ). AreSettled (moment who new hall)) (sym mine) settled)))
@@ -129,8 +129,8 @@ returns-clause-idle g c =
     let put = c.put.ensures in
     let took = c.in_ok-heap.ensures in
     let may = subst (λ (who : ℕ). MayServe who second) (sym c.hold.ensures.same.me) took.holds.can.may in
-    again_put c.hold.ensures.same keeps
-    (idle_put c.allocate_held-given.new.self c.allocate_held-given.new.heap (can_on keeps may)
+    again_put c.hold.ensures.same c.hold.ensures.context keeps
+    (idle_put c.allocate_held-given.new.self.party c.allocate_held-given.new.heap (can_on keeps may)
     (but_kept (keeps.index ∙ took.index) c.hold.ensures.slots keeps.remains.slots) put.tied put.free put.slots put.others)
 
 pub returns-clause-goes_on : goal.returns-clause-goes_on

@@ -89,7 +89,7 @@ returns-clause-remains g c =
     let me = party.me in
     let sent = c.send-since.ensures.stays in
     let sending : RemainsIn me party c.send-since.new.self (g.H.Hall.state c.arm.new.hall) (g.H.Hall.state c.send-since.new.hall) = record {
-      same = subst (IsSameParty party) (sym c.send-since.ensures.sent) (record { me = refl; socket = refl; plan = refl; deadline = refl; context = refl });
+      same = subst (IsSameParty party) (sym c.send-since.ensures.sent) (record { me = refl; socket = refl; plan = refl; deadline = refl });
       tied = c.send-since.ensures.tied;
       slots = sent.slots;
       joined = sent.mine.parts.joined;

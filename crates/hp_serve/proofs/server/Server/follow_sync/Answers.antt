@@ -159,7 +159,7 @@ returns-clause-alone g c =
     let old = g.H.Hall.state c.args.hall.now in
     let new = g.H.Hall.state c.obey-caught.new.hall in
     let back = c.obey-caught.ensures.back in
-    alone_of c.self.view_is (record { me = refl; socket = refl; plan = refl; deadline = refl; context = refl })
+    alone_of c.self.view_is (record { me = refl; socket = refl; plan = refl; deadline = refl })
     (subst (λ (who : ℕ). IsTied (new.seen who) (new.own who) c.has_table-self-inside.result c.obey-caught.new.maps) me
     (subst (λ joined. IsTied (new.seen c.self.inside.me) (new.own c.self.inside.me) joined c.obey-caught.new.maps)
     (sym c.has_table-self-inside.ensures) c.obey-caught.ensures.tied))

@@ -9,5 +9,5 @@ take_and_hand-requires-clause-may g c = may_hold c.requires.can.may
 
 pub returns-clause-alone : goal.returns-clause-alone
 returns-clause-alone g c =
-    alone_with c.self.view_is (record { me = refl; socket = refl; plan = refl; deadline = refl; context = refl }) refl refl
+    alone_with c.self.view_is (record { me = refl; socket = refl; plan = refl; deadline = refl }) refl refl
     c.take_and_hand.ensures.stays c.requires.can.tied

@@ -28,7 +28,6 @@ returns-clause-mapped g c =
       asked = c.self.inside.asked;
       answered = c.self.inside.answered;
       sent = c.self.inside.sent;
-      context = c.self.inside.context;
     } in
     let mapped = c.map_self.ensures.mapped in
     let is : c.self.inside.coordinator ≡ Some c.in-Some.core = cc in (
@@ -45,5 +44,5 @@ returns-clause-weight g c = c.map_self.ensures.stays.weight
 pub returns-clause-alone : goal.returns-clause-alone
 returns-clause-alone g c =
     let stays = c.map_self.ensures.stays in
-    alone_of c.self.view_is (record { me = refl; socket = refl; plan = refl; deadline = refl; context = refl }) c.map_self.ensures.tied
+    alone_of c.self.view_is (record { me = refl; socket = refl; plan = refl; deadline = refl }) c.map_self.ensures.tied
     stays.slots stays.parts stays.others

@@ -27,7 +27,7 @@ returns-clause-alone g c =
     let me = c.args.self.now.me in
     let old = g.H.Hall.state c.args.hall.now in
     subst (λ (party : Party). StaysAlone me c.args.self.now party old old) (sym c.hear.ensures)
-    (alone_of refl (record { me = refl; socket = refl; plan = refl; deadline = refl; context = refl }) c.requires.can.tied (slots_same old) (parts_same me old)
+    (alone_of refl (record { me = refl; socket = refl; plan = refl; deadline = refl }) c.requires.can.tied (slots_same old) (parts_same me old)
     (others_same me old))
 
 pub returns-clause-goes_on : goal.returns-clause-goes_on

@@ -25,5 +25,5 @@ returns-clause-weight g c =
 pub returns-clause-alone : goal.returns-clause-alone
 returns-clause-alone g c =
     subst (λ (party : Party). StaysAlone 0 c.args.self.now party (g.H.Hall.state c.args.hall.now) (g.H.Hall.state c.args.hall.now)) (sym c.hear.ensures)
-    (alone_of refl (record { me = refl; socket = refl; plan = refl; deadline = refl; context = refl }) c.requires.can.tied
+    (alone_of refl (record { me = refl; socket = refl; plan = refl; deadline = refl }) c.requires.can.tied
     (slots_same (g.H.Hall.state c.args.hall.now)) (parts_same 0 (g.H.Hall.state c.args.hall.now)) (others_same 0 (g.H.Hall.state c.args.hall.now)))

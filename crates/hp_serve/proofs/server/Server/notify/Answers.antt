@@ -54,7 +54,7 @@ returns-clause-stays g c =
     let stays = stays_then c.send_notice.ensures.stays read in
     let tied = tied_later me c.send_notice.new.self read.others.later read.mine.own c.send_notice.ensures.tied in
     let sent : StaysIn me party c.send_notice.new.self old late = record {
-      same = subst (IsSameParty party) (sym c.send_notice.ensures.sent) (record { me = refl; socket = refl; plan = refl; deadline = refl; context = refl });
+      same = subst (IsSameParty party) (sym c.send_notice.ensures.sent) (record { me = refl; socket = refl; plan = refl; deadline = refl });
       tied = tied;
       waits = waits_by stays;
     } in
@@ -79,7 +79,7 @@ returns-in_err-_reading-clause-stays g c =
     let stays = stays_then c.send_notice.ensures.stays read in
     let tied = tied_later me c.send_notice.new.self read.others.later read.mine.own c.send_notice.ensures.tied in
     let sent : StaysIn me party c.send_notice.new.self old late = record {
-      same = subst (IsSameParty party) (sym c.send_notice.ensures.sent) (record { me = refl; socket = refl; plan = refl; deadline = refl; context = refl });
+      same = subst (IsSameParty party) (sym c.send_notice.ensures.sent) (record { me = refl; socket = refl; plan = refl; deadline = refl });
       tied = tied;
       waits = waits_by stays;
     } in

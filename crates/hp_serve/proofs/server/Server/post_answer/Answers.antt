@@ -52,7 +52,6 @@ returns-clause-posted g c =
       asked = c.self.inside.asked;
       answered = c.self.inside.answered;
       sent = c.self.inside.sent;
-      context = c.self.inside.context;
     } in
     let posted = c.post_next.ensures.posted in
     let below : c.args.to < (g.H.Hall.state c.args.hall.now).count =
@@ -83,5 +82,5 @@ returns-clause-weight g c =
 
 pub returns-clause-alone : goal.returns-clause-alone
 returns-clause-alone g c =
-    alone_with c.self.view_is (record { me = refl; socket = refl; plan = refl; deadline = refl; context = refl }) refl refl
+    alone_with c.self.view_is (record { me = refl; socket = refl; plan = refl; deadline = refl }) refl refl
     c.post_next.ensures.stays c.requires.can.tied

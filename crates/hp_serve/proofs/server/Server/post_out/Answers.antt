@@ -15,7 +15,7 @@ returns-in-Nothing-clause-alone g c = alone_same 0 c.args.self.now (g.H.Hall.sta
 
 pub returns-in-Sync-clause-alone : goal.returns-in-Sync-clause-alone
 returns-in-Sync-clause-alone g c =
-    alone_with c.self.view_is (record { me = refl; socket = refl; plan = refl; deadline = refl; context = refl }) refl refl
+    alone_with c.self.view_is (record { me = refl; socket = refl; plan = refl; deadline = refl }) refl refl
     c.tell_all.ensures.stays c.requires.can.tied
 
 pub returns-in-Sync-clause-posted : goal.returns-in-Sync-clause-posted
@@ -31,7 +31,6 @@ returns-in-Sync-clause-posted g c =
       asked = c.self.inside.asked;
       answered = c.self.inside.answered;
       sent = c.self.inside.sent;
-      context = c.self.inside.context;
     } in
     let told = c.tell_all.ensures.told in (
       told.1,

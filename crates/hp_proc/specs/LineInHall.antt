@@ -1,0 +1,95 @@
+-- A participant that does a line in a hall: the rule "Lines" of docs/PARTICIPANTS.md.
+use Rattle.std.specs.Prelude.{◌≡◌, ◌≢◌, ℕ, ◌+◌, ◌<◌, ◌≤◌, ◌^◌, List, None}
+use Rattle.hp_base.specs.declared.limits.TheConstants.{MAX_HEAPS}
+use Rattle.hp_hall.specs.HallState.{Did, HallState, OthersStay, SlotsStay}
+use Rattle.hp_hall.specs.Mail.{MailStep}
+use Rattle.hp_heap.specs.History.{HeapView}
+use Rattle.hp_script.specs.declared.answer.Answer.{Answer}
+use Rattle.hp_script.specs.declared.line.Line.{Line}
+use Rattle.hp_proc.specs.Doing.{Doing}
+use Rattle.hp_proc.specs.ParticipantView.{ParticipantView, with_calls}
+use Rattle.hp_proc.specs.Progress.{AreSettled, Does, DoesLine, IsInHand, MayDo, Moment, in_hand, moment_of}
+use Rattle.hp_serve.specs.InHall.{CanServe, IsTiedIn, RemainsIn}
+use Rattle.hp_serve.specs.Party.{IsSameParty, Party}
+
+-- a moment of its line, and one at which it has a heap in hand
+abbrev pub moment : ℕ → ParticipantView → HallState → Moment
+moment me doer state = moment_of doer (state.part me) (state.seen me) (state.heard me)
+
+abbrev pub moment_with : HeapView → ℕ → ParticipantView → HallState → Moment
+moment_with heap me doer state = in_hand heap (moment me doer state)
+
+-- the steps that it made
+abbrev pub did_in : ℕ → HallState → HallState → List MailStep → Type 0
+did_in me old new steps = Did me steps old new
+
+-- what it did of a line, with no heap in hand, and with one; and what it did of a whole line
+abbrev pub DoesHere : ℕ → ParticipantView → ParticipantView → HallState → HallState → Doing → Doing → Type 0
+DoesHere me old new from to doing rest = Does from.count (did_in me from to) doing rest (moment me old from) (moment me new to)
+
+abbrev pub DoesHeld : ℕ → ParticipantView → ParticipantView → HeapView → HeapView → HallState → HallState → Doing → Doing → Type 0
+DoesHeld me old new before behind from to doing rest =
+    Does from.count (did_in me from to) doing rest (moment_with before me old from) (moment_with behind me new to)
+
+abbrev pub DoesLineHere : ℕ → ParticipantView → ParticipantView → HallState → HallState → Line → Answer → Type 0
+DoesLineHere me old new from to line given = DoesLine from.count (did_in me from to) line given (moment me old from) (moment me new to)
+
+-- it holds no slot and may take each, the hall takes its calls, and its table is tied
+pub record IsIdleIn (me : ℕ) (party : Party) (state : HallState) : Type 0 where
+  pub serves : state.serves me
+  pub declared : me < state.count
+  pub free : (number : ℕ) → state.taken number ≡ None
+  pub home : (number : ℕ) → number ≤ MAX_HEAPS → state.may_take number
+  pub tied : IsTiedIn me party state
+
+-- so it is, and may do its line
+pub record IsReadyIn (me : ℕ) (doer : ParticipantView) (state : HallState) : Type 0 where
+  pub idle : IsIdleIn me doer.party state
+  pub ready : MayDo (moment me doer state)
+
+-- it is as it was, and so is the hall to it
+pub record IsIdleAgain (me : ℕ) (old new : Party) (state : HallState) : Type 0 where
+  pub same : IsSameParty old new
+  pub idle : IsIdleIn me new state
+
+-- so it is, and what it knows is as it was but for the number of its calls
+pub record HasCalled (me : ℕ) (old new : ParticipantView) (state : HallState) : Type 0 where
+  pub again : IsIdleAgain me old.party new.party state
+  pub context : new.context ≡ with_calls new.context.calls old.context
+
+-- it holds no slot but that one at most, and may take each other
+pub record AreFreeBut (slot : ℕ) (state : HallState) : Type 0 where
+  pub taken : (number : ℕ) → number ≢ slot → state.taken number ≡ None
+  pub home : (number : ℕ) → number ≤ MAX_HEAPS → number ≢ slot → state.may_take number
+
+-- that one is free
+pub record IsFreeAt (slot : ℕ) (state : HallState) : Type 0 where
+  pub taken : state.taken slot ≡ None
+  pub home : state.may_take slot
+
+-- it attached or detached: it is the same one, its table is tied, the slots stay, and nobody else did anything
+pub record ChangesRoster (me : ℕ) (old new : Party) (from to : HallState) : Type 0 where
+  pub same : IsSameParty old new
+  pub tied : IsTiedIn me new to
+  pub slots : SlotsStay from to
+  pub others : OthersStay me from to
+
+-- it has a heap in hand, and may do something with it: it can serve, and its asks are settled
+pub record HoldsIn (me : ℕ) (doer : ParticipantView) (heap : HeapView) (state : HallState) : Type 0 where
+  pub can : CanServe me doer.party state
+  pub in_hand : IsInHand state.taken (moment me doer state) heap
+  pub settled : AreSettled (moment me doer state)
+
+-- a heap in hand has room for so many calls, and so have the numbers of its holder's calls
+pub record HasRoom (calls : ℕ) (heap : HeapView) (doer : ParticipantView) : Type 0 where
+  pub spare : calls ≤ heap.spare
+  pub counted : doer.context.calls + calls < 2 ^ 64
+
+-- it did something with the heap in its hand: it has that heap in hand still, it is the same one, what it knows is as it was but for the
+-- number of its calls, its table is tied, and the slots stay
+pub record KeepsHeld (me : ℕ) (old new : ParticipantView) (before behind : HeapView) (from to : HallState) : Type 0 where
+  pub in_hand : IsInHand to.taken (moment me new to) behind
+  pub index : behind.plain.index ≡ before.plain.index
+  pub its_socket : behind.plain.serves ≡ before.plain.serves
+  pub context : new.context ≡ with_calls new.context.calls old.context
+  pub remains : RemainsIn me old.party new.party from to

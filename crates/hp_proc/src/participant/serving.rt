@@ -1,0 +1,158 @@
+//! What a participant does between the steps of its lines: what serves for it does that, and what it knows stays.
+ghost use Rattle.std.specs.Prelude.{◌≡◌, ◌≢◌, ◌^◌, ℕ, ◌+◌, ◌<◌, ◌≤◌, ◌∷◌, ◌++◌, ◌||◌, [], false, length};
+ghost use Rattle.std.specs.Prelude.{List, Some, IfOk, IsSome, OnErr, OnOk};
+ghost use Rattle.std.specs.Result.{result_ok};
+ghost use Rattle.hp_base.specs.Mapping.{is_done};
+ghost use Rattle.hp_hall.specs.HallState.{Did, IsBusy};
+ghost use Rattle.hp_hall.specs.Mail.{MailStep};
+ghost use Rattle.hp_heap.specs.PlainHeap.{PlainHeap};
+ghost use Rattle.hp_maps.specs.MapsView.{calls_of};
+ghost use Rattle.hp_segs.specs.LaterSteps.{after_leave};
+ghost use Rattle.hp_segs.specs.SegsView.{SegsView};
+ghost use Rattle.hp_segs.specs.Standing.{Holding};
+ghost use Rattle.hp_segs.specs.Steps.{after_retire};
+ghost use Rattle.hp_serve.specs.AskSteps.{DoesAsk, DoesNotify};
+ghost use Rattle.hp_serve.specs.Asking.{GivesUp, GrowsHeld, HasSettledAsks, IsAsked, IsCutFrom, IsHeldAsBefore};
+ghost use Rattle.hp_serve.specs.Attaching.{Attaches, after_attaching, after_detaching};
+ghost use Rattle.hp_serve.specs.Clocks.{RisesWithin, longest_wait};
+ghost use Rattle.hp_serve.specs.InHall.{CanServe, IsTiedIn, RemainsIn, StaysIn, left_to_do};
+ghost use Rattle.hp_serve.specs.SegmentSlot.{MayHold, StaysButParts, StaysButRoster};
+ghost use Rattle.hp_serve.specs.Serving.{acks_behind, gives_segments, takes_segments};
+ghost use Rattle.hp_serve.specs.Waiting.{IsTurned, LeavesAsked};
+
+use super::Participant;
+use hp_base::{Caught, Mapper, Run};
+use hp_hall::{Hall, Waiting};
+use hp_serve::PagesAsked;
+use std::alloc::AllocError;
+
+impl<'p, M: Mapper> Participant<'p, M> {
+    // Its number.
+    pub(crate) fn number(&self) -> u8
+        ensures { result ≡ self.now.party.me }
+    {
+        self.server.number()
+    }
+
+    // Takes a turn of a wait until a deadline.
+    pub(crate) fn turn<H: Waiting>(&mut self, hall: &mut H, until: u64) -> Result<bool, AllocError>
+        requires can { CanServe self.old.party.me self.old.party (H.state hall.old) }
+        requires before { H.pending (H.state hall.old).clock until ≡ H.scale }
+        ensures turned { (steps : List MailStep) × Did self.old.party.me steps (H.state hall.old) (H.state hall.new)
+            × IsTurned (H.state hall.old).count until self.old.party self.new.party steps (result_ok result) }
+        ensures falls { OnOk result (left_to_do H.scale H.pending self.new.party (H.state hall.new) + H.pending
+            (H.state hall.new).clock until < left_to_do H.scale H.pending self.old.party (H.state hall.old) + H.pending
+            (H.state hall.old).clock until) }
+        ensures asks { LeavesAsked self.old.party self.new.party }
+        ensures stays { StaysIn self.old.party.me self.old.party self.new.party (H.state hall.old) (H.state hall.new) }
+        ensures context { self.new.context ≡ self.old.context }
+        ensures goes_on { H.goes_on hall.old hall.new }
+    {
+        self.server.turn(hall, until)
+    }
+
+    // Asks the coordinator for pages for a heap that it holds.
+    pub(crate) fn ask<H: Waiting>(
+        &mut self,
+        hall: &mut H,
+        asked: &PagesAsked,
+    ) -> Result<Option<Run>, AllocError>
+        requires can { CanServe self.old.party.me self.old.party (H.state hall.old) }
+        requires holds { IsSome ((H.state hall.old).part self.old.party.me asked.now.heap).holding }
+        requires settled { HasSettledAsks self.old.party.me ((H.state hall.old).part self.old.party.me) ((H.state hall.old).heard
+            self.old.party.me) }
+        ensures did { IfOk result (λ run. (steps : List MailStep) × Did self.old.party.me steps (H.state hall.old) (H.state hall.new)
+            × DoesAsk (H.state hall.old).count self.old.party self.new.party asked.now steps run) }
+        ensures asked { IfOk result (λ run. IsAsked ((H.state hall.new).seen self.old.party.me) ((H.state hall.new).heard
+            self.old.party.me) self.old.party.me self.old.party.asked self.new.party.asked asked.now run) }
+        ensures grows { IfOk result (λ run. GrowsHeld asked.now.heap run ((H.state hall.old).part self.old.party.me
+            asked.now.heap) ((H.state hall.new).part self.old.party.me asked.now.heap)) }
+        ensures settled { OnOk result (HasSettledAsks self.old.party.me ((H.state hall.new).part self.old.party.me) ((H.state
+            hall.new).heard self.old.party.me)) }
+        ensures others { (heap : ℕ) → heap ≢ asked.now.heap
+            → IsHeldAsBefore ((H.state hall.old).part self.old.party.me heap) ((H.state hall.new).part self.old.party.me heap) }
+        ensures err { OnErr result ((heap : ℕ)
+            → IsHeldAsBefore ((H.state hall.old).part self.old.party.me heap) ((H.state hall.new).part self.old.party.me heap)) }
+        ensures clock { RisesWithin H.pending (λ hall. IsBusy (H.state hall)) (longest_wait self.old.party.deadline)
+            (H.state hall.old).clock (H.state hall.new).clock }
+        ensures remains { RemainsIn self.old.party.me self.old.party self.new.party (H.state hall.old) (H.state hall.new) }
+        ensures context { self.new.context ≡ self.old.context }
+        ensures goes_on { H.goes_on hall.old hall.new }
+    {
+        self.server.ask(hall, asked)
+    }
+
+    // Gives up a run that was cut from a heap that it holds.
+    pub(crate) fn retire<H: Hall>(&self, hall: &mut H, heap: u32, run: &Run)
+        requires may { MayHold self.now.party.me (H.state hall.old) }
+        requires cut { (holding : Holding) × (left : PlainHeap)
+            × (((H.state hall.old).part self.now.party.me heap).holding ≡ Some holding) × IsCutFrom heap run.now holding left }
+        ensures gives_up { GivesUp heap run.now ((H.state hall.old).part self.now.party.me heap)
+            ((H.state hall.new).part self.now.party.me heap) }
+        ensures others { (other : ℕ) → other ≢ heap → (H.state hall.new).part self.now.party.me other
+            ≡ (H.state hall.old).part self.now.party.me other }
+        ensures did { (taken : SegsView) × Did self.now.party.me (takes_segments taken
+            ∷ gives_segments (after_retire heap run.now taken) ∷ []) (H.state hall.old) (H.state hall.new) }
+        ensures stays { StaysButParts self.now.party.me (H.state hall.old) (H.state hall.new) }
+        ensures goes_on { H.goes_on hall.old hall.new }
+    {
+        self.server.retire(hall, heap, run);
+    }
+
+    // Tells the coordinator that a run of a heap was given up.
+    pub(crate) fn notify<H: Waiting>(
+        &mut self,
+        hall: &mut H,
+        heap: u32,
+        run: &Run,
+    ) -> Result<(), AllocError>
+        requires can { CanServe self.old.party.me self.old.party (H.state hall.old) }
+        ensures did { OnOk result ((steps : List MailStep) × Did self.old.party.me steps (H.state hall.old) (H.state hall.new)
+            × DoesNotify (H.state hall.old).count self.old.party self.new.party heap run.now steps) }
+        ensures asked { OnOk result (self.new.party.asked ≡ self.old.party.asked + 1) }
+        ensures clock { RisesWithin H.pending (λ hall. IsBusy (H.state hall)) (longest_wait self.old.party.deadline)
+            (H.state hall.old).clock (H.state hall.new).clock }
+        ensures stays { StaysIn self.old.party.me self.old.party self.new.party (H.state hall.old) (H.state hall.new) }
+        ensures context { self.new.context ≡ self.old.context }
+        ensures goes_on { H.goes_on hall.old hall.new }
+    {
+        self.server.notify(hall, heap, run)
+    }
+
+    // Catches up with the whole log and comes into the roster, or has no table.
+    pub(crate) fn attach<H: Hall>(&mut self, hall: &mut H) -> Caught
+        requires secondary { 0 < self.old.party.me }
+        requires may { MayHold self.old.party.me (H.state hall.old) }
+        requires tied { IsTiedIn self.old.party.me self.old.party (H.state hall.old) }
+        requires calls { calls_of self.old.party.maps ≤ 2 ^ 63 }
+        ensures did { (segs : SegsView) × Attaches self.old.party self.new.party segs.log result
+            × Did self.old.party.me (takes_segments segs ∷ (acks_behind result (length segs.log)
+            ++ (gives_segments (after_attaching self.old.party.me result segs) ∷ []))) (H.state hall.old) (H.state hall.new) }
+        ensures tied { IsTiedIn self.old.party.me self.new.party (H.state hall.new) }
+        ensures failed { is_done result ≡ false
+            → (H.state hall.new).own self.old.party.me ≡ (H.state hall.old).own self.old.party.me }
+        ensures roster { (H.state hall.new).joined self.old.party.me
+            ≡ ((H.state hall.old).joined self.old.party.me || is_done result) }
+        ensures context { self.new.context ≡ self.old.context }
+        ensures stays { StaysButRoster self.old.party.me (H.state hall.old) (H.state hall.new) }
+        ensures goes_on { H.goes_on hall.old hall.new }
+    {
+        self.server.attach(hall)
+    }
+
+    // Leaves the roster, and has no table.
+    pub(crate) fn detach<H: Hall>(&mut self, hall: &mut H)
+        requires secondary { 0 < self.old.party.me }
+        requires may { MayHold self.old.party.me (H.state hall.old) }
+        requires tied { IsTiedIn self.old.party.me self.old.party (H.state hall.old) }
+        ensures party { self.new ≡ record self.old { party = after_detaching self.old.party } }
+        ensures did { (segs : SegsView) × Did self.old.party.me (takes_segments segs
+            ∷ gives_segments (after_leave self.old.party.me segs) ∷ []) (H.state hall.old) (H.state hall.new) }
+        ensures tied { IsTiedIn self.old.party.me self.new.party (H.state hall.new) }
+        ensures roster { (H.state hall.new).joined self.old.party.me ≡ false }
+        ensures stays { StaysButRoster self.old.party.me (H.state hall.old) (H.state hall.new) }
+        ensures goes_on { H.goes_on hall.old hall.new }
+    {
+        self.server.detach(hall);
+    }
+}

@@ -1,0 +1,17 @@
+pub mod AskSteps
+pub mod Asking
+pub mod Attaching
+pub mod Clocks
+pub mod Coordinating
+pub mod Ending
+pub mod Falling
+pub mod Frames
+pub mod InHall
+pub mod Looking
+pub mod Party
+pub mod Posting
+pub mod SegmentSlot
+pub mod Serving
+pub mod Servings
+pub mod Tied
+pub mod Waiting

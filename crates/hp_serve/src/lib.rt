@@ -1,0 +1,30 @@
+//! What participants do in any hall between their lines: how they serve, wait, ask for pages and give them up, attach and detach.
+#![tactic(auto)]
+
+mod arming;
+mod asking;
+mod attaching;
+mod calls;
+mod catching;
+mod end;
+mod following;
+mod framing;
+mod handing;
+mod laws;
+mod mapping;
+mod own_posts;
+mod pages_asked;
+mod polling;
+mod posting;
+mod retiring;
+mod sent;
+mod server;
+mod settling;
+
+pub use calls::{put_back, take_segments};
+pub use end::End;
+pub use framing::framed;
+pub use laws::{asking_law, served_law};
+pub use pages_asked::PagesAsked;
+pub use sent::Sent;
+pub use server::Server;
