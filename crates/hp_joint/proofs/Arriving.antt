@@ -8,15 +8,14 @@ use Rattle.hp_plain.specs.Course.{IsCourse}
 use Rattle.hp_plain.specs.HallView.{HallView, own_at, seen_in}
 use Rattle.hp_log.specs.declared.log_record.LogRecord.{LogRecord}
 use Rattle.hp_script.specs.declared.workload.Workload.{Workload}
-use Rattle.hp_proc.specs.Contexts.{Context}
 use Rattle.hp_proc.specs.Courses.{Standing}
 use Rattle.hp_proc.specs.Doing.{Done}
-use Rattle.hp_proc.specs.LinesDone.{Course, courses_of, opening_standing, standing_after}
+use Rattle.hp_proc.specs.LinesDone.{Course}
 use Rattle.hp_serve.specs.Party.{Party}
 use Rattle.hp_serve.specs.Tied.{part_of}
 use Rattle.hp_joint.specs.EndLaws.{MayFailAsBefore}
 use Rattle.hp_joint.specs.Seats.{Seat}
-use Rattle.hp_joint.specs.SoFar.{IsSoFarFor, SoFar}
+use Rattle.hp_joint.specs.SoFar.{IsSoFarFor, SoFar, standing_of}
 use Rattle.hp_joint.specs.Together.{Joint, Runs}
 use Rattle.hp_joint.proofs.Attached.{AreAsLeft, HasTakenIn}
 use Rattle.hp_joint.proofs.AttachedRuns.{attached_on}
@@ -33,16 +32,12 @@ use Rattle.hp_joint.proofs.WaysOn.{AllCame, IsLast, all_have_come}
 
 module _ (workload : Workload) (courses : List Course) (parties : List Party) (hall : HallView)
     (so : SoFar workload courses parties hall) where
-  standing_is : (who : ℕ) (party : Party) → IsSoFarFor workload courses hall who party
-      → party.context.standing ≡ standing_after (opening_standing workload who) (courses_of who courses)
-  standing_is who party its = ap (λ (context : Context). context.standing) its.context
-
-  taken_there : (who : ℕ) (party : Party) → IsSoFarFor workload courses hall who party → party.joined ≡ true
-      → HasTakenIn so.now.segs.log party
-  taken_there who party its joined =
-      let records : party.context.standing.records ≡ (standing_after (opening_standing workload who) (courses_of who courses)).records =
-      ap (λ (standing : Standing). standing.records) (standing_is who party its) in
-      let number : party.maps.number ≡ (own_at hall who).number =
+  taken_there : (who : ℕ) (seat : Seat) → seat.standing ≡ standing_of workload who courses → IsSoFarFor workload courses hall who seat.party
+      → seat.party.joined ≡ true → HasTakenIn so.now.segs.log seat
+  taken_there who seat standing its joined =
+      let records : seat.standing.records ≡ (standing_of workload who courses).records =
+      ap (λ (standing : Standing). standing.records) standing in
+      let number : seat.party.maps.number ≡ (own_at hall who).number =
       its.tied.table.number ∙ ap (λ (joined : _). (part_of joined (own_at hall who)).number) joined in
       let long : length (seen_in hall) ≡ length so.now.segs.log =
       ap (λ (log : List LogRecord). length log) (log_is workload courses parties hall so) in
@@ -53,21 +48,22 @@ module _ (workload : Workload) (courses : List Course) (parties : List Party) (h
 
   pub left_so_far : AreAsLeft so.now
   left_so_far who seat there =
-      let its = so.each who seat.party (so.seats who seat there).party in
+      let sits = so.seats who seat there in
+      let its = so.each who seat.party sits.party in
       record {
-        joined = its.joined ∙ ap (λ (standing : Standing). standing.attached) (sym (standing_is who seat.party its));
-        since = taken_there who seat.party its;
+        joined = its.joined ∙ ap (λ (standing : Standing). standing.attached) (sym sits.standing);
+        since = taken_there who seat sits.standing its;
       }
 
 module _ (workload : Workload) (courses : List Course) (parties behind : List Party) (old new : HallView)
     (so : SoFar workload courses parties old) (few : workload.participants ≤ MAX_PARTICIPANTS) (course : IsCourse old new)
-    (more : ℕ → List Done)
+    (more : ℕ → List Done) (left : ℕ → Standing)
     (comes : (who : ℕ) (seat : Seat) → slice_get so.now.seats who ≡ Some seat
-    → CameTo (IsLast workload.participants behind more course.steps) who seat)
+    → CameTo (IsLast workload.participants behind more left course.steps) who seat)
     (tries : (who : ℕ) (seat : Seat) → slice_get so.now.seats who ≡ Some seat → TriesAtMostOnce seat.party.joined (more who)) where
-  pub came : AllCame workload.participants so.now behind more new
+  pub came : AllCame workload.participants so.now behind more left new
   came =
-      all_have_come workload.participants so.now behind more old new course (begins_here workload courses parties old so) comes
+      all_have_come workload.participants so.now behind more left old new course (begins_here workload courses parties old so) comes
 
   -- where they have come to
   abbrev pub next : Joint

@@ -36,8 +36,8 @@ record IsStepOf (old new : Joint) : Type 0 where
   grows : tries_in before.trace ≤ tries_in behind.trace
   is : (other : ℕ) (seat : Seat) → slice_get new.seats other ≡ Some seat → IsSeatBehind old.seats who behind other seat
   leaves_it : is_member old.segs.roster who ≡ before.party.joined
-      → (tries_in behind.trace ≡ tries_in before.trace + 1 → before.party.joined ≡ false) → IsAsLeft old.segs.log before.party
-      → IsAsLeft old.segs.log behind.party
+      → (tries_in behind.trace ≡ tries_in before.trace + 1 → before.party.joined ≡ false) → IsAsLeft old.segs.log before
+      → IsAsLeft old.segs.log behind
 
 records_long : (old new : List LogRecord) → HasRecords old new → length old ≤ length new
 records_long old new has = omega (arith, ap (λ (log : List LogRecord). length log) has.is, length-append old has.more)
@@ -120,16 +120,16 @@ module _ (count absent : ℕ) (pools : List PoolLine) (first from : Joint) (is :
     step_left : AreAsLeft mid → AreAsLeft now
     step_left was who seat here = by_seat (step.is who seat here)
       where
-        by_seat : IsSeatBehind mid.seats step.who step.behind who seat → IsAsLeft now.segs.log seat.party
+        by_seat : IsSeatBehind mid.seats step.who step.behind who seat → IsAsLeft now.segs.log seat
         by_seat (IsSeatBehind.its same its) =
             let behind : slice_get now.seats step.who ≡ Some step.behind = ap (slice_get now.seats) (sym same) ∙ here ∙ ap Some its in
-            later_log mid.segs.log now.segs.log seat.party step.longer
-            (subst (λ (seat : Seat). IsAsLeft mid.segs.log seat.party) (sym its)
+            later_log mid.segs.log now.segs.log seat step.longer
+            (subst (λ (seat : Seat). IsAsLeft mid.segs.log seat) (sym its)
             (step.leaves_it
             (roster_on count absent pools first from is before few enrolled mid runs once_before step.who step.before step.there)
             (out_before behind) (was step.who step.before step.there)))
         by_seat (IsSeatBehind.apart beside there) =
-            later_log mid.segs.log now.segs.log seat.party step.longer (was who seat there)
+            later_log mid.segs.log now.segs.log seat step.longer (was who seat there)
 
   -- so each is still attached as its lines leave it
   pub attached_on : (now : Joint) → Runs count from now → AllTryOnce now → AreAsLeft now

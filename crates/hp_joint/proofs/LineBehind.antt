@@ -15,12 +15,13 @@ use Rattle.hp_script.specs.declared.line.Line.{Line}
 use Rattle.hp_script.specs.declared.workload.Workload.{Workload}
 use Rattle.hp_proc.specs.Acting.{AreAsked}
 use Rattle.hp_proc.specs.Contexts.{Context}
-use Rattle.hp_proc.specs.Courses.{calls_in}
+use Rattle.hp_proc.specs.Courses.{Standing, calls_in}
 use Rattle.hp_proc.specs.Doing.{Done}
 use Rattle.hp_proc.specs.Ends.{history_by, none_made}
 use Rattle.hp_proc.specs.Histories.{entries_for}
 use Rattle.hp_proc.specs.LinesDone.{AreDone, Course, IsDone, courses_of, opening_standing, standing_after, trace_of}
 use Rattle.hp_serve.specs.Party.{Party}
+use Rattle.hp_proc.specs.Progress.{MayDo, moment_of}
 use Rattle.hp_proc.proofs.Joining.{asked_on}
 use Rattle.hp_joint.specs.EndLaws.{GoesBy, IsGiven}
 use Rattle.hp_joint.specs.Seats.{Seat}
@@ -28,8 +29,8 @@ use Rattle.hp_joint.specs.SoFar.{IsOfDeclared, IsSoFarFor, SoFar, trace_for}
 use Rattle.hp_joint.specs.Together.{Joint}
 use Rattle.hp_joint.proofs.Arriving.{came, last_of, runs_all}
 use Rattle.hp_joint.proofs.GrownLines.{calls_made, history_append}
-use Rattle.hp_joint.proofs.LineComes.{course_of, its, later, line_comes, line_gives, line_tries_so, more, other_more, trace, who}
-use Rattle.hp_joint.proofs.LineMore.{asked_later, context_more, context_stays, done_more, entries_more, known_next, other_courses, own_calls, own_courses, own_trace}
+use Rattle.hp_joint.proofs.LineComes.{course_of, its, knows, later, left, line_comes, line_gives, line_tries_so, more, other_more, trace, who}
+use Rattle.hp_joint.proofs.LineMore.{asked_later, context_stays, done_more, entries_more, known_next, other_courses, own_calls, own_courses, own_trace}
 use Rattle.hp_joint.proofs.OthersKnown.{known_still}
 use Rattle.hp_joint.proofs.PartsOn.{history_on}
 use Rattle.hp_joint.proofs.SoFarFacts.{seat_of}
@@ -47,7 +48,7 @@ all_own own (entry ∷ entries) all =
     ∙ ap (λ (rest : List Entry). entry ∷ rest) (all_own own entries all.1)
 
 module _ (workload : Workload) (courses : List Course) (parties behind : List Party) (old new : HallView) (line : Line) (answer : Answer)
-    (given : IsGiven workload) (so : SoFar workload courses parties old) (goes : GoesBy workload line answer parties behind old new) where
+    (given : IsGiven workload) (so : SoFar workload courses parties old) (goes : GoesBy workload courses line answer parties behind old new) where
   abbrev by : ℕ
   by = who workload courses parties behind old new line answer given so goes
 
@@ -63,10 +64,13 @@ module _ (workload : Workload) (courses : List Course) (parties behind : List Pa
   abbrev adds : ℕ → List Done
   adds = more workload courses parties behind old new line answer given so goes
 
+  abbrev leaves : ℕ → Standing
+  leaves = left workload courses parties behind old new line answer given so goes
+
   -- where all have come to
-  abbrev pub all_came : AllCame workload.participants so.now behind adds new
+  abbrev pub all_came : AllCame workload.participants so.now behind adds leaves new
   all_came =
-      came workload courses parties behind old new so given.few goes.course adds
+      came workload courses parties behind old new so given.few goes.course adds leaves
       (line_comes workload courses parties behind old new line answer given so goes)
       (line_tries_so workload courses parties behind old new line answer given so goes)
 
@@ -74,37 +78,36 @@ module _ (workload : Workload) (courses : List Course) (parties behind : List Pa
   there = record { seats = all_came.lasts; segs = all_came.gone.segs; boxes = new.boxes }
 
   -- what stood for the doer when the line began
-  abbrev before : IsSoFarFor workload courses old by goes.party
+  abbrev before : IsSoFarFor workload courses old by goes.doer.party
   before = its workload courses parties behind old new line answer given so goes
 
   -- THE DOER
 
-  own_asked : AreAsked (seen_in new) (heard_in new) by 0 goes.after.asked (trace_for by lines)
+  own_asked : AreAsked (seen_in new) (heard_in new) by 0 goes.after.party.asked (trace_for by lines)
   own_asked =
       let does = goes.does.does.does in
-      subst (λ (trace : List Done). AreAsked (seen_in new) (heard_in new) by 0 goes.after.asked trace)
+      subst (λ (trace : List Done). AreAsked (seen_in new) (heard_in new) by 0 goes.after.party.asked trace)
       (sym (own_trace workload by courses one refl))
-      (asked_on (seen_in new) (heard_in new) by 0 goes.party.asked goes.after.asked (trace_for by courses) did
-      (asked_later (seen_in old) does.more (seen_in new) (heard_in old) does.outcomes (heard_in new) by 0 goes.party.asked
+      (asked_on (seen_in new) (heard_in new) by 0 goes.doer.party.asked goes.after.party.asked (trace_for by courses) did
+      (asked_later (seen_in old) does.more (seen_in new) (heard_in old) does.outcomes (heard_in new) by 0 goes.doer.party.asked
       (trace_for by courses) does.log does.asks before.asked)
-      (subst (λ (who : ℕ). AreAsked (seen_in new) (heard_in new) who goes.party.asked goes.after.asked did) before.me does.asked))
+      (subst (λ (who : ℕ). AreAsked (seen_in new) (heard_in new) who goes.doer.party.asked goes.after.party.asked did) before.me does.asked))
 
-  own_known : IsKnownFor workload lines new by goes.after
+  own_known : IsKnownFor workload lines new by goes.after.party
   own_known =
       let does = goes.does.does.does in
       record {
         me = goes.does.same.me ∙ before.me;
         socket = goes.does.same.socket ∙ before.socket;
         deadline = goes.does.same.deadline ∙ before.deadline;
-        context = context_more workload by courses one refl goes.party.context goes.after.context before.context does.counted
-            goes.does.does.left;
         entries = λ heap.
-            entries_more goes.party.me by heap goes.party.context.calls (calls_in (trace_for by courses)) (calls_in did)
+            entries_more goes.doer.party.me by heap goes.doer.context.calls (calls_in (trace_for by courses)) (calls_in did)
             (calls_in (trace_for by lines)) (part_in old by heap).entries (part_in new by heap).entries before.me
-            (ap (λ (context : Context). context.calls) before.context) (before.entries heap) (does.entries heap)
+            (ap (λ (context : Context). context.calls) goes.knew) (before.entries heap) (does.entries heap)
             (own_calls workload by courses one refl);
         asked = own_asked;
-        ready = goes.does.ready;
+        ready = subst (λ (context : Context). MayDo (moment_of (record { party = goes.after.party; context = context }) (part_in new by)
+            (seen_in new) (heard_in new))) (knows workload courses parties behind old new line answer given so goes) goes.does.ready;
         tied = goes.does.tied;
       }
 
@@ -115,7 +118,7 @@ module _ (workload : Workload) (courses : List Course) (parties behind : List Pa
   other_known other after beside below behind_at =
       let seat = seat_of workload courses parties old so other below in
       let last =
-      last_of workload courses parties behind old new so given.few goes.course adds
+      last_of workload courses parties behind old new so given.few goes.course adds leaves
       (line_comes workload courses parties behind old new line answer given so goes)
       (line_tries_so workload courses parties behind old new line answer given so goes) other below in
       let were = all_came.were other last.it last.there in
@@ -129,7 +132,7 @@ module _ (workload : Workload) (courses : List Course) (parties behind : List Pa
       let party_is = (so.seats other seat.it seat.there).party in
       let far = goes.others other seat.it.party after beside party_is behind_at in
       known_still workload courses lines parties old new so goes.course goes.home there
-      (runs_all workload courses parties behind old new so given.few goes.course adds
+      (runs_all workload courses parties behind old new so given.few goes.course adds leaves
       (line_comes workload courses parties behind old new line answer given so goes)
       (line_tries_so workload courses parties behind old new line answer given so goes))
       all_came.gone.its (λ other. other ≡ by) (line_gives workload courses parties behind old new line answer given so goes) other beside
@@ -142,7 +145,7 @@ module _ (workload : Workload) (courses : List Course) (parties behind : List Pa
   line_known other after behind_at =
       ⊎_elim
       (λ (same : other ≡ by).
-      let own : after ≡ goes.after = same_Some after goes.after (sym behind_at ∙ ap (slice_get behind) same ∙ goes.behind_is) in
+      let own : after ≡ goes.after.party = same_Some after goes.after.party (sym behind_at ∙ ap (slice_get behind) same ∙ goes.behind_is) in
       subst (λ (other : ℕ). IsKnownFor workload lines new other after) (sym same)
       (subst (λ (after : Party). IsKnownFor workload lines new by after) (sym own) own_known))
       (λ (beside : other ≢ by).
@@ -157,7 +160,7 @@ module _ (workload : Workload) (courses : List Course) (parties behind : List Pa
   pub line_is_done : IsDone workload (standing_after (opening_standing workload by) (courses_of by courses)) one
   line_is_done = record {
     facts = goes.does.does.facts;
-    known = known_next workload by courses goes.party.socket goes.party.context line goes.does.does.facts before.socket before.context refl
+    known = known_next workload by courses goes.doer.party.socket goes.doer.context line goes.does.does.facts before.socket goes.knew refl
         goes.does.does.known;
     does = goes.does.does.does.leads;
   }
@@ -182,17 +185,17 @@ module _ (workload : Workload) (courses : List Course) (parties behind : List Pa
       let does = goes.does.does.does in
       let own : entries_of by (history_in (slot_at old index)) ++ came.more
       ≡ entries_of by (history_in (slot_at old index))
-      ++ entries_for goes.party.me index (goes.party.context.calls + 1) (calls_in did) =
+      ++ entries_for goes.doer.party.me index (goes.doer.context.calls + 1) (calls_in did) =
       ap (λ (entries : List Entry). entries_of by (history_in (slot_at old index)) ++ entries) (sym (all_own by came.more came.all))
       ∙ sym (entries_of-append by (history_in (slot_at old index)) came.more)
       ∙ sym (ap (entries_of by) came.is)
       ∙ does.entries index in
-      let is : came.more ≡ entries_for goes.party.me index (goes.party.context.calls + 1) (calls_in did) =
+      let is : came.more ≡ entries_for goes.doer.party.me index (goes.doer.context.calls + 1) (calls_in did) =
       append_cancel_left (entries_of by (history_in (slot_at old index))) came.more _ own in
       came.is
       ∙ ap (λ (entries : List Entry). history_in (slot_at old index) ++ entries) is
-      ∙ ap (λ (who : ℕ). history_in (slot_at old index) ++ entries_for who index (goes.party.context.calls + 1) (calls_in did)) before.me
-      ∙ ap (λ (context : Context). history_in (slot_at old index) ++ entries_for by index (context.calls + 1) (calls_in did)) before.context
+      ∙ ap (λ (who : ℕ). history_in (slot_at old index) ++ entries_for who index (goes.doer.context.calls + 1) (calls_in did)) before.me
+      ∙ ap (λ (context : Context). history_in (slot_at old index) ++ entries_for by index (context.calls + 1) (calls_in did)) goes.knew
 
   pub line_in_order : (index : ℕ) → history_in (slot_at new index) ≡ history_by index none_made lines
   line_in_order index =

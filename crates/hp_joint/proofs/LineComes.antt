@@ -9,15 +9,16 @@ use Rattle.hp_script.specs.declared.answer.Answer.{Answer}
 use Rattle.hp_script.specs.declared.line.Line.{Line}
 use Rattle.hp_script.specs.declared.workload.Workload.{Workload}
 use Rattle.hp_proc.specs.Contexts.{Context}
+use Rattle.hp_proc.specs.Courses.{Standing}
 use Rattle.hp_proc.specs.Doing.{Done}
 use Rattle.hp_proc.specs.LinesDone.{Course, trace_of}
 use Rattle.hp_serve.specs.Party.{Party}
 use Rattle.hp_joint.specs.EndLaws.{GoesBy, IsGiven, ServesBeside}
 use Rattle.hp_joint.specs.Seats.{Seat}
-use Rattle.hp_joint.specs.SoFar.{IsSoFarFor, SoFar, trace_for}
+use Rattle.hp_joint.specs.SoFar.{IsSoFarFor, SoFar, context_of, standing_of, trace_for}
 use Rattle.hp_joint.proofs.HeapGivers.{GiveNoHeap, NoOtherGives}
 use Rattle.hp_joint.proofs.LastSeats.{CameTo}
-use Rattle.hp_joint.proofs.LineMore.{other_courses, own_trace}
+use Rattle.hp_joint.proofs.LineMore.{context_more, context_stays, other_courses, own_trace}
 use Rattle.hp_joint.proofs.LineTries.{TriesAtMostOnce, line_tries}
 use Rattle.hp_joint.proofs.Paths.{Comes}
 use Rattle.hp_joint.proofs.PathsActing.{acts_path}
@@ -32,7 +33,7 @@ pub none_tried : (joined : _) → TriesAtMostOnce joined []
 none_tried joined = record { once = omega arith; out = λ some. absurd (omega (arith, some)) }
 
 module _ (workload : Workload) (courses : List Course) (parties behind : List Party) (old new : HallView) (line : Line) (answer : Answer)
-    (given : IsGiven workload) (so : SoFar workload courses parties old) (goes : GoesBy workload line answer parties behind old new) where
+    (given : IsGiven workload) (so : SoFar workload courses parties old) (goes : GoesBy workload courses line answer parties behind old new) where
   abbrev pub who : ℕ
   who = line.participant
 
@@ -49,18 +50,28 @@ module _ (workload : Workload) (courses : List Course) (parties behind : List Pa
   abbrev pub more : ℕ → List Done
   more other = cond (other == who) trace []
 
+  -- and what the lines of each left
+  abbrev pub left : ℕ → Standing
+  left other = standing_of workload other later
+
   pub own_more : more who ≡ trace
   own_more = cond-true (who == who) trace [] (eq-eqb who who refl)
 
   pub other_more : (other : ℕ) → other ≢ who → more other ≡ []
   other_more other beside = cond-false (other == who) trace [] (ne_eqb other who beside)
 
-  pub its : IsSoFarFor workload courses old who goes.party
-  its = so.each who goes.party goes.before_is
+  pub its : IsSoFarFor workload courses old who goes.doer.party
+  its = so.each who goes.doer.party goes.before_is
+
+  -- what it knows behind its line
+  pub knows : goes.after.context ≡ context_of workload who later
+  knows =
+      context_more workload who courses course_of refl goes.doer.context goes.after.context goes.knew goes.does.does.does.counted
+      goes.does.does.left
 
   -- the participant of each seat
-  pub sits : (seat : Seat) → slice_get so.now.seats who ≡ Some seat → seat.party ≡ goes.party
-  sits seat there = same_Some seat.party goes.party (sym (so.seats who seat there).party ∙ goes.before_is)
+  pub sits : (seat : Seat) → slice_get so.now.seats who ≡ Some seat → seat.party ≡ goes.doer.party
+  sits seat there = same_Some seat.party goes.doer.party (sym (so.seats who seat there).party ∙ goes.before_is)
 
   -- what each other one came to, and what it served
   pub other_behind : (other : ℕ) (party : Party) → other ≢ who → slice_get parties other ≡ Some party
@@ -70,17 +81,20 @@ module _ (workload : Workload) (courses : List Course) (parties behind : List Pa
       (after.it, after.there, goes.others other party after.it beside there after.there)
 
   own_comes : (seat : Seat) → slice_get so.now.seats who ≡ Some seat
-      → CameTo (IsLast workload.participants behind more goes.course.steps) who seat
+      → CameTo (IsLast workload.participants behind more left goes.course.steps) who seat
   own_comes seat there =
       let did = goes.does.does.does in
-      let long : goes.party.deadline ≤ longest = subst (λ (deadline : ℕ). deadline ≤ longest) (sym its.deadline) given.deadline in
-      let comes = acts_path workload.participants who goes.party goes.after trace did.steps did.acts its.me long seat (sits seat there) in
-      came_by workload.participants who behind more goes.course.steps seat goes.after did.steps goes.behind_is
+      let long : goes.doer.party.deadline ≤ longest = subst (λ (deadline : ℕ). deadline ≤ longest) (sym its.deadline) given.deadline in
+      let comes = acts_path workload.participants who goes.doer goes.after trace did.steps did.acts its.me long seat (sits seat there)
+      ((so.seats who seat there).standing ∙ sym (ap (λ (context : Context). context.standing) goes.knew)) in
+      came_by workload.participants who behind more left goes.course.steps seat goes.after.party did.steps goes.behind_is
       (steps_done old new goes.course who did.steps did.made)
-      (subst (λ (more : List Done). Comes workload.participants who goes.after more did.steps seat) (sym own_more) comes)
+      (subst (λ (more : List Done). Comes workload.participants who goes.after.party (left who) more did.steps seat) (sym own_more)
+      (subst (λ (left : Standing). Comes workload.participants who goes.after.party left trace did.steps seat)
+      (ap (λ (context : Context). context.standing) knows) comes))
 
   other_comes : (other : ℕ) (seat : Seat) → other ≢ who → slice_get so.now.seats other ≡ Some seat
-      → CameTo (IsLast workload.participants behind more goes.course.steps) other seat
+      → CameTo (IsLast workload.participants behind more left goes.course.steps) other seat
   other_comes other seat beside there =
       let party_is = (so.seats other seat there).party in
       let far = other_behind other seat.party beside party_is in
@@ -88,27 +102,30 @@ module _ (workload : Workload) (courses : List Course) (parties behind : List Pa
       let comes =
       serves_path workload.participants other seat.party far.0 served.steps served.serves
       (so.each other seat.party party_is).me seat refl in
-      came_by workload.participants other behind more goes.course.steps seat far.0 served.steps far.1
+      came_by workload.participants other behind more left goes.course.steps seat far.0 served.steps far.1
       (steps_done old new goes.course other served.steps served.did)
-      (subst (λ (more : List Done). Comes workload.participants other far.0 more served.steps seat) (sym (other_more other beside)) comes)
+      (subst (λ (more : List Done). Comes workload.participants other far.0 (left other) more served.steps seat) (sym (other_more other beside))
+      (subst (λ (left : Standing). Comes workload.participants other far.0 left [] served.steps seat)
+      ((so.seats other seat there).standing ∙ sym (ap (λ (context : Context). context.standing) (context_stays workload other courses course_of beside)))
+      comes))
 
   pub line_comes : (other : ℕ) (seat : Seat) → slice_get so.now.seats other ≡ Some seat
-      → CameTo (IsLast workload.participants behind more goes.course.steps) other seat
+      → CameTo (IsLast workload.participants behind more left goes.course.steps) other seat
   line_comes other seat there =
       ⊎_elim
       (λ (same : other ≡ who).
-      subst (λ (other : ℕ). CameTo (IsLast workload.participants behind more goes.course.steps) other seat) (sym same)
+      subst (λ (other : ℕ). CameTo (IsLast workload.participants behind more left goes.course.steps) other seat) (sym same)
       (own_comes seat (ap (slice_get so.now.seats) (sym same) ∙ there)))
       (λ (beside : other ≢ who). other_comes other seat beside there)
       (cases_eq other who)
 
   -- the doer tries to attach once at most, and was out when it did
-  own_tries : TriesAtMostOnce goes.party.joined trace
+  own_tries : TriesAtMostOnce goes.doer.party.joined trace
   own_tries =
       let did = goes.does.does in
-      let attached : did.facts.attached ≡ goes.party.joined =
+      let attached : did.facts.attached ≡ goes.doer.party.joined =
       did.known.attached
-      ∙ ap (λ (context : Context). context.standing.attached) its.context
+      ∙ ap (λ (context : Context). context.standing.attached) goes.knew
       ∙ sym its.joined in
       subst (λ joined. TriesAtMostOnce joined trace) attached
       (line_tries who line did.facts answer trace goes.built did.does.leads)

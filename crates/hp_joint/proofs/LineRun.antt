@@ -7,7 +7,7 @@ use Rattle.hp_log.specs.declared.log_record.LogRecord.{LogRecord}
 use Rattle.hp_script.specs.declared.workload.Workload.{Workload}
 use Rattle.hp_segs.specs.declared.outcome.AskLog.{AskLog}
 use Rattle.hp_proc.specs.Acting.{AreAsked}
-use Rattle.hp_proc.specs.Courses.{numbered_in}
+use Rattle.hp_proc.specs.Courses.{Standing, numbered_in}
 use Rattle.hp_proc.specs.Doing.{Done}
 use Rattle.hp_proc.specs.LinesDone.{Course}
 use Rattle.hp_serve.specs.Party.{Party}
@@ -24,7 +24,7 @@ use Rattle.hp_joint.proofs.SoFarOn.{IsKnownFor}
 use Rattle.hp_joint.proofs.WaysOn.{AllCame}
 
 module _ (workload : Workload) (courses later : List Course) (parties behind : List Party) (old new : HallView)
-    (so : SoFar workload courses parties old) (more : ℕ → List Done) (came : AllCame workload.participants so.now behind more new)
+    (so : SoFar workload courses parties old) (more : ℕ → List Done) (left : ℕ → Standing) (came : AllCame workload.participants so.now behind more left new)
     (traces : (who : ℕ) → trace_for who later ≡ trace_for who courses ++ more who)
     (known : (who : ℕ) (after : Party) → slice_get behind who ≡ Some after → IsKnownFor workload later new who after) where
   abbrev there : Joint

@@ -10,6 +10,7 @@ use Rattle.hp_script.specs.declared.line.Line.{Line}
 use Rattle.hp_script.specs.declared.workload.Workload.{Workload}
 use Rattle.hp_segs.specs.Returned.{returned_runs}
 use Rattle.hp_segs.specs.SegsView.{SegsView}
+use Rattle.hp_proc.specs.Courses.{Standing}
 use Rattle.hp_proc.specs.Doing.{Done}
 use Rattle.hp_proc.specs.Ends.{history_by, none_made}
 use Rattle.hp_proc.specs.Histories.{granted_runs, grown_runs}
@@ -26,7 +27,7 @@ use Rattle.hp_joint.proofs.GoneSoFar.{all_back}
 use Rattle.hp_joint.proofs.LastSeats.{CameTo}
 use Rattle.hp_joint.proofs.LineBehind.{all_came, line_built, line_done, line_in_order, line_is_done, line_known, there}
 use Rattle.hp_joint.proofs.LineClauses.{asks_of_each}
-use Rattle.hp_joint.proofs.LineComes.{course_of, later, line_comes, line_traces, line_tries_so, more, other_more, own_more, trace, who}
+use Rattle.hp_joint.proofs.LineComes.{course_of, knows, later, left, line_comes, line_traces, line_tries_so, more, other_more, own_more, trace, who}
 use Rattle.hp_joint.proofs.LineRun.{line_run}
 use Rattle.hp_joint.proofs.LineSettled.{IsLineRun}
 use Rattle.hp_joint.proofs.LineTries.{TriesAtMostOnce}
@@ -36,7 +37,7 @@ use Rattle.hp_joint.proofs.SoFarOn.{AreLinesThere, so_far_on}
 use Rattle.hp_joint.proofs.WaysOn.{IsLast}
 
 module _ (workload : Workload) (courses : List Course) (parties behind : List Party) (old new : HallView) (line : Line) (answer : Answer)
-    (given : IsGiven workload) (so : SoFar workload courses parties old) (goes : GoesBy workload line answer parties behind old new) where
+    (given : IsGiven workload) (so : SoFar workload courses parties old) (goes : GoesBy workload courses line answer parties behind old new) where
   abbrev by : ℕ
   by = who workload courses parties behind old new line answer given so goes
 
@@ -52,32 +53,35 @@ module _ (workload : Workload) (courses : List Course) (parties behind : List Pa
   abbrev adds : ℕ → List Done
   adds = more workload courses parties behind old new line answer given so goes
 
+  abbrev leaves : ℕ → Standing
+  leaves = left workload courses parties behind old new line answer given so goes
+
   abbrev now : Joint
   now = there workload courses parties behind old new line answer given so goes
 
   abbrev comes : (other : ℕ) (seat : Seat) → slice_get so.now.seats other ≡ Some seat
-      → CameTo (IsLast workload.participants behind adds goes.course.steps) other seat
+      → CameTo (IsLast workload.participants behind adds leaves goes.course.steps) other seat
   comes = line_comes workload courses parties behind old new line answer given so goes
 
   abbrev tries : (other : ℕ) (seat : Seat) → slice_get so.now.seats other ≡ Some seat → TriesAtMostOnce seat.party.joined (adds other)
   tries = line_tries_so workload courses parties behind old new line answer given so goes
 
   to_there : Runs workload.participants so.first now
-  to_there = runs_all workload courses parties behind old new so given.few goes.course adds comes tries
+  to_there = runs_all workload courses parties behind old new so given.few goes.course adds leaves comes tries
 
   -- the doer's seat before and behind
   abbrev before : IsAt so.now.seats by
   before = seat_of workload courses parties old so by goes.declared
 
   abbrev last : IsAt now.seats by
-  last = last_of workload courses parties behind old new so given.few goes.course adds comes tries by goes.declared
+  last = last_of workload courses parties behind old new so given.few goes.course adds leaves comes tries by goes.declared
 
   -- the run of the line
   its_run : IsLineRun workload.participants by so.now now before.it last.it did
   its_run =
       subst (λ (trace : List Done). IsLineRun workload.participants by so.now now before.it last.it trace)
       (own_more workload courses parties behind old new line answer given so goes)
-      (line_run workload courses lines parties behind old new so adds
+      (line_run workload courses lines parties behind old new so adds leaves
       (all_came workload courses parties behind old new line answer given so goes)
       (line_traces workload courses parties behind old new line answer given so goes)
       (line_known workload courses parties behind old new line answer given so goes) by
@@ -111,13 +115,13 @@ module _ (workload : Workload) (courses : List Course) (parties behind : List Pa
   on_by_line =
       so_far_on workload courses lines parties behind old new so goes.course goes.home goes.count adds
       (all_came workload courses parties behind old new line answer given so goes) to_there
-      (enrolled_there workload courses parties behind old new so given.few goes.course adds comes tries)
-      (left_there workload courses parties behind old new so given.few goes.course adds comes tries)
+      (enrolled_there workload courses parties behind old new so given.few goes.course adds leaves comes tries)
+      (left_there workload courses parties behind old new so given.few goes.course adds leaves comes tries)
       (λ other seat at. line_traces workload courses parties behind old new line answer given so goes other)
       (line_known workload courses parties behind old new line answer given so goes) lines_there
 
   pub may_fail_still : MayFailAsBefore parties behind
-  may_fail_still = may_fail_before workload courses parties behind old new so given.few goes.course adds comes tries so.count
+  may_fail_still = may_fail_before workload courses parties behind old new so given.few goes.course adds leaves comes tries so.count
 
   -- what the hall shows of the segment value is what the run has come to
   shown_there : (segs : SegsView) → segs_in (slot_at new MAX_HEAPS) ≡ Some segs → now.segs ≡ segs
@@ -147,6 +151,7 @@ pub so_far_line : GoesOnByLine
 so_far_line workload courses parties behind old new line answer given so goes = (
   on_by_line workload courses parties behind old new line answer given so goes,
   may_fail_still workload courses parties behind old new line answer given so goes,
+  knows workload courses parties behind old new line answer given so goes,
 )
 
 -- and what was given up has gone before later lines see the log

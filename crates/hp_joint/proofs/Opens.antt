@@ -25,7 +25,6 @@ use Rattle.hp_segs.specs.LaterSteps.{armed_ask}
 use Rattle.hp_segs.specs.Opening.{is_present}
 use Rattle.hp_segs.specs.SegsView.{SegsView, is_member}
 use Rattle.hp_segs.specs.declared.ask.Ask.{Ask}
-use Rattle.hp_proc.specs.Contexts.{Context, opening_context}
 use Rattle.hp_proc.specs.Heaps.{names_socket, sockets_of}
 use Rattle.hp_proc.specs.LinesDone.{opening_standing}
 use Rattle.hp_serve.specs.Party.{Party, first_core}
@@ -35,9 +34,9 @@ use Rattle.hp_proc.proofs.Joining.{asked_none}
 use Rattle.hp_proc.proofs.Unarmed.{all_alike}
 use Rattle.hp_joint.proofs.FirstSegs.{armed_first, member_first, present_declared, sound_first}
 use Rattle.hp_joint.specs.Seats.{Seat}
-use Rattle.hp_joint.specs.SoFar.{AreFirstHeaps, IsOfDeclared, IsSoFarFor, SoFar, context_of, first_hall, first_segs}
+use Rattle.hp_joint.specs.SoFar.{AreFirstHeaps, IsOfDeclared, IsSoFarFor, SoFar, doer_of, first_hall, first_segs, standing_of}
 use Rattle.hp_joint.specs.Together.{IsFirst, IsFirstSeat, Joint, Runs}
-use Rattle.hp_joint.specs.EndLaws.{IsFirstParty, IsGiven, OpensSoFar, said_in}
+use Rattle.hp_joint.specs.EndLaws.{IsFirstParty, IsGiven, OpensSoFar}
 use Rattle.hp_joint.proofs.PartsOn.{log_shown}
 
 -- no more sockets are named than there are
@@ -96,7 +95,13 @@ tied_first log own joined maps none nothing empty first room =
 
 -- a participant before its first step, with nothing done
 abbrev first_seat : Party → Seat
-first_seat party = record { party = party; trace = []; fetched = []; asking = None }
+first_seat party = record {
+  party = party;
+  standing = record { attached = party.joined; records = 0; elements = [] };
+  trace = [];
+  fetched = [];
+  asking = None;
+}
 
 -- a seat of one of these participants
 record IsSeatFor (parties : List Party) (who : ℕ) (seat : Seat) : Type 0 where
@@ -138,14 +143,12 @@ module _ (workload : Workload) (heaps : List HeapView) (given : IsGiven workload
     its_maps : party.maps ≡ is.maps
     its_maps = ap (λ (party : Party). party.maps) is.is
 
-    its_context : party.context ≡ opening_context (said_in workload) present
-    its_context = ap (λ (party : Party). party.context) is.is
-
     attached : present ≡ (opening_standing workload who).attached
     attached = present_declared workload.participants workload.absent who below
 
-    context_first : party.context ≡ context_of workload who []
-    context_first = its_context ∙ ap (λ (attached : Bool). opening_context (said_in workload) attached) attached
+    standing_first : (first_seat party).standing ≡ standing_of workload who []
+    standing_first =
+        ap (λ (attached : Bool). record { attached = attached; records = 0; elements = [] }) (its_joined ∙ attached)
 
     seat_first : IsFirstSeat who value (first_seat party)
     seat_first = record {
@@ -175,13 +178,12 @@ module _ (workload : Workload) (heaps : List HeapView) (given : IsGiven workload
         (λ place past. slice_get_past (sockets_of workload.pools.items) place
         (omega (arith, past, few_sockets workload.pools.items, first_heaps.in_order.count)))
 
-    ready_first : MayDo (moment_of party (part_in opened who) (seen_in opened) (heard_in opened))
+    ready_first : MayDo (moment_of (doer_of workload who [] party) (part_in opened who) (seen_in opened) (heard_in opened))
     ready_first = record {
-      sockets = λ heap. sockets_first heap
-          ∙ ap (λ (context : Context). slice_get (sockets_of context.pools) heap) (sym context_first);
+      sockets = sockets_first;
       unheld = λ heap. opened_unheld heaps value workload.participants who heap;
       settled = λ heap ask armed. absurd (none_armed (part_in opened who heap).armed ask (unarmed heap) armed);
-      counted = ap (λ (context : Context). context.calls) context_first ∙ sym (entries_made-none (part_in opened who) nothing_made);
+      counted = sym (entries_made-none (part_in opened who) nothing_made);
     }
 
     so_first : IsSoFarFor workload [] opened who party
@@ -191,7 +193,6 @@ module _ (workload : Workload) (heaps : List HeapView) (given : IsGiven workload
       deadline = ap (λ (party : Party). party.deadline) is.is;
       joined = its_joined ∙ attached;
       since = λ its. omega arith;
-      context = context_first;
       entries = nothing_made;
       asked = asked_none (seen_in opened) (heard_in opened) who 0 party.asked (ap (λ (party : Party). party.asked) is.is);
       ready = ready_first;
@@ -243,6 +244,8 @@ module _ (workload : Workload) (heaps : List HeapView) (given : IsGiven workload
           let its = its_seat parties who seat at in
           record {
             party = its.there ∙ ap (λ (seat : Seat). Some seat.party) (sym its.is);
+            standing = ap (λ (seat : Seat). seat.standing) its.is
+                ∙ standing_first who (declared who its.party its.there) its.party (are who its.party its.there);
             trace = ap (λ (seat : Seat). seat.trace) its.is;
           };
       roster = λ who seat at. sym (seat_at who seat at).joined;

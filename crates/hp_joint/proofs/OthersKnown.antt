@@ -25,7 +25,7 @@ use Rattle.hp_serve.specs.Party.{IsSameParty, Party}
 use Rattle.hp_proc.specs.Progress.{MayDo, moment_of}
 use Rattle.hp_serve.specs.Tied.{IsTied}
 use Rattle.hp_joint.specs.Seats.{Seat}
-use Rattle.hp_joint.specs.SoFar.{IsSoFarFor, SoFar, context_of, trace_for}
+use Rattle.hp_joint.specs.SoFar.{IsSoFarFor, SoFar, context_of, doer_of, trace_for}
 use Rattle.hp_joint.specs.Together.{Joint, Runs}
 use Rattle.hp_joint.proofs.AsksSettled.{closed_of}
 use Rattle.hp_joint.proofs.HeapGivers.{NoOtherGives}
@@ -94,15 +94,15 @@ module _ (workload : Workload) (courses later : List Course) (parties : List Par
     entries : (heap : ℕ) → (part_in new who heap).entries ≡ (part_in old who heap).entries
     entries heap = entries_rest of old new course gives who apart heap
 
-    ready : MayDo (moment_of after (part_in new who) (seen_in new) (heard_in new))
+    ready : MayDo (moment_of (doer_of workload who later after) (part_in new who) (seen_in new) (heard_in new))
     ready = record {
       sockets = λ heap.
           serves_still old new course heap ∙ its.ready.sockets heap
-          ∙ ap (λ (context : Context). slice_get (sockets_of context.pools) heap) (sym same.context);
+          ∙ ap (λ (context : Context). slice_get (sockets_of context.pools) heap) (sym context);
       unheld = λ heap. unheld_at_home new home (slots_still old new course (slots_so_far workload courses parties old so)) who heap;
       settled = settled;
       counted =
-          ap (λ (context : Context). context.calls) same.context
+          ap (λ (context : Context). context.calls) context
           ∙ its.ready.counted
           ∙ sym (made_alike (part_in old who) (part_in new who) (range_with_len 0 SLOTS) entries);
     }
@@ -112,7 +112,6 @@ module _ (workload : Workload) (courses later : List Course) (parties : List Par
       me = same.me ∙ its.me;
       socket = same.socket ∙ its.socket;
       deadline = same.deadline ∙ its.deadline;
-      context = same.context ∙ its.context ∙ sym context;
       entries = λ heap. entries heap ∙ its.entries heap ∙ ap (λ (trace : List Done). entries_for who heap 1 (calls_in trace)) (sym trace);
       asked = subst (λ (trace : List Done). AreAsked (seen_in new) (heard_in new) who 0 after.asked trace) (sym trace) asked;
       ready = ready;

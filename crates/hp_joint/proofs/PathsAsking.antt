@@ -33,6 +33,7 @@ pub record Acted (count who : ℕ) (party after : Party) (more : List Done) (ste
   pub behind : Seat
   pub me : after.me ≡ party.me
   pub deadline : after.deadline ≡ party.deadline
+  pub standing : behind.standing ≡ seat.standing
   pub trace : behind.trace ≡ seat.trace ++ more
   pub path : Path count who (seated party seat) (seated after behind) steps
 
@@ -49,6 +50,7 @@ module _ (count who : ℕ) where
     behind = serves.behind;
     me = serves.me;
     deadline = serves.deadline;
+    standing = serves.standing;
     trace = serves.trace ∙ sym (append-nil seat.trace);
     path = serves.path;
   }
@@ -61,6 +63,7 @@ module _ (count who : ℕ) where
     behind = next.behind;
     me = next.me ∙ here.me;
     deadline = next.deadline ∙ here.deadline;
+    standing = next.standing ∙ here.standing;
     trace = next.trace ∙ ap (λ (trace : List Done). trace ++ rest) here.trace ∙ append_assoc seat.trace more rest;
     path = path_then count who (seated party seat) (seated mid here.behind) (seated after next.behind) first last here.path next.path;
   }
@@ -73,6 +76,7 @@ module _ (count who : ℕ) where
     behind = next.behind;
     me = next.me ∙ here.me;
     deadline = next.deadline ∙ here.deadline;
+    standing = next.standing ∙ here.standing;
     trace = next.trace ∙ here.trace;
     path = path_by count who (seated party seat) (seated after next.behind) (first ++ last) steps did
         (path_then count who (seated party seat) (seated mid here.behind) (seated after next.behind) first last here.path next.path);
@@ -108,6 +112,7 @@ module _ (count who : ℕ) where
         behind = behind;
         me = refl;
         deadline = refl;
+        standing = refl;
         trace = refl;
         path = path_by count who (seated party seat) (seated new behind) _ steps did
             (path_quietly count who (seated party seat) (seated mid behind) (seated new behind) _
@@ -131,6 +136,7 @@ module _ (count who : ℕ) (ask : Ask) (party : Party) (from : ask.from ≡ who)
         me = refl;
         deadline = refl;
         asked = refl;
+        standing = refl;
         trace = refl;
         path = path_handle count who (seated party seat) (seated party seat) taken other handles;
       })
@@ -222,6 +228,7 @@ module _ (count who : ℕ) where
         behind = behind;
         me = refl;
         deadline = refl;
+        standing = refl;
         trace = refl;
         path = path_quietly count who (seated party seat) (seated mid behind) (seated new behind) _ posts
             (Quietly.counts (seated mid behind) new.sent);

@@ -42,6 +42,7 @@ module _ (count who : ℕ) where
     me = me;
     deadline = deadline;
     asked = asked;
+    standing = refl;
     trace = refl;
     path = path_quietly count who (seated party seat) (seated party seat) (seated after seat) steps path quiet;
   }

@@ -98,6 +98,6 @@ module _ (count who : ℕ) where
 
   -- what a seat comes to
   pub serves_path : (party after : Party) (steps : List MailStep) → ServesOn count party after steps → party.me ≡ who → (seat : Seat)
-      → seat.party ≡ party → Comes count who after [] steps seat
+      → seat.party ≡ party → Comes count who after seat.standing [] steps seat
   serves_path party after steps served me seat is =
       comes_by count who party after steps seat is (serving_on party after steps served me seat)

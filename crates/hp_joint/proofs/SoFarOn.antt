@@ -9,20 +9,19 @@ use Rattle.hp_plain.specs.HallView.{HallView, heard_in, history_in, own_at, part
 use Rattle.hp_plain.specs.Opening.{AreHome}
 use Rattle.hp_script.specs.declared.workload.Workload.{Workload}
 use Rattle.hp_proc.specs.Acting.{AreAsked}
-use Rattle.hp_proc.specs.Contexts.{Context}
 use Rattle.hp_proc.specs.Courses.{Standing, calls_in}
 use Rattle.hp_proc.specs.Doing.{Done}
 use Rattle.hp_proc.specs.Ends.{history_by, none_made}
 use Rattle.hp_proc.specs.Histories.{entries_for, granted_runs, grown_runs}
-use Rattle.hp_proc.specs.LinesDone.{AreDone, Course, courses_of, opening_standing, standing_after}
+use Rattle.hp_proc.specs.LinesDone.{AreDone, Course, courses_of, opening_standing}
 use Rattle.hp_serve.specs.Party.{Party}
 use Rattle.hp_proc.specs.Progress.{MayDo, moment_of}
 use Rattle.hp_proc.specs.Seen.{AreSeen, seen_by_lines}
 use Rattle.hp_serve.specs.Tied.{IsTied}
 use Rattle.hp_joint.specs.Seats.{Seat}
-use Rattle.hp_joint.specs.SoFar.{IsOfDeclared, IsSoFarFor, SoFar, context_of, first_hall, trace_for}
+use Rattle.hp_joint.specs.SoFar.{IsOfDeclared, IsSoFarFor, SoFar, doer_of, first_hall, standing_of, trace_for}
 use Rattle.hp_joint.specs.Together.{Joint, Runs}
-use Rattle.hp_joint.proofs.Attached.{AreAsLeft}
+use Rattle.hp_joint.proofs.Attached.{AreAsLeft, IsAsLeft}
 use Rattle.hp_joint.proofs.Roster.{AreEnrolled}
 use Rattle.hp_joint.proofs.SoFarFacts.{at_place, seats_many}
 use Rattle.hp_joint.proofs.WaysOn.{AllCame}
@@ -32,10 +31,9 @@ pub record IsKnownFor (workload : Workload) (courses : List Course) (hall : Hall
   pub me : party.me ≡ who
   pub socket : party.socket ≡ slice_index workload.sockets who
   pub deadline : party.deadline ≡ workload.deadline
-  pub context : party.context ≡ context_of workload who courses
   pub entries : (heap : ℕ) → (part_in hall who heap).entries ≡ entries_for who heap 1 (calls_in (trace_for who courses))
   pub asked : AreAsked (seen_in hall) (heard_in hall) who 0 party.asked (trace_for who courses)
-  pub ready : MayDo (moment_of party (part_in hall who) (seen_in hall) (heard_in hall))
+  pub ready : MayDo (moment_of (doer_of workload who courses party) (part_in hall who) (seen_in hall) (heard_in hall))
   pub tied : IsTied (seen_in hall) (own_at hall who) party.joined party.maps
 
 -- what lines left
@@ -49,24 +47,27 @@ pub record AreLinesThere (workload : Workload) (courses : List Course) (hall : H
 
 module _ (workload : Workload) (courses later : List Course) (parties behind : List Party) (old new : HallView)
     (so : SoFar workload courses parties old) (course : IsCourse old new) (home : AreHome new) (size : length behind ≡ length parties)
-    (more : ℕ → List Done) (came : AllCame workload.participants so.now behind more new) where
+    (more : ℕ → List Done) (came : AllCame workload.participants so.now behind more (λ who. standing_of workload who later) new) where
   abbrev there : Joint
   there = record { seats = came.lasts; segs = came.gone.segs; boxes = new.boxes }
 
   -- a participant there is attached as its lines leave it
-  so_far_for : (who : ℕ) (after : Party) → IsKnownFor workload later new who after
-      → (after.joined ≡ after.context.standing.attached) → (after.joined ≡ true → after.context.standing.records ≤ after.maps.number)
-      → IsSoFarFor workload later new who after
-  so_far_for who after its joined since =
-      let standing : after.context.standing ≡ standing_after (opening_standing workload who) (courses_of who later) =
-      ap (λ (context : Context). context.standing) its.context in
+  so_far_for : (who : ℕ) (after : Party) (last : Seat) → last.party ≡ after → last.standing ≡ standing_of workload who later
+      → IsKnownFor workload later new who after → IsAsLeft there.segs.log last → IsSoFarFor workload later new who after
+  so_far_for who after last own standing its left =
       record {
         me = its.me;
         socket = its.socket;
         deadline = its.deadline;
-        joined = joined ∙ ap (λ (standing : Standing). standing.attached) standing;
-        since = λ now. omega (arith, since now, ap (λ (standing : Standing). standing.records) standing);
-        context = its.context;
+        joined = ap (λ (party : Party). party.joined) (sym own) ∙ left.joined ∙ ap (λ (standing : Standing). standing.attached) standing;
+        since = λ now.
+            let taken = (left.since (ap (λ (party : Party). party.joined) own ∙ now)).taken in
+            omega (
+              arith,
+              taken,
+              ap (λ (standing : Standing). standing.records) standing,
+              ap (λ (party : Party). party.maps.number) own,
+            );
         entries = its.entries;
         asked = its.asked;
         ready = its.ready;
@@ -93,6 +94,7 @@ module _ (workload : Workload) (courses later : List Course) (parties behind : L
         let were = came.were who last at in
         record {
           party = were.2;
+          standing = were.4;
           trace = were.3
               ∙ ap (λ (trace : List Done). trace ++ more who) (so.seats who were.0 were.1).trace
               ∙ sym (traces who were.0 were.1);
@@ -101,10 +103,7 @@ module _ (workload : Workload) (courses later : List Course) (parties behind : L
     each = λ who after at.
         let last = at_place came.lasts who (omega (arith, slice_get_within behind who after at, size, so.count, came.size, many)) in
         let own : last.it.party ≡ after = same_Some last.it.party after (sym (came.were who last.it last.there).2 ∙ at) in
-        so_far_for who after (known who after at)
-        (subst (λ (party : Party). party.joined ≡ party.context.standing.attached) own (left who last.it last.there).joined)
-        (λ joined. subst (λ (party : Party). party.context.standing.records ≤ party.maps.number) own
-        ((left who last.it last.there).since (ap (λ (party : Party). party.joined) own ∙ joined)).taken);
+        so_far_for who after last.it own (came.were who last.it last.there).4 (known who after at) (left who last.it last.there);
     built = lines.built;
     done = lines.done;
     in_order = lines.in_order;

@@ -18,7 +18,6 @@ use Rattle.hp_segs.specs.Steps.{after_claim}
 use Rattle.hp_serve.specs.Attaching.{Attaches, after_attaching}
 use Rattle.hp_proc.specs.Doing.{Done}
 use Rattle.hp_serve.specs.Party.{Party}
-use Rattle.hp_proc.specs.ParticipantView.{with_standing}
 use Rattle.hp_serve.specs.Serving.{after_catching_up}
 use Rattle.hp_proc.specs.Courses.{Standing}
 use Rattle.hp_joint.proofs.Boxes.{fetched_post, posts_fetched, posts_posted}
@@ -30,7 +29,7 @@ use Rattle.hp_joint.proofs.TracedAsks.{traced_arming, traced_telling}
 use Rattle.hp_joint.proofs.TracedCore.{known_brings, traced_event}
 use Rattle.hp_joint.proofs.TracedSeats.{IsSameSeat, armed_on, asking_on, asks_on, boxes_on, fetched_on, held_on, traced_on, traced_with}
 use Rattle.hp_joint.proofs.Withdrawn.{withdraw_numbers}
-use Rattle.hp_joint.specs.Seats.{Handles, Mails, Quietly, Seat, having_done}
+use Rattle.hp_joint.specs.Seats.{Handles, Mails, Quietly, Seat, having_done, leaving}
 use Rattle.hp_joint.specs.Together.{Joint, Steps, behind_step, with_seat, with_segs}
 
 -- a seat is as it was, and nothing was done there
@@ -109,7 +108,7 @@ attach_beside who (caught.Elsewhere row call got) segs = record { armed = refl; 
 
 -- and keeps its numbers
 attached_same : (seat : Seat) (after : Party) (standing : Standing) (log : List LogRecord) (ended : Caught) (more : List Done)
-    → Attaches seat.party after log ended → IsSameSeat seat (having_done (with_standing standing after) more seat)
+    → Attaches seat.party after log ended → IsSameSeat seat (leaving standing (having_done after more seat))
 attached_same seat after standing log ended more does = record {
   me = ap (λ (party : Party). party.me) does.after_is;
   core = ap (λ (party : Party). party.core) does.after_is;

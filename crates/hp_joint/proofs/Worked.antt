@@ -28,13 +28,12 @@ use Rattle.hp_segs.specs.Steps.{after_retire}
 use Rattle.hp_proc.proofs.Unarmed.{armed_new}
 use Rattle.hp_serve.specs.Asking.{alloc_body}
 use Rattle.hp_serve.specs.Attaching.{after_detaching}
-use Rattle.hp_proc.specs.Contexts.{Context}
+use Rattle.hp_proc.specs.Courses.{Standing}
 use Rattle.hp_proc.specs.Doing.{Done}
 use Rattle.hp_proc.specs.Doing.Done.{Called}
 use Rattle.hp_serve.specs.Frames.{Says}
 use Rattle.hp_proc.specs.Histories.{run_cut}
 use Rattle.hp_serve.specs.Asking.{ask_of}
-use Rattle.hp_proc.specs.ParticipantView.{after_call, with_standing}
 use Rattle.hp_serve.specs.Party.{opening_party}
 use Rattle.hp_serve.specs.Serving.{gives_segments, takes_segments}
 use Rattle.hp_serve.specs.declared.pages_asked.PagesAsked.{PagesAsked}
@@ -103,9 +102,9 @@ never_fetches count who _ _ segs _ more (Path.mails old mid new step steps does 
 never_fetches count who _ _ segs _ more (Path.handles old mid new taken given [] steps does path) same = cc
 never_fetches count who _ _ segs _ more (Path.handles old mid new taken given (note ∷ held) steps does path) same = cc
 
-module _ (maps : MapsView) (context : Context) (rows : maps.rows ≡ []) (number : maps.number ≡ 0) (answers : maps.answers ≡ []) where
+module _ (maps : MapsView) (standing : Standing) (rows : maps.rows ≡ []) (number : maps.number ≡ 0) (answers : maps.answers ≡ []) where
   abbrev seat : ℕ → Seat
-  seat who = record { party = opening_party who 0 true maps [] 200 context; trace = []; fetched = []; asking = None }
+  seat who = record { party = opening_party who 0 true maps [] 200; standing = standing; trace = []; fetched = []; asking = None }
 
   abbrev first : Joint
   first = record { seats = seat 0 ∷ seat 1 ∷ []; segs = opening pools 2 0; boxes = [] ∷ [] ∷ [] }
@@ -160,7 +159,7 @@ module _ (maps : MapsView) (context : Context) (rows : maps.rows ≡ []) (number
 
   -- a call of a heap that cuts nothing is seen by nobody, and stands in its trace
   abbrev called : Seat
-  called = having_done (after_call (seat 1).party) (found ∷ []) (seat 1)
+  called = having_done (seat 1).party (found ∷ []) (seat 1)
 
   calls_once : Steps 2 first (with_seat 1 called first)
   calls_once = Steps.quietly first 1 (seat 1) called refl (Quietly.calls (seat 1) 0 (call.Find tag) gives.Nothing refl)
@@ -176,7 +175,7 @@ module _ (maps : MapsView) (context : Context) (rows : maps.rows ≡ []) (number
   not_without_cut is = cc
 
   abbrev cutting : Seat
-  cutting = having_done (after_call (seat 1).party) (cut ∷ []) (seat 1)
+  cutting = having_done (seat 1).party (cut ∷ []) (seat 1)
 
   cuts_once : Handles 2 1 (seat 1) cutting first.segs (after_retire 0 run first.segs)
   cuts_once = Handles.cuts (seat 1) first.segs 0 128 run
@@ -245,7 +244,8 @@ module _ (maps : MapsView) (context : Context) (rows : maps.rows ≡ []) (number
   -- participant 1 detaches
   abbrev detached : Seat
   detached = record (seat 1) {
-    party = with_standing (record (seat 1).party.context.standing { attached = false }) (after_detaching (seat 1).party);
+    party = after_detaching (seat 1).party;
+    standing = record standing { attached = false };
   }
 
   detaches_once : Handles 2 1 (seat 1) detached first.segs (after_leave 1 first.segs)

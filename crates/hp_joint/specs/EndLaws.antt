@@ -27,16 +27,16 @@ use Rattle.hp_segs.specs.declared.ask.Ask.{Ask}
 use Rattle.hp_segs.specs.declared.outcome.AskLog.{AskLog}
 use Rattle.hp_segs.specs.declared.outcome.Cause.TheVariants.{MapFailed}
 use Rattle.hp_segs.specs.declared.outcome.Outcome.TheVariants.{Refused}
-use Rattle.hp_proc.specs.Contexts.{Said, opening_context}
+use Rattle.hp_proc.specs.Contexts.{Said}
 use Rattle.hp_serve.specs.Ending.{LeavesTable}
 use Rattle.hp_proc.specs.Ends.{IsSoloEnd}
 use Rattle.hp_proc.specs.LinesDone.{Course}
 use Rattle.hp_serve.specs.Party.{IsSameParty, Party, opening_party}
-use Rattle.hp_proc.specs.ParticipantView.{with_context}
+use Rattle.hp_proc.specs.ParticipantView.{ParticipantView}
 use Rattle.hp_proc.specs.Progress.{DoesLine, IsLineBuilt, MayDo, moment_of}
 use Rattle.hp_serve.specs.Tied.{IsTied}
 use Rattle.hp_solo.specs.Served.{HasServed}
-use Rattle.hp_joint.specs.SoFar.{AreFirstHeaps, SoFar, first_hall}
+use Rattle.hp_joint.specs.SoFar.{AreFirstHeaps, SoFar, context_of, first_hall}
 
 -- the pools and the lines of a workload
 abbrev pub said_in : Workload → Said
@@ -46,7 +46,6 @@ said_in workload = record { pools = workload.pools.items; lines = workload.lines
 abbrev pub first_party : Workload → ℕ → MapsView → List PlanEntry → Party
 first_party workload who maps plan =
     opening_party who (slice_index workload.sockets who) (is_present workload.participants workload.absent who) maps plan workload.deadline
-    (opening_context (said_in workload) (is_present workload.participants workload.absent who))
 
 -- it has a table that has taken in nothing and has room for all slots
 pub record IsFirstParty (workload : Workload) (who : ℕ) (party : Party) : Type 0 where
@@ -85,24 +84,27 @@ OthersServe apart count old new parties behind = (who : ℕ) (party after : Part
     → slice_get behind who ≡ Some after → ServesBeside count who old new party after
 
 -- a participant does its line
-pub record DoesItsLine (workload : Workload) (old new : HallView) (line : Line) (answer : Answer) (party after : Party) : Type 0 where
-  pub does : DoesLine workload.participants (HasDone old new line.participant) line answer
-      (moment_of party (part_in old line.participant) (seen_in old) (heard_in old))
-      (moment_of after (part_in new line.participant) (seen_in new) (heard_in new))
-  pub ready : MayDo (moment_of after (part_in new line.participant) (seen_in new) (heard_in new))
-  pub tied : IsTied (seen_in new) (own_at new line.participant) after.joined after.maps
-  pub same : IsSameParty (with_context after.context party) after
+pub record DoesItsLine (workload : Workload) (old new : HallView) (line : Line) (answer : Answer) (doer after : ParticipantView) : Type 0
+  where
+    pub does : DoesLine workload.participants (HasDone old new line.participant) line answer
+        (moment_of doer (part_in old line.participant) (seen_in old) (heard_in old))
+        (moment_of after (part_in new line.participant) (seen_in new) (heard_in new))
+    pub ready : MayDo (moment_of after (part_in new line.participant) (seen_in new) (heard_in new))
+    pub tied : IsTied (seen_in new) (own_at new line.participant) after.party.joined after.party.maps
+    pub same : IsSameParty doer.party after.party
 
--- one line more, of one of them, while all others served
-pub record GoesBy (workload : Workload) (line : Line) (answer : Answer) (parties behind : List Party) (old new : HallView) : Type 0 where
+-- one line more, of one of them, which knows what its lines so far left, while all others served
+pub record GoesBy (workload : Workload) (courses : List Course) (line : Line) (answer : Answer) (parties behind : List Party)
+    (old new : HallView) : Type 0 where
   pub declared : line.participant < workload.participants
   pub built : IsLineBuilt line.participant line.act
   pub count : length behind ≡ length parties
-  pub party : Party
-  pub after : Party
-  pub before_is : slice_get parties line.participant ≡ Some party
-  pub behind_is : slice_get behind line.participant ≡ Some after
-  pub does : DoesItsLine workload old new line answer party after
+  pub doer : ParticipantView
+  pub after : ParticipantView
+  pub before_is : slice_get parties line.participant ≡ Some doer.party
+  pub behind_is : slice_get behind line.participant ≡ Some after.party
+  pub knew : doer.context ≡ context_of workload line.participant courses
+  pub does : DoesItsLine workload old new line answer doer after
   pub others : OthersServe (λ who. who ≡ line.participant) workload.participants old new parties behind
   pub home : AreHome new
   pub course : IsCourse old new
@@ -112,12 +114,13 @@ abbrev pub MayFailAsBefore : List Party → List Party → Type 0
 MayFailAsBefore parties behind = (who : ℕ) (party after : Party) → slice_get parties who ≡ Some party → slice_get behind who ≡ Some after
     → after.maps.may_fail ≡ party.maps.may_fail
 
--- they have done one line more
+-- they have done one line more, and the one that did it knows what that left
 abbrev pub GoesOnByLine : Type 0
 GoesOnByLine = (workload : Workload) (courses : List Course) (parties behind : List Party) (old new : HallView) (line : Line)
-    (answer : Answer) → IsGiven workload → SoFar workload courses parties old → (goes : GoesBy workload line answer parties behind old new)
+    (answer : Answer) → IsGiven workload → SoFar workload courses parties old → (goes : GoesBy workload courses line answer parties behind old new)
     → SoFar workload (courses ++ record { line = line; answer = answer; trace = goes.does.does.does.trace } ∷ []) behind new
-    × MayFailAsBefore parties behind
+    × MayFailAsBefore parties behind × (goes.after.context ≡ context_of workload line.participant
+    (courses ++ record { line = line; answer = answer; trace = goes.does.does.does.trace } ∷ []))
 
 -- where all serve on, they have done the same lines
 abbrev pub RestsSoFar : Type 0

@@ -26,7 +26,7 @@ use Rattle.hp_segs.specs.Steps.{after_claim, after_retire}
 use Rattle.hp_segs.specs.declared.ask.Ask.{Ask}
 use Rattle.hp_serve.specs.Asking.{alloc_body, free_body, next_number}
 use Rattle.hp_serve.specs.Attaching.{Attaches, after_attaching, after_detaching}
-use Rattle.hp_proc.specs.Courses.{standing_tried}
+use Rattle.hp_proc.specs.Courses.{Standing, standing_tried}
 use Rattle.hp_serve.specs.Coordinating.{IsAskIn, stepping, with_core}
 use Rattle.hp_proc.specs.Doing.{Done}
 use Rattle.hp_proc.specs.Doing.Done.{Asked, Called, CaughtUp, GaveUp, Looked}
@@ -34,16 +34,16 @@ use Rattle.hp_serve.specs.Frames.{Says}
 use Rattle.hp_proc.specs.Histories.{run_cut}
 use Rattle.hp_serve.specs.Asking.{ask_of}
 use Rattle.hp_serve.specs.Party.{Party}
-use Rattle.hp_proc.specs.ParticipantView.{after_call, with_standing}
 use Rattle.hp_serve.specs.Serving.{CatchesUp, after_catching_up, gives_segments, takes_segments}
 use Rattle.hp_proc.specs.declared.own_element.OwnElement.{OwnElement}
 use Rattle.hp_serve.specs.declared.pages_asked.PagesAsked.{PagesAsked}
 use Rattle.hp_serve.specs.declared.sent.Sent.{Sent}
 
--- a participant in the course of a run: itself, what was done for its lines so far, the frames that it has fetched, and the ask with which
--- it armed itself last
+-- a participant in the course of a run: itself, what its lines left, what was done for its lines so far, the frames that it has fetched, and
+-- the ask with which it armed itself last
 pub record Seat : Type 0 where
   pub party : Party
+  pub standing : Standing
   pub trace : List Done
   pub fetched : List Frame
   pub asking : Option Ask
@@ -52,9 +52,13 @@ pub record Seat : Type 0 where
 abbrev pub seated : Party → Seat → Seat
 seated party seat = record seat { party = party }
 
+-- its lines left this
+abbrev pub leaving : Standing → Seat → Seat
+leaving standing seat = record seat { standing = standing }
+
 -- and this was done for its line
 abbrev pub having_done : Party → List Done → Seat → Seat
-having_done party more seat = record { party = party; trace = seat.trace ++ more; fetched = seat.fetched; asking = seat.asking }
+having_done party more seat = record seat { party = party; trace = seat.trace ++ more }
 
 -- its last ask, or notice, has that number, and is not answered
 abbrev pub numbered_on : ℕ → Party → Party
@@ -62,10 +66,9 @@ numbered_on number party = record party { asked = number; answered = false }
 
 -- it is armed with an ask of its next number
 abbrev pub armed_with : ℕ → PagesAsked → Option Run → ℕ → Seat → Seat
-armed_with who asked run number seat = record {
+armed_with who asked run number seat = record seat {
   party = numbered_on number seat.party;
   trace = seat.trace ++ Asked asked run ∷ [];
-  fetched = seat.fetched;
   asking = Some (ask_of who number asked);
 }
 
@@ -77,10 +80,10 @@ pub data Quietly : Seat → Seat → Type 0 where
   counts : (seat : Seat) (sent : Sent) → Quietly seat (seated (record seat.party { sent = sent }) seat)
   -- it made a call of the heap in its hand, which cut no run from it
   calls : (seat : Seat) (heap : ℕ) (call : HeapCall) (answer : HeapAnswer) → run_cut answer ≡ []
-      → Quietly seat (having_done (after_call seat.party) (Called heap call answer ∷ []) seat)
+      → Quietly seat (having_done seat.party (Called heap call answer ∷ []) seat)
   -- it noted where the elements of its lines lie
   notes : (seat : Seat) (elements : List OwnElement)
-      → Quietly seat (seated (with_standing (record seat.party.context.standing { elements = elements }) seat.party) seat)
+      → Quietly seat (leaving (record seat.standing { elements = elements }) seat)
 
 -- a message asks for nothing: it is no ask and no notice
 abbrev pub AsksNothing : Body → Type 0
@@ -143,17 +146,16 @@ pub data Handles (count who : ℕ) : Seat → Seat → SegsView → SegsView →
       → Handles count who seat seat segs (after_claim who seat.party.asked (after_withdraw who seat.party.asked since now segs))
   -- it cuts a run from the heap in its hand, and gives it up
   cuts : (seat : Seat) (segs : SegsView) (heap addr : ℕ) (run : Run)
-      → Handles count who seat (having_done (after_call seat.party) (Called heap (call.Cut addr) (gives.Pages run) ∷ []) seat) segs
+      → Handles count who seat (having_done seat.party (Called heap (call.Cut addr) (gives.Pages run) ∷ []) seat) segs
       (after_retire heap run segs)
   -- it attaches, or tries to, and detaches; and notes that
   attaches : (seat : Seat) (segs : SegsView) (caught : Caught) (after : Party) → Attaches seat.party after segs.log caught
       → Handles count who seat
-      (having_done (with_standing (standing_tried (length segs.log) caught after.context.standing) after)
-      (Looked (length segs.log) ∷ CaughtUp (length segs.log) caught ∷ []) seat) segs (after_attaching who caught segs)
+      (leaving (standing_tried (length segs.log) caught seat.standing)
+      (having_done after (Looked (length segs.log) ∷ CaughtUp (length segs.log) caught ∷ []) seat)) segs (after_attaching who caught segs)
   detaches : (seat : Seat) (segs : SegsView) → who ≢ 0
       → Handles count who seat
-      (seated (with_standing (record seat.party.context.standing { attached = false }) (after_detaching seat.party)) seat) segs
-      (after_leave who segs)
+      (leaving (record seat.standing { attached = false }) (seated (after_detaching seat.party) seat)) segs (after_leave who segs)
 
 -- a heap is taken, or given back
 abbrev pub IsOfHeap : MailStep → Type 0

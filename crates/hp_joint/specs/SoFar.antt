@@ -13,11 +13,12 @@ use Rattle.hp_segs.specs.Opening.{opening}
 use Rattle.hp_segs.specs.SegsView.{SegsView, is_member}
 use Rattle.hp_proc.specs.Acting.{AreAsked}
 use Rattle.hp_proc.specs.Contexts.{Context}
-use Rattle.hp_proc.specs.Courses.{calls_in}
+use Rattle.hp_proc.specs.Courses.{Standing, calls_in}
 use Rattle.hp_proc.specs.Doing.{Done}
 use Rattle.hp_proc.specs.Ends.{IsHeapAt, history_by, none_made}
 use Rattle.hp_proc.specs.Histories.{entries_for, granted_runs, grown_runs}
 use Rattle.hp_proc.specs.LinesDone.{AreDone, Course, courses_of, opening_standing, standing_after, trace_of}
+use Rattle.hp_proc.specs.ParticipantView.{ParticipantView}
 use Rattle.hp_serve.specs.Party.{Party}
 use Rattle.hp_proc.specs.Progress.{IsLineBuilt, MayDo, moment_of}
 use Rattle.hp_proc.specs.Seen.{AreSeen, seen_by_lines}
@@ -44,38 +45,45 @@ first_hall workload heaps = opening_hall workload.participants heaps (first_segs
 abbrev pub trace_for : ℕ → List Course → List Done
 trace_for who courses = trace_of (courses_of who courses)
 
+-- what they left
+abbrev pub standing_of : Workload → ℕ → List Course → Standing
+standing_of workload who courses = standing_after (opening_standing workload who) (courses_of who courses)
+
 -- what a participant knows of a workload once these lines were done
 abbrev pub context_of : Workload → ℕ → List Course → Context
 context_of workload who courses = record {
   pools = workload.pools.items;
   lines = workload.lines.items;
-  standing = standing_after (opening_standing workload who) (courses_of who courses);
+  standing = standing_of workload who courses;
   calls = length (calls_in (trace_for who courses));
 }
+
+-- a participant at that moment, with what it knows
+abbrev pub doer_of : Workload → ℕ → List Course → Party → ParticipantView
+doer_of workload who courses party = record { party = party; context = context_of workload who courses }
 
 -- one of the lines that are built, of a declared participant
 pub record IsOfDeclared (count : ℕ) (course : Course) : Type 0 where
   pub declared : course.line.participant < count
   pub act : IsLineBuilt course.line.participant course.line.act
 
--- a participant between two lines: it is attached where its lines leave it so, knows what they left, made their calls and asks, and has
--- taken in what was there when it attached; it may do its next line
+-- a participant between two lines: it is attached where its lines leave it so, made their calls and asks, and has taken in what was there
+-- when it attached; by what it knows of them it may do its next line
 pub record IsSoFarFor (workload : Workload) (courses : List Course) (hall : HallView) (who : ℕ) (party : Party) : Type 0 where
   pub me : party.me ≡ who
   pub socket : party.socket ≡ slice_index workload.sockets who
   pub deadline : party.deadline ≡ workload.deadline
-  pub joined : party.joined ≡ (standing_after (opening_standing workload who) (courses_of who courses)).attached
-  pub since : party.joined ≡ true
-      → (standing_after (opening_standing workload who) (courses_of who courses)).records ≤ party.maps.number
-  pub context : party.context ≡ context_of workload who courses
+  pub joined : party.joined ≡ (standing_of workload who courses).attached
+  pub since : party.joined ≡ true → (standing_of workload who courses).records ≤ party.maps.number
   pub entries : (heap : ℕ) → (part_in hall who heap).entries ≡ entries_for who heap 1 (calls_in (trace_for who courses))
   pub asked : AreAsked (seen_in hall) (heard_in hall) who 0 party.asked (trace_for who courses)
-  pub ready : MayDo (moment_of party (part_in hall who) (seen_in hall) (heard_in hall))
+  pub ready : MayDo (moment_of (doer_of workload who courses party) (part_in hall who) (seen_in hall) (heard_in hall))
   pub tied : IsTied (seen_in hall) (own_at hall who) party.joined party.maps
 
--- a seat is that of a participant, with what was done for its lines
-pub record IsSeatOf (parties : List Party) (courses : List Course) (who : ℕ) (seat : Seat) : Type 0 where
+-- a seat is that of a participant, with what its lines left, and what was done for them
+pub record IsSeatOf (workload : Workload) (parties : List Party) (courses : List Course) (who : ℕ) (seat : Seat) : Type 0 where
   pub party : slice_get parties who ≡ Some seat.party
+  pub standing : seat.standing ≡ standing_of workload who courses
   pub trace : seat.trace ≡ trace_for who courses
 
 -- the participants of a workload have done these lines in a hall of one thread, and hold no slot
@@ -93,7 +101,7 @@ pub record SoFar (workload : Workload) (courses : List Course) (parties : List P
   pub its_segs : segs_in (slot_at hall MAX_HEAPS) ≡ Some now.segs
   pub its_boxes : now.boxes ≡ hall.boxes
   pub count : length parties ≡ workload.participants
-  pub seats : (who : ℕ) (seat : Seat) → slice_get now.seats who ≡ Some seat → IsSeatOf parties courses who seat
+  pub seats : (who : ℕ) (seat : Seat) → slice_get now.seats who ≡ Some seat → IsSeatOf workload parties courses who seat
   pub roster : (who : ℕ) (seat : Seat) → slice_get now.seats who ≡ Some seat → is_member now.segs.roster who ≡ seat.party.joined
   -- each participant, and its lines
   pub each : (who : ℕ) (party : Party) → slice_get parties who ≡ Some party → IsSoFarFor workload courses hall who party

@@ -51,7 +51,7 @@ does_noted count did doing doer after parts log asks elements noted none =
       steps = [];
       leads = refl;
       made = none;
-      acts = Acts.nothing doer.party;
+      acts = Acts.notes_left doer elements;
       entries = λ heap. sym (append-nil (parts heap).entries);
       serves = λ heap. refl;
       counted = ap (λ (calls : ℕ). record doer.context { standing = record doer.context.standing { elements = elements }; calls = calls })

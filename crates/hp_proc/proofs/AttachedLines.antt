@@ -253,7 +253,12 @@ module _ (count : ℕ) (did : List MailStep → Type 0) (line : Line) (doer : Pa
           steps = takes_segments taken ∷ (acks_behind caught (length taken.log) ++ (gives_segments (after_attaching doer.party.me caught taken) ∷ []));
           leads = (length taken.log, refl, (caught, refl, refl));
           made = made;
-          acts = Acts.attaches doer.party mid.party taken caught attaches;
+          acts = subst (λ (after : ParticipantView). Acts count doer after (Looked (length taken.log) ∷ CaughtUp (length taken.log) caught ∷ [])
+              (takes_segments taken ∷ (acks_behind caught (length taken.log)
+              ++ (gives_segments (after_attaching doer.party.me caught taken) ∷ []))))
+              (ap (λ (context : Context). with_standing (standing_tried (length taken.log) caught context.standing)
+              (record { party = mid.party; context = context })) (sym knew))
+              (Acts.attaches doer mid.party taken caught attaches);
           entries = λ heap. ap (λ (part : HeapPart). part.entries) (alike heap) ∙ sym (append-nil (parts heap).entries);
           serves = λ heap. ap (λ (part : HeapPart). part.serves) (alike heap);
           counted = known_but mid.context left knew;
@@ -276,7 +281,7 @@ module _ (count : ℕ) (did : List MailStep → Type 0) (line : Line) (doer : Pa
           steps = takes_segments taken ∷ gives_segments (after_leave doer.party.me taken) ∷ [];
           leads = refl;
           made = made;
-          acts = Acts.detaches doer.party taken secondary;
+          acts = Acts.detaches doer taken secondary;
           entries = λ heap. ap (λ (part : HeapPart). part.entries) (alike heap) ∙ sym (append-nil (parts heap).entries);
           serves = λ heap. ap (λ (part : HeapPart). part.serves) (alike heap);
           counted = known_but doer.context (record doer.context.standing { attached = false }) refl;

@@ -36,7 +36,7 @@ use Rattle.hp_proc.specs.Progress.{Does, IsInHand, caller_of, in_hand, moment_of
 use Rattle.hp_serve.specs.declared.pages_asked.PagesAsked.{PagesAsked}
 use Rattle.hp_proc.proofs.HandCalls.{call_index, call_serves, hand_apart, hand_here, hand_serves, numbered_next, own_behind}
 use Rattle.hp_proc.proofs.HandGiven.{sums_same}
-use Rattle.hp_proc.proofs.Joining.{context_still}
+use Rattle.hp_proc.proofs.Joining.{context_still, goes_as}
 
 -- parts with the same entries have as many
 pub made_same : (old new : ℕ → HeapPart) → ((heap : ℕ) → (new heap).entries ≡ (old heap).entries) → entries_made new ≡ entries_made old
@@ -106,7 +106,8 @@ module _ (doer after : ParticipantView) (old new : ℕ → HeapPart) (log later 
     steps = steps;
     leads = (run, refl, refl);
     made = made;
-    acts = Acts.asks_pages doer.party after.party asked run steps acts;
+    acts = subst (λ (after : ParticipantView). Acts count doer after (Asked asked run ∷ []) steps) (goes_as doer after known)
+        (Acts.asks_pages doer after.party asked run steps acts);
     entries = λ index.
         hand_same doer.party.me after.party.me heap old new same.me entries index ∙ sym (append-nil (with_hand doer.party.me heap old index).entries);
     serves = λ index.

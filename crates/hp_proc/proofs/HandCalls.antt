@@ -120,7 +120,7 @@ module _ (doer : ParticipantView) (parts : ℕ → HeapPart) (log : List LogReco
 
   -- the next thing that its line does is that call, with the steps that it makes along with it
   pub does_acted : (count : ℕ) (did : List MailStep → Type 0) (then_on : HeapAnswer → Doing) (after : ParticipantView) (steps : List MailStep)
-      → after ≡ after_call doer → did steps → Acts count doer.party doer.party (Called old.plain.index call answer ∷ []) steps
+      → after ≡ after_call doer → did steps → Acts count doer (after_call doer) (Called old.plain.index call answer ∷ []) steps
       → Does count did (Doing.Calls old.plain.index call then_on) (then_on answer) (in_hand old (moment_of doer parts log asks))
       (in_hand new (moment_of after parts log asks))
   unfolding Leads Goes AreAsked
@@ -149,7 +149,7 @@ module _ (doer : ParticipantView) (parts : ℕ → HeapPart) (log : List LogReco
       → Does count did (Doing.Calls old.plain.index call then_on) (then_on answer) (in_hand old (moment_of doer parts log asks))
       (in_hand new (moment_of after parts log asks))
   does_call count did then_on after counted none whole =
-      does_acted count did then_on after [] counted none (Acts.makes_call doer.party old.plain.index call answer whole)
+      does_acted count did then_on after [] counted none (Acts.makes_call doer old.plain.index call answer whole)
 
   -- and that is its last call so far
   pub call_in : (count : ℕ) (did : List MailStep → Type 0) (then_on : HeapAnswer → Doing) (after : ParticipantView) → after ≡ after_call doer

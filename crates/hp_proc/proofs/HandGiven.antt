@@ -25,10 +25,11 @@ use Rattle.hp_serve.specs.Asking.{HasSettledAsks}
 use Rattle.hp_serve.specs.Waiting.{IsTurned}
 use Rattle.hp_log.specs.declared.log_record.LogRecord.{LogRecord}
 use Rattle.hp_segs.specs.declared.outcome.AskLog.{AskLog}
-use Rattle.hp_serve.specs.Party.{IsSameParty, Party}
+use Rattle.hp_serve.specs.Party.{IsSameParty}
 use Rattle.hp_proc.specs.ParticipantView.{ParticipantView}
 use Rattle.hp_proc.specs.Progress.{AreSettled, IsInHand, MayDo, moment_of, with_hand}
 use Rattle.hp_serve.proofs.AskedAlong.{settled_more}
+use Rattle.hp_proc.proofs.Joining.{goes_as}
 use Rattle.hp_proc.proofs.HandCalls.{entries_of_on, hand_apart, hand_here}
 
 -- entries that are numbered on are all of that participant
@@ -244,11 +245,14 @@ ready_still before doer old new log later asks now more same known parts grown r
 }
 
 -- it waited one turn more
-pub waits_more : (count counted until : ℕ) (party mid after : Party) (moved : Bool) (first last : List MailStep) → counted ≡ count
-    → Acts count party mid [] first → IsTurned counted until mid after last (Some moved) → Acts count party after [] (first ++ last)
-waits_more count counted until party mid after moved first last same waited turned =
-    Acts.and_then party mid after [] [] first last waited
-    (Acts.waits_turn until mid after moved last (subst (λ (count : ℕ). IsTurned count until mid after last (Some moved)) same turned))
+pub waits_more : (count counted until : ℕ) (doer mid after : ParticipantView) (moved : Bool) (first last : List MailStep) → counted ≡ count
+    → after.context ≡ mid.context → Acts count doer mid [] first → IsTurned counted until mid.party after.party last (Some moved)
+    → Acts count doer after [] (first ++ last)
+waits_more count counted until doer mid after moved first last same knew waited turned =
+    Acts.and_then doer mid after [] [] first last waited
+    (subst (λ (after : ParticipantView). Acts count mid after [] last) (goes_as mid after knew)
+    (Acts.waits_turn until mid after.party moved last
+    (subst (λ (count : ℕ). IsTurned count until mid.party after.party last (Some moved)) same turned)))
 
 -- a slot that was found held is as it was, beside all others
 pub still_free : (old new : ℕ → Option Kept) (index : ℕ) → ((number : ℕ) → old number ≡ None)

@@ -16,7 +16,8 @@ use Rattle.hp_proc.specs.Doing.{Doing, Done, Leads}
 use Rattle.hp_proc.specs.Doing.Done.{Asked, Called, CaughtUp, GaveUp, Looked}
 use Rattle.hp_proc.specs.Histories.{entries_for}
 use Rattle.hp_serve.specs.Party.{IsSameParty}
-use Rattle.hp_proc.specs.Progress.{Does, Moment}
+use Rattle.hp_proc.specs.ParticipantView.{ParticipantView, with_context, with_party}
+use Rattle.hp_proc.specs.Progress.{Does, Moment, doer_at}
 use Rattle.hp_serve.specs.declared.pages_asked.PagesAsked.{PagesAsked}
 use Rattle.hp_proc.proofs.LawLemmas.{entries_go_on, find_stays, gives_stays, leads_on}
 
@@ -134,7 +135,7 @@ module _ (count : ℕ) (here_did there_did did : List MailStep → Type 0) (doin
     steps = here.steps ++ there.steps;
     leads = leads_on doing here.trace there.trace left rest here.leads there.leads;
     made = join here.steps there.steps here.made there.made;
-    acts = Acts.and_then old.party mid.party new.party here.trace there.trace here.steps there.steps here.acts there.acts;
+    acts = Acts.and_then (doer_at old) (doer_at mid) (doer_at new) here.trace there.trace here.steps there.steps here.acts there.acts;
     entries = entries_are;
     serves = λ heap. there.serves heap ∙ here.serves heap;
     counted = subst (λ (calls : ℕ). new.context ≡ record (after_calls calls old.context) { standing = new.context.standing })
@@ -167,7 +168,7 @@ context_still old new same =
 
 -- nothing of its line was done, while the log and the outcomes went on
 pub does_still : (count : ℕ) (did : List MailStep → Type 0) (doing : Doing) (old new : Moment) (steps : List MailStep) → did steps
-    → Acts count old.party new.party [] steps → ((heap : ℕ) → (new.parts heap).entries ≡ (old.parts heap).entries)
+    → Acts count (doer_at old) (doer_at new) [] steps → ((heap : ℕ) → (new.parts heap).entries ≡ (old.parts heap).entries)
     → ((heap : ℕ) → (new.parts heap).serves ≡ (old.parts heap).serves) → IsSameParty old.party new.party
     → new.context ≡ old.context → new.party.asked ≡ old.party.asked → (more : List LogRecord) → new.log ≡ old.log ++ more
     → (outcomes : List AskLog) → new.asks ≡ old.asks ++ outcomes → Does count did doing doing old new
@@ -192,6 +193,10 @@ does_still count did doing old new steps made acts entries serves same known ask
 -- nothing was done
 pub does_same : (count : ℕ) (did : List MailStep → Type 0) (doing : Doing) (moment : Moment) → did [] → Does count did doing doing moment moment
 does_same count did doing moment none =
-    does_still count did doing moment moment [] none (Acts.nothing moment.party) (λ heap. refl) (λ heap. refl)
+    does_still count did doing moment moment [] none (Acts.nothing (doer_at moment)) (λ heap. refl) (λ heap. refl)
     (record { me = refl; socket = refl; plan = refl; deadline = refl }) refl refl [] (sym (append-nil moment.log)) []
     (sym (append-nil moment.asks))
+
+-- who goes on with what it knows is the one that it came to
+pub goes_as : (doer after : ParticipantView) → after.context ≡ doer.context → with_party after.party doer ≡ after
+goes_as doer after knew = ap (λ (context : Context). with_context context after) (sym knew)

@@ -17,47 +17,54 @@ use Rattle.hp_segs.specs.declared.outcome.AskLog.{AskLog}
 use Rattle.hp_serve.specs.AskSteps.{DoesAsk, DoesNotify}
 use Rattle.hp_serve.specs.Asking.{IsAsked}
 use Rattle.hp_serve.specs.Attaching.{Attaches, after_attaching, after_detaching}
+use Rattle.hp_proc.specs.Courses.{standing_tried}
 use Rattle.hp_proc.specs.Doing.{Done}
 use Rattle.hp_proc.specs.Doing.Done.{Asked, Called, CaughtUp, GaveUp, Looked}
 use Rattle.hp_proc.specs.Histories.{run_cut}
+use Rattle.hp_proc.specs.ParticipantView.{ParticipantView, after_call, with_party, with_standing}
+use Rattle.hp_proc.specs.declared.own_element.OwnElement.{OwnElement}
 use Rattle.hp_serve.specs.Party.{Party}
 use Rattle.hp_serve.specs.Serving.{acks_behind, gives_segments, takes_segments}
 use Rattle.hp_serve.specs.Waiting.{IsTurned}
 use Rattle.hp_serve.specs.declared.pages_asked.PagesAsked.{PagesAsked}
 
--- what a participant did, with the steps that it made in the hall; what it knows of its lines is told apart
-pub data Acts (count : ℕ) : Party → Party → List Done → List MailStep → Type 0 where
-  nothing : (party : Party) → Acts count party party [] []
+-- what a participant did, with the steps that it made in the hall
+pub data Acts (count : ℕ) : ParticipantView → ParticipantView → List Done → List MailStep → Type 0 where
+  nothing : (doer : ParticipantView) → Acts count doer doer [] []
   -- it waited a turn for a heap that another one held
-  waits_turn : (until : ℕ) (party after : Party) (moved : Bool) (steps : List MailStep) → IsTurned count until party after steps (Some moved)
-      → Acts count party after [] steps
+  waits_turn : (until : ℕ) (doer : ParticipantView) (after : Party) (moved : Bool) (steps : List MailStep)
+      → IsTurned count until doer.party after steps (Some moved) → Acts count doer (with_party after doer) [] steps
   -- it took a heap, or gave one back
-  takes_heap : (party : Party) (heap : HeapView) → Acts count party party [] (Takes heap.plain.index (Heap heap) ∷ [])
-  gives_heap : (party : Party) (heap : HeapView) → Acts count party party [] (Gives heap.plain.index (Heap heap) ∷ [])
+  takes_heap : (doer : ParticipantView) (heap : HeapView) → Acts count doer doer [] (Takes heap.plain.index (Heap heap) ∷ [])
+  gives_heap : (doer : ParticipantView) (heap : HeapView) → Acts count doer doer [] (Gives heap.plain.index (Heap heap) ∷ [])
   -- it made a call of the heap in its hand, which cut no run from it
-  makes_call : (party : Party) (heap : ℕ) (call : HeapCall) (answer : HeapAnswer) → run_cut answer ≡ []
-      → Acts count party party (Called heap call answer ∷ []) []
+  makes_call : (doer : ParticipantView) (heap : ℕ) (call : HeapCall) (answer : HeapAnswer) → run_cut answer ≡ []
+      → Acts count doer (after_call doer) (Called heap call answer ∷ []) []
   -- it cut a run from the heap in its hand, and gave it up
-  cuts_run : (party : Party) (heap addr : ℕ) (run : Run) (taken : SegsView)
-      → Acts count party party (Called heap (call.Cut addr) (gives.Pages run) ∷ [])
+  cuts_run : (doer : ParticipantView) (heap addr : ℕ) (run : Run) (taken : SegsView)
+      → Acts count doer (after_call doer) (Called heap (call.Cut addr) (gives.Pages run) ∷ [])
       (takes_segments taken ∷ gives_segments (after_retire heap run taken) ∷ [])
   -- it asked for pages
-  asks_pages : (party after : Party) (asked : PagesAsked) (run : Option Run) (steps : List MailStep) → DoesAsk count party after asked steps run
-      → Acts count party after (Asked asked run ∷ []) steps
+  asks_pages : (doer : ParticipantView) (after : Party) (asked : PagesAsked) (run : Option Run) (steps : List MailStep)
+      → DoesAsk count doer.party after asked steps run → Acts count doer (with_party after doer) (Asked asked run ∷ []) steps
   -- it told the coordinator so
-  notifies_run : (party after : Party) (heap : ℕ) (run : Run) (steps : List MailStep) → DoesNotify count party after heap run steps
-      → Acts count party after (GaveUp heap run ∷ []) steps
-  -- it attached, or tried to: it looked at the segment value and caught up with its whole log
-  attaches : (party after : Party) (taken : SegsView) (caught : Caught) → Attaches party after taken.log caught
-      → Acts count party after (Looked (length taken.log) ∷ CaughtUp (length taken.log) caught ∷ [])
-      (takes_segments taken ∷ (acks_behind caught (length taken.log) ++ (gives_segments (after_attaching party.me caught taken) ∷ [])))
-  -- it detached, which no primary does
-  detaches : (party : Party) (taken : SegsView) → 0 < party.me
-      → Acts count party (after_detaching party) []
-      (takes_segments taken ∷ gives_segments (after_leave party.me taken) ∷ [])
+  notifies_run : (doer : ParticipantView) (after : Party) (heap : ℕ) (run : Run) (steps : List MailStep)
+      → DoesNotify count doer.party after heap run steps → Acts count doer (with_party after doer) (GaveUp heap run ∷ []) steps
+  -- it attached, or tried to: it looked at the segment value and caught up with its whole log, and noted what that left
+  attaches : (doer : ParticipantView) (after : Party) (taken : SegsView) (caught : Caught) → Attaches doer.party after taken.log caught
+      → Acts count doer (with_standing (standing_tried (length taken.log) caught doer.context.standing) (with_party after doer))
+      (Looked (length taken.log) ∷ CaughtUp (length taken.log) caught ∷ [])
+      (takes_segments taken ∷ (acks_behind caught (length taken.log) ++ (gives_segments (after_attaching doer.party.me caught taken) ∷ [])))
+  -- it detached, which no primary does, and noted that
+  detaches : (doer : ParticipantView) (taken : SegsView) → 0 < doer.party.me
+      → Acts count doer (with_standing (record doer.context.standing { attached = false }) (with_party (after_detaching doer.party) doer)) []
+      (takes_segments taken ∷ gives_segments (after_leave doer.party.me taken) ∷ [])
+  -- it noted where the elements of its lines lie
+  notes_left : (doer : ParticipantView) (elements : List OwnElement)
+      → Acts count doer (with_standing (record doer.context.standing { elements = elements }) doer) [] []
   -- one thing after another
-  and_then : (party mid after : Party) (first rest : List Done) (before behind : List MailStep) → Acts count party mid first before
-      → Acts count mid after rest behind → Acts count party after (first ++ rest) (before ++ behind)
+  and_then : (doer mid after : ParticipantView) (first rest : List Done) (before behind : List MailStep) → Acts count doer mid first before
+      → Acts count mid after rest behind → Acts count doer after (first ++ rest) (before ++ behind)
 
 -- the asks and notices of a trace took numbers one above another, from one to the next, and each ask has its answer
 unfoldable pub AreAsked : List LogRecord → List AskLog → ℕ → ℕ → ℕ → List Done → Type 0

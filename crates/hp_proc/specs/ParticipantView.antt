@@ -11,6 +11,10 @@ pub record ParticipantView : Type 0 where
   pub party : Party
   pub context : Context
 
+-- a participant that serves and asks as this one
+abbrev pub with_party : Party → ParticipantView → ParticipantView
+with_party party doer = record doer { party = party }
+
 -- a participant that knows this when it does a line
 abbrev pub with_context : Context → ParticipantView → ParticipantView
 with_context context doer = record doer { context = context }

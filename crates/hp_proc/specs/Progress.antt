@@ -66,7 +66,7 @@ pub record Does (count : ℕ) (did : List MailStep → Type 0) (doing rest : Doi
   pub steps : List MailStep
   pub leads : Leads doing trace rest
   pub made : did steps
-  pub acts : Acts count old.party new.party trace steps
+  pub acts : Acts count (doer_at old) (doer_at new) trace steps
   pub entries : (heap : ℕ) → (new.parts heap).entries
       ≡ (old.parts heap).entries ++ entries_for old.party.me heap (old.context.calls + 1) (calls_in trace)
   pub serves : (heap : ℕ) → (new.parts heap).serves ≡ (old.parts heap).serves

@@ -15,11 +15,10 @@ use Rattle.hp_segs.specs.LaterSteps.{after_leave}
 use Rattle.hp_segs.specs.SegsView.{is_member}
 use Rattle.hp_proc.specs.Acting.{Acts}
 use Rattle.hp_serve.specs.Attaching.{Attaches, after_attaching}
-use Rattle.hp_proc.specs.Courses.{Standing}
 use Rattle.hp_proc.specs.Doing.{Done}
 use Rattle.hp_proc.specs.Doing.Done.{Asked, GaveUp}
 use Rattle.hp_serve.specs.Party.{Party}
-use Rattle.hp_proc.specs.ParticipantView.{with_standing}
+use Rattle.hp_proc.specs.ParticipantView.{ParticipantView}
 use Rattle.hp_serve.specs.Serving.{acks_behind, gives_segments, takes_segments}
 use Rattle.hp_solo.specs.Sequence.{Sequence}
 use Rattle.hp_solo.specs.Solo.{SoloView}
@@ -84,18 +83,18 @@ out_before party records trace looks all =
     ]
 
 -- what is left of an attach, and what is noted of it
-tried_so : (party mid : Party) (standing : Standing) (log : List LogRecord) (ended : Caught) → Attaches party mid log ended
-    → HasTried log ended party (with_standing standing mid)
-tried_so party mid standing log ended tries = record {
+tried_so : (party mid : Party) (log : List LogRecord) (ended : Caught) → Attaches party mid log ended
+    → HasTried log ended party mid
+tried_so party mid log ended tries = record {
   maps = tries.maps;
   caught_up = tries.caught_up;
   left = ap (λ (party : Party). party.maps) tries.after_is;
   joined = ap (λ (party : Party). party.joined) tries.after_is;
 }
 
-tried_as_before : (party mid : Party) (standing : Standing) (log : List LogRecord) (ended : Caught) → Attaches party mid log ended
-    → IsAsBefore party (with_standing standing mid)
-tried_as_before party mid standing log ended tries = record {
+tried_as_before : (party mid : Party) (log : List LogRecord) (ended : Caught) → Attaches party mid log ended
+    → IsAsBefore party mid
+tried_as_before party mid log ended tries = record {
   me = ap (λ (party : Party). party.me) tries.after_is;
   deadline = ap (λ (party : Party). party.deadline) tries.after_is;
   plan = ap (λ (party : Party). party.plan) tries.after_is;
@@ -139,12 +138,12 @@ module _ (quietly : AreWaitsQuiet) (set : Setting) (me : ℕ) (is_set : IsSettin
       same)
 
   -- while it is out, what it does but for an attach leaves it out
-  still_out : (old between : SoloView) (party mid : Party) (world : World) (first : List Done) (before : List MailStep)
-      → IsWorldOf old me party world → IsQuietWorld set world → Acts set.count party mid first before → Sequence me old before between
-      → (owes : Bool) → LeadsTo (IsQuietOwing set owes) between me mid → party.joined ≡ false → list_any is_looked first ≡ false
-      → mid.joined ≡ false
-  still_out old between party mid world first before its quiet here sequence owes behind out nothing =
-      let place = quiet.base.places me party its.own in
+  still_out : (old between : SoloView) (doer mid : ParticipantView) (world : World) (first : List Done) (before : List MailStep)
+      → IsWorldOf old me doer.party world → IsQuietWorld set world → Acts set.count doer mid first before → Sequence me old before between
+      → (owes : Bool) → LeadsTo (IsQuietOwing set owes) between me mid.party → doer.party.joined ≡ false → list_any is_looked first ≡ false
+      → mid.party.joined ≡ false
+  still_out old between doer mid world first before its quiet here sequence owes behind out nothing =
+      let place = quiet.base.places me doer.party its.own in
       let is_out : is_member world.shared.segs.roster me ≡ false = place.joined ∙ out in
       let secondary : me ≢ 0 =
       λ zero.
@@ -152,98 +151,98 @@ module _ (quietly : AreWaitsQuiet) (set : Setting) (me : ℕ) (is_set : IsSettin
       subst (λ (n : ℕ). is_member world.shared.segs.roster n ≡ true) (sym zero) quiet.base.primary in
       cc) in
       let now =
-      out_stays set.count me secondary party mid first before old between place.me here nothing sequence
-      (hall_out old me party world its is_out) in
-      sym (behind.holds.quiet.base.places me mid behind.its.own).joined ∙ world_out between me mid behind.world behind.its now
+      out_stays set.count me secondary doer mid first before old between place.me here nothing sequence
+      (hall_out old me doer.party world its is_out) in
+      sym (behind.holds.quiet.base.places me mid.party behind.its.own).joined ∙ world_out between me mid.party behind.world behind.its now
 
-  walks : (party after : Party) (trace : List Done) (steps : List MailStep) → Acts set.count party after trace steps → (old new : SoloView)
-      (world : World) → IsWorldOf old me party world → (owes left : Bool) → IsQuietOwing set owes world → new.plain.clock ≤ 2 ^ 62
-      → Sequence me old steps new → AttachesOnce party trace → Owes owes trace left → LeadsTo (IsQuietOwing set left) new me after
-  walks party after trace steps (Acts.nothing _) old new world its owes left owing early sequence once pays =
-      knows_more old new party party world [] its owes left owing (owes_still owes left pays) sequence tt (λ own. own.along.made)
+  walks : (doer after : ParticipantView) (trace : List Done) (steps : List MailStep) → Acts set.count doer after trace steps → (old new : SoloView)
+      (world : World) → IsWorldOf old me doer.party world → (owes left : Bool) → IsQuietOwing set owes world → new.plain.clock ≤ 2 ^ 62
+      → Sequence me old steps new → AttachesOnce doer.party trace → Owes owes trace left → LeadsTo (IsQuietOwing set left) new me after.party
+  walks doer after trace steps (Acts.nothing _) old new world its owes left owing early sequence once pays =
+      knows_more old new doer.party doer.party world [] its owes left owing (owes_still owes left pays) sequence tt (λ own. own.along.made)
       (record { me = refl; deadline = refl; plan = refl; core = refl; asked = refl; sent = refl; calls = omega arith })
       (record { joined = refl; maps = refl })
-  walks party after trace steps (Acts.waits_turn until _ _ moved _ turned) old new world its owes left owing early sequence once pays =
+  walks doer _ trace steps (Acts.waits_turn until _ after moved _ turned) old new world its owes left owing early sequence once pays =
       left_as left owes new after (owes_still owes left pays)
-      (quietly.turns quietly.known set until me owes old new party after moved steps world is_set its owing
+      (quietly.turns quietly.known set until me owes old new doer.party after moved steps world is_set its owing
       (not_above world.shared.clock old.plain.clock new.plain.clock (2 ^ 62) its.shared.clock
       (clock_rises me steps old new sequence
-      (acts_timed set.count party after [] steps (Acts.waits_turn until party after moved steps turned))) early) sequence turned)
-  walks party after trace steps (Acts.takes_heap _ heap) old new world its owes left owing early sequence once pays =
-      knows_more old new party party world steps its owes left owing (owes_still owes left pays) sequence (tt, tt)
+      (acts_timed set.count doer _ [] steps (Acts.waits_turn until doer after moved steps turned))) early) sequence turned)
+  walks doer after trace steps (Acts.takes_heap _ heap) old new world its owes left owing early sequence once pays =
+      knows_more old new doer.party doer.party world steps its owes left owing (owes_still owes left pays) sequence (tt, tt)
       (λ own. own.along.made.2 ∙ own.along.made.1)
       (record { me = refl; deadline = refl; plan = refl; core = refl; asked = refl; sent = refl; calls = omega arith })
       (record { joined = refl; maps = refl })
-  walks party after trace steps (Acts.gives_heap _ heap) old new world its owes left owing early sequence once pays =
-      knows_more old new party party world steps its owes left owing (owes_still owes left pays) sequence (tt, tt)
+  walks doer after trace steps (Acts.gives_heap _ heap) old new world its owes left owing early sequence once pays =
+      knows_more old new doer.party doer.party world steps its owes left owing (owes_still owes left pays) sequence (tt, tt)
       (λ own. own.along.made.2 ∙ own.along.made.1)
       (record { me = refl; deadline = refl; plan = refl; core = refl; asked = refl; sent = refl; calls = omega arith })
       (record { joined = refl; maps = refl })
-  walks party after trace steps (Acts.makes_call _ heap call answer none) old new world its owes left owing early sequence once pays =
-      knows_more old new party after world [] its owes left owing (owes_no_more owes left heap call answer none pays) sequence tt
+  walks doer after trace steps (Acts.makes_call _ heap call answer none) old new world its owes left owing early sequence once pays =
+      knows_more old new doer.party after.party world [] its owes left owing (owes_no_more owes left heap call answer none pays) sequence tt
       (λ own. own.along.made)
       (record { me = refl; deadline = refl; plan = refl; core = refl; asked = refl; sent = refl; calls = omega arith })
       (record { joined = refl; maps = refl })
-  walks party after trace steps (Acts.cuts_run _ heap addr run taken) old new world its owes left owing early sequence once pays =
-      let own = own_calls old new party world steps its sequence (tt, (tt, tt)) in
-      left_as left true new after (owes_cut owes left heap addr run pays)
-      (cuts set me old new party after world its owes owing own.servers own.along.order
+  walks doer after trace steps (Acts.cuts_run _ heap addr run taken) old new world its owes left owing early sequence once pays =
+      let own = own_calls old new doer.party world steps its sequence (tt, (tt, tt)) in
+      left_as left true new after.party (owes_cut owes left heap addr run pays)
+      (cuts set me old new doer.party after.party world its owes owing own.servers own.along.order
       (record { me = refl; deadline = refl; plan = refl; core = refl; asked = refl; sent = refl; calls = omega arith }) own.along.at
       own.along.shared heap run taken own.along.made (record { joined = refl; maps = refl }))
-  walks party after trace steps (Acts.asks_pages _ _ asked run _ does) old new world its owes left owing early sequence once pays =
+  walks doer _ trace steps (Acts.asks_pages _ after asked run _ does) old new world its owes left owing early sequence once pays =
       let does_so = owes_once owes left (Asked asked run) pays in
       left_as left false new after (does_so.left_is ∙ does_so.may)
-      (quietly.asks quietly.known set me old new party after asked run steps world is_set its
+      (quietly.asks quietly.known set me old new doer.party after asked run steps world is_set its
       (subst (λ (owes : Bool). IsQuietOwing set owes world) does_so.may owing)
       (not_above world.shared.clock old.plain.clock new.plain.clock (2 ^ 62) its.shared.clock
       (clock_rises me steps old new sequence
-      (acts_timed set.count party after trace steps (Acts.asks_pages party after asked run steps does))) early) sequence does)
-  walks party after trace steps (Acts.notifies_run _ _ heap run _ does) old new world its owes left owing early sequence once pays =
+      (acts_timed set.count doer _ trace steps (Acts.asks_pages doer after asked run steps does))) early) sequence does)
+  walks doer _ trace steps (Acts.notifies_run _ after heap run _ does) old new world its owes left owing early sequence once pays =
       left_as left false new after (owes_once owes left (GaveUp heap run) pays).left_is
-      (quietly.notifies quietly.known set me heap old new party after run steps world is_set its owing.quiet
+      (quietly.notifies quietly.known set me heap old new doer.party after run steps world is_set its owing.quiet
       (not_above world.shared.clock old.plain.clock new.plain.clock (2 ^ 62) its.shared.clock
       (clock_rises me steps old new sequence
-      (acts_timed set.count party after trace steps (Acts.notifies_run party after heap run steps does))) early) sequence does)
-  walks party _ trace steps (Acts.attaches _ mid taken ended tries) old new world its owes left owing early sequence once pays =
-      let given = gives_segments (after_attaching party.me ended taken) ∷ [] in
+      (acts_timed set.count doer _ trace steps (Acts.notifies_run doer after heap run steps does))) early) sequence does)
+  walks doer _ trace steps (Acts.attaches _ mid taken ended tries) old new world its owes left owing early sequence once pays =
+      let given = gives_segments (after_attaching doer.party.me ended taken) ∷ [] in
       let own =
-      own_calls old new party world steps its sequence
+      own_calls old new doer.party world steps its sequence
       (tt, calls_then (acks_behind ended (length taken.log)) given (acks_calls ended (length taken.log)) (tt, tt)) in
       left_as left owes new _ (owes_tried owes left (length taken.log) ended pays)
-      (attaches set me old new party _ world its owes owing own.servers own.along.order (tried_as_before party mid _ taken.log ended tries)
-      own.along.at own.along.shared (has_place old party world its owing.quiet) taken ended
+      (attaches set me old new doer.party _ world its owes owing own.servers own.along.order (tried_as_before doer.party mid taken.log ended tries)
+      own.along.at own.along.shared (has_place old doer.party world its owing.quiet) taken ended
       (subst
       (λ (who : ℕ).
       MakesAll me (takes_segments taken ∷ (acks_behind ended (length taken.log) ++ (gives_segments (after_attaching who ended taken) ∷ [])))
       world.shared own.along.at)
-      (owing.quiet.base.places me party its.own).me own.along.made)
-      (out_before party _ _ refl once) (tried_so party mid _ taken.log ended tries))
-  walks party after trace steps (Acts.detaches _ taken secondary) old new world its owes left owing early sequence once pays =
-      let own = own_calls old new party world steps its sequence (tt, (tt, tt)) in
-      left_as left owes new after (owes_still owes left pays)
-      (leaves set me old new party after world its owes owing own.servers own.along.order
+      (owing.quiet.base.places me doer.party its.own).me own.along.made)
+      (out_before doer.party _ _ refl once) (tried_so doer.party mid taken.log ended tries))
+  walks doer after trace steps (Acts.detaches _ taken secondary) old new world its owes left owing early sequence once pays =
+      let own = own_calls old new doer.party world steps its sequence (tt, (tt, tt)) in
+      left_as left owes new after.party (owes_still owes left pays)
+      (leaves set me old new doer.party after.party world its owes owing own.servers own.along.order
       (record { me = refl; deadline = refl; plan = refl; core = refl; asked = refl; sent = refl; calls = omega arith }) own.along.at
-      own.along.shared (has_place old party world its owing.quiet) taken
+      own.along.shared (has_place old doer.party world its owing.quiet) taken
       (subst (λ (who : ℕ). MakesAll me (takes_segments taken ∷ gives_segments (after_leave who taken) ∷ []) world.shared own.along.at)
-      (owing.quiet.base.places me party its.own).me own.along.made) refl)
-  walks party after trace steps (Acts.notes_left _ elements) old new world its owes left owing early sequence once pays =
-      knows_more old new party after world [] its owes left owing (owes_still owes left pays) sequence tt (λ own. own.along.made)
+      (owing.quiet.base.places me doer.party its.own).me own.along.made) refl)
+  walks doer after trace steps (Acts.notes_left _ elements) old new world its owes left owing early sequence once pays =
+      knows_more old new doer.party after.party world [] its owes left owing (owes_still owes left pays) sequence tt (λ own. own.along.made)
       (record { me = refl; deadline = refl; plan = refl; core = refl; asked = refl; sent = refl; calls = omega arith })
       (record { joined = refl; maps = refl })
-  walks party after _ steps (Acts.and_then _ mid _ first rest before behind here next) old new world its owes left owing early sequence once
+  walks doer after _ steps (Acts.and_then _ mid _ first rest before behind here next) old new world its owes left owing early sequence once
       pays =
       let cut = cut_in me old new steps before behind refl sequence in
       let rises = clock_rises me behind cut.mid new cut.ends (acts_timed set.count mid after rest behind next) in
       let both = owes_both owes left first rest pays in
       let begins =
-      walks party mid first before here old cut.mid world its owes both.mid owing
+      walks doer mid first before here old cut.mid world its owes both.mid owing
       (not_above cut.mid.plain.clock cut.mid.plain.clock new.plain.clock (2 ^ 62) refl rises early) cut.begins
-      (first_once party first rest once) both.begins in
+      (first_once doer.party first rest once) both.begins in
       walks mid after rest behind next cut.mid new begins.world begins.its both.mid left begins.holds early cut.ends
-      (rest_once party mid first rest once
-      (still_out old cut.mid party mid world first before its owing.quiet here cut.begins both.mid begins)) both.ends
+      (rest_once doer.party mid.party first rest once
+      (still_out old cut.mid doer mid world first before its owing.quiet here cut.begins both.mid begins)) both.ends
 
 -- so it is
 pub acts_in_quiet : ActsInQuiet
-acts_in_quiet quietly set me owes left old new party after trace steps world is_set its owing early sequence once pays acts =
-    walks quietly set me is_set party after trace steps acts old new world its owes left owing early sequence once pays
+acts_in_quiet quietly set me owes left old new doer after trace steps world is_set its owing early sequence once pays acts =
+    walks quietly set me is_set doer after trace steps acts old new world its owes left owing early sequence once pays

@@ -11,7 +11,7 @@ use Rattle.hp_hall.specs.declared.note.Note.TheVariants.{Acked, Loaded, Paused, 
 use Rattle.hp_proc.specs.Acting.{Acts}
 use Rattle.hp_serve.specs.Attaching.{after_attaching}
 use Rattle.hp_proc.specs.Doing.{Done}
-use Rattle.hp_serve.specs.Party.{Party}
+use Rattle.hp_proc.specs.ParticipantView.{ParticipantView}
 use Rattle.hp_serve.specs.Serving.{acks_behind, gives_segments}
 use Rattle.hp_solo.specs.Sequence.{IsCall, IsCallNote, IsMadeBy, Makes, Sequence, ServesOnce, ServesSome, Visit, Visits, VisitsBeside}
 use Rattle.hp_solo.specs.Solo.{IsNextDue, SoloView}
@@ -142,10 +142,10 @@ along_timed count = record {
 }
 
 -- all that a line does is timed
-pub acts_timed : (count : ℕ) (party after : Party) (trace : List Done) (steps : List MailStep) → Acts count party after trace steps
+pub acts_timed : (count : ℕ) (doer after : ParticipantView) (trace : List Done) (steps : List MailStep) → Acts count doer after trace steps
     → AreTimed steps
-acts_timed count party after trace steps acts =
-    (acts_are count (λ who. ⊤) ⊤ AreTimed (along_timed count) party after trace steps acts (λ looks. tt) tt).0
+acts_timed count doer after trace steps acts =
+    (acts_are count (λ who. ⊤) ⊤ AreTimed (along_timed count) doer after trace steps acts (λ looks. tt) tt).0
 
 module _ (me first : ℕ) where
   -- the clock has not fallen below a reading

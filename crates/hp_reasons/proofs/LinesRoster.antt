@@ -16,6 +16,7 @@ use Rattle.hp_segs.specs.SegsView.{SegsView, is_member}
 use Rattle.hp_proc.specs.Acting.{Acts}
 use Rattle.hp_serve.specs.Coordinating.{IsServed}
 use Rattle.hp_proc.specs.Doing.{Done}
+use Rattle.hp_proc.specs.ParticipantView.{ParticipantView}
 use Rattle.hp_serve.specs.Party.{Party}
 use Rattle.hp_serve.specs.Serving.{IsFollowed, IsHeeded, IsMemberServed, IsTold}
 use Rattle.hp_solo.specs.Sequence.{IsMadeBy, Sequence}
@@ -233,12 +234,12 @@ module _ (count me : ℕ) (secondary : me ≢ 0) where
   }
 
   -- so who is out stays out where its line doesn't attach
-  pub out_stays : (party after : Party) (trace : List Done) (steps : List MailStep) (old new : SoloView) → party.me ≡ me
-      → Acts count party after trace steps → list_any is_looked trace ≡ false → Sequence me old steps new
+  pub out_stays : (doer after : ParticipantView) (trace : List Done) (steps : List MailStep) (old new : SoloView) → doer.party.me ≡ me
+      → Acts count doer after trace steps → list_any is_looked trace ≡ false → Sequence me old steps new
       → KeepsOut me (values_in old.plain) → KeepsOut me (values_in new.plain)
-  out_stays party after trace steps old new its acts looks sequence was =
+  out_stays doer after trace steps old new its acts looks sequence was =
       let never : list_any is_looked trace ≡ true → ⊥ = λ looked. cc in
-      let own = acts_are count (λ who. who ≡ me) ⊥ (StaysOut me) along_out party after trace steps acts never its in
+      let own = acts_are count (λ who. who ≡ me) ⊥ (StaysOut me) along_out doer after trace steps acts never its in
       sequence_carried me (λ hall. KeepsOut me (values_in hall.plain)) (StaysOut me) (out_carried me) steps old new sequence own.0 was
 
 -- WORLDS

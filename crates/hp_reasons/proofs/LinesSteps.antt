@@ -28,6 +28,7 @@ use Rattle.hp_serve.specs.Attaching.{after_attaching}
 use Rattle.hp_serve.specs.Coordinating.{IsServed}
 use Rattle.hp_proc.specs.Doing.{Done}
 use Rattle.hp_serve.specs.Asking.{ask_of}
+use Rattle.hp_proc.specs.ParticipantView.{ParticipantView}
 use Rattle.hp_serve.specs.Party.{Party, after_alloc, after_free}
 use Rattle.hp_serve.specs.Serving.{acks_behind, gives_segments, takes_segments}
 use Rattle.hp_serve.specs.Waiting.{AreServings, AreTurns, HaveServed, IsServedOut, IsTurned, IsWaited, PausesAt}
@@ -240,21 +241,21 @@ module _ (count : ℕ) (Is : ℕ → Type 0) (May : Type 0) (Q : List MailStep �
       ∙ either_way (list_any is_looked first)
 
   -- all that a line does
-  pub acts_are : (party after : Party) (trace : List Done) (steps : List MailStep) → Acts count party after trace steps
-      → (list_any is_looked trace ≡ true → May) → Is party.me → Q steps × Is after.me
-  acts_are party after trace steps (Acts.nothing _) may its = (along.none, its)
-  acts_are party after trace steps (Acts.waits_turn until _ _ moved _ turned) may its = turned_are until party after steps moved turned its
-  acts_are party after trace steps (Acts.takes_heap _ heap) may its = (along.takes_heap heap, its)
-  acts_are party after trace steps (Acts.gives_heap _ heap) may its = (along.gives_heap heap, its)
-  acts_are party after trace steps (Acts.makes_call _ heap call answer none) may its = (along.none, its)
-  acts_are party after trace steps (Acts.cuts_run _ heap addr run taken) may its = (along.holds taken _ refl, its)
-  acts_are party after trace steps (Acts.asks_pages _ _ asked run _ does) may its = asks_are party after asked steps run does its
-  acts_are party after trace steps (Acts.notifies_run _ _ heap run _ does) may its = notifies_are party after heap run steps does its
-  acts_are party _ trace steps (Acts.attaches _ after taken ended tries) may its =
-      (along.attaches party.me taken ended (may refl), subst Is (sym (ap (λ (party : Party). party.me) tries.after_is)) its)
-  acts_are party after trace steps (Acts.detaches _ taken secondary) may its = (along.leaves party.me taken its, its)
-  acts_are party after trace steps (Acts.notes_left _ elements) may its = (along.none, its)
-  acts_are party after trace steps (Acts.and_then _ mid _ first rest before behind here next) may its =
-      let begins = acts_are party mid first before here (λ looks. may (looks_first first rest looks)) its in
+  pub acts_are : (doer after : ParticipantView) (trace : List Done) (steps : List MailStep) → Acts count doer after trace steps
+      → (list_any is_looked trace ≡ true → May) → Is doer.party.me → Q steps × Is after.party.me
+  acts_are doer after trace steps (Acts.nothing _) may its = (along.none, its)
+  acts_are doer _ trace steps (Acts.waits_turn until _ after moved _ turned) may its = turned_are until doer.party after steps moved turned its
+  acts_are doer after trace steps (Acts.takes_heap _ heap) may its = (along.takes_heap heap, its)
+  acts_are doer after trace steps (Acts.gives_heap _ heap) may its = (along.gives_heap heap, its)
+  acts_are doer after trace steps (Acts.makes_call _ heap call answer none) may its = (along.none, its)
+  acts_are doer after trace steps (Acts.cuts_run _ heap addr run taken) may its = (along.holds taken _ refl, its)
+  acts_are doer _ trace steps (Acts.asks_pages _ after asked run _ does) may its = asks_are doer.party after asked steps run does its
+  acts_are doer _ trace steps (Acts.notifies_run _ after heap run _ does) may its = notifies_are doer.party after heap run steps does its
+  acts_are doer _ trace steps (Acts.attaches _ after taken ended tries) may its =
+      (along.attaches doer.party.me taken ended (may refl), subst Is (sym (ap (λ (party : Party). party.me) tries.after_is)) its)
+  acts_are doer after trace steps (Acts.detaches _ taken secondary) may its = (along.leaves doer.party.me taken its, its)
+  acts_are doer after trace steps (Acts.notes_left _ elements) may its = (along.none, its)
+  acts_are doer after trace steps (Acts.and_then _ mid _ first rest before behind here next) may its =
+      let begins = acts_are doer mid first before here (λ looks. may (looks_first first rest looks)) its in
       let ends = acts_are mid after rest behind next (λ looks. may (looks_rest first rest looks)) begins.1 in
       (along.both before behind begins.0 ends.0, ends.1)

@@ -47,7 +47,7 @@ module _ (set : Setting) (sets : IsSetting set) (waits : AreWaitsQuiet) (acts : 
   gone_servers : does.away.servers ≡ slice_set old.servers me vacated
   gone_servers = ap (λ (hall : SoloView). hall.servers) does.gone
 
-  is_there : party_at old.servers me ≡ Some does.party
+  is_there : party_at old.servers me ≡ Some does.doer.party
   is_there = ap party_in does.there
 
   apart : (servers : List AloneView) (place : AloneView) (who : ℕ) → who ≢ me
@@ -55,9 +55,9 @@ module _ (set : Setting) (sets : IsSetting set) (waits : AreWaitsQuiet) (acts : 
   apart servers place who other = sym (ap party_in (slice_get-set_other servers me who place other))
 
   -- it has left its place
-  gone : IsWorldOf does.away me does.party world
+  gone : IsWorldOf does.away me does.doer.party world
   gone =
-      subst (λ (hall : SoloView). IsWorldOf hall me does.party world) (sym does.gone)
+      subst (λ (hall : SoloView). IsWorldOf hall me does.doer.party world) (sym does.gone)
       (record {
         shared = at.shared;
         order = at.order;
@@ -66,28 +66,28 @@ module _ (set : Setting) (sets : IsSetting set) (waits : AreWaitsQuiet) (acts : 
         others = λ who other. at.all who ∙ apart old.servers vacated who other;
       })
 
-  did : Acts set.count does.party does.after does.does.does.trace does.does.does.steps
+  did : Acts set.count does.doer does.after does.does.does.trace does.does.does.steps
   did =
-      subst (λ (count : ℕ). Acts count does.party does.after does.does.does.trace does.does.does.steps)
+      subst (λ (count : ℕ). Acts count does.doer does.after does.does.does.trace does.does.does.steps)
       (sym does.all ∙ ap (λ (hall : HallView). length hall.owns) gone_plain ∙ all_count set old world at quiet.quiet) does.does.does.acts
 
-  looks : AttachesOnce does.party does.does.does.trace
+  looks : AttachesOnce does.doer.party does.does.does.trace
   looks =
-      attaches_once line does.does.facts does.does.does.trace _ does.party
+      attaches_once line does.does.facts does.does.does.trace _ does.doer.party
       (λ joined. does.does.known.attached ∙ sym does.attached ∙ joined) does.does.does.leads
 
   owes : Owes false does.does.does.trace false
   owes = owing line does.does.facts does.does.does.trace answer does.does.does.leads
 
-  leads : LeadsTo (IsQuietOwing set false) does.back me does.after
+  leads : LeadsTo (IsQuietOwing set false) does.back me does.after.party
   leads =
-      acts waits set me false false does.away does.back does.party does.after does.does.does.trace does.does.does.steps world sets gone
+      acts waits set me false false does.away does.back does.doer does.after does.does.does.trace does.does.does.steps world sets gone
       quiet early does.sequence looks owes did
 
   within : me < length does.back.servers
   within =
       let long = sequence_long me does.away does.back does.does.does.steps does.sequence in
-      let before = slice_get_within old.servers me (filled does.party) does.there in
+      let before = slice_get_within old.servers me (filled does.doer.party) does.there in
       omega (
         arith,
         long,
@@ -96,13 +96,13 @@ module _ (set : Setting) (sets : IsSetting set) (waits : AreWaitsQuiet) (acts : 
         ap (λ (servers : List AloneView). length servers) gone_servers,
       )
 
-  all_there : (who : ℕ) → slice_get leads.world.parties who ≡ party_at (slice_set does.back.servers me (filled does.after)) who
+  all_there : (who : ℕ) → slice_get leads.world.parties who ≡ party_at (slice_set does.back.servers me (filled does.after.party)) who
   all_there who =
       ⊎_elim
       (λ (same : who ≡ me).
-      subst (λ (who : ℕ). slice_get leads.world.parties who ≡ party_at (slice_set does.back.servers me (filled does.after)) who) (sym same)
-      (leads.its.own ∙ sym (ap party_in (slice_get-set_same does.back.servers me (filled does.after) within))))
-      (λ (other : who ≢ me). leads.its.others who other ∙ apart does.back.servers (filled does.after) who other)
+      subst (λ (who : ℕ). slice_get leads.world.parties who ≡ party_at (slice_set does.back.servers me (filled does.after.party)) who) (sym same)
+      (leads.its.own ∙ sym (ap party_in (slice_get-set_same does.back.servers me (filled does.after.party) within))))
+      (λ (other : who ≢ me). leads.its.others who other ∙ apart does.back.servers (filled does.after.party) who other)
       (cases_eq who me)
 
   -- it has come back
@@ -113,7 +113,7 @@ module _ (set : Setting) (sets : IsSetting set) (waits : AreWaitsQuiet) (acts : 
         (record {
           shared = leads.its.shared;
           order = leads.its.order;
-          going = none_set does.back.servers me (filled does.after) refl leads.its.going;
+          going = none_set does.back.servers me (filled does.after.party) refl leads.its.going;
           all = all_there;
         });
     quiet = leads.holds;

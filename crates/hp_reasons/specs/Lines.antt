@@ -10,6 +10,7 @@ use Rattle.hp_proc.specs.Acting.{Acts}
 use Rattle.hp_proc.specs.Doing.{Doing, Done, Leads}
 use Rattle.hp_proc.specs.Doing.Done.{Asked, Called, CaughtUp, GaveUp, Looked}
 use Rattle.hp_proc.specs.Lines.{Facts, doing_of}
+use Rattle.hp_proc.specs.ParticipantView.{ParticipantView}
 use Rattle.hp_serve.specs.Party.{Party}
 use Rattle.hp_serve.specs.Waiting.{IsTurned}
 use Rattle.hp_script.specs.declared.answer.Answer.{Answer}
@@ -81,7 +82,7 @@ LinesOweNothing = (line : Line) (facts : Facts) (trace : List Done) (answer : An
 
 -- what a participant does of its line leads from a quiet world to a quiet one
 abbrev pub ActsInQuiet : Type 0
-ActsInQuiet = AreWaitsQuiet → (set : Setting) (me : ℕ) (owes left : Bool) (old new : SoloView) (party after : Party) (trace : List Done)
-    (steps : List MailStep) (world : World) → IsSetting set → IsWorldOf old me party world → IsQuietOwing set owes world
-    → new.plain.clock ≤ 2 ^ 62 → Sequence me old steps new → AttachesOnce party trace → Owes owes trace left
-    → Acts set.count party after trace steps → LeadsTo (IsQuietOwing set left) new me after
+ActsInQuiet = AreWaitsQuiet → (set : Setting) (me : ℕ) (owes left : Bool) (old new : SoloView) (doer after : ParticipantView) (trace : List Done)
+    (steps : List MailStep) (world : World) → IsSetting set → IsWorldOf old me doer.party world → IsQuietOwing set owes world
+    → new.plain.clock ≤ 2 ^ 62 → Sequence me old steps new → AttachesOnce doer.party trace → Owes owes trace left
+    → Acts set.count doer after trace steps → LeadsTo (IsQuietOwing set left) new me after.party

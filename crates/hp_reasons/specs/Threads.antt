@@ -6,6 +6,7 @@ use Rattle.hp_base.specs.declared.plan_entry.MsgKind.TheVariants as message
 use Rattle.hp_heap.specs.History.{HeapView}
 use Rattle.hp_plain.specs.HallView.{HasDone, heard_in, part_in, seen_in, segs_in, slot_at}
 use Rattle.hp_proc.specs.LinesDone.{Course}
+use Rattle.hp_proc.specs.ParticipantView.{ParticipantView}
 use Rattle.hp_serve.specs.Party.{Party}
 use Rattle.hp_proc.specs.Progress.{DoesLine, moment_of}
 use Rattle.hp_script.specs.declared.answer.Answer.{Answer}
@@ -39,22 +40,22 @@ with_place who place hall = record hall { servers = slice_set hall.servers who p
 
 -- a participant leaves its place, does a line while the others serve whenever it waits, and comes back
 pub record DoesInTurn (line : Line) (answer : Answer) (old new : SoloView) : Type 0 where
-  pub party : Party
-  pub after : Party
+  pub doer : ParticipantView
+  pub after : ParticipantView
   pub away : SoloView
   pub back : SoloView
-  pub there : server_at old.servers line.participant ≡ Some (filled party)
+  pub there : server_at old.servers line.participant ≡ Some (filled doer.party)
   -- it has a table exactly where its lines leave it attached
-  pub attached : party.joined ≡ party.context.standing.attached
+  pub attached : doer.party.joined ≡ doer.context.standing.attached
   pub gone : away ≡ with_place line.participant vacated old
   pub count : ℕ
   pub all : length away.plain.owns ≡ count
   pub does : DoesLine count (HasDone away.plain back.plain line.participant) line answer
-      (moment_of party (part_in away.plain line.participant) (seen_in away.plain) (heard_in away.plain))
+      (moment_of doer (part_in away.plain line.participant) (seen_in away.plain) (heard_in away.plain))
       (moment_of after (part_in back.plain line.participant) (seen_in back.plain) (heard_in back.plain))
   pub sequence : Sequence line.participant away does.does.steps back
   pub rises : back.plain.clock ≤ away.plain.clock + 2 ^ 40
-  pub new_is : new ≡ with_place line.participant (filled after) back
+  pub new_is : new ≡ with_place line.participant (filled after.party) back
 
 -- a run: the lines of its participants one after another, and behind the last one turns of all
 pub data OneThread (first : SoloView) : List Course → SoloView → Type 0 where

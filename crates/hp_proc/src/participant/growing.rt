@@ -11,11 +11,11 @@ ghost use Rattle.hp_proc.specs.LineInHall.{DoesHeld, HasRoom, HoldsIn, KeepsHeld
 
 use super::Participant;
 use crate::page_sizes::page_sizes_for;
-use hp_serve::PagesAsked;
 use crate::socket_heap::SocketHeap;
 use hp_base::{Mapper, Request};
 use hp_hall::Waiting;
 use hp_heap::Heap;
+use hp_serve::PagesAsked;
 use std::alloc::AllocError;
 
 impl<'p, M: Mapper> Participant<'p, M> {

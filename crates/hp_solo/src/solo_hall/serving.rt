@@ -63,11 +63,7 @@ pub fn serve_range<M: Mapper>(
 }
 
 // Serves the one of a number.
-fn serve_at<M: Mapper>(
-    hall: &mut PlainHall,
-    servers: &mut Vec<Alone<'_, M>>,
-    number: usize,
-) -> bool
+fn serve_at<M: Mapper>(hall: &mut PlainHall, servers: &mut Vec<Alone<'_, M>>, number: usize) -> bool
     requires there { IsHome (slot_at hall.old MAX_HEAPS) }
     requires count { length servers.old.items ≡ length hall.old.owns }
     requires tied { AreTied hall.old servers.old.items }

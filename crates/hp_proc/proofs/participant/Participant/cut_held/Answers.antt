@@ -142,9 +142,9 @@ returns-in-Some g c =
           (giving_up place.index) after (takes_segments taken ∷ gives_segments (after_retire heap.plain.index run taken) ∷ []) counted
           (subst (λ (index : ℕ). Did me (takes_segments taken ∷ gives_segments (after_retire index run taken) ∷ []) old new) c.requires.its
           (subst (λ (who : ℕ). Did who (takes_segments taken ∷ gives_segments (after_retire place.index run taken) ∷ []) old new) is_me is.did.1))
-          (Acts.cuts_run doer.party heap.plain.index c.args.addr run taken))
+          (Acts.cuts_run doer heap.plain.index c.args.addr run taken))
           (does_still old.count (did_in me new new) left (in_hand cut (moment_of after part seen heard)) (moment_with cut me after new) []
-          (did_same me new) (Acts.nothing after.party) (λ at. (same at).entries) (λ at. (same at).serves) (same_party after.party) refl refl more.0 more.1 outcomes.0
+          (did_same me new) (Acts.nothing after) (λ at. (same at).entries) (λ at. (same at).serves) (same_party after.party) refl refl more.0 more.1 outcomes.0
           outcomes.1));
       settled = subst (λ (who : ℕ). HasSettledAsks who later (new.heard me)) (sym is_me)
           (settled_more me part later heard (new.heard me) outcomes.0 outcomes.1 (given_up_armed place.index run part later gives_up apart)

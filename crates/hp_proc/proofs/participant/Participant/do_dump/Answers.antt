@@ -178,7 +178,7 @@ returns g c =
       idle = record {
         same = same;
         idle = subst (λ (who : ℕ). IsIdleIn who after.party new) after_me
-          (idle_put after.party next held.can (but_kept (its ∙ took.index) c.hold.ensures.slots (slots_same mid)) put.tied put.free put.slots put.others);
+            (idle_put after.party next held.can (but_kept (its ∙ took.index) c.hold.ensures.slots (slots_same mid)) put.tied put.free put.slots put.others);
       };
       goes_on = g.met.H.Hall.goes_on_then _ _ _ c.hold.ensures.goes_on put.goes_on;
     }

@@ -36,7 +36,7 @@ returns g c =
     record {
       does = λ doing.
           does_still old.count (λ (steps : List MailStep). Did me steps old new) doing (in_hand heap (moment me doer old)) (moment me doer new)
-          (Gives heap.plain.index (Heap heap) ∷ []) did (Acts.gives_heap doer.party heap)
+          (Gives heap.plain.index (Heap heap) ∷ []) did (Acts.gives_heap doer heap)
           (given_entries me heap (old.part me) (new.part me) given.0 given.1)
           (λ at. given_serves me heap (old.part me) (new.part me) given.0 given.1 at ∙ sym (hand_serves me heap (old.part me) at))
           (same_party doer.party) refl refl seen.0 seen.1 heard.0 heard.1;

@@ -27,7 +27,7 @@ pub taking-init : goal.taking-init
 taking-init g c =
     let old = g.H.Hall.state c.args.hall.now in
     record {
-      waited = ([], did_same _ old, Acts.nothing c.args.self.now.party);
+      waited = ([], did_same _ old, Acts.nothing c.args.self.now);
       stays = in_same c.args.self.now.party.me c.args.self.now.party old c.requires.ready.idle.tied;
       context = refl;
       asked = refl;
@@ -80,8 +80,8 @@ returns-in-Ok g c =
       did = λ doing.
           does_still old.count (λ (steps : List MailStep). Did me steps old new) doing (moment me doer old) (in_hand heap (moment me c.taking.self new))
           (was.waited.0 ++ Takes heap.plain.index (Heap heap) ∷ []) (did_then was.waited.1 step)
-          (Acts.and_then doer.party c.taking.self.party c.taking.self.party [] [] was.waited.0 (Takes heap.plain.index (Heap heap) ∷ []) was.waited.2
-          (Acts.takes_heap c.taking.self.party heap))
+          (Acts.and_then doer c.taking.self c.taking.self [] [] was.waited.0 (Takes heap.plain.index (Heap heap) ∷ []) was.waited.2
+          (Acts.takes_heap c.taking.self heap))
           (λ index.
           subst (λ (who : ℕ). (with_hand who heap (new.part me) index).entries ≡ (mid.part me index).entries) (sym was.stays.same.me)
           (took_hand heap (mid.part me) (new.part me) shown.here shown.apart me shown.has index)
@@ -154,8 +154,8 @@ taking-preserved g c =
         was.waited.0 ++ one.0,
         did_then was.waited.1
             (did_then (in_did was.stays (subst (λ (who : ℕ). Did who [] mid late) here tried.held.did)) (in_did so_far one.1)),
-        waits_more old.count late.count (2 ^ 64 - 1) c.args.self.now.party c.taking.self.party c.turn.new.self.party c.in_ok-turn-in-Err.field-0 was.waited.0 one.0
-            so_far.waits.later.count was.waited.2 one.2,
+        waits_more old.count late.count (2 ^ 64 - 1) c.args.self.now c.taking.self c.turn.new.self c.in_ok-turn-in-Err.field-0 was.waited.0 one.0
+            so_far.waits.later.count is.context was.waited.2 one.2,
       );
       stays = in_then so_far is.stays;
       context = is.context ∙ was.context;

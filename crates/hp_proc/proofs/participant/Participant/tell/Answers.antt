@@ -15,7 +15,7 @@ use Rattle.hp_proc.specs.ParticipantView.{ParticipantView}
 use Rattle.hp_proc.specs.declared.element_act.Left.{Left}
 use Rattle.hp_proc.specs.Progress.{Does, moment_of}
 use Rattle.hp_proc.proofs.HandGiven.{ready_still}
-use Rattle.hp_proc.proofs.Joining.{context_still, does_same}
+use Rattle.hp_proc.proofs.Joining.{context_still, does_same, goes_as}
 use Rattle.hp_hall.proofs.HallStates.{did_same}
 use Rattle.hp_proc.specs.LineInHall.{did_in, moment}
 use Rattle.hp_proc.proofs.Holds.{again_by, again_same}
@@ -37,7 +37,8 @@ module _ (count : ℕ) (doer after : ParticipantView) (heap : ℕ) (run : Run) (
     steps = steps;
     leads = (refl, refl);
     made = made;
-    acts = Acts.notifies_run doer.party after.party heap run steps notifies;
+    acts = subst (λ (after : ParticipantView). Acts count doer after (Done.GaveUp heap run ∷ []) steps) (goes_as doer after known)
+        (Acts.notifies_run doer after.party heap run steps notifies);
     entries = λ index. ap (λ (part : HeapPart). part.entries) (alike index) ∙ sym (append-nil (parts index).entries);
     serves = λ index. ap (λ (part : HeapPart). part.serves) (alike index);
     counted = context_still doer.context after.context known;
