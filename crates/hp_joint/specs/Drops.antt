@@ -56,7 +56,7 @@ DropsOpen = (count : ℕ) (log : List LogRecord) (asks : List AskLog) → DropsC
 abbrev pub DropsGoOnByLine : Type 0
 DropsGoOnByLine = (workload : Workload) (courses : List Course) (parties behind : List Party) (old new : HallView) (line : Line)
     (answer : Answer) (was now : SegsView) → IsGiven workload → SoFar workload courses parties old
-    → (goes : GoesBy workload line answer parties behind old new) → segs_in (slot_at old MAX_HEAPS) ≡ Some was
+    → (goes : GoesBy workload courses line answer parties behind old new) → segs_in (slot_at old MAX_HEAPS) ≡ Some was
     → segs_in (slot_at new MAX_HEAPS) ≡ Some now → now.retiring ≡ [] → DropsComeFirst workload.participants was.log was.asks courses
     → DropsComeFirst workload.participants now.log now.asks
     (courses ++ record { line = line; answer = answer; trace = goes.does.does.does.trace } ∷ [])

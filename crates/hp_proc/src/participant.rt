@@ -39,6 +39,13 @@ impl<'p, M: Mapper> Participant<'p, M> {
         Participant { server, context }
     }
 
+    /// What serves and asks for it. Own.
+    pub fn server(&self) -> &Server<'p, M>
+        ensures { result.now ≡ self.now.party }
+    {
+        &self.server
+    }
+
     /// What serves and asks for it, and what it knows of its lines. Own.
     pub fn into_parts(self) -> (Server<'p, M>, LineContext<'p>)
         ensures server { result.0 ≡ self.entry.party }

@@ -14,6 +14,7 @@ use Rattle.hp_maps.specs.MapsView.{MapsView, chunk_rows, table_in}
 use Rattle.hp_script.specs.declared.workload.Workload.{Workload}
 use Rattle.hp_serve.specs.Party.{Party}
 use Rattle.hp_serve.specs.Tied.{HasTable, IsTied, nothing_yet, part_of}
+use Rattle.hp_proc.specs.Contexts.{Context}
 use Rattle.hp_proc.proofs.Unarmed.{all_alike}
 use Rattle.hp_solo.specs.Solo.{IsTiedAt, AloneView, SoloView, nobody, server_at, with_party}
 use Rattle.hp_solo.proofs.SoloWaits.{tied_first}
@@ -22,7 +23,7 @@ use Rattle.hp_joint.specs.EndLaws.{IsFirstParty, IsGiven, OpensSoFar}
 use Rattle.hp_joint.specs.SoFar.{SoFar}
 use Rattle.hp_reasons.specs.Threads.{OneThread}
 use Rattle.hp_run.specs.Opening.{HaveCome, IsFirstHall, IsPartyOver, IsPlannedParty}
-use Rattle.hp_run.specs.Running.{HaveDoneLines, IsRunnable, place_of}
+use Rattle.hp_run.specs.Running.{CanGoOn, IsRunnable, KnowSoFar, place_of}
 
 -- what the lines of a workload say that can be run
 pub given_by : (workload : Workload) → IsRunnable workload → IsGiven workload
@@ -216,9 +217,11 @@ first_made workload who may_fail party planned = record {
 }
 
 -- they have done no line yet
-pub opens_so : (workload : Workload) (mappers : List (Option (List FailingCall))) (hall : SoloView) → OpensSoFar → DropsOpen → IsRunnable workload
-    → IsFirstHall workload hall → HaveCome workload mappers hall.servers → HaveDoneLines workload [] [] hall
-opens_so workload mappers hall law drops runnable first come = record {
+pub opens_so : (workload : Workload) (mappers : List (Option (List FailingCall))) (contexts : List (Option Context)) (hall : SoloView)
+    → OpensSoFar → DropsOpen → IsRunnable workload → IsFirstHall workload hall → HaveCome workload mappers hall.servers
+    → KnowSoFar workload [] contexts → CanGoOn workload [] [] contexts hall
+opens_so workload mappers contexts hall law drops runnable first come know = record {
+  done = record {
   parties = come.parties;
   are = come.are;
   courses = [];
@@ -243,5 +246,7 @@ opens_so workload mappers hall law drops runnable first come = record {
     };
     thread = OneThread.opens;
   };
-  drops = λ segs at nothing. drops workload.participants segs.log segs.asks;
+    drops = λ segs at nothing. drops workload.participants segs.log segs.asks;
+  };
+  know = know;
 }

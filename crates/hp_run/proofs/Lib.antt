@@ -5,6 +5,7 @@ mod OpeningLemmas
 mod Coming
 mod Places
 mod NextLine
+mod Knowing
 mod Beside
 mod Returning
 mod OneMore

@@ -23,14 +23,14 @@ use Rattle.hp_script.specs.declared.line.Act.TheVariants as act
 use Rattle.hp_script.specs.declared.line.Line.{Line}
 use Rattle.hp_script.specs.declared.workload.Workload.{Workload}
 use Rattle.hp_segs.proofs.ListFacts.{all_unmap}
-use Rattle.hp_proc.specs.Contexts.{Context, IsNextLine}
+use Rattle.hp_proc.specs.Contexts.{IsNextLine}
 use Rattle.hp_proc.specs.Courses.{Standing, after_line, calls_in, element_brought, element_in, last_heap}
 use Rattle.hp_proc.specs.Doing.{Done}
 use Rattle.hp_proc.specs.LinesDone.{Course, courses_of, opening_standing, standing_after}
 use Rattle.hp_serve.specs.Party.{Party}
 use Rattle.hp_proc.specs.Progress.{IsLineBuilt, MayComeAndGo}
 use Rattle.hp_proc.specs.declared.own_element.OwnElement.{OwnElement}
-use Rattle.hp_joint.specs.SoFar.{SoFar, first_hall, first_segs}
+use Rattle.hp_joint.specs.SoFar.{SoFar, context_of, first_hall, first_segs}
 use Rattle.hp_run.specs.Running.{IsRunnable}
 
 -- THE LINE IS ONE OF THOSE THAT ARE BUILT, AND STANDS BEHIND THE OTHERS
@@ -102,17 +102,17 @@ lines_before lines index line rising within is = λ i d below.
 module _ (workload : Workload) (courses : List Course) (parties : List Party) (hall : HallView)
     (so_far : SoFar workload courses parties hall) where
   -- behind the lines so far the next one may be done
-  pub next_line : (who : ℕ) (party : Party) (index : ℕ) (line : Line) → IsRunnable workload
-      → map (λ (course : Course). course.line) courses ≡ take index workload.lines.items → slice_get parties who ≡ Some party
-      → index < length workload.lines.items → line ≡ get_or workload.lines.items index line → IsNextLine party.context line
-  next_line who party index line runnable lines_are there within is =
+  pub next_line : (who : ℕ) (index : ℕ) (line : Line) → IsRunnable workload
+      → map (λ (course : Course). course.line) courses ≡ take index workload.lines.items
+      → index < length workload.lines.items → line ≡ get_or workload.lines.items index line
+      → IsNextLine (context_of workload who courses) line
+  next_line who index line runnable lines_are within is =
       let before = lines_before workload.lines.items index line runnable.lines.rising within is in
       let earlier : All (IsEarlier line.line) courses =
       all_unmap (λ (one : Line). one.line < line.line) (λ (course : Course). course.line) courses
       (subst (λ (lines : List Line). All (λ (one : Line). one.line < line.line) lines) (sym lines_are) before) in
-      subst (λ (context : Context). All (IsBelow line.line) context.standing.elements) (sym (so_far.each who party there).context)
-      (elements_below line.line (opening_standing workload who) (courses_of who courses) (All-nil (IsBelow line.line))
-      (All-filter (λ (course : Course). course.line.participant == who) (IsEarlier line.line) courses earlier))
+      elements_below line.line (opening_standing workload who) (courses_of who courses) (All-nil (IsBelow line.line))
+      (All-filter (λ (course : Course). course.line.participant == who) (IsEarlier line.line) courses earlier)
 
   -- THE HALL BETWEEN TWO LINES
 

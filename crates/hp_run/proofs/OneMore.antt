@@ -1,7 +1,8 @@
 -- A participant leaves its place for a line, and comes back: all have done one line more.
-use Rattle.std.proofs.Common.{◌≡◌, ◌∙◌, ℕ, ◌+◌, ◌<◌, ◌≤◌, ◌++◌, List, [], ◌∷◌, length, Some, sym, ap, subst, arith}
+use Rattle.std.proofs.Common.{◌≡◌, ◌∙◌, ℕ, ◌+◌, ◌<◌, ◌≤◌, ◌++◌, List, [], ◌∷◌, length, set, Option, Some, None, sym, ap, subst, arith}
 use Rattle.std.specs.List.{slice_get}
 use Rattle.std.proofs.lemmas.List.{length_push, map-append}
+use Rattle.std.proofs.lemmas.Option.{same_Some}
 use Rattle.hp_base.specs.declared.limits.TheConstants.{MAX_HEAPS}
 use Rattle.hp_plain.specs.HallView.{HallView, HasDone, IsHome, heard_in, own_at, part_in, seen_in, segs_in, slot_at}
 use Rattle.hp_script.specs.declared.answer.Answer.{Answer}
@@ -10,33 +11,34 @@ use Rattle.hp_script.specs.declared.workload.Workload.{Workload}
 use Rattle.hp_proc.specs.Contexts.{Context}
 use Rattle.hp_proc.specs.LinesDone.{Course}
 use Rattle.hp_serve.specs.Party.{IsSameParty, Party}
-use Rattle.hp_proc.specs.ParticipantView.{with_context}
+use Rattle.hp_proc.specs.ParticipantView.{ParticipantView}
 use Rattle.hp_proc.specs.Progress.{DoesLine, IsLineBuilt, MayDo, moment_of}
 use Rattle.hp_serve.specs.Tied.{IsTied}
 use Rattle.hp_solo.specs.Solo.{AloneView, SoloView}
 use Rattle.hp_joint.specs.Drops.{DropsGoOnByLine}
 use Rattle.hp_joint.specs.EndLaws.{GoesBy, GoesOnByLine, IsGiven, MayFailAsBefore, OthersServe}
-use Rattle.hp_joint.specs.SoFar.{SoFar}
+use Rattle.hp_joint.specs.SoFar.{SoFar, context_of}
 use Rattle.hp_reasons.specs.Threads.{DoesInTurn, MayRun, OneThread, ThreadsEndLevel}
-use Rattle.hp_run.specs.Running.{AreParties, FailAsBefore, HaveDoneLines}
+use Rattle.hp_run.specs.Running.{AreParties, CanGoOn, FailAsBefore, HaveDoneLines}
+use Rattle.hp_run.proofs.Knowing.{know_more}
 use Rattle.hp_run.proofs.NextLine.{all_count}
 use Rattle.hp_run.proofs.Places.{party_there}
 use Rattle.hp_run.proofs.Returning.{IsBackFrom, as_before, back_in, behind, first_there, gone_from, in_sequence, its_place, others_serve}
 
 -- what a line does, by the number of its participant and by how many there are
-abbrev pub DoesFor : ℕ → ℕ → Party → Party → HallView → HallView → Line → Answer → Type 0
-DoesFor count me party after old new line answer =
-    DoesLine count (HasDone old new me) line answer (moment_of party (part_in old me) (seen_in old) (heard_in old))
+abbrev pub DoesFor : ℕ → ℕ → ParticipantView → ParticipantView → HallView → HallView → Line → Answer → Type 0
+DoesFor count me doer after old new line answer =
+    DoesLine count (HasDone old new me) line answer (moment_of doer (part_in old me) (seen_in old) (heard_in old))
     (moment_of after (part_in new me) (seen_in new) (heard_in new))
 
 -- what the participant of a line did, and what that leaves
-pub record HasDoneIts (line : Line) (answer : Answer) (party after : Party) (old new : HallView) : Type 0 where
+pub record HasDoneIts (line : Line) (answer : Answer) (doer after : ParticipantView) (old new : HallView) : Type 0 where
   pub built : IsLineBuilt line.participant line.act
-  pub me : party.me ≡ line.participant
-  pub does : DoesFor (length old.owns) party.me party after old new line answer
-  pub ready : MayDo (moment_of after (part_in new party.me) (seen_in new) (heard_in new))
-  pub tied : IsTied (seen_in new) (own_at new party.me) after.joined after.maps
-  pub same : IsSameParty (with_context after.context party) after
+  pub me : doer.party.me ≡ line.participant
+  pub does : DoesFor (length old.owns) doer.party.me doer after old new line answer
+  pub ready : MayDo (moment_of after (part_in new doer.party.me) (seen_in new) (heard_in new))
+  pub tied : IsTied (seen_in new) (own_at new doer.party.me) after.party.joined after.party.maps
+  pub same : IsSameParty doer.party after.party
   pub home : (number : ℕ) → number ≤ MAX_HEAPS → IsHome (slot_at new number)
 
 -- the mapper of each place may fail as before, where that of each participant may
@@ -45,12 +47,17 @@ pub fail_alike : (old new : List AloneView) (parties behind : List Party) → Ar
 fail_alike old new parties behind were are alike = λ who party after there now.
     alike who party after (sym (party_there old parties were who) ∙ there) (sym (party_there new behind are who) ∙ now)
 
-module _ (workload : Workload) (lines : List Line) (answers : List Answer) (line : Line) (answer : Answer) (party after : Party)
-    (first away back last : SoloView) (law : GoesOnByLine) (drops : DropsGoOnByLine) (level : ThreadsEndLevel) (given : IsGiven workload) (was : HaveDoneLines workload lines answers first)
-    (declared : line.participant < workload.participants) (there : slice_get was.parties line.participant ≡ Some party)
-    (did : HasDoneIts line answer party after away.plain back.plain)
-    (is : IsBackFrom line.participant after was.parties first away back last)
-    (may : (courses : List Course) → length courses ≡ length was.courses + 1 → MayRun workload courses) where
+module _ (workload : Workload) (lines : List Line) (answers : List Answer) (line : Line) (answer : Answer) (doer after : ParticipantView)
+    (before : List (Option Context)) (first away back last : SoloView) (law : GoesOnByLine) (drops : DropsGoOnByLine)
+    (level : ThreadsEndLevel) (given : IsGiven workload) (can : CanGoOn workload lines answers before first)
+    (declared : line.participant < workload.participants) (there : slice_get can.done.parties line.participant ≡ Some doer.party)
+    (took : slice_get before line.participant ≡ Some (Some doer.context))
+    (did : HasDoneIts line answer doer after away.plain back.plain)
+    (is : IsBackFrom line.participant after.party can.done.parties first away back last)
+    (may : (courses : List Course) → length courses ≡ length can.done.courses + 1 → MayRun workload courses) where
+  abbrev was : HaveDoneLines workload lines answers first
+  was = can.done
+
   so_far : SoFar workload was.courses was.parties away.plain
   so_far = subst (λ (hall : HallView). SoFar workload was.courses was.parties hall) (sym is.gone_plain) was.so_far
 
@@ -58,31 +65,39 @@ module _ (workload : Workload) (lines : List Line) (answers : List Answer) (line
   count = all_count workload was.courses was.parties away.plain so_far
 
   abbrev behind_all : (behind : List Party) × AreParties last.servers behind
-  behind_all = behind line.participant after was.parties first away back last is
+  behind_all = behind line.participant after.party was.parties first away back last is
 
-  at_own : DoesFor workload.participants line.participant party after away.plain back.plain line answer
+  -- it knew what its lines had left
+  knew : doer.context ≡ context_of workload line.participant was.courses
+  knew =
+      same_Some doer.context (context_of workload line.participant was.courses)
+      (same_Some (Some doer.context) (Some (context_of workload line.participant was.courses))
+      (sym took ∙ can.know line.participant declared))
+
+  at_own : DoesFor workload.participants line.participant doer after away.plain back.plain line answer
   at_own =
-      subst (λ (count : ℕ). DoesFor count line.participant party after away.plain back.plain line answer) count
-      (subst (λ (me : ℕ). DoesFor (length away.plain.owns) me party after away.plain back.plain line answer) did.me did.does)
+      subst (λ (count : ℕ). DoesFor count line.participant doer after away.plain back.plain line answer) count
+      (subst (λ (me : ℕ). DoesFor (length away.plain.owns) me doer after away.plain back.plain line answer) did.me did.does)
 
-  goes_by : GoesBy workload line answer was.parties behind_all.0 away.plain back.plain
+  goes_by : GoesBy workload was.courses line answer was.parties behind_all.0 away.plain back.plain
   goes_by = record {
     declared = declared;
     built = did.built;
-    count = as_before line.participant after was.parties first away back last is
+    count = as_before line.participant after.party was.parties first away back last is
         ∙ ap (λ (hall : HallView). length hall.owns) (sym is.gone_plain) ∙ count ∙ sym was.so_far.count;
-    party = party;
+    doer = doer;
     after = after;
     before_is = there;
-    behind_is = its_place line.participant after was.parties first away back last is;
+    behind_is = its_place line.participant after.party was.parties first away back last is;
+    knew = knew;
     does = record {
       does = at_own;
       ready = subst (λ (me : ℕ). MayDo (moment_of after (part_in back.plain me) (seen_in back.plain) (heard_in back.plain))) did.me did.ready;
-      tied = subst (λ (me : ℕ). IsTied (seen_in back.plain) (own_at back.plain me) after.joined after.maps) did.me did.tied;
+      tied = subst (λ (me : ℕ). IsTied (seen_in back.plain) (own_at back.plain me) after.party.joined after.party.maps) did.me did.tied;
       same = did.same;
     };
     others = subst (λ (count : ℕ). OthersServe (λ other. other ≡ line.participant) count away.plain back.plain was.parties behind_all.0) count
-        (others_serve line.participant after was.parties first away back last is);
+        (others_serve line.participant after.party was.parties first away back last is);
     home = λ number below. did.home number (omega (arith, below));
     course = is.course.plain;
   }
@@ -90,25 +105,26 @@ module _ (workload : Workload) (lines : List Line) (answers : List Answer) (line
   -- it did its line in turn
   in_turn : DoesInTurn line answer first last
   in_turn =
-      let its = was.so_far.each line.participant party there in
+      let its = was.so_far.each line.participant doer.party there in
       record {
-        party = party;
+        doer = doer;
         after = after;
         away = away;
         back = back;
-        there = first_there line.participant party after was.parties first away back last is there;
-        attached = its.joined ∙ sym (ap (λ (context : Context). context.standing.attached) its.context);
-        gone = gone_from line.participant party after was.parties first away back last is there;
+        there = first_there line.participant doer.party after.party was.parties first away back last is there;
+        attached = its.joined ∙ sym (ap (λ (context : Context). context.standing.attached) knew);
+        gone = gone_from line.participant doer.party after.party was.parties first away back last is there;
         count = workload.participants;
         all = count;
         does = at_own;
-        sequence = in_sequence line.participant party after was.parties first away back last is there at_own.does.steps at_own.does.made;
+        sequence = in_sequence line.participant doer.party after.party was.parties first away back last is there at_own.does.steps at_own.does.made;
         rises = is.rises;
-        new_is = back_in line.participant party after was.parties first away back last is there;
+        new_is = back_in line.participant doer.party after.party was.parties first away back last is there;
       }
 
   -- all have done one line more
-  pub done_more : HaveDoneLines workload (lines ++ line ∷ []) (answers ++ answer ∷ []) last × FailAsBefore first.servers last.servers
+  pub done_more : CanGoOn workload (lines ++ line ∷ []) (answers ++ answer ∷ [])
+      (set (set before line.participant None) line.participant (Some after.context)) last × FailAsBefore first.servers last.servers
   unfolding in_turn goes_by
   done_more =
       let goes_on = law workload was.courses was.parties behind_all.0 away.plain back.plain line answer given so_far goes_by in
@@ -119,24 +135,27 @@ module _ (workload : Workload) (lines : List Line) (answers : List Answer) (line
       let thread : OneThread was.thread.first courses last =
       OneThread.goes_on was.courses line answer first last was.thread.thread in_turn in (
         record {
-          parties = behind_all.0;
-          are = behind_all.1;
-          courses = courses;
-          so_far = so;
-          lines_are = map-append (λ (course : Course). course.line) was.courses (more ∷ [])
-              ∙ ap (λ (lines : List Line). lines ++ line ∷ []) was.lines_are;
-          answered = map-append (λ (course : Course). course.answer) was.courses (more ∷ [])
-              ∙ ap (λ (answers : List Answer). answers ++ answer ∷ []) was.answered;
-          thread = record { first = was.thread.first; opens = was.thread.opens; thread = thread };
-          drops = λ segs at nothing.
-              let done = level workload was.thread.first last courses behind_all.0 segs
-              (may courses (length_push was.courses more)) was.thread.opens thread so at nothing in
-              drops workload was.courses was.parties behind_all.0 away.plain back.plain line answer was.so_far.now.segs segs given so_far
-              goes_by
-              (subst (λ (hall : HallView). segs_in (slot_at hall MAX_HEAPS) ≡ Some was.so_far.now.segs) (sym is.gone_plain)
-              was.so_far.its_segs)
-              (subst (λ (hall : HallView). segs_in (slot_at hall MAX_HEAPS) ≡ Some segs) is.came_plain at) done.gone
-              (was.drops was.so_far.now.segs was.so_far.its_segs nothing);
+          done = record {
+            parties = behind_all.0;
+            are = behind_all.1;
+            courses = courses;
+            so_far = so;
+            lines_are = map-append (λ (course : Course). course.line) was.courses (more ∷ [])
+                ∙ ap (λ (lines : List Line). lines ++ line ∷ []) was.lines_are;
+            answered = map-append (λ (course : Course). course.answer) was.courses (more ∷ [])
+                ∙ ap (λ (answers : List Answer). answers ++ answer ∷ []) was.answered;
+            thread = record { first = was.thread.first; opens = was.thread.opens; thread = thread };
+            drops = λ segs at nothing.
+                let done = level workload was.thread.first last courses behind_all.0 segs
+                (may courses (length_push was.courses more)) was.thread.opens thread so at nothing in
+                drops workload was.courses was.parties behind_all.0 away.plain back.plain line answer was.so_far.now.segs segs given so_far
+                goes_by
+                (subst (λ (hall : HallView). segs_in (slot_at hall MAX_HEAPS) ≡ Some was.so_far.now.segs) (sym is.gone_plain)
+                was.so_far.its_segs)
+                (subst (λ (hall : HallView). segs_in (slot_at hall MAX_HEAPS) ≡ Some segs) is.came_plain at) done.gone
+                (was.drops was.so_far.now.segs was.so_far.its_segs nothing);
+          };
+          know = know_more workload was.courses more before after.context declared can.know goes_on.1.1;
         },
-        fail_alike first.servers last.servers was.parties behind_all.0 was.are behind_all.1 goes_on.1,
+        fail_alike first.servers last.servers was.parties behind_all.0 was.are behind_all.1 goes_on.1.0,
       )

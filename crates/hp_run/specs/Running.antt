@@ -1,5 +1,5 @@
 -- What a run needs of its workload, and how far it came. The rule "Turns in one thread" of docs/PARTICIPANTS.md.
-use Rattle.std.specs.Prelude.{◌≡◌, ℕ, false, List, map, Some}
+use Rattle.std.specs.Prelude.{◌≡◌, ℕ, ◌<◌, false, List, map, Option, Some, slice_get}
 use Rattle.std.specs.List.{All}
 use Rattle.hp_base.specs.Participants.{IsAbsent}
 use Rattle.hp_base.specs.declared.limits.TheConstants.{MAX_HEAPS}
@@ -13,11 +13,12 @@ use Rattle.hp_script.specs.declared.line.Line.{Line}
 use Rattle.hp_script.specs.declared.workload.Workload.{Workload}
 use Rattle.hp_plain.specs.HallView.{segs_in, slot_at}
 use Rattle.hp_segs.specs.SegsView.{SegsView}
+use Rattle.hp_proc.specs.Contexts.{Context}
 use Rattle.hp_proc.specs.LinesDone.{Course}
 use Rattle.hp_serve.specs.Party.{Party}
 use Rattle.hp_solo.specs.Solo.{AloneView, SoloView, party_at}
 use Rattle.hp_joint.specs.Drops.{DropsComeFirst}
-use Rattle.hp_joint.specs.SoFar.{SoFar}
+use Rattle.hp_joint.specs.SoFar.{SoFar, context_of}
 use Rattle.hp_reasons.specs.Counting.{LosesNothing}
 use Rattle.hp_reasons.specs.Threads.{OneThread, OpensThread}
 
@@ -58,6 +59,17 @@ pub record HaveDoneLines (workload : Workload) (lines : List Line) (answers : Li
   pub thread : CameInThread workload courses hall
   pub drops : (segs : SegsView) → segs_in (slot_at hall.plain MAX_HEAPS) ≡ Some segs → LosesNothing workload.plan.items
       → DropsComeFirst workload.participants segs.log segs.asks courses
+
+-- each participant knows what its lines so far left
+abbrev pub KnowSoFar : Workload → List Course → List (Option Context) → Type 0
+KnowSoFar workload courses contexts = (who : ℕ) → who < workload.participants
+    → slice_get contexts who ≡ Some (Some (context_of workload who courses))
+
+-- they have done these lines, and can go on: each knows what its own lines left
+pub record CanGoOn (workload : Workload) (lines : List Line) (answers : List Answer) (contexts : List (Option Context)) (hall : SoloView)
+  : Type 0 where
+    pub done : HaveDoneLines workload lines answers hall
+    pub know : KnowSoFar workload done.courses contexts
 
 -- the mapper of each participant that is there may fail at the calls at which it might before
 abbrev pub FailAsBefore : List AloneView → List AloneView → Type 0

@@ -5,10 +5,12 @@ ghost use Rattle.hp_script.specs.declared.line.Line.{Line};
 ghost use Rattle.hp_script.specs.declared.workload.Workload.{Workload};
 ghost use Rattle.hp_solo.specs.Draining.{IsDrained};
 ghost use Rattle.hp_solo.specs.Solo.{has_stopped};
-ghost use Rattle.hp_run.specs.Running.{FailAsBefore, HaveDoneLines, IsRunnable};
+ghost use Rattle.hp_run.specs.Running.{CanGoOn, FailAsBefore, HaveDoneLines, IsRunnable};
 
+use crate::contexts::Contexts;
 use hp_base::Mapper;
 use hp_joint::{drops_law, line_law};
+use hp_proc::Participant;
 use hp_reasons::level_law;
 use hp_script::{Answer, Workload};
 use hp_solo::SoloHall;
@@ -19,41 +21,51 @@ use std::alloc::{AllocError, Global};
 pub fn do_lines<'p, M: Mapper>(
     alloc: Global,
     workload: &Workload<'_>,
+    contexts: Contexts<'p>,
     hall: &mut SoloHall<'p, M>,
 ) -> Result<Vec<Answer>, AllocError>
     requires runnable { IsRunnable workload.now }
-    requires first { HaveDoneLines workload.now [] [] hall.old }
+    requires first { CanGoOn workload.now [] [] contexts hall.old }
     ensures done { IfOk result (λ answers. HaveDoneLines workload.now workload.now.lines.items answers.items hall.new) }
     ensures may_fail { OnOk result (FailAsBefore hall.old.servers hall.new.servers) }
 {
+    let mut contexts = contexts;
     let mut answers = Vec::with_capacity(alloc, workload.lines.len())?;
     for place in 0..workload.lines.len() {
-        do_next(workload, place, hall, &mut answers)?;
+        do_next(workload, place, &mut contexts, hall, &mut answers)?;
     }
     Ok(answers)
 }
 
-// The participant of the line at a place leaves its own place, does the line, while the others serve whenever it waits, and comes back. Its
-// answer is the next one.
+// The participant of the line at a place leaves its own place with what it knows, does the line, while the others serve whenever it waits,
+// and comes back. Its answer is the next one.
 fn do_next<'p, M: Mapper>(
     workload: &Workload<'_>,
     place: usize,
+    contexts: &mut Contexts<'p>,
     hall: &mut SoloHall<'p, M>,
     answers: &mut Vec<Answer>,
 ) -> Result<(), AllocError>
     requires runnable { IsRunnable workload.now }
     requires within { place < length workload.now.lines.items }
-    requires so_far { HaveDoneLines workload.now (take place workload.now.lines.items) answers.old.items hall.old }
+    requires so_far { CanGoOn workload.now (take place workload.now.lines.items) answers.old.items contexts.old hall.old }
     ensures done { OnOk result
-        (HaveDoneLines workload.now (take (place + 1) workload.now.lines.items) answers.new.items hall.new) }
+        (CanGoOn workload.now (take (place + 1) workload.now.lines.items) answers.new.items contexts.new hall.new) }
     ensures may_fail { OnOk result (FailAsBefore hall.old.servers hall.new.servers) }
 {
     let line = &workload.lines[place];
-    let Some(mut participant) = hall.away(line.participant) else {
+    let who = line.participant;
+    let Some(server) = hall.away(who) else {
         unreachable!();
     };
+    let Some(context) = contexts.take(who) else {
+        unreachable!();
+    };
+    let mut participant = Participant::new(server, context);
     let answer = participant.do_line(hall, line);
-    hall.back(participant);
+    let (server, context) = participant.into_parts();
+    hall.back(server);
+    contexts.put(who, context);
     all_going(hall)?;
     answers.push(answer?)?;
     // What holds of every such hall, and of every line more.

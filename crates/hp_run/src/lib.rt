@@ -1,6 +1,7 @@
 //! The program as one call: a workload is read, run and reported.
 #![tactic(auto)]
 
+mod contexts;
 mod doing;
 mod mappers;
 mod opening;

@@ -8,8 +8,9 @@ ghost use Rattle.hp_reasons.specs.Threads.{HaveReasons};
 ghost use Rattle.hp_run.specs.Ending.{AreAsMay, IsHeardEnd, IsLevelEnd, IsSoloRunEnd};
 ghost use Rattle.hp_run.specs.Mappers.{IsUnused};
 ghost use Rattle.hp_run.specs.Opening.{HaveCome, IsEmptyHall, IsFirstHall, IsPlannedParty};
-ghost use Rattle.hp_run.specs.Running.{HaveDoneLines, IsRunnable, IsSameWorkload};
+ghost use Rattle.hp_run.specs.Running.{CanGoOn, IsRunnable, IsSameWorkload};
 
+use crate::contexts::Contexts;
 use crate::doing::{do_lines, do_rest};
 use crate::opening::{first_heaps, plan_of};
 use hp_agreed::{alike_law, restoring_law};
@@ -18,11 +19,12 @@ use hp_heap::Heap;
 use hp_joint::{drops_law, end_law, failure_law, line_law, refusal_law};
 use hp_maps::{LocalMaps, Planned, Table};
 use hp_plain::{HallParts, PlainHall};
-use hp_proc::{LineContext, Participant, WorkloadFacts};
+use hp_proc::WorkloadFacts;
 use hp_reasons::{level_law, none_law, notices_law, reasons_law};
 use hp_report::Ended;
 use hp_script::{Answer, Workload};
 use hp_segs::Segs;
+use hp_serve::Server;
 use hp_solo::{SoloEnd, SoloHall};
 use std::alloc::{AllocError, Global};
 
@@ -110,13 +112,14 @@ fn run_lines<'p, M: Mapper>(
         left.segs left.tables.items) }
 {
     let mut hall = empty_hall(alloc, workload)?;
-    come_all(alloc, workload, plan, facts, mappers, &mut hall)?;
+    come_all(alloc, workload, plan, mappers, &mut hall)?;
+    let contexts = Contexts::first(alloc, workload, facts)?;
     line_law();
     drops_law();
     alike_law();
     restoring_law();
     none_law();
-    run_in(alloc, workload, hall)
+    run_in(alloc, workload, contexts, hall)
 }
 
 // The hall before the first line, to which nobody has come yet.
@@ -139,7 +142,7 @@ fn empty_hall<'p, M: Mapper>(
 }
 
 // Whether a participant is attached at the start.
-fn is_present(workload: &Workload<'_>, who: u8) -> bool
+pub fn is_present(workload: &Workload<'_>, who: u8) -> bool
     requires { who < 16 }
     ensures { result ≡ is_present workload.now.participants workload.now.absent who }
 {
@@ -152,28 +155,24 @@ fn first_party<'p, M: Mapper>(
     workload: &Workload<'_>,
     who: u8,
     plan: &'p Plan,
-    facts: &'p WorkloadFacts<'p>,
     mapper: M,
-) -> Result<Participant<'p, M>, AllocError>
+) -> Result<Server<'p, M>, AllocError>
     requires runnable { IsRunnable workload.now }
     requires declared { who < workload.now.participants }
     requires plan { plan.now ≡ workload.now.plan.items }
-    requires facts { facts.now ≡ said_in workload.now }
     requires unused { IsUnused (M.held mapper) (M.answers mapper) (M.capacity mapper) }
     ensures { IfOk result (λ participant. IsPlannedParty workload.now who (M.may_fail mapper) participant) }
 {
     let joined = is_present(workload, who);
     let planned = Planned::new(mapper, plan, who);
     let maps = LocalMaps::new(alloc, planned, MAX_SEGMENTS as usize)?;
-    let context = LineContext::new(alloc, Some(facts), joined);
-    Ok(Participant::new(
+    Ok(Server::new(
         who,
         workload.sockets[who as usize],
         joined,
         maps,
         plan,
         workload.deadline,
-        context,
     ))
 }
 
@@ -182,13 +181,11 @@ fn come_all<'p, M: Mapper>(
     alloc: Global,
     workload: &Workload<'_>,
     plan: &'p Plan,
-    facts: &'p WorkloadFacts<'p>,
     mappers: Vec<M>,
     hall: &mut SoloHall<'p, M>,
 ) -> Result<(), AllocError>
     requires runnable { IsRunnable workload.now }
     requires plan { plan.now ≡ workload.now.plan.items }
-    requires facts { facts.now ≡ said_in workload.now }
     requires count { workload.now.participants ≤ length mappers.items }
     requires unused { All (λ mapper. IsUnused (M.held mapper) (M.answers mapper) (M.capacity mapper)) mappers.items }
     requires empty { IsEmptyHall workload.now hall.old }
@@ -198,7 +195,7 @@ fn come_all<'p, M: Mapper>(
     let mut mappers = mappers;
     for who in 0..workload.participants {
         let mapper = mappers.remove(0);
-        let participant = first_party(alloc, workload, who, plan, facts, mapper)?;
+        let participant = first_party(alloc, workload, who, plan, mapper)?;
         hall.back(participant);
     }
     Ok(())
@@ -208,10 +205,11 @@ fn come_all<'p, M: Mapper>(
 fn run_in<'p, M: Mapper>(
     alloc: Global,
     workload: &Workload<'_>,
+    contexts: Contexts<'p>,
     hall: SoloHall<'p, M>,
 ) -> Result<Left, AllocError>
     requires runnable { IsRunnable workload.now }
-    requires first { HaveDoneLines workload.now [] [] hall }
+    requires first { CanGoOn workload.now [] [] contexts hall }
     ensures end { IfOk result (λ left.
         IsHeardEnd workload.now left.answers.items left.heaps.items left.segs left.tables.items) }
     ensures named { IfOk result (λ left. AreAsMay workload.now hall.entry.servers left.answers.items left.segs) }
@@ -220,7 +218,7 @@ fn run_in<'p, M: Mapper>(
         LosesNothing workload.now.plan.items → IsLevelEnd left.segs left.tables.items) }
 {
     let mut hall = hall;
-    let answers = do_lines(alloc, workload, &mut hall)?;
+    let answers = do_lines(alloc, workload, contexts, &mut hall)?;
     do_rest(&mut hall)?;
     let SoloEnd { tables, plain } = hall.end(alloc)?;
     // What holds of every hall is handed out with its values.

@@ -24,8 +24,8 @@ use hp_base::{MAX_HEAPS, MAX_SEGMENTS, MemMapper, MsgKind, Plan, PlanEntry, Pool
 use hp_heap::Heap;
 use hp_maps::{LocalMaps, Planned};
 use hp_plain::PlainHall;
-use hp_proc::{LineContext, Participant};
 use hp_segs::{Ask, Segs};
+use hp_serve::Server;
 use pages::retire_page;
 use std::alloc::{AllocError, Global};
 use std::test::Fail;
@@ -152,7 +152,7 @@ pub(crate) fn member<'p>(
     alloc: Global,
     me: u8,
     plan: &'p Plan,
-) -> Result<Participant<'p, MemMapper>, AllocError>
+) -> Result<Server<'p, MemMapper>, AllocError>
     requires declared { me < MAX_PARTICIPANTS }
     ensures number { IfOk result (λ party. party.me ≡ me) }
     ensures tied { IfOk result (λ party. (log : List LogRecord) → IsTied log nothing_yet party.joined party.maps) }
@@ -160,6 +160,5 @@ pub(crate) fn member<'p>(
     let rows = MAX_SEGMENTS as usize;
     let mapper = Planned::new(MemMapper::new(alloc, rows)?, plan, me);
     let maps = LocalMaps::new(alloc, mapper, rows)?;
-    let context = LineContext::new(alloc, None, true);
-    Ok(Participant::new(me, 0, true, maps, plan, DEADLINE, context))
+    Ok(Server::new(me, 0, true, maps, plan, DEADLINE))
 }

@@ -1,6 +1,6 @@
 //! What a participant does between the steps of its lines: what serves for it does that, and what it knows stays.
-ghost use Rattle.std.specs.Prelude.{◌≡◌, ◌≢◌, ◌^◌, ℕ, ◌+◌, ◌<◌, ◌≤◌, ◌∷◌, ◌++◌, ◌||◌, [], false, length};
-ghost use Rattle.std.specs.Prelude.{List, Some, IfOk, IsSome, OnErr, OnOk};
+ghost use Rattle.std.specs.Prelude.{◌≡◌, ◌≢◌, ◌^◌, ℕ, ◌+◌, ◌-◌, ◌*◌, ◌<◌, ◌≤◌, ◌∷◌, ◌++◌, ◌||◌, [], false, length};
+ghost use Rattle.std.specs.Prelude.{List, Some, IfOk, IsSome, Ok, OnErr, OnOk};
 ghost use Rattle.std.specs.Result.{result_ok};
 ghost use Rattle.hp_base.specs.Mapping.{is_done};
 ghost use Rattle.hp_hall.specs.HallState.{Did, IsBusy};
@@ -15,7 +15,10 @@ ghost use Rattle.hp_serve.specs.AskSteps.{DoesAsk, DoesNotify};
 ghost use Rattle.hp_serve.specs.Asking.{GivesUp, GrowsHeld, HasSettledAsks, IsAsked, IsCutFrom, IsHeldAsBefore};
 ghost use Rattle.hp_serve.specs.Attaching.{Attaches, after_attaching, after_detaching};
 ghost use Rattle.hp_serve.specs.Clocks.{RisesWithin, longest_wait};
-ghost use Rattle.hp_serve.specs.InHall.{CanServe, IsTiedIn, RemainsIn, StaysIn, left_to_do};
+ghost use Rattle.hp_serve.specs.Coordinating.{IsServed};
+ghost use Rattle.hp_serve.specs.Falling.{served_of};
+ghost use Rattle.hp_serve.specs.InHall.{CanServe, IsTiedIn, RemainsIn, StaysAlone, StaysIn, left_to_do};
+ghost use Rattle.hp_serve.specs.Party.{due_in};
 ghost use Rattle.hp_serve.specs.SegmentSlot.{MayHold, StaysButParts, StaysButRoster};
 ghost use Rattle.hp_serve.specs.Serving.{acks_behind, gives_segments, takes_segments};
 ghost use Rattle.hp_serve.specs.Waiting.{IsTurned, LeavesAsked};
@@ -32,6 +35,22 @@ impl<'p, M: Mapper> Participant<'p, M> {
         ensures { result ≡ self.now.party.me }
     {
         self.server.number()
+    }
+
+    /// Serves once, as what serves for it does: what it knows of its lines stays. Own.
+    pub fn serve<H: Hall>(&mut self, hall: &mut H) -> Result<bool, AllocError>
+        requires can { CanServe self.old.party.me self.old.party (H.state hall.old) }
+        ensures served { (steps : List MailStep) × Did self.old.party.me steps (H.state hall.old) (H.state hall.new)
+            × IsServed (H.state hall.old).count self.old.party self.new.party steps (result_ok result) }
+        ensures weight { left_to_do H.scale H.pending self.new.party (H.state hall.new) + H.scale * served_of result
+            ≤ left_to_do H.scale H.pending self.old.party (H.state hall.old) }
+        ensures rests { result ≡ Ok false → (deadline : ℕ) → due_in self.new.party.core ≡ Some deadline → deadline < 2 ^ 64 - 1
+            → H.pending (H.state hall.new).clock deadline ≡ H.scale }
+        ensures alone { StaysAlone self.old.party.me self.old.party self.new.party (H.state hall.old) (H.state hall.new) }
+        ensures context { self.new.context ≡ self.old.context }
+        ensures goes_on { H.goes_on hall.old hall.new }
+    {
+        self.server.serve(hall)
     }
 
     // Takes a turn of a wait until a deadline.

@@ -11,13 +11,13 @@ use crate::tests::PAGE;
 use hp_base::{Caller, MemMapper, Request, Run};
 use hp_hall::{Hall, Slot};
 use hp_heap::Heap;
-use hp_proc::Participant;
 use hp_serve::PagesAsked;
+use hp_serve::Server;
 use hp_solo::SoloHall;
 use std::alloc::AllocError;
 
 /// It takes heap 0.
-pub fn take_heap(hall: &mut SoloHall<'_, MemMapper>, party: &Participant<'_, MemMapper>) -> Heap
+pub fn take_heap(hall: &mut SoloHall<'_, MemMapper>, party: &Server<'_, MemMapper>) -> Heap
     requires may { MayWait hall.old party.now }
     requires begins { MayBeginToAsk hall.old.plain party.now.me }
     ensures may { MayAsk hall.new party.now }
@@ -29,7 +29,7 @@ pub fn take_heap(hall: &mut SoloHall<'_, MemMapper>, party: &Participant<'_, Mem
 /// It asks for a page, in which that request has a place, for the heap that it holds.
 pub fn ask_for_page(
     hall: &mut SoloHall<'_, MemMapper>,
-    party: &mut Participant<'_, MemMapper>,
+    party: &mut Server<'_, MemMapper>,
     request: Request,
 ) -> Result<Option<Run>, AllocError>
     requires may { MayAsk hall.old party.old }
@@ -68,7 +68,7 @@ fn grow_and_cut(heap: &mut Heap, me: u8, run: &Run) -> Option<Run>
 /// It asks for a page for the heap in its hand, which has room for two calls: the page comes to the heap, and is cut from there again.
 pub fn cut_granted(
     hall: &mut SoloHall<'_, MemMapper>,
-    party: &mut Participant<'_, MemMapper>,
+    party: &mut Server<'_, MemMapper>,
     heap: &mut Heap,
     request: Request,
 ) -> Result<Option<Run>, AllocError>
@@ -86,7 +86,7 @@ pub fn cut_granted(
 }
 
 /// It gives a run up that was cut.
-pub fn retire(hall: &mut SoloHall<'_, MemMapper>, party: &Participant<'_, MemMapper>, run: &Run)
+pub fn retire(hall: &mut SoloHall<'_, MemMapper>, party: &Server<'_, MemMapper>, run: &Run)
     requires may { MayWait hall.old party.now }
     requires cut { MayGiveUp (part_in hall.old.plain party.now.me) run.now }
     ensures may { MayWait hall.new party.now }
@@ -97,7 +97,7 @@ pub fn retire(hall: &mut SoloHall<'_, MemMapper>, party: &Participant<'_, MemMap
 /// It tells that it gave a run up.
 pub fn notify(
     hall: &mut SoloHall<'_, MemMapper>,
-    party: &mut Participant<'_, MemMapper>,
+    party: &mut Server<'_, MemMapper>,
     run: &Run,
 ) -> Result<(), AllocError>
     requires may { MayWait hall.old party.old }

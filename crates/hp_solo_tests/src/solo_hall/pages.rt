@@ -11,8 +11,8 @@ use super::steps::{look, read};
 use crate::tests::shown::{End, SegsShown};
 use crate::tests::{BASE, PAGE, first_ask, lost, plan_of};
 use hp_base::{MemMapper, MsgKind, Plan, PlanEntry, Request, Run};
-use hp_proc::Participant;
 use hp_segs::RowState;
+use hp_serve::Server;
 use hp_solo::SoloHall;
 use std::alloc::{AllocError, Global};
 use std::test::Fail;
@@ -60,7 +60,7 @@ struct Came {
 // What has come of a line by now, with that run.
 fn afterwards(
     hall: &mut SoloHall<'_, MemMapper>,
-    party: &Participant<'_, MemMapper>,
+    party: &Server<'_, MemMapper>,
     run: Option<Run>,
 ) -> Came
     requires may { MayWait hall.old party.now }
@@ -78,7 +78,7 @@ fn afterwards(
 // It takes heap 0, and asks for a page: what was granted.
 fn ask_once(
     hall: &mut SoloHall<'_, MemMapper>,
-    party: &mut Participant<'_, MemMapper>,
+    party: &mut Server<'_, MemMapper>,
     request: Request,
 ) -> Result<Option<Run>, AllocError>
     requires may { MayWait hall.old party.old }
@@ -92,7 +92,7 @@ fn ask_once(
 // It takes heap 0, asks for a page, cuts it from the heap again, and gives it up: what was given up.
 fn retire_granted(
     hall: &mut SoloHall<'_, MemMapper>,
-    party: &mut Participant<'_, MemMapper>,
+    party: &mut Server<'_, MemMapper>,
     request: Request,
 ) -> Result<Option<Run>, AllocError>
     requires may { MayWait hall.old party.old }
@@ -111,7 +111,7 @@ fn retire_granted(
 // It does so, and tells that it did.
 fn give_up_granted(
     hall: &mut SoloHall<'_, MemMapper>,
-    party: &mut Participant<'_, MemMapper>,
+    party: &mut Server<'_, MemMapper>,
     request: Request,
 ) -> Result<Option<Run>, AllocError>
     requires may { MayWait hall.old party.old }
@@ -136,7 +136,7 @@ enum Line {
 // It does its line: the run that was granted, or given up.
 fn do_line(
     hall: &mut SoloHall<'_, MemMapper>,
-    party: &mut Participant<'_, MemMapper>,
+    party: &mut Server<'_, MemMapper>,
     request: Request,
     line: Line,
 ) -> Result<Option<Run>, AllocError>

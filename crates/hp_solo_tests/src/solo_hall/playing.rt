@@ -11,7 +11,7 @@ use crate::tests::shown::End;
 use hp_base::{MemMapper, Plan, PlanEntry};
 use hp_hall::{Posted, Waiting};
 use hp_maps::Table;
-use hp_proc::Participant;
+use hp_serve::Server;
 use hp_solo::{SoloEnd, SoloHall};
 use std::alloc::{AllocError, Global};
 use std::test::Fail;
@@ -52,7 +52,7 @@ enum Otherwise {
 }
 
 // It posts its first ask, and whether that went into the mailbox of participant 0.
-fn post_ask(hall: &mut SoloHall<'_, MemMapper>, party: &Participant<'_, MemMapper>) -> bool
+fn post_ask(hall: &mut SoloHall<'_, MemMapper>, party: &Server<'_, MemMapper>) -> bool
     requires may { MayWait hall.old party.now }
     ensures may { MayWait hall.new party.now }
 {
@@ -66,7 +66,7 @@ fn post_ask(hall: &mut SoloHall<'_, MemMapper>, party: &Participant<'_, MemMappe
 // Whether a step came out as it stands.
 fn do_step(
     hall: &mut SoloHall<'_, MemMapper>,
-    party: &mut Participant<'_, MemMapper>,
+    party: &mut Server<'_, MemMapper>,
     step: Step,
 ) -> Result<bool, AllocError>
     requires may { MayWait hall.old party.old }
@@ -91,7 +91,7 @@ fn do_step(
 // Each step comes out as it stands.
 fn do_steps(
     hall: &mut SoloHall<'_, MemMapper>,
-    party: &mut Participant<'_, MemMapper>,
+    party: &mut Server<'_, MemMapper>,
     steps: &[Step],
 ) -> Result<(), Otherwise>
     requires may { MayWait hall.old party.old }

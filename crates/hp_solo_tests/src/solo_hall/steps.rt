@@ -8,15 +8,14 @@ use crate::tests::shown::{End, SegsShown, shown_in};
 use hp_base::{Action, MemMapper};
 use hp_frame::Body;
 use hp_hall::{Hall, Posted, Waiting};
-use hp_proc::Participant;
-use hp_serve::{framed, put_back, take_segments};
+use hp_serve::{Server, framed, put_back, take_segments};
 use hp_solo::SoloHall;
 use std::alloc::AllocError;
 
 /// It posts its first ask to participant 0, as one of that number.
 pub fn ask(
     hall: &mut SoloHall<'_, MemMapper>,
-    party: &Participant<'_, MemMapper>,
+    party: &Server<'_, MemMapper>,
     from: u8,
 ) -> Posted
     requires from { from < 2 }
@@ -41,7 +40,7 @@ pub fn ask(
 /// Those below or above it serve.
 pub fn others(
     hall: &mut SoloHall<'_, MemMapper>,
-    party: &Participant<'_, MemMapper>,
+    party: &Server<'_, MemMapper>,
     above: bool,
 ) -> Result<bool, AllocError>
     requires may { MayWait hall.old party.now }
@@ -53,7 +52,7 @@ pub fn others(
 /// It serves once itself.
 pub fn serve(
     hall: &mut SoloHall<'_, MemMapper>,
-    party: &mut Participant<'_, MemMapper>,
+    party: &mut Server<'_, MemMapper>,
 ) -> Result<bool, AllocError>
     requires may { MayWait hall.old party.old }
     ensures may { MayWait hall.new party.new }
@@ -64,7 +63,7 @@ pub fn serve(
 /// A turn of its wait, but for the pause: who did something, of those below, itself and those above.
 pub fn turn(
     hall: &mut SoloHall<'_, MemMapper>,
-    party: &mut Participant<'_, MemMapper>,
+    party: &mut Server<'_, MemMapper>,
 ) -> Result<(bool, bool, bool), AllocError>
     requires may { MayWait hall.old party.old }
     ensures may { MayWait hall.new party.new }
@@ -76,7 +75,7 @@ pub fn turn(
 }
 
 /// The reading of its clock.
-pub fn read(hall: &mut SoloHall<'_, MemMapper>, party: &Participant<'_, MemMapper>) -> u64
+pub fn read(hall: &mut SoloHall<'_, MemMapper>, party: &Server<'_, MemMapper>) -> u64
     requires may { MayWait hall.old party.now }
     ensures may { MayWait hall.new party.now }
     ensures before { (until : ℕ) → result < until → pending_at hall.new.plain.clock until ≡ 1 }
@@ -85,7 +84,7 @@ pub fn read(hall: &mut SoloHall<'_, MemMapper>, party: &Participant<'_, MemMappe
 }
 
 // A pause of a turn in which nothing moved, up to a deadline that is still to come.
-fn pause_before(hall: &mut SoloHall<'_, MemMapper>, party: &Participant<'_, MemMapper>, until: u64)
+fn pause_before(hall: &mut SoloHall<'_, MemMapper>, party: &Server<'_, MemMapper>, until: u64)
     requires may { MayWait hall.old party.now }
     ensures may { MayWait hall.new party.now }
 {
@@ -97,7 +96,7 @@ fn pause_before(hall: &mut SoloHall<'_, MemMapper>, party: &Participant<'_, MemM
 // A turn of a wait until a deadline that is still to come.
 fn turn_until(
     hall: &mut SoloHall<'_, MemMapper>,
-    party: &mut Participant<'_, MemMapper>,
+    party: &mut Server<'_, MemMapper>,
     until: u64,
 ) -> Result<bool, AllocError>
     requires may { MayWait hall.old party.old }
@@ -110,7 +109,7 @@ fn turn_until(
 // A turn of a wait until a deadline. Where that is not to come, it counts as one in which something moved.
 fn turn_before(
     hall: &mut SoloHall<'_, MemMapper>,
-    party: &mut Participant<'_, MemMapper>,
+    party: &mut Server<'_, MemMapper>,
     until: u64,
 ) -> Result<bool, AllocError>
     requires may { MayWait hall.old party.old }
@@ -126,7 +125,7 @@ fn turn_before(
 /// It takes a turn of a wait until a deadline that is still to come: whether something moved, and the reading of its clock afterwards.
 pub fn take_turn(
     hall: &mut SoloHall<'_, MemMapper>,
-    party: &mut Participant<'_, MemMapper>,
+    party: &mut Server<'_, MemMapper>,
     until: u64,
 ) -> Result<(bool, u64), AllocError>
     requires may { MayWait hall.old party.old }
@@ -139,7 +138,7 @@ pub fn take_turn(
 /// It pauses where nothing moved, up to a deadline that is still to come: the reading of its clock afterwards.
 pub fn pause(
     hall: &mut SoloHall<'_, MemMapper>,
-    party: &Participant<'_, MemMapper>,
+    party: &Server<'_, MemMapper>,
     until: u64,
 ) -> u64
     requires may { MayWait hall.old party.now }
@@ -150,7 +149,7 @@ pub fn pause(
 }
 
 /// The kind of the first frame of its mailbox, and 0 where that is empty.
-pub fn fetch(hall: &mut SoloHall<'_, MemMapper>, party: &Participant<'_, MemMapper>) -> u8
+pub fn fetch(hall: &mut SoloHall<'_, MemMapper>, party: &Server<'_, MemMapper>) -> u8
     requires may { MayWait hall.old party.now }
     ensures may { MayWait hall.new party.now }
 {
@@ -161,7 +160,7 @@ pub fn fetch(hall: &mut SoloHall<'_, MemMapper>, party: &Participant<'_, MemMapp
 }
 
 // How many records one of those up to it has acknowledged.
-fn load(hall: &mut SoloHall<'_, MemMapper>, party: &Participant<'_, MemMapper>, who: u8) -> u64
+fn load(hall: &mut SoloHall<'_, MemMapper>, party: &Server<'_, MemMapper>, who: u8) -> u64
     requires who { who ≤ party.now.me }
     requires may { MayWait hall.old party.now }
     ensures may { MayWait hall.new party.now }
@@ -170,7 +169,7 @@ fn load(hall: &mut SoloHall<'_, MemMapper>, party: &Participant<'_, MemMapper>, 
 }
 
 /// How many records participant 0 has acknowledged, and how many it has itself.
-pub fn acks(hall: &mut SoloHall<'_, MemMapper>, party: &Participant<'_, MemMapper>) -> (u64, u64)
+pub fn acks(hall: &mut SoloHall<'_, MemMapper>, party: &Server<'_, MemMapper>) -> (u64, u64)
     requires may { MayWait hall.old party.now }
     ensures may { MayWait hall.new party.now }
 {
@@ -180,7 +179,7 @@ pub fn acks(hall: &mut SoloHall<'_, MemMapper>, party: &Participant<'_, MemMappe
 }
 
 /// It takes the segment value, looks what that shows, and gives it back.
-pub fn look(hall: &mut SoloHall<'_, MemMapper>, party: &Participant<'_, MemMapper>) -> SegsShown
+pub fn look(hall: &mut SoloHall<'_, MemMapper>, party: &Server<'_, MemMapper>) -> SegsShown
     requires may { MayWait hall.old party.now }
     ensures may { MayWait hall.new party.now }
 {
@@ -194,7 +193,7 @@ pub fn look(hall: &mut SoloHall<'_, MemMapper>, party: &Participant<'_, MemMappe
 /// How the last ask ended, with the number of its participant and its own, and how many records there are.
 pub fn outcome(
     hall: &mut SoloHall<'_, MemMapper>,
-    party: &Participant<'_, MemMapper>,
+    party: &Server<'_, MemMapper>,
 ) -> (Option<(u8, u64, End)>, usize)
     requires may { MayWait hall.old party.now }
     ensures may { MayWait hall.new party.now }

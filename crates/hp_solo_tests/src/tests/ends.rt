@@ -9,17 +9,16 @@ use Act::*;
 use hp_base::{MAX_SEGMENTS, MemMapper, Plan};
 use hp_hall::Posted;
 use hp_maps::{LocalMaps, Planned};
-use hp_proc::{LineContext, Participant};
+use hp_serve::Server;
 use std::alloc::{AllocError, Global};
 use std::test::Fail;
 
 // A participant that is not attached.
-fn outsider(alloc: Global, plan: &Plan) -> Result<Participant<'_, MemMapper>, AllocError> {
+fn outsider(alloc: Global, plan: &Plan) -> Result<Server<'_, MemMapper>, AllocError> {
     let rows = MAX_SEGMENTS as usize;
     let mapper = Planned::new(MemMapper::new(alloc, rows)?, plan, 2);
     let maps = LocalMaps::new(alloc, mapper, rows)?;
-    let context = LineContext::new(alloc, None, false);
-    Ok(Participant::new(2, 0, false, maps, plan, DEADLINE, context))
+    Ok(Server::new(2, 0, false, maps, plan, DEADLINE))
 }
 
 // Both have mapped the page that was granted.

@@ -8,10 +8,10 @@ use hp_base::{Action, MemMapper, Plan, Row};
 use hp_frame::Frame;
 use hp_hall::{Hall, Posted};
 use hp_plain::PlainHall;
-use hp_proc::Participant;
-use hp_serve::{put_back, take_segments};
+use hp_proc::{LineContext, Participant};
 use hp_script::{Act, Answer, Line};
 use hp_segs::Segs;
+use hp_serve::{Server, put_back, take_segments};
 use std::alloc::{AllocError, Global};
 use std::marker::Model;
 
@@ -19,7 +19,7 @@ use std::marker::Model;
 #[derive(Drop)]
 pub(super) struct Stage<'p> {
     hall: PlainHall,
-    primary: Participant<'p, MemMapper>,
+    primary: Server<'p, MemMapper>,
     secondary: Participant<'p, MemMapper>,
     plan: &'p Plan,
     alloc: Global,
@@ -36,7 +36,7 @@ impl<'p> Model for Stage<'p> {
     ghost view = { λ a. a.hall };
 
     // All values are there, and each participant's table is tied to what the hall knows of it.
-    ghost invariant = { λ a. (length a.hall.owns ≡ 2) × AreHome a.hall × IsTiedAt a.hall 0 a.primary × IsTiedAt a.hall 1 a.secondary };
+    ghost invariant = { λ a. (length a.hall.owns ≡ 2) × AreHome a.hall × IsTiedAt a.hall 0 a.primary × IsTiedAt a.hall 1 a.secondary.party };
 }
 
 // What the segment value and the tables show.
@@ -65,7 +65,7 @@ pub(super) struct Left {
 
 // A participant ends: what it leaves.
 pub(super) fn left_by(
-    participant: Participant<'_, MemMapper>,
+    participant: Server<'_, MemMapper>,
     alloc: Global,
 ) -> Result<Left, AllocError> {
     let end = participant.end(alloc)?;
@@ -85,7 +85,8 @@ impl<'p> Stage<'p> {
     {
         let hall = plain_hall(alloc, segs)?;
         let primary = member(alloc, 0, plan)?;
-        let secondary = member(alloc, 1, plan)?;
+        let server = member(alloc, 1, plan)?;
+        let secondary = Participant::new(server, LineContext::new(alloc, None, true));
         Ok(Stage {
             hall,
             primary,
@@ -159,18 +160,18 @@ impl<'p> Stage<'p> {
 
     // When the deadline of a round passes.
     pub(super) fn due(&self) -> (Option<u64>, Option<u64>) {
-        (self.primary.due(), self.secondary.due())
+        (self.primary.due(), self.secondary.server().due())
     }
 
     // The numbers of the participants.
     pub(super) fn who(&self) -> (u8, u8) {
-        (self.primary.number(), self.secondary.number())
+        (self.primary.number(), self.secondary.server().number())
     }
 
     // The first row of each table.
     fn rows(&self) -> Result<(Option<Row>, Option<Row>), AllocError> {
         let first = self.primary.table(self.alloc)?;
-        let second = self.secondary.table(self.alloc)?;
+        let second = self.secondary.server().table(self.alloc)?;
         Ok((first.rows.first().copied(), second.rows.first().copied()))
     }
 
@@ -188,6 +189,7 @@ impl<'p> Stage<'p> {
             secondary,
             ..
         } = self;
+        let (secondary, _context) = secondary.into_parts();
         Ok((left_by(primary, alloc)?, left_by(secondary, alloc)?))
     }
 

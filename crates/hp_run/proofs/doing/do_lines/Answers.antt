@@ -11,5 +11,5 @@ loop-place-preserved g c =
     record {
       done = next.done;
       may_fail = fail_then workload [] (take c.loop-place.place workload.lines.items) [] c.loop-place.answers.items c.args.hall.now
-          c.loop-place.hall c.do_next.new.hall c.requires.first was.done was.may_fail next.may_fail;
+          c.loop-place.hall c.do_next.new.hall c.requires.first.done was.done.done was.may_fail next.may_fail;
     }

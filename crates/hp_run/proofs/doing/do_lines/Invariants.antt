@@ -1,10 +1,10 @@
 use Rattle.std.proofs.Common.{take}
-use Rattle.hp_run.specs.Running.{FailAsBefore, HaveDoneLines}
+use Rattle.hp_run.specs.Running.{CanGoOn, FailAsBefore}
 use Rattle.hp_run.proofs.doing.do_lines.Given as goal
 
 -- the lines so far were done
 abbrev pub invariant-loop-place : goal.invariant-loop-place
 invariant-loop-place g l = record {
-  done : HaveDoneLines l.fn.workload (take l.place l.fn.workload.lines.items) l.answers.items l.hall;
+  done : CanGoOn l.fn.workload (take l.place l.fn.workload.lines.items) l.answers.items l.contexts l.hall;
   may_fail : FailAsBefore l.fn.hall.servers l.hall.servers;
 }

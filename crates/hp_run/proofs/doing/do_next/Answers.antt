@@ -1,21 +1,26 @@
 -- One of the participants goes away for its line, and comes back.
-use Rattle.std.proofs.Common.{◌≡◌, ◌∙◌, ℕ, ◌+◌, List, [], ◌∷◌, ◌++◌, length, take, Some, ap, sym, subst, arith}
+use Rattle.std.proofs.Common.{◌≡◌, ◌∙◌, ℕ, ◌+◌, List, [], ◌∷◌, ◌++◌, length, set, take, Option, Some, None, ap, sym, subst, arith}
 use Rattle.std.specs.List.{slice_get}
 use Rattle.std.proofs.lemmas.List.{length-map, length-take-le, take_more}
+use Rattle.std.proofs.lemmas.Option.{same_Some, slice_get_within}
 use Rattle.hp_hall.specs.HallState.{Did, HallState, IsBusy}
 use Rattle.hp_hall.specs.Weights.{pending_at}
 use Rattle.hp_plain.specs.HallView.{HallView, heard_in, own_at, part_in, seen_in}
 use Rattle.hp_script.specs.declared.answer.Answer.{Answer}
 use Rattle.hp_script.specs.declared.line.Line.{Line}
 use Rattle.hp_serve.specs.Clocks.{IsOneClock}
+use Rattle.hp_serve.specs.Party.{Party}
+use Rattle.hp_proc.specs.Contexts.{Context, IsNextLine}
+use Rattle.hp_proc.specs.LineInHall.{IsReadyIn}
 use Rattle.hp_proc.specs.LinesDone.{Course}
+use Rattle.hp_proc.specs.ParticipantView.{ParticipantView}
 use Rattle.hp_proc.specs.Progress.{DoesLine, IsLineBuilt, MayDo, Moment, moment_of}
 use Rattle.hp_serve.specs.Tied.{IsTied}
 use Rattle.hp_serve.proofs.Rising.{one_clock}
 use Rattle.hp_solo.specs.Solo.{IsAway, SoloView, server_at}
 use Rattle.hp_solo.specs.SoloState.{solo_state}
-use Rattle.hp_joint.specs.SoFar.{SoFar}
-use Rattle.hp_run.specs.Running.{HaveDoneLines}
+use Rattle.hp_joint.specs.SoFar.{SoFar, context_of, doer_of}
+use Rattle.hp_run.specs.Running.{CanGoOn}
 use Rattle.hp_run.proofs.Coming.{given_by}
 use Rattle.hp_run.proofs.NextLine.{all_count, all_there, line_can, line_declared, next_line, nothing_out}
 use Rattle.hp_run.proofs.OneMore.{HasDoneIts, done_more}
@@ -62,34 +67,52 @@ pub unreachable-requires : goal.unreachable-requires
 unreachable-requires g c =
     let workload = c.args.workload.now in
     let line = c.index-line.result.now in
-    let was = c.requires.so_far in
+    let was = c.requires.so_far.done in
     let declared = line_declared workload c.args.place line c.requires.runnable c.requires.within c.index-line.ensures in
     let there = there_below was.parties line.participant (omega (arith, declared, was.so_far.count)) in
     c.in_default.not-Some there.0
     (c.away.ensures.party ∙ party_there c.args.hall.now.servers was.parties was.are line.participant ∙ there.1)
 
+pub take-requires : goal.take-requires
+take-requires g c =
+    let workload = c.args.workload.now in
+    let line = c.index-line.result.now in
+    let declared = line_declared workload c.args.place line c.requires.runnable c.requires.within c.index-line.ensures in
+    record { within = slice_get_within c.args.contexts.now line.participant _ (c.requires.so_far.know line.participant declared) }
+
+pub unreachable-2-requires : goal.unreachable-2-requires
+unreachable-2-requires g c =
+    let workload = c.args.workload.now in
+    let line = c.index-line.result.now in
+    let declared = line_declared workload c.args.place line c.requires.runnable c.requires.within c.index-line.ensures in
+    c.in_default-2.not-Some (context_of workload line.participant c.requires.so_far.done.courses)
+    (same_Some _ _ (sym c.take.ensures.taken ∙ c.requires.so_far.know line.participant declared))
+
 pub do_line-answer-requires-clause-next : goal.do_line-answer-requires-clause-next
 do_line-answer-requires-clause-next g c =
     let workload = c.args.workload.now in
     let line = c.index-line.result.now in
-    let was = c.requires.so_far in
-    next_line workload was.courses was.parties c.args.hall.now.plain was.so_far line.participant c.in-Some.participant c.args.place line
-    c.requires.runnable was.lines_are
-    (sym (party_there c.args.hall.now.servers was.parties was.are line.participant) ∙ sym c.away.ensures.party ∙ c.in-Some.is)
-    c.requires.within c.index-line.ensures
+    let was = c.requires.so_far.done in
+    let declared = line_declared workload c.args.place line c.requires.runnable c.requires.within c.index-line.ensures in
+    let knew : c.in-Some-2.context ≡ context_of workload line.participant was.courses =
+    same_Some _ _ (same_Some _ _ (ap Some (sym c.in-Some-2.is) ∙ sym c.take.ensures.taken ∙ c.requires.so_far.know line.participant declared)) in
+    subst (λ (context : Context). IsNextLine context line) (sym knew)
+    (next_line workload was.courses was.parties c.args.hall.now.plain was.so_far line.participant c.args.place line c.requires.runnable
+    was.lines_are c.requires.within c.index-line.ensures)
 
 pub do_line-answer-requires-clause-built : goal.do_line-answer-requires-clause-built
 do_line-answer-requires-clause-built g c =
     let line = c.index-line.result.now in
-    subst (λ (me : ℕ). IsLineBuilt me line.act) (sym c.in-Some.ensures.tied.number)
+    let number = ap (λ (doer : ParticipantView). doer.party.me) c.new.ensures ∙ c.in-Some.ensures.tied.number in
+    subst (λ (me : ℕ). IsLineBuilt me line.act) (sym number)
     (line_can c.args.workload.now c.args.place line c.requires.runnable c.requires.within c.index-line.ensures)
 
 pub do_line-answer-requires-clause-ready : goal.do_line-answer-requires-clause-ready
 do_line-answer-requires-clause-ready g c =
     let workload = c.args.workload.now in
     let line = c.index-line.result.now in
-    let was = c.requires.so_far in
-    let party = c.in-Some.participant in
+    let was = c.requires.so_far.done in
+    let party = c.in-Some.server in
     let away = c.away.new.self in
     let plain = away.plain in
     let so_far : SoFar workload was.courses was.parties plain =
@@ -99,7 +122,12 @@ do_line-answer-requires-clause-ready g c =
     let number = c.in-Some.ensures.tied.number in
     let its = so_far.each line.participant party there in
     let declared = line_declared workload c.args.place line c.requires.runnable c.requires.within c.index-line.ensures in
-    record {
+    let knew : c.in-Some-2.context ≡ context_of workload line.participant was.courses =
+    same_Some _ _ (same_Some _ _ (ap Some (sym c.in-Some-2.is) ∙ sym c.take.ensures.taken ∙ c.requires.so_far.know line.participant declared)) in
+    let doer_is : c.new.result ≡ doer_of workload line.participant was.courses party =
+    c.new.ensures ∙ ap (λ (context : Context). record { party = party; context = context }) knew in
+    subst (λ (doer : ParticipantView). IsReadyIn doer.party.me doer (solo_state away)) (sym doer_is)
+    (record {
       idle = record {
         serves = subst (λ (me : ℕ). IsAway (server_at away.servers me)) (sym number) c.away.ensures.away;
         declared = omega (arith, number, declared, all_count workload was.courses was.parties plain so_far);
@@ -107,19 +135,22 @@ do_line-answer-requires-clause-ready g c =
         home = all_there workload was.courses was.parties plain so_far;
         tied = subst (λ (me : ℕ). IsTied (seen_in plain) (own_at plain me) party.joined party.maps) (sym number) its.tied;
       };
-      ready = subst (λ (me : ℕ). MayDo (moment_of party (part_in plain me) (seen_in plain) (heard_in plain))) (sym number) its.ready;
-    }
+      ready = subst (λ (me : ℕ). MayDo (moment_of (doer_of workload line.participant was.courses party) (part_in plain me) (seen_in plain) (heard_in plain)))
+          (sym number) its.ready;
+    })
 
 pub back-requires-clause-declared : goal.back-requires-clause-declared
 back-requires-clause-declared g c =
     let workload = c.args.workload.now in
     let line = c.index-line.result.now in
-    let was = c.requires.so_far in
+    let was = c.requires.so_far.done in
     let did = c.do_line-answer.ensures in
     let declared = line_declared workload c.args.place line c.requires.runnable c.requires.within c.index-line.ensures in
     omega (
       arith,
+      ap (λ (party : Party). party.me) c.into_parts-server.ensures.server,
       did.idle.same.me,
+      ap (λ (doer : ParticipantView). doer.party.me) c.new.ensures,
       c.in-Some.ensures.tied.number,
       declared,
       did.goes_on.plain.count,
@@ -134,19 +165,27 @@ returns g c =
     let place = c.args.place in
     let line = c.index-line.result.now in
     let answer = c.in_ok-answer.field-0 in
-    let was = c.requires.so_far in
-    let party = c.in-Some.participant in
-    let after = c.do_line-answer.new.self in
+    let can = c.requires.so_far in
+    let was = can.done in
+    let before = c.args.contexts.now in
+    let doer : ParticipantView = c.new.result in
+    let after : ParticipantView = c.do_line-answer.new.self in
     let first = c.args.hall.now in
     let away = c.away.new.self in
     let back = c.do_line-answer.new.hall in
     let last = c.back.new.self in
     let did = c.in_ok-answer.ensures in
     let always = c.do_line-answer.ensures in
-    let number : party.me ≡ line.participant = c.in-Some.ensures.tied.number in
-    let there : slice_get was.parties line.participant ≡ Some party =
-    sym (party_there first.servers was.parties was.are line.participant) ∙ sym c.away.ensures.party ∙ c.in-Some.is in
-    let its : HasDoneIts line answer party after away.plain back.plain =
+    let parts = c.into_parts-server in
+    let party_is : doer.party ≡ c.in-Some.server = ap (λ (doer : ParticipantView). doer.party) c.new.ensures in
+    let number : doer.party.me ≡ line.participant = ap (λ (party : Party). party.me) party_is ∙ c.in-Some.ensures.tied.number in
+    let there : slice_get was.parties line.participant ≡ Some doer.party =
+    sym (party_there first.servers was.parties was.are line.participant) ∙ sym c.away.ensures.party ∙ c.in-Some.is
+    ∙ ap (λ (party : Party). Some party) (sym party_is) in
+    let took : slice_get before line.participant ≡ Some (Some doer.context) =
+    c.take.ensures.taken ∙ ap (λ (context : Option Context). Some context) c.in-Some-2.is
+    ∙ ap (λ (doer : ParticipantView). Some (Some doer.context)) (sym c.new.ensures) in
+    let its : HasDoneIts line answer doer after away.plain back.plain =
     record {
       built = line_can workload place line c.requires.runnable c.requires.within c.index-line.ensures;
       me = number;
@@ -156,26 +195,27 @@ returns g c =
       same = always.idle.same;
       home = always.idle.idle.home;
     } in
-    let comes : IsBackFrom line.participant after was.parties first away back last =
-    record {
+    let comes : IsBackFrom line.participant after.party was.parties first away back last =
+    subst (λ (party : Party). IsBackFrom line.participant party was.parties first away back last) parts.ensures.server
+    (record {
       are = was.are;
       gone_others = c.away.ensures.others;
       gone_here = c.away.ensures.place;
       gone_plain = c.away.ensures.plain;
       course = always.goes_on;
       rises = always.clock solo_clock;
-      me = always.idle.same.me ∙ number;
+      me = ap (λ (party : Party). party.me) parts.ensures.server ∙ always.idle.same.me ∙ number;
       here = c.back.ensures.party;
       came = c.back.ensures.place;
       came_others = c.back.ensures.others;
       came_plain = c.back.ensures.plain;
       going = c.in_ok-all_going.ensures;
       sound = c.sound.ensures;
-    } in
+    }) in
     let more =
-    done_more workload (take place lines) c.args.answers.now.items line answer party after first away back last
-    c.line_law.ensures.goes_on c.drops_law.ensures.goes_on c.level_law.ensures (given_by workload c.requires.runnable) was
-    (line_declared workload place line c.requires.runnable c.requires.within c.index-line.ensures) there its comes
+    done_more workload (take place lines) c.args.answers.now.items line answer doer after before first away back last
+    c.line_law.ensures.goes_on c.drops_law.ensures.goes_on c.level_law.ensures (given_by workload c.requires.runnable) can
+    (line_declared workload place line c.requires.runnable c.requires.within c.index-line.ensures) there took its comes
     (λ courses long.
     may_run_lines workload courses c.requires.runnable
     (omega (
@@ -188,9 +228,15 @@ returns g c =
     ))) in
     let one_more : take (place + 1) lines ≡ take place lines ++ line ∷ [] =
     take_more lines place line c.requires.within ∙ ap (λ (it : Line). take place lines ++ it ∷ []) (sym c.index-line.ensures) in
+    let knows : set (set before line.participant None) line.participant (Some after.context) ≡ c.put.new.self =
+    ap (λ (context : Context). set (set before line.participant None) line.participant (Some context)) (sym parts.ensures.context)
+    ∙ ap (λ (left : List (Option Context)). set left line.participant (Some parts.result.1)) (sym c.take.ensures.left)
+    ∙ sym c.put.ensures in
     record {
-      done = subst (λ (front : List Line). HaveDoneLines workload front c.push.new.self.items last) (sym one_more)
-          (subst (λ (answers : List Answer). HaveDoneLines workload (take place lines ++ line ∷ []) answers last)
-          (sym c.in_ok-push.ensures.items) more.0);
+      done = subst (λ (front : List Line). CanGoOn workload front c.push.new.self.items c.put.new.self last) (sym one_more)
+          (subst (λ (answers : List Answer). CanGoOn workload (take place lines ++ line ∷ []) answers c.put.new.self last)
+          (sym c.in_ok-push.ensures.items)
+          (subst (λ (contexts : List (Option Context)). CanGoOn workload (take place lines ++ line ∷ [])
+          (c.args.answers.now.items ++ answer ∷ []) contexts last) knows more.0));
       may_fail = more.1;
     }

@@ -52,7 +52,7 @@ returns g c =
     ap (λ (hall : HallView). hall.slots) (sym plain) ∙ c.into_parts-heaps.ensures in
     let sound : IsHall last.plain = subst IsHall plain c.sound.ensures in
     let alike =
-    fail_then workload [] lines [] answers first mid last c.requires.first c.in_ok-answers.ensures.done c.in_ok-answers.ensures.may_fail
+    fail_then workload [] lines [] answers first mid last c.requires.first.done c.in_ok-answers.ensures.done c.in_ok-answers.ensures.may_fail
     c.in_ok-do_rest.ensures.may_fail in
     let shown = segs_there workload answers last done heaps left.segs slots in
     let came = came_by workload answers last done heaps left.segs slots in
@@ -70,7 +70,7 @@ returns g c =
         leads = came.leads;
         opens = first_sound workload answers last done;
       };
-      named = fail_so workload answers first last left.segs given c.requires.first done alike c.failure_law.ensures.fails
+      named = fail_so workload answers first last left.segs given c.requires.first.done done alike c.failure_law.ensures.fails
           c.failure_law.ensures.once c.refusal_law.ensures.fails c.refusal_law.ensures.once shown;
       reasons = reasons_so workload answers last left.segs c.requires.runnable c.reasons_law.ensures done shown;
       level = level_so workload answers last left.segs c.requires.runnable c.level_law.ensures done shown ended.0.end.segs_sound tables

@@ -12,9 +12,10 @@ use Rattle.hp_run.proofs.running.run_lines.Goals as goal
 pub run_in-requires-clause-first : goal.run_in-requires-clause-first
 run_in-requires-clause-first g c =
     let workload = c.args.workload.now in
-    opens_so workload (map g.M.Mapper.may_fail c.args.mappers.items) c.come_all.new.hall c.line_law.ensures.opens c.drops_law.ensures.opens c.requires.runnable
+    opens_so workload (map g.M.Mapper.may_fail c.args.mappers.items) c.in_ok-contexts.contexts c.come_all.new.hall c.line_law.ensures.opens
+    c.drops_law.ensures.opens c.requires.runnable
     (first_stays workload c.in_ok-hall.hall c.come_all.new.hall c.in_ok-hall.ensures.0 c.in_ok-come_all.ensures.plain)
-    c.in_ok-come_all.ensures.come
+    c.in_ok-come_all.ensures.come c.in_ok-contexts.ensures
 
 pub returns : goal.returns
 returns g c =

@@ -9,6 +9,7 @@ use Rattle.hp_proc.specs.Allocating.{unless_answered}
 use Rattle.hp_proc.specs.Doing.{Doing}
 use Rattle.hp_proc.specs.Freeing.{acting, looking}
 use Rattle.hp_proc.specs.Contexts.{Context, IsPlaceOf}
+use Rattle.hp_proc.specs.ParticipantView.{ParticipantView}
 use Rattle.hp_proc.specs.Progress.{Does, MayDo, Moment}
 use Rattle.hp_proc.specs.declared.searched_heap.SearchedHeap.{SearchedHeap}
 use Rattle.hp_proc.proofs.Joining.{does_same, does_then}

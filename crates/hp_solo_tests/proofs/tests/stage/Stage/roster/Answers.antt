@@ -34,6 +34,6 @@ invariant_of-self c =
       weight = taken.ensures.weight;
     } in
     let stays = put_stays is given.ensures.back in
-    staged_on old given.new.hall c.self.inside.primary c.self.inside.secondary
+    staged_on old given.new.hall c.self.inside.primary c.self.inside.secondary.party
     (course_then old taken.new.hall given.new.hall taken.ensures.goes_on given.ensures.goes_on) stays.slots.home
     (stage_owns old given.new.hall stays) staged

@@ -11,6 +11,6 @@ serve-requires c =
 
 pub invariant_of-self : goal.invariant_of-self
 invariant_of-self c =
-    staged_primary c.self.inside.hall c.serve.new.hall c.self.inside.primary c.serve.new.self c.self.inside.secondary
+    staged_primary c.self.inside.hall c.serve.new.hall c.self.inside.primary c.serve.new.self c.self.inside.secondary.party
     (stage_served c.self.inside.hall c.serve.new.hall c.self.inside.primary c.serve.new.self c.serve.ensures.goes_on c.serve.ensures.alone)
     c.self.invariant

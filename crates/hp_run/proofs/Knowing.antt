@@ -1,0 +1,58 @@
+-- What each participant knows of its lines: before the first one, and behind one line more.
+use Rattle.std.proofs.Common.{◌≡◌, ◌≢◌, ◌∙◌, ℕ, ◌<◌, ◌++◌, ⊎_elim, Bool, List, [], ◌∷◌, length, set, Option, Some, None, sym, ap, subst}
+use Rattle.std.specs.List.{slice_get}
+use Rattle.std.proofs.lemmas.Bool.{cases_eq}
+use Rattle.std.proofs.lemmas.Option.{slice_get_within}
+use Rattle.hp_plain.proofs.Slotted.{slice_get-set_other, slice_get-set_same}
+use Rattle.hp_segs.specs.Opening.{is_present}
+use Rattle.hp_script.specs.declared.workload.Workload.{Workload}
+use Rattle.hp_proc.specs.Contexts.{Context, opening_context}
+use Rattle.hp_proc.specs.Courses.{calls_in}
+use Rattle.hp_proc.specs.LinesDone.{Course, opening_standing, standing_after, trace_of}
+use Rattle.hp_joint.specs.EndLaws.{said_in}
+use Rattle.hp_joint.specs.SoFar.{context_of}
+use Rattle.hp_joint.proofs.FirstSegs.{present_declared}
+use Rattle.hp_joint.proofs.LineMore.{other_courses}
+use Rattle.hp_run.specs.Running.{KnowSoFar}
+
+-- what one knows that has done no line
+pub opened_context : (workload : Workload) (who : ℕ) → who < workload.participants
+    → opening_context (said_in workload) (is_present workload.participants workload.absent who) ≡ context_of workload who []
+opened_context workload who below =
+    ap (λ (attached : Bool). opening_context (said_in workload) attached)
+    (present_declared workload.participants workload.absent who below)
+
+-- a line of somebody else leaves what one knows
+knows_still : (workload : Workload) (who : ℕ) (courses : List Course) (course : Course) → who ≢ course.line.participant
+    → context_of workload who (courses ++ course ∷ []) ≡ context_of workload who courses
+knows_still workload who courses course differ =
+    ap (λ (own : List Course). record {
+      pools = workload.pools.items;
+      lines = workload.lines.items;
+      standing = standing_after (opening_standing workload who) own;
+      calls = length (calls_in (trace_of own));
+    }) (other_courses who courses course differ)
+
+-- who did a line took along what it knew, and brought back what it knows now
+pub know_more : (workload : Workload) (courses : List Course) (course : Course) (before : List (Option Context)) (after : Context)
+    → course.line.participant < workload.participants → KnowSoFar workload courses before
+    → after ≡ context_of workload course.line.participant (courses ++ course ∷ [])
+    → KnowSoFar workload (courses ++ course ∷ [])
+    (set (set before course.line.participant None) course.line.participant (Some after))
+know_more workload courses course before after declared know knows = λ who below.
+    let me : ℕ = course.line.participant in
+    let more : List Course = courses ++ course ∷ [] in
+    let gone : List (Option Context) = set before me None in
+    let back : List (Option Context) = set gone me (Some after) in
+    let within : me < length before = slice_get_within before me (Some (context_of workload me courses)) (know me declared) in
+    let still : me < length gone = slice_get_within gone me None (slice_get-set_same before me None within) in
+    ⊎_elim
+    (λ (same : who ≡ me).
+    subst (λ (n : ℕ). slice_get back n ≡ Some (Some (context_of workload n more))) (sym same)
+    (slice_get-set_same gone me (Some after) still ∙ ap (λ (context : Context). Some (Some context)) knows))
+    (λ (differ : who ≢ me).
+    slice_get-set_other gone me who (Some after) differ
+    ∙ slice_get-set_other before me who None differ
+    ∙ know who below
+    ∙ ap (λ (context : Context). Some (Some context)) (sym (knows_still workload who courses course differ)))
+    (cases_eq who me)
