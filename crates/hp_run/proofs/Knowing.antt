@@ -1,10 +1,11 @@
 -- What each participant knows of its lines: before the first one, and behind one line more.
-use Rattle.std.proofs.Common.{◌≡◌, ◌≢◌, ◌∙◌, ℕ, ◌<◌, ◌++◌, ⊎_elim, Bool, List, [], ◌∷◌, length, set, Option, Some, None, sym, ap, subst}
+use Rattle.std.proofs.Common.{◌≡◌, ◌≢◌, ◌∙◌, ℕ, ◌+◌, ◌<◌, ◌≤◌, ◌++◌, ⊎_elim, Bool, List, [], ◌∷◌, length, set, Option, Some, None, sym, ap, subst, arith}
 use Rattle.std.specs.List.{slice_get}
-use Rattle.std.proofs.lemmas.Bool.{cases_eq}
+use Rattle.std.proofs.lemmas.Bool.{cases_eq, cases_lt}
 use Rattle.std.proofs.lemmas.Option.{slice_get_within}
 use Rattle.hp_plain.proofs.Slotted.{slice_get-set_other, slice_get-set_same}
 use Rattle.hp_segs.specs.Opening.{is_present}
+use Rattle.hp_segs.proofs.ListFacts.{get_pushed, get_stays}
 use Rattle.hp_script.specs.declared.workload.Workload.{Workload}
 use Rattle.hp_proc.specs.Contexts.{Context, opening_context}
 use Rattle.hp_proc.specs.Courses.{calls_in}
@@ -21,6 +22,21 @@ pub opened_context : (workload : Workload) (who : ℕ) → who < workload.partic
 opened_context workload who below =
     ap (λ (attached : Bool). opening_context (said_in workload) attached)
     (present_declared workload.participants workload.absent who below)
+
+-- and one more of those who have done no line
+pub know_push : (workload : Workload) (contexts : List (Option Context)) (n : ℕ) (context : Context) → length contexts ≡ n
+    → context ≡ context_of workload n []
+    → ((who : ℕ) → who < n → slice_get contexts who ≡ Some (Some (context_of workload who [])))
+    → (who : ℕ) → who < n + 1 → slice_get (contexts ++ Some context ∷ []) who ≡ Some (Some (context_of workload who []))
+know_push workload contexts n context long is knows who below =
+    ⊎_elim
+    (λ (before : who < n). get_stays contexts (Some context ∷ []) who (Some (context_of workload who [])) (knows who before))
+    (λ (last : n ≤ who).
+    let same : who ≡ n = omega (arith, below, last) in
+    subst (λ (k : ℕ). slice_get (contexts ++ Some context ∷ []) k ≡ Some (Some (context_of workload k []))) (sym same)
+    (subst (λ (k : ℕ). slice_get (contexts ++ Some context ∷ []) k ≡ Some (Some context)) long (get_pushed contexts (Some context))
+    ∙ ap (λ (context : Context). Some (Some context)) is))
+    (cases_lt who n)
 
 -- a line of somebody else leaves what one knows
 knows_still : (workload : Workload) (who : ℕ) (courses : List Course) (course : Course) → who ≢ course.line.participant
