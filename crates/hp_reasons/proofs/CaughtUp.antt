@@ -125,7 +125,7 @@ catching_may who (caught.Elsewhere row call got) fresh old new segs failed =
 
 -- HOW IT ENDS
 
--- a row that came out elsewhere failed (as in hp_proc's Handed)
+-- a row that came out elsewhere failed (as in hp_serve's Handed)
 other_place : (row : Row) (addr page socket : ℕ) (same : Bool)
     → ((addr == row.addr) && ((page == row.page) && (socket == row.socket))) ≡ same
     → IsElsewhere row (answer.At addr page socket) → not same ≡ true
