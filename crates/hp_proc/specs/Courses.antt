@@ -105,7 +105,8 @@ after_line line given trace standing = record {
   elements = standing.elements ++ element_brought line line.act given trace;
 }
 
--- what a line leaves that tried to attach: where all was mapped its participant is attached, with so many records; elements stay where they lie
+-- what a line leaves that tried to attach: where all was mapped its participant is attached, with so many records; elements stay where
+-- they lie
 abbrev pub standing_tried : ℕ → Caught → Standing → Standing
 standing_tried records caught.Done standing = record standing { attached = true; records = records }
 standing_tried records (caught.Refused row call) standing = standing

@@ -59,7 +59,8 @@ impl<'p, M: Mapper> Participant<'p, M> {
         requires tied { IsTiedIn self.old.party.me self.old.party (H.state hall.old) }
         ensures does { IfOk result (λ given. DoesLineHere self.old.party.me self.old self.new (H.state hall.old)
             (H.state hall.new) line.now given) }
-        ensures ready { MayDo (moment self.old.party.me self.old (H.state hall.old)) → MayDo (moment self.old.party.me self.new (H.state hall.new)) }
+        ensures ready { MayDo (moment self.old.party.me self.old (H.state hall.old))
+            → MayDo (moment self.old.party.me self.new (H.state hall.new)) }
 
         // Where a mapping failed, it has acknowledged as many records as before.
         ensures failed { IfOk result (λ given. (call : ℕ) → given ≡ answer.Refused call
@@ -93,7 +94,8 @@ impl<'p, M: Mapper> Participant<'p, M> {
         ensures does { DoesLineHere self.old.party.me self.old self.new (H.state hall.old) (H.state hall.new) line.now result }
         ensures roster { (H.state hall.new).joined self.old.party.me
             ≡ attached_after line.now.act result ((H.state hall.old).joined self.old.party.me) }
-        ensures ready { MayDo (moment self.old.party.me self.old (H.state hall.old)) → MayDo (moment self.old.party.me self.new (H.state hall.new)) }
+        ensures ready { MayDo (moment self.old.party.me self.old (H.state hall.old))
+            → MayDo (moment self.old.party.me self.new (H.state hall.new)) }
         ensures changes { ChangesRoster self.old.party.me self.old.party self.new.party (H.state hall.old) (H.state hall.new) }
         ensures goes_on { H.goes_on hall.old hall.new }
     {

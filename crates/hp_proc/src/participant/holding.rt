@@ -53,7 +53,8 @@ impl<'p, M: Mapper> Participant<'p, M> {
             (moment_with heap self.now.party.me self.now (H.state hall.old)) (moment self.now.party.me self.now (H.state hall.new)) }
         ensures ready { AreSettled (moment self.now.party.me self.now (H.state hall.old))
             → MayDo (moment self.now.party.me self.now (H.state hall.new)) }
-        ensures tied { IsTiedIn self.now.party.me self.now.party (H.state hall.old) → IsTiedIn self.now.party.me self.now.party (H.state hall.new) }
+        ensures tied { IsTiedIn self.now.party.me self.now.party (H.state hall.old)
+            → IsTiedIn self.now.party.me self.now.party (H.state hall.new) }
         ensures free { IsFreeAt heap.plain.index (H.state hall.new) }
         ensures slots { SlotsStayBut heap.plain.index (H.state hall.old) (H.state hall.new) }
         ensures others { OthersStay self.now.party.me (H.state hall.old) (H.state hall.new) }
