@@ -1,6 +1,6 @@
 -- Failed mappings that are noted or logged are of a declared participant, of a page that was asked for, at calls at which its mapper may answer
 -- so.
-use Rattle.std.proofs.Common.{◌≡◌, ◌∙◌, ℕ, ◌+◌, ◌-◌, ◌*◌, ◌<◌, ◌==◌, ◌&&◌, true, false, List, [], ◌∷◌, ◌++◌, Option, Some, None, IfSome, refl, ap, sym, subst, get_or}
+use Rattle.std.proofs.Common.{◌≡◌, ◌∙◌, ℕ, ◌+◌, ◌-◌, ◌*◌, ◌<◌, ◌==◌, true, false, List, Option, Some, None, IfSome, refl, ap, sym, subst, get_or}
 use Rattle.std.specs.Prelude.{⊤}
 use Rattle.std.specs.List.{All}
 use Rattle.std.specs.Option.{option_and_then}
@@ -22,7 +22,6 @@ use Rattle.hp_segs.specs.Sound.{IsSound}
 use Rattle.hp_segs.specs.SoundRows.{IsGrowth, IsLogged}
 use Rattle.hp_segs.specs.declared.ask.Ask.{Ask}
 use Rattle.hp_segs.specs.declared.growth.Growth.{Growth}
-use Rattle.hp_segs.specs.declared.list_info.ListInfo.{ListInfo}
 use Rattle.hp_segs.specs.declared.outcome.AskLog.{AskLog}
 use Rattle.hp_segs.specs.declared.outcome.Cause.{Cause}
 use Rattle.hp_segs.specs.declared.outcome.Cause.TheVariants.{CannotHold, Denied, Late, ListFull, MapFailed, NoList, TooFew, Withdrawn}
@@ -32,7 +31,7 @@ use Rattle.hp_segs.specs.declared.plan_refusal.PlanRefusal.{PlanRefusal}
 use Rattle.hp_segs.specs.declared.plan_refusal.PlanRefusal.TheVariants as plan
 use Rattle.hp_core.specs.Starting.{cause_of}
 use Rattle.hp_joint.specs.EndLaws.{FailsFor}
-use Rattle.hp_joint.proofs.Changes.{Changes, Ends, IsOwed, Logs, alters, by_failure, by_grant, by_lateness, by_notice, by_number, by_plan, by_withdrawal, drops, ends, failures, fails_mapping, goes_on, nothing, opens, outcomes, stays}
+use Rattle.hp_joint.proofs.Changes.{Changes, IsOwed, Logs, alters, by_failure, by_grant, by_lateness, by_notice, by_number, by_plan, by_withdrawal, drops, ends, failures, fails_mapping, goes_on, nothing, opens, outcomes, stays}
 
 -- the page size and the socket of a run that is the first one for an ask are those that were asked for
 record IsAskedSo (ask : Ask) (run : Run) : Type 0 where

@@ -17,7 +17,7 @@ use Rattle.hp_serve.specs.Party.{Party}
 use Rattle.hp_proc.specs.ParticipantView.{ParticipantView, after_call, with_party, with_standing}
 use Rattle.hp_proc.specs.declared.own_element.OwnElement.{OwnElement}
 use Rattle.hp_serve.specs.Serving.{acks_behind, gives_segments, takes_segments}
-use Rattle.hp_joint.specs.Seats.{Handles, Path, Quietly, Seat, leaving, seated}
+use Rattle.hp_joint.specs.Seats.{Handles, Path, Quietly, Seat, leaving}
 use Rattle.hp_joint.proofs.Paths.{Comes, comes_at, held_notes, noted_of, path_by, path_handle, path_quiet, path_then, serves_same}
 use Rattle.hp_joint.proofs.PathsAsking.{Acted, acted_by, ask_path, exchanged, longest, notice_path}
 use Rattle.hp_joint.proofs.PathsWaiting.{turn_path}

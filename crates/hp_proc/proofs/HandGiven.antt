@@ -1,6 +1,6 @@
 -- A heap that comes into a participant's hand, and that goes back.
 use Rattle.std.proofs.Common.{◌≡◌, ◌≢◌, ◌∙◌, ℕ, Bool, suc, zero, ◌+◌, ◌<◌, ◌≤◌, eqb, eq-eqb, List, [], ◌∷◌, ◌++◌, length, append-nil, Option, Some, None, refl, ap, sym, subst, ⊎_elim, arith}
-use Rattle.std.specs.Prelude.{OnErr, Result, Ok, Err, slice_get, sum_by}
+use Rattle.std.specs.Prelude.{slice_get, sum_by}
 use Rattle.hp_proc.specs.Contexts.{Context}
 use Rattle.hp_proc.specs.Heaps.{sockets_of}
 use Rattle.std.specs.List.{range_with_len}

@@ -1,7 +1,7 @@
 -- A participant with a heap in hand, over what calls leave.
 use Rattle.std.proofs.Common.{◌≡◌, ◌+◌, ◌∙◌, ℕ, refl, sym, ap, subst, arith}
 use Rattle.hp_hall.specs.HallState.{HallState, MayServe, OthersStay, SlotsStay, SlotsStayBut}
-use Rattle.hp_hall.proofs.HallStates.{did_then, later_same, later_then, may_still, others_same, slots_same, slots_then}
+use Rattle.hp_hall.proofs.HallStates.{did_then, later_same, may_still, others_same, slots_same}
 use Rattle.hp_heap.specs.History.{HeapView, IsCall}
 use Rattle.hp_heap.specs.declared.entry.HeapAnswer.{HeapAnswer}
 use Rattle.hp_heap.specs.declared.entry.HeapCall.{HeapCall}
@@ -29,7 +29,7 @@ use Rattle.hp_proc.specs.Progress.{AreSettled, Does, IsInHand, Moment, caller_of
 use Rattle.hp_proc.proofs.HandCalls.{call_index, call_serves, hand_stays}
 use Rattle.hp_proc.proofs.LinesInHall.{idle_again, idle_in, idle_still}
 use Rattle.hp_serve.proofs.Carrying.{same_party, same_then}
-use Rattle.hp_serve.proofs.InHalls.{in_same, remains_by, remains_then}
+use Rattle.hp_serve.proofs.InHalls.{remains_then}
 use Rattle.hp_proc.proofs.Joining.{does_then}
 
 -- what is known after calls is so but for their number

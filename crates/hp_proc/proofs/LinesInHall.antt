@@ -1,5 +1,5 @@
 -- A participant that holds no slot, or one, in a hall.
-use Rattle.std.proofs.Common.{◌≡◌, ◌≢◌, ◌∙◌, ℕ, ◌<◌, ◌≤◌, ap, inl, inr, sym, subst, arith}
+use Rattle.std.proofs.Common.{◌≢◌, ◌∙◌, ℕ, ◌<◌, ◌≤◌, ap, inl, inr, sym, subst, arith}
 use Rattle.std.proofs.lemmas.Bool.{cases_eq}
 use Rattle.hp_base.specs.declared.limits.TheConstants.{MAX_HEAPS}
 use Rattle.hp_hall.specs.HallState.{HallState, IsLater, MayServe, SlotsStay, SlotsStayBut}

@@ -1,5 +1,5 @@
 -- What came of a participant's asks: looked up in the segment value by participant and number, where it stays once it is there.
-use Rattle.std.specs.Prelude.{◌≡◌, ℕ, ◌+◌, ◌-◌, ◌*◌, ◌<◌, ◌≤◌, Bool, true, false, not, ◌&&◌, ◌==◌, List, find, take, Option, Some, None, IsTrue, Contains, slice_get, ⊤}
+use Rattle.std.specs.Prelude.{◌≡◌, ℕ, ◌+◌, ◌-◌, ◌*◌, ◌<◌, ◌≤◌, Bool, true, false, not, ◌&&◌, ◌==◌, List, find, take, Option, Some, IsTrue, Contains, slice_get, ⊤}
 use Rattle.std.specs.List.{list_any}
 use Rattle.std.specs.Str.{bytes_eq}
 use Rattle.hp_base.specs.declared.row.Run.{Run}
@@ -9,7 +9,7 @@ use Rattle.hp_script.specs.declared.line.Act.{Act}
 use Rattle.hp_script.specs.declared.line.Act.TheVariants as act
 use Rattle.hp_script.specs.declared.workload.Workload.{Workload}
 use Rattle.hp_segs.specs.Refusals.{IsAddOf}
-use Rattle.hp_segs.specs.SegsView.{SegsView, closed_number, is_grant_or_refusal, is_outcome_for, is_stale, run_of}
+use Rattle.hp_segs.specs.SegsView.{SegsView, closed_number, is_grant_or_refusal, is_outcome_for, is_stale}
 use Rattle.hp_segs.specs.declared.ask.Ask.{Ask}
 use Rattle.hp_segs.specs.declared.outcome.AskLog.{AskLog}
 use Rattle.hp_segs.specs.declared.outcome.Cause.{Cause}

@@ -1,6 +1,6 @@
 -- Between two lines the participant of the next one may do it.
 use Rattle.std.proofs.Common.{◌≡◌, ◌∙◌, ℕ, zero, suc, ◌<◌, ◌≤◌, ◌==◌, ⊎_elim, List, [], ◌∷◌, get_or, get_or-take, length, map, take, Option, Some, None, refl, sym, ap, subst, arith}
-use Rattle.std.specs.List.{All, AllPairs, slice_get}
+use Rattle.std.specs.List.{All, AllPairs}
 use Rattle.std.specs.Option.{option_map}
 use Rattle.std.proofs.lemmas.Bool.{cases_lt}
 use Rattle.std.proofs.lemmas.List.{get_or_default, length-replicate, length-take-le}

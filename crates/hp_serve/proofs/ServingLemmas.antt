@@ -1,5 +1,5 @@
 -- What a serving comes to, by cases on what it did: the rules "Serving" and "Coordinating" of docs/PARTICIPANTS.md.
-use Rattle.std.proofs.Common.{◌≡◌, ◌≢◌, ◌∙◌, ℕ, zero, suc, Bool, true, false, List, [], ◌∷◌, ◌++◌, length, Option, Some, None, inl, inr, append-nil, refl, ap, sym, subst, arith}
+use Rattle.std.proofs.Common.{◌≡◌, ◌≢◌, ◌∙◌, ℕ, zero, suc, Bool, true, false, List, [], ◌∷◌, ◌++◌, length, Option, Some, None, append-nil, refl, ap, sym, subst, arith}
 use Rattle.std.specs.Prelude.{nat_lt, slice_index, take, if◌then◌else◌}
 use Rattle.hp_base.specs.declared.caught.Caught.{Caught}
 use Rattle.hp_base.specs.declared.caught.Caught.TheVariants as caught

@@ -1,12 +1,11 @@
 -- The heap goes back with the calls that it got, and the participant is ready for its next one.
-use Rattle.std.proofs.Common.{◌≡◌, ◌∙◌, ℕ, List, [], ◌∷◌, refl, ap, sym, subst}
+use Rattle.std.proofs.Common.{◌≡◌, ◌∙◌, ℕ, List, [], ◌∷◌, refl, sym, subst}
 use Rattle.hp_hall.specs.HallState.{Did, OthersStay, SlotsStayBut}
 use Rattle.hp_hall.specs.Holding.{IsGivenAs}
 use Rattle.hp_hall.specs.Mail.{Gives, MailStep}
 use Rattle.hp_hall.specs.declared.kept.Kept.TheVariants.{Heap}
 use Rattle.hp_proc.specs.Acting.{Acts}
 use Rattle.hp_proc.specs.LineInHall.{IsFreeAt, moment}
-use Rattle.hp_proc.specs.ParticipantView.{ParticipantView}
 use Rattle.hp_proc.specs.Progress.{in_hand}
 use Rattle.hp_serve.proofs.Carrying.{same_party}
 use Rattle.hp_proc.proofs.HandCalls.{hand_serves}

@@ -10,7 +10,6 @@ use Rattle.hp_hall.proofs.HallStates.{did_same, did_then, later_then}
 use Rattle.hp_proc.specs.Acting.{Acts}
 use Rattle.hp_serve.specs.Asking.{HasSettledAsks}
 use Rattle.hp_proc.specs.LineInHall.{moment}
-use Rattle.hp_proc.specs.ParticipantView.{ParticipantView}
 use Rattle.hp_proc.specs.Progress.{in_hand, with_hand}
 use Rattle.hp_serve.proofs.AskedAlong.{settled_more}
 use Rattle.hp_serve.proofs.Carrying.{same_party}
