@@ -222,30 +222,30 @@ pub opens_so : (workload : Workload) (mappers : List (Option (List FailingCall))
     → KnowSoFar workload [] contexts → CanGoOn workload [] [] contexts hall
 opens_so workload mappers contexts hall law drops runnable first come know = record {
   done = record {
-  parties = come.parties;
-  are = come.are;
-  courses = [];
-  so_far = subst (λ (plain : HallView). SoFar workload [] come.parties plain) (sym first.plain)
-      (law workload first.heaps come.parties (given_by workload runnable) first.first come.count (λ who party there.
-      let over = come.each who party there in
-      first_made workload who over.may_fail party over.planned));
-  lines_are = refl;
-  answered = refl;
-  thread = record {
-    first = hall;
-    opens = record {
-      heaps = first.heaps;
-      first_heaps = first.first;
-      plain = first.plain;
-      parties = come.parties;
-      are = come.are;
-      count = come.count;
-      each = λ who party there.
-          let over = come.each who party there in
-          (first_made workload who over.may_fail party over.planned, ap (λ (party : Party). party.plan) over.planned.is);
+    parties = come.parties;
+    are = come.are;
+    courses = [];
+    so_far = subst (λ (plain : HallView). SoFar workload [] come.parties plain) (sym first.plain)
+        (law workload first.heaps come.parties (given_by workload runnable) first.first come.count (λ who party there.
+        let over = come.each who party there in
+        first_made workload who over.may_fail party over.planned));
+    lines_are = refl;
+    answered = refl;
+    thread = record {
+      first = hall;
+      opens = record {
+        heaps = first.heaps;
+        first_heaps = first.first;
+        plain = first.plain;
+        parties = come.parties;
+        are = come.are;
+        count = come.count;
+        each = λ who party there.
+            let over = come.each who party there in
+            (first_made workload who over.may_fail party over.planned, ap (λ (party : Party). party.plan) over.planned.is);
+      };
+      thread = OneThread.opens;
     };
-    thread = OneThread.opens;
-  };
     drops = λ segs at nothing. drops workload.participants segs.log segs.asks;
   };
   know = know;

@@ -67,9 +67,9 @@ KnowSoFar workload courses contexts = (who : ℕ) → who < workload.participant
 
 -- they have done these lines, and can go on: each knows what its own lines left
 pub record CanGoOn (workload : Workload) (lines : List Line) (answers : List Answer) (contexts : List (Option Context)) (hall : SoloView)
-  : Type 0 where
-    pub done : HaveDoneLines workload lines answers hall
-    pub know : KnowSoFar workload done.courses contexts
+    : Type 0 where
+  pub done : HaveDoneLines workload lines answers hall
+  pub know : KnowSoFar workload done.courses contexts
 
 -- the mapper of each participant that is there may fail at the calls at which it might before
 abbrev pub FailAsBefore : List AloneView → List AloneView → Type 0

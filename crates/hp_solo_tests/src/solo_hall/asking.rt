@@ -11,8 +11,7 @@ use crate::tests::PAGE;
 use hp_base::{Caller, MemMapper, Request, Run};
 use hp_hall::{Hall, Slot};
 use hp_heap::Heap;
-use hp_serve::PagesAsked;
-use hp_serve::Server;
+use hp_serve::{PagesAsked, Server};
 use hp_solo::SoloHall;
 use std::alloc::AllocError;
 

@@ -13,11 +13,7 @@ use hp_solo::SoloHall;
 use std::alloc::AllocError;
 
 /// It posts its first ask to participant 0, as one of that number.
-pub fn ask(
-    hall: &mut SoloHall<'_, MemMapper>,
-    party: &Server<'_, MemMapper>,
-    from: u8,
-) -> Posted
+pub fn ask(hall: &mut SoloHall<'_, MemMapper>, party: &Server<'_, MemMapper>, from: u8) -> Posted
     requires from { from < 2 }
     requires may { MayWait hall.old party.now }
     ensures may { MayWait hall.new party.now }
@@ -136,11 +132,7 @@ pub fn take_turn(
 }
 
 /// It pauses where nothing moved, up to a deadline that is still to come: the reading of its clock afterwards.
-pub fn pause(
-    hall: &mut SoloHall<'_, MemMapper>,
-    party: &Server<'_, MemMapper>,
-    until: u64,
-) -> u64
+pub fn pause(hall: &mut SoloHall<'_, MemMapper>, party: &Server<'_, MemMapper>, until: u64) -> u64
     requires may { MayWait hall.old party.now }
     ensures may { MayWait hall.new party.now }
 {
