@@ -35,9 +35,9 @@ use Rattle.hp_reasons.proofs.AsksBack.{quiet_claimed}
 use Rattle.hp_reasons.proofs.AsksBase.{HasSent}
 use Rattle.hp_reasons.proofs.AsksClaims.{HasOutcomes}
 use Rattle.hp_reasons.proofs.AsksOwn.{world_own}
-use Rattle.hp_reasons.proofs.AsksStage.{just_sent, may_miss, world_posted}
+use Rattle.hp_reasons.proofs.AsksStage.{just_sent, world_posted}
 use Rattle.hp_reasons.proofs.AsksWaits.{awaited_quiet}
-use Rattle.hp_reasons.proofs.LostCounts.{doubled_more, lost_more, lost_rises, never_lost, one_lost}
+use Rattle.hp_reasons.proofs.LostCounts.{doubled_more, lost_more, lost_rises, never_lost}
 use Rattle.hp_reasons.proofs.Said.{index_set, set_found, set_unfound}
 use Rattle.hp_reasons.proofs.Sharing.{IsGiven, gave, posted_one, read_clock, took}
 use Rattle.hp_reasons.proofs.TurnsCalls.{calls_are}
@@ -169,12 +169,6 @@ module _ (set : Setting) (party : Party) (asked : PagesAsked) (number since : �
       subst (λ (segs : SegsView). closed_number segs.asks party.me ≤ party.asked) (sym began.0) place.closed in
       omega (arith, sent.number, few)
 
-  one_more_lost : is_lost action ≡ true
-      → lost_among set.plan message.Alloc party.me party.sent.allocs + 1 ≤ lost_among set.plan message.Alloc party.me after.sent.allocs
-  one_more_lost lost =
-      one_lost set.plan message.Alloc party.me setting.counted party.sent.allocs refl
-      (sym (ap (λ (plan : List PlanEntry). is_lost (action_of plan message.Alloc party.me (one_more party.sent.allocs))) place.plan) ∙ lost)
-
   back : is_lost action ≡ true → HasRoomBack set ask.from posted
   back lost one found =
       let more : lost_among set.plan message.Alloc party.me (one_more party.sent.allocs)
@@ -209,11 +203,7 @@ module _ (set : Setting) (party : Party) (asked : PagesAsked) (number since : �
   at_turn_sent =
       just_sent set (want.Grow ask) since armed sent.frame (alloc_body ask) party after is_sent quiet_armed own_armed sends (sym since_is)
       to_do above next sent.says refl gone action grows
-      (λ lost. (
-        back lost,
-        may_miss set (want.Grow ask) since armed sent.frame (alloc_body ask) party after is_sent quiet_armed own_armed sends (sym since_is)
-            to_do above next sent.says refl gone (omega (arith, one_more_lost lost)) action,
-      )) never
+      back never
 
   -- the hall of the world in which it was posted
   pub posted_hall : (old new : SoloView) → IsWorldOf old party.me party world → IsSharedIn new.plain shared → IsInOrder new.plain

@@ -1,5 +1,5 @@
 -- What a claim, and the taking back of an ask, leave of a segment value.
-use Rattle.std.proofs.Common.{◌≡◌, ◌∙◌, ℕ, false, [], ◌∷◌, ◌++◌, length, Option, Some, None, refl}
+use Rattle.std.proofs.Common.{◌≡◌, ◌∙◌, ℕ, true, false, [], ◌∷◌, ◌++◌, length, Option, Some, None, refl}
 use Rattle.std.specs.List.{list_any}
 use Rattle.std.specs.Option.{option_map}
 use Rattle.std.specs.Prelude.{find}
@@ -13,6 +13,7 @@ use Rattle.hp_segs.specs.declared.outcome.Cause.TheVariants.{Withdrawn}
 use Rattle.hp_segs.specs.declared.outcome.Outcome.TheVariants as outcome
 use Rattle.hp_segs.proofs.Finds.{any_found}
 use Rattle.hp_serve.specs.Asking.{after_settling}
+use Rattle.hp_serve.proofs.AskLooks.{any_of_found}
 
 -- a segment value of which states of rows alone may be others, and armed asks
 pub record HasOutcomes (old new : SegsView) : Type 0 where
@@ -42,7 +43,7 @@ taken_back from number since now segs = record {
 
 -- an ask was taken back, or had its answer
 pub data IsBackIn (from number since now : ℕ) (segs after : SegsView) : Type 0 where
-  answered : HasOutcomes segs after → IsBackIn from number since now segs after
+  answered : list_any (grants_or_refuses from number) segs.asks ≡ true → HasOutcomes segs after → IsBackIn from number since now segs after
   back : list_any (grants_or_refuses from number) segs.asks ≡ false → after.log ≡ segs.log → after.growth ≡ segs.growth
       → after.roster ≡ segs.roster → after.asks ≡ segs.asks ++ taken_back from number since now segs ∷ []
       → after.retiring ≡ segs.retiring → IsBackIn from number since now segs after
@@ -57,7 +58,9 @@ module _ (from number since now : ℕ) (segs : SegsView) where
       → IsBackIn from number since now segs
       (withdrawn_unless from number (Withdrawn since now) segs (option_map (λ entry. entry.outcome) found))
   back_unless None is none = no_growth segs.growth none (any_found (grants_or_refuses from number) segs.asks is)
-  back_unless (Some entry) is none = IsBackIn.answered (record { log = refl; growth = refl; roster = refl; asks = refl; retiring = refl })
+  back_unless (Some entry) is none =
+      IsBackIn.answered (any_of_found (grants_or_refuses from number) segs.asks entry is)
+      (record { log = refl; growth = refl; roster = refl; asks = refl; retiring = refl })
 
   -- so it is behind a withdrawal where no growth is open
   pub withdraws : segs.growth ≡ None → IsBackIn from number since now segs (after_withdraw from number since now segs)
@@ -75,7 +78,8 @@ outcomes_then old mid new first second = record {
 
 back_then : (from number since now : ℕ) (segs mid new : SegsView) → IsBackIn from number since now segs mid → HasOutcomes mid new
     → IsBackIn from number since now segs new
-back_then from number since now segs mid new (IsBackIn.answered same) claims = IsBackIn.answered (outcomes_then segs mid new same claims)
+back_then from number since now segs mid new (IsBackIn.answered stands same) claims =
+    IsBackIn.answered stands (outcomes_then segs mid new same claims)
 back_then from number since now segs mid new (IsBackIn.back none log growth roster asks retiring) claims =
     IsBackIn.back none (claims.log ∙ log) (claims.growth ∙ growth) (claims.roster ∙ roster) (claims.asks ∙ asks)
     (claims.retiring ∙ retiring)

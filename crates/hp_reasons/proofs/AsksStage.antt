@@ -24,7 +24,7 @@ use Rattle.hp_serve.specs.Frames.{Says}
 use Rattle.hp_serve.specs.Party.{Party}
 use Rattle.hp_serve.specs.Waiting.{most_servings}
 use Rattle.hp_reasons.specs.Counting.{LosesNothing, is_doubled, is_lost}
-use Rattle.hp_reasons.specs.Episode.{AreDoubled, AreOthersEmpty, HasCoordinator, IsBase, IsCopy, IsGoneBefore, IsToDo, IsToldBefore, IsUnanswered, MayBeTakenBack, MayMissOne, Setting, Stage, StartsLevel, World, doubles, is_call, is_result_of, losses, made_before, mail_of, missed_among}
+use Rattle.hp_reasons.specs.Episode.{AreDoubled, AreOthersEmpty, HasCoordinator, IsBase, IsCopy, IsGoneBefore, IsToDo, IsToldBefore, IsUnanswered, MayBeTakenBack, MayMissOne, Setting, Stage, StartsLevel, World, doubles, is_call, is_result_of, made_before, mail_of, notices_lost}
 use Rattle.hp_reasons.specs.Quiet.{IsQuietWorld}
 use Rattle.hp_reasons.specs.Shared.{posted_to}
 use Rattle.hp_reasons.specs.Stages.{IsSent, world_with}
@@ -37,6 +37,7 @@ use Rattle.hp_reasons.proofs.Said.{index_set, index_unset, mail_posted, said_pos
 use Rattle.hp_reasons.proofs.TurnsMembers.{box_empty}
 use Rattle.hp_reasons.proofs.CountingLemmas.{one_if}
 use Rattle.hp_reasons.proofs.Told.{made_other, made_own}
+use Rattle.hp_reasons.specs.Outcomes.{unanswered_among}
 
 -- a copy of an ask is no answer
 copy_is_no_result : (call : Asked) (body : Body) → IsCopy call body → is_result_of call body ≡ false
@@ -176,8 +177,7 @@ module _ (set : Setting) (call : Asked) (sent : ℕ) (world : World) (frame : Fr
         answered = omega (
           arith,
           quiet.told (asker call) party there,
-          ap (missed_among world.shared.segs.asks (asker call)) before,
-          sends.lost,
+          ap (unanswered_among world.shared.segs.asks (asker call)) before,
           sends.freed,
         );
         last = λ same. sends.asked;
@@ -198,19 +198,19 @@ module _ (set : Setting) (call : Asked) (sent : ℕ) (world : World) (frame : Fr
             let was = quiet.told who one (sym (set_unfound world.parties (asker call) who after other) ∙ found) in
             record {
               answered =
-                  omega (arith, was, ap (missed_among world.shared.segs.asks who) (made_other call who one other));
+                  omega (arith, was, ap (unanswered_among world.shared.segs.asks who) (made_other call who one other));
               last = λ own. absurd (other own);
             }
       ]
 
   -- where it was lost there is room for one more without an outcome
-  pub may_miss : losses set (asker call) party + 1 ≤ losses set (asker call) after → (action : Action)
+  pub may_miss : notices_lost set (asker call) party + 1 ≤ notices_lost set (asker call) after → (action : Action)
       → MayMissOne set (asker call) (number_of call) (behind action)
   may_miss room action one found =
       let before : number_of call - 1 ≡ party.asked = ap (λ (n : ℕ). n - 1) next ∙ one_less party.asked in
       let its = asker_after one found in
-      subst (λ (one : Party). missed_among world.shared.segs.asks (asker call) (number_of call - 1) < losses set (asker call) one) (sym its)
-      (omega (arith, room, quiet.told (asker call) party there, ap (missed_among world.shared.segs.asks (asker call)) before))
+      subst (λ (one : Party). unanswered_among world.shared.segs.asks (asker call) (number_of call - 1) < notices_lost set (asker call) one) (sym its)
+      (omega (arith, room, quiet.told (asker call) party there, ap (unanswered_among world.shared.segs.asks (asker call)) before))
     where
       one_less : (n : ℕ) → n + 1 - 1 ≡ n
       one_less n = omega arith

@@ -1,10 +1,11 @@
 -- Waits of asks, from the turn at which one was sent to a quiet world in which nothing is owed.
 use Rattle.std.proofs.Common.{◌≡◌, ◌∙◌, ℕ, ◌+◌, ◌*◌, ◌≤◌, Bool, true, false, List, [], ◌∷◌, ◌++◌, Option, Some, inl, inr, refl, sym, ap, arith, subst}
+use Rattle.std.specs.List.{list_any}
 use Rattle.std.proofs.lemmas.Option.{none-some}
 use Rattle.hp_base.specs.declared.row.Run.{Run}
 use Rattle.hp_core.specs.declared.asked.Asked.TheVariants as want
 use Rattle.hp_hall.specs.Mail.{MailStep}
-use Rattle.hp_segs.specs.SegsView.{SegsView}
+use Rattle.hp_segs.specs.SegsView.{SegsView, grants_or_refuses}
 use Rattle.hp_segs.specs.Steps.{after_claim}
 use Rattle.hp_segs.specs.declared.ask.Ask.{Ask}
 use Rattle.hp_serve.specs.AskSteps.{IsAwaitedBy, IsSettledLate, waits_until}
@@ -22,7 +23,7 @@ use Rattle.hp_reasons.specs.Waits.{AreServingsKnown, HasComeOut, IsAtTurn, Leads
 use Rattle.hp_reasons.specs.Worlds.{IsWorldOf}
 use Rattle.hp_reasons.proofs.AsksBack.{owing_claimed, owing_settled}
 use Rattle.hp_reasons.proofs.AsksClaims.{claims, settles_back, HasOutcomes, IsBackIn}
-use Rattle.hp_reasons.proofs.AsksOut.{lost_out, owing_out}
+use Rattle.hp_reasons.proofs.AsksOut.{lost_out, none_open, owing_answered}
 use Rattle.hp_reasons.proofs.AsksOwn.{has_held, held_same}
 use Rattle.hp_reasons.proofs.TurnsSequence.{cut_in}
 
@@ -39,13 +40,16 @@ module _ (known : AreServingsKnown) (waits_out : WaitsOut) (set : Setting) (ask 
       (subst (λ (deadline : ℕ). IsWaited set.count (waits_until since deadline) heeds party after steps (Some now)) same waits)
 
   -- a look that finds the answer claims what was granted
-  looks_quiet : (old new : SoloView) (party : Party) (taken : SegsView) (world : World) → IsWorldOf old ask.from party world
-      → IsQuietOwing set false world
+  looks_quiet : (old new : SoloView) (party : Party) (now : ℕ) (taken : SegsView) (world : World) → IsWorldOf old ask.from party world
+      → HasComeOut set (want.Grow ask) since now world → list_any (grants_or_refuses ask.from ask.number) taken.asks ≡ true
       → Sequence ask.from old (takes_segments taken ∷ gives_segments (after_claim ask.from ask.number taken) ∷ []) new
       → LeadsTo (IsQuietOwing set false) new ask.from party
-  looks_quiet old new party taken world its owing sequence =
+  looks_quiet old new party now taken world its out stands sequence =
       let segs = after_claim ask.from ask.number taken in
       let held = has_held known.along ask.from old new party world taken segs its sequence in
+      let owing =
+      owing_answered set ask since now world out
+      (ap (λ (segs : SegsView). list_any (grants_or_refuses ask.from ask.number) segs.asks) (sym held.its_own) ∙ stands) in
       record {
         world = world_with (with_segs segs world.shared) world.mail ask.from party world;
         its = held.its;
@@ -73,24 +77,24 @@ module _ (known : AreServingsKnown) (waits_out : WaitsOut) (set : Setting) (ask 
       → Sequence ask.from old (takes_segments taken ∷ gives_segments (after_settling ask since now taken) ∷ []) new
       → LeadsTo (IsQuietOwing set false) new ask.from party
   settles_quiet old new party now taken world its out passed sequence =
-      let owing = owing_out set (want.Grow ask) since now world is_sent out in
       let segs = after_settling ask since now taken in
       let held = has_held known.along ask.from old new party world taken segs its sequence in
       let back : IsBackIn ask.from ask.number since now world.shared.segs segs =
       subst (λ (old : SegsView). IsBackIn ask.from ask.number since now old segs) held.its_own
-      (settles_back ask since now taken (ap (λ (segs : SegsView). segs.growth) held.its_own ∙ owing.quiet.growth)) in
+      (settles_back ask since now taken (ap (λ (segs : SegsView). segs.growth) held.its_own ∙ none_open set (want.Grow ask) since now world out)) in
       record {
         world = world_with (with_segs segs world.shared) world.mail ask.from party world;
         its = held.its;
-        holds = owing_settled set ask.from world segs party owing.quiet its.own held.sound (held.armed owing.quiet.base.armed) false
-            owing.gone ask.number since now back
+        holds = owing_settled set ask world segs party its.own held.sound (held.armed out.at_turn.base.armed) since now back
+            (owing_answered set ask since now world out)
             (λ none.
-            let lost = lost_out set ask since now world out none in
+            let lost = lost_out set ask since now world is_sent out none in
             record {
+              quiet = lost.quiet;
               asked = lost.asked party its.own;
               room = lost.room party its.own;
-              misses = lost.misses party its.own;
               on_time = omega (arith, lost.in_time, passed);
+              loses = lost.loses;
             });
       }
 
@@ -111,7 +115,7 @@ module _ (known : AreServingsKnown) (waits_out : WaitsOut) (set : Setting) (ask 
   awaited_quiet old new party after steps run world its turn sequence (IsAwaitedBy.finds now waited looked waits look are) =
       let cut = cut_in ask.from old new steps waited looked are sequence in
       let out = waits_long old cut.mid party after waited true now world its turn cut.begins waits in
-      looks_quiet cut.mid new after look.taken out.world out.its (owing_out set (want.Grow ask) since now out.world is_sent out.holds)
+      looks_quiet cut.mid new after now look.taken out.world out.its out.holds look.found
       (subst (λ (steps : List MailStep). Sequence ask.from cut.mid steps new) look.are cut.ends)
   awaited_quiet old new party after steps run world its turn sequence
       (IsAwaitedBy.settles mid now waited looked late waits look settles are) =

@@ -115,7 +115,7 @@ module _ (set : Setting) (old new : World) (along : IsAlong old new) where
   told_along call told who party found =
       let came = along.before who party found in
       told_on set old.shared.segs.asks new.shared.segs.asks call who came.its party (along.segs.heard who) came.same.asked
-      (ap (λ (sent : Sent). sent.allocs) came.same.sent) (ap (λ (sent : Sent). sent.frees) came.same.sent) (told who came.its came.there)
+      (ap (λ (sent : Sent). sent.frees) came.same.sent) (told who came.its came.there)
 
   -- each one is in its place, a failure is noted of a call that was made, and what was refused has its reasons
   place_along : (who : ℕ) (party : Party) (came : CameOf old who party) → IsInPlace set old who came.its → IsInPlace set new who party

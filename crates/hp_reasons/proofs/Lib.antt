@@ -112,3 +112,4 @@ pub mod TurnsVisits
 pub mod WaitsEnd
 pub mod WeighingBoxes
 pub mod WeighingServings
+pub mod WorkedReasons

@@ -21,15 +21,15 @@ use Rattle.hp_serve.specs.Party.{Party}
 use Rattle.hp_serve.specs.Posting.{times_sent}
 use Rattle.hp_serve.specs.declared.sent.Sent.{Sent}
 use Rattle.hp_reasons.specs.Counting.{LosesNothing, doubled_among, lost_among}
-use Rattle.hp_reasons.specs.Episode.{AreLevel, AreSaid, IsBase, IsExcused, IsInPlace, IsNotedCall, Setting, World, doubles, mail_of, missed_among, number_of_party}
+use Rattle.hp_reasons.specs.Episode.{AreLevel, AreSaid, IsBase, IsExcused, IsInPlace, IsNotedCall, Setting, World, doubles, mail_of, number_of_party}
 use Rattle.hp_reasons.specs.Quiet.{IsQuietWorld}
 use Rattle.hp_reasons.specs.Failing.{AreGrantsWithin}
-use Rattle.hp_reasons.specs.Outcomes.{late_outcomes, stale_outcomes, withdrawn_outcomes, IsApart}
+use Rattle.hp_reasons.specs.Outcomes.{late_outcomes, stale_outcomes, withdrawn_outcomes, IsApart, unanswered_among}
 use Rattle.hp_reasons.specs.Shared.{Shared}
 use Rattle.hp_reasons.specs.Stages.{world_with}
 use Rattle.hp_reasons.proofs.CaughtUp.{none_later}
 use Rattle.hp_reasons.proofs.Said.{get_set, set_long}
-use Rattle.hp_reasons.proofs.Told.{losses_same}
+use Rattle.hp_reasons.proofs.Told.{notices_lost_same}
 use Rattle.std.specs.List.{All}
 
 -- a participant goes on as it was, but for its table, whether it has one, and what it knows
@@ -225,9 +225,9 @@ module _ (set : Setting) (me : ℕ) (world : World) (shared : Shared) (party aft
         (quiet.doubled who its.old its.there)));
     told = λ who one found.
         (let its = was_there who one found in
-        let lost = losses_same set who its.old one (ap (λ (sent : Sent). sent.allocs) its.sent) (ap (λ (sent : Sent). sent.frees) its.sent) in
-        let missed : missed_among shared.segs.asks who one.asked ≡ missed_among world.shared.segs.asks who its.old.asked =
-        ap (λ (asks : List AskLog). missed_among asks who one.asked) shares.asks ∙ ap (missed_among world.shared.segs.asks who) its.asked in
+        let lost = notices_lost_same set who its.old one (ap (λ (sent : Sent). sent.frees) its.sent) in
+        let missed : unanswered_among shared.segs.asks who one.asked ≡ unanswered_among world.shared.segs.asks who its.old.asked =
+        ap (λ (asks : List AskLog). unanswered_among asks who one.asked) shares.asks ∙ ap (unanswered_among world.shared.segs.asks who) its.asked in
         omega (arith, lost, missed, quiet.told who its.old its.there));
     level = level_here;
   }

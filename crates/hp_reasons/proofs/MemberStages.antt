@@ -147,10 +147,10 @@ module _ (set : Setting) (world : World) (who : ℕ) (party after : Party) (shar
         elim (get_set world.parties who other after its found) [
           | inl both ↦
               subst (λ (one : Party). IsToldBefore set shared.segs.asks call other one) (sym both.1)
-              (told_on set world.shared.segs.asks shared.segs.asks call other party after on serves.still.asked serves.still.allocs
+              (told_on set world.shared.segs.asks shared.segs.asks call other party after on serves.still.asked
               serves.still.frees (are.told other party (ap (slice_get world.parties) both.0 ∙ there)))
           | inr apart ↦
-              told_on set world.shared.segs.asks shared.segs.asks call other its its on refl refl refl (are.told other its apart.1)
+              told_on set world.shared.segs.asks shared.segs.asks call other its its on refl refl (are.told other its apart.1)
         ];
   }
 

@@ -142,7 +142,7 @@ module _ (known : AreServingsKnown) (waits_out : WaitsOut) where
       record {
         world = out.world;
         its = out.its;
-        holds = owing_out set (want.Shrink party.me (party.asked + 1)) does.since does.now out.world sent out.holds;
+        holds = owing_out set party.me (party.asked + 1) does.since does.now out.world sent out.holds;
       }
 
 -- it is so of each notice

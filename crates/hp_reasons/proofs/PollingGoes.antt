@@ -98,6 +98,6 @@ module _ (world : World) (primary : Party) (next : Core) (segs : SegsView) (ther
       told = λ who party found.
           let came = came_of who party found in
           told_on set world.shared.segs.asks segs.asks call who came.its party (heard who) came.same.asked
-          (ap (λ (sent : Sent). sent.allocs) came.same.sent) (ap (λ (sent : Sent). sent.frees) came.same.sent)
+          (ap (λ (sent : Sent). sent.frees) came.same.sent)
           (doubled.told who came.its came.there);
     }

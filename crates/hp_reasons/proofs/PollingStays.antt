@@ -20,7 +20,7 @@ use Rattle.hp_reasons.proofs.CopiesAlong.{IsAlong, IsLike}
 use Rattle.hp_reasons.proofs.CopiesSet.{along_set, base_set}
 use Rattle.hp_reasons.proofs.CopiesTaken.{IsTaken}
 use Rattle.hp_reasons.proofs.PollingGoes.{came_of, goes, with_core_same}
-use Rattle.hp_reasons.proofs.Told.{losses_same, missed_fewer}
+use Rattle.hp_reasons.proofs.Told.{notices_lost_same, unanswered_fewer}
 
 module _ (set : Setting) (world : World) (primary : Party) (next : Core) (segs : SegsView) (base : IsBase set world)
     (there : slice_get world.parties 0 ≡ Some primary) (like : IsLike world.shared.segs segs) where
@@ -48,12 +48,12 @@ module _ (set : Setting) (world : World) (primary : Party) (next : Core) (segs :
   misses_still who number may party found =
       let came = came_of world primary next segs there who party found in
       let lost =
-      losses_same set who came.its party (ap (λ (sent : Sent). sent.allocs) came.same.sent) (ap (λ (sent : Sent). sent.frees) came.same.sent) in
-      omega (arith, may came.its came.there, missed_fewer who world.shared.segs.asks segs.asks (like.heard who) (number - 1), lost)
+      notices_lost_same set who came.its party (ap (λ (sent : Sent). sent.frees) came.same.sent) in
+      omega (arith, may came.its came.there, unanswered_fewer who world.shared.segs.asks segs.asks (like.heard who) (number - 1), lost)
 
   -- an ask that was lost may still be taken back
   pub goes_back : (call : Asked) → MayBeTakenBack set call world → MayBeTakenBack set call (goes world primary next segs)
-  goes_back (want.Grow ask) may = (back_grown ask may.0, misses_still ask.from ask.number may.1)
+  goes_back (want.Grow ask) may = back_grown ask may
   goes_back (want.Shrink from number) may = misses_still from number may
 
   -- where the step is taken, it comes to that stage

@@ -54,7 +54,7 @@ module _ (set : Setting) (world : World) (shared : Shared) (primary after : Part
     told = λ who party found.
         let was = was_there shared world primary after there follows.on who party found in
         told_on set world.shared.segs.asks shared.segs.asks call who was.before party
-        (heard_logged next world.shared.segs.asks shared.segs.asks who follows.asks) was.on.asked was.on.allocs was.on.frees
+        (heard_logged next world.shared.segs.asks shared.segs.asks who follows.asks) was.on.asked was.on.frees
         (doubled.told who was.before was.there);
   }
 

@@ -20,13 +20,12 @@ use Rattle.hp_joint.proofs.GoneSoFar.{none_of_others, outcomes_so_far}
 use Rattle.hp_joint.proofs.SoFarFacts.{at_place}
 use Rattle.hp_reasons.specs.Counting.{planned_losses}
 use Rattle.hp_reasons.specs.Notices.{ThreadsHearNotices, unfreed_in}
-use Rattle.hp_reasons.specs.Outcomes.{unanswered_among, withdrawn_outcomes}
+use Rattle.hp_reasons.specs.Outcomes.{unanswered_among}
 use Rattle.hp_reasons.specs.Threads.{LeadInQuiet, filled, setting_of}
 use Rattle.hp_reasons.proofs.CountingLemmas.{lost_as_planned}
 use Rattle.hp_reasons.proofs.NoticesHeard.{all_among, made_within, unanswered_rises}
 use Rattle.hp_reasons.proofs.ThreadsBetween.{quiet_last, same_segs}
 use Rattle.hp_reasons.proofs.ThreadsLine.{IsQuietAt}
-use Rattle.hp_reasons.proofs.ThreadsNames.{none_withdrawn}
 
 filled_at : (place : Option Party) → party_in (option_map filled place) ≡ place
 filled_at None = refl
@@ -57,8 +56,7 @@ module _ (workload : Workload) (courses : List Course) (parties : List Party) (l
 
   -- of a participant that takes part
   declared : (who : ℕ) → who < workload.participants
-      → unfreed_in asks who 1 (did who) + withdrawn_outcomes who asks
-      ≤ planned_losses workload.plan.items message.Alloc who + planned_losses workload.plan.items message.Free who
+      → unfreed_in asks who 1 (did who) ≤ planned_losses workload.plan.items message.Free who
   declared who below =
       let its = at_place parties who (omega (arith, below, so.count)) in
       let here : slice_get at.world.parties who ≡ Some its.it = at.its.all who ∙ placed last.servers parties are who ∙ its.there in
@@ -69,35 +67,28 @@ module _ (workload : Workload) (courses : List Course) (parties : List Party) (l
       let rises = unanswered_rises asks who (length (numbered_in (did who))) its.it.asked within in
       let unanswered : unanswered_among at.world.shared.segs.asks who its.it.asked ≡ unanswered_among asks who its.it.asked =
       ap (λ (asks : List AskLog). unanswered_among asks who its.it.asked) quiet_asks in
-      let withdrawn : withdrawn_outcomes who at.world.shared.segs.asks ≡ withdrawn_outcomes who asks =
-      ap (withdrawn_outcomes who) quiet_asks in
       omega (
         arith,
         told,
         among,
         rises,
         unanswered,
-        withdrawn,
-        lost_as_planned workload.plan.items message.Alloc who its.it.sent.allocs,
         lost_as_planned workload.plan.items message.Free who its.it.sent.frees,
       )
 
   -- and of any other
   other : (who : ℕ) → workload.participants ≤ who
-      → unfreed_in asks who 1 (did who) + withdrawn_outcomes who asks
-      ≤ planned_losses workload.plan.items message.Alloc who + planned_losses workload.plan.items message.Free who
+      → unfreed_in asks who 1 (did who) ≤ planned_losses workload.plan.items message.Free who
   other who beyond =
       let none : unfreed_in asks who 1 (did who) ≡ 0 =
       ap (λ (courses : List Course). unfreed_in asks who 1 (trace_of courses))
       (none_of_others workload.participants who courses beyond so.built) in
-      omega (arith, none, none_withdrawn workload courses parties last.plain so who beyond)
+      omega (arith, none)
 
-  pub hear_notices : (who : ℕ) → unfreed_in segs.asks who 1 (did who) + withdrawn_outcomes who segs.asks
-      ≤ planned_losses workload.plan.items message.Alloc who + planned_losses workload.plan.items message.Free who
+  pub hear_notices : (who : ℕ) → unfreed_in segs.asks who 1 (did who) ≤ planned_losses workload.plan.items message.Free who
   hear_notices who =
       subst
-      (λ (segs : SegsView). unfreed_in segs.asks who 1 (did who) + withdrawn_outcomes who segs.asks
-      ≤ planned_losses workload.plan.items message.Alloc who + planned_losses workload.plan.items message.Free who)
+      (λ (segs : SegsView). unfreed_in segs.asks who 1 (did who) ≤ planned_losses workload.plan.items message.Free who)
       joint
       (⊎_elim (declared who) (other who) (cases_lt who workload.participants))
 

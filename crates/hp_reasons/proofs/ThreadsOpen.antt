@@ -26,13 +26,13 @@ use Rattle.hp_solo.specs.Solo.{AloneView, SoloView, has_stopped, party_at, party
 use Rattle.hp_joint.specs.EndLaws.{IsFirstParty, IsGiven, first_party}
 use Rattle.hp_joint.specs.SoFar.{AreFirstHeaps, first_hall, first_segs}
 use Rattle.hp_joint.proofs.FirstSegs.{armed_first, member_first, nobody_first, present_declared, sound_first}
-use Rattle.hp_reasons.specs.Episode.{AreSaid, IsBase, IsInPlace, Setting, World, mail_of, missed_among, number_of_party}
+use Rattle.hp_reasons.specs.Episode.{AreSaid, IsBase, IsInPlace, Setting, World, mail_of, number_of_party}
 use Rattle.hp_reasons.specs.Quiet.{IsQuietOwing, IsQuietWorld}
 use Rattle.hp_reasons.specs.Shared.{IsSharedIn, Shared}
 use Rattle.hp_reasons.specs.Threads.{IsWorldAt, OpensThread, filled, setting_of}
 use Rattle.hp_reasons.specs.Worlds.{IsInOrder}
-use Rattle.hp_reasons.proofs.Told.{none_missed}
-use Rattle.hp_reasons.specs.Outcomes.{IsApart}
+use Rattle.hp_reasons.proofs.Told.{unanswered_zero}
+use Rattle.hp_reasons.specs.Outcomes.{IsApart, unanswered_among}
 use Rattle.std.proofs.lemmas.List.Elements.{All-nil}
 
 -- what all share before the first line
@@ -148,8 +148,8 @@ module _ (workload : Workload) (given : IsGiven workload) (parties : List Party)
     doubled = λ who party there. omega arith;
     told = λ who party there.
         let asked : party.asked ≡ 0 = ap (λ (party : Party). party.asked) (each who party there).0.is in
-        let none : missed_among [] who party.asked ≡ missed_among [] who 0 = ap (missed_among [] who) asked in
-        omega (arith, none, none_missed who);
+        let none : unanswered_among [] who party.asked ≡ unanswered_among [] who 0 = ap (unanswered_among [] who) asked in
+        omega (arith, none, unanswered_zero [] who);
     level = λ nothing who member. sym (number_none who);
   }
 

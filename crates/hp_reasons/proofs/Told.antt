@@ -10,7 +10,7 @@ use Rattle.hp_segs.specs.SegsView.{closed_number, is_outcome_for, is_stale}
 use Rattle.hp_segs.specs.declared.outcome.AskLog.{AskLog}
 use Rattle.hp_serve.specs.Party.{Party}
 use Rattle.hp_reasons.specs.Counting.{lost_among}
-use Rattle.hp_reasons.specs.Episode.{IsToldBefore, Setting, losses, made_before, missed_among}
+use Rattle.hp_reasons.specs.Episode.{IsToldBefore, Setting, made_before, notices_lost}
 use Rattle.hp_reasons.specs.Outcomes.{unanswered_among, withdrawn_outcomes}
 
 -- later outcomes: what had an outcome has one, and no more was taken back
@@ -54,9 +54,6 @@ pub unanswered_next : (asks : List AskLog) (who n : ℕ)
 unfolding unanswered_among
 unanswered_next asks who n = refl
 
-pub none_missed : (who : ℕ) → missed_among [] who 0 ≡ 0
-none_missed who = omega (arith, unanswered_zero [] who)
-
 -- no more are without an outcome
 pub unanswered_fewer : (who : ℕ) (old new : List AskLog) → IsHeardOn who old new → (n : ℕ)
     → unanswered_among new who n ≤ unanswered_among old who n
@@ -83,15 +80,12 @@ unanswered_more who old more (suc n) =
       unanswered_next (old ++ more) who n,
     )
 
-pub missed_fewer : (who : ℕ) (old new : List AskLog) → IsHeardOn who old new → (n : ℕ) → missed_among new who n ≤ missed_among old who n
-missed_fewer who old new on n = omega (arith, unanswered_fewer who old new on n, on.withdrawn)
-
 -- one more, whether it has an outcome or not
 one_at_most : (b : Bool) → cond b 0 1 ≤ 1
 one_at_most true = omega arith
 one_at_most false = omega arith
 
-unanswered_last : (asks : List AskLog) (who n : ℕ) → unanswered_among asks who n ≤ unanswered_among asks who (n - 1) + 1
+pub unanswered_last : (asks : List AskLog) (who n : ℕ) → unanswered_among asks who n ≤ unanswered_among asks who (n - 1) + 1
 unanswered_last asks who zero = omega (arith, unanswered_zero asks who)
 unanswered_last asks who (suc n) =
     let same : unanswered_among asks who n ≡ unanswered_among asks who (suc n - 1) = ap (unanswered_among asks who) (before n) in
@@ -99,9 +93,6 @@ unanswered_last asks who (suc n) =
   where
     before : (n : ℕ) → n ≡ suc n - 1
     before n = omega arith
-
-pub missed_last : (asks : List AskLog) (who n : ℕ) → missed_among asks who n ≤ missed_among asks who (n - 1) + 1
-missed_last asks who n = omega (arith, unanswered_last asks who n)
 
 -- one more that has an outcome
 pub unanswered_heard : (asks : List AskLog) (who n : ℕ) → list_any (is_outcome_for who n) asks ≡ true
@@ -165,25 +156,23 @@ unanswered_closed asks who n is =
 
 -- WHAT IS SAID OF PARTICIPANTS
 
-pub losses_same : (set : Setting) (who : ℕ) (old new : Party) → new.sent.allocs ≡ old.sent.allocs → new.sent.frees ≡ old.sent.frees
-    → losses set who new ≡ losses set who old
-losses_same set who old new allocs frees =
-    ap (λ (n : ℕ). lost_among set.plan message.Alloc who n + lost_among set.plan message.Free who new.sent.frees) allocs
-    ∙ ap (λ (n : ℕ). lost_among set.plan message.Alloc who old.sent.allocs + lost_among set.plan message.Free who n) frees
+pub notices_lost_same : (set : Setting) (who : ℕ) (old new : Party) → new.sent.frees ≡ old.sent.frees
+    → notices_lost set who new ≡ notices_lost set who old
+notices_lost_same set who old new frees = ap (lost_among set.plan message.Free who) frees
 
 made_same : (call : Asked) (who : ℕ) (old new : Party) → new.asked ≡ old.asked → made_before call who new ≡ made_before call who old
 made_same call who old new same = ap (λ (n : ℕ). if asker call == who then number_of call - 1 else n) same
 
 -- a participant that sent no more has what it had where later outcomes are heard
 pub told_on : (set : Setting) (old new : List AskLog) (call : Asked) (who : ℕ) (party after : Party) → IsHeardOn who old new
-    → after.asked ≡ party.asked → after.sent.allocs ≡ party.sent.allocs → after.sent.frees ≡ party.sent.frees
-    → IsToldBefore set old call who party → IsToldBefore set new call who after
-told_on set old new call who party after on asked allocs frees told = record {
+    → after.asked ≡ party.asked → after.sent.frees ≡ party.sent.frees → IsToldBefore set old call who party
+    → IsToldBefore set new call who after
+told_on set old new call who party after on asked frees told = record {
   answered =
-      let fewer = missed_fewer who old new on (made_before call who party) in
-      let made : missed_among new who (made_before call who after) ≡ missed_among new who (made_before call who party) =
-      ap (missed_among new who) (made_same call who party after asked) in
-      omega (arith, told.answered, fewer, made, losses_same set who party after allocs frees);
+      let fewer = unanswered_fewer who old new on (made_before call who party) in
+      let made : unanswered_among new who (made_before call who after) ≡ unanswered_among new who (made_before call who party) =
+      ap (unanswered_among new who) (made_same call who party after asked) in
+      omega (arith, told.answered, fewer, made, notices_lost_same set who party after frees);
   last = λ own. asked ∙ told.last own;
 }
 
@@ -198,25 +187,25 @@ made_other call who party other =
 -- who is told of all but this one, and this one is closed, or there is room for one more without an outcome
 pub told_then : (set : Setting) (asks : List AskLog) (call : Asked) (who : ℕ) (party : Party) → IsToldBefore set asks call who party
     → closed_number asks who ≤ party.asked
-    → (who ≡ asker call → (number_of call ≤ closed_number asks who) ⊎ (missed_among asks who (number_of call - 1) < losses set who party))
-    → missed_among asks who party.asked ≤ losses set who party
+    → (who ≡ asker call → (number_of call ≤ closed_number asks who) ⊎ (unanswered_among asks who (number_of call - 1) < notices_lost set who party))
+    → unanswered_among asks who party.asked ≤ notices_lost set who party
 told_then set asks call who party told closed ends =
     elim (cases_eq who (asker call)) [
       | inr other ↦
-          let made : missed_among asks who (made_before call who party) ≡ missed_among asks who party.asked =
-          ap (missed_among asks who) (made_other call who party other) in
+          let made : unanswered_among asks who (made_before call who party) ≡ unanswered_among asks who party.asked =
+          ap (unanswered_among asks who) (made_other call who party other) in
           omega (arith, told.answered, made)
       | inl own ↦
           let asked : party.asked ≡ number_of call = told.last own in
-          let made : missed_among asks who (made_before call who party) ≡ missed_among asks who (party.asked - 1) =
-          ap (missed_among asks who) (made_own call who party own ∙ ap (λ (n : ℕ). n - 1) (sym asked)) in
+          let made : unanswered_among asks who (made_before call who party) ≡ unanswered_among asks who (party.asked - 1) =
+          ap (unanswered_among asks who) (made_own call who party own ∙ ap (λ (n : ℕ). n - 1) (sym asked)) in
           elim (ends own) [
             | inl done ↦
                 let is : closed_number asks who ≡ party.asked = omega (arith, done, asked, closed) in
                 omega (arith, told.answered, made, unanswered_closed asks who party.asked is)
             | inr room ↦
-                let before : missed_among asks who (number_of call - 1) ≡ missed_among asks who (party.asked - 1) =
-                ap (λ (n : ℕ). missed_among asks who (n - 1)) (sym asked) in
-                omega (arith, missed_last asks who party.asked, room, before)
+                let before : unanswered_among asks who (number_of call - 1) ≡ unanswered_among asks who (party.asked - 1) =
+                ap (λ (n : ℕ). unanswered_among asks who (n - 1)) (sym asked) in
+                omega (arith, unanswered_last asks who party.asked, room, before)
           ]
     ]

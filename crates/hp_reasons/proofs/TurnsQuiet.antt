@@ -13,9 +13,9 @@ use Rattle.hp_segs.specs.SegsView.{closed_number}
 use Rattle.hp_serve.specs.Coordinating.{core_holds}
 use Rattle.hp_serve.specs.Party.{Party}
 use Rattle.hp_reasons.specs.Counting.{LosesNothing}
-use Rattle.hp_reasons.specs.Episode.{AreAnswersOrCopies, AreDoubled, AreLevel, AreOthersEmpty, EndsLevel, HasCoordinator, IsAnsweredFor, IsBase, IsClosed, MayMissOne, Setting, Stage, World, doubles, is_sync, losses, mail_of, missed_among}
-use Rattle.hp_reasons.specs.Quiet.{IsQuietWorld}
-use Rattle.hp_reasons.specs.Outcomes.{stale_outcomes}
+use Rattle.hp_reasons.specs.Episode.{AreAnswersOrCopies, AreDoubled, AreLevel, AreOthersEmpty, EndsLevel, HasCoordinator, IsAnsweredFor, IsBase, IsClosed, MayMissOne, Setting, Stage, World, doubles, is_sync, mail_of, notices_lost}
+use Rattle.hp_reasons.specs.Quiet.{IsQuietWorld, IsQuietBut}
+use Rattle.hp_reasons.specs.Outcomes.{stale_outcomes, unanswered_among}
 use Rattle.hp_reasons.specs.Stages.{IsSent}
 use Rattle.hp_reasons.specs.Waits.{is_last}
 use Rattle.hp_reasons.proofs.CopiesBodies.{bodies_unsynced}
@@ -138,7 +138,7 @@ module _ (set : Setting) (call : Asked) (sent : ℕ) (is_sent : IsSent set call 
   IsClosedOrMissed = IsClosed call world ⊎ MayMissOne set (asker call) (number_of call) world
 
   all_told : (holds : Bool) → AreDoubled set world call holds false → IsClosedOrMissed → (who : ℕ) (party : Party)
-      → slice_get world.parties who ≡ Some party → missed_among world.shared.segs.asks who party.asked ≤ losses set who party
+      → slice_get world.parties who ≡ Some party → unanswered_among world.shared.segs.asks who party.asked ≤ notices_lost set who party
   all_told holds doubled ends who party found =
       told_then set world.shared.segs.asks call who party (doubled.told who party found) (base.places who party found).closed
       (λ own.
@@ -146,9 +146,23 @@ module _ (set : Setting) (call : Asked) (sent : ℕ) (is_sent : IsSent set call 
         | inl closed ↦ inl (subst (λ (n : ℕ). number_of call ≤ closed_number world.shared.segs.asks n) (sym own) closed)
         | inr room ↦
             inr
-            (subst (λ (n : ℕ). missed_among world.shared.segs.asks n (number_of call - 1) < losses set n party) (sym own)
+            (subst (λ (n : ℕ). unanswered_among world.shared.segs.asks n (number_of call - 1) < notices_lost set n party) (sym own)
             (room party (ap (slice_get world.parties) (sym own) ∙ found)))
       ])
+
+  -- so it is but for this one, where that is not closed
+  pub quiet_but : HasCoordinator set world Idle call false → world.shared.segs.growth ≡ None → AreDoubled set world call false false
+      → (LosesNothing set.plan → AreLevel world) → IsQuietBut set call world
+  quiet_but coordinator alone doubled level = record {
+    base = base;
+    idle = λ primary found.
+        (coordinator.is.its, same_party coordinator primary found, coordinator.is.deadline, coordinator.is.phase_is, coordinator.is.held);
+    growth = alone;
+    empty = none;
+    doubled = few_stale doubled;
+    told = doubled.told;
+    level = level;
+  }
 
   pub quiet_idle : HasCoordinator set world Idle call false → world.shared.segs.growth ≡ None → AreDoubled set world call false false
       → IsClosedOrMissed → (LosesNothing set.plan → AreLevel world) → IsQuietWorld set world

@@ -32,7 +32,7 @@ use Rattle.hp_serve.specs.Frames.{Says}
 use Rattle.hp_serve.specs.Party.{Party}
 use Rattle.hp_serve.specs.Posting.{times_sent}
 use Rattle.hp_reasons.specs.Counting.{LosesNothing, doubled_among, lost_among}
-use Rattle.hp_reasons.specs.Outcomes.{IsApart, late_outcomes, stale_outcomes, unanswered_among, withdrawn_outcomes}
+use Rattle.hp_reasons.specs.Outcomes.{IsApart, late_outcomes, stale_outcomes, withdrawn_outcomes, unanswered_among}
 use Rattle.hp_reasons.specs.Failing.{AreGrantsWithin}
 use Rattle.hp_reasons.specs.Shared.{Shared}
 
@@ -178,22 +178,17 @@ IsToDo (want.Shrink from number) world = closed_number world.shared.segs.asks fr
 abbrev pub copies_left : World → Bool → ℕ
 copies_left world holds = count_by is_call (mail_of world 0) + (if holds then 1 else 0)
 
--- how many of a participant's first asks and notices, so many, have no outcome, or were taken back
-abbrev pub missed_among : List AskLog → ℕ → ℕ → ℕ
-missed_among asks who n = unanswered_among asks who n + withdrawn_outcomes who asks
-
--- how many of a participant's asks and notices were lost so far
-abbrev pub losses : Setting → ℕ → Party → ℕ
-losses set who party =
-    lost_among set.plan message.Alloc who party.sent.allocs + lost_among set.plan message.Free who party.sent.frees
+-- how many of a participant's notices were lost so far
+abbrev pub notices_lost : Setting → ℕ → Party → ℕ
+notices_lost set who party = lost_among set.plan message.Free who party.sent.frees
 
 -- how many asks and notices a participant made, but for this one, where it is its own
 abbrev pub made_before : Asked → ℕ → Party → ℕ
 made_before call who party = if asker call == who then number_of call - 1 else party.asked
 
--- each ask and notice that a participant made, but for this one, has an outcome, or was lost
+-- each ask and notice that a participant made, but for this one, has an outcome, or is a notice that was lost
 pub record IsToldBefore (set : Setting) (asks : List AskLog) (call : Asked) (who : ℕ) (party : Party) : Type 0 where
-  pub answered : missed_among asks who (made_before call who party) ≤ losses set who party
+  pub answered : unanswered_among asks who (made_before call who party) ≤ notices_lost set who party
   pub last : who ≡ asker call → party.asked ≡ number_of call
 
 -- each ask that was stale so far came twice; those of the asker that are still to come are counted in, but for the first one of a fresh ask.
@@ -252,16 +247,16 @@ IsAnsweredFor (want.Shrink from number) world = ⊤
 -- there is room for one more without an outcome: this one
 abbrev pub MayMissOne : Setting → ℕ → ℕ → World → Type 0
 MayMissOne set who number world = (party : Party) → slice_get world.parties who ≡ Some party
-    → missed_among world.shared.segs.asks who (number - 1) < losses set who party
+    → unanswered_among world.shared.segs.asks who (number - 1) < notices_lost set who party
 
 -- where a growth's ask was lost there is room for one more that is taken back
 abbrev pub HasRoomBack : Setting → ℕ → World → Type 0
 HasRoomBack set who world = (party : Party) → slice_get world.parties who ≡ Some party
     → withdrawn_outcomes who world.shared.segs.asks < lost_among set.plan message.Alloc who party.sent.allocs
 
--- what was lost has no outcome, and may be taken back where it is a growth's ask
+-- an ask that was lost may be taken back, and a notice that was lost has no outcome
 abbrev pub MayBeTakenBack : Setting → Asked → World → Type 0
-MayBeTakenBack set (want.Grow ask) world = HasRoomBack set ask.from world × MayMissOne set ask.from ask.number world
+MayBeTakenBack set (want.Grow ask) world = HasRoomBack set ask.from world
 MayBeTakenBack set (want.Shrink from number) world = MayMissOne set from number world
 
 -- all members have taken in all records

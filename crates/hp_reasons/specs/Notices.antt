@@ -17,7 +17,6 @@ use Rattle.hp_segs.specs.declared.outcome.Outcome.TheVariants.{Freed, Granted, R
 use Rattle.hp_solo.specs.Solo.{SoloView}
 use Rattle.hp_joint.specs.SoFar.{SoFar}
 use Rattle.hp_reasons.specs.Counting.{planned_losses}
-use Rattle.hp_reasons.specs.Outcomes.{withdrawn_outcomes}
 use Rattle.hp_reasons.specs.Threads.{MayRun, OneThread, OpensThread, filled}
 
 -- the outcome says that what was given up has gone back
@@ -41,12 +40,10 @@ unfreed_in asks who number (GaveUp heap run ∷ trace) =
 unfreed_in asks who number (Looked records ∷ trace) = unfreed_in asks who number trace
 unfreed_in asks who number (CaughtUp to caught ∷ trace) = unfreed_in asks who number trace
 
--- notices of a participant without an outcome, and its asks that were taken back, are together at most the lines of the plan that lose a
--- FREE or an ALLOC of it. So where no line loses an ALLOC of it, notices without an outcome are at most the lines that lose a FREE of it, and
--- where none loses either, each run that it gave up has gone back
+-- notices of a participant without an outcome are at most the lines of the plan that lose a FREE of it. So where none does, each run that it
+-- gave up has gone back
 abbrev pub NoticesAreHeard : List PlanEntry → List Course → List AskLog → Type 0
-NoticesAreHeard plan courses asks = (who : ℕ) → unfreed_in asks who 1 (trace_of (courses_of who courses)) + withdrawn_outcomes who asks
-    ≤ planned_losses plan message.Alloc who + planned_losses plan message.Free who
+NoticesAreHeard plan courses asks = (who : ℕ) → unfreed_in asks who 1 (trace_of (courses_of who courses)) ≤ planned_losses plan message.Free who
 
 -- so it is in every run in one thread, behind its last line
 abbrev pub ThreadsHearNotices : Type 0

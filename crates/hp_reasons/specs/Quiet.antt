@@ -1,11 +1,12 @@
 -- That all is quiet between asks and notices. The rule "Reasons" of docs/PARTICIPANTS.md.
 use Rattle.std.specs.Prelude.{◌≡◌, ℕ, ◌≤◌, Bool, false, [], Some, None, replicate, slice_get}
 use Rattle.hp_core.specs.Core.{Core}
+use Rattle.hp_core.specs.declared.asked.Asked.{Asked}
 use Rattle.hp_core.specs.declared.phase.Phase.TheVariants.{Idle}
 use Rattle.hp_serve.specs.Party.{Party}
 use Rattle.hp_reasons.specs.Counting.{LosesNothing}
-use Rattle.hp_reasons.specs.Episode.{AreLevel, IsBase, Setting, World, doubles, losses, mail_of, missed_among}
-use Rattle.hp_reasons.specs.Outcomes.{stale_outcomes}
+use Rattle.hp_reasons.specs.Episode.{AreLevel, IsBase, IsToldBefore, Setting, World, doubles, mail_of, notices_lost}
+use Rattle.hp_reasons.specs.Outcomes.{stale_outcomes, unanswered_among}
 
 -- between asks and notices all is quiet
 pub record IsQuietWorld (set : Setting) (world : World) : Type 0 where
@@ -16,10 +17,23 @@ pub record IsQuietWorld (set : Setting) (world : World) : Type 0 where
   pub empty : (who : ℕ) → mail_of world who ≡ []
   pub doubled : (who : ℕ) (party : Party) → slice_get world.parties who ≡ Some party
       → stale_outcomes who world.shared.segs.asks ≤ doubles set who party
-  -- asks and notices without an outcome, and asks that were taken back, are no more than were lost
+  -- asks and notices without an outcome are no more than the notices that were lost
   pub told : (who : ℕ) (party : Party) → slice_get world.parties who ≡ Some party
-      → missed_among world.shared.segs.asks who party.asked ≤ losses set who party
+      → unanswered_among world.shared.segs.asks who party.asked ≤ notices_lost set who party
   -- where the plan loses no message all members have taken in all records
+  pub level : LosesNothing set.plan → AreLevel world
+
+-- so it is but for an ask that was lost: all other asks and notices have an outcome, or are notices that were lost
+pub record IsQuietBut (set : Setting) (call : Asked) (world : World) : Type 0 where
+  pub base : IsBase set world
+  pub idle : (primary : Party) → slice_get world.parties 0 ≡ Some primary
+      → (core : Core) × (primary.core ≡ Some core) × (core.deadline ≡ set.deadline) × (core.phase ≡ Idle) × (core.held ≡ replicate 16 None)
+  pub growth : world.shared.segs.growth ≡ None
+  pub empty : (who : ℕ) → mail_of world who ≡ []
+  pub doubled : (who : ℕ) (party : Party) → slice_get world.parties who ≡ Some party
+      → stale_outcomes who world.shared.segs.asks ≤ doubles set who party
+  pub told : (who : ℕ) (party : Party) → slice_get world.parties who ≡ Some party
+      → IsToldBefore set world.shared.segs.asks call who party
   pub level : LosesNothing set.plan → AreLevel world
 
 -- a participant owes word of a run that it gave up, or not: all is quiet, and where the plan loses no message nothing is left of what was

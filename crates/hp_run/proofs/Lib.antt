@@ -17,3 +17,4 @@ mod ReasonLemmas
 mod LevelLemmas
 pub mod FaultLemmas
 pub mod WantLemmas
+mod WorkedFailures

@@ -94,7 +94,7 @@ pub record IsRunEnd (workload : Workload) (mappers : List (Option (List FailingC
 -- one taken back or stale, at most as often as the plan loses SYNCs to it, loses its asks, or repeats its asks and notices. Where the plan
 -- loses no message, no segment is Retiring, and each participant that is attached has taken in all records of the log; and where no mapping
 -- may fail either, asks were refused for want of a list, of pages, of slots or of a place alone. Each run that was given up has gone back, as
--- its notice's outcome says, but for as many as the plan loses of its participant's messages; and where the plan loses no message, what lines
+-- its notice's outcome says, but for as many as the plan loses of its participant's notices; and where the plan loses no message, what lines
 -- gave up had gone before later lines saw the log
 pub record IsSoloRunEnd (workload : Workload) (mappers : List (Option (List FailingCall))) (answers : List Answer) (heaps : List HeapView)
     (segs : SegsView) (tables : List Table) : Type 0 where

@@ -1,6 +1,6 @@
 -- What an asker reads off the segment value, and what it then knows of the outcome that stands for its ask.
-use Rattle.std.proofs.Common.{◌≡◌, ◌==◌, ◌∙◌, ℕ, Bool, true, false, not, cond, List, [], ◌∷◌, Option, Some, None, refl, ap, sym, subst}
-use Rattle.std.specs.List.{find}
+use Rattle.std.proofs.Common.{◌≡◌, ◌==◌, ◌∙◌, ℕ, Bool, true, false, not, cond, ◌||◌, List, [], ◌∷◌, Option, Some, None, refl, ap, sym, subst}
+use Rattle.std.specs.List.{find, list_any}
 use Rattle.std.specs.Option.{option_and_then, option_map}
 use Rattle.std.proofs.lemmas.Bool.{and_from, and_parts}
 use Rattle.hp_base.specs.declared.row.Run.{Run}
@@ -16,6 +16,15 @@ use Rattle.hp_segs.specs.declared.outcome.Cause.{Cause}
 use Rattle.hp_segs.specs.declared.outcome.Outcome.{Outcome}
 use Rattle.hp_segs.specs.declared.outcome.Outcome.TheVariants.{Granted, Refused, Stale, Freed}
 use Rattle.hp_serve.specs.Asking.{Settles}
+
+-- where an element is found one passes
+pub any_of_found : {X : Type 0} (p : X → Bool) (xs : List X) (x : X) → find p xs ≡ Some x → list_any p xs ≡ true
+any_of_found p [] x found = cc
+any_of_found p (y ∷ ys) x found = by_first (p y) found
+  where
+    by_first : (first : Bool) → cond first (Some y) (find p ys) ≡ Some x → (first || list_any p ys) ≡ true
+    by_first true is = refl
+    by_first false is = any_of_found p ys x is
 
 -- the first grant or refusal of that number is that outcome
 pub record Stands (asks : List AskLog) (from number : ℕ) (outcome : Outcome) : Type 0 where

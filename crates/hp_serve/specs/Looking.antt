@@ -1,9 +1,10 @@
 -- What an asker's look in the segment value finds.
-use Rattle.std.specs.Prelude.{◌≡◌, ℕ, List, [], ◌∷◌}
+use Rattle.std.specs.Prelude.{◌≡◌, ℕ, true, List, [], ◌∷◌, ⊤}
+use Rattle.std.specs.List.{list_any}
 use Rattle.hp_hall.specs.Holding.{HeapPart}
 use Rattle.hp_hall.specs.Mail.{MailStep}
 use Rattle.hp_log.specs.declared.log_record.LogRecord.{LogRecord}
-use Rattle.hp_segs.specs.SegsView.{SegsView}
+use Rattle.hp_segs.specs.SegsView.{SegsView, grants_or_refuses}
 use Rattle.hp_segs.specs.Steps.{after_claim}
 use Rattle.hp_segs.specs.declared.ask.Ask.{Ask}
 use Rattle.hp_segs.specs.declared.outcome.AskLog.{AskLog}
@@ -22,7 +23,13 @@ abbrev pub after_look : Ask → Found → SegsView → SegsView
 after_look ask (Settled run) segs = after_claim ask.from ask.number segs
 after_look ask Open segs = segs
 
+-- what finds an ask settled found a grant or a refusal of it in the segment value
+abbrev pub IsFoundIn : Ask → SegsView → Found → Type 0
+IsFoundIn ask segs (Settled run) = list_any (grants_or_refuses ask.from ask.number) segs.asks ≡ true
+IsFoundIn ask segs Open = ⊤
+
 -- the steps of a look
 pub record IsLookAt (ask : Ask) (steps : List MailStep) (found : Found) : Type 0 where
   pub taken : SegsView
+  pub found : IsFoundIn ask taken found
   pub are : steps ≡ takes_segments taken ∷ gives_segments (after_look ask found taken) ∷ []

@@ -4,9 +4,9 @@ use Rattle.hp_hall.proofs.StandingBrings.{claim_brings}
 use Rattle.hp_hall.proofs.StandingClaims.{claim_leaves_others}
 use Rattle.hp_hall.proofs.StandingGrowths.{claimed_can_grow}
 use Rattle.hp_hall.proofs.HallStates.{did_then}
-use Rattle.hp_segs.specs.SegsView.{is_member}
+use Rattle.hp_segs.specs.SegsView.{grants_or_refuses, is_member}
 use Rattle.hp_serve.specs.Serving.{gives_segments, takes_segments}
-use Rattle.hp_serve.proofs.AskLooks.{grants_none, outcome_stands, settles_at}
+use Rattle.hp_serve.proofs.AskLooks.{any_of_found, grants_none, outcome_stands, settles_at}
 use Rattle.hp_serve.proofs.AskOutcomes.{can_claim}
 use Rattle.hp_serve.proofs.AskSettled.{claim_asks, claim_log, claim_roster, claim_settles, claims_nothing, refusal_settles, unheld_stay}
 use Rattle.hp_serve.proofs.AskedAlong.{awaits_along, settles_along}
@@ -88,11 +88,19 @@ returns-in-Some-Granted-clause-found g c =
     c.claim_taken-run.ensures.back.gave.part))
 
 pub returns-in-Some-Granted-clause-did : goal.returns-in-Some-Granted-clause-did
-returns-in-Some-Granted-clause-did g c = (
-  _,
-  did_then c.take_segments-segs.ensures.took.did c.claim_taken-run.ensures.back.gave.did,
-  record { taken = c.take_segments-segs.result; are = refl },
-)
+returns-in-Some-Granted-clause-did g c =
+    let ask = c.args.ask.now in
+    let segs = c.take_segments-segs.result in
+    let stands =
+    outcome_stands segs.asks ask.from ask.number _ (sym c.in-Some-Granted.ensures ∙ ap Some c.in-Some-Granted.field-0-is) refl in (
+      _,
+      did_then c.take_segments-segs.ensures.took.did c.claim_taken-run.ensures.back.gave.did,
+      record {
+        taken = segs;
+        found = any_of_found (grants_or_refuses ask.from ask.number) segs.asks stands.entry stands.found;
+        are = refl;
+      },
+    )
 
 pub returns-in-Some-Refused-clause-found : goal.returns-in-Some-Refused-clause-found
 returns-in-Some-Refused-clause-found g c =
@@ -122,6 +130,7 @@ returns-in-Some-Refused-clause-did g c =
       did_then c.take_segments-segs.ensures.took.did c.put_back.ensures.back.back.gave.did,
       record {
         taken = segs;
+        found = any_of_found (grants_or_refuses ask.from ask.number) segs.asks stands.entry stands.found;
         are = ap (λ given. takes_segments segs ∷ gives_segments given ∷ [])
             (sym (claims_nothing ask.from ask.number segs (grants_none segs ask.from ask.number _ stands)));
       },
@@ -131,7 +140,7 @@ pub returns-in-Some-Stale-clause-did : goal.returns-in-Some-Stale-clause-did
 returns-in-Some-Stale-clause-did g c = (
   _,
   did_then c.take_segments-segs.ensures.took.did c.put_back-in-Some-Stale.ensures.back.back.gave.did,
-  record { taken = c.take_segments-segs.result; are = refl },
+  record { taken = c.take_segments-segs.result; found = tt; are = refl },
 )
 
 pub returns-in-Some-Stale-clause-goes_on : goal.returns-in-Some-Stale-clause-goes_on
