@@ -1,7 +1,6 @@
 -- Worked values: lines that lose nothing, as there is no such message; readings of refusals that are a deadline apart, or three; and a notice
 -- whose outcome never came, with values that are none of these.
-use Rattle.std.proofs.Common.{◌≡◌, ◌∙◌, ℕ, ◌+◌, ◌*◌, ◌≤◌, ◌==◌, ◌&&◌, Bool, true, false, not, cond, List, [], ◌∷◌, None, refl, sym, ap, subst, arith}
-use Rattle.hp_base.specs.declared.plan_entry.MsgKind.{MsgKind}
+use Rattle.std.proofs.Common.{◌≡◌, ℕ, ◌+◌, ◌≤◌, ◌==◌, ◌&&◌, Bool, true, false, not, cond, List, [], ◌∷◌, None, refl, ap, subst, arith}
 use Rattle.hp_base.specs.declared.plan_entry.MsgKind.TheVariants as kinds
 use Rattle.hp_base.specs.declared.plan_entry.PlanEntry.{PlanEntry}
 use Rattle.hp_base.specs.declared.plan_entry.PlanEntry.TheVariants.{Message}

@@ -1,6 +1,6 @@
 -- Worked values: what an outcome may say of a mapping that failed. By a line `elsewhere 2 1` the page came out one page above its address; an
 -- outcome that says that it was refused, or that it came out at another place, is none that the plan has.
-use Rattle.std.proofs.Common.{◌≡◌, ◌∙◌, ◌⊎◌, ℕ, ◌+◌, ◌*◌, ◌^◌, Bool, true, false, List, [], ◌∷◌, Contains, Option, Some, None, inl, inr, refl, sym, ap, subst, arith}
+use Rattle.std.proofs.Common.{◌≡◌, ◌∙◌, ◌⊎◌, ℕ, ◌+◌, ◌*◌, ◌^◌, Bool, true, List, [], ◌∷◌, Contains, Option, Some, inl, inr, refl, sym, ap, arith}
 use Rattle.hp_base.specs.Mapping.{FailingCall}
 use Rattle.hp_base.specs.Requests.{IsAccepted}
 use Rattle.hp_base.specs.declared.map_answer.MapAnswer.{MapAnswer}
