@@ -11,10 +11,9 @@ use Rattle.hp_mail.specs.declared.posted.Posted.{Posted}
 use Rattle.hp_segs.specs.LaterSteps.{after_arm}
 use Rattle.hp_segs.specs.SegsView.{SegsView}
 use Rattle.hp_segs.specs.declared.ask.Ask.{Ask}
-use Rattle.hp_serve.specs.Asking.{after_settling, alloc_body, free_body, next_number}
+use Rattle.hp_serve.specs.Asking.{after_settling, alloc_body, ask_of, free_body, next_number}
 use Rattle.hp_serve.specs.Frames.{Says}
 use Rattle.hp_serve.specs.Looking.{IsLookAt}
-use Rattle.hp_serve.specs.Asking.{ask_of}
 use Rattle.hp_serve.specs.Party.{Party, after_alloc, after_free, one_more}
 use Rattle.hp_serve.specs.Serving.{gives_segments, takes_segments}
 use Rattle.hp_serve.specs.Waiting.{IsWaited}
