@@ -65,8 +65,8 @@ pub record DoesAsk (count : ℕ) (party after : Party) (asked : PagesAsked) (ste
   pub awaited : IsAwaitedBy count (after_alloc after.asked party) after (ask_of party.me after.asked asked) since rest run
   pub are : steps ≡ sending ++ rest
 
--- a participant tells that it gave up a run of a heap, as the plan has its next notice, reads its clock, and waits for the answer, for three
--- deadlines at most
+-- a participant tells that it gave up a run of a heap, as the plan has its next notice, reads its clock, and waits for the answer, for
+-- three deadlines at most
 pub record DoesNotify (count : ℕ) (party after : Party) (heap : ℕ) (run : Run) (steps : List MailStep) : Type 0 where
   pub frame : Frame
   pub posted : Posted
