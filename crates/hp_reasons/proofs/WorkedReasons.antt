@@ -29,10 +29,10 @@ both_lines = Message kinds.Reply 0 1 false 2 ∷ sync_line
 
 -- how many of the two lines lose a SYNC, or a reply, of a participant of which it is known whether it is 0
 abbrev syncs_by : Bool → ℕ
-syncs_by primary = cond (not primary && (false && (primary && true))) 1 0 + (cond (not primary && (true && (primary && true))) 1 0 + 0)
+syncs_by primary = 0 + cond (not primary && (false && (primary && true))) 1 0 + cond (not primary && (true && (primary && true))) 1 0
 
 abbrev replies_by : Bool → ℕ
-replies_by primary = cond (not primary && (true && (primary && true))) 1 0 + (cond (not primary && (false && (primary && true))) 1 0 + 0)
+replies_by primary = 0 + cond (not primary && (true && (primary && true))) 1 0 + cond (not primary && (false && (primary && true))) 1 0
 
 no_syncs : (primary : Bool) → syncs_by primary ≡ 0
 no_syncs true = refl
