@@ -1,6 +1,6 @@
 -- What a call of the plain values leaves, the hall of one thread over them leaves.
-use Rattle.std.proofs.Common.{◌≡◌, ◌≢◌, ℕ, ◌+◌, ◌≤◌, List, ap, arith}
-use Rattle.hp_hall.specs.HallCalls.{HasComeTo, HasFoundHeld, HasGiven, HasTaken}
+use Rattle.std.proofs.Common.{◌≡◌, ℕ, ◌+◌, ◌≤◌, List, ap, arith}
+use Rattle.hp_hall.specs.HallCalls.{HasComeTo, HasGiven, HasTaken}
 use Rattle.hp_hall.specs.HallState.{Did, MineStay, OthersStay, SlotsStay, SlotsStayBut, Stays}
 use Rattle.hp_hall.specs.Mail.{MailStep}
 use Rattle.hp_hall.specs.Own.{Own}

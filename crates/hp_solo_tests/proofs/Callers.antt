@@ -7,7 +7,7 @@ use Rattle.hp_hall.specs.HallState.{SlotsStay, Stays}
 use Rattle.hp_hall.specs.Mail.{steps_of}
 use Rattle.hp_hall.specs.declared.note.Note.{Note}
 use Rattle.hp_plain.specs.Course.{IsCourse}
-use Rattle.hp_plain.specs.HallView.{HallView, IsHome, joined_in, own_at, part_in, slot_at}
+use Rattle.hp_plain.specs.HallView.{HallView, joined_in, own_at, part_in, slot_at}
 use Rattle.hp_plain.specs.Opening.{AreHome}
 use Rattle.hp_plain.specs.PlainState.{plain_state}
 use Rattle.hp_serve.proofs.MemberLemmas.{at_each}

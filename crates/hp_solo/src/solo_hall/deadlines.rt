@@ -1,5 +1,5 @@
 //! The deadlines that participants wait for.
-ghost use Rattle.std.specs.Prelude.{◌≡◌, ◌<◌, ◌≤◌, ◌⊎◌, ℕ, IfNone, IfSome, Option, Some};
+ghost use Rattle.std.specs.Prelude.{◌<◌, IfNone, IfSome};
 ghost use Rattle.hp_solo.specs.Draining.{IsLeastDue, IsNoneDue};
 ghost use Rattle.hp_solo.specs.Solo.{IsNextDue, IsSooner};
 
