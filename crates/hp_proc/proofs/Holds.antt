@@ -131,10 +131,10 @@ knew_called first mid last knew called =
     subst (λ (last : ParticipantView). last.context ≡ with_calls last.context.calls first.context) (sym called)
     (ap (with_calls (mid.context.calls + 1)) knew)
 
-pub remains_called : {me : ℕ} {first mid last : ParticipantView} {a b : HallState} → RemainsIn me first.party mid.party a b
-    → last ≡ after_call mid → RemainsIn me first.party last.party a b
-remains_called {me} {first} {mid} {last} {a} {b} here called =
-    subst (λ (last : ParticipantView). RemainsIn me first.party last.party a b) (sym called) here
+pub remains_called : {me : ℕ} {first : Party} (mid last : ParticipantView) {a b : HallState} → RemainsIn me first mid.party a b
+    → last ≡ after_call mid → RemainsIn me first last.party a b
+remains_called {me} {first} mid last {a} {b} here called =
+    subst (λ (last : ParticipantView). RemainsIn me first last.party a b) (sym called) here
 
 -- a call of the heap in its hand, which leaves the heap its pages
 pub keeps_called : (doer after : ParticipantView) (heap next : HeapView) {call : HeapCall} {answer : HeapAnswer} {a : HallState}

@@ -135,6 +135,14 @@ impl<'p, M: Mapper> Server<'p, M> {
         }
     }
 
+    /// How long it waits for others, in milliseconds: 3,600,000 at most. Own.
+    pub fn deadline(&self) -> u64
+        ensures deadline { result ≡ self.now.deadline }
+        ensures few { result ≤ MAX_DEADLINE }
+    {
+        self.deadline
+    }
+
     /// How many records its table has taken in. Own.
     pub fn records(&self) -> u64
         ensures { result ≡ self.now.maps.number }

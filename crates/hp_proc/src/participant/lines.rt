@@ -147,6 +147,8 @@ impl<'p, M: Mapper> Participant<'p, M> {
         if !self.context.attached {
             return Ok(Answer::Detached);
         }
+        // How long it waits at most is handed out with its deadline.
+        let _deadline = self.server.deadline();
         match &line.act {
             Act::Alloc { size, options, .. } => self.do_alloc(hall, line, *size, options),
             Act::Free { label } => self.do_free(hall, line, label),

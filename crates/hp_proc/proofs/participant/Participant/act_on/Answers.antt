@@ -1,5 +1,5 @@
 -- The element that the label stands for is looked for where it lies.
-use Rattle.std.proofs.Common.{◌≡◌, ◌∙◌, ℕ, Bool, List, Option, Some, None, ap, sym, subst}
+use Rattle.std.proofs.Common.{◌≡◌, ◌∙◌, ℕ, Bool, false, List, Option, Some, None, ap, sym, subst}
 use Rattle.std.specs.List.{Contains}
 use Rattle.hp_base.specs.declared.tag.Tag.{Tag}
 use Rattle.hp_script.specs.Labels.{maker_of}
@@ -8,7 +8,7 @@ use Rattle.hp_script.specs.declared.line.Line.{Line}
 use Rattle.hp_proc.specs.Contexts.{AreFactsOf, Context, IsPlaceOf, searched_by}
 use Rattle.hp_proc.specs.Courses.{is_zone_act, maker_from}
 use Rattle.hp_proc.specs.Doing.{Doing}
-use Rattle.hp_proc.specs.Freeing.{act_for, acting, looking}
+use Rattle.hp_proc.specs.Freeing.{IsSizedWell, act_for, acting, looking}
 use Rattle.hp_proc.specs.Lines.{Facts, on_element, tag_made}
 use Rattle.hp_proc.specs.ParticipantView.{ParticipantView}
 use Rattle.hp_proc.specs.Progress.{Does}
@@ -23,20 +23,25 @@ use Rattle.hp_proc.proofs.Holds.{again_same}
 use Rattle.hp_proc.proofs.participant.Participant.act_on.Goals as goal
 
 -- the tag, the act and the heaps by which the code looks are those of the line's maker
-looked_for : (who me : ℕ) (context mine : Context) (maker : Line) (size : Option ℕ) (zone : Bool) (action : ElementAct)
-    (places given : List SearchedHeap) → me ≡ who → mine ≡ context → zone ≡ is_zone_act maker.act → action ≡ act_for zone size
+looked_for : (who me named : ℕ) (context mine : Context) (maker : Line) (size : Option ℕ) (zone : Bool) (action : ElementAct)
+    (places given : List SearchedHeap) → me ≡ who → named ≡ who → mine ≡ context → zone ≡ is_zone_act maker.act → action ≡ act_for zone size
     → given ≡ places → places ≡ searched_by me mine (maker_from maker)
-    → looking (record { who = me; zone = zone; number = maker.line }) (acting action) given
+    → looking (record { who = named; zone = zone; number = maker.line }) (acting action) given
     ≡ looking (tag_made who (maker_from maker)) (acting (act_for (is_zone_act maker.act) size)) (searched_by who context (maker_from maker))
-looked_for who me context mine maker size zone action places given is_me is_mine is_zone is_action is_given are =
+looked_for who me named context mine maker size zone action places given is_me is_named is_mine is_zone is_action is_given are =
     let heaps = searched_by who context (maker_from maker) in
-    ap (λ (given : List SearchedHeap). looking (record { who = me; zone = zone; number = maker.line }) (acting action) given)
+    ap (λ (given : List SearchedHeap). looking (record { who = named; zone = zone; number = maker.line }) (acting action) given)
     (is_given ∙ are ∙ ap (λ (me : ℕ). searched_by me mine (maker_from maker)) is_me
     ∙ ap (λ (context : Context). searched_by who context (maker_from maker)) is_mine)
-    ∙ ap (λ (action : ElementAct). looking (record { who = me; zone = zone; number = maker.line }) (acting action) heaps) is_action
-    ∙ ap (λ (zone : Bool). looking (record { who = me; zone = zone; number = maker.line }) (acting (act_for zone size)) heaps) is_zone
-    ∙ ap (λ (me : ℕ). looking (record { who = me; zone = is_zone_act maker.act; number = maker.line })
-    (acting (act_for (is_zone_act maker.act) size)) heaps) is_me
+    ∙ ap (λ (action : ElementAct). looking (record { who = named; zone = zone; number = maker.line }) (acting action) heaps) is_action
+    ∙ ap (λ (zone : Bool). looking (record { who = named; zone = zone; number = maker.line }) (acting (act_for zone size)) heaps) is_zone
+    ∙ ap (λ (named : ℕ). looking (record { who = named; zone = is_zone_act maker.act; number = maker.line })
+    (acting (act_for (is_zone_act maker.act) size)) heaps) is_named
+
+-- a size that may be asked for is so whatever the element is
+sized_for : (zone : Bool) (size : Option ℕ) → IsSizedWell (act_for false size) → IsSizedWell (act_for zone size)
+sized_for zone None sized = sized
+sized_for zone (Some size) sized = sized
 
 pub returns-in_default-clause-does : goal.returns-in_default-clause-does
 returns-in_default-clause-does g c = λ facts known.
@@ -58,6 +63,13 @@ returns-in_default-clause-idle g c = again_same c.args.self.now c.requires.ready
 pub returns-in_err-places-clause-idle : goal.returns-in_err-places-clause-idle
 returns-in_err-places-clause-idle g c = again_same c.args.self.now c.requires.ready.idle
 
+pub returns-in_err-places-clause-goes_on : goal.returns-in_err-places-clause-goes_on
+returns-in_err-places-clause-goes_on g c = g.met.H.Hall.goes_on_same _
+
+pub look_for-requires-clause-size : goal.look_for-requires-clause-size
+look_for-requires-clause-size g c =
+    subst IsSizedWell (sym c.act_for-action.ensures) (sized_for c.is_zone-zone.result c.args.size c.requires.size)
+
 pub look_for-requires-clause-places : goal.look_for-requires-clause-places
 look_for-requires-clause-places g c = λ place among.
     subst (λ (doer : ParticipantView). IsPlaceOf doer.context.pools place) c.self.view_is
@@ -76,8 +88,8 @@ returns-clause-does g c =
     let found : maker_of doer.context.lines c.args.label.now.text ≡ Some maker =
     subst (λ (text : List ℕ). maker_of doer.context.lines text ≡ Some maker) c.as_bytes.ensures.text
     (subst (λ (doer : ParticipantView). maker_of doer.context.lines c.as_bytes.result.now ≡ Some maker) c.self.view_is (sym c.in-Some.ensures)) in
-    let is = looked_for me c.number.result doer.context c.self.inside.context maker c.args.size zone c.act_for-action.result
-    c.in_ok-places.places.items c.deref.result.now c.number.ensures
+    let is = looked_for me c.number.result c.number-2.result doer.context c.self.inside.context maker c.args.size zone c.act_for-action.result
+    c.in_ok-places.places.items c.deref.result.now c.number.ensures c.number-2.ensures
     (ap (λ (doer : ParticipantView). doer.context) c.self.view_is) c.is_zone-zone.ensures c.act_for-action.ensures c.deref.ensures.value
     c.in_ok-places.ensures.places in
     if_ok _ (λ given. (facts : Facts) → AreFactsOf doer.party.socket doer.context c.args.line.now facts

@@ -160,7 +160,7 @@ returns-in-Some-clause-keeps g c =
       index = call_index _ _ _ _ _ c.grow_in.ensures.step;
       its_socket = call_serves _ _ _ _ _ c.grow_in.ensures.step;
       context = knew_called c.args.self.now c.ask.new.self c.grow_in.new.self c.ask.ensures.context c.grow_in.ensures.counted;
-      remains = remains_called {first = c.args.self.now} c.ask.ensures.remains c.grow_in.ensures.counted;
+      remains = remains_called c.ask.new.self c.grow_in.new.self c.ask.ensures.remains c.grow_in.ensures.counted;
     }
 
 pub returns-in-Some-clause-settled : goal.returns-in-Some-clause-settled

@@ -131,7 +131,7 @@ returns-in-Some g c =
     let left : Doing = left_of place.index (GaveUp run) in
     let taken = is.did.0 in
     let held = subst (λ (index : ℕ). IsHeldWith heap (part index).holding) (sym c.requires.its) c.requires.holds.in_hand.held in
-    let called = remains_called {first = doer} (remains_by (in_same me doer.party old c.requires.holds.can.tied)) counted in
+    let called = remains_called doer after (remains_by (in_same me doer.party old c.requires.holds.can.tied)) counted in
     record {
       does = subst (λ (doing : Doing). Does old.count (did_in me old new) doing left (moment_with heap me doer old) (moment_with cut me after new))
           (sym (socket_cuts place c.args.addr heap.plain.index c.is_none.result c.if-is_none.false c.is_none.ensures c.requires.its))

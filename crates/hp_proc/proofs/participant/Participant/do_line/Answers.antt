@@ -1,5 +1,8 @@
 -- Who is not attached is answered so at once.
-use Rattle.std.proofs.Common.{◌∙◌, ap, sym}
+use Rattle.std.proofs.Common.{◌≡◌, ◌∙◌, ◌+◌, ◌≤◌, ℕ, ap, sym, subst, arith}
+use Rattle.std.specs.Prelude.{◌^◌}
+use Rattle.hp_base.specs.declared.limits.TheConstants.{MAX_DEADLINE}
+use Rattle.hp_serve.specs.Clocks.{longest_allocation, longest_wait}
 use Rattle.hp_proc.specs.ParticipantView.{ParticipantView}
 use Rattle.hp_proc.proofs.AttachedLines.{one_built}
 use Rattle.hp_proc.proofs.LineFacts.{detached_done}
@@ -29,6 +32,55 @@ do_attach-requires-clause-may g c = may_hold (idle_may c.requires.ready.idle)
 
 pub do_detach-requires-clause-may : goal.do_detach-requires-clause-may
 do_detach-requires-clause-may g c = may_hold (idle_may c.requires.ready.idle)
+
+-- what an allocation, and what a wait, carries the clock by at most
+alloc_within : (deadline old new : ℕ) → deadline ≤ MAX_DEADLINE → new ≤ old + longest_allocation deadline → new ≤ old + 2 ^ 40
+alloc_within deadline old new few rises = omega (arith, few, rises)
+
+wait_within : (deadline old new : ℕ) → deadline ≤ MAX_DEADLINE → new ≤ old + longest_wait deadline → new ≤ old + 2 ^ 40
+wait_within deadline old new few rises = omega (arith, few, rises)
+
+-- its own deadline is one that a workload may have
+few_of : (doer inside : ParticipantView) (deadline : ℕ) → inside ≡ doer → deadline ≡ inside.party.deadline → deadline ≤ MAX_DEADLINE
+    → doer.party.deadline ≤ MAX_DEADLINE
+few_of doer inside deadline view is few =
+    subst (λ (deadline : ℕ). deadline ≤ MAX_DEADLINE) (is ∙ ap (λ (doer : ParticipantView). doer.party.deadline) view) few
+
+pub returns-in-Alloc : goal.returns-in-Alloc
+returns-in-Alloc g c =
+    let is = c.do_alloc.ensures in
+    let few = few_of _ _ _ c.self.view_is c.deadline-deadline.ensures.deadline c.deadline-deadline.ensures.few in
+    record {
+      does = is.does;
+      ready = is.ready;
+      clock = λ one. alloc_within _ _ _ few (is.clock one);
+      idle = is.idle;
+      goes_on = is.goes_on;
+    }
+
+pub returns-in-Free : goal.returns-in-Free
+returns-in-Free g c =
+    let is = c.do_free.ensures in
+    let few = few_of _ _ _ c.self.view_is c.deadline-deadline.ensures.deadline c.deadline-deadline.ensures.few in
+    record {
+      does = is.does;
+      ready = is.ready;
+      clock = λ one. wait_within _ _ _ few (is.clock one);
+      idle = is.idle;
+      goes_on = is.goes_on;
+    }
+
+pub returns-in-Resize : goal.returns-in-Resize
+returns-in-Resize g c =
+    let is = c.do_resize.ensures in
+    let few = few_of _ _ _ c.self.view_is c.deadline-deadline.ensures.deadline c.deadline-deadline.ensures.few in
+    record {
+      does = is.does;
+      ready = is.ready;
+      clock = λ one. wait_within _ _ _ few (is.clock one);
+      idle = is.idle;
+      goes_on = is.goes_on;
+    }
 
 pub returns-in-Attach-clause-idle : goal.returns-in-Attach-clause-idle
 returns-in-Attach-clause-idle g c = idle_changed c.do_attach.ensures.changes c.requires.ready.idle
