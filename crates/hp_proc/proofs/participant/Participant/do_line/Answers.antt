@@ -49,7 +49,8 @@ few_of doer inside deadline view is few =
 pub returns-in-Alloc : goal.returns-in-Alloc
 returns-in-Alloc g c =
     let is = c.do_alloc.ensures in
-    let few = few_of _ _ _ c.self.view_is c.deadline-deadline.ensures.deadline c.deadline-deadline.ensures.few in
+    let few = few_of _ _ _ c.self.view_is
+    (c.deadline-deadline.ensures.deadline ∙ ap (λ inside. inside.server.deadline) c.self-inside.view_is) c.deadline-deadline.ensures.few in
     record {
       does = is.does;
       ready = is.ready;
@@ -61,7 +62,8 @@ returns-in-Alloc g c =
 pub returns-in-Free : goal.returns-in-Free
 returns-in-Free g c =
     let is = c.do_free.ensures in
-    let few = few_of _ _ _ c.self.view_is c.deadline-deadline.ensures.deadline c.deadline-deadline.ensures.few in
+    let few = few_of _ _ _ c.self.view_is
+    (c.deadline-deadline.ensures.deadline ∙ ap (λ inside. inside.server.deadline) c.self-inside.view_is) c.deadline-deadline.ensures.few in
     record {
       does = is.does;
       ready = is.ready;
@@ -73,7 +75,8 @@ returns-in-Free g c =
 pub returns-in-Resize : goal.returns-in-Resize
 returns-in-Resize g c =
     let is = c.do_resize.ensures in
-    let few = few_of _ _ _ c.self.view_is c.deadline-deadline.ensures.deadline c.deadline-deadline.ensures.few in
+    let few = few_of _ _ _ c.self.view_is
+    (c.deadline-deadline.ensures.deadline ∙ ap (λ inside. inside.server.deadline) c.self-inside.view_is) c.deadline-deadline.ensures.few in
     record {
       does = is.does;
       ready = is.ready;
