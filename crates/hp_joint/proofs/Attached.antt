@@ -71,7 +71,8 @@ pub mails_left : {who : ℕ} {old new : Seat} {step : MailStep} (log : List LogR
     → IsAsLeft log new
 mails_left log (Mails.notes seat note) was = was
 mails_left log (Mails.finds_nothing seat) was = was
-mails_left log (Mails.fetches seat frame) was = was
+mails_left log (Mails.fetches seat frame) was =
+    left_so log _ _ (record { joined = refl; attached = refl; records = refl; number = refl }) was
 mails_left log (Mails.asks seat ask frame action posted its says) was = was
 mails_left log (Mails.tells seat heap run frame action posted says) was =
     left_so log _ _ (record { joined = refl; attached = refl; records = refl; number = refl }) was

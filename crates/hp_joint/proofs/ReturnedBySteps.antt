@@ -4,7 +4,6 @@ use Rattle.hp_segs.specs.LaterSteps.{after_withdraw, armed_ask}
 use Rattle.hp_segs.specs.SegsView.{SegsView}
 use Rattle.hp_segs.specs.Sound.{IsSound}
 use Rattle.hp_segs.specs.Steps.{after_agree, after_cancel, after_claim}
-use Rattle.hp_segs.specs.declared.growth.Growth.{Growth}
 use Rattle.hp_segs.specs.declared.outcome.Cause.{Cause}
 use Rattle.hp_segs.specs.declared.outcome.Cause.TheVariants.{Withdrawn}
 use Rattle.hp_segs.proofs.CallCases.{agree_holds, cancel_holds, claim_holds, withdraw_holds}

@@ -8,8 +8,7 @@ use Rattle.hp_serve.specs.declared.pages_asked.PagesAsked.{PagesAsked}
 use Rattle.hp_proc.specs.Courses.{OwnCall}
 use Rattle.hp_proc.specs.Histories.{entries_for}
 use Rattle.hp_proc.specs.Outcomes.{AreInTurn, IsAnsweredSo}
-use Rattle.hp_serve.specs.Asking.{ask_of}
-use Rattle.hp_serve.specs.Asking.{HasAnswer}
+use Rattle.hp_serve.specs.Asking.{HasAnswer, ask_of}
 
 -- the outcome of an ask stays, whatever records and outcomes follow
 abbrev pub StaysAnswered : List LogRecord → List AskLog → Type 0

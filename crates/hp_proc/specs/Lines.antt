@@ -1,5 +1,5 @@
 -- What each line does, by what is known before it.
-use Rattle.std.specs.Prelude.{ℕ, Bool, true, false, not, ◌&&◌, ◌==◌, List, map, find, Option, Some, None, if◌then◌else◌, ⊤}
+use Rattle.std.specs.Prelude.{ℕ, Bool, true, false, not, ◌&&◌, ◌==◌, List, map, find, Option, Some, None, if◌then◌else◌}
 use Rattle.std.specs.Option.{option_map, option_to_list}
 use Rattle.hp_base.specs.Requests.{refusal_of}
 use Rattle.hp_base.specs.declared.caught.Caught.{Caught}

@@ -1,9 +1,8 @@
 -- Once a wait for an answer has ended all is quiet, but for an ask without an answer: that was lost.
-use Rattle.std.proofs.Common.{◌≡◌, ℕ, zero, suc, true, false, ◌⊎◌, [], Some, None, inl, inr, refl, arith, true≢false, sym, ap, ◌∙◌, ◌+◌, ◌*◌, ◌<◌, ◌≤◌, ◌==◌, Bool, List, Option}
+use Rattle.std.proofs.Common.{◌≡◌, ℕ, zero, suc, true, false, ◌⊎◌, [], Some, None, inl, inr, refl, arith, true≢false, sym, ap, ◌∙◌, ◌+◌, ◌*◌, ◌≤◌, ◌==◌, List, Option}
 use Rattle.std.specs.Prelude.{slice_get}
 use Rattle.std.specs.List.{list_any, find}
 use Rattle.std.proofs.lemmas.Bool.{false≢true, and_parts, eqb-true}
-use Rattle.hp_core.specs.Asks.{asker, number_of}
 use Rattle.hp_core.specs.declared.asked.Asked.{Asked}
 use Rattle.hp_core.specs.declared.asked.Asked.TheVariants as want
 use Rattle.hp_core.specs.declared.phase.Phase.TheVariants.{Idle}

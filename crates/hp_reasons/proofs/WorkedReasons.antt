@@ -1,7 +1,6 @@
 -- Worked values: lines that lose nothing, as there is no such message; readings of refusals that are a deadline apart, or three; and a notice
 -- whose outcome never came, with values that are none of these.
-use Rattle.std.proofs.Common.{◌≡◌, ◌∙◌, ℕ, ◌+◌, ◌*◌, ◌≤◌, ◌==◌, ◌&&◌, Bool, true, false, not, cond, List, [], ◌∷◌, None, refl, sym, ap, subst, arith}
-use Rattle.hp_base.specs.declared.plan_entry.MsgKind.{MsgKind}
+use Rattle.std.proofs.Common.{◌≡◌, ℕ, ◌+◌, ◌≤◌, ◌==◌, ◌&&◌, Bool, true, false, not, cond, List, [], ◌∷◌, None, refl, ap, subst, arith}
 use Rattle.hp_base.specs.declared.plan_entry.MsgKind.TheVariants as kinds
 use Rattle.hp_base.specs.declared.plan_entry.PlanEntry.{PlanEntry}
 use Rattle.hp_base.specs.declared.plan_entry.PlanEntry.TheVariants.{Message}
@@ -30,10 +29,10 @@ both_lines = Message kinds.Reply 0 1 false 2 ∷ sync_line
 
 -- how many of the two lines lose a SYNC, or a reply, of a participant of which it is known whether it is 0
 abbrev syncs_by : Bool → ℕ
-syncs_by primary = cond (not primary && (false && (primary && true))) 1 0 + (cond (not primary && (true && (primary && true))) 1 0 + 0)
+syncs_by primary = 0 + cond (not primary && (false && (primary && true))) 1 0 + cond (not primary && (true && (primary && true))) 1 0
 
 abbrev replies_by : Bool → ℕ
-replies_by primary = cond (not primary && (true && (primary && true))) 1 0 + (cond (not primary && (false && (primary && true))) 1 0 + 0)
+replies_by primary = 0 + cond (not primary && (true && (primary && true))) 1 0 + cond (not primary && (false && (primary && true))) 1 0
 
 no_syncs : (primary : Bool) → syncs_by primary ≡ 0
 no_syncs true = refl

@@ -8,7 +8,7 @@ use Rattle.hp_base.specs.declared.status.Status.TheVariants as status
 use Rattle.hp_run.specs.declared.reading.TheConstants.{LIMIT}
 use Rattle.hp_report.specs.Writing.{Holds, HoldsFront}
 use Rattle.hp_run.specs.Reading.{GaveAll, GaveTooMuch}
-use Rattle.hp_run.specs.Outcome.{Ends, IsAnswer, IsAnswered, IsPut, IsUnlessFailure, IsWritten, SoloEnds, UsageEnds, is_solo, solo_status_of, status_of, usage_text}
+use Rattle.hp_run.specs.Outcome.{Ends, IsAnswer, IsAnswered, IsPut, IsUnlessFailure, IsWritten, SoloEnds, UsageEnds, solo_status_of, status_of, usage_text}
 use Rattle.hp_run.specs.Outcome.Ends.{usage, solo}
 use Rattle.hp_run.specs.Outcome.IsAnswer.{of_refusal, of_workload}
 use Rattle.hp_run.specs.Outcome.IsAnswered.{wrote, wrote_nothing}

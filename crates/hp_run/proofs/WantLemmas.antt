@@ -1,5 +1,5 @@
 -- What an end of a workload says of asks that were refused, by the laws of why mappings fail.
-use Rattle.std.proofs.Common.{All, ℕ, List, Option, inl, inr}
+use Rattle.std.proofs.Common.{All, List, Option, inl, inr}
 use Rattle.hp_base.specs.Mapping.{FailingCall}
 use Rattle.hp_base.proofs.PlannedMapping.{entry_names}
 use Rattle.hp_heap.specs.History.{HeapView}

@@ -1,6 +1,6 @@
 -- Worked values: what an outcome may say of a mapping that failed. By a line `elsewhere 2 1` the page came out one page above its address; an
 -- outcome that says that it was refused, or that it came out at another place, is none that the plan has.
-use Rattle.std.proofs.Common.{◌≡◌, ◌∙◌, ◌⊎◌, ℕ, ◌+◌, ◌*◌, ◌^◌, Bool, true, false, List, [], ◌∷◌, Contains, Option, Some, None, inl, inr, refl, sym, ap, subst, arith}
+use Rattle.std.proofs.Common.{◌≡◌, ◌∙◌, ◌⊎◌, ℕ, ◌+◌, ◌*◌, ◌^◌, Bool, true, List, [], ◌∷◌, Contains, Option, Some, inl, inr, refl, sym, ap, arith}
 use Rattle.hp_base.specs.Mapping.{FailingCall}
 use Rattle.hp_base.specs.Requests.{IsAccepted}
 use Rattle.hp_base.specs.declared.map_answer.MapAnswer.{MapAnswer}
@@ -51,16 +51,16 @@ module _ (accepted : IsAccepted 1024 64 0) where
 
   -- so it came out one page above its address
   one_page_above : (got : MapAnswer) → AreFailuresNamed plan mappers (outcome got ∷ []) → got ≡ answer.At (2 ^ 32 + 2 ^ 21) (2 ^ 21) 0
-  one_page_above got named =
-      by_cases (named (outcome got) 2 1 (Contains-here (outcome got) []) (record { addr = 2 ^ 32; got = got; its = refl }))
+  one_page_above got all =
+      by_cases (all (outcome got) 2 1 (Contains-here (outcome got) []) (record { addr = 2 ^ 32; got = got; its = refl }))
     where
       by_cases : IsFailedAsPlanned plan 2 1 (2 ^ 32) got (Some ask) ⊎ IsUnsteady mappers 2 → got ≡ answer.At (2 ^ 32 + 2 ^ 21) (2 ^ 21) 0
       by_cases (inr unsteady) = absurd (all_steady unsteady)
-      by_cases (inl as) =
-          let kept : Some ask ≡ Some as.ask = as.asked in
-          let its : ask ≡ as.ask = cc in
-          as.answered
-          ∙ ap (λ (elsewhere : Bool). planned_answer elsewhere (2 ^ 32) as.ask) (moves as.elsewhere as.line as.planned)
+      by_cases (inl named) =
+          let kept : Some ask ≡ Some named.ask = named.asked in
+          let its : ask ≡ named.ask = cc in
+          named.answered
+          ∙ ap (λ (elsewhere : Bool). planned_answer elsewhere (2 ^ 32) named.ask) (moves named.elsewhere named.line named.planned)
           ∙ ap (λ (ask : Ask). planned_answer true (2 ^ 32) ask) (sym its)
 
   not_refused : AreFailuresNamed plan mappers (outcome answer.Refused ∷ []) → ⊥

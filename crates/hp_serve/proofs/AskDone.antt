@@ -13,9 +13,8 @@ use Rattle.hp_segs.specs.LaterSteps.{after_arm}
 use Rattle.hp_segs.specs.SegsView.{SegsView}
 use Rattle.hp_segs.specs.declared.ask.Ask.{Ask}
 use Rattle.hp_serve.specs.AskSteps.{DoesAsk, DoesNotify, IsAwaitedBy, IsSentAs, waits_until}
-use Rattle.hp_serve.specs.Asking.{alloc_body, free_body, next_number}
+use Rattle.hp_serve.specs.Asking.{alloc_body, ask_of, free_body, next_number}
 use Rattle.hp_serve.specs.Frames.{Says}
-use Rattle.hp_serve.specs.Asking.{ask_of}
 use Rattle.hp_serve.specs.Party.{Party, after_alloc, after_free, one_more}
 use Rattle.hp_serve.specs.Serving.{gives_segments, takes_segments}
 use Rattle.hp_serve.specs.Waiting.{IsWaited}

@@ -18,13 +18,14 @@ use Rattle.hp_segs.specs.declared.outcome.Outcome.TheVariants.{Granted, Refused,
 use Rattle.hp_serve.specs.Asking.{Settles}
 
 -- where an element is found one passes
+any_by : {X : Type 0} (p : X → Bool) (x y : X) (xs : List X) (first : Bool) → (find p xs ≡ Some x → list_any p xs ≡ true)
+    → cond first (Some y) (find p xs) ≡ Some x → (first || list_any p xs) ≡ true
+any_by p x y xs true rest found = refl
+any_by p x y xs false rest found = rest found
+
 pub any_of_found : {X : Type 0} (p : X → Bool) (xs : List X) (x : X) → find p xs ≡ Some x → list_any p xs ≡ true
 any_of_found p [] x found = cc
-any_of_found p (y ∷ ys) x found = by_first (p y) found
-  where
-    by_first : (first : Bool) → cond first (Some y) (find p ys) ≡ Some x → (first || list_any p ys) ≡ true
-    by_first true is = refl
-    by_first false is = any_of_found p ys x is
+any_of_found p (y ∷ ys) x found = any_by p x y ys (p y) (any_of_found p ys x) found
 
 -- the first grant or refusal of that number is that outcome
 pub record Stands (asks : List AskLog) (from number : ℕ) (outcome : Outcome) : Type 0 where

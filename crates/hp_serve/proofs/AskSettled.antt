@@ -20,8 +20,7 @@ use Rattle.hp_segs.specs.declared.outcome.AskLog.{AskLog}
 use Rattle.hp_segs.specs.declared.outcome.Cause.{Cause}
 use Rattle.hp_segs.specs.declared.outcome.Outcome.TheVariants.{Granted, Refused}
 use Rattle.hp_segs.proofs.Moves.{calls_move}
-use Rattle.hp_serve.specs.Asking.{BringsPages, IsAwaiting, MayCome, Settles}
-use Rattle.hp_serve.specs.Asking.{Gives}
+use Rattle.hp_serve.specs.Asking.{BringsPages, Gives, IsAwaiting, MayCome, Settles}
 use Rattle.hp_serve.proofs.AskOutcomes.{can_claim, grant_for, grant_is, is_among, keeps_the_ask}
 
 -- a part behind a give is as it was, where the value has the same for its heap and its participant is armed with the same ask

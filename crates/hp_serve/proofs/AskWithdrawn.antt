@@ -25,8 +25,7 @@ use Rattle.hp_segs.specs.declared.outcome.Outcome.{Outcome}
 use Rattle.hp_segs.specs.declared.outcome.Outcome.TheVariants.{Refused}
 use Rattle.hp_segs.proofs.Appending.{calls_append}
 use Rattle.hp_segs.proofs.Moves.{calls_move, moves_widen}
-use Rattle.hp_serve.specs.Asking.{IsAwaiting, Settles}
-use Rattle.hp_serve.specs.Asking.{Gives}
+use Rattle.hp_serve.specs.Asking.{Gives, IsAwaiting, Settles}
 use Rattle.hp_serve.proofs.AskOutcomes.{is_armed_in}
 use Rattle.hp_serve.proofs.AskSettled.{held_by, part_alike, some_holding}
 

@@ -11,8 +11,7 @@ use Rattle.hp_segs.specs.declared.ask.Ask.{Ask}
 use Rattle.hp_segs.specs.declared.outcome.AskLog.{AskLog}
 use Rattle.hp_segs.specs.declared.outcome.Outcome.{Outcome}
 use Rattle.hp_segs.specs.declared.outcome.Outcome.TheVariants.{Granted, Refused, Stale, Freed}
-use Rattle.hp_serve.specs.Asking.{GrowsHeld, HasAnswer, IsAsked, IsAwaiting, IsHeldAsBefore, HasSettledAsks, Settles, next_number}
-use Rattle.hp_serve.specs.Asking.{ask_of}
+use Rattle.hp_serve.specs.Asking.{GrowsHeld, HasAnswer, HasSettledAsks, IsAsked, IsAwaiting, IsHeldAsBefore, Settles, ask_of, next_number}
 use Rattle.hp_serve.specs.declared.pages_asked.PagesAsked.{PagesAsked}
 use Rattle.hp_serve.proofs.AskOutcomes.{outcome_found}
 use Rattle.hp_serve.proofs.Armed.{closed_more}

@@ -18,8 +18,7 @@ use Rattle.hp_segs.specs.SegsView.{SegsView, is_member}
 use Rattle.hp_serve.proofs.Weighs.{answer_weighs, some_weight, sync_weighs}
 use Rattle.hp_serve.specs.Frames.{Says}
 use Rattle.hp_serve.specs.Party.{Party, after_reply, one_more}
-use Rattle.hp_serve.specs.Serving.{CatchesUp, IsFollowed, Obeys, acks_behind, after_catching_up, gives_segments, is_reply, is_sync}
-use Rattle.hp_serve.specs.Serving.{obeys}
+use Rattle.hp_serve.specs.Serving.{CatchesUp, IsFollowed, Obeys, acks_behind, after_catching_up, gives_segments, is_reply, is_sync, obeys}
 
 -- what holds at one number and at each other one holds at all
 pub at_each : (P : ℕ → Type 0) (k : ℕ) → P k → ((n : ℕ) → n ≢ k → P n) → (n : ℕ) → P n

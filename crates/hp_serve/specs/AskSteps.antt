@@ -11,10 +11,9 @@ use Rattle.hp_mail.specs.declared.posted.Posted.{Posted}
 use Rattle.hp_segs.specs.LaterSteps.{after_arm}
 use Rattle.hp_segs.specs.SegsView.{SegsView}
 use Rattle.hp_segs.specs.declared.ask.Ask.{Ask}
-use Rattle.hp_serve.specs.Asking.{after_settling, alloc_body, free_body, next_number}
+use Rattle.hp_serve.specs.Asking.{after_settling, alloc_body, ask_of, free_body, next_number}
 use Rattle.hp_serve.specs.Frames.{Says}
 use Rattle.hp_serve.specs.Looking.{IsLookAt}
-use Rattle.hp_serve.specs.Asking.{ask_of}
 use Rattle.hp_serve.specs.Party.{Party, after_alloc, after_free, one_more}
 use Rattle.hp_serve.specs.Serving.{gives_segments, takes_segments}
 use Rattle.hp_serve.specs.Waiting.{IsWaited}
@@ -66,8 +65,8 @@ pub record DoesAsk (count : ℕ) (party after : Party) (asked : PagesAsked) (ste
   pub awaited : IsAwaitedBy count (after_alloc after.asked party) after (ask_of party.me after.asked asked) since rest run
   pub are : steps ≡ sending ++ rest
 
--- a participant tells that it gave up a run of a heap, as the plan has its next notice, reads its clock, and waits for the answer, for three
--- deadlines at most
+-- a participant tells that it gave up a run of a heap, as the plan has its next notice, reads its clock, and waits for the answer, for
+-- three deadlines at most
 pub record DoesNotify (count : ℕ) (party after : Party) (heap : ℕ) (run : Run) (steps : List MailStep) : Type 0 where
   pub frame : Frame
   pub posted : Posted

@@ -29,7 +29,7 @@ IsFoundIn ask segs (Settled run) = list_any (grants_or_refuses ask.from ask.numb
 IsFoundIn ask segs Open = ⊤
 
 -- the steps of a look
-pub record IsLookAt (ask : Ask) (steps : List MailStep) (found : Found) : Type 0 where
+pub record IsLookAt (ask : Ask) (steps : List MailStep) (answer : Found) : Type 0 where
   pub taken : SegsView
-  pub found : IsFoundIn ask taken found
-  pub are : steps ≡ takes_segments taken ∷ gives_segments (after_look ask found taken) ∷ []
+  pub found : IsFoundIn ask taken answer
+  pub are : steps ≡ takes_segments taken ∷ gives_segments (after_look ask answer taken) ∷ []

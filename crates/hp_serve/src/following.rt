@@ -61,8 +61,8 @@ fn give_noted<H: Hall>(hall: &mut H, me: u8, caught: &Caught, segs: Segs) -> Bod
     reply
 }
 
-/// A member that has taken the segment value obeys a SYNC: it catches up with the log as it stands, acknowledges that or notes a mapping that
-/// failed, gives the value back and posts its reply, its next one behind so many. `joined` says whether it had a table before.
+/// A member that has taken the segment value obeys a SYNC: it catches up with the log as it stands, acknowledges that or notes a mapping
+/// that failed, gives the value back and posts its reply, its next one behind so many. `joined` says whether it had a table before.
 pub(crate) fn obey<H: Hall, M: Mapper>(
     hall: &mut H,
     me: u8,

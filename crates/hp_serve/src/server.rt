@@ -22,8 +22,8 @@ mod resting;
 mod serving;
 mod waiting;
 
-/// One process, but for the lines of the workload that it does: it has a table, and participant 0 also the coordinator of growths. It serves
-/// what others send it, asks for pages and waits. After a primary or a secondary process of Multi-process Support.
+/// One process, but for the lines of the workload that it does: it has a table, and participant 0 also the coordinator of growths. It
+/// serves what others send it, asks for pages and waits. After a primary or a secondary process of Multi-process Support.
 #[derive(Drop)]
 pub struct Server<'p, M: Mapper> {
     me: u8,

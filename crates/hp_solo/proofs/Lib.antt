@@ -17,3 +17,4 @@ pub mod SoloDrained
 pub mod Keeping
 pub mod Visited
 pub mod Steps
+pub mod Pushed

@@ -15,7 +15,8 @@ ghost use Rattle.hp_proc.specs.ParticipantView.{after_answer};
 ghost use Rattle.hp_proc.specs.Progress.{AreSettled, Brings, IsAllocation, MayDo, Tries};
 ghost use Rattle.hp_proc.specs.declared.socket_heap.SocketHeap.{SocketHeap};
 ghost use Rattle.hp_hall.specs.HallState.{IsBusy};
-ghost use Rattle.hp_proc.specs.LineInHall.{DoesLineHere, HasCalled, HasRoom, HoldsIn, IsIdleAgain, IsReadyIn, KeepsHeld, did_in, moment, moment_with};
+ghost use Rattle.hp_proc.specs.LineInHall.{DoesLineHere, HasCalled, HasRoom, HoldsIn, IsIdleAgain, IsReadyIn, KeepsHeld};
+ghost use Rattle.hp_proc.specs.LineInHall.{did_in, moment, moment_with};
 
 use super::Participant;
 use crate::page_sizes::without_hint;
@@ -166,8 +167,8 @@ impl<'p, M: Mapper> Participant<'p, M> {
 
     // The heaps that its allocation tries, in their order.
     fn heaps_for(&self, options: &Options<'_>) -> Result<Vec<SocketHeap>, AllocError>
-        ensures heaps { IfOk result (λ places. map named_heap places.items ≡ heaps_for self.now.party.socket (socket_heaps self.now.context.pools)
-            (option_map (λ name. name.text) options.now.heap) options.now.socket) }
+        ensures heaps { IfOk result (λ places. map named_heap places.items ≡ heaps_for self.now.party.socket
+            (socket_heaps self.now.context.pools) (option_map (λ name. name.text) options.now.heap) options.now.socket) }
         ensures of_pools { IfOk result (λ places. (place : SocketHeap) → Contains places.items place
             → IsSocketHeapOf self.now.context.pools place) }
     {

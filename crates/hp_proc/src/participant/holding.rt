@@ -1,7 +1,6 @@
 //! How a participant takes a heap into its hand, and gives it back.
 ghost use Rattle.std.specs.Prelude.{◌≡◌, ◌<◌, IfOk, OnErr};
 ghost use Rattle.hp_base.specs.declared.limits.TheConstants.{MAX_HEAPS};
-ghost use Rattle.hp_hall.specs.Mail.{Gives};
 ghost use Rattle.hp_hall.specs.declared.kept.Kept.{Kept};
 ghost use Rattle.hp_serve.specs.Clocks.{RisesWithin};
 ghost use Rattle.hp_proc.specs.Doing.{Doing};

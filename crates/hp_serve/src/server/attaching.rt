@@ -17,8 +17,8 @@ use hp_base::{Caught, Mapper};
 use hp_hall::Hall;
 
 impl<'p, M: Mapper> Server<'p, M> {
-    /// A secondary takes the segment value, takes in the whole log, acknowledges it, comes into the roster and gives the value back. Where a
-    /// mapping fails its table is emptied, and the roster is as it was. After rte_eal_init of a secondary process.
+    /// A secondary takes the segment value, takes in the whole log, acknowledges it, comes into the roster and gives the value back. Where
+    /// a mapping fails its table is emptied, and the roster is as it was. After rte_eal_init of a secondary process.
     pub fn attach<H: Hall>(&mut self, hall: &mut H) -> Caught
         requires secondary { 0 < self.old.me }
         requires may { MayHold self.old.me (H.state hall.old) }

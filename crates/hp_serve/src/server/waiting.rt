@@ -7,7 +7,8 @@ ghost use Rattle.hp_hall.specs.Weights.{pause_weight};
 ghost use Rattle.hp_hall.specs.declared.note.Note.{Note};
 ghost use Rattle.hp_serve.specs.Falling.{served_of};
 ghost use Rattle.hp_serve.specs.Party.{due_in};
-ghost use Rattle.hp_serve.specs.Waiting.{HasWaited, HaveServed, IsReading, IsServedOut, IsSoonerOf, IsTurned, IsWaited, LeavesAsked, PausesAt, PausesFor, WaitsOn};
+ghost use Rattle.hp_serve.specs.Waiting.{HasWaited, HaveServed, IsReading, IsServedOut, IsSoonerOf, IsTurned, IsWaited, LeavesAsked};
+ghost use Rattle.hp_serve.specs.Waiting.{PausesAt, PausesFor, WaitsOn};
 ghost use Rattle.hp_hall.specs.HallState.{Did, Stays, Waits};
 ghost use Rattle.hp_serve.specs.InHall.{CanServe, StaysAlone, StaysIn, left_to_do};
 

@@ -1,5 +1,8 @@
 -- One line more.
-use Rattle.std.proofs.Common.{[], take}
+use Rattle.std.proofs.Common.{[], List, arith, subst, take}
+use Rattle.std.proofs.lemmas.List.{take_all}
+use Rattle.hp_script.specs.declared.line.Line.{Line}
+use Rattle.hp_run.specs.Running.{HaveDoneLines}
 use Rattle.hp_run.proofs.Resting.{fail_then}
 use Rattle.hp_run.proofs.doing.do_lines.Goals as goal
 
@@ -13,3 +16,10 @@ loop-place-preserved g c =
       may_fail = fail_then workload [] (take c.loop-place.place workload.lines.items) [] c.loop-place.answers.items c.args.hall.now
           c.loop-place.hall c.do_next.new.hall c.requires.first.done was.done.done was.may_fail next.may_fail;
     }
+
+pub returns-clause-done : goal.returns-clause-done
+returns-clause-done g c =
+    let workload = c.args.workload.now in
+    subst (λ (lines : List Line). HaveDoneLines workload lines c.loop-place.answers.items c.loop-place.hall)
+    (take_all c.loop-place.place workload.lines.items (omega (arith, c.loop-place-test.false, c.loop-place.auto.place-end)))
+    c.loop-place.invariant.done.done

@@ -1,5 +1,5 @@
 -- The heaps that an allocation tries are those of its participant's context, by its own socket.
-use Rattle.std.proofs.Common.{◌≡◌, Contains, IfOk, map, subst}
+use Rattle.std.proofs.Common.{◌≡◌, ℕ, Contains, IfOk, map, subst}
 use Rattle.std.specs.Option.{option_map}
 use Rattle.hp_proc.specs.Contexts.{IsSocketHeapOf, named_heap}
 use Rattle.hp_proc.specs.Heaps.{heaps_for, socket_heaps}
@@ -13,7 +13,11 @@ returns-clause-heaps g c =
     subst
     (λ (doer : ParticipantView). IfOk c.heaps_for.result (λ places. map named_heap places.items
     ≡ heaps_for doer.party.socket (socket_heaps doer.context.pools) (option_map (λ name. name.text) options.heap) options.socket))
-    c.self.view_is c.heaps_for.ensures.heaps
+    c.self.view_is
+    (subst
+    (λ (socket : ℕ). IfOk c.heaps_for.result (λ places. map named_heap places.items
+    ≡ heaps_for socket (socket_heaps c.self.inside.context.pools) (option_map (λ name. name.text) options.heap) options.socket))
+    c.socket.ensures c.heaps_for.ensures.heaps)
 
 pub returns-clause-of_pools : goal.returns-clause-of_pools
 returns-clause-of_pools g c =

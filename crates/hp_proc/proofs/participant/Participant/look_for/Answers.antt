@@ -55,10 +55,10 @@ loop-place-init g c =
 
 -- one heap more
 module _ (doer looked after : ParticipantView) (old mid new : HallState) (tag : Tag) (found : SearchedHeap → ℕ → Doing) (places : List SearchedHeap)
-    (index : ℕ) (same : looked.me ≡ doer.party.me) (count : mid.count ≡ old.count)
+    (index : ℕ) (same : looked.party.me ≡ doer.party.me) (count : mid.count ≡ old.count)
     (was : DoesHere doer.party.me doer looked old mid (looking tag found places) (looking tag found (drop index places)))
     (within : index < length places) (given : Option Answer)
-    (looks : (others : List SearchedHeap) → DoesHere looked.me looked after mid new (looking tag found (get_or places index nowhere ∷ others))
+    (looks : (others : List SearchedHeap) → DoesHere looked.party.me looked after mid new (looking tag found (get_or places index nowhere ∷ others))
     (unless_answered (looking tag found others) given)) where
   looked_here : DoesHere doer.party.me doer after old new (looking tag found places) (unless_answered (looking tag found (drop (index + 1) places)) given)
   looked_here =

@@ -6,19 +6,17 @@ use Rattle.hp_hall.specs.Holding.{HeapPart}
 use Rattle.hp_hall.specs.Mail.{MailStep}
 use Rattle.hp_segs.specs.LaterSteps.{after_arm}
 use Rattle.hp_segs.specs.declared.ask.Ask.{Ask}
-use Rattle.hp_serve.specs.Asking.{GrowsHeld, IsAsked, IsAwaiting, IsHeldAsBefore, HasSettledAsks, Settles, next_number}
-use Rattle.hp_serve.specs.Asking.{ask_of}
+use Rattle.hp_serve.specs.Asking.{GrowsHeld, HasSettledAsks, IsAsked, IsAwaiting, IsHeldAsBefore, Settles, ask_of, next_number}
 use Rattle.hp_serve.specs.AskSteps.{DoesAsk, IsAwaitedBy, waits_until}
 use Rattle.hp_serve.specs.Serving.{gives_segments, takes_segments}
 use Rattle.hp_serve.proofs.AskDone.{does_ask}
-use Rattle.hp_serve.proofs.AskedAlong.{awaits_along, held_same, held_then, if_ok, in_both, is_asked, on_err, on_ok, settled_by}
+use Rattle.hp_serve.proofs.AskedAlong.{awaits_along, grows_from, held_same, held_then, if_ok, in_both, is_asked, on_err, on_ok, settled_by}
 use Rattle.hp_serve.proofs.Rising.{wait_rises}
 use Rattle.hp_hall.specs.HallState.{Did, IsBusy}
 use Rattle.hp_hall.proofs.HallStates.{did_then, later_then, may_still, slots_then}
 use Rattle.hp_serve.specs.InHall.{CanServe, RemainsIn}
 use Rattle.hp_serve.specs.Party.{IsSameParty, Party}
 use Rattle.hp_serve.specs.SegmentSlot.{MayHold, StaysButParts}
-use Rattle.hp_serve.proofs.AskedAlong.{grows_from}
 use Rattle.hp_serve.proofs.InHalls.{remains_then, tied_later}
 use Rattle.hp_serve.proofs.SegmentSlots.{may_hold, remains_parts}
 use Rattle.hp_serve.proofs.server.Server.ask.Goals as goal

@@ -2,18 +2,15 @@
 use Rattle.std.proofs.Common.{◌≡◌, ◌∙◌, ◌≤◌, ◌⊎◌, ℕ, true, List, Some, refl, sym, subst}
 use Rattle.hp_hall.specs.Mail.{MailStep}
 use Rattle.hp_serve.specs.AskSteps.{IsAwaitedBy, IsSettledLate, waits_until}
-use Rattle.hp_serve.specs.Asking.{IsAwaiting}
+use Rattle.hp_serve.specs.Asking.{IsAwaiting, Settles}
 use Rattle.hp_serve.specs.Waiting.{IsWaited}
-use Rattle.hp_serve.proofs.AskedAlong.{awaits_along, if_ok}
+use Rattle.hp_serve.proofs.AskedAlong.{awaits_along, if_ok, on_err, on_err_any, settles_along}
 use Rattle.hp_serve.proofs.Rising.{waits_on}
-use Rattle.hp_serve.proofs.AskedAlong.{on_err_any}
 use Rattle.hp_serve.proofs.Waits.{clock_still}
 use Rattle.hp_hall.specs.HallState.{Did}
 use Rattle.hp_hall.proofs.HallStates.{did_then, may_still}
-use Rattle.hp_serve.specs.Asking.{Settles}
 use Rattle.hp_serve.specs.InHall.{CanServe, RemainsIn}
 use Rattle.hp_serve.specs.SegmentSlot.{MayHold, StaysButParts}
-use Rattle.hp_serve.proofs.AskedAlong.{on_err, settles_along}
 use Rattle.hp_serve.proofs.InHalls.{remains_by, remains_then}
 use Rattle.hp_serve.proofs.SegmentSlots.{may_hold, remains_parts}
 use Rattle.hp_serve.proofs.server.Server.await_answer.Goals as goal

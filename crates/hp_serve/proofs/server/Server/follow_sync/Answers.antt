@@ -5,8 +5,7 @@ use Rattle.hp_base.specs.declared.plan_entry.MsgKind.TheVariants.{Reply}
 use Rattle.hp_core.specs.Following.{after_catching}
 use Rattle.hp_hall.specs.Mail.{Posts}
 use Rattle.hp_serve.specs.Party.{Party, one_more}
-use Rattle.hp_serve.specs.Serving.{IsWorn, acks_behind, gives_segments, takes_segments}
-use Rattle.hp_serve.specs.Serving.{is_out, is_worn}
+use Rattle.hp_serve.specs.Serving.{IsWorn, acks_behind, gives_segments, is_out, is_worn, takes_segments}
 use Rattle.hp_serve.specs.Tied.{IsTied}
 use Rattle.hp_serve.proofs.MemberLemmas.{has_followed}
 use Rattle.hp_serve.proofs.Tying.{tied_since}

@@ -1,15 +1,13 @@
 -- It awaits its answer as it did before the wait, its table is tied along the settling, and the steps follow one another.
 use Rattle.std.proofs.Common.{◌≡◌, ◌≤◌, ◌⊎◌, ℕ, false, [], ◌∷◌, Some, refl, sym, subst}
-use Rattle.hp_serve.specs.Asking.{IsAwaiting, after_settling}
+use Rattle.hp_serve.specs.Asking.{IsAwaiting, Settles, after_settling}
 use Rattle.hp_serve.specs.Serving.{gives_segments, takes_segments}
 use Rattle.hp_serve.specs.Waiting.{IsWaited}
-use Rattle.hp_serve.proofs.AskedAlong.{awaits_along}
+use Rattle.hp_serve.proofs.AskedAlong.{awaits_along, settles_along}
 use Rattle.hp_serve.proofs.Waits.{clock_still, on_err}
 use Rattle.hp_hall.specs.HallState.{Did}
 use Rattle.hp_hall.proofs.HallStates.{did_then, may_still}
-use Rattle.hp_serve.specs.Asking.{Settles}
 use Rattle.hp_serve.specs.SegmentSlot.{MayHold, StaysButParts}
-use Rattle.hp_serve.proofs.AskedAlong.{settles_along}
 use Rattle.hp_serve.proofs.InHalls.{remains_by, remains_then}
 use Rattle.hp_serve.proofs.SegmentSlots.{may_hold, remains_parts}
 use Rattle.hp_serve.proofs.server.Server.settle_late.Goals as goal

@@ -5,9 +5,9 @@ use Rattle.std.specs.Option.{IsSome}
 use Rattle.std.proofs.lemmas.Option.{slice_get-get_or}
 use Rattle.hp_maps.specs.declared.table.Table.{Table}
 use Rattle.hp_serve.specs.Party.{Party}
-use Rattle.hp_proc.proofs.Pushed.{each_pushed}
 use Rattle.hp_solo.specs.Ending.{LeavesThere}
 use Rattle.hp_solo.specs.Solo.{party_at, party_in, server_at}
+use Rattle.hp_solo.proofs.Pushed.{each_pushed}
 use Rattle.hp_solo.proofs.solo_hall.ending.tables_of.Goals as goal
 
 pub table-requires : goal.table-requires
