@@ -155,7 +155,7 @@ module _ (workload : Workload) (lines : List Line) (answers : List Answer) (line
                 (subst (λ (hall : HallView). segs_in (slot_at hall MAX_HEAPS) ≡ Some segs) is.came_plain at) done.gone
                 (was.drops was.so_far.now.segs was.so_far.its_segs nothing);
           };
-          know = know_more workload was.courses more before after.context declared can.know goes_on.1.1;
+          know = know_more workload was.courses more before after.context declared can.know goes_on.2;
         },
-        fail_alike first.servers last.servers was.parties behind_all.0 was.are behind_all.1 goes_on.1.0,
+        fail_alike first.servers last.servers was.parties behind_all.0 was.are behind_all.1 goes_on.1,
       )
