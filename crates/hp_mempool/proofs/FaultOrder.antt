@@ -1,5 +1,5 @@
 -- What is right of a pool against which no fault stands.
-use Rattle.std.proofs.Common.{ℕ, ◌*◌, ◌<◌, ◌≤◌, refl, inl, inr, arith}
+use Rattle.std.proofs.Common.{◌*◌, ◌<◌, ◌≤◌, refl, inl, inr, arith}
 use Rattle.std.proofs.lemmas.Bool.{cases_lt}
 use Rattle.hp_mempool.specs.declared.fault.PoolFault.TheVariants.{BadCount, TooSmall}
 use Rattle.hp_mempool.specs.Asked.{Asked, IsAcceptable, stride_of}

@@ -1,13 +1,12 @@
 -- Objects lie in their zone, one after another.
-use Rattle.std.proofs.Common.{◌≡◌, ◌≢◌, ℕ, ◌⊎◌, ◌+◌, ◌*◌, ◌<◌, ◌≤◌, ap, inl, inr, arith}
+use Rattle.std.proofs.Common.{◌≡◌, ℕ, ◌+◌, ◌*◌, ◌<◌, ◌≤◌, ap, inl, inr, arith}
 use Rattle.std.proofs.Math.Nat.{add-mul, mul-le-mul_right}
 use Rattle.std.proofs.lemmas.Bool.{cases_order}
 use Rattle.hp_base.specs.declared.round.TheConstants.{LINE}
-use Rattle.hp_base.specs.Requests.{rounded_size}
 use Rattle.hp_base.proofs.Rounding.{ceil_above}
 use Rattle.hp_mempool.specs.declared.judging.TheConstants.{OBJECT_HEADER}
 use Rattle.hp_mempool.specs.Asked.{stride_of}
-use Rattle.hp_mempool.specs.Objects.{AreApart, IsLaid, LieIn, addr_of}
+use Rattle.hp_mempool.specs.Objects.{AreApart, IsLaid, LieIn}
 use Rattle.hp_mempool.specs.PassView.{PoolView}
 
 -- the next object is one stride on, and at most there

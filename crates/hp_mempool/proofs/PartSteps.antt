@@ -1,15 +1,13 @@
 -- A pass that gives half of its part of the pool to a new one, and one that takes in another, keep the pool's rule.
-use Rattle.std.proofs.Common.{◌≡◌, ◌≢◌, ℕ, ◌+◌, ◌-◌, ◌*◌, ◌^◌, ◌≤◌, List, [], ◌∷◌, ◌++◌, set, refl, sym, ap, ◌∙◌, arith}
+use Rattle.std.proofs.Common.{◌≡◌, ◌≢◌, ℕ, ◌+◌, ◌-◌, ◌*◌, ◌^◌, ◌≤◌, List, [], ◌∷◌, set, refl, sym, ap, ◌∙◌, arith}
 use Rattle.std.specs.List.{All, sum_by}
 use Rattle.std.proofs.Math.Nat.{add-mul, mul_assoc, zero-mul}
 use Rattle.std.proofs.lemmas.Nat.{pow-add}
 use Rattle.std.proofs.lemmas.List.Elements.{All-append, All-cons, All-head, All-nil, All-set, All-tail}
-use mathlib.Core.Option.{some}
-use lib.ListN.{get_elem?}
 use Rattle.crossbeam_queue.specs.Fifo.{Forks, Merges}
 use Rattle.hp_mempool.specs.declared.view.View.{View}
-use Rattle.hp_mempool.specs.PoolRule.{HaveEachOnce, Hidden, IsKnown, held, part_of}
-use Rattle.hp_mempool.specs.Views.{after_halving, both_parts, new_half, once_below, spent_view, times}
+use Rattle.hp_mempool.specs.PoolRule.{HaveEachOnce, Hidden, IsKnown, part_of}
+use Rattle.hp_mempool.specs.Views.{after_halving, both_parts, new_half, spent_view, times}
 use Rattle.hp_mempool.proofs.Counts.{All_at, sum_by-cons, sum_by-push, sum_set, times-append}
 use Rattle.hp_mempool.proofs.PoolSteps.{no_part}
 

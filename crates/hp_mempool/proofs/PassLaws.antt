@@ -1,8 +1,8 @@
 -- What stays of a pass when objects are got and put, and which objects are out then. Callers that have several objects cite it.
-use Rattle.std.proofs.Common.{◌≡◌, ◌≢◌, ℕ, ◌+◌, ◌/◌, ◌<◌, ◌≤◌, eqb, cond, eq-eqb, ne_eqb, List, [], ◌∷◌, ◌++◌, length, take, drop, refl, sym, ap, subst, ◌∙◌, inl, inr, arith}
+use Rattle.std.proofs.Common.{◌≡◌, ℕ, ◌+◌, ◌/◌, ◌<◌, eqb, cond, eq-eqb, ne_eqb, List, [], ◌∷◌, ◌++◌, length, take, refl, sym, ap, subst, ◌∙◌, inl, inr, arith}
 use Rattle.std.proofs.lemmas.Bool.{cases_eq, cases_lt, cond-true, cond-false}
 use Rattle.hp_mempool.specs.PassView.{AreOut, Gets, IsOf, IsOut, PassView, PoolView, Puts, after_flush}
-use Rattle.hp_mempool.specs.Views.{once_below, times, without_all}
+use Rattle.hp_mempool.specs.Views.{times}
 use Rattle.hp_mempool.proofs.Counts.{once_at_most, times-append, times-cons, times-parts, times-push}
 use Rattle.hp_mempool.proofs.PutLemmas.{times-without_all_other}
 

@@ -1,5 +1,5 @@
 -- What becomes of a pass.
-use Rattle.std.proofs.Common.{◌≡◌, ◌≢◌, ℕ, ◌+◌, ◌/◌, ◌<◌, ◌≤◌, eqb, eq-eqb, ne_eqb, cond, List, [], ◌∷◌, ◌++◌, length, take, drop, refl, sym, ap, subst, ◌∙◌, inl, inr, arith}
+use Rattle.std.proofs.Common.{◌≡◌, ℕ, ◌/◌, ◌≤◌, eqb, eq-eqb, ne_eqb, cond, List, [], ◌∷◌, ◌++◌, length, take, drop, refl, sym, ap, subst, ◌∙◌, inl, inr, arith}
 use Rattle.std.proofs.lemmas.List.{length_push, nil_from_length}
 use Rattle.std.specs.Prelude.{Option, Some, None, IfSome}
 use Rattle.std.specs.Option.{option_to_list}
@@ -8,8 +8,8 @@ use Rattle.crossbeam_queue.specs.Passes.{view}
 use Rattle.hp_mempool.specs.declared.pool_pass.PoolPass.TheInside.{Inside}
 use Rattle.hp_mempool.specs.declared.view.View.{View}
 use Rattle.hp_mempool.specs.PassInside.{IsPass, pass_view}
-use Rattle.hp_mempool.specs.PassView.{Gets, GetsCached, GetsQueued, IsOut, PassView, Puts}
-use Rattle.hp_mempool.specs.Views.{Refills, after_put, after_puts, once_below, times, without, without_all}
+use Rattle.hp_mempool.specs.PassView.{Gets, IsOut, PassView, Puts}
+use Rattle.hp_mempool.specs.Views.{Refills, after_put, after_puts, once_below, times, without_all}
 use Rattle.hp_mempool.proofs.Counts.{times-push}
 use Rattle.hp_mempool.proofs.PutLemmas.{after_puts_is, without_all-push}
 use Rattle.hp_mempool.proofs.TakeLemmas.{TookLast, TookOne, took_last}
@@ -64,7 +64,7 @@ gets_queued a b mid x empty places table took refills = record {
     empty = empty;
     rest = pass_with a b b.cache.items ((view a.token).has ++ x ∷ b.cache.items) table places refl took.is;
     few = refills.few;
-    fewer = λ less. (let rest = refills.rest less in (rest.0, nil_from_length rest.0 rest.1, record { once = rest.2.once }));
+    fewer = λ less. (let rest = refills.rest less in (rest.0, nil_from_length rest.0 rest.1, record { once = rest.2.once; all = rest.2.all }));
   };
 }
 

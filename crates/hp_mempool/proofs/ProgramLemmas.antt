@@ -1,10 +1,9 @@
 -- What words ask for, by what each of them writes.
-use Rattle.std.proofs.Common.{◌≡◌, ◌≢◌, ℕ, eqb, eq-eqb, ne_eqb, List, [], length, get_or, refl, sym, ap, ◌∙◌}
-use Rattle.std.specs.Prelude.{Option, Some, None, cond}
+use Rattle.std.proofs.Common.{◌≡◌, ◌≢◌, ℕ, eqb, eq-eqb, ne_eqb, List, [], length, get_or, sym, ◌∙◌}
+use Rattle.std.specs.Prelude.{Option, None}
 use Rattle.std.proofs.lemmas.Bool.{cond-true, cond-false}
 use Rattle.hp_command.specs.Words.{number_within, values_of}
 use Rattle.hp_mempool.specs.declared.judging.TheConstants.{MAX_CACHE, MAX_OBJECTS}
-use Rattle.hp_mempool.specs.declared.load.Load.{Load}
 use Rattle.hp_mempool.specs.declared.load.TheConstants.{MAX_ROUNDS, MAX_WORKERS}
 use Rattle.hp_mempool.specs.Program.{load_from, load_of}
 

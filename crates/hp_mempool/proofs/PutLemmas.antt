@@ -1,9 +1,9 @@
 -- Numbers that go from a pass to the queue, one after another.
-use Rattle.std.proofs.Common.{◌≡◌, ◌≢◌, ℕ, ◌+◌, ◌≤◌, eqb, cond, eq-eqb, ne_eqb, List, [], ◌∷◌, ◌++◌, take, drop, refl, sym, ap, subst, ◌∙◌, inl, inr, arith}
+use Rattle.std.proofs.Common.{◌≡◌, ◌≢◌, ℕ, ◌≤◌, eqb, cond, eq-eqb, ne_eqb, List, [], ◌∷◌, ◌++◌, take, drop, refl, subst, ◌∙◌, inl, inr, arith}
 use Rattle.std.proofs.lemmas.Bool.{cases_eq, cond-true, cond-false}
 use Rattle.hp_mempool.specs.declared.view.View.{View}
-use Rattle.hp_mempool.specs.Views.{CanPut, IsTotal, after_put, after_puts, once_below, times, without, without_all}
-use Rattle.hp_mempool.proofs.Counts.{once_at_most, times-append, times-cons, times-first, times-parts, times-push, times-without_it, times-without_le, times-without_other}
+use Rattle.hp_mempool.specs.Views.{CanPut, after_put, after_puts, once_below, times, without, without_all}
+use Rattle.hp_mempool.proofs.Counts.{once_at_most, times-cons, times-first, times-parts, times-push, times-without_le, times-without_other}
 
 -- the first of them can be put, and then the others
 pub put_one : (n x : ℕ) (rest : List ℕ) (v : View) → CanPut n (x ∷ rest) v → (times x v.has ≡ 1) × CanPut n rest (after_put x v)

@@ -3,7 +3,7 @@ use Rattle.std.proofs.Common.{◌≡◌, ◌≢◌, ℕ, ◌+◌, ◌<◌, ◌�
 use Rattle.std.proofs.lemmas.Bool.{cases_eq, cases_lt, cond-true, cond-false}
 use Rattle.std.proofs.lemmas.List.{append-nil, nil_from_length}
 use Rattle.hp_mempool.specs.declared.view.View.{View}
-use Rattle.hp_mempool.specs.Views.{IsFresh, Refills, Shows, TakesIn, after_get, once_below, times}
+use Rattle.hp_mempool.specs.Views.{IsFresh, Refills, TakesIn, after_get, once_below, times}
 use Rattle.hp_mempool.proofs.Counts.{all_below, below-once, once_at_most, past-once, times-append, times-push}
 
 pub takes_none : (v : View) → TakesIn v v []

@@ -64,11 +64,13 @@ with_part_of other pass = record pass {
   halvings = pass.halvings + other.halvings;
 }
 
--- What a pass shows of the numbers in the queue at a step of a call: with its own they are numbers of the pool, each once at most.
+-- What a pass shows of the numbers in the queue at a step of a call: with its own they are numbers of the pool, each once at most. A pass
+-- that has the whole pool shows that they are all numbers of it.
 pub record ShowsQueue (pass : PassView) (numbers : List ℕ) : Type 0 where
   pub once : (number : ℕ) → times number pass.has + times number numbers ≤ once_below pass.total number
+  pub all : IsWhole pass → (number : ℕ) → times number pass.has + times number numbers ≡ once_below pass.total number
 
--- the queue was empty at a step of the call
+-- The queue was empty at a step of the call, for all that the pass shows: one that has the whole pool has each number of it then.
 abbrev pub WasEmpty : PassView → Type 0
 WasEmpty pass = (numbers : List ℕ) × (numbers ≡ []) × ShowsQueue pass numbers
 

@@ -1,6 +1,5 @@
 -- How a pool is kept. No public clause cites this module.
 use Rattle.std.specs.Prelude.{◌≡◌, ◌+◌, ◌*◌, ◌<◌, ◌≤◌, ◌^◌, [], vec_capacity}
-use Rattle.crossbeam_queue.specs.Passes.{ruled_capacity}
 use Rattle.hp_mempool.specs.declared.pool.Pool.TheInside.{Inside}
 use Rattle.hp_mempool.specs.PassView.{PoolView}
 

@@ -1,7 +1,4 @@
-use Rattle.std.proofs.Common.{◌≡◌, ◌≢◌, ℕ, ◌+◌, ◌<◌, ◌≤◌, List, set, sym, ◌∙◌, arith}
-use Rattle.std.specs.List.{sum_by}
-use mathlib.Core.Option.{some}
-use lib.ListN.{get_elem?}
+use Rattle.std.proofs.Common.{ℕ, set, sym, ◌∙◌, arith}
 use Rattle.crossbeam_queue.proofs.Lists.{set_else}
 use Rattle.hp_mempool.specs.declared.view.View.{View}
 use Rattle.hp_mempool.specs.Views.{spent_view, times}

@@ -1,6 +1,6 @@
-use Rattle.std.proofs.Common.{◌≡◌, [], length, sym, ap, ◌∙◌, arith}
+use Rattle.std.proofs.Common.{length, ap, ◌∙◌, arith}
 use Rattle.std.proofs.lemmas.List.{length_push}
-use Rattle.hp_mempool.specs.PassView.{IsOf, PassView}
+use Rattle.hp_mempool.specs.PassView.{PassView}
 use Rattle.hp_mempool.proofs.RoundLemmas.{gathered_all, gathered_one, gathers, last_worker, worker_of}
 use Rattle.hp_mempool.proofs.sharing.gathered.Goals as goal
 

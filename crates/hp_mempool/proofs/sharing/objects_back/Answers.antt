@@ -1,4 +1,4 @@
-use Rattle.std.proofs.Common.{◌≡◌, ◌<◌, ℕ, List, [], ◌∷◌, length, sym, ap, ◌∙◌, arith}
+use Rattle.std.proofs.Common.{◌<◌, ℕ, List, [], ◌∷◌, length, sym, ap, ◌∙◌, arith}
 use Rattle.hp_mempool.specs.declared.sharing.Job.{Job}
 use Rattle.hp_mempool.specs.PassView.{PassView}
 use Rattle.hp_mempool.specs.Working.{worker_pass}

@@ -1,4 +1,4 @@
-use Rattle.std.proofs.Common.{◌≡◌, ◌≤◌, ℕ, List, [], length, refl, sym, ap, subst, ◌∙◌, arith}
+use Rattle.std.proofs.Common.{◌≤◌, ℕ, List, [], length, refl, sym, ap, subst, ◌∙◌, arith}
 use Rattle.crossbeam_queue.specs.Passes.{ruled_capacity, view}
 use Rattle.hp_mempool.specs.declared.pool_pass.PoolPass.TheInside.{Inside}
 use Rattle.hp_mempool.specs.declared.view.View.{View}

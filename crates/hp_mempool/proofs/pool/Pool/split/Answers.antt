@@ -1,4 +1,4 @@
-use Rattle.std.proofs.Common.{◌≡◌, ◌≤◌, ℕ, sym, ap, subst, ◌∙◌}
+use Rattle.std.proofs.Common.{◌≤◌, ℕ, sym, ap, subst, ◌∙◌}
 use Rattle.hp_mempool.specs.declared.view.View.{View}
 use Rattle.hp_mempool.specs.Views.{once_below, times}
 use Rattle.hp_mempool.proofs.PartSteps.{may_halve}
