@@ -94,8 +94,9 @@ do_line-answer-requires-clause-next g c =
     let line = c.index-line.result.now in
     let was = c.requires.so_far.done in
     let declared = line_declared workload c.args.place line c.requires.runnable c.requires.within c.index-line.ensures in
-    let knew : c.in-Some-take.context ≡ context_of workload line.participant was.courses =
-    same_Some _ _ (same_Some _ _ (ap Some (sym c.in-Some-take.is) ∙ sym c.take.ensures.taken ∙ c.requires.so_far.know line.participant declared)) in
+    let knew : c.new-participant.result.context ≡ context_of workload line.participant was.courses =
+    ap (λ (doer : ParticipantView). doer.context) c.new-participant.ensures
+    ∙ same_Some _ _ (same_Some _ _ (ap Some (sym c.in-Some-take.is) ∙ sym c.take.ensures.taken ∙ c.requires.so_far.know line.participant declared)) in
     subst (λ (context : Context). IsNextLine context line) (sym knew)
     (next_line workload was.courses was.parties c.args.hall.now.plain was.so_far line.participant c.args.place line c.requires.runnable
     was.lines_are c.requires.within c.index-line.ensures)
