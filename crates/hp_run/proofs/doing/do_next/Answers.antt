@@ -80,12 +80,12 @@ take-requires g c =
     let declared = line_declared workload c.args.place line c.requires.runnable c.requires.within c.index-line.ensures in
     record { within = slice_get_within c.args.contexts.now line.participant _ (c.requires.so_far.know line.participant declared) }
 
-pub unreachable-2-requires : goal.unreachable-2-requires
-unreachable-2-requires g c =
+pub unreachable-requires-in_default-take : goal.unreachable-requires-in_default-take
+unreachable-requires-in_default-take g c =
     let workload = c.args.workload.now in
     let line = c.index-line.result.now in
     let declared = line_declared workload c.args.place line c.requires.runnable c.requires.within c.index-line.ensures in
-    c.in_default-2.not-Some (context_of workload line.participant c.requires.so_far.done.courses)
+    c.in_default-take.not-Some (context_of workload line.participant c.requires.so_far.done.courses)
     (same_Some _ _ (sym c.take.ensures.taken ∙ c.requires.so_far.know line.participant declared))
 
 pub do_line-answer-requires-clause-next : goal.do_line-answer-requires-clause-next
@@ -94,8 +94,9 @@ do_line-answer-requires-clause-next g c =
     let line = c.index-line.result.now in
     let was = c.requires.so_far.done in
     let declared = line_declared workload c.args.place line c.requires.runnable c.requires.within c.index-line.ensures in
-    let knew : c.in-Some-2.context ≡ context_of workload line.participant was.courses =
-    same_Some _ _ (same_Some _ _ (ap Some (sym c.in-Some-2.is) ∙ sym c.take.ensures.taken ∙ c.requires.so_far.know line.participant declared)) in
+    let knew : c.new-participant.result.context ≡ context_of workload line.participant was.courses =
+    ap (λ (doer : ParticipantView). doer.context) c.new-participant.ensures
+    ∙ same_Some _ _ (same_Some _ _ (ap Some (sym c.in-Some-take.is) ∙ sym c.take.ensures.taken ∙ c.requires.so_far.know line.participant declared)) in
     subst (λ (context : Context). IsNextLine context line) (sym knew)
     (next_line workload was.courses was.parties c.args.hall.now.plain was.so_far line.participant c.args.place line c.requires.runnable
     was.lines_are c.requires.within c.index-line.ensures)
@@ -103,7 +104,7 @@ do_line-answer-requires-clause-next g c =
 pub do_line-answer-requires-clause-built : goal.do_line-answer-requires-clause-built
 do_line-answer-requires-clause-built g c =
     let line = c.index-line.result.now in
-    let number = ap (λ (doer : ParticipantView). doer.party.me) c.new.ensures ∙ c.in-Some.ensures.tied.number in
+    let number = ap (λ (doer : ParticipantView). doer.party.me) c.new-participant.ensures ∙ c.in-Some.ensures.tied.number in
     subst (λ (me : ℕ). IsLineBuilt me line.act) (sym number)
     (line_can c.args.workload.now c.args.place line c.requires.runnable c.requires.within c.index-line.ensures)
 
@@ -122,10 +123,10 @@ do_line-answer-requires-clause-ready g c =
     let number = c.in-Some.ensures.tied.number in
     let its = so_far.each line.participant party there in
     let declared = line_declared workload c.args.place line c.requires.runnable c.requires.within c.index-line.ensures in
-    let knew : c.in-Some-2.context ≡ context_of workload line.participant was.courses =
-    same_Some _ _ (same_Some _ _ (ap Some (sym c.in-Some-2.is) ∙ sym c.take.ensures.taken ∙ c.requires.so_far.know line.participant declared)) in
-    let doer_is : c.new.result ≡ doer_of workload line.participant was.courses party =
-    c.new.ensures ∙ ap (λ (context : Context). record { party = party; context = context }) knew in
+    let knew : c.in-Some-take.context ≡ context_of workload line.participant was.courses =
+    same_Some _ _ (same_Some _ _ (ap Some (sym c.in-Some-take.is) ∙ sym c.take.ensures.taken ∙ c.requires.so_far.know line.participant declared)) in
+    let doer_is : c.new-participant.result ≡ doer_of workload line.participant was.courses party =
+    c.new-participant.ensures ∙ ap (λ (context : Context). record { party = party; context = context }) knew in
     subst (λ (doer : ParticipantView). IsReadyIn doer.party.me doer (solo_state away)) (sym doer_is)
     (record {
       idle = record {
@@ -150,7 +151,7 @@ back-requires-clause-declared g c =
       arith,
       ap (λ (party : Party). party.me) c.into_parts-server.ensures.server,
       did.idle.same.me,
-      ap (λ (doer : ParticipantView). doer.party.me) c.new.ensures,
+      ap (λ (doer : ParticipantView). doer.party.me) c.new-participant.ensures,
       c.in-Some.ensures.tied.number,
       declared,
       did.goes_on.plain.count,
@@ -168,7 +169,7 @@ returns g c =
     let can = c.requires.so_far in
     let was = can.done in
     let before = c.args.contexts.now in
-    let doer : ParticipantView = c.new.result in
+    let doer : ParticipantView = c.new-participant.result in
     let after : ParticipantView = c.do_line-answer.new.self in
     let first = c.args.hall.now in
     let away = c.away.new.self in
@@ -177,14 +178,14 @@ returns g c =
     let did = c.in_ok-answer.ensures in
     let always = c.do_line-answer.ensures in
     let parts = c.into_parts-server in
-    let party_is : doer.party ≡ c.in-Some.server = ap (λ (doer : ParticipantView). doer.party) c.new.ensures in
+    let party_is : doer.party ≡ c.in-Some.server = ap (λ (doer : ParticipantView). doer.party) c.new-participant.ensures in
     let number : doer.party.me ≡ line.participant = ap (λ (party : Party). party.me) party_is ∙ c.in-Some.ensures.tied.number in
     let there : slice_get was.parties line.participant ≡ Some doer.party =
     sym (party_there first.servers was.parties was.are line.participant) ∙ sym c.away.ensures.party ∙ c.in-Some.is
     ∙ ap (λ (party : Party). Some party) (sym party_is) in
     let took : slice_get before line.participant ≡ Some (Some doer.context) =
-    c.take.ensures.taken ∙ ap (λ (context : Option Context). Some context) c.in-Some-2.is
-    ∙ ap (λ (doer : ParticipantView). Some (Some doer.context)) (sym c.new.ensures) in
+    c.take.ensures.taken ∙ ap (λ (context : Option Context). Some context) c.in-Some-take.is
+    ∙ ap (λ (doer : ParticipantView). Some (Some doer.context)) (sym c.new-participant.ensures) in
     let its : HasDoneIts line answer doer after away.plain back.plain =
     record {
       built = line_can workload place line c.requires.runnable c.requires.within c.index-line.ensures;
