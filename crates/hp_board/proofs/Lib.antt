@@ -1,3 +1,4 @@
+pub mod SlotNumbers
 mod Worked
 pub mod Pairs
 pub mod Updates
@@ -12,7 +13,18 @@ pub mod LockSteps
 pub mod HeapSteps
 pub mod PrefixSteps
 pub mod SeatSteps
+pub mod Fronts
+pub mod Rosters
+pub mod SegsGives
+pub mod LagSteps
+pub mod AgreedSteps
+pub mod WordSteps
+pub mod TablesKnown
+pub mod InUse
+pub mod SegsSteps
 pub mod BoardSteps
 pub mod Openings
+pub mod TablesLeft
+pub mod Restored
 pub mod Endings
 pub mod Gatherings

@@ -1,7 +1,15 @@
-pub mod Slots
 pub mod KeptValues
-pub mod Served
 pub mod Views
+pub mod Parts
+pub mod Handed
+pub mod Giving
+pub mod Words
+pub mod Lag
+pub mod Agreement
+pub mod Restoring
+pub mod Left
+pub mod SegsKept
+pub mod Served
 pub mod Locks
 pub mod HeapsKept
 pub mod Prefixes

@@ -3,6 +3,7 @@ pub mod Holding
 pub mod Standings
 pub mod Values
 pub mod Giving
+pub mod SegsGives
 pub mod Own
 pub mod Mail
 pub mod Weights

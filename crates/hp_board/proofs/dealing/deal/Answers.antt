@@ -3,7 +3,8 @@ use Rattle.std.specs.List.{range_with_len}
 use Rattle.hp_board.specs.Dealt.{dealt_seat}
 use Rattle.hp_board.specs.SeatView.{SeatView}
 use Rattle.hp_board.specs.Steps.{Sat}
-use Rattle.hp_board.specs.Views.{newcomer, part_of}
+use Rattle.hp_board.specs.Views.{newcomer}
+use Rattle.hp_board.specs.Parts.{part_of}
 use Rattle.hp_board.proofs.DealLemmas.{IsLeft, deals, dealt_first, dealt_others, dealt-push, same_seat}
 use Rattle.hp_board.proofs.dealing.deal.Goals as goal
 
