@@ -2,6 +2,7 @@
 use Rattle.std.specs.Prelude.{◌≡◌, ℕ, ◌<◌, ◌≤◌, List, [], ◌∷◌, length}
 use Rattle.atomic_table.specs.Seated.{TableId}
 use Rattle.hp_segs.specs.SegsView.{SegsView}
+use Rattle.hp_segs.specs.Sound.{IsSound}
 use Rattle.hp_hall.specs.SegsGives.{IsRosterGive}
 use Rattle.hp_hall.specs.declared.kept.Kept.TheVariants.{Segments}
 use Rattle.hp_board.specs.SeatView.{SeatView}
@@ -20,8 +21,9 @@ pub record IsReadyAgain (board : TableId) (old new : SeatView) : Type 0 where
   pub ready : IsReady board new
   pub who : new.mine.who ≡ old.mine.who
 
--- a participant holds the segment value alone, and has acknowledged all of its log
+-- a participant holds a segment value alone, which is sound, and has acknowledged all of its log
 pub record HoldsAll (old : Mine) (segs : SegsView) (mine : Mine) : Type 0 where
+  pub sound : IsSound segs
   pub who : mine.who ≡ old.who
   pub three : mine.opening ≡ old.opening
   pub held : mine.held ≡ (32, Segments segs) ∷ []

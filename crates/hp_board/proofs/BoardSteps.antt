@@ -162,7 +162,7 @@ module _ (opening : Opening) (s : BoardState) (board : IsBoard opening s) (id sl
   agrees_by (Heap taken) given at sound gives = tt
   agrees_by (Segments taken) (Heap given) at sound gives = tt
   agrees_by (Segments taken) (Segments given) at sound gives =
-      λ row member has its. agreed_by (giver_of part) taken given at.sound sound (given_left (giver_of part) taken given gives) row member has its
+      λ row member has its. agreed_by (giver_of part) taken given at.sound sound (given_left (giver_of part) taken given at.sound gives) row member has its
 
   agrees_slot : (given : Kept) → MayGive part slot given → IsSoundKept given → AgreesFrom part (value_of slot part.held) given
   agrees_slot given may sound =

@@ -73,15 +73,6 @@ module _ (o : Opening) (s : State (Option Kept) View) (board : IsBoard o s) (id 
   home : HasAll o view → (slot : ℕ) → slot < SLOTS → get_elem? s.homes slot ≡ some (some (Some (board.kept slot)))
   home all slot within = board.locked.home slot within (free all slot within)
 
--- the value of a heap's slot is a heap, and that of the last one a segment value
-pub heap_kept : (o : Opening) (slot : ℕ) (kept : Kept) → slot < MAX_HEAPS → IsKeptAt o slot kept → (heap : HeapView) × (kept ≡ Heap heap)
-heap_kept o slot (Heap heap) below at = (heap, refl)
-heap_kept o slot (Segments segs) below at = let last = at.last in absurd (omega arith)
-
-pub segs_kept : (o : Opening) (kept : Kept) → IsKeptAt o MAX_HEAPS kept → (segs : SegsView) × (kept ≡ Segments segs)
-segs_kept o (Heap heap) at = let below = at.below in absurd (omega arith)
-segs_kept o (Segments segs) at = (segs, refl)
-
 -- what the values of a closed table have
 pub record IsTold (o : Opening) (view : View) (items : List (Option Kept)) : Type 0 where
   pub kept : ℕ → Kept

@@ -7,6 +7,8 @@ pub mod Turning
 pub mod SeatLemmas
 pub mod Told
 pub mod Gives
+pub mod Granting
+pub mod KeptAt
 pub mod Finds
 pub mod DealLemmas
 pub mod LockSteps
@@ -14,11 +16,11 @@ pub mod HeapSteps
 pub mod PrefixSteps
 pub mod SeatSteps
 pub mod Fronts
-pub mod Rosters
 pub mod SegsGives
 pub mod LagSteps
 pub mod AgreedSteps
 pub mod WordSteps
+pub mod Loads
 pub mod TablesKnown
 pub mod InUse
 pub mod SegsSteps

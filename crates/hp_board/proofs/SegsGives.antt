@@ -6,17 +6,18 @@ use Rattle.std.proofs.Math.Seq.{drop-append_seam}
 use Rattle.hp_segs.specs.Moved.{Appends, is_log_call}
 use Rattle.hp_segs.specs.SegsView.{SegsView, is_member}
 use Rattle.hp_segs.specs.declared.outcome.AskLog.{AskLog}
+use Rattle.hp_segs.specs.Sound.{IsSound}
 use Rattle.hp_segs.proofs.Appending.{moves_append}
+use Rattle.hp_segs.proofs.FormCalls.{log_form_leaves, owner_form_leaves, roster_form_leaves}
 use Rattle.hp_hall.specs.SegsGives.{Giver, IsLogGive, IsOwnerGive, IsRosterGive, SegsGive, logs, enrols, owns}
 use Rattle.hp_board.specs.Left.{IsLeft}
 use Rattle.hp_board.proofs.Fronts.{front_same}
-use Rattle.hp_board.proofs.Rosters.{log_roster, owner_asks, owner_log, owner_roster, roster_asks, roster_log}
 
-module _ (giver : Giver) (taken given : SegsView) where
+module _ (giver : Giver) (taken given : SegsView) (sound : IsSound taken) where
   log_left : IsLogGive giver taken given → IsLeft giver taken given
   log_left gives =
       let came : Appends taken given = moves_append is_log_call 1 taken given gives.moved in
-      let roster : given.roster ≡ taken.roster = log_roster 1 taken given gives.moved in
+      let roster : given.roster ≡ taken.roster = (log_form_leaves 1 taken given sound gives.moved).roster in
       let after : drop (length taken.asks) given.asks ≡ came.outcomes = ap (drop (length taken.asks)) came.asks ∙ drop-append_seam taken.asks came.outcomes in
       record {
         log = (came.records, came.log);
@@ -36,9 +37,10 @@ module _ (giver : Giver) (taken given : SegsView) where
 
   roster_left : IsRosterGive giver taken given → IsLeft giver taken given
   roster_left gives =
-      let asks : given.asks ≡ taken.asks = roster_asks 0 taken given gives.moved in
+      let left = roster_form_leaves 0 taken given gives.moved in
+      let asks : given.asks ≡ taken.asks = ap (λ (s : SegsView). s.asks) left in
       record {
-        log = front_same taken.log given.log (roster_log 0 taken given gives.moved);
+        log = front_same taken.log given.log (ap (λ (s : SegsView). s.log) left);
         asks = front_same taken.asks given.asks asks;
         others = gives.others;
         agreed = λ entry generation member among granted its. inl (subst (λ (l : List AskLog). Contains l entry) asks among);
@@ -47,10 +49,11 @@ module _ (giver : Giver) (taken given : SegsView) where
 
   owned_left : IsOwnerGive taken given → IsLeft giver taken given
   owned_left gives =
-      let asks : given.asks ≡ taken.asks = owner_asks 0 taken given gives.moved in
-      let roster : given.roster ≡ taken.roster = owner_roster 0 taken given gives.moved in
+      let left = owner_form_leaves 0 taken given gives.moved in
+      let asks : given.asks ≡ taken.asks = ap (λ (s : SegsView). s.asks) left in
+      let roster : given.roster ≡ taken.roster = ap (λ (s : SegsView). s.roster) left in
       record {
-        log = front_same taken.log given.log (owner_log 0 taken given gives.moved);
+        log = front_same taken.log given.log (ap (λ (s : SegsView). s.log) left);
         asks = front_same taken.asks given.asks asks;
         others = λ other apart. ap (λ (l : List Bool). is_member l other) roster;
         agreed = λ entry generation member among granted its. inl (subst (λ (l : List AskLog). Contains l entry) asks among);

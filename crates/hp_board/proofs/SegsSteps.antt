@@ -81,7 +81,7 @@ module _ (opening : Opening) (words : List ℕ) (kept : ℕ → Kept) (mine : �
   given_by slot (Segments taken) (Segments given) inside is at at' gives =
       let same : Segments taken ≡ Segments old.segs = sym is ∙ (ap kept at.last ∙ old.there) in
       let segs_is : taken ≡ old.segs = cc in
-      let left : IsLeft (giver_of part) old.segs given = subst (λ (s : SegsView). IsLeft (giver_of part) s given) segs_is (given_left (giver_of part) taken given gives) in
+      let left : IsLeft (giver_of part) old.segs given = subst (λ (s : SegsView). IsLeft (giver_of part) s given) segs_is (given_left (giver_of part) taken given at.sound gives) in
       record {
         segs = given;
         there = ap (with_at slot (Segments given) kept) (sym at.last) ∙ with_at-here slot (Segments given) kept;

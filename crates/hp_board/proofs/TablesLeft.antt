@@ -1,6 +1,6 @@
 -- What a closed board says of a participant's table.
 use Rattle.std.proofs.Common.{◌≡◌, ◌∙◌, ℕ, ◌≤◌, Bool, true, false, ◌||◌, List, [], length, refl, sym, ap, subst, arith, if◌then◌else◌}
-use Rattle.std.specs.Prelude.{Contains}
+use Rattle.std.specs.Prelude.{Contains, not}
 use Rattle.std.proofs.lemmas.Bool.{false≢true}
 use Rattle.std.specs.Option.{is_some}
 use Rattle.hp_base.specs.declared.limits.TheConstants.{MAX_HEAPS}
@@ -22,7 +22,7 @@ pub table_joined : (mine : Mine) → mine.joined ≡ true → table_of mine ≡ 
 table_joined mine is = ap (λ (b : Bool). if b || mine.joining then rows_known mine.log (own_of mine) else []) is
 
 -- and so has who joins
-pub table_joining : (mine : Mine) (joined : Bool) → mine.joined ≡ joined → mine.joining ≡ Rattle.std.specs.Prelude.not joined → table_of mine ≡ rows_known mine.log (own_of mine)
+pub table_joining : (mine : Mine) (joined : Bool) → mine.joined ≡ joined → mine.joining ≡ not joined → table_of mine ≡ rows_known mine.log (own_of mine)
 table_joining mine true is joins = table_joined mine is
 table_joining mine false is joins =
     ap (λ (b : Bool). if b || mine.joining then rows_known mine.log (own_of mine) else []) is

@@ -5,7 +5,8 @@ use Rattle.std.proofs.lemmas.List.Elements.{All-contains}
 use Rattle.hp_board.specs.declared.opening.Opening.{Opening}
 use Rattle.hp_board.specs.BoardView.{BoardView}
 use Rattle.hp_board.specs.Closing.{AreHeaps, AreLeftSegs, IsFreeSeat}
-use Rattle.hp_board.proofs.Endings.{IsTold, has_all, ends, heap_kept, heaps_are, calls_are, segs_are, segs_kept, tables_are}
+use Rattle.hp_board.proofs.Endings.{IsTold, has_all, ends, heaps_are, calls_are, segs_are, tables_are}
+use Rattle.hp_board.proofs.KeptAt.{heap_kept, segs_kept}
 use Rattle.hp_board.proofs.board.Board.close.Goals as goal
 use Rattle.hp_board.proofs.board.Board.close.Goals.{After-close_with}
 
