@@ -18,7 +18,7 @@ use Rattle.hp_segs.specs.declared.ask.Ask.{Ask}
 use Rattle.hp_base.specs.declared.row.Run.{Run}
 use Rattle.hp_segs.proofs.Moves.{calls_move, moves_compose, moves_stay}
 use Rattle.hp_hall.specs.Giving.{AgreesBy}
-use Rattle.hp_hall.specs.SegsGives.{Giver, SegsGive, IsRosterGive, enrols, logs}
+use Rattle.hp_board.specs.SegsGives.{Giver, SegsGive, IsRosterGive, enrols, logs}
 use Rattle.hp_hall.specs.declared.kept.Kept.{Kept}
 use Rattle.hp_hall.specs.declared.kept.Kept.TheVariants.{Segments}
 use Rattle.hp_board.specs.Giving.{MayGive, giver_of}
@@ -32,7 +32,7 @@ use Rattle.hp_board.proofs.Fronts.{front_length}
 use Rattle.hp_board.proofs.Gives.{agrees_same, gives_segs_same, may_give_segs}
 use Rattle.hp_board.proofs.Granting.{agree_agrees, agrees_higher}
 use Rattle.hp_board.proofs.Loads.{noted_else, noted_here}
-use Rattle.hp_board.proofs.SegsGives.{given_left}
+use Rattle.hp_board.proofs.GivenLeaves.{given_left}
 use Rattle.bench_board.specs.Growths.{Changes, HoldsAll, IsReady, IsReadyAgain, LoadsMore}
 
 -- THE SEGMENT VALUE OF A NEW BOARD

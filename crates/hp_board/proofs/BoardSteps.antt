@@ -31,7 +31,7 @@ use Rattle.hp_hall.specs.Values.{HasMember}
 use Rattle.hp_log.specs.Log.{IsWellFormed}
 use Rattle.hp_segs.specs.Sound.{IsSound}
 use Rattle.hp_board.proofs.InUse.{agreed_by}
-use Rattle.hp_board.proofs.SegsGives.{given_left}
+use Rattle.hp_board.proofs.GivenLeaves.{given_left}
 use Rattle.hp_board.proofs.TablesKnown.{formed_front}
 use Rattle.hp_board.proofs.Updates.{with_at}
 use Rattle.hp_board.proofs.LockSteps.{held_yes, held_no, locked_else, locked_take, locked_give, kept_taken}

@@ -16,7 +16,7 @@ pub mod HeapSteps
 pub mod PrefixSteps
 pub mod SeatSteps
 pub mod Fronts
-pub mod SegsGives
+pub mod GivenLeaves
 pub mod LagSteps
 pub mod AgreedSteps
 pub mod WordSteps

@@ -21,7 +21,7 @@ use Rattle.hp_board.specs.Views.{value_of, after_acking, after_give, after_load,
 use Rattle.hp_board.specs.Words.{IsTold, ack_word}
 use Rattle.hp_board.proofs.AgreedSteps.{agreed_other, agreed_own, agreed_rises}
 use Rattle.hp_board.proofs.LagSteps.{lag_ack, lag_give, lag_give_heap, lag_load, lag_other, lag_partial, lag_same, lag_take}
-use Rattle.hp_board.proofs.SegsGives.{given_left}
+use Rattle.hp_board.proofs.GivenLeaves.{given_left}
 use Rattle.hp_board.proofs.Updates.{with_at, with_at-here, with_at-else, each}
 use Rattle.hp_board.proofs.WordSteps.{told_load, told_lock, told_other, told_own, told_same}
 

@@ -3,7 +3,6 @@ pub mod Holding
 pub mod Standings
 pub mod Values
 pub mod Giving
-pub mod SegsGives
 pub mod Own
 pub mod Mail
 pub mod Weights

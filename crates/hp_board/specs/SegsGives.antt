@@ -1,5 +1,7 @@
--- What a give of the segment value owes to those who have a table of its log: the rules "Giving" of docs/BOARD.md and docs/PARTICIPANTS.md.
--- A board asks it of every give; what a giver owes for heaps and for asks stands beside it.
+-- What a give of the segment value owes to those who have a table of its log: the rule "Giving" of docs/BOARD.md. It is said here over who
+-- gives and what that one has loaded, without the board's views. A hall asks the same, and besides it what a giver owes for heaps and for
+-- asks (`IsGiveOf` of hp_hall). Once the board has the part "ownership", hp_hall is to take these definitions over, and to ask them of a
+-- giver by this name.
 use Rattle.std.specs.Prelude.{◌≡◌, ◌≢◌, ℕ, true, false, length}
 use Rattle.hp_segs.specs.Moved.{IsMovedBy, is_log_call, is_owner_call, is_roster_call}
 use Rattle.hp_segs.specs.SegsView.{SegsView, is_member}
