@@ -1,5 +1,6 @@
 -- What the turns of participants that grow by hand rest on.
 use Rattle.std.proofs.Common.{◌≡◌, ◌∙◌, ℕ, zero, suc, ◌<◌, ◌≤◌, inr, ⊎_elim, ◌⊎◌, Bool, true, false, List, [], ◌∷◌, length, get_or, Option, Some, None, replicate, set, refl, sym, ap, subst, arith, lit<}
+use Rattle.std.specs.Prelude.{IfOk, Result, Ok, Err}
 use Rattle.std.specs.Option.{is_some}
 use Rattle.std.proofs.lemmas.Bool.{false≢true}
 use Rattle.std.proofs.lemmas.List.{get_or-set_other, get_or-set_same}
@@ -34,6 +35,7 @@ use Rattle.hp_board.proofs.Granting.{agree_agrees, agrees_higher}
 use Rattle.hp_board.proofs.Loads.{noted_else, noted_here}
 use Rattle.hp_board.proofs.GivenLeaves.{given_left}
 use Rattle.bench_board.specs.Growths.{Changes, HoldsAll, IsReady, IsReadyAgain, LoadsMore}
+use Rattle.bench_board.proofs.Sharing.{IsBack}
 
 -- THE SEGMENT VALUE OF A NEW BOARD
 
@@ -55,6 +57,10 @@ first_two pools (suc (suc (suc who))) is = absurd (false≢true (sym (all_out 13
 
 pub opens : (pools : List PoolLine) (segs : SegsView) → segs ≡ opening pools 3 4 → AreOpeningSegs 3 segs
 opens pools segs is = subst (AreOpeningSegs 3) (sym is) (record { log = refl; asks = refl; ranges = refl; armed = nobody_armed 16; roster = first_two pools })
+
+pub opens_ok : {E : Type 0} (pools : List PoolLine) (made : Result SegsView E) → IfOk made (λ segs. segs ≡ opening pools 3 4) → IfOk made (AreOpeningSegs 3)
+opens_ok pools (Ok segs) is = opens pools segs is
+opens_ok pools (Err e) is = tt
 
 -- THE SEGMENT VALUE IN HAND
 
@@ -106,6 +112,11 @@ loads_none mine = (mine.noted, refl)
 
 pub loads_one : (mine now after : Mine) (other number : ℕ) → LoadsMore mine now → after ≡ after_load other number now → LoadsMore mine after
 loads_one mine now after other number (noted, is) loaded = ((other, number) ∷ noted, loaded ∙ ap (after_load other number) is)
+
+pub loads_three : (mine now : Mine) (who : ℕ) → LoadsMore mine now → mine.opening.participants ≡ 3 → who < 3 → who < now.opening.participants
+loads_three mine now who loads three low =
+    let same : now.opening.participants ≡ mine.opening.participants = ap (λ (m : Mine). m.opening.participants) loads.1 in
+    omega (arith, same, three, low)
 
 pub nothing_loaded : (count : ℕ) (mine : Mine) (who : ℕ) → get_or (replicate count 0) who 0 ≤ noted_of who mine
 nothing_loaded count mine who = let none = zeros count who in omega (arith, none)
@@ -166,6 +177,15 @@ moved_none segs =
 pub moved_reserve : (n : ℕ) (segs : SegsView) → IsMovedBy is_log_call 0 segs (after_reserve n segs)
 moved_reserve n segs = calls_move is_log_call (Reserve n) segs refl tt
 
+pub moved_same : (segs given : SegsView) → given ≡ segs → IsMovedBy is_log_call 1 segs given
+moved_same segs given is = subst (IsMovedBy is_log_call 1 segs) (sym is) (moved_none segs)
+
+pub moved_reserved : (segs given : SegsView) → given ≡ after_reserve 1 segs → IsMovedBy is_log_call 1 segs given
+moved_reserved segs given is =
+    let moved = moved_reserve 1 segs in
+    subst (IsMovedBy is_log_call 1 segs) (sym is)
+    (record { calls = moved.calls; leads = moved.leads; only = moved.only; few = let few = moved.few in omega (arith, few) })
+
 pub moved_open : (n : ℕ) (ask : Ask) (run : Run) (segs : SegsView) → MayOpen ask run (after_reserve n segs)
     → IsMovedBy is_log_call 1 segs (after_open ask run (after_reserve n segs))
 moved_open n ask run segs may =
@@ -177,6 +197,23 @@ pub moved_agree : (n : ℕ) (acks : List ℕ) (segs : SegsView) → length acks 
 moved_agree n acks segs places may =
     moves_compose is_log_call 0 1 segs (after_reserve n segs) (after_agree acks (after_reserve n segs)) (moved_reserve n segs)
     (calls_move is_log_call (Agree acks) (after_reserve n segs) refl (may, places))
+
+-- so a value that came by the calls
+pub moved_opened : (ask : Ask) (run : Run) (segs between given : SegsView) → between ≡ after_reserve 1 segs → MayOpen ask run between → given ≡ after_open ask run between
+    → IsMovedBy is_log_call 1 segs given
+moved_opened ask run segs between given reserved may is =
+    subst (IsMovedBy is_log_call 1 segs) (sym (is ∙ ap (after_open ask run) reserved)) (moved_open 1 ask run segs (subst (MayOpen ask run) reserved may))
+
+pub moved_agreed : (acks : List ℕ) (segs between given : SegsView) → between ≡ after_reserve 1 segs → length acks ≡ 16 → MayAgree between → given ≡ after_agree acks between
+    → IsMovedBy is_log_call 1 segs given
+moved_agreed acks segs between given reserved places may is =
+    subst (IsMovedBy is_log_call 1 segs) (sym (is ∙ ap (after_agree acks) reserved)) (moved_agree 1 acks segs places (subst MayAgree reserved may))
+
+pub agrees_agreed : (acks : List ℕ) (segs between given : SegsView) → between ≡ after_reserve 1 segs → IsSound between → given ≡ after_agree acks between
+    → AgreesBy (λ who. get_or acks who 0) segs given
+agrees_agreed acks segs between given reserved sound is =
+    subst (AgreesBy (λ who. get_or acks who 0) segs) (sym (is ∙ ap (after_agree acks) reserved))
+    (agree_agrees acks (after_reserve 1 segs) (subst IsSound reserved sound))
 
 -- the participant joins, or leaves
 pub joins : (who : ℕ) (segs : SegsView) → MayJoin who (length segs.log) segs → Changes who segs (after_join who segs)
@@ -201,3 +238,18 @@ gives_changed old holder segs given holds changes =
 
 pub new_ready : (board : BoardView) (who : ℕ) (seat : SeatView) → board.opening.participants ≡ 3 → who < 3 → seat ≡ new_seat board who → IsReady board.id seat
 new_ready board who seat three low is = subst (IsReady board.id) (sym is) (record { board_is = refl; declared = low; three = three; free = refl; seen = omega arith })
+
+-- a turn after another
+pub again_none : (board : TableId) (seat : SeatView) → IsReady board seat → IsReadyAgain board seat seat
+again_none board seat ready = record { ready = ready; who = refl }
+
+pub again_then : (board : TableId) (old between new : SeatView) → IsReadyAgain board old between → IsReadyAgain board between new → IsReadyAgain board old new
+again_then board old between new first second = record { ready = second.ready; who = second.who ∙ first.who }
+
+-- who comes back ready holds nothing
+pub back : (board : BoardView) (who : ℕ) (old new : SeatView) → old ≡ new_seat board who → IsReadyAgain board.id old new → IsBack board who new
+back board who old new is again = record {
+  board_is = again.ready.board_is;
+  who_is = again.who ∙ ap (λ (s : SeatView). s.mine.who) is;
+  holds = again.ready.free;
+}

@@ -1,10 +1,11 @@
-ghost use Rattle.std.specs.Prelude.{◌≡◌, ℕ, ◌+◌, ◌^◌, ◌<◌, ◌≤◌, length, slice_index};
+ghost use Rattle.std.specs.Prelude.{◌≡◌, ℕ, ◌+◌, ◌^◌, ◌<◌, ◌≤◌, true, length, slice_index};
 ghost use Rattle.hp_segs.specs.Moved.{IsMovedBy, is_log_call};
 ghost use Rattle.hp_hall.specs.Giving.{AgreesBy};
 ghost use Rattle.hp_board.specs.SegsGives.{SegsGive};
 ghost use Rattle.hp_board.specs.Giving.{giver_of};
 ghost use Rattle.hp_board.specs.Views.{noted_of};
-ghost use Rattle.bench_board.specs.Growths.{HoldsAll, IsReady, IsReadyAgain, LoadsMore};
+ghost use Rattle.hp_segs.specs.Calls.{IsUnnotedGrowth};
+ghost use Rattle.bench_board.specs.Growths.{Changes, HoldsAll, IsReady, IsReadyAgain, LoadsMore};
 
 use hp_base::Request;
 use hp_board::{Board, Seat};
@@ -61,10 +62,21 @@ fn opened(segs: Segs, who: u8, request: &Request) -> Segs
         page: 0x20_0000,
         request: *request,
     };
-    if let Ok(run) = segs.plan_run(&ask) {
-        segs.open_run(&ask, &run);
-    }
+    let Ok(run) = segs.plan_run(&ask) else {
+        return segs;
+    };
+    segs.open_run(&ask, &run);
     segs
+}
+
+// Whether a growth is open, and no failed mapping is noted for it.
+fn is_unnoted(segs: &Segs) -> bool
+    ensures { result ≡ true → IsUnnotedGrowth segs.now }
+{
+    match segs.growth() {
+        Some(growth) => growth.noted.is_none(),
+        None => false,
+    }
 }
 
 // Grants the open growth, if there is memory and each member of the roster has acknowledged its record.
@@ -73,13 +85,14 @@ fn agreed(segs: Segs, acks: &[u64; 16]) -> Segs
     ensures agreed { AgreesBy (λ who. slice_index acks.now who) segs result }
 {
     let mut segs = segs;
-    let unnoted = match segs.growth() {
-        Some(growth) => growth.noted.is_none(),
-        None => false,
-    };
-    if unnoted && segs.reserve_records(1).is_ok() {
-        let _ = segs.agree(acks);
+    if !is_unnoted(&segs) {
+        return segs;
     }
+    if segs.reserve_records(1).is_err() {
+        return segs;
+    }
+    let _records = segs.records();
+    let _ = segs.agree(acks);
     segs
 }
 
@@ -145,10 +158,10 @@ fn changed(segs: Segs, who: u8) -> Segs
     let mut segs = segs;
     if segs.is_member(who) {
         segs.leave_roster(who);
-    } else {
-        let records = segs.records().len() as u64;
-        segs.join_roster(who, records);
+        return segs;
     }
+    let records = segs.records().len() as u64;
+    segs.join_roster(who, records);
     segs
 }
 

@@ -16,5 +16,5 @@ const POOL: PoolLine = PoolLine {
 pub fn opening_segs(alloc: Global) -> Result<Segs, AllocError>
     ensures { IfOk result (AreOpeningSegs 3) }
 {
-    Segs::new(alloc, &[POOL], 3, 4)
+    Segs::new(alloc, [POOL].as_slice(), 3, 4)
 }
