@@ -159,10 +159,10 @@ module _ (opening : Opening) (s : BoardState) (board : IsBoard opening s) (id sl
 
   -- rows become agreed by numbers that the giver has loaded
   agrees_by : (taken given : Kept) → IsKeptAt opening slot taken → IsSoundKept given → Gives part taken given → AgreesFrom part (Some taken) given
-  agrees_by (Heap taken) given at sound gives = tt
-  agrees_by (Segments taken) (Heap given) at sound gives = tt
-  agrees_by (Segments taken) (Segments given) at sound gives =
-      λ row member has its. agreed_by (giver_of part) taken given at.sound sound (given_left (giver_of part) taken given at.sound gives) row member has its
+  agrees_by (Heap taken) given at sound give = tt
+  agrees_by (Segments taken) (Heap given) at sound give = tt
+  agrees_by (Segments taken) (Segments given) at sound give =
+      λ row member has its. agreed_by (giver_of part) taken given at.sound sound (given_left (giver_of part) taken given at.sound give) row member has its
 
   agrees_slot : (given : Kept) → MayGive part slot given → IsSoundKept given → AgreesFrom part (value_of slot part.held) given
   agrees_slot given may sound =

@@ -90,12 +90,12 @@ granted_in_use segs row entry sound among granted logged =
     let rows = subst (λ (rows : List Row). Contains rows row) (sym sound.rows.table.table) logged in
     let of = Contains-imaged (λ (segment : Segment). segment.row) segs.segments row rows in
     let is : is_granted segs.asks row.generation ≡ true = any_contained (grants row.generation) segs.asks entry among (grants_so entry.outcome row.generation granted) in
-    let stamp = unstamped segs.asks segs.growth of.0.row sound.asks.ungranted (ap (λ (r : Row). is_granted segs.asks r.generation) of.1.1 ∙ is) in
+    let stamp = unstamped segs.asks segs.growth of.0.row sound.asks.ungranted (ap (λ (r : Row). is_granted segs.asks r.generation) of.2 ∙ is) in
     record {
       segment = of.0;
-      among = of.1.0;
-      its_row = of.1.1;
-      used = All-contains (λ (segment : Segment). is_opened segment.state ≡ has_stamp segs.growth segment.row) segs.segments of.0 sound.rows.stamped of.1.0 ∙ stamp;
+      among = of.1;
+      its_row = of.2;
+      used = All-contains (λ (segment : Segment). is_opened segment.state ≡ has_stamp segs.growth segment.row) segs.segments of.0 sound.rows.stamped of.1 ∙ stamp;
     }
 
 -- what is in use in a given value was in use in the taken one, or each member has taken in its record as far as the giver knows

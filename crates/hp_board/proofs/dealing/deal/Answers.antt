@@ -8,7 +8,6 @@ use Rattle.hp_board.specs.Views.{newcomer}
 use Rattle.hp_board.specs.Parts.{part_of}
 use Rattle.hp_board.proofs.DealLemmas.{IsLeft, deals, dealt_first, dealt_others, dealt-push, same_seat}
 use Rattle.hp_board.proofs.dealing.deal.Goals as goal
-use Rattle.hp_board.proofs.dealing.deal.Goals.{After-split_seat-token}
 
 pub split_seat-token-requires : goal.split_seat-token-requires
 split_seat-token-requires c = (
@@ -17,24 +16,22 @@ split_seat-token-requires c = (
   deals c.args.shared.now.key c.loop-who.first.id c.loop-who.who c.args.participants c.loop-who.first.me.0 c.loop-who-test.true c.loop-who.invariant.parts,
 )
 
--- the part of the new seat is that of the participant
-part_of_seat : (c : After-split_seat-token) → part_of c.split_seat-token.result.me.0 ≡ newcomer c.args.shared.now.key c.loop-who.who
-part_of_seat c =
-    ap (λ (m : Sat). part_of m.0) c.split_seat-token.ensures.4
-    ∙ ap part_of (dealt_first c.args.shared.now.key c.loop-who.who c.args.participants c.loop-who.first.me.0 c.loop-who-test.true c.loop-who.invariant.parts)
-
 pub of-requires-clause-declared : goal.of-requires-clause-declared
 of-requires-clause-declared c =
     let who : ℕ = c.loop-who.who in
     let more = c.loop-who-test.true in
     let count = c.requires.opening in
-    subst (λ (m : Mine). who < m.opening.participants) (sym (part_of_seat c)) (omega (arith, more, count))
+    let part = ap (λ (m : Sat). part_of m.0) c.split_seat-token.ensures.4
+    ∙ ap part_of (dealt_first c.args.shared.now.key who c.args.participants c.loop-who.first.me.0 more c.loop-who.invariant.parts) in
+    subst (λ (m : Mine). who < m.opening.participants) (sym part) (omega (arith, more, count))
 
 pub of-requires-clause-few : goal.of-requires-clause-few
 of-requires-clause-few c =
     let few = c.requires.few in
     let count = c.requires.opening in
-    subst (λ (m : Mine). m.opening.participants ≤ 16) (sym (part_of_seat c)) (omega (arith, few, count))
+    let part = ap (λ (m : Sat). part_of m.0) c.split_seat-token.ensures.4
+    ∙ ap part_of (dealt_first c.args.shared.now.key c.loop-who.who c.args.participants c.loop-who.first.me.0 c.loop-who-test.true c.loop-who.invariant.parts) in
+    subst (λ (m : Mine). m.opening.participants ≤ 16) (sym part) (omega (arith, few, count))
 
 pub loop-who-preserved : goal.loop-who-preserved
 loop-who-preserved c =
