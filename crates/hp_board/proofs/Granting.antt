@@ -35,7 +35,7 @@ not_found f None none = refl
 not_found f (Some x) none = cc
 
 in_range : (n k : ℕ) → k < n → Contains (range_with_len 0 n) k
-in_range n k within = (k, omega (arith, within, length-range_with_len 0 n), get_or-range_with_len 0 n k k within)
+in_range n k within = (k, omega (arith, within, length-range_with_len 0 n), get_or-range_with_len 0 n k k within ∙ omega arith)
 
 not_below : (member : Bool) (acked generation : ℕ) → (member && nat_lt acked generation) ≡ false → member ≡ true → generation ≤ acked
 not_below true acked generation fails is = ltb-false acked generation fails
@@ -52,7 +52,7 @@ all_acknowledged roster acks generation member places none is =
     (in_range 16 member (omega (arith, places, member_within roster member is)))) is
 
 module _ (acks : List ℕ) (segs : SegsView) (sound : IsSound segs) where
-  acked : ℕ → ℕ
+  abbrev pub acked : ℕ → ℕ
   acked who = slice_index acks who
 
   one_outcome : (growth : Growth) (outcome entry : AskLog) (generation : ℕ) → granted_by outcome.outcome ≡ Some growth.generation
