@@ -1,4 +1,4 @@
-use Rattle.bench_board.proofs.Growing.{again_none, again_then}
+use Rattle.bench_board.proofs.GrowingLemmas.{again_none, again_then}
 use Rattle.bench_board.proofs.growing.grow_alone.Goals as goal
 
 pub loop-init : goal.loop-init

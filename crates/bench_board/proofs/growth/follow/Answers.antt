@@ -1,7 +1,7 @@
 use Rattle.std.proofs.Common.{◌∙◌}
 use Rattle.hp_board.specs.Giving.{giver_of}
 use Rattle.hp_board.proofs.Gives.{gives_segs_same}
-use Rattle.bench_board.proofs.Growing.{may_give_all, ready_again}
+use Rattle.bench_board.proofs.GrowingLemmas.{may_give_all, ready_again}
 use Rattle.bench_board.proofs.growth.follow.Goals as goal
 
 pub give-requires-clause-gives : goal.give-requires-clause-gives

@@ -1,5 +1,5 @@
 use Rattle.std.proofs.Common.{◌∙◌}
-use Rattle.bench_board.proofs.Growing.{loads_still, may_give_all, ready_again}
+use Rattle.bench_board.proofs.GrowingLemmas.{loads_still, may_give_all, ready_again}
 use Rattle.bench_board.proofs.growth.grow.Goals as goal
 
 pub give-requires-clause-gives : goal.give-requires-clause-gives

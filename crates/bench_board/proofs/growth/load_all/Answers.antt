@@ -1,5 +1,5 @@
 use Rattle.std.proofs.Common.{refl, ◌∙◌, arith, length-set}
-use Rattle.bench_board.proofs.Growing.{loaded_noted, loads_none, loads_one, loads_three, nothing_loaded}
+use Rattle.bench_board.proofs.GrowingLemmas.{loaded_noted, loads_none, loads_one, loads_three, nothing_loaded}
 use Rattle.bench_board.proofs.growth.load_all.Goals as goal
 
 pub loop-participant-init : goal.loop-participant-init

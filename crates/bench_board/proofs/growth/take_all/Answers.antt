@@ -1,6 +1,6 @@
 use Rattle.std.proofs.Common.{◌≡◌, ℕ, length, inr, ap, ◌∙◌, arith}
 use Rattle.hp_board.proofs.KeptAt.{is_segments}
-use Rattle.bench_board.proofs.Growing.{hand, holds_all, rises, within}
+use Rattle.bench_board.proofs.GrowingLemmas.{hand, holds_all, rises, within}
 use Rattle.bench_board.proofs.growth.take_all.Goals as goal
 
 pub into_segments-segs-requires : goal.into_segments-segs-requires
