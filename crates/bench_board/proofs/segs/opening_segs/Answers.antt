@@ -1,6 +1,6 @@
 use Rattle.std.proofs.Common.{arith, refl}
 use Rattle.hp_segs.proofs.OnePool.{one_pool}
-use Rattle.bench_board.proofs.GrowingLemmas.{opens_ok}
+use Rattle.bench_board.proofs.OpeningSegs.{opens_ok}
 use Rattle.bench_board.proofs.segs.opening_segs.Goals as goal
 
 pub new-requires-clause-pools : goal.new-requires-clause-pools
