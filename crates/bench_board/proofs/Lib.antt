@@ -1,1 +1,3 @@
 pub mod Sharing
+pub mod OpeningSegs
+pub mod Crossing

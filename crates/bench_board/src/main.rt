@@ -4,6 +4,7 @@
 
 mod heaps;
 mod rounds;
+mod segs;
 mod session;
 #[cfg(test)]
 mod tests;
