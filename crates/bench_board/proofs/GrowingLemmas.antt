@@ -1,14 +1,16 @@
 -- What the turns of participants that grow by hand rest on.
 use Rattle.std.proofs.Common.{◌≡◌, ◌∙◌, ℕ, zero, suc, ◌<◌, ◌≤◌, inr, ⊎_elim, ◌⊎◌, Bool, true, false, List, [], ◌∷◌, length, get_or, Option, Some, None, replicate, set, refl, sym, ap, subst, arith, lit<}
-use Rattle.std.specs.Prelude.{IfOk, Result, Ok, Err}
+use Rattle.std.specs.Prelude.{IfOk, OnErr, OnOk, Result, Ok, Err, nat_lt, if◌then◌else◌}
+use Rattle.std.specs.Result.{is_err}
 use Rattle.std.specs.Option.{is_some}
-use Rattle.std.proofs.lemmas.Bool.{false≢true}
+use Rattle.std.proofs.lemmas.Bool.{false≢true, ltb-false}
 use Rattle.std.proofs.lemmas.List.{get_or-set_other, get_or-set_same}
 use mathlib.Core.Logic.{dite}
 use native.Mathlib.Decide.{ℕ_discrete}
 use Rattle.atomic_table.specs.Seated.{TableId}
 use Rattle.hp_base.specs.declared.pool_line.PoolLine.{PoolLine}
-use Rattle.hp_segs.specs.Calls.{MayAgree, MayJoin, MayLeave, MayOpen}
+use Rattle.hp_segs.specs.Calls.{IsUnnotedGrowth, MayAgree, MayJoin, MayLeave, MayOpen}
+use Rattle.hp_segs.specs.Plan.{plan_of}
 use Rattle.hp_segs.specs.LaterSteps.{after_join, after_leave, armed_ask}
 use Rattle.hp_segs.specs.Moved.{Agree, JoinRoster, LeaveRoster, IsMovedBy, OpenRun, Reserve, is_log_call, is_roster_call}
 use Rattle.hp_segs.specs.Opening.{opening}
@@ -172,6 +174,29 @@ pub moved_agree : (n : ℕ) (acks : List ℕ) (segs : SegsView) → length acks 
 moved_agree n acks segs places may =
     moves_compose is_log_call 0 1 segs (after_reserve n segs) (after_agree acks (after_reserve n segs)) (moved_reserve n segs)
     (calls_move is_log_call (Agree acks) (after_reserve n segs) refl (may, places))
+
+-- whether there was memory
+pub where_ok : {T E : Type 0} (r : Result T E) (P : Type 0) → is_err r ≡ false → OnOk r P → P
+where_ok (Ok value) P ok on = on
+where_ok (Err fault) P ok on = absurd (false≢true (sym ok))
+
+pub where_err : {T E : Type 0} (r : Result T E) (P : Type 0) → is_err r ≡ true → OnErr r P → P
+where_err (Ok value) P err on = absurd (false≢true err)
+where_err (Err fault) P err on = on
+
+-- a place is left once one was reserved
+some_place : (spare : ℕ) (low : Bool) → nat_lt spare 1 ≡ low → 0 < (if low then 1 else spare)
+some_place spare true is = omega arith
+some_place spare false is = let one = ltb-false spare 1 is in omega (arith, one)
+
+place : (segs between : SegsView) → between ≡ after_reserve 1 segs → 0 < between.spare
+place segs between reserved = subst (λ (s : SegsView). 0 < s.spare) (sym reserved) (some_place segs.spare (nat_lt segs.spare 1) refl)
+
+pub may_open : (ask : Ask) (run : Run) (segs between : SegsView) → between ≡ after_reserve 1 segs → ask.from < 16 → plan_of ask between ≡ Ok run → MayOpen ask run between
+may_open ask run segs between reserved low plan = record { participant = low; planned = plan; spare = place segs between reserved }
+
+pub may_agree : (segs between : SegsView) → between ≡ after_reserve 1 segs → IsUnnotedGrowth segs → MayAgree between
+may_agree segs between reserved unnoted = record { unnoted = subst IsUnnotedGrowth (sym reserved) unnoted; spare = place segs between reserved }
 
 -- so a value that came by the calls
 pub moved_opened : (ask : Ask) (run : Run) (segs between given : SegsView) → between ≡ after_reserve 1 segs → MayOpen ask run between → given ≡ after_open ask run between
