@@ -49,11 +49,11 @@ fn both_grow<R: Threads + Wait + Sync>(
         rt,
         move || -> Seat
             requires { IsReady board.now.id first }
-            ensures { IsReadyAgain board.now.id first result }
+            ensures { IsReadyAgain board.entry.now.id first result }
         { grow_alone(rt, board, first, request, goal) },
         move || -> Seat
             requires { IsReady board.now.id second × (0 < second.mine.who) }
-            ensures { IsReadyAgain board.now.id second result }
+            ensures { IsReadyAgain board.entry.now.id second result }
         { grow_and_leave(rt, board, second, request, goal) },
     )
 }
@@ -79,11 +79,11 @@ fn all<R: Threads + Wait + Sync>(
         rt,
         move || -> (Seat, Seat)
             requires { IsReady board.now.id first × IsReady board.now.id second × (0 < second.mine.who) }
-            ensures { IsReadyAgain board.now.id first result.0 × IsReadyAgain board.now.id second result.1 }
+            ensures { IsReadyAgain board.entry.now.id first result.0 × IsReadyAgain board.entry.now.id second result.1 }
         { both_grow(rt, board, first, second, request, times) },
         move || -> Seat
             requires { IsReady board.now.id third × (0 < third.mine.who) }
-            ensures { IsReadyAgain board.now.id third result }
+            ensures { IsReadyAgain board.entry.now.id third result }
         { come_and_go(rt, board, third, times) },
     )
 }
