@@ -14,7 +14,7 @@ reserved c =
 
 pub returns-clause-moved : goal.returns-clause-moved
 returns-clause-moved c =
-    moved_agreed c.args.acks.now c.args.segs c.reserve_records.new.self c.agree.new.self (reserved c) (search (rules, c.told-acks, c.fits-acks))
+    moved_agreed c.args.acks.now c.args.segs c.reserve_records.new.self c.agree.new.self (reserved c) (search (rules, c.told-acks))
     (may_agree c.args.segs c.reserve_records.new.self (reserved c) (c.is_unnoted.ensures c.if-not-is_unnoted.false)) c.agree.ensures.step
 
 pub returns-clause-agreed : goal.returns-clause-agreed
