@@ -9,10 +9,13 @@ give-requires-clause-gives g c =
     (gives_changed c.args.seat.now.mine c.take_all-segs.new.seat.mine c.take_all-segs.result c.changed-segs.result c.take_all-segs.ensures.holds
     (subst (λ (who : ℕ). Changes who c.take_all-segs.result c.changed-segs.result) c.participant.ensures c.changed-segs.ensures))
 
-pub returns-clause-ready : goal.returns-clause-ready
-returns-clause-ready g c =
-    ready_again c.args.board.now.id c.args.seat.now c.give.new.seat c.take_all-segs.new.seat.mine c.take_all-segs.result c.changed-segs.result c.requires.ready
-    (c.give.ensures.board ∙ c.take_all-segs.ensures.board ∙ c.requires.ready.board_is) c.take_all-segs.ensures.holds
-    (gives_changed c.args.seat.now.mine c.take_all-segs.new.seat.mine c.take_all-segs.result c.changed-segs.result c.take_all-segs.ensures.holds
-    (subst (λ (who : ℕ). Changes who c.take_all-segs.result c.changed-segs.result) c.participant.ensures c.changed-segs.ensures))
-    c.give.ensures.given
+pub returns : goal.returns
+returns g c =
+    record {
+      ready =
+          ready_again c.args.board.now.id c.args.seat.now c.give.new.seat c.take_all-segs.new.seat.mine c.take_all-segs.result c.changed-segs.result c.requires.ready
+          (c.give.ensures.board ∙ c.take_all-segs.ensures.board ∙ c.requires.ready.board_is) c.take_all-segs.ensures.holds
+          (gives_changed c.args.seat.now.mine c.take_all-segs.new.seat.mine c.take_all-segs.result c.changed-segs.result c.take_all-segs.ensures.holds
+          (subst (λ (who : ℕ). Changes who c.take_all-segs.result c.changed-segs.result) c.participant.ensures c.changed-segs.ensures))
+          c.give.ensures.given;
+    }

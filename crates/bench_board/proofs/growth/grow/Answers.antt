@@ -8,9 +8,12 @@ give-requires-clause-gives g c =
     (loads_still c.args.seat.now.mine c.take_all-segs.new.seat.mine c.step-segs.new.seat.mine c.take_all-segs.result c.take_all-segs.ensures.holds c.step-segs.ensures.loads)
     c.step-segs.ensures.gives
 
-pub returns-clause-ready : goal.returns-clause-ready
-returns-clause-ready g c =
-    ready_again c.args.board.now.id c.args.seat.now c.give.new.seat c.step-segs.new.seat.mine c.take_all-segs.result c.step-segs.result c.requires.ready
-    (c.give.ensures.board ∙ c.step-segs.ensures.board ∙ c.take_all-segs.ensures.board ∙ c.requires.ready.board_is)
-    (loads_still c.args.seat.now.mine c.take_all-segs.new.seat.mine c.step-segs.new.seat.mine c.take_all-segs.result c.take_all-segs.ensures.holds c.step-segs.ensures.loads)
-    c.step-segs.ensures.gives c.give.ensures.given
+pub returns : goal.returns
+returns g c =
+    record {
+      ready =
+          ready_again c.args.board.now.id c.args.seat.now c.give.new.seat c.step-segs.new.seat.mine c.take_all-segs.result c.step-segs.result c.requires.ready
+          (c.give.ensures.board ∙ c.step-segs.ensures.board ∙ c.take_all-segs.ensures.board ∙ c.requires.ready.board_is)
+          (loads_still c.args.seat.now.mine c.take_all-segs.new.seat.mine c.step-segs.new.seat.mine c.take_all-segs.result c.take_all-segs.ensures.holds c.step-segs.ensures.loads)
+          c.step-segs.ensures.gives c.give.ensures.given;
+    }

@@ -1,4 +1,4 @@
-use Rattle.std.proofs.Common.{◌≡◌, ℕ, length, inr, ap, ◌∙◌, arith}
+use Rattle.std.proofs.Common.{◌≡◌, ℕ, length, inr, ap, ◌∙◌}
 use Rattle.hp_board.proofs.KeptAt.{is_segments}
 use Rattle.bench_board.proofs.GrowingLemmas.{hand, holds_all, rises, within}
 use Rattle.bench_board.proofs.growth.take_all.Goals as goal
@@ -12,21 +12,15 @@ ack-requires-clause-hand g c =
 
 pub ack-requires-clause-rises : goal.ack-requires-clause-rises
 ack-requires-clause-rises g c =
-    let all = ap length c.records.ensures.records in
-    let long = c.len.ensures in
     rises c.args.seat.now.mine c.take.new.seat.mine c.take.result c.into_segments-segs.result c.take.ensures.taken c.into_segments-segs.ensures c.requires.ready.free
-    c.len.result c.take.ensures.handed c.requires.ready.seen (omega (arith, long, all))
+    (length c.records.result.now) c.take.ensures.handed c.requires.ready.seen (ap length c.records.ensures.records)
 
 pub ack-requires-clause-seen : goal.ack-requires-clause-seen
 ack-requires-clause-seen g c =
-    let all = ap length c.records.ensures.records in
-    let long = c.len.ensures in
     within c.args.seat.now.mine c.take.new.seat.mine c.take.result c.into_segments-segs.result c.take.ensures.taken c.into_segments-segs.ensures c.requires.ready.free
-    c.len.result (omega (arith, long, all))
+    (length c.records.result.now) (ap length c.records.ensures.records)
 
 pub returns-clause-holds : goal.returns-clause-holds
 returns-clause-holds g c =
-    let all = ap length c.records.ensures.records in
-    let long = c.len.ensures in
     holds_all c.args.seat.now.mine c.take.new.seat.mine c.take.result c.into_segments-segs.result c.take.ensures.taken c.into_segments-segs.ensures c.requires.ready.free
-    c.len.result c.ack.new.seat.mine c.records.ensures.sound (omega (arith, long, all)) c.ack.ensures.acked
+    (length c.records.result.now) c.ack.new.seat.mine c.records.ensures.sound (ap length c.records.ensures.records) c.ack.ensures.acked
