@@ -1,1 +1,4 @@
 pub mod Sharing
+pub mod OpeningSegs
+pub mod Crossing
+pub mod GrowingLemmas

@@ -11,15 +11,16 @@ use Rattle.hp_heap.specs.Growing.{CanGrow, IsGrownTo}
 use Rattle.hp_heap.specs.History.{HeapView, IsSound, IsCall, SameButSpare, replay, opening_of}
 use Rattle.hp_heap.specs.PlainHeap.{PlainHeap, opening_heap}
 use Rattle.hp_heap.proofs.Growths.{next_can_grow, grown_opening}
-use Rattle.hp_board.specs.declared.kept.Kept.{Kept}
-use Rattle.hp_board.specs.declared.kept.Kept.TheVariants.{Heap}
+use Rattle.hp_hall.specs.declared.kept.Kept.{Kept}
+use Rattle.hp_hall.specs.declared.kept.Kept.TheVariants.{Heap}
 use Rattle.hp_board.specs.declared.view.Mine.{Mine}
 use Rattle.hp_board.specs.BoardView.{BoardView}
 use Rattle.hp_board.specs.Closing.{IsFreeSeat, IsAmong}
 use Rattle.hp_board.specs.KeptValues.{GivesHeap}
 use Rattle.hp_board.specs.SeatView.{SeatView, new_seat, new_seats}
 use Rattle.hp_board.specs.Served.{AreOpeningHeaps, serves_of}
-use Rattle.hp_board.specs.Views.{value_of, without, FindsMore, MayGive, after_take, after_give}
+use Rattle.hp_board.specs.Giving.{MayGive}
+use Rattle.hp_board.specs.Views.{value_of, without, FindsMore, after_take, after_give}
 use Rattle.hp_board.proofs.Gives.{gives_call, gives_later, gives_itself, may_give}
 use Rattle.bench_board.specs.Rounds.{GivesUpTo}
 
@@ -126,7 +127,7 @@ module _ (old first second : Mine) (kept other : Kept) (heap given : HeapView) (
     left = ap (λ (m : Mine). m.held) gave ∙ ap (without 0) held
 
     pub second_gives : MayGive third 1 other
-    second_gives = record { taken = other; holds = ap (value_of 1) left; gives = gives_itself third.who (length third.made) other }
+    second_gives = record { taken = other; holds = ap (value_of 1) left; gives = gives_itself third other }
 
     pub both_who : (last : Mine) → last ≡ after_give 1 other third → last.who ≡ old.who
     both_who last done = ap (λ (m : Mine). m.who) done ∙ ap (λ (m : Mine). m.who) gave ∙ whose

@@ -2,7 +2,7 @@ ghost use Rattle.std.specs.Prelude.{◌≡◌, [], Some, IfOk, map};
 ghost use Rattle.std.specs.List.{slice_get};
 ghost use Rattle.hp_board.specs.Served.{AreOpeningHeaps, serves_of};
 
-use hp_board::SLOTS;
+use hp_base::MAX_HEAPS;
 use hp_heap::Heap;
 use std::alloc::{AllocError, Global};
 
@@ -24,8 +24,8 @@ pub fn opening_heaps(alloc: Global) -> Result<Vec<Heap>, AllocError>
     ensures opening { IfOk result (λ heaps. AreOpeningHeaps heaps.items) }
     ensures first { IfOk result (λ heaps. slice_get (map serves_of heaps.items) 0 ≡ Some (Some 0)) }
 {
-    let mut heaps = Vec::with_capacity(alloc, SLOTS)?;
-    for index in 0..SLOTS {
+    let mut heaps = Vec::with_capacity(alloc, MAX_HEAPS)?;
+    for index in 0..MAX_HEAPS {
         heaps.push_reserved(heap_at(alloc, index as u32));
     }
     Ok(heaps)

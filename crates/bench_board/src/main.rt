@@ -1,13 +1,20 @@
-//! Shares a heap: `bench_board RUNS` opens a board RUNS times. Each time one participant adds a page to a heap, and then two
-//! more allocate and free in it 100 times each, on threads of their own.
+//! Shares a heap and grows: `bench_board RUNS TIMES` opens a board RUNS times. Each time one participant adds a page to a heap, and
+//! then two more allocate and free in it 100 times each, on threads of their own. Then it opens one board more, on which two
+//! participants grow by hand TIMES times each, while a third attaches and detaches as often.
 #![tactic(auto)]
 
+mod growing;
+mod grown;
+mod growth;
 mod heaps;
 mod rounds;
+mod segs;
 mod session;
 #[cfg(test)]
 mod tests;
 
+use grown::grown;
+use hp_board::Closed;
 use hp_heap::Entry;
 use session::shared;
 use std::alloc::Global;
@@ -20,13 +27,34 @@ fn main(rt: HostRuntime) -> io::Result<()> {
     let mut args = env::args(&rt)?;
     let _name = args.next();
     let runs = number(args.next());
+    let times = number(args.next());
     let mut whole: u32 = 0;
     for _ in 0..runs {
         if shares_a_heap(&rt, rt.alloc()) {
             whole += 1;
         }
     }
-    println!(rt; "{whole} of {runs} runs with 401 entries, each numbered")
+    println!(rt; "{whole} of {runs} runs with 401 entries, each numbered")?;
+    let growths = granted(&rt, rt.alloc(), u64::from(times));
+    println!(rt; "{growths} growths of two participants, while a third came and went")
+}
+
+// How many growths two participants were granted while a third attached and detached; 0 where something else came of it.
+fn granted<R: Threads + Wait + Sync>(rt: &R, alloc: Global, times: u64) -> u64 {
+    match grown(rt, alloc, times) {
+        Ok(closed) => growths(&closed, times),
+        Err(_) => 0,
+    }
+}
+
+// How many records the log has, where each of the two has had so many asks answered, and the primary is left in the roster alone.
+fn growths(closed: &Closed, times: u64) -> u64 {
+    let segs = &closed.segs;
+    if segs.closed(0) == times && segs.closed(1) == times && segs.roster() == 1 {
+        segs.records().len() as u64
+    } else {
+        0
+    }
 }
 
 // Whether three participants share a heap so that its history is whole.

@@ -3,6 +3,7 @@ ghost use Rattle.std.specs.List.{slice_get};
 
 use crate::heaps::opening_heaps;
 use crate::rounds::{add_page, work};
+use crate::segs::opening_segs;
 use hp_base::Request;
 use hp_board::{Board, Closed, Seat};
 use std::alloc::{AllocError, Global};
@@ -14,7 +15,8 @@ pub fn shared<R: Threads + Wait + Sync>(rt: &R, alloc: Global) -> Result<Closed,
     let Ok(request) = Request::new(1000, 0, 0, 0) else {
         return Err(AllocError);
     };
-    let (board, seats) = Board::new(alloc, opening_heaps(alloc)?, 3)?;
+    let heaps = opening_heaps(alloc)?;
+    let (board, seats) = Board::new(alloc, heaps, opening_segs(alloc)?, 3)?;
     let back = Vec::with_capacity(alloc, 3)?;
     let Some((first, second, third)) = three(seats) else {
         return Err(AllocError);
@@ -53,7 +55,7 @@ fn grown<R: Wait>(rt: &R, board: &Board, seat: Seat) -> Seat
 }
 
 // The three seats in a vector with room for them.
-fn gathered(seats: Vec<Seat>, first: Seat, second: Seat, third: Seat) -> Vec<Seat>
+pub fn gathered(seats: Vec<Seat>, first: Seat, second: Seat, third: Seat) -> Vec<Seat>
     requires empty { seats.items ≡ [] }
     requires room { 3 ≤ vec_capacity seats }
     ensures { result.items ≡ first ∷ second ∷ third ∷ [] }

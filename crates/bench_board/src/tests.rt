@@ -1,7 +1,8 @@
 ghost use Rattle.std.specs.Prelude.{◌≡◌};
-ghost use Rattle.hp_board.specs.Slots.{IsSlot};
+ghost use Rattle.hp_hall.specs.Slots.{IsSlot};
 
 use crate::heaps::opening_heaps;
+use crate::segs::opening_segs;
 use crate::session::three;
 use hp_board::{Board, Seat};
 use hp_turn::{Slot, try_take};
@@ -36,7 +37,8 @@ fn hold_theirs(first: &Seat, second: &Seat) -> bool {
 
 #[test]
 fn names_the_holder_of_a_locked_slot(rt: HostRuntime) -> Result<(), Fail> {
-    let (board, seats) = Board::new(rt.alloc(), opening_heaps(rt.alloc())?, 3)?;
+    let heaps = opening_heaps(rt.alloc())?;
+    let (board, seats) = Board::new(rt.alloc(), heaps, opening_segs(rt.alloc())?, 3)?;
     let Some((mut first, mut second, _)) = three(seats) else {
         return Err("three seats".into());
     };

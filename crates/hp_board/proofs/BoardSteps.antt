@@ -1,5 +1,5 @@
 -- Each step of the board keeps its rule.
-use Rattle.std.proofs.Common.{◌≡◌, ◌≢◌, ℕ, ◌+◌, ◌<◌, ◌≤◌, ◌^◌, List, [], ◌∷◌, ◌++◌, length, get_or, set, Option, Some, None, unwrap_or, refl, sym, ap, subst, ◌∙◌, arith, length-set}
+use Rattle.std.proofs.Common.{◌⊎◌, true, ◌≡◌, ◌≢◌, ℕ, ◌+◌, ◌<◌, ◌≤◌, ◌^◌, List, [], ◌∷◌, ◌++◌, length, get_or, set, Option, Some, None, unwrap_or, refl, sym, ap, subst, ◌∙◌, arith, length-set}
 use Rattle.std.specs.List.{Contains}
 use mathlib.Core.Option.{some, none}
 use lib.ListN.{get_elem?}
@@ -7,20 +7,36 @@ use lib.Seq.{set-get_or}
 use prog.Atomic.{either}
 use Rattle.atomic_table.specs.Table.{State, step, Act, keeps, takes, gives, Valid, carried_after, stepped, Allows, Splits, Joins}
 use Rattle.atomic_table.proofs.Lists.{exchanged}
-use Rattle.hp_board.specs.declared.kept.Kept.{Kept}
+use Rattle.hp_hall.specs.declared.kept.Kept.{Kept}
 use Rattle.hp_board.specs.declared.opening.Opening.{Opening}
-use Rattle.hp_board.specs.declared.slot.TheConstants.{SLOTS}
+use Rattle.hp_hall.specs.declared.slot.TheConstants.{SLOTS}
 use Rattle.hp_board.specs.declared.view.Mine.{Mine}
 use Rattle.hp_board.specs.declared.view.View.{View}
 use Rattle.hp_board.specs.BoardRule.{IsBoard}
-use Rattle.hp_board.specs.KeptValues.{history_of, IsSoundKept, IsKeptAt}
+use Rattle.hp_board.specs.KeptValues.{IsKeptAt}
+use Rattle.hp_hall.specs.Values.{history_of, IsSoundKept}
+use Rattle.hp_base.specs.declared.limits.TheConstants.{MAX_HEAPS}
+use Rattle.hp_hall.specs.declared.kept.Kept.TheVariants.{Heap, Segments}
 use Rattle.hp_board.specs.Seated.{IsSeatedAt}
-use Rattle.hp_board.specs.Steps.{Sat, Tries, Gave}
-use Rattle.hp_board.specs.Views.{value_of, part_of, one_part, made_in, seen_of, BeginsWith, after_take, after_give, after_look, first_part, other_parts, both_parts, spent_view, IsHanded, IsHeldWord, MayGive}
+use Rattle.hp_board.specs.Words.{ack_word}
+use Rattle.hp_board.proofs.Histories.{gives_calls, given_at}
+use Rattle.hp_board.proofs.SegsSteps.{segs_ack, segs_give, segs_load, segs_look, segs_partial, segs_take}
+use Rattle.hp_board.specs.Steps.{Acks, Gave, HasLoaded, Loads, Sat, Tries, Unmaps}
+use Rattle.hp_board.specs.Views.{value_of, made_in, seen_of, BeginsWith, after_take, after_give, after_acking, after_load, after_look, after_unmapping, holds_segments, noted_of}
+use Rattle.hp_board.specs.Parts.{part_of, one_part, first_part, other_parts, both_parts, spent_view}
+use Rattle.hp_board.specs.Handed.{GoesOnFrom, IsHanded, IsHeldWord}
+use Rattle.hp_board.specs.Agreement.{AgreesFrom}
+use Rattle.hp_board.specs.Giving.{Gives, MayGive, giver_of}
+use Rattle.hp_hall.specs.Values.{HasMember}
+use Rattle.hp_log.specs.Log.{IsWellFormed}
+use Rattle.hp_segs.specs.Sound.{IsSound}
+use Rattle.hp_board.proofs.InUse.{agreed_by}
+use Rattle.hp_board.proofs.GivenLeaves.{given_left}
+use Rattle.hp_board.proofs.TablesKnown.{formed_front}
 use Rattle.hp_board.proofs.Updates.{with_at}
-use Rattle.hp_board.proofs.LockSteps.{held_yes, held_no, locked_take, locked_give, kept_taken}
+use Rattle.hp_board.proofs.LockSteps.{held_yes, held_no, locked_else, locked_take, locked_give, kept_taken}
 use Rattle.hp_board.proofs.HeapSteps.{kept_same, kept_give}
-use Rattle.hp_board.proofs.PrefixSteps.{seen_look, seen_take, seen_give}
+use Rattle.hp_board.proofs.PrefixSteps.{seen_look, seen_same, seen_take, seen_give}
 use Rattle.hp_board.proofs.SeatSteps.{seated_one, seated_step, seated_split, seated_join}
 
 abbrev BoardState : Type 0
@@ -47,7 +63,23 @@ module _ (opening : Opening) (s : BoardState) (board : IsBoard opening s) (id sl
         own = board.heaps.own part.who slot seat.declared inside ∙ ap (made_in slot) (sym known);
         seen = subst (λ (m : Mine). BeginsWith (history_of (board.kept slot)) (seen_of slot m)) (sym known) (board.prefixes.seen part.who slot seat.declared inside);
         free = ap (λ (m : Mine). value_of slot m.held) known ∙ board.locked.held part.who slot seat.declared inside ∙ held_no part.who (get_or s.words slot 0) (board.kept slot) (λ same. omega arith);
+        front = front_by (board.kept slot) (board.heaps.at slot inside) refl;
+        roster = roster_by (board.kept slot) (board.heaps.at slot inside) refl;
       }
+    where
+      front_by : (kept : Kept) → IsKeptAt opening slot kept → board.kept slot ≡ kept → GoesOnFrom part (board.kept slot)
+      front_by (Heap heap) at is = subst (GoesOnFrom part) (sym is) tt
+      front_by (Segments segs) at is =
+          let same : Segments segs ≡ Segments board.segments.segs = sym is ∙ (ap board.kept at.last ∙ board.segments.there) in
+          let lag = board.segments.lagging part.who seat.declared in
+          subst (GoesOnFrom part) (sym (is ∙ same)) (subst (λ (m : Mine). GoesOnFrom m (Segments board.segments.segs)) (sym seat.known) (lag.log, lag.heard))
+
+      roster_by : (kept : Kept) → IsKeptAt opening slot kept → board.kept slot ≡ kept → HasMember part.who part.joined (board.kept slot)
+      roster_by (Heap heap) at is = subst (HasMember part.who part.joined) (sym is) tt
+      roster_by (Segments segs) at is =
+          let same : Segments segs ≡ Segments board.segments.segs = sym is ∙ (ap board.kept at.last ∙ board.segments.there) in
+          let lag = board.segments.lagging part.who seat.declared in
+          subst (HasMember part.who part.joined) (sym (is ∙ same)) (lag.joined ∙ ap (λ (m : Mine). m.joined) (sym seat.known))
 
   -- and what one learns who finds the word held
   looked : get_or s.words slot 0 ≢ 0 → IsHeldWord part slot (get_or s.words slot 0)
@@ -68,11 +100,13 @@ module _ (opening : Opening) (s : BoardState) (board : IsBoard opening s) (id sl
     mine = with_at part.who (after_take slot (board.kept slot) part) board.mine;
     seat_of = board.seat_of;
     words = length-set s.words slot new ∙ board.words;
+    few = board.few;
     seated = seated_step opening.participants s.views board.seat_of board.mine board.seated id part (after_take slot (board.kept slot) part) at refl;
     locked = subst (λ (n : ℕ). Rattle.hp_board.specs.Locks.AreLocked opening.participants (set s.words slot n) (set s.homes slot none) board.kept (with_at part.who (after_take slot (board.kept slot) part) board.mine)) (sym is)
         (locked_take opening.participants s.words s.homes board.kept board.mine board.locked board.words slot inside part seat.known seat.declared free);
     heaps = kept_same opening board.kept board.mine board.heaps part seat.known (after_take slot (board.kept slot) part) refl;
     prefixes = seen_take opening board.kept board.mine board.prefixes part seat.known slot;
+    segments = segs_take opening s.words board.kept board.mine board.segments part seat.known seat.declared slot new inside (board.heaps.at slot inside);
   }
 
   -- a step that only notes something in the view
@@ -84,6 +118,7 @@ module _ (opening : Opening) (s : BoardState) (board : IsBoard opening s) (id sl
         mine = with_at part.who (after_look slot word part) board.mine;
         seat_of = board.seat_of;
         words = ap length same ∙ board.words;
+        few = board.few;
         seated = seated_step opening.participants s.views board.seat_of board.mine board.seated id part (after_look slot word part) at refl;
         locked = record {
           low = λ k within. subst (λ (ws : List ℕ). get_or ws k 0 ≤ opening.participants) (sym same) (board.locked.low k within);
@@ -93,6 +128,8 @@ module _ (opening : Opening) (s : BoardState) (board : IsBoard opening s) (id sl
         };
         heaps = kept_same opening board.kept board.mine board.heaps part seat.known (after_look slot word part) refl;
         prefixes = seen_look opening board.kept board.mine board.prefixes part seat.known slot word;
+        segments = subst (λ (ws : List ℕ). Rattle.hp_board.specs.SegsKept.AreSegs opening.participants ws board.kept (with_at part.who (after_look slot word part) board.mine)) (sym same)
+            (segs_look opening s.words board.kept board.mine board.segments part seat.known seat.declared slot word);
       }
     where
       held_same : (who k : ℕ) → value_of k (with_at part.who (after_look slot word part) board.mine who).held ≡ value_of k (board.mine who).held
@@ -103,16 +140,149 @@ module _ (opening : Opening) (s : BoardState) (board : IsBoard opening s) (id sl
       → IsBoard opening (state (set s.words slot 0) (set s.homes slot (some (Some given))) (set s.views id (one_part (after_give slot given part))))
   gives_slot given may sound wide =
       let taken_is = kept_taken opening.participants s.words s.homes board.kept board.mine board.locked board.words slot inside part seat.known seat.declared may.taken may.holds in
+      let calls = gives_calls part may.taken given may.gives in
       record {
         kept = with_at slot given board.kept;
         mine = with_at part.who (after_give slot given part) board.mine;
         seat_of = board.seat_of;
         words = length-set s.words slot 0 ∙ board.words;
+        few = board.few;
         seated = seated_step opening.participants s.views board.seat_of board.mine board.seated id part (after_give slot given part) at refl;
         locked = locked_give opening.participants s.words s.homes board.kept board.mine board.locked board.words slot inside part seat.known seat.declared may.taken given may.holds wide;
-        heaps = kept_give opening board.kept board.mine board.heaps part seat.known slot inside seat.declared may.taken given may.holds taken_is may.gives sound;
-        prefixes = seen_give opening board.kept board.mine board.prefixes part seat.known slot may.taken given taken_is may.gives;
+        heaps = kept_give opening board.kept board.mine board.heaps part seat.known slot inside seat.declared may.taken given may.holds taken_is calls sound;
+        prefixes = seen_give opening board.kept board.mine board.prefixes part seat.known slot may.taken given taken_is calls;
+        segments =
+            let at = subst (IsKeptAt opening slot) taken_is (board.heaps.at slot inside) in
+            segs_give opening s.words board.kept board.mine board.segments part seat.known seat.declared slot given may inside taken_is at
+            (given_at opening slot part.who (length part.made) may.taken given calls sound at);
       }
+
+  -- rows become agreed by numbers that the giver has loaded
+  agrees_by : (taken given : Kept) → IsKeptAt opening slot taken → IsSoundKept given → Gives part taken given → AgreesFrom part (Some taken) given
+  agrees_by (Heap taken) given at sound give = tt
+  agrees_by (Segments taken) (Heap given) at sound give = tt
+  agrees_by (Segments taken) (Segments given) at sound give =
+      λ row member has its. agreed_by (giver_of part) taken given at.sound sound (given_left (giver_of part) taken given at.sound give) row member has its
+
+  agrees_slot : (given : Kept) → MayGive part slot given → IsSoundKept given → AgreesFrom part (value_of slot part.held) given
+  agrees_slot given may sound =
+      let taken_is = kept_taken opening.participants s.words s.homes board.kept board.mine board.locked board.words slot inside part seat.known seat.declared may.taken may.holds in
+      subst (λ (o : Option Kept). AgreesFrom part o given) (sym may.holds)
+      (agrees_by may.taken given (subst (IsKeptAt opening slot) taken_is (board.heaps.at slot inside)) sound may.gives)
+
+module _ (opening : Opening) (s : BoardState) (board : IsBoard opening s) (id : ℕ) (part : Mine) (at : get_elem? s.views id ≡ some (one_part part)) where
+  its : IsSeatedAt opening.participants board.seat_of board.mine id part
+  its = seated_one opening.participants s.views board.seat_of board.mine board.seated id part at
+
+  -- records are acknowledged
+  acks_word : (number : ℕ) → (part.joined ≡ true) ⊎ (holds_segments part ≡ true) → part.number ≤ number → number ≤ length part.log
+      → IsBoard opening (state (set s.words (ack_word part.who) number) s.homes (set s.views id (one_part (after_acking number part))))
+  acks_word number hand rises seen =
+      let low = its.declared in
+      let few = board.few in
+      let long = board.words in
+      record {
+        kept = board.kept;
+        mine = with_at part.who (after_acking number part) board.mine;
+        seat_of = board.seat_of;
+        words = length-set s.words (ack_word part.who) number ∙ board.words;
+        few = board.few;
+        seated = seated_step opening.participants s.views board.seat_of board.mine board.seated id part (after_acking number part) at refl;
+        locked = locked_else opening.participants s.words s.homes board.kept board.mine board.locked board.words 0 (omega arith) part its.known its.declared (ack_word part.who) number (omega arith) (after_acking number part) refl;
+        heaps = kept_same opening board.kept board.mine board.heaps part its.known (after_acking number part) refl;
+        prefixes = seen_same opening board.kept board.mine board.prefixes part its.known (after_acking number part) refl refl;
+        segments = segs_ack opening s.words board.kept board.mine board.segments part its.known its.declared number (omega (arith, low, few, long)) hand rises seen;
+      }
+
+  -- a view changes at a load, in what is no slot, no entry and no history
+  views_word : (word : ℕ) (new : Mine) → new.who ≡ part.who → new.held ≡ part.held → new.made ≡ part.made → new.opening ≡ part.opening → new.seen ≡ part.seen
+      → Rattle.hp_board.specs.SegsKept.AreSegs opening.participants s.words board.kept (with_at part.who new board.mine)
+      → SLOTS ≤ word → IsBoard opening (state (set s.words word (get_or s.words word 0)) s.homes (set s.views id (one_part new)))
+  views_word word new who held made opens seen segments behind =
+      let same : set s.words word (get_or s.words word 0) ≡ s.words = set-get_or s.words word 0 in
+      record {
+        kept = board.kept;
+        mine = with_at part.who new board.mine;
+        seat_of = board.seat_of;
+        words = ap length same ∙ board.words;
+        few = board.few;
+        seated = seated_step opening.participants s.views board.seat_of board.mine board.seated id part new at who;
+        locked = locked_else opening.participants s.words s.homes board.kept board.mine board.locked board.words 0 (omega arith) part its.known its.declared word (get_or s.words word 0) behind new held;
+        heaps = kept_same opening board.kept board.mine board.heaps part its.known new made;
+        prefixes = seen_same opening board.kept board.mine board.prefixes part its.known new opens seen;
+        segments = subst (λ (ws : List ℕ). Rattle.hp_board.specs.SegsKept.AreSegs opening.participants ws board.kept (with_at part.who new board.mine)) (sym same) segments;
+      }
+
+-- the segment value is sound
+segs_sound : (opening : Opening) (s : BoardState) (board : IsBoard opening s) → IsSound board.segments.segs
+segs_sound opening s board = (subst (IsKeptAt opening MAX_HEAPS) board.segments.there (board.heaps.at MAX_HEAPS (omega arith))).sound
+
+-- what a participant has seen of the log is well formed
+seen_formed : (opening : Opening) (s : BoardState) (board : IsBoard opening s) (id : ℕ) (part : Mine) → get_elem? s.views id ≡ some (one_part part) → IsWellFormed part.log
+seen_formed opening s board id part at =
+    let seat = its opening s board id part at in
+    let lag = board.segments.lagging part.who seat.declared in
+    subst (λ (m : Mine). IsWellFormed m.log) (sym seat.known)
+    (formed_front 0 [] (board.mine part.who).log lag.log.0 (subst IsWellFormed lag.log.1 (segs_sound opening s board).rows.table.formed))
+
+-- records are acknowledged
+pub acks : (opening : Opening) (slots id : ℕ) (me : Sat) (word number : ℕ) (said : mathlib.Core.Option.Option (Option Kept)) → me.0 ≡ one_part (part_of me.0) → word ≡ ack_word (part_of me.0).who
+    → ((part_of me.0).joined ≡ true) ⊎ (holds_segments (part_of me.0) ≡ true) → (part_of me.0).number ≤ number → number ≤ length (part_of me.0).log
+    → Allows (IsBoard opening) slots id me word (λ _. number) (λ _. Acks (step slots word number 0 said) me number)
+acks opening slots id me word number said one is hand rises seen s board wide there small =
+    let part = part_of me.0 in
+    let at : get_elem? s.views id ≡ some (one_part part) = there ∙ ap some one in (
+      one_part (after_acking number part),
+      keeps,
+      tt,
+      subst (λ (w : ℕ). IsBoard opening (state (set s.words w number) s.homes (set s.views id (one_part (after_acking number part))))) (sym is) (acks_word opening s board id part at number hand rises seen),
+      record { acked = refl; formed = seen_formed opening s board id part at },
+    )
+
+-- rows are unmapped
+pub unmaps : (opening : Opening) (slots id : ℕ) (me : Sat) (word : ℕ) (said : mathlib.Core.Option.Option (Option Kept)) → me.0 ≡ one_part (part_of me.0) → SLOTS ≤ word
+    → Allows (IsBoard opening) slots id me word (λ n. n) (Unmaps (step slots word 0 0 said) me)
+unmaps opening slots id me word said one behind s board wide there small =
+    let part = part_of me.0 in
+    let at : get_elem? s.views id ≡ some (one_part part) = there ∙ ap some one in
+    let seat = its opening s board id part at in (
+      one_part (after_unmapping part),
+      keeps,
+      tt,
+      views_word opening s board id part at word (after_unmapping part) refl refl refl refl refl (segs_partial opening s.words board.kept board.mine board.segments part seat.known seat.declared) behind,
+      record { unmapped = refl },
+    )
+
+-- a participant's number is loaded
+pub loads : (opening : Opening) (slots id : ℕ) (me : Sat) (word from : ℕ) (said : mathlib.Core.Option.Option (Option Kept)) → me.0 ≡ one_part (part_of me.0) → word ≡ ack_word from
+    → from < (part_of me.0).opening.participants → Allows (IsBoard opening) slots id me word (λ n. n) (Loads (step slots word 0 0 said) me)
+loads opening slots id me word from said one is declared s board wide there small =
+    let part = part_of me.0 in
+    let at : get_elem? s.views id ≡ some (one_part part) = there ∙ ap some one in
+    let seat = its opening s board id part at in
+    let found : get_or s.words (ack_word from) 0 ≡ get_or s.words word 0 = ap (λ (w : ℕ). get_or s.words w 0) (sym is) in
+    let opened : part.opening ≡ opening = ap (λ (m : Mine). m.opening) seat.known ∙ board.prefixes.opened part.who seat.declared in
+    let low : from < opening.participants = subst (λ (o : Opening). from < o.participants) opened declared in
+    let new : Mine = after_load from (get_or s.words word 0) part in (
+      one_part new,
+      keeps,
+      tt,
+      views_word opening s board id part at word new refl refl refl refl refl
+          (subst (λ (n : ℕ). Rattle.hp_board.specs.SegsKept.AreSegs opening.participants s.words board.kept (with_at part.who (after_load from n part) board.mine)) found
+          (segs_load opening s.words board.kept board.mine board.segments part seat.known seat.declared from)) (omega arith),
+      record {
+        told = λ other same.
+            let one_number : from ≡ other = omega (arith, is, same) in
+            subst (λ (n : ℕ). HasLoaded me n (get_or s.words word 0) (one_part new, me.1)) one_number (record {
+              loaded = refl;
+              rises = let low_is = Rattle.hp_board.proofs.SegsSteps.load_rises opening s.words board.kept board.mine board.segments part seat.known seat.declared from low in omega (arith, low_is, found);
+              own = λ self.
+                  let told = board.segments.told part.who seat.declared in
+                  let number : (board.mine part.who).number ≡ part.number = ap (λ (m : Mine). m.number) (sym seat.known) in
+                  ap (λ (w : ℕ). get_or s.words w 0) (is ∙ ap ack_word self) ∙ (told.own ∙ number);
+            });
+      },
+    )
 
 -- a try of a lock word
 pub tries : (opening : Opening) (slots id : ℕ) (me : Sat) (slot new : ℕ) (said : mathlib.Core.Option.Option (Option Kept)) → slot < SLOTS → me.0 ≡ one_part (part_of me.0) → new ≡ (part_of me.0).who + 1
@@ -153,9 +323,12 @@ gave opening slots id view slot given more said count inside one may sound s boa
       tt,
       gives_slot opening s board id slot inside part at given may sound (wide ∙ count),
       record {
-        given = λ kept front.
+        home = λ kept front.
             let same : given ≡ kept = ap (λ (l : List (ℕ × Option Kept)). unwrap_or (get_or l 0 (slot, None)).1 given) front in
-            ap (λ (x : Kept). (one_part (after_give slot x part), more)) same;
+            record {
+              given = ap (λ (x : Kept). (one_part (after_give slot x part), more)) same;
+              agreed = subst (AgreesFrom part (value_of slot part.held)) same (agrees_slot opening s board id slot inside part at given may sound);
+            };
       },
     )
 
@@ -176,10 +349,12 @@ splits opening id part parts view is apart =
       mine = board.mine;
       seat_of = with_at part.who (length (set s.views id (record { parts = parts }))) board.seat_of;
       words = board.words;
+      few = board.few;
       seated = seated_split opening.participants s.views board.seat_of board.mine board.seated id part parts at apart;
       locked = board.locked;
       heaps = board.heaps;
       prefixes = board.prefixes;
+      segments = board.segments;
     })
 
 -- a seat takes in the parts of another
@@ -189,8 +364,10 @@ joins opening id view other their s board at apart at_other = record {
   mine = board.mine;
   seat_of = Rattle.hp_board.proofs.SeatSteps.moved_to opening.participants s.views board.seat_of board.mine board.seated id other;
   words = board.words;
+  few = board.few;
   seated = seated_join opening.participants s.views board.seat_of board.mine board.seated id view other their at apart at_other;
   locked = board.locked;
   heaps = board.heaps;
   prefixes = board.prefixes;
+  segments = board.segments;
 }

@@ -6,8 +6,8 @@ use Rattle.std.proofs.lemmas.List.FromFn.{length-range_with_len, get_or-range_wi
 use Rattle.atomic_table.specs.Table.{Splits}
 use Rattle.atomic_table.specs.Seated.{TableId}
 use Rattle.hp_heap.specs.History.{HeapView}
-use Rattle.hp_board.specs.declared.kept.Kept.{Kept}
-use Rattle.hp_board.specs.declared.kept.Kept.TheVariants.{Heap}
+use Rattle.hp_hall.specs.declared.kept.Kept.{Kept}
+use Rattle.hp_hall.specs.declared.kept.Kept.TheVariants.{Heap}
 use Rattle.hp_board.specs.declared.opening.Opening.{Opening}
 use Rattle.hp_board.specs.declared.view.Mine.{Mine}
 use Rattle.hp_board.specs.declared.view.View.{View}
@@ -15,7 +15,8 @@ use Rattle.hp_board.specs.BoardRule.{IsBoard}
 use Rattle.hp_board.specs.Dealt.{dealt_seat}
 use Rattle.hp_board.specs.Moved.{slot_of}
 use Rattle.hp_board.specs.SeatView.{SeatView}
-use Rattle.hp_board.specs.Views.{newcomer, parts_from, one_part, part_of, first_part, other_parts}
+use Rattle.hp_board.specs.Views.{newcomer}
+use Rattle.hp_board.specs.Parts.{parts_from, one_part, part_of, first_part, other_parts}
 use Rattle.hp_board.proofs.BoardSteps.{splits}
 
 -- the first heap moves behind the slots

@@ -1,5 +1,5 @@
 -- A board whose every participant has come back and holds nothing has every value at home.
-use Rattle.std.proofs.Common.{◌≡◌, ◌≢◌, ℕ, ◌-◌, ◌<◌, ◌≤◌, List, [], get_or, Option, Some, None, sym, ap, subst, ◌∙◌, arith}
+use Rattle.std.proofs.Common.{◌≡◌, ◌≢◌, ℕ, ◌-◌, ◌<◌, ◌≤◌, List, [], get_or, Option, Some, None, refl, sym, ap, subst, ◌∙◌, arith}
 use Rattle.std.specs.List.{Contains, All, slice_get}
 use Rattle.std.proofs.lemmas.Option.{slice_get_within}
 use Rattle.std.proofs.lemmas.List.Elements.{All-contains}
@@ -8,20 +8,29 @@ use mathlib.Core.Option.{some, some-injective}
 use native.Mathlib.Decide.{ℕ_discrete}
 use lib.ListN.{get_elem?}
 use Rattle.atomic_table.specs.Table.{State, Seen, Final}
+use Rattle.hp_base.specs.declared.limits.TheConstants.{MAX_HEAPS}
 use Rattle.hp_heap.specs.History.{HeapView, entries_of}
-use Rattle.hp_board.specs.declared.kept.Kept.{Kept}
-use Rattle.hp_board.specs.declared.kept.Kept.TheVariants.{Heap}
+use Rattle.hp_segs.specs.SegsView.{SegsView}
+use Rattle.hp_segs.specs.Sound.{IsSound}
+use Rattle.hp_hall.specs.declared.kept.Kept.{Kept}
+use Rattle.hp_hall.specs.declared.kept.Kept.TheVariants.{Heap, Segments}
 use Rattle.hp_board.specs.declared.opening.Opening.{Opening}
-use Rattle.hp_board.specs.declared.slot.TheConstants.{SLOTS}
+use Rattle.hp_hall.specs.declared.slot.TheConstants.{SLOTS}
 use Rattle.hp_board.specs.declared.view.Mine.{Mine}
 use Rattle.hp_board.specs.declared.view.View.{View}
 use Rattle.hp_board.specs.BoardRule.{IsBoard}
 use Rattle.hp_board.specs.BoardView.{BoardView}
-use Rattle.hp_board.specs.Closing.{IsFreeSeat, IsAmong, AreHeaps, KeepCallsOf}
+use Rattle.hp_board.specs.Agreement.{HasTakenIn, IsDeclaredRoster}
+use Rattle.hp_board.specs.Closing.{IsFreeSeat, IsAmong, IsNotedUpTo, AreHeaps, AreLeftSegs, KeepCallsOf, KeepsTableOf}
+use Rattle.hp_board.specs.Lag.{IsLagging}
+use Rattle.hp_board.specs.Words.{ack_word}
+use Rattle.hp_board.proofs.TablesLeft.{keeps_table}
 use Rattle.hp_board.specs.Gathered.{AreFrom}
-use Rattle.hp_board.specs.KeptValues.{IsKeptAt, IsNumbered, history_of}
+use Rattle.hp_board.specs.KeptValues.{IsKeptAt}
+use Rattle.hp_hall.specs.Giving.{IsNumbered}
+use Rattle.hp_hall.specs.Values.{history_of}
 use Rattle.hp_board.specs.SeatView.{SeatView}
-use Rattle.hp_board.specs.Views.{value_of, made_in, all_made, seen_of, BeginsWith}
+use Rattle.hp_board.specs.Views.{value_of, made_in, all_made, noted_of, seen_of, BeginsWith}
 use Rattle.hp_board.proofs.LockSteps.{held_yes}
 
 -- each participant's part is in the view, and holds nothing
@@ -73,6 +82,12 @@ pub record IsTold (o : Opening) (view : View) (items : List (Option Kept)) : Typ
   pub own : (part : Mine) (slot : ℕ) → Contains view.parts part → slot < SLOTS → entries_of part.who (history_of (kept slot)) ≡ made_in slot part
   pub seen : (part : Mine) (slot : ℕ) → Contains view.parts part → slot < SLOTS → BeginsWith (history_of (kept slot)) (seen_of slot part)
   pub numbered : (part : Mine) → Contains view.parts part → IsNumbered part.who 0 (all_made part)
+  pub segs : SegsView
+  pub there : kept MAX_HEAPS ≡ Segments segs
+  pub roster : IsDeclaredRoster o.participants segs
+  pub lagging : (part : Mine) → Contains view.parts part → IsLagging segs part.who part
+  pub agreed : (part : Mine) → Contains view.parts part → HasTakenIn segs part.who part
+  pub noted : (part other : Mine) → Contains view.parts part → Contains view.parts other → IsNotedUpTo part other
 
 pub ends : (o : Opening) (id : ℕ) (view : View) (words : List ℕ) (items : List (Option Kept)) → HasAll o view → Final (Seen (IsBoard o) id view) words items → IsTold o view items
 ends o id view words items all (s, (board, at), words_are, long, each) = record {
@@ -86,9 +101,23 @@ ends o id view words items all (s, (board, at), words_are, long, each) = record 
       subst (λ (m : Mine). BeginsWith (history_of (board.kept slot)) (seen_of slot m)) (sym known.1) (board.prefixes.seen part.who slot known.0 within);
   numbered = λ part has. let known = part_known o s board id view at part has in
       subst (λ (m : Mine). IsNumbered part.who 0 (all_made m)) (sym known.1) (board.heaps.numbered part.who known.0);
+  segs = board.segments.segs;
+  there = board.segments.there;
+  roster = board.segments.roster;
+  lagging = λ part has. let known = part_known o s board id view at part has in
+      subst (IsLagging board.segments.segs part.who) (sym known.1) (board.segments.lagging part.who known.0);
+  agreed = λ part has. let known = part_known o s board id view at part has in
+      subst (HasTakenIn board.segments.segs part.who) (sym known.1) (board.segments.agreed part.who known.0);
+  noted = λ part other has has-other.
+      let known = part_known o s board id view at part has in
+      let known-other = part_known o s board id view at other has-other in
+      let low : noted_of other.who part ≤ get_or s.words (ack_word other.who) 0 =
+      subst (λ (m : Mine). noted_of other.who m ≤ get_or s.words (ack_word other.who) 0) (sym known.1) ((board.segments.told part.who known.0).noted other.who known-other.0) in
+      let word : get_or s.words (ack_word other.who) 0 ≡ other.number = (board.segments.told other.who known-other.0).own ∙ ap (λ (m : Mine). m.number) (sym known-other.1) in
+      omega (arith, low, word);
 }
 
-module _ (o : Opening) (view : View) (items : List (Option Kept)) (told : IsTold o view items) (heaps : List HeapView) (from : AreFrom items heaps) where
+module _ (o : Opening) (view : View) (items : List (Option Kept)) (told : IsTold o view items) (heaps : List HeapView) (segs : SegsView) (from : AreFrom items heaps segs) where
   -- a heap is the value of its slot
   is_kept : (slot : ℕ) (heap : HeapView) → slice_get heaps slot ≡ Some heap → (slot < SLOTS) × (told.kept slot ≡ Heap heap)
   is_kept slot heap there =
@@ -109,3 +138,22 @@ module _ (o : Opening) (view : View) (items : List (Option Kept)) (told : IsTold
     seen = λ slot heap there. let is = is_kept slot heap there in subst (λ k. BeginsWith (history_of k) (seen_of slot part)) is.1 (told.seen part slot has is.0);
     numbered = told.numbered part has;
   }
+
+  -- the segment value is that of the last slot
+  segs_is : told.segs ≡ segs
+  segs_is =
+      let same : Some (told.kept MAX_HEAPS) ≡ Some (Segments segs) =
+      some-injective (Some (told.kept MAX_HEAPS)) (Some (Segments segs)) (sym (told.values MAX_HEAPS (omega arith)) ∙ from.last) in
+      let there = told.there in
+      cc
+
+  segs_sound : IsSound segs
+  segs_sound = (subst (IsKeptAt o MAX_HEAPS) (told.there ∙ ap (λ (s : SegsView). Segments s) segs_is) (told.at MAX_HEAPS (omega arith))).sound
+
+  pub segs_are : AreLeftSegs o segs
+  segs_are = record { sound = segs_sound; roster = subst (IsDeclaredRoster o.participants) segs_is told.roster }
+
+  pub tables_are : (part : Mine) → Contains view.parts part → part.held ≡ [] → KeepsTableOf segs part
+  tables_are part has free =
+      keeps_table segs part segs_sound (subst (λ (s : SegsView). IsLagging s part.who part) segs_is (told.lagging part has))
+      (subst (λ (s : SegsView). HasTakenIn s part.who part) segs_is (told.agreed part has)) free

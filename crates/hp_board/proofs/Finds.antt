@@ -1,9 +1,11 @@
 -- A participant that tries a slot again and again notes the words that it finds, and learns of the value as if it had waited for it.
 use Rattle.std.proofs.Common.{◌≡◌, ℕ, List, [], ◌∷◌, ◌++◌, sym, ap, subst, ◌∙◌}
 use Rattle.std.proofs.lemmas.List.{append_assoc, append-nil}
-use Rattle.hp_board.specs.declared.kept.Kept.{Kept}
+use Rattle.hp_hall.specs.declared.kept.Kept.{Kept}
+use Rattle.hp_hall.specs.declared.kept.Kept.TheVariants.{Heap, Segments}
 use Rattle.hp_board.specs.declared.view.Mine.{Mine}
-use Rattle.hp_board.specs.Views.{FindsMore, IsHanded, after_take, after_look}
+use Rattle.hp_board.specs.Views.{FindsMore, after_take, after_look}
+use Rattle.hp_board.specs.Handed.{GoesOnFrom, IsHanded}
 
 abbrev finding : Mine → List (ℕ × ℕ) → Mine
 finding mine found = record mine { found = found }
@@ -16,7 +18,11 @@ finds_one mine now after slot word (words, is) looked =
     (words ++ (slot, word) ∷ [], looked ∙ ap (after_look slot word) is ∙ ap (finding mine) (append_assoc mine.found words ((slot, word) ∷ [])))
 
 handed_by : (mine : Mine) (words : List (ℕ × ℕ)) (slot : ℕ) (kept : Kept) → IsHanded (finding mine (mine.found ++ words)) slot kept → IsHanded mine slot kept
-handed_by mine words slot kept handed = record { at = handed.at; own = handed.own; seen = handed.seen; free = handed.free }
+handed_by mine words slot kept handed = record { at = handed.at; own = handed.own; seen = handed.seen; free = handed.free; front = front_by kept handed.front; roster = handed.roster }
+  where
+    front_by : (kept : Kept) → GoesOnFrom (finding mine (mine.found ++ words)) kept → GoesOnFrom mine kept
+    front_by (Heap heap) front = tt
+    front_by (Segments segs) front = front
 
 pub handed_after : (mine now : Mine) (slot : ℕ) (kept : Kept) → FindsMore mine now → IsHanded now slot kept → IsHanded mine slot kept
 handed_after mine now slot kept (words, is) handed = handed_by mine words slot kept (subst (λ (m : Mine). IsHanded m slot kept) is handed)

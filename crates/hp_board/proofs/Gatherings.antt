@@ -9,14 +9,16 @@ use mathlib.Core.Option.{some}
 use native.Mathlib.Decide.{ℕ_discrete}
 use lib.ListN.{get_elem?}
 use Rattle.hp_heap.specs.History.{HeapView}
-use Rattle.hp_board.specs.declared.kept.Kept.{Kept}
-use Rattle.hp_board.specs.declared.kept.Kept.TheVariants.{Heap}
-use Rattle.hp_board.specs.declared.slot.TheConstants.{SLOTS}
+use Rattle.hp_hall.specs.declared.kept.Kept.{Kept}
+use Rattle.hp_hall.specs.declared.kept.Kept.TheVariants.{Heap}
+use Rattle.hp_base.specs.declared.limits.TheConstants.{MAX_HEAPS}
+use Rattle.hp_hall.specs.declared.kept.Kept.TheVariants.{Segments}
+use Rattle.hp_segs.specs.SegsView.{SegsView}
 use Rattle.hp_board.specs.declared.view.Mine.{Mine}
 use Rattle.hp_board.specs.declared.view.View.{View}
 use Rattle.hp_board.specs.Gathered.{AreFrom}
 use Rattle.hp_board.specs.SeatView.{SeatView}
-use Rattle.hp_board.specs.Views.{one_part, both_parts}
+use Rattle.hp_board.specs.Parts.{one_part, both_parts}
 use Rattle.hp_board.proofs.SeatSteps.{Contains-head}
 
 -- how many of the seats are left, and which one was taken
@@ -57,10 +59,11 @@ emptied_here filled number inside before k below =
     (λ apart. get_or-set_other filled number k false false apart ∙ before k (omega arith))
 
 -- the heaps are the values of the slots
-pub all_moved : (items : List (Option Kept)) (heaps : List HeapView) → length heaps ≡ SLOTS
-    → ((k : ℕ) (d : HeapView) → k < SLOTS → get_elem? items k ≡ some (Some (Heap (get_or heaps k d)))) → AreFrom items heaps
-all_moved items heaps count values = record {
+pub all_moved : (items : List (Option Kept)) (heaps : List HeapView) (segs : SegsView) → length heaps ≡ MAX_HEAPS
+    → ((k : ℕ) (d : HeapView) → k < MAX_HEAPS → get_elem? items k ≡ some (Some (Heap (get_or heaps k d)))) → get_elem? items MAX_HEAPS ≡ some (Some (Segments segs)) → AreFrom items heaps segs
+all_moved items heaps segs count values last = record {
   count = count;
+  last = last;
   each = λ slot heap there.
       values slot heap (omega (arith, slice_get_within heaps slot heap there)) ∙ ap (λ (h : HeapView). some (Some (Heap h))) (get_or_from_slice_get heaps slot heap heap there);
 }

@@ -1,5 +1,7 @@
--- Calls of a heap between taking it and giving it back: what may be given.
-use Rattle.std.proofs.Common.{◌≡◌, ℕ, ◌+◌, [], ◌∷◌, ◌++◌, length, Some, refl, sym, ap, subst, ◌∙◌}
+-- Calls of a heap between taking it and giving it back, and values that go back as they were taken: what may be given.
+use Rattle.std.proofs.Common.{◌≡◌, ℕ, ◌+◌, List, [], ◌∷◌, ◌++◌, length, drop, Some, refl, sym, ap, subst, ◌∙◌, arith}
+use Rattle.std.specs.List.{Contains}
+use Rattle.std.proofs.Math.Seq.{drop-length}
 use Rattle.std.proofs.lemmas.List.{append_assoc, append-nil}
 use Rattle.hp_base.specs.declared.tag.Caller.{Caller}
 use Rattle.hp_heap.specs.declared.entry.HeapCall.{HeapCall}
@@ -7,11 +9,16 @@ use Rattle.hp_heap.specs.declared.entry.HeapAnswer.{HeapAnswer}
 use Rattle.hp_heap.specs.PlainHeap.{PlainHeap}
 use Rattle.hp_heap.specs.History.{HeapView, IsCall, SameButSpare}
 use Rattle.hp_heap.proofs.HistoryLaw.{IsSameHeap, after-same}
-use Rattle.hp_board.specs.declared.kept.Kept.{Kept}
-use Rattle.hp_board.specs.declared.kept.Kept.TheVariants.{Heap}
+use Rattle.hp_hall.specs.declared.kept.Kept.{Kept}
+use Rattle.hp_hall.specs.declared.kept.Kept.TheVariants.{Heap, Segments}
 use Rattle.hp_board.specs.declared.view.Mine.{Mine}
-use Rattle.hp_board.specs.KeptValues.{GivesHeap, Gives}
-use Rattle.hp_board.specs.Views.{value_of, MayGive}
+use Rattle.hp_hall.specs.Giving.{AgreesBy}
+use Rattle.hp_board.specs.SegsGives.{Giver, SegsGive, logs}
+use Rattle.hp_segs.specs.SegsView.{SegsView}
+use Rattle.hp_segs.specs.declared.outcome.AskLog.{AskLog}
+use Rattle.hp_board.specs.Giving.{Gives, MayGive, giver_of}
+use Rattle.hp_board.specs.KeptValues.{GivesHeap}
+use Rattle.hp_board.specs.Views.{value_of}
 use Rattle.hp_board.proofs.Histories.{IsNumbered-append}
 
 -- a heap as it was taken may be given, whatever room it has
@@ -57,16 +64,40 @@ gives_later who count taken between given same next = record {
   numbered = next.numbered;
 }
 
--- any value may be given as it was taken
-pub gives_itself : (who count : ℕ) (kept : Kept) → Gives who count kept kept
-gives_itself who count (Heap heap) = gives_same who count heap heap (record { plain = refl; lists = refl; history = refl })
+-- and where no outcome came in, none is a grant
+pub agrees_same : (noted : ℕ → ℕ) (taken given : SegsView) → given.asks ≡ taken.asks → AgreesBy noted taken given
+agrees_same noted taken given same entry generation member among granted its =
+    let none : drop (length taken.asks) given.asks ≡ [] = ap (drop (length taken.asks)) same ∙ drop-length taken.asks in
+    let inside = (subst (λ (l : List AskLog). Contains l entry) none among).1 in
+    absurd (omega (arith, inside))
 
--- a participant that holds a slot may give it
+-- a segment value as it was taken may be given by the log
+pub gives_segs_same : (giver : Giver) (segs : SegsView) → SegsGive giver segs segs
+gives_segs_same giver segs = logs (record {
+  moved = record { calls = []; leads = refl; only = λ k d within. absurd (omega (arith, within)); few = omega arith };
+  agreed = agrees_same giver.noted segs segs refl;
+})
+
+-- any value may be given as it was taken
+pub gives_itself : (mine : Mine) (kept : Kept) → Gives mine kept kept
+gives_itself mine (Heap heap) = gives_same mine.who (length mine.made) heap heap (record { plain = refl; lists = refl; history = refl })
+gives_itself mine (Segments segs) = gives_segs_same (giver_of mine) segs
+
+-- a participant that holds a slot may give a heap for it
 pub may_give : (mine : Mine) (slot who made : ℕ) (kept : Kept) (heap given : HeapView) → value_of slot mine.held ≡ Some kept → kept ≡ Heap heap → who ≡ mine.who → length mine.made ≡ made
     → GivesHeap who made heap given → MayGive mine slot (Heap given)
 may_give mine slot who made kept heap given holds is same count gives = record {
   taken = kept;
   holds = holds;
-  gives = subst (λ (k : Kept). Gives mine.who (length mine.made) k (Heap given)) (sym is)
+  gives = subst (λ (k : Kept). Gives mine k (Heap given)) (sym is)
       (subst (λ (n : ℕ). GivesHeap mine.who n heap given) (sym count) (subst (λ (w : ℕ). GivesHeap w made heap given) same gives));
+}
+
+-- and a segment value
+pub may_give_segs : (mine : Mine) (slot : ℕ) (kept : Kept) (segs given : SegsView) → value_of slot mine.held ≡ Some kept → kept ≡ Segments segs → SegsGive (giver_of mine) segs given
+    → MayGive mine slot (Segments given)
+may_give_segs mine slot kept segs given holds is gives = record {
+  taken = kept;
+  holds = holds;
+  gives = subst (λ (k : Kept). Gives mine k (Segments given)) (sym is) gives;
 }

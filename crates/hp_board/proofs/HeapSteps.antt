@@ -3,16 +3,18 @@ use Rattle.std.proofs.Common.{◌≡◌, ◌≢◌, ℕ, ◌+◌, ◌<◌, ◌�
 use Rattle.std.proofs.lemmas.List.{append-nil, map-append, length-map}
 use Rattle.hp_heap.specs.declared.entry.Entry.{Entry}
 use Rattle.hp_heap.specs.History.{entries_of}
-use Rattle.hp_board.specs.declared.kept.Kept.{Kept}
+use Rattle.hp_hall.specs.declared.kept.Kept.{Kept}
 use Rattle.hp_board.specs.declared.opening.Opening.{Opening}
-use Rattle.hp_board.specs.declared.slot.TheConstants.{SLOTS}
+use Rattle.hp_hall.specs.declared.slot.TheConstants.{SLOTS}
 use Rattle.hp_board.specs.declared.view.Mine.{Mine}
 use Rattle.hp_board.specs.HeapsKept.{AreKept}
-use Rattle.hp_board.specs.KeptValues.{history_of, IsSoundKept, IsKeptAt, IsNumbered, Gives, entries_added}
+use Rattle.hp_board.specs.KeptValues.{IsKeptAt, entries_added}
+use Rattle.hp_hall.specs.Giving.{IsNumbered}
+use Rattle.hp_hall.specs.Values.{history_of, IsSoundKept}
 use Rattle.hp_board.specs.Views.{value_of, values_of, under, made_in, all_made, after_give}
 use Rattle.hp_board.proofs.Pairs.{values_of-append, values_of-under, values_of-under_else, map-under}
 use Rattle.hp_board.proofs.Updates.{with_at, each}
-use Rattle.hp_board.proofs.Histories.{entries_of-append, entries_of-own, entries_of-other, IsNumbered-append, IsAdded, added, given_at}
+use Rattle.hp_board.proofs.Histories.{entries_of-append, entries_of-own, entries_of-other, IsNumbered-append, GivesCalls, IsAdded, added, given_at}
 
 module _ (opening : Opening) (kept : ℕ → Kept) (mine : ℕ → Mine) (heaps : AreKept opening kept mine)
     (part : Mine) (known : part ≡ mine part.who) where
@@ -30,7 +32,7 @@ module _ (opening : Opening) (kept : ℕ → Kept) (mine : ℕ → Mine) (heaps 
       }
 
   module _ (slot : ℕ) (inside : slot < SLOTS) (declared : part.who < opening.participants) (taken given : Kept) (holds : value_of slot part.held ≡ Some taken)
-      (taken_is : kept slot ≡ taken) (gives : Gives part.who (length part.made) taken given) (sound : IsSoundKept given) where
+      (taken_is : kept slot ≡ taken) (gives : GivesCalls part.who (length part.made) taken given) (sound : IsSoundKept given) where
     new : IsAdded part.who (length part.made) taken given
     new = added part.who (length part.made) taken given gives
 

@@ -1,15 +1,20 @@
 -- Entries that are numbered on, and whose entries a history has.
 use Rattle.std.proofs.Common.{◌≡◌, ◌≢◌, ℕ, suc, ◌+◌, eqb, eq-eqb, ne_eqb, List, [], ◌∷◌, ◌++◌, drop, length, Some, refl, sym, ap, subst, ◌∙◌, arith}
+use Rattle.std.specs.Prelude.{⊤}
 use Rattle.std.proofs.lemmas.Bool.{cond-true, cond-false}
 use Rattle.std.proofs.lemmas.List.{append_assoc, append-nil}
 use Rattle.std.proofs.lemmas.List.Elements.{filter-append}
 use Rattle.std.proofs.Math.Seq.{drop-append_seam}
 use Rattle.hp_heap.specs.declared.entry.Entry.{Entry}
 use Rattle.hp_heap.specs.History.{entries_of}
-use Rattle.hp_board.specs.declared.kept.Kept.{Kept}
-use Rattle.hp_board.specs.declared.kept.Kept.TheVariants.{Heap}
+use Rattle.hp_hall.specs.declared.kept.Kept.{Kept}
+use Rattle.hp_hall.specs.declared.kept.Kept.TheVariants.{Heap, Segments}
 use Rattle.hp_board.specs.declared.opening.Opening.{Opening}
-use Rattle.hp_board.specs.KeptValues.{history_of, IsSoundKept, IsKeptAt, IsNumbered, Gives, entries_added}
+use Rattle.hp_board.specs.Giving.{Gives}
+use Rattle.hp_board.specs.KeptValues.{GivesHeap, IsKeptAt, entries_added}
+use Rattle.hp_board.specs.declared.view.Mine.{Mine}
+use Rattle.hp_hall.specs.Giving.{IsNumbered}
+use Rattle.hp_hall.specs.Values.{history_of, IsSoundKept}
 use Rattle.hp_board.specs.Views.{BeginsWith}
 
 pub entries_of-append : (who : ℕ) (xs ys : List Entry) → entries_of who (xs ++ ys) ≡ entries_of who xs ++ entries_of who ys
@@ -43,6 +48,19 @@ IsNumbered-append who count (x ∷ xs) ys front rest =
     let same : count + suc (length xs) ≡ (count + 1) + length xs = omega arith in
     (front.0, IsNumbered-append who (count + 1) xs ys front.1 (subst (λ (n : ℕ). IsNumbered who n ys) same rest))
 
+-- what histories ask of a give: entries of the giver alone come to that of a heap, and a segment value has none
+abbrev pub GivesCalls : ℕ → ℕ → Kept → Kept → Type 0
+GivesCalls who count (Heap taken) (Heap given) = GivesHeap who count taken given
+GivesCalls who count (Heap taken) (Segments given) = ⊥
+GivesCalls who count (Segments taken) (Heap given) = ⊥
+GivesCalls who count (Segments taken) (Segments given) = ⊤
+
+pub gives_calls : (mine : Mine) (taken given : Kept) → Gives mine taken given → GivesCalls mine.who (length mine.made) taken given
+gives_calls mine (Heap taken) (Heap given) gives = gives
+gives_calls mine (Heap taken) (Segments given) gives = gives
+gives_calls mine (Segments taken) (Heap given) gives = gives
+gives_calls mine (Segments taken) (Segments given) gives = tt
+
 -- what a giver added to the history of a taken value
 pub record IsAdded (who count : ℕ) (taken given : Kept) : Type 0 where
   pub own : List Entry
@@ -50,18 +68,24 @@ pub record IsAdded (who count : ℕ) (taken given : Kept) : Type 0 where
   pub numbered : IsNumbered who count own
   pub added : entries_added (Some taken) given ≡ own
 
-pub added : (who count : ℕ) (taken given : Kept) → Gives who count taken given → IsAdded who count taken given
+pub added : (who count : ℕ) (taken given : Kept) → GivesCalls who count taken given → IsAdded who count taken given
 added who count (Heap taken) (Heap given) gives = record {
   own = gives.own;
   history = gives.history;
   numbered = gives.numbered;
   added = ap (λ (entries : List Entry). drop (length taken.history) entries) gives.history ∙ drop-append_seam taken.history gives.own;
 }
+added who count (Heap taken) (Segments given) gives = absurd gives
+added who count (Segments taken) (Heap given) gives = absurd gives
+added who count (Segments taken) (Segments given) gives = record { own = []; history = refl; numbered = tt; added = refl }
 
 -- a given value is the slot's, as the taken one was
-pub given_at : (opening : Opening) (slot who count : ℕ) (taken given : Kept) → Gives who count taken given → IsSoundKept given → IsKeptAt opening slot taken → IsKeptAt opening slot given
+pub given_at : (opening : Opening) (slot who count : ℕ) (taken given : Kept) → GivesCalls who count taken given → IsSoundKept given → IsKeptAt opening slot taken → IsKeptAt opening slot given
 given_at opening slot who count (Heap taken) (Heap given) gives sound at =
-    record { sound = sound; index = gives.index ∙ at.index; serves = at.serves ∙ ap (λ s. Some s) (sym gives.serves) }
+    record { below = at.below; sound = sound; index = gives.index ∙ at.index; serves = at.serves ∙ ap (λ s. Some s) (sym gives.serves) }
+given_at opening slot who count (Heap taken) (Segments given) gives sound at = absurd gives
+given_at opening slot who count (Segments taken) (Heap given) gives sound at = absurd gives
+given_at opening slot who count (Segments taken) (Segments given) gives sound at = record { last = at.last; sound = sound }
 
 pub begins : (history : List Entry) → BeginsWith history history
 begins history = ([], sym (append-nil history))

@@ -1,3 +1,4 @@
+pub mod SlotNumbers
 mod Worked
 pub mod Pairs
 pub mod Updates
@@ -6,13 +7,26 @@ pub mod Turning
 pub mod SeatLemmas
 pub mod Told
 pub mod Gives
+pub mod Granting
+pub mod KeptAt
 pub mod Finds
 pub mod DealLemmas
 pub mod LockSteps
 pub mod HeapSteps
 pub mod PrefixSteps
 pub mod SeatSteps
+pub mod Fronts
+pub mod GivenLeaves
+pub mod LagSteps
+pub mod AgreedSteps
+pub mod WordSteps
+pub mod Loads
+pub mod TablesKnown
+pub mod InUse
+pub mod SegsSteps
 pub mod BoardSteps
 pub mod Openings
+pub mod TablesLeft
+pub mod Restored
 pub mod Endings
 pub mod Gatherings

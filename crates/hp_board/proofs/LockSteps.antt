@@ -1,5 +1,5 @@
 -- The lock words and their holders stay in step when a slot is taken and when it is given back.
-use Rattle.std.proofs.Common.{◌≡◌, ◌≢◌, ℕ, ◌+◌, ◌<◌, ◌≤◌, eqb, eq-eqb, ne_eqb, List, ◌∷◌, length, get_or, set, Option, Some, None, refl, sym, ap, ◌∙◌, arith}
+use Rattle.std.proofs.Common.{◌≡◌, ◌≢◌, ℕ, ◌+◌, ◌<◌, ◌≤◌, eqb, eq-eqb, ne_eqb, List, ◌∷◌, length, get_or, set, get_or-set_other, Option, Some, None, refl, sym, ap, ◌∙◌, arith}
 use Rattle.std.proofs.lemmas.Bool.{cond-true, cond-false}
 use mathlib.Core.Logic.{dite}
 use mathlib.Core.Option.{some, none}
@@ -7,8 +7,9 @@ use mathlib.Core.Option as maybe
 use native.Mathlib.Decide.{ℕ_discrete}
 use lib.ListN.{get_elem?}
 use Rattle.atomic_table.proofs.Lists.{set_here, set_else}
-use Rattle.hp_board.specs.declared.kept.Kept.{Kept}
-use Rattle.hp_board.specs.declared.slot.TheConstants.{SLOTS}
+use Rattle.hp_hall.specs.declared.kept.Kept.{Kept}
+use Rattle.hp_hall.specs.declared.slot.TheConstants.{SLOTS}
+use Rattle.hp_board.specs.declared.words.TheConstants.{WORDS}
 use Rattle.hp_board.specs.declared.view.Mine.{Mine}
 use Rattle.hp_board.specs.Locks.{held_by, AreLocked}
 use Rattle.hp_board.specs.Views.{value_of, without, after_take, after_give}
@@ -29,7 +30,7 @@ held_means who word kept taken is =
     (λ apart. let no-one = held_no who word kept apart in absurd (cc))
 
 module _ (participants : ℕ) (words : List ℕ) (homes : List (maybe.Option (Option Kept))) (kept : ℕ → Kept) (mine : ℕ → Mine)
-    (locked : AreLocked participants words homes kept mine) (wide : length words ≡ SLOTS) (slot : ℕ) (inside : slot < SLOTS)
+    (locked : AreLocked participants words homes kept mine) (wide : length words ≡ WORDS) (slot : ℕ) (inside : slot < SLOTS)
     (part : Mine) (known : part ≡ mine part.who) (declared : part.who < participants) where
   in_words : slot < length words
   in_words = omega arith
@@ -91,3 +92,16 @@ module _ (participants : ℕ) (words : List ℕ) (homes : List (maybe.Option (Op
   pub kept_taken : (taken : Kept) → value_of slot part.held ≡ Some taken → kept slot ≡ taken
   kept_taken taken holds = (held_means part.who (get_or words slot 0) (kept slot) taken
       (sym (locked.held part.who slot declared inside) ∙ ap (λ (m : Mine). value_of slot m.held) (sym known) ∙ holds)).1
+
+  -- a word behind the lock words changes, or a view whose slots stay
+  pub locked_else : (at word : ℕ) → SLOTS ≤ at → (new : Mine) → new.held ≡ part.held → AreLocked participants (set words at word) homes kept (with_at part.who new mine)
+  locked_else at word behind new same = record {
+    low = λ k within. let is = get_or-set_other words at k word 0 (λ one. omega arith) in let low = locked.low k within in omega (arith, is, low);
+    home = λ k within zero-now. locked.home k within (sym (get_or-set_other words at k word 0 (λ one. omega arith)) ∙ zero-now);
+    held = λ who k. each (λ w m. w < participants → k < SLOTS → value_of k m.held ≡ held_by w (get_or (set words at word) k 0) (kept k)) part.who new mine
+        (λ may within. ap (value_of k) same ∙ ap (λ (m : Mine). value_of k m.held) known ∙ locked.held part.who k may within ∙ stays part.who k within)
+        (λ w apart may within. locked.held w k may within ∙ stays w k within) who;
+  }
+    where
+      stays : (w k : ℕ) → k < SLOTS → held_by w (get_or words k 0) (kept k) ≡ held_by w (get_or (set words at word) k 0) (kept k)
+      stays w k within = ap (λ (n : ℕ). held_by w n (kept k)) (sym (get_or-set_other words at k word 0 (λ one. omega arith)))

@@ -1,5 +1,5 @@
 -- A new board meets its rule.
-use Rattle.std.proofs.Common.{◌≡◌, ℕ, zero, suc, ◌+◌, ◌<◌, List, [], ◌∷◌, map, length, get_or, replicate, Option, Some, None, refl, sym, ap, subst, ◌∙◌, arith}
+use Rattle.std.proofs.Common.{◌≡◌, ℕ, zero, suc, ◌+◌, ◌<◌, ◌≤◌, inl, ⊎_elim, Bool, true, false, cond, eqb, List, [], ◌∷◌, ◌++◌, map, length, get_or, replicate, Option, Some, None, refl, sym, ap, subst, ◌∙◌, arith}
 use Rattle.std.specs.List.{Contains, All, slice_get, range_with_len}
 use Rattle.std.proofs.lemmas.List.{length-map, get_or-map}
 use Rattle.std.proofs.lemmas.List.FromFn.{length-range_with_len, get_or-range_with_len}
@@ -9,15 +9,26 @@ use lib.ListN.{get_elem?}
 use Rattle.atomic_table.specs.Table.{opening}
 use Rattle.hp_heap.specs.History.{HeapView, IsSound, entries_of}
 use Rattle.hp_heap.specs.PlainHeap.{opening_heap}
-use Rattle.hp_board.specs.declared.kept.Kept.TheVariants.{Heap}
+use Rattle.hp_hall.specs.declared.kept.Kept.TheVariants.{Heap, Segments}
 use Rattle.hp_board.specs.declared.opening.Opening.{Opening}
-use Rattle.hp_board.specs.declared.slot.TheConstants.{SLOTS}
+use Rattle.hp_hall.specs.declared.slot.TheConstants.{SLOTS}
 use Rattle.hp_board.specs.declared.view.Mine.{Mine}
 use Rattle.hp_board.specs.declared.view.View.{View}
 use Rattle.hp_board.specs.BoardRule.{IsBoard}
-use Rattle.hp_board.specs.Moved.{slot_of}
-use Rattle.hp_board.specs.Served.{serves_of, AreOpeningHeaps}
-use Rattle.hp_board.specs.Views.{newcomer, parts_from, whole_view}
+use Rattle.hp_base.specs.declared.limits.TheConstants.{MAX_HEAPS, MAX_PARTICIPANTS}
+use Rattle.hp_hall.specs.declared.kept.Kept.{Kept}
+use Rattle.hp_hall.specs.Values.{history_of}
+use Rattle.hp_segs.specs.Sound as segments
+use Rattle.hp_segs.specs.SegsView.{SegsView, is_member}
+use Rattle.hp_segs.specs.declared.outcome.AskLog.{AskLog}
+use Rattle.hp_board.specs.declared.words.TheConstants.{WORDS}
+use Rattle.hp_board.specs.KeptValues.{IsKeptAt}
+use Rattle.hp_board.specs.Words.{ack_word}
+use Rattle.hp_board.specs.Moved.{slot_of, slots_of}
+use Rattle.std.proofs.lemmas.Bool.{cases_lt}
+use Rattle.hp_board.specs.Served.{serves_of, AreOpeningHeaps, AreOpeningSegs}
+use Rattle.hp_board.specs.Views.{newcomer}
+use Rattle.hp_board.specs.Parts.{parts_from, whole_view}
 use Rattle.hp_board.proofs.Histories.{entries_of-nil}
 use Rattle.hp_board.proofs.LockSteps.{held_no}
 
@@ -43,29 +54,58 @@ zeros zero slot = refl
 zeros (suc count) zero = refl
 zeros (suc count) (suc slot) = zeros count slot
 
+-- what the slots of a new board have
+kept_in : List HeapView → SegsView → ℕ → Kept
+kept_in [] segs slot = Segments segs
+kept_in (heap ∷ heaps) segs zero = Heap heap
+kept_in (heap ∷ heaps) segs (suc slot) = kept_in heaps segs slot
+
+kept_heap : (heaps : List HeapView) (segs : SegsView) (slot : ℕ) → slot < length heaps → kept_in heaps segs slot ≡ Heap (heap_at heaps slot)
+unfolding kept_in
+kept_heap [] segs slot inside = absurd (omega arith)
+kept_heap (heap ∷ heaps) segs zero inside = refl
+kept_heap (heap ∷ heaps) segs (suc slot) inside = kept_heap heaps segs slot (omega arith)
+
+kept_last : (heaps : List HeapView) (segs : SegsView) (slot : ℕ) → slot ≡ length heaps → kept_in heaps segs slot ≡ Segments segs
+unfolding kept_in
+kept_last [] segs slot is = refl
+kept_last (heap ∷ heaps) segs zero is = absurd (omega arith)
+kept_last (heap ∷ heaps) segs (suc slot) is = kept_last heaps segs slot (omega arith)
+
 -- the value of a slot is at home
-home_is : (heaps : List HeapView) (slot : ℕ) → slot < length heaps → get_elem? (map some (map slot_of heaps)) slot ≡ some (some (Some (Heap (heap_at heaps slot))))
-home_is [] slot inside = absurd (omega arith)
-home_is (heap ∷ heaps) zero inside = refl
-home_is (heap ∷ heaps) (suc slot) inside = home_is heaps slot (omega arith)
+home_is : (heaps : List HeapView) (segs : SegsView) (slot : ℕ) → slot < length heaps + 1 → get_elem? (map some (slots_of heaps segs)) slot ≡ some (some (Some (kept_in heaps segs slot)))
+unfolding kept_in
+home_is [] segs zero inside = refl
+home_is [] segs (suc slot) inside = absurd (omega arith)
+home_is (heap ∷ heaps) segs zero inside = refl
+home_is (heap ∷ heaps) segs (suc slot) inside = home_is heaps segs slot (omega arith)
+
+same_either : (b : Bool) → let none : ℕ = 0 in cond b none none ≡ none
+same_either true = refl
+same_either false = refl
 
 at_views : (view view' : View) (id : ℕ) → get_elem? (view ∷ []) id ≡ some view' → (id ≡ 0) × (view ≡ view')
 at_views view view' zero is = (refl, some-injective view view' is)
 at_views view view' (suc id) is = absurd (some-ne-none view' (sym is))
 
--- a board of heaps without an entry, each at its index, with every lock word 0, and one view for everybody
-pub starts : (words : List ℕ) (heaps : List HeapView) (o : Opening) → length words ≡ SLOTS → ((slot : ℕ) → get_or words slot 0 ≡ 0)
-    → AreOpeningHeaps heaps → All IsSound heaps → o.serves ≡ map serves_of heaps
-    → IsBoard o (opening words (map slot_of heaps) (whole_view o))
-starts words heaps o wide free are sound serves =
+-- a board of heaps without an entry, each at its index, and a segment value without a record, with every word 0, and one view for everybody
+pub starts : (words : List ℕ) (heaps : List HeapView) (segs : SegsView) (o : Opening) → length words ≡ WORDS → ((slot : ℕ) → get_or words slot 0 ≡ 0)
+    → AreOpeningHeaps heaps → All IsSound heaps → o.serves ≡ map serves_of heaps → o.participants ≤ MAX_PARTICIPANTS → AreOpeningSegs o.participants segs → segments.IsSound segs → o.segs.value ≡ segs
+    → IsBoard o (opening words (slots_of heaps segs) (whole_view o))
+starts words heaps segs o wide free are sound serves few are-segs sound-segs same =
     let count = are.count in
-    let got : (slot : ℕ) → slot < SLOTS → slice_get heaps slot ≡ Some (heap_at heaps slot) = λ slot within. slice_get-get_or heaps slot no_heap (omega arith) in
-    let empty : (slot : ℕ) → slot < SLOTS → (heap_at heaps slot).history ≡ [] = λ slot within. are.empty slot (heap_at heaps slot) (got slot within) in
+    let got : (slot : ℕ) → slot < MAX_HEAPS → slice_get heaps slot ≡ Some (heap_at heaps slot) = λ slot within. slice_get-get_or heaps slot no_heap (omega arith) in
+    let empty : (slot : ℕ) → slot < MAX_HEAPS → (heap_at heaps slot).history ≡ [] = λ slot within. are.empty slot (heap_at heaps slot) (got slot within) in
+    let none : (slot : ℕ) → slot < SLOTS → history_of (kept_in heaps segs slot) ≡ [] =
+    λ slot within.
+    ⊎_elim (λ below. ap history_of (kept_heap heaps segs slot (omega arith)) ∙ empty slot below) (λ above. ap history_of (kept_last heaps segs slot (omega arith))) (cases_lt slot MAX_HEAPS) in
+    let member : (who : ℕ) → is_member o.segs.value.roster who ≡ is_member segs.roster who = λ who. ap (λ (v : SegsView). is_member v.roster who) same in
     record {
-      kept = λ slot. Heap (heap_at heaps slot);
+      kept = kept_in heaps segs;
       mine = newcomer o;
       seat_of = λ who. 0;
       words = wide;
+      few = few;
       seated = record {
         part = λ seat view part at has.
             let one = at_views (whole_view o) view seat at in
@@ -74,21 +114,47 @@ starts words heaps o wide free are sound serves =
       };
       locked = record {
         low = λ slot within. let none-held = free slot in omega arith;
-        home = λ slot within _. home_is heaps slot (omega arith);
-        held = λ who slot may within. sym (held_no who (get_or words slot 0) (Heap (heap_at heaps slot)) (λ same. let none-held = free slot in omega arith));
+        home = λ slot within _. home_is heaps segs slot (omega arith);
+        held = λ who slot may within. sym (held_no who (get_or words slot 0) (kept_in heaps segs slot) (λ is. let none-held = free slot in omega arith));
       };
       heaps = record {
-        at = λ slot within. record {
-          sound = sound slot no_heap (omega arith);
-          index = are.index slot (heap_at heaps slot) (got slot within);
-          serves = ap (λ (l : List (Option ℕ)). slice_get l slot) serves ∙ slice_get-map serves_of heaps slot ∙ ap (Rattle.std.specs.Option.option_map serves_of) (got slot within);
-        };
-        own = λ who slot may within. ap (entries_of who) (empty slot within) ∙ entries_of-nil who;
-        strange = λ who slot may within. ap (entries_of who) (empty slot within) ∙ entries_of-nil who;
+        at = λ slot within.
+            ⊎_elim
+            (λ below. subst (IsKeptAt o slot) (sym (kept_heap heaps segs slot (omega arith))) (record {
+              below = below;
+              sound = sound slot no_heap (omega arith);
+              index = are.index slot (heap_at heaps slot) (got slot below);
+              serves = ap (λ (l : List (Option ℕ)). slice_get l slot) serves ∙ slice_get-map serves_of heaps slot ∙ ap (Rattle.std.specs.Option.option_map serves_of) (got slot below);
+            }))
+            (λ above. subst (IsKeptAt o slot) (sym (kept_last heaps segs slot (omega arith))) (record { last = omega arith; sound = sound-segs }))
+            (cases_lt slot MAX_HEAPS);
+        own = λ who slot may within. ap (entries_of who) (none slot within) ∙ entries_of-nil who;
+        strange = λ who slot may within. ap (entries_of who) (none slot within) ∙ entries_of-nil who;
         numbered = λ who may. tt;
       };
       prefixes = record {
         opened = λ who may. refl;
-        seen = λ who slot may within. ((heap_at heaps slot).history, refl);
+        seen = λ who slot may within. (history_of (kept_in heaps segs slot), refl);
+      };
+      segments = record {
+        segs = segs;
+        there = kept_last heaps segs MAX_HEAPS (omega arith);
+        told = λ who may. record {
+          its = refl;
+          own = free (ack_word who);
+          noted = λ other low. let zero-word = free (ack_word other) in let nothing = same_either (eqb other who) in omega (arith, zero-word, nothing);
+        };
+        lagging = λ who may. record {
+          log = (segs.log, refl);
+          heard = (segs.asks, refl);
+          behind = omega arith;
+          within = omega arith;
+          joined = sym (member who);
+          joining = λ is. absurd (cc);
+        };
+        agreed = λ who may. record {
+          granted = λ its entry generation among granted. absurd (let inside = (subst (λ (l : List AskLog). Contains l entry) are-segs.asks among).1 in omega arith);
+        };
+        roster = are-segs.roster;
       };
     }

@@ -3,16 +3,16 @@ use Rattle.std.proofs.Common.{◌≡◌, ◌≢◌, ℕ, ◌<◌, List, [], ◌�
 use mathlib.Core.Logic.{dite}
 use native.Mathlib.Decide.{ℕ_discrete}
 use Rattle.hp_heap.specs.declared.entry.Entry.{Entry}
-use Rattle.hp_board.specs.declared.kept.Kept.{Kept}
+use Rattle.hp_hall.specs.declared.kept.Kept.{Kept}
 use Rattle.hp_board.specs.declared.opening.Opening.{Opening}
-use Rattle.hp_board.specs.declared.slot.TheConstants.{SLOTS}
+use Rattle.hp_hall.specs.declared.slot.TheConstants.{SLOTS}
 use Rattle.hp_board.specs.declared.view.Mine.{Mine}
-use Rattle.hp_board.specs.KeptValues.{history_of, Gives}
+use Rattle.hp_hall.specs.Values.{history_of}
 use Rattle.hp_board.specs.Prefixes.{AreSeen}
 use Rattle.hp_board.specs.Views.{value_of, seen_of, BeginsWith, after_take, after_give, after_look}
 use Rattle.hp_board.proofs.Pairs.{value_of-here, value_of-else}
 use Rattle.hp_board.proofs.Updates.{with_at, with_at-else, each}
-use Rattle.hp_board.proofs.Histories.{added, begins, begins-on}
+use Rattle.hp_board.proofs.Histories.{GivesCalls, added, begins, begins-on}
 
 -- the history that was seen last is in front, and those of other slots stay
 seen_each : (P : ℕ → List Entry → Type 0) (slot : ℕ) (history : List Entry) (seen : List (ℕ × List Entry)) → P slot history
@@ -40,6 +40,14 @@ module _ (opening : Opening) (kept : ℕ → Kept) (mine : ℕ → Mine) (prefix
         (old k) (λ w apart. prefixes.seen w k) who;
   }
 
+  -- nothing of what was seen of histories changed
+  pub seen_same : (new : Mine) → new.opening ≡ part.opening → new.seen ≡ part.seen → AreSeen opening kept (with_at part.who new mine)
+  seen_same new same seen = record {
+    opened = opened new same;
+    seen = λ who k. each (λ w m. w < opening.participants → k < SLOTS → BeginsWith (history_of (kept k)) (seen_of k m)) part.who new mine
+        (λ may within. subst (λ l. BeginsWith (history_of (kept k)) (unwrap_or (value_of k l) [])) (sym seen) (old k may within)) (λ w apart. prefixes.seen w k) who;
+  }
+
   -- the value of a slot was taken
   pub seen_take : (slot : ℕ) → AreSeen opening kept (with_at part.who (after_take slot (kept slot) part) mine)
   seen_take slot = record {
@@ -51,7 +59,7 @@ module _ (opening : Opening) (kept : ℕ → Kept) (mine : ℕ → Mine) (prefix
   }
 
   -- a value was given
-  pub seen_give : (slot : ℕ) (taken given : Kept) → kept slot ≡ taken → Gives part.who (length part.made) taken given
+  pub seen_give : (slot : ℕ) (taken given : Kept) → kept slot ≡ taken → GivesCalls part.who (length part.made) taken given
       → AreSeen opening (with_at slot given kept) (with_at part.who (after_give slot given part) mine)
   seen_give slot taken given taken_is gives = record {
     opened = opened (after_give slot given part) refl;

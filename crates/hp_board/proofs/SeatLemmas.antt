@@ -7,13 +7,15 @@ use Rattle.std.proofs.lemmas.Map.Keys.{IsDistinct-cons}
 use Rattle.std.proofs.lemmas.Map.Steps.{length-le_from_distinct_below}
 use Rattle.std.proofs.lemmas.Map.Made.{IsDistinct-keys_filter}
 use Rattle.atomic_table.specs.Table.{rest}
-use Rattle.hp_board.specs.declared.kept.Kept.{Kept}
+use Rattle.hp_hall.specs.declared.kept.Kept.{Kept}
 use Rattle.hp_board.specs.declared.seat.Seat.TheInside.{Inside}
-use Rattle.hp_board.specs.declared.slot.TheConstants.{SLOTS}
+use Rattle.hp_base.specs.declared.limits.TheConstants.{MAX_PARTICIPANTS}
+use Rattle.hp_hall.specs.declared.slot.TheConstants.{SLOTS}
 use Rattle.hp_board.specs.declared.view.View.{View}
 use Rattle.hp_board.specs.SeatInside.{emptied, numbers_of, IsSeat}
 use Rattle.hp_board.specs.Turns.{turned_by}
-use Rattle.hp_board.specs.Views.{value_of, without, one_part, part_of, after_take, after_give, after_look}
+use Rattle.hp_board.specs.Views.{value_of, without, after_take, after_give, after_look}
+use Rattle.hp_board.specs.Parts.{one_part, part_of}
 use Rattle.hp_board.proofs.Pairs.{numbers-without, All-without}
 use Rattle.hp_board.proofs.Turning.{front_after_turns, order_after_turns}
 
@@ -56,12 +58,15 @@ below_any (x ∷ xs) limit q all has = elim (or_cases (eqb q x) (list_any (eqb q
 ]
 
 -- a new seat
-pub seat_new : (a : Inside) → a.token.me.0 ≡ one_part (part_of a.token.me.0) → a.who ≡ (part_of a.token.me.0).who → (part_of a.token.me.0).held ≡ [] → a.token.me.1 ≡ []
+pub seat_new : (a : Inside) → a.token.me.0 ≡ one_part (part_of a.token.me.0) → a.who ≡ (part_of a.token.me.0).who → a.who < (part_of a.token.me.0).opening.participants
+    → (part_of a.token.me.0).opening.participants ≤ MAX_PARTICIPANTS → (part_of a.token.me.0).held ≡ [] → a.token.me.1 ≡ []
     → a.order.items ≡ [] → SLOTS ≤ vec_capacity a.order → IsSeat a
 unfolding IsDistinct
-seat_new a one who free out order room = record {
+seat_new a one who declared few free out order room = record {
   one = one;
   who = who;
+  declared = subst (λ (n : ℕ). n < (part_of a.token.me.0).opening.participants) who declared;
+  few = few;
   out = out ∙ ap (map emptied) (sym order);
   held = ap numbers_of free ∙ sym order;
   distinct = subst (IsDistinct eqb) (sym order) tt;
@@ -91,6 +96,8 @@ module _ (a b : Inside) (seat : IsSeat a) (who : b.who ≡ a.who) where
       record {
         one = one_is b.token.me.0 (one_part (after_take slot kept (part_of a.token.me.0))) view;
         who = who ∙ seat.who ∙ ap (λ (v : View). (part_of v).who) (sym view);
+        declared = subst (λ (v : View). (part_of v).who < (part_of v).opening.participants) (sym view) seat.declared;
+        few = subst (λ (v : View). (part_of v).opening.participants ≤ MAX_PARTICIPANTS) (sym view) seat.few;
         out = ap (λ m. m.1) me ∙ ap (λ l. (slot, None) ∷ l) seat.out ∙ ap (map emptied) (sym order);
         held = ap (λ (v : View). numbers_of (part_of v).held) view ∙ ap (λ (l : List ℕ). slot ∷ l) seat.held ∙ sym order;
         distinct = subst (IsDistinct eqb) (sym order) (IsDistinct-cons eqb slot a.order.items apart seat.distinct);
@@ -106,6 +113,8 @@ module _ (a b : Inside) (seat : IsSeat a) (who : b.who ≡ a.who) where
       record {
         one = one_is b.token.me.0 (one_part (after_look slot word (part_of a.token.me.0))) view;
         who = who ∙ seat.who ∙ ap (λ (v : View). (part_of v).who) (sym view);
+        declared = subst (λ (v : View). (part_of v).who < (part_of v).opening.participants) (sym view) seat.declared;
+        few = subst (λ (v : View). (part_of v).opening.participants ≤ MAX_PARTICIPANTS) (sym view) seat.few;
         out = ap (λ m. m.1) me ∙ seat.out ∙ ap (map emptied) (sym items);
         held = ap (λ (v : View). numbers_of (part_of v).held) view ∙ seat.held ∙ sym items;
         distinct = subst (IsDistinct eqb) (sym items) seat.distinct;
@@ -128,6 +137,8 @@ module _ (a b : Inside) (seat : IsSeat a) (who : b.who ≡ a.who) where
       record {
         one = one_is b.token.me.0 (one_part (after_give slot given (part_of a.token.me.0))) view;
         who = who ∙ seat.who ∙ ap (λ (v : View). (part_of v).who) (sym view);
+        declared = subst (λ (v : View). (part_of v).who < (part_of v).opening.participants) (sym view) seat.declared;
+        few = subst (λ (v : View). (part_of v).opening.participants ≤ MAX_PARTICIPANTS) (sym view) seat.few;
         out =
             ap (λ m. m.1) me
             ∙ ap (λ l. turned_by times (rest (turned_by place l))) seat.out

@@ -9,7 +9,7 @@ use Rattle.atomic_table.proofs.Lists.{at_set, set_else}
 use Rattle.hp_board.specs.declared.view.Mine.{Mine}
 use Rattle.hp_board.specs.declared.view.View.{View}
 use Rattle.hp_board.specs.Seated.{IsSeatedAt, AreSeated}
-use Rattle.hp_board.specs.Views.{one_part, both_parts, spent_view}
+use Rattle.hp_board.specs.Parts.{one_part, both_parts, spent_view}
 use Rattle.hp_board.proofs.Updates.{with_at, with_at-here, with_at-else}
 
 -- an element that was put behind a list stands where the list ended

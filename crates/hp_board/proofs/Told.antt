@@ -1,10 +1,13 @@
 -- What the steps tell, put together with the moves of the values.
 use Rattle.std.proofs.Common.{◌≡◌, ℕ, List, ◌∷◌, get_or, Option, Some, None, unwrap_or, sym, ap, subst, ◌∙◌}
 use Rattle.atomic_table.specs.Table.{Step, rest}
-use Rattle.hp_board.specs.declared.kept.Kept.{Kept}
+use Rattle.hp_hall.specs.declared.kept.Kept.{Kept}
 use Rattle.hp_board.specs.declared.view.View.{View}
+use Rattle.hp_board.specs.Agreement.{AgreesFrom}
 use Rattle.hp_board.specs.Steps.{Sat, Takes, Gave}
-use Rattle.hp_board.specs.Views.{part_of, one_part, after_take, after_give, IsHanded}
+use Rattle.hp_board.specs.Parts.{part_of, one_part}
+use Rattle.hp_board.specs.Views.{after_take, after_give, value_of}
+use Rattle.hp_board.specs.Handed.{IsHanded}
 
 abbrev Pairs : Type 0
 Pairs = List (ℕ × Option Kept)
@@ -36,5 +39,13 @@ pub given_is : (step : Step (Option Kept)) (me : Sat) (found : ℕ) (end : Sat) 
     → me ≡ (view, (step.word, Some given) ∷ more) → end ≡ (one_part (after_give step.word given (part_of view)), more)
 given_is step me found end view given more gave is =
     let front : me.1 ≡ (step.word, Some given) ∷ more = ap (λ (m : Sat). m.1) is in
-    gave.given given (front ∙ ap (λ (l : Pairs). (step.word, Some given) ∷ rest l) (sym front))
+    (gave.home given (front ∙ ap (λ (l : Pairs). (step.word, Some given) ∷ rest l) (sym front))).given
     ∙ ap (λ (m : Sat). (one_part (after_give step.word given (part_of m.0)), rest m.1)) is
+
+-- and rows became agreed in it by numbers that the giver has loaded
+pub given_agrees : (step : Step (Option Kept)) (me : Sat) (found : ℕ) (end : Sat) (view : View) (given : Kept) (more : Pairs) → Gave step me found end
+    → me ≡ (view, (step.word, Some given) ∷ more) → AgreesFrom (part_of view) (value_of step.word (part_of view).held) given
+given_agrees step me found end view given more gave is =
+    let front : me.1 ≡ (step.word, Some given) ∷ more = ap (λ (m : Sat). m.1) is in
+    subst (λ (m : Sat). AgreesFrom (part_of m.0) (value_of step.word (part_of m.0).held) given) is
+    (gave.home given (front ∙ ap (λ (l : Pairs). (step.word, Some given) ∷ rest l) (sym front))).agreed

@@ -5,14 +5,18 @@ use Rattle.hp_heap.specs.declared.entry.HeapCall.TheVariants as call
 use Rattle.hp_heap.specs.declared.entry.HeapAnswer.TheVariants as answer
 use Rattle.hp_heap.specs.History.{HeapView}
 use Rattle.hp_heap.specs.PlainHeap.{opening_heap}
-use Rattle.hp_board.specs.declared.kept.Kept.{Kept}
-use Rattle.hp_board.specs.declared.kept.Kept.TheVariants.{Heap}
-use Rattle.hp_board.specs.declared.slot.Slot.TheVariants as slot
+use Rattle.hp_segs.specs.Opening as segments
+use Rattle.hp_hall.specs.declared.kept.Kept.{Kept}
+use Rattle.hp_hall.specs.declared.kept.Kept.TheVariants.{Heap}
+use Rattle.hp_hall.specs.declared.slot.Slot.TheVariants as slot
 use Rattle.hp_board.specs.declared.view.Mine.{Mine}
-use Rattle.hp_board.specs.KeptValues.{history_of, IsNumbered, entries_added}
+use Rattle.hp_hall.specs.Giving.{IsNumbered}
+use Rattle.hp_board.specs.KeptValues.{entries_added}
+use Rattle.hp_hall.specs.Values.{history_of}
 use Rattle.hp_board.specs.Locks.{held_by}
-use Rattle.hp_board.specs.Slots.{slot_number}
-use Rattle.hp_board.specs.Views.{value_of, values_of, without, newcomer, after_take, after_give, after_look, made_in, seen_of, parts_from}
+use Rattle.hp_hall.specs.Slots.{slot_number}
+use Rattle.hp_board.specs.Views.{value_of, values_of, without, newcomer, after_take, after_give, after_look, made_in, seen_of}
+use Rattle.hp_board.specs.Parts.{parts_from}
 
 abbrev entry : ℕ → Entry
 entry number = record { caller = record { participant = 2; number = number }; call = call.Stats; answer = answer.Done }
@@ -21,7 +25,7 @@ abbrev heap : ℕ → List Entry → Kept
 heap index history = Heap (record { plain = opening_heap index None; lists = []; history = history; spare = 0 })
 
 abbrev fresh : Mine
-fresh = newcomer (record { participants = 3; serves = [] }) 2
+fresh = newcomer (record { participants = 3; serves = []; segs = record { marker = record {}; value = segments.opening [] 3 0 } }) 2
 
 abbrev holding : Mine
 holding = after_take 7 (heap 7 []) (after_take 4 (heap 4 []) fresh)

@@ -1,9 +1,11 @@
 -- The rule of the board, which holds between any two steps of any threads. Its parts know nothing of one another.
-use Rattle.std.specs.Prelude.{◌≡◌, ℕ, Option, length}
+use Rattle.std.specs.Prelude.{◌≡◌, ℕ, ◌≤◌, Option, length}
+use Rattle.hp_base.specs.declared.limits.TheConstants.{MAX_PARTICIPANTS}
 use Rattle.atomic_table.specs.Table.{State}
-use Rattle.hp_board.specs.declared.kept.Kept.{Kept}
+use Rattle.hp_hall.specs.declared.kept.Kept.{Kept}
 use Rattle.hp_board.specs.declared.opening.Opening.{Opening}
-use Rattle.hp_board.specs.declared.slot.TheConstants.{SLOTS}
+use Rattle.hp_board.specs.declared.words.TheConstants.{WORDS}
+use Rattle.hp_board.specs.SegsKept.{AreSegs}
 use Rattle.hp_board.specs.declared.view.Mine.{Mine}
 use Rattle.hp_board.specs.declared.view.View.{View}
 use Rattle.hp_board.specs.Locks.{AreLocked}
@@ -17,11 +19,14 @@ pub record IsBoard (opening : Opening) (table : State (Option Kept) View) : Type
   pub kept : ℕ → Kept
   pub mine : ℕ → Mine
   pub seat_of : ℕ → ℕ
-  pub words : length table.words ≡ SLOTS
+  pub words : length table.words ≡ WORDS
+  pub few : opening.participants ≤ MAX_PARTICIPANTS
   pub seated : AreSeated opening.participants table.views seat_of mine
   pub locked : AreLocked opening.participants table.words table.homes kept mine
   -- the heaps
   pub heaps : AreKept opening kept mine
-  -- prefixes and words
+  -- what was seen of histories
   pub prefixes : AreSeen opening kept mine
-  -- lag, agreement and ownership stand here once the board has segments
+  -- words, lag and agreement
+  pub segments : AreSegs opening.participants table.words kept mine
+  -- ownership stands here once a heap's pages are tied to its segments

@@ -4,10 +4,12 @@ use Rattle.std.specs.List.{slice_get}
 use mathlib.Core.Option.{some}
 use lib.ListN.{get_elem?}
 use Rattle.atomic_table.specs.Seated.{TableId}
+use Rattle.hp_base.specs.declared.limits.TheConstants.{MAX_HEAPS}
 use Rattle.hp_heap.specs.History.{HeapView}
-use Rattle.hp_board.specs.declared.kept.Kept.{Kept}
-use Rattle.hp_board.specs.declared.kept.Kept.TheVariants.{Heap}
-use Rattle.hp_board.specs.declared.slot.TheConstants.{SLOTS}
+use Rattle.hp_segs.specs.SegsView.{SegsView}
+use Rattle.hp_hall.specs.declared.kept.Kept.{Kept}
+use Rattle.hp_hall.specs.declared.kept.Kept.TheVariants.{Heap, Segments}
+use Rattle.hp_hall.specs.declared.slot.TheConstants.{SLOTS}
 use Rattle.hp_board.specs.SeatView.{SeatView}
 
 -- a seat is at a table, and holds no slot
@@ -15,12 +17,14 @@ pub record IsSeatOf (id : TableId) (seat : SeatView) : Type 0 where
   pub board : seat.board ≡ id
   pub holds : seat.mine.held ≡ []
 
--- each slot of a closed table has its value
-abbrev pub HaveValues : List (Option Kept) → Type 0
-HaveValues items = (slot : ℕ) → slot < SLOTS → (kept : Kept) × (get_elem? items slot ≡ some (Some kept))
+-- each slot of a closed table has its value: a heap's slot a heap, and the last one the segment value
+pub record HaveValues (items : List (Option Kept)) : Type 0 where
+  pub heap : (slot : ℕ) → slot < MAX_HEAPS → (heap : HeapView) × (get_elem? items slot ≡ some (Some (Heap heap)))
+  pub segs : (segs : SegsView) × (get_elem? items MAX_HEAPS ≡ some (Some (Segments segs)))
 
--- the heaps are the values of the slots
-pub record AreFrom (items : List (Option Kept)) (heaps : List HeapView) : Type 0 where
-  pub count : length heaps ≡ SLOTS
+-- the heaps and the segment value are the values of the slots
+pub record AreFrom (items : List (Option Kept)) (heaps : List HeapView) (segs : SegsView) : Type 0 where
+  pub count : length heaps ≡ MAX_HEAPS
+  pub last : get_elem? items MAX_HEAPS ≡ some (Some (Segments segs))
   pub each : (slot : ℕ) (heap : HeapView) → slice_get heaps slot ≡ Some heap
       → get_elem? items slot ≡ some (Some (Heap heap))

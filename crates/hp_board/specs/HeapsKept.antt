@@ -1,11 +1,13 @@
 -- The heaps and whose calls their histories have: the part "Heaps" of the rule in docs/BOARD.md.
 use Rattle.std.specs.Prelude.{◌≡◌, ℕ, ◌<◌, ◌≤◌, []}
 use Rattle.hp_heap.specs.History.{entries_of}
-use Rattle.hp_board.specs.declared.kept.Kept.{Kept}
+use Rattle.hp_hall.specs.declared.kept.Kept.{Kept}
 use Rattle.hp_board.specs.declared.opening.Opening.{Opening}
-use Rattle.hp_board.specs.declared.slot.TheConstants.{SLOTS}
+use Rattle.hp_hall.specs.declared.slot.TheConstants.{SLOTS}
 use Rattle.hp_board.specs.declared.view.Mine.{Mine}
-use Rattle.hp_board.specs.KeptValues.{history_of, IsKeptAt, IsNumbered}
+use Rattle.hp_board.specs.KeptValues.{IsKeptAt}
+use Rattle.hp_hall.specs.Giving.{IsNumbered}
+use Rattle.hp_hall.specs.Values.{history_of}
 use Rattle.hp_board.specs.Views.{made_in, all_made}
 
 -- The value of each slot, at home or as its holder took it, is tiled, has exact lists, stands for its legal history, and

@@ -1,10 +1,10 @@
 -- What views have seen: the part "Prefixes" of the rule in docs/BOARD.md.
 use Rattle.std.specs.Prelude.{◌≡◌, ℕ, ◌<◌}
-use Rattle.hp_board.specs.declared.kept.Kept.{Kept}
+use Rattle.hp_hall.specs.declared.kept.Kept.{Kept}
 use Rattle.hp_board.specs.declared.opening.Opening.{Opening}
-use Rattle.hp_board.specs.declared.slot.TheConstants.{SLOTS}
+use Rattle.hp_hall.specs.declared.slot.TheConstants.{SLOTS}
 use Rattle.hp_board.specs.declared.view.Mine.{Mine}
-use Rattle.hp_board.specs.KeptValues.{history_of}
+use Rattle.hp_hall.specs.Values.{history_of}
 use Rattle.hp_board.specs.Views.{seen_of, BeginsWith}
 
 -- Each participant knows what the board opened with, and what it has seen of a history is a front of that history.

@@ -1,8 +1,11 @@
--- The sockets that heaps serve when a board opens: the rule "Opening and closing" of docs/BOARD.md.
-use Rattle.std.specs.Prelude.{◌≡◌, ℕ, List, [], Option, Some, length}
+-- What a board opens with: the rule "Opening and closing" of docs/BOARD.md.
+use Rattle.std.specs.Prelude.{◌≡◌, ℕ, List, [], Option, Some, None, length}
 use Rattle.std.specs.List.{slice_get}
+use Rattle.hp_base.specs.declared.limits.TheConstants.{MAX_HEAPS}
 use Rattle.hp_heap.specs.History.{HeapView}
-use Rattle.hp_board.specs.declared.slot.TheConstants.{SLOTS}
+use Rattle.hp_segs.specs.LaterSteps.{armed_ask}
+use Rattle.hp_segs.specs.SegsView.{SegsView}
+use Rattle.hp_board.specs.Agreement.{IsDeclaredRoster}
 
 -- the socket whose pages a heap takes, or none
 abbrev pub serves_of : HeapView → Option ℕ
@@ -10,6 +13,15 @@ serves_of heap = heap.plain.serves
 
 -- the heaps of a board before its first step: one for each slot, each with its place for index, and without an entry
 pub record AreOpeningHeaps (heaps : List HeapView) : Type 0 where
-  pub count : length heaps ≡ SLOTS
+  pub count : length heaps ≡ MAX_HEAPS
   pub index : (slot : ℕ) (heap : HeapView) → slice_get heaps slot ≡ Some heap → heap.plain.index ≡ slot
   pub empty : (slot : ℕ) (heap : HeapView) → slice_get heaps slot ≡ Some heap → heap.history ≡ []
+
+-- the segment value of a board before its first step: it has no record, no outcome and no list for external memory, nobody is armed, and
+-- its roster names participants of the board alone
+pub record AreOpeningSegs (participants : ℕ) (segs : SegsView) : Type 0 where
+  pub log : segs.log ≡ []
+  pub asks : segs.asks ≡ []
+  pub ranges : segs.ranges ≡ []
+  pub armed : (who : ℕ) → armed_ask segs who ≡ None
+  pub roster : IsDeclaredRoster participants segs

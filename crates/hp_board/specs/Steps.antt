@@ -1,9 +1,14 @@
 -- What each step of the board tells the seat that makes it: the rule "Steps" of docs/BOARD.md.
-use Rattle.std.specs.Prelude.{◌≡◌, ◌≢◌, ℕ, ◌∷◌, Option, Some}
+use Rattle.std.specs.Prelude.{◌≡◌, ◌≢◌, ℕ, ◌≤◌, ◌∷◌, Option, Some}
 use Rattle.atomic_table.specs.Table.{Me, Step, rest}
-use Rattle.hp_board.specs.declared.kept.Kept.{Kept}
+use Rattle.hp_log.specs.Log.{IsWellFormed}
+use Rattle.hp_hall.specs.declared.kept.Kept.{Kept}
+use Rattle.hp_board.specs.Agreement.{AgreesFrom}
+use Rattle.hp_board.specs.Handed.{IsHanded, IsHeldWord}
+use Rattle.hp_board.specs.Parts.{one_part, part_of}
+use Rattle.hp_board.specs.Views.{after_acking, after_give, after_load, after_look, after_take, after_unmapping, noted_of, value_of}
+use Rattle.hp_board.specs.Words.{ack_word}
 use Rattle.hp_board.specs.declared.view.View.{View}
-use Rattle.hp_board.specs.Views.{part_of, one_part, after_take, after_give, after_look, IsHanded, IsHeldWord}
 
 -- a view, and the slots that are out with its seat
 abbrev pub Sat : Type 0
@@ -25,7 +30,30 @@ pub record Tries (step : Step (Option Kept)) (before : Sat) (found : ℕ) (after
   pub free : found ≡ 0 → Takes before step.word after
   pub held : found ≢ 0 → Looks before step.word found after
 
+-- a value went home to a slot; rows became agreed in it only by numbers that the giver has loaded
+pub record WentHome (before : Sat) (slot : ℕ) (kept : Kept) (after : Sat) : Type 0 where
+  pub given : after ≡ (one_part (after_give slot kept (part_of before.0)), rest before.1)
+  pub agreed : AgreesFrom (part_of before.0) (value_of slot (part_of before.0).held) kept
+
 -- the value that the seat had for the slot went home
 pub record Gave (step : Step (Option Kept)) (before : Sat) (found : ℕ) (after : Sat) : Type 0 where
-  pub given : (kept : Kept) → before.1 ≡ (step.word, Some kept) ∷ rest before.1
-      → after ≡ (one_part (after_give step.word kept (part_of before.0)), rest before.1)
+  pub home : (kept : Kept) → before.1 ≡ (step.word, Some kept) ∷ rest before.1 → WentHome before step.word kept after
+
+-- the stored number of records is acknowledged; what was seen of the log is well formed
+pub record Acks (step : Step (Option Kept)) (before : Sat) (found : ℕ) (after : Sat) : Type 0 where
+  pub acked : after ≡ (one_part (after_acking step.first (part_of before.0)), before.1)
+  pub formed : IsWellFormed (part_of before.0).log
+
+-- the participant has unmapped what the records that it has seen drop
+pub record Unmaps (step : Step (Option Kept)) (before : Sat) (found : ℕ) (after : Sat) : Type 0 where
+  pub unmapped : after ≡ (one_part (after_unmapping (part_of before.0)), before.1)
+
+-- the number of a participant is noted; it is not below what was known, and one's own is as it was known
+pub record HasLoaded (before : Sat) (from found : ℕ) (after : Sat) : Type 0 where
+  pub loaded : after ≡ (one_part (after_load from found (part_of before.0)), before.1)
+  pub rises : noted_of from (part_of before.0) ≤ found
+  pub own : from ≡ (part_of before.0).who → found ≡ (part_of before.0).number
+
+-- a load of a participant's word
+pub record Loads (step : Step (Option Kept)) (before : Sat) (found : ℕ) (after : Sat) : Type 0 where
+  pub told : (from : ℕ) → step.word ≡ ack_word from → HasLoaded before from found after

@@ -1,13 +1,20 @@
 -- What a participant knows of a board, and how its own steps change that: the rule "Views" of docs/BOARD.md.
-use Rattle.std.specs.Prelude.{◌≡◌, ℕ, ◌+◌, ◌≤◌, ◌≢◌, ◌==◌, not, List, [], ◌∷◌, ◌++◌, map, length, Option, Some, None, unwrap_or, if◌then◌else◌}
-use Rattle.std.specs.List.{filter, range_with_len, slice_get}
+use Rattle.std.specs.Prelude.{◌≡◌, ℕ, ◌==◌, not, ◌||◌, Bool, false, List, [], ◌∷◌, ◌++◌, map, length, Option, Some, None, unwrap_or, if◌then◌else◌}
+use Rattle.std.specs.List.{filter}
+use Rattle.std.specs.Option.{is_some}
+use Rattle.hp_base.specs.declared.limits.TheConstants.{MAX_HEAPS}
+use Rattle.hp_base.specs.declared.row.Row.{Row}
 use Rattle.hp_heap.specs.declared.entry.Entry.{Entry}
-use Rattle.hp_heap.specs.History.{entries_of}
-use Rattle.hp_board.specs.declared.kept.Kept.{Kept}
+use Rattle.hp_log.specs.declared.log_record.LogRecord.{LogRecord}
+use Rattle.hp_segs.specs.SegsView.{is_member}
+use Rattle.hp_segs.specs.declared.outcome.AskLog.{AskLog}
+use Rattle.hp_hall.specs.Own.{Own, rows_known}
+use Rattle.hp_hall.specs.Values.{history_of, joined_behind}
+use Rattle.hp_hall.specs.declared.kept.Kept.{Kept}
+use Rattle.hp_hall.specs.declared.kept.Kept.TheVariants.{Heap, Segments}
+use Rattle.hp_board.specs.KeptValues.{entries_added}
 use Rattle.hp_board.specs.declared.opening.Opening.{Opening}
 use Rattle.hp_board.specs.declared.view.Mine.{Mine}
-use Rattle.hp_board.specs.declared.view.View.{View}
-use Rattle.hp_board.specs.KeptValues.{history_of, IsKeptAt, Gives, entries_added}
 
 -- what a list of numbered values has for a number: the first that it has
 abbrev pub value_of : {A : Type 0} → ℕ → List (ℕ × A) → Option A
@@ -27,6 +34,10 @@ without number pairs = filter (λ pair. not (pair.0 == number)) pairs
 abbrev pub under : {A : Type 0} → ℕ → List A → List (ℕ × A)
 under number values = map (λ value. (number, value)) values
 
+-- a list begins with another
+abbrev pub BeginsWith : {A : Type 0} → List A → List A → Type 0
+BeginsWith {A} whole front = (rest : List A) × (whole ≡ front ++ rest)
+
 -- what a participant has seen of the history of a slot
 abbrev pub seen_of : ℕ → Mine → List Entry
 seen_of slot mine = unwrap_or (value_of slot mine.seen) []
@@ -39,96 +50,97 @@ made_in slot mine = values_of slot mine.made
 abbrev pub all_made : Mine → List Entry
 all_made mine = map (λ pair. pair.1) mine.made
 
--- a history begins with another
-abbrev pub BeginsWith : List Entry → List Entry → Type 0
-BeginsWith history front = (rest : List Entry) × (history ≡ front ++ rest)
+-- it holds the slot of the segment value
+abbrev pub holds_segments : Mine → Bool
+holds_segments mine = is_some (value_of MAX_HEAPS mine.held)
+
+-- how many records a participant has acknowledged, as it knows: itself, and of another what it loaded last
+abbrev pub noted_of : ℕ → Mine → ℕ
+noted_of other mine = if other == mine.who then mine.number else unwrap_or (value_of other mine.noted) 0
+
+-- how far it has taken in the log, and unmapped what that drops
+abbrev pub own_of : Mine → Own
+own_of mine = record { number = mine.number; unmapped = mine.unmapped }
+
+-- it has a table: it is in the roster, or joins
+abbrev pub has_table : Mine → Bool
+has_table mine = mine.joined || mine.joining
+
+-- its table, without the rows of chunks; who has none has no row
+abbrev pub table_of : Mine → List Row
+table_of mine = if has_table mine then rows_known mine.log (own_of mine) else []
+
+-- what has been seen of the log and of the outcomes once a value was seen
+abbrev pub log_seen : Kept → List LogRecord → List LogRecord
+log_seen (Heap heap) log = log
+log_seen (Segments segs) log = segs.log
+
+abbrev pub asks_heard : Kept → List AskLog → List AskLog
+asks_heard (Heap heap) heard = heard
+asks_heard (Segments segs) heard = segs.asks
+
+-- whether a participant joins still once it has given a value: with the segment value its joining ends, and the roster says whether it
+-- has joined
+abbrev pub joining_behind : Kept → Bool → Bool
+joining_behind (Heap heap) joining = joining
+joining_behind (Segments segs) joining = false
 
 -- a participant before its first step
 abbrev pub newcomer : Opening → ℕ → Mine
-newcomer opening who = record { who = who; opening = opening; held = []; made = []; seen = []; found = [] }
+newcomer opening who = record {
+  who = who;
+  opening = opening;
+  held = [];
+  made = [];
+  seen = [];
+  found = [];
+  log = [];
+  heard = [];
+  number = 0;
+  unmapped = 0;
+  joined = is_member opening.segs.value.roster who;
+  joining = false;
+  noted = [];
+}
 
 -- it has taken the value of a slot
 abbrev pub after_take : ℕ → Kept → Mine → Mine
-after_take slot kept mine =
-    record mine { held = (slot, kept) ∷ mine.held; seen = (slot, history_of kept) ∷ mine.seen }
+after_take slot kept mine = record mine {
+  held = (slot, kept) ∷ mine.held;
+  seen = (slot, history_of kept) ∷ mine.seen;
+  log = log_seen kept mine.log;
+  heard = asks_heard kept mine.heard;
+}
 
--- it has given a value for a slot, in place of the taken one
+-- it has given a value for a slot, in place of the taken one: where that is the segment value it is in the roster as this says, and
+-- where it is not it has no table any more
 abbrev pub after_give : ℕ → Kept → Mine → Mine
 after_give slot given mine = record mine {
   held = without slot mine.held;
   made = mine.made ++ under slot (entries_added (value_of slot mine.held) given);
   seen = (slot, history_of given) ∷ mine.seen;
+  log = log_seen given mine.log;
+  heard = asks_heard given mine.heard;
+  joined = joined_behind mine.who given mine.joined;
+  joining = joining_behind given mine.joining;
 }
 
 -- it has found a slot's lock word held
 abbrev pub after_look : ℕ → ℕ → Mine → Mine
 after_look slot word mine = record mine { found = mine.found ++ (slot, word) ∷ [] }
 
+-- it has acknowledged so many records: its table is that of these; where it is out it joins
+abbrev pub after_acking : ℕ → Mine → Mine
+after_acking number mine = record mine { number = number; unmapped = number; joining = not mine.joined }
+
+-- its table has lost what the records behind its number drop, as far as it has seen them
+abbrev pub after_unmapping : Mine → Mine
+after_unmapping mine = record mine { unmapped = length mine.log }
+
+-- it has loaded a participant's number
+abbrev pub after_load : ℕ → ℕ → Mine → Mine
+after_load other number mine = record mine { noted = (other, number) ∷ mine.noted }
+
 -- it has found lock words held, and nothing else has changed
 abbrev pub FindsMore : Mine → Mine → Type 0
 FindsMore mine after = (words : List (ℕ × ℕ)) × (after ≡ record mine { found = mine.found ++ words })
-
--- what a participant learns of a value that it takes: it is the slot's, has of this participant the entries that it made
--- there and no others, and begins with what it had seen; and it did not hold the slot
-pub record IsHanded (mine : Mine) (slot : ℕ) (kept : Kept) : Type 0 where
-  pub at : IsKeptAt mine.opening slot kept
-  pub own : entries_of mine.who (history_of kept) ≡ made_in slot mine
-  pub seen : BeginsWith (history_of kept) (seen_of slot mine)
-  pub free : value_of slot mine.held ≡ None
-
--- a lock word that is held: it is a participant's number plus 1, this participant's own exactly where it holds the slot
-pub record IsHeldWord (mine : Mine) (slot word : ℕ) : Type 0 where
-  pub held : word ≢ 0
-  pub holder : word ≤ mine.opening.participants
-  pub own : word ≡ mine.who + 1 → value_of slot mine.held ≢ None
-  pub other : word ≢ mine.who + 1 → value_of slot mine.held ≡ None
-
--- a participant may give a value for a slot: it holds the slot, and the value may stand in place of the one that it took
-pub record MayGive (mine : Mine) (slot : ℕ) (given : Kept) : Type 0 where
-  pub taken : Kept
-  pub holds : value_of slot mine.held ≡ Some taken
-  pub gives : Gives mine.who (length mine.made) taken given
-
--- what stands for a part where there is none
-abbrev pub nobody : Mine
-nobody = newcomer (record { participants = 0; serves = [] }) 0
-
--- a view of one participant's part
-abbrev pub one_part : Mine → View
-one_part mine = record { parts = mine ∷ [] }
-
--- the parts of so many participants, from a number on
-abbrev pub parts_from : Opening → ℕ → ℕ → List Mine
-parts_from opening who count = map (newcomer opening) (range_with_len who count)
-
--- the view of a new board: a part for each participant
-abbrev pub whole_view : Opening → View
-whole_view opening = record { parts = parts_from opening 0 opening.participants }
-
--- a spent view
-abbrev pub spent_view : View
-spent_view = record { parts = [] }
-
--- the first of some parts, and all but the first
-abbrev pub first_of : List Mine → List Mine
-first_of [] = []
-first_of (part ∷ parts) = part ∷ []
-
-abbrev pub others_of : List Mine → List Mine
-others_of [] = []
-others_of (part ∷ parts) = parts
-
--- a view of the first part alone, and one of all other parts
-abbrev pub first_part : View → View
-first_part view = record { parts = first_of view.parts }
-
-abbrev pub other_parts : View → View
-other_parts view = record { parts = others_of view.parts }
-
--- the parts of two views
-abbrev pub both_parts : View → View → View
-both_parts view other = record { parts = view.parts ++ other.parts }
-
--- the part of a view that has one
-abbrev pub part_of : View → Mine
-part_of view = unwrap_or (slice_get view.parts 0) nobody

@@ -1,5 +1,5 @@
 ghost use Rattle.std.specs.Prelude.{◌≡◌, ◌<◌, ◌≤◌, IfOk, map};
-ghost use Rattle.hp_board.specs.Served.{AreOpeningHeaps, serves_of};
+ghost use Rattle.hp_board.specs.Served.{AreOpeningHeaps, AreOpeningSegs, serves_of};
 ghost use Rattle.hp_board.specs.SeatView.{new_seats};
 
 use crate::dealing::deal;
@@ -7,15 +7,17 @@ use crate::moving::into_slots;
 use crate::opening::Opening;
 use crate::plays::Slots;
 use crate::seat::Seat;
-use crate::slot::SLOTS;
+use crate::words::WORDS;
 use atomic_table::{Refused, Table};
 use hp_base::MAX_PARTICIPANTS;
 use hp_heap::Heap;
+use hp_segs::Segs;
 use std::alloc::{AllocError, Global};
 use std::marker::Model;
 
-/// What the participants of a run share: heaps in slots, each under a lock word. A lock word is 0 where the slot is unlocked,
-/// and else the holder's number plus 1. Own; rte_malloc has a spin lock in each heap.
+/// What the participants of a run share: heaps and the segment value in slots, each under a lock word, and an acknowledgement word
+/// for each participant. A lock word is 0 where the slot is unlocked, and else the holder's number plus 1. Own; rte_malloc has a spin
+/// lock in each heap, and the memory map has a lock of its own.
 #[derive(Drop)]
 pub struct Board {
     pub(crate) table: Slots,
@@ -36,24 +38,28 @@ impl Model for Board {
 }
 
 impl Board {
-    /// A board of these heaps, the one at each place in the slot of that number, and a seat for each participant, by its
-    /// number. Own.
+    /// A board of these heaps, the one at each place in the slot of that number, and of a segment value without a record, and a seat
+    /// for each participant, by its number. Own.
     pub fn new(
         alloc: Global,
         heaps: Vec<Heap>,
+        segs: Segs,
         participants: u8,
     ) -> Result<(Board, Vec<Seat>), AllocError>
         requires heaps { AreOpeningHeaps heaps.items }
+        requires segs { AreOpeningSegs participants segs }
         requires some { 0 < participants }
         requires few { participants ≤ MAX_PARTICIPANTS }
         ensures participants { IfOk result (λ made. made.0.opening.participants ≡ participants) }
         ensures serves { IfOk result (λ made. made.0.opening.serves ≡ map serves_of heaps.items) }
+        ensures segs { IfOk result (λ made. made.0.opening.segs.value ≡ segs) }
         ensures seats { IfOk result (λ made. made.1.items ≡ new_seats made.0) }
     {
-        let opening = Opening::of(&heaps, participants);
+        let _records = segs.records();
+        let opening = Opening::of(&heaps, &segs, participants);
         let mut heaps = heaps;
-        let slots = into_slots(alloc, &mut heaps)?;
-        let (table, token) = match Table::new(alloc, &[0; SLOTS], slots, &opening) {
+        let slots = into_slots(alloc, &mut heaps, segs)?;
+        let (table, token) = match Table::new(alloc, &[0; WORDS], slots, &opening) {
             Ok(made) => made,
             Err(Refused { slots: _ }) => return Err(AllocError),
         };

@@ -4,18 +4,21 @@ ghost use Rattle.std.specs.Slots.{slots_items, slots_filled, slots_len, IsFull};
 ghost use mathlib.Core.Option.{some};
 ghost use lib.ListN.{get_elem?};
 ghost use Rattle.hp_heap.specs.History.{HeapView};
-ghost use Rattle.hp_board.specs.declared.slot.TheConstants.{SLOTS};
-ghost use Rattle.hp_board.specs.Closing.{IsFreeSeat, IsAmong, AreHeaps, KeepCallsOf};
+ghost use Rattle.hp_base.specs.declared.limits.TheConstants.{MAX_HEAPS};
+ghost use Rattle.hp_hall.specs.declared.slot.TheConstants.{SLOTS};
+ghost use Rattle.hp_board.specs.declared.words.TheConstants.{WORDS};
+ghost use Rattle.hp_board.specs.Closing.{IsFreeSeat, IsAmong, IsNotedUpTo, AreHeaps, AreLeftSegs, KeepCallsOf, KeepsTableOf};
 ghost use Rattle.hp_board.specs.SeatView.{SeatView};
 ghost use Rattle.hp_board.specs.Gathered.{IsSeatOf, HaveValues, AreFrom};
 
 use crate::board::Board;
-use crate::kept::Kept;
 use crate::plays::{Gather, SharedSlots, Token};
 use crate::seat::Seat;
-use crate::slot::SLOTS;
 use atomic_table::Closed as ClosedSlots;
+use hp_base::MAX_HEAPS;
+use hp_hall::{Kept, SLOTS};
 use hp_heap::Heap;
+use hp_segs::Segs;
 use std::alloc::Global;
 
 /// What a closed board hands out. Own.
@@ -23,10 +26,12 @@ use std::alloc::Global;
 pub struct Closed {
     /// The heaps, each at the number of its slot.
     pub heaps: Vec<Heap>,
+    /// The segment value.
+    pub segs: Segs,
 }
 
 impl Board {
-    /// Ends the board, and hands out its heaps in the vector in which they came, so it takes no memory. Own.
+    /// Ends the board, and hands out its heaps, in the vector in which they came, and its segment value. It takes no memory. Own.
     pub fn close(self, seats: Vec<Seat>) -> Closed
         requires free { All (IsFreeSeat self) seats.items }
         requires everyone { (who : ℕ) → who < self.opening.participants → IsAmong seats.items who }
@@ -36,12 +41,19 @@ impl Board {
 
         // Of each participant the heaps have the calls that it made, once and in order.
         ensures calls { (seat : SeatView) → Contains seats.items seat → KeepCallsOf result.heaps.items seat.mine }
+
+        // The segment value is sound. Its log begins with what each participant has seen of it, and no table of a participant in its
+        // roster lacks a row that is in use.
+        ensures segs { AreLeftSegs self.opening result.segs }
+        ensures tables { (seat : SeatView) → Contains seats.items seat → KeepsTableOf result.segs seat.mine }
+        ensures noted { (seat other : SeatView) → Contains seats.items seat → Contains seats.items other
+            → IsNotedUpTo seat.mine other.mine }
     {
         let Board { table, heaps } = self;
         let token = gather(&table.shared, seats);
         let mut heaps = heaps;
-        fill(&mut heaps, table.close_with(token));
-        Closed { heaps }
+        let segs = fill(&mut heaps, table.close_with(token));
+        Closed { heaps, segs }
     }
 }
 
@@ -49,7 +61,7 @@ impl Board {
 fn gather(shared: &SharedSlots, seats: Vec<Seat>) -> Token
     requires some { 0 < vec_len seats }
     requires seats { All (IsSeatOf shared.now.table_id) seats.items }
-    requires words { shared.now.table_id.words ≡ SLOTS }
+    requires words { shared.now.table_id.words ≡ WORDS }
     ensures table { result.table_id ≡ shared.now.table_id }
     ensures parts { (seat : SeatView) → Contains seats.items seat → Contains result.me.0.parts seat.mine }
 {
@@ -65,17 +77,19 @@ fn gather(shared: &SharedSlots, seats: Vec<Seat>) -> Token
 }
 
 // Moves the values of a closed table into the vector, in their order.
-fn fill(heaps: &mut Vec<Heap>, closed: ClosedSlots<Option<Kept>, Global>)
+fn fill(heaps: &mut Vec<Heap>, closed: ClosedSlots<Option<Kept>, Global>) -> Segs
     requires empty { heaps.old.items ≡ [] }
-    requires room { SLOTS ≤ vec_capacity heaps.old }
+    requires room { MAX_HEAPS ≤ vec_capacity heaps.old }
     requires count { slots_len closed.slots ≡ SLOTS }
     requires full { IsFull closed.slots }
     requires values { HaveValues (slots_items closed.slots) }
-    ensures { AreFrom (slots_items closed.slots) heaps.new.items }
+    ensures { AreFrom (slots_items closed.slots) heaps.new.items result }
 {
     let mut closed = closed;
-    for number in 0..SLOTS {
+    for number in 0..MAX_HEAPS {
         heaps.push_reserved(closed.take(number).unwrap().into_heap());
     }
+    let segs = closed.take(MAX_HEAPS).unwrap().into_segments();
     closed.free();
+    segs
 }

@@ -1,29 +1,34 @@
 ghost use Rattle.std.specs.Prelude.{◌≡◌, All, length, map};
 ghost use Rattle.hp_heap.specs.History.{IsSound};
-ghost use Rattle.hp_board.specs.declared.slot.TheConstants.{SLOTS};
+ghost use Rattle.hp_base.specs.declared.limits.TheConstants.{MAX_HEAPS};
 ghost use Rattle.hp_board.specs.Served.{serves_of};
 
-use crate::slot::SLOTS;
+use hp_base::MAX_HEAPS;
 use hp_heap::Heap;
+use hp_segs::Segs;
+use std::snapshot::Snapshot;
 
 /// What a board opened with: how many participants it has, and by index the socket whose pages each heap takes, or
 /// none where it takes external memory. Own.
 #[derive(Drop)]
 pub struct Opening {
     pub participants: u8,
-    pub serves: [Option<u32>; SLOTS],
+    pub serves: [Option<u32>; MAX_HEAPS],
+    /// The segment value, for contracts alone.
+    pub segs: Snapshot<Segs>,
 }
 
 impl Opening {
     // What a board of these heaps opens with. Each of them is sound.
-    pub(crate) fn of(heaps: &[Heap], participants: u8) -> Opening
-        requires { length heaps.now ≡ SLOTS }
+    pub(crate) fn of(heaps: &[Heap], segs: &Segs, participants: u8) -> Opening
+        requires { length heaps.now ≡ MAX_HEAPS }
         ensures participants { result.participants ≡ participants }
         ensures serves { result.serves ≡ map serves_of heaps.now }
         ensures sound { All IsSound heaps.now }
+        ensures segs { result.segs.value ≡ segs.now }
     {
-        let mut serves = [None; SLOTS];
-        for index in 0..SLOTS {
+        let mut serves = [None; MAX_HEAPS];
+        for index in 0..MAX_HEAPS {
             let heap = &heaps[index];
             heap.sound();
             serves[index] = heap.serves();
@@ -31,6 +36,7 @@ impl Opening {
         Opening {
             participants,
             serves,
+            segs: Snapshot::of(segs),
         }
     }
 }

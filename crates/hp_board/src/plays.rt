@@ -1,8 +1,8 @@
 // The rule of the table, and the names of its steps. These types are for contracts alone.
-use crate::kept::Kept;
 use crate::opening::Opening;
 use crate::view::View;
 use atomic_table::{Join, Play, Seat, Shared, Split, Table, TableRule};
+use hp_hall::Kept;
 use std::alloc::Global;
 
 // A slot is at home with its value, or out with the seat that holds it. The value is moved out at once, and moved back right
@@ -17,7 +17,7 @@ pub(crate) struct Rule;
 
 impl TableRule<Option<Kept>, View, Opening> for Rule {
     ghost use Rattle.hp_board.specs.BoardRule.{IsBoard};
-    ghost use Rattle.hp_board.specs.Views.{whole_view};
+    ghost use Rattle.hp_board.specs.Parts.{whole_view};
 
     ghost holds = { IsBoard };
 
@@ -42,11 +42,38 @@ impl Play<Option<Kept>, View> for Give {
     ghost then = { Gave };
 }
 
+// An acknowledgement word becomes the number of records that are acknowledged.
+pub(crate) struct Ack;
+
+impl Play<Option<Kept>, View> for Ack {
+    ghost use Rattle.hp_board.specs.Steps.{Acks};
+
+    ghost then = { Acks };
+}
+
+// One's own acknowledgement word is loaded, when rows were unmapped.
+pub(crate) struct Unmap;
+
+impl Play<Option<Kept>, View> for Unmap {
+    ghost use Rattle.hp_board.specs.Steps.{Unmaps};
+
+    ghost then = { Unmaps };
+}
+
+// A participant's acknowledgement word is loaded.
+pub(crate) struct Load;
+
+impl Play<Option<Kept>, View> for Load {
+    ghost use Rattle.hp_board.specs.Steps.{Loads};
+
+    ghost then = { Loads };
+}
+
 // The first part of a view goes to a seat of its own.
 pub(crate) struct Deal;
 
 impl Split<View> for Deal {
-    ghost use Rattle.hp_board.specs.Views.{first_part, other_parts};
+    ghost use Rattle.hp_board.specs.Parts.{first_part, other_parts};
 
     ghost left = { other_parts };
 
@@ -57,7 +84,7 @@ impl Split<View> for Deal {
 pub(crate) struct Gather;
 
 impl Join<View> for Gather {
-    ghost use Rattle.hp_board.specs.Views.{both_parts, spent_view};
+    ghost use Rattle.hp_board.specs.Parts.{both_parts, spent_view};
 
     ghost both = { both_parts };
 

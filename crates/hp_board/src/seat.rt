@@ -1,12 +1,13 @@
-ghost use Rattle.std.specs.Prelude.{◌≡◌, ◌==◌, [], IfOk};
+ghost use Rattle.std.specs.Prelude.{◌≡◌, ◌<◌, ◌≤◌, ◌==◌, [], IfOk};
 ghost use Rattle.std.specs.List.{list_any};
 ghost use Rattle.std.specs.Option.{is_some};
-ghost use Rattle.hp_board.specs.Slots.{slot_number};
-ghost use Rattle.hp_board.specs.Views.{value_of, one_part, part_of};
+ghost use Rattle.hp_base.specs.declared.limits.TheConstants.{MAX_PARTICIPANTS};
+ghost use Rattle.hp_hall.specs.Slots.{IsSlot, slot_number};
+ghost use Rattle.hp_board.specs.Views.{value_of};
+ghost use Rattle.hp_board.specs.Parts.{one_part, part_of};
 
-use crate::kept::Kept;
 use crate::plays::Token;
-use crate::slot::{SLOTS, Slot};
+use hp_hall::{Kept, SLOTS, Slot};
 use std::alloc::{AllocError, Global};
 use std::marker::Model;
 
@@ -37,6 +38,8 @@ impl Seat {
     pub(crate) fn of(alloc: Global, who: u8, token: Token) -> Result<Seat, AllocError>
         requires one { token.me.0 ≡ one_part (part_of token.me.0) }
         requires who { (part_of token.me.0).who ≡ who }
+        requires declared { who < (part_of token.me.0).opening.participants }
+        requires few { (part_of token.me.0).opening.participants ≤ MAX_PARTICIPANTS }
         requires free { (part_of token.me.0).held ≡ [] }
         requires out { token.me.1 ≡ [] }
         ensures { IfOk result (λ seat. (seat.board ≡ token.table_id) × (seat.mine ≡ part_of token.me.0)) }
@@ -68,6 +71,7 @@ impl Seat {
 
     /// Whether it holds a slot.
     pub fn holds(&self, slot: Slot) -> bool
+        requires slot { IsSlot slot }
         ensures { result ≡ is_some (value_of (slot_number slot) self.now.mine.held) }
     {
         has_number(&self.order, slot.number())

@@ -1,16 +1,20 @@
 ghost use Rattle.std.specs.Prelude.{◌≡◌, ◌<◌, ◌≤◌, ◌∷◌, Option, Some, None, IfOk, IfErr, Contains, length, slice_index, vec_len, vec_capacity};
 ghost use Rattle.atomic_table.specs.Table.{rest};
-ghost use Rattle.hp_board.specs.declared.kept.Kept.{Kept};
-ghost use Rattle.hp_board.specs.declared.slot.TheConstants.{SLOTS};
-ghost use Rattle.hp_board.specs.Slots.{slot_number, IsSlot};
-ghost use Rattle.hp_board.specs.Views.{part_of, one_part, after_take, after_give, after_look, IsHanded, IsHeldWord, MayGive};
+ghost use Rattle.hp_hall.specs.declared.kept.Kept.{Kept};
+ghost use Rattle.hp_hall.specs.declared.slot.TheConstants.{SLOTS};
+ghost use Rattle.hp_board.specs.declared.words.TheConstants.{WORDS};
+ghost use Rattle.hp_hall.specs.Slots.{slot_number, IsSlot};
+ghost use Rattle.hp_board.specs.Parts.{part_of, one_part};
+ghost use Rattle.hp_board.specs.Agreement.{AgreesFrom};
+ghost use Rattle.hp_board.specs.Views.{after_take, after_give, after_look, value_of};
+ghost use Rattle.hp_board.specs.Handed.{IsHanded, IsHeldWord};
+ghost use Rattle.hp_board.specs.Giving.{MayGive};
 ghost use Rattle.hp_board.specs.Turns.{turned_by};
 
 use crate::board::Board;
-use crate::kept::Kept;
 use crate::plays::{Give, SharedSlots, Token, Try};
 use crate::seat::Seat;
-use crate::slot::Slot;
+use hp_hall::{Kept, Slot};
 
 impl Board {
     /// Tries to lock a slot by one compare and exchange of its lock word, from 0 to the participant's number plus 1, and
@@ -40,6 +44,9 @@ impl Board {
         requires slot { IsSlot slot }
         requires gives { MayGive seat.old.mine (slot_number slot) kept }
         ensures given { seat.new.mine ≡ after_give (slot_number slot) kept seat.old.mine }
+
+        // Rows become agreed only by numbers of all members that this seat has loaded.
+        ensures agreed { AgreesFrom seat.old.mine (value_of (slot_number slot) seat.old.mine.held) kept }
         ensures board { seat.new.board ≡ seat.old.board }
     {
         let number = slot.number();
@@ -87,7 +94,7 @@ fn turn(token: &mut Token, times: usize)
 // Tries a lock word, and moves the value out of the slot.
 fn lock_word(shared: &SharedSlots, token: &mut Token, number: usize, who: u8) -> Result<Kept, u64>
     requires table { token.old.table_id ≡ shared.now.table_id }
-    requires slots { (number < SLOTS) × (shared.now.table_id.words ≡ SLOTS)
+    requires slots { (number < SLOTS) × (shared.now.table_id.words ≡ WORDS)
         × (shared.now.table_id.slots ≡ SLOTS) }
     requires one { token.old.me.0 ≡ one_part (part_of token.old.me.0) }
     requires who { who ≡ (part_of token.old.me.0).who }
@@ -120,7 +127,7 @@ fn moved_out(shared: &SharedSlots, token: &mut Token, number: usize) -> Kept
 // Moves a value into the slot in front, and stores 0 to its lock word.
 fn unlock_word(shared: &SharedSlots, token: &mut Token, number: usize, kept: Kept)
     requires table { token.old.table_id ≡ shared.now.table_id }
-    requires slots { (number < SLOTS) × (shared.now.table_id.words ≡ SLOTS)
+    requires slots { (number < SLOTS) × (shared.now.table_id.words ≡ WORDS)
         × (shared.now.table_id.slots ≡ SLOTS) }
     requires one { token.old.me.0 ≡ one_part (part_of token.old.me.0) }
     requires gives { MayGive (part_of token.old.me.0) number kept }
@@ -128,6 +135,7 @@ fn unlock_word(shared: &SharedSlots, token: &mut Token, number: usize, kept: Kep
     ensures table { token.new.table_id ≡ token.old.table_id }
     ensures given { token.new.me
         ≡ (one_part (after_give number kept (part_of token.old.me.0)), rest token.old.me.1) }
+    ensures agreed { AgreesFrom (part_of token.old.me.0) (value_of number (part_of token.old.me.0).held) kept }
 {
     kept.sound();
     drop(shared.exchange(token, number, Some(kept)));

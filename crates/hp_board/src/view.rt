@@ -1,6 +1,7 @@
-use crate::kept::Kept;
 use crate::opening::Opening;
+use hp_hall::Kept;
 use hp_heap::Entry;
+use hp_segs::{AskLog, LogRecord};
 use std::collections::LinkedList;
 
 /// What a participant knows of a board. It is seen by contracts alone, and no value of it is made. Own.
@@ -17,6 +18,20 @@ pub struct Mine {
     pub seen: LinkedList<(u32, LinkedList<Entry>)>,
     /// The held lock words that it has found, in their order, each with its slot.
     pub found: LinkedList<(u32, u64)>,
+    /// What it has seen of the log.
+    pub log: LinkedList<LogRecord>,
+    /// What it has seen of the logged outcomes.
+    pub heard: LinkedList<AskLog>,
+    /// How many records it has acknowledged.
+    pub number: u64,
+    /// Up to which record its table has lost what records drop.
+    pub unmapped: u64,
+    /// Whether it is in the roster, by the segment value that it gave back last, or that the board opened with.
+    pub joined: bool,
+    /// Whether it joins: it is out, holds the segment slot, and has acknowledged records there.
+    pub joining: bool,
+    /// The numbers of others that it has loaded, each with its participant, the one loaded last in front.
+    pub noted: LinkedList<(u8, u64)>,
 }
 
 // What a seat of the table knows: one participant's part where it runs, every participant's while the board is new or

@@ -1,9 +1,12 @@
 ghost use Rattle.std.specs.Prelude.{◌≡◌, IfOk, IfErr};
-ghost use Rattle.hp_board.specs.Slots.{slot_number, IsSlot};
-ghost use Rattle.hp_board.specs.Views.{after_take, after_give, after_look, FindsMore, IsHanded, IsHeldWord, MayGive};
+ghost use Rattle.hp_hall.specs.Slots.{slot_number, IsSlot};
+ghost use Rattle.hp_board.specs.Giving.{MayGive};
+ghost use Rattle.hp_board.specs.Agreement.{AgreesFrom};
+ghost use Rattle.hp_board.specs.Views.{after_take, after_give, after_look, value_of, FindsMore};
+ghost use Rattle.hp_board.specs.Handed.{IsHanded, IsHeldWord};
 
-use crate::busy::Busy;
-use hp_board::{Board, Kept, Seat, Slot};
+use hp_board::{Board, Seat};
+use hp_hall::{Busy, Kept, Slot};
 use std::sync::Wait;
 use std::thread;
 
@@ -13,7 +16,8 @@ pub fn try_take(board: &Board, seat: &mut Seat, slot: Slot) -> Result<Kept, Busy
     requires board { seat.old.board ≡ board.now.id }
     requires slot { IsSlot slot }
 
-    // A value that is handed out is the slot's, and its holder learns whose entries it has.
+    // A value that is handed out is the slot's: a heap has the entries that this participant made there, and a segment value goes on
+    // from what it has seen.
     ensures handed { IfOk result (IsHanded seat.old.mine (slot_number slot)) }
     ensures taken { IfOk result (λ kept. seat.new.mine ≡ after_take (slot_number slot) kept seat.old.mine) }
 
@@ -51,9 +55,13 @@ pub fn give(board: &Board, seat: &mut Seat, slot: Slot, kept: Kept)
     requires board { seat.old.board ≡ board.now.id }
     requires slot { IsSlot slot }
 
-    // The seat holds the slot, and the value is the taken one or has entries of this participant more.
+    // The seat holds the slot. A heap is the taken one or has entries of this participant more; a segment value moved by the log, by
+    // the roster or by ownership.
     requires gives { MayGive seat.old.mine (slot_number slot) kept }
     ensures given { seat.new.mine ≡ after_give (slot_number slot) kept seat.old.mine }
+
+    // Rows become agreed only by numbers of all members that this seat has loaded.
+    ensures agreed { AgreesFrom seat.old.mine (value_of (slot_number slot) seat.old.mine.held) kept }
     ensures board { seat.new.board ≡ seat.old.board }
 {
     board.unlock(seat, slot, kept);

@@ -1,7 +1,7 @@
 use Rattle.std.proofs.Common.{◌≤◌, vec_capacity}
-use Rattle.hp_board.specs.declared.slot.TheConstants.{SLOTS}
+use Rattle.hp_base.specs.declared.limits.TheConstants.{MAX_HEAPS}
 use Rattle.bench_board.proofs.Sharing.{AreOpened}
 use Rattle.bench_board.proofs.heaps.opening_heaps.Given as goal
 
 abbrev pub invariant-loop-index : goal.invariant-loop-index
-invariant-loop-index l = AreOpened l.heaps.items l.index × (SLOTS ≤ vec_capacity l.heaps)
+invariant-loop-index l = AreOpened l.heaps.items l.index × (MAX_HEAPS ≤ vec_capacity l.heaps)

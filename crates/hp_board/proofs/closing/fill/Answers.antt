@@ -5,16 +5,17 @@ use Rattle.std.proofs.lemmas.List.{get_or-set_other}
 use mathlib.Core.Option.{some, some-injective}
 use lib.ListN.{get_elem?}
 use Rattle.hp_heap.specs.History.{HeapView}
-use Rattle.hp_board.specs.declared.kept.Kept.{Kept}
-use Rattle.hp_board.specs.declared.kept.Kept.TheVariants.{Heap}
+use Rattle.hp_hall.specs.declared.kept.Kept.{Kept}
+use Rattle.hp_hall.specs.Values.{IsHeap}
+use Rattle.hp_hall.specs.declared.kept.Kept.TheVariants.{Heap}
 use Rattle.hp_board.proofs.Gatherings.{moved_values, emptied_here, all_moved}
 use Rattle.hp_board.proofs.closing.fill.Goals as goal
 
 pub unwrap-requires : goal.unwrap-requires
 unwrap-requires c =
     let number : ℕ = c.loop-number.number in
-    let value = c.requires.values number c.loop-number-test.true in
-    let same : c.take.result ≡ Some value.0 = some-injective c.take.result (Some value.0)
+    let value = c.requires.values.heap number c.loop-number-test.true in
+    let same : c.take.result ≡ Some (Heap value.0) = some-injective c.take.result (Some (Heap value.0))
     (sym c.take.ensures.value ∙ ap (λ l. get_elem? l number) c.loop-number.invariant.items ∙ value.1) in
     subst IsSome (sym same) refl
 
@@ -39,9 +40,31 @@ loop-number-preserved c =
           ∙ ap (λ (l : List HeapView). some (Some (Heap (get_or l k d)))) (sym c.push_reserved.ensures.items);
     }
 
+pub into_heap-requires : goal.into_heap-requires
+into_heap-requires c =
+    let number : ℕ = c.loop-number.number in
+    let value = c.requires.values.heap number c.loop-number-test.true in
+    let same : c.take.result ≡ Some (Heap value.0) = some-injective c.take.result (Some (Heap value.0))
+    (sym c.take.ensures.value ∙ ap (λ l. get_elem? l number) c.loop-number.invariant.items ∙ value.1) in
+    let both : Some c.unwrap.result ≡ Some (Heap value.0) = sym c.unwrap.ensures ∙ same in
+    let is : c.unwrap.result ≡ Heap value.0 = cc in
+    record { heap = subst IsHeap (sym is) tt }
+
+pub free-requires : goal.free-requires
+free-requires c k below =
+    let is = c.loop-number.invariant in
+    let filled : List Bool = slots_filled c.loop-number.closed.slots in
+    let others = c.take-2.ensures.others in
+    let done : c.loop-number.number ≡ 32 = omega (arith, c.loop-number.auto.number-end, c.loop-number-test.false) in
+    let inside : 32 < length filled = omega (arith, is.count, (slots_counts c.loop-number.closed.slots).1) in
+    ap (λ (l : List Bool). get_or l k false) others.1
+    ∙ emptied_here filled 32 inside (λ j low. is.taken j (omega (arith, done, low))) k (omega (arith, below, others.2, is.count))
+
 pub returns : goal.returns
 returns c =
     let is = c.loop-number.invariant in
     let done : c.loop-number.number ≡ 32 = omega (arith, c.loop-number.auto.number-end, c.loop-number-test.false) in
-    all_moved (slots_items c.args.closed.slots) c.loop-number.heaps.items (omega (arith, is.moved, c.loop-number.heaps.ok.0))
-    (λ k d below. ap (λ l. get_elem? l k) (sym is.items) ∙ is.values k d (omega arith))
+    all_moved (slots_items c.args.closed.slots) c.loop-number.heaps.items c.into_segments-segs.result (omega (arith, is.moved, c.loop-number.heaps.ok.0, done))
+    (λ k d below. ap (λ l. get_elem? l k) (sym is.items) ∙ is.values k d (omega (arith, below, done)))
+    (ap (λ l. get_elem? l 32) (sym is.items) ∙ c.take-2.ensures.value
+    ∙ ap (λ (o : Option Kept). some o) (c.unwrap-2.ensures ∙ ap (λ (k : Kept). Some k) c.into_segments-segs.ensures))

@@ -3,8 +3,9 @@ use Rattle.std.specs.Slots.{slots_items, slots_filled, slots_len}
 use mathlib.Core.Option.{some}
 use lib.ListN.{get_elem?}
 use Rattle.hp_heap.specs.History.{HeapView}
-use Rattle.hp_board.specs.declared.kept.Kept.TheVariants.{Heap}
-use Rattle.hp_board.specs.declared.slot.TheConstants.{SLOTS}
+use Rattle.hp_hall.specs.declared.kept.Kept.TheVariants.{Heap}
+use Rattle.hp_base.specs.declared.limits.TheConstants.{MAX_HEAPS}
+use Rattle.hp_hall.specs.declared.slot.TheConstants.{SLOTS}
 use Rattle.hp_board.proofs.closing.fill.Given as goal
 
 abbrev pub invariant-loop-number : goal.invariant-loop-number
@@ -14,6 +15,6 @@ invariant-loop-number l = record {
   full : (k : ℕ) → l.number ≤ k → k < SLOTS → get_or (slots_filled l.closed.slots) k false ≡ true;
   taken : (k : ℕ) → k < l.number → get_or (slots_filled l.closed.slots) k false ≡ false;
   moved : vec_len l.heaps ≡ l.number;
-  room : SLOTS ≤ vec_capacity l.heaps;
+  room : MAX_HEAPS ≤ vec_capacity l.heaps;
   values : (k : ℕ) (d : HeapView) → k < l.number → get_elem? (slots_items l.closed.slots) k ≡ some (Some (Heap (get_or l.heaps.items k d)));
 }

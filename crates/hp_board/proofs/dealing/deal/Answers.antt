@@ -1,9 +1,11 @@
-use Rattle.std.proofs.Common.{◌≡◌, ℕ, ◌+◌, List, [], ◌∷◌, ◌++◌, map, sym, ap, subst, ◌∙◌, arith}
+use Rattle.std.proofs.Common.{◌≡◌, ℕ, ◌+◌, ◌<◌, ◌≤◌, List, [], ◌∷◌, ◌++◌, map, sym, ap, subst, ◌∙◌, arith}
 use Rattle.std.specs.List.{range_with_len}
 use Rattle.hp_board.specs.Dealt.{dealt_seat}
 use Rattle.hp_board.specs.SeatView.{SeatView}
+use Rattle.hp_board.specs.declared.view.Mine.{Mine}
 use Rattle.hp_board.specs.Steps.{Sat}
-use Rattle.hp_board.specs.Views.{newcomer, part_of}
+use Rattle.hp_board.specs.Views.{newcomer}
+use Rattle.hp_board.specs.Parts.{part_of}
 use Rattle.hp_board.proofs.DealLemmas.{IsLeft, deals, dealt_first, dealt_others, dealt-push, same_seat}
 use Rattle.hp_board.proofs.dealing.deal.Goals as goal
 
@@ -13,6 +15,23 @@ split_seat-token-requires c = (
   omega (arith, c.requires.table.1),
   deals c.args.shared.now.key c.loop-who.first.id c.loop-who.who c.args.participants c.loop-who.first.me.0 c.loop-who-test.true c.loop-who.invariant.parts,
 )
+
+pub of-requires-clause-declared : goal.of-requires-clause-declared
+of-requires-clause-declared c =
+    let who : ℕ = c.loop-who.who in
+    let more = c.loop-who-test.true in
+    let count = c.requires.opening in
+    let part = ap (λ (m : Sat). part_of m.0) c.split_seat-token.ensures.4
+    ∙ ap part_of (dealt_first c.args.shared.now.key who c.args.participants c.loop-who.first.me.0 more c.loop-who.invariant.parts) in
+    subst (λ (m : Mine). who < m.opening.participants) (sym part) (omega (arith, more, count))
+
+pub of-requires-clause-few : goal.of-requires-clause-few
+of-requires-clause-few c =
+    let few = c.requires.few in
+    let count = c.requires.opening in
+    let part = ap (λ (m : Sat). part_of m.0) c.split_seat-token.ensures.4
+    ∙ ap part_of (dealt_first c.args.shared.now.key c.loop-who.who c.args.participants c.loop-who.first.me.0 c.loop-who-test.true c.loop-who.invariant.parts) in
+    subst (λ (m : Mine). m.opening.participants ≤ 16) (sym part) (omega (arith, few, count))
 
 pub loop-who-preserved : goal.loop-who-preserved
 loop-who-preserved c =

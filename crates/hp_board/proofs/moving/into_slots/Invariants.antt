@@ -4,7 +4,7 @@ use Rattle.hp_board.proofs.moving.into_slots.Given as goal
 
 abbrev pub invariant-loop-slots : goal.invariant-loop-slots
 invariant-loop-slots l =
-    (l.slots.items ++ map slot_of l.heaps.items ≡ map slot_of l.initial.heaps.items) × (vec_len l.slots + vec_len l.heaps ≤ vec_capacity l.slots)
+    (l.slots.items ++ map slot_of l.heaps.items ≡ map slot_of l.initial.heaps.items) × (vec_len l.slots + vec_len l.heaps + 1 ≤ vec_capacity l.slots)
     × (vec_capacity l.heaps ≡ vec_capacity l.initial.heaps)
 
 abbrev pub decreases-loop-slots : goal.decreases-loop-slots

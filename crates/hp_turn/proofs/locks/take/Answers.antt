@@ -1,5 +1,5 @@
 use Rattle.std.proofs.Common.{refl, ◌∙◌}
-use Rattle.hp_board.specs.Slots.{slot_number}
+use Rattle.hp_hall.specs.Slots.{slot_number}
 use Rattle.hp_board.proofs.Finds.{finds_none, finds_one, handed_after, taken_after}
 use Rattle.hp_turn.proofs.locks.take.Goals as goal
 

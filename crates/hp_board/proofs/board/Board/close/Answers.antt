@@ -1,12 +1,16 @@
-use Rattle.std.proofs.Common.{ap, subst, sym}
+use Rattle.std.proofs.Common.{ap, arith, subst, sym, Some, ◌∙◌}
+use mathlib.Core.Option.{some}
 use Rattle.std.specs.Slots.{slots_items}
+use Rattle.std.proofs.lemmas.List.Elements.{All-contains}
 use Rattle.hp_board.specs.declared.opening.Opening.{Opening}
 use Rattle.hp_board.specs.BoardView.{BoardView}
-use Rattle.hp_board.specs.Closing.{AreHeaps}
-use Rattle.hp_board.proofs.Endings.{IsTold, has_all, ends, heaps_are, calls_are}
+use Rattle.hp_board.specs.Closing.{AreHeaps, AreLeftSegs, IsFreeSeat}
+use Rattle.hp_board.proofs.Endings.{IsTold, has_all, ends, heaps_are, calls_are, segs_are, tables_are}
+use Rattle.hp_board.proofs.KeptAt.{heap_kept, segs_kept}
 use Rattle.hp_board.proofs.board.Board.close.Goals as goal
+use Rattle.hp_board.proofs.board.Board.close.Goals.{After-close_with}
 
-told : (c : goal.After-close_with) → IsTold c.self.inside.table.shared.key c.gather-token.result.me.0 (slots_items c.close_with.result.slots)
+told : (c : After-close_with) → IsTold c.self.inside.table.shared.key c.gather-token.result.me.0 (slots_items c.close_with.result.slots)
 told c =
     let o = c.self.inside.table.shared.key in
     let view = c.gather-token.result.me.0 in
@@ -14,20 +18,45 @@ told c =
     (has_all o view c.args.self c.args.seats.items (sym (ap (λ (v : BoardView). v.opening) c.self.view_is)) c.requires.free c.requires.everyone c.gather-token.ensures.parts)
     c.close_with.ensures.values.2
 
-pub fill-requires-clause-values : goal.fill-requires-clause-values
-fill-requires-clause-values c slot within = let is = told c in (is.kept slot, is.values slot within)
+pub fill-segs-requires-clause-values : goal.fill-segs-requires-clause-values
+fill-segs-requires-clause-values c =
+    let is = told c in
+    let o = c.self.inside.table.shared.key in record {
+      heap = λ slot below. let heap = heap_kept o slot (is.kept slot) below (is.at slot (omega arith)) in (heap.0, is.values slot (omega arith) ∙ ap (λ k. some (Some k)) heap.1);
+      segs = let segs = segs_kept o (is.kept 32) (is.at 32 (omega arith)) in (segs.0, is.values 32 (omega arith) ∙ ap (λ k. some (Some k)) segs.1);
+    }
 
 pub returns-clause-heaps : goal.returns-clause-heaps
 returns-clause-heaps c =
     let o = c.self.inside.table.shared.key in
     let view = c.gather-token.result.me.0 in
     let items = slots_items c.close_with.result.slots in
-    subst (λ (p : Opening). AreHeaps p c.fill.new.heaps.items) (ap (λ (v : BoardView). v.opening) c.self.view_is)
-    (heaps_are o view items (told c.before) c.fill.new.heaps.items c.fill.ensures)
+    subst (λ (p : Opening). AreHeaps p c.fill-segs.new.heaps.items) (ap (λ (v : BoardView). v.opening) c.self.view_is)
+    (heaps_are o view items (told c.before) c.fill-segs.new.heaps.items c.fill-segs.result c.fill-segs.ensures)
 
 pub returns-clause-calls : goal.returns-clause-calls
 returns-clause-calls c seat there =
     let o = c.self.inside.table.shared.key in
     let view = c.gather-token.result.me.0 in
     let items = slots_items c.close_with.result.slots in
-    calls_are o view items (told c.before) c.fill.new.heaps.items c.fill.ensures seat.mine (c.gather-token.ensures.parts seat there)
+    calls_are o view items (told c.before) c.fill-segs.new.heaps.items c.fill-segs.result c.fill-segs.ensures seat.mine (c.gather-token.ensures.parts seat there)
+
+pub returns-clause-segs : goal.returns-clause-segs
+returns-clause-segs c =
+    let o = c.self.inside.table.shared.key in
+    let view = c.gather-token.result.me.0 in
+    let items = slots_items c.close_with.result.slots in
+    subst (λ (p : Opening). AreLeftSegs p c.fill-segs.result) (ap (λ (v : BoardView). v.opening) c.self.view_is)
+    (segs_are o view items (told c.before) c.fill-segs.new.heaps.items c.fill-segs.result c.fill-segs.ensures)
+
+pub returns-clause-tables : goal.returns-clause-tables
+returns-clause-tables c seat there =
+    let o = c.self.inside.table.shared.key in
+    let view = c.gather-token.result.me.0 in
+    let items = slots_items c.close_with.result.slots in
+    tables_are o view items (told c.before) c.fill-segs.new.heaps.items c.fill-segs.result c.fill-segs.ensures seat.mine (c.gather-token.ensures.parts seat there)
+    (All-contains (IsFreeSeat c.args.self) c.args.seats.items seat c.requires.free there).holds
+
+pub returns-clause-noted : goal.returns-clause-noted
+returns-clause-noted c seat other there there-other =
+    (told c.before).noted seat.mine other.mine (c.gather-token.ensures.parts seat there) (c.gather-token.ensures.parts other there-other)

@@ -1,9 +1,12 @@
-use Rattle.std.proofs.Common.{ℕ, All, map, replicate, refl, sym, ap, subst, ◌∙◌}
+use Rattle.std.proofs.Common.{◌≡◌, ℕ, ◌≤◌, All, map, replicate, refl, sym, ap, subst, ◌∙◌}
 use Rattle.atomic_table.specs.Table.{opening}
 use Rattle.hp_heap.specs.History.{IsSound}
+use Rattle.std.specs.List.{range_with_len}
+use Rattle.hp_board.specs.declared.opening.Opening.{Opening}
+use Rattle.hp_board.specs.Dealt.{dealt_seat}
 use Rattle.hp_board.specs.BoardRule.{IsBoard}
-use Rattle.hp_board.specs.Served.{serves_of}
-use Rattle.hp_board.specs.Views.{whole_view}
+use Rattle.hp_board.specs.Served.{serves_of, AreOpeningSegs}
+use Rattle.hp_board.specs.Parts.{whole_view}
 use Rattle.hp_board.proofs.Openings.{starts, zeros}
 use Rattle.hp_board.proofs.board.Board.new.Goals as goal
 
@@ -11,6 +14,15 @@ pub new-requires : goal.new-requires
 new-requires c =
     let o = c.of-opening.result in
     let none : ℕ = 0 in
-    subst (λ items. IsBoard o (opening (replicate 32 none) items (whole_view o))) (sym c.in_ok-slots.ensures.slots)
-    (starts (replicate 32 none) c.args.heaps.items o refl (zeros 32) c.requires.heaps (subst (All IsSound) c.deref.ensures.value c.of-opening.ensures.sound)
-    (c.of-opening.ensures.serves ∙ ap (map serves_of) c.deref.ensures.value))
+    subst (λ items. IsBoard o (opening (replicate 49 none) items (whole_view o))) (sym c.in_ok-slots.ensures.slots)
+    (starts (replicate 49 none) c.args.heaps.items c.args.segs o refl (zeros 49) c.requires.heaps (subst (All IsSound) c.deref.ensures.value c.of-opening.ensures.sound)
+    (c.of-opening.ensures.serves ∙ ap (map serves_of) c.deref.ensures.value)
+    (subst (λ (n : ℕ). n ≤ 16) (sym c.of-opening.ensures.participants) c.requires.few)
+    (subst (λ (n : ℕ). AreOpeningSegs n c.args.segs) (sym c.of-opening.ensures.participants) c.requires.segs)
+    c.records-records.ensures.sound c.of-opening.ensures.segs)
+
+pub returns-clause-seats : goal.returns-clause-seats
+returns-clause-seats c =
+    let key : c.in-Ok.made.0.shared.key ≡ c.of-opening.result = c.in-Ok.ensures.ok.5 in
+    let count : c.args.participants ≡ c.in-Ok.made.0.shared.key.participants = sym c.of-opening.ensures.participants ∙ ap (λ (o : Opening). o.participants) (sym key) in
+    c.in_ok-seats.ensures ∙ ap (λ (n : ℕ). map (dealt_seat c.in-Ok.made.0.shared.table_id c.in-Ok.made.0.shared.key) (range_with_len 0 n)) count

@@ -1,10 +1,11 @@
 use Rattle.std.proofs.Common.{◌≡◌, ◌+◌, ◌-◌, ◌<◌, ℕ, List, ◌∷◌, Some, None, Contains, length, get_or, refl, sym, ap, subst, ◌∙◌, arith}
 use Rattle.atomic_table.specs.Table.{rest}
 use Rattle.hp_board.specs.SeatView.{SeatView}
-use Rattle.hp_board.specs.Slots.{slot_number}
+use Rattle.hp_hall.specs.Slots.{slot_number}
 use Rattle.hp_board.specs.Steps.{Sat}
 use Rattle.hp_board.specs.Turns.{turned_by}
-use Rattle.hp_board.specs.Views.{part_of, one_part, value_of, after_give}
+use Rattle.hp_board.specs.Parts.{part_of, one_part}
+use Rattle.hp_board.specs.Views.{value_of, after_give}
 use Rattle.hp_board.proofs.SeatLemmas.{held_place, given_front, seat_given}
 use Rattle.hp_board.proofs.board.Board.unlock.Goals as goal
 

@@ -2,8 +2,9 @@ use Rattle.std.proofs.Common.{ℕ, eqb, sym, ap, ◌∙◌}
 use Rattle.std.specs.List.{list_any}
 use Rattle.std.specs.Option.{is_some}
 use Rattle.hp_board.specs.SeatView.{SeatView}
-use Rattle.hp_board.specs.Slots.{slot_number}
-use Rattle.hp_board.specs.Views.{part_of, value_of}
+use Rattle.hp_hall.specs.Slots.{slot_number}
+use Rattle.hp_board.specs.Parts.{part_of}
+use Rattle.hp_board.specs.Views.{value_of}
 use Rattle.hp_board.proofs.SeatLemmas.{list_any-numbers}
 use Rattle.hp_board.proofs.seat.Seat.holds.Goals as goal
 

@@ -1,0 +1,39 @@
+-- What participants that grow by hand keep between their turns, and while they hold the segment value.
+use Rattle.std.specs.Prelude.{◌≡◌, ℕ, ◌<◌, ◌≤◌, List, [], ◌∷◌, length}
+use Rattle.atomic_table.specs.Seated.{TableId}
+use Rattle.hp_segs.specs.SegsView.{SegsView}
+use Rattle.hp_segs.specs.Sound.{IsSound}
+use Rattle.hp_board.specs.SegsGives.{IsRosterGive}
+use Rattle.hp_hall.specs.declared.kept.Kept.TheVariants.{Segments}
+use Rattle.hp_board.specs.SeatView.{SeatView}
+use Rattle.hp_board.specs.declared.view.Mine.{Mine}
+
+-- a seat is that of one of a board's three participants, holds nothing, and has seen all that its participant has acknowledged
+pub record IsReady (board : TableId) (seat : SeatView) : Type 0 where
+  pub board_is : seat.board ≡ board
+  pub declared : seat.mine.who < 3
+  pub three : seat.mine.opening.participants ≡ 3
+  pub free : seat.mine.held ≡ []
+  pub seen : seat.mine.number ≤ length seat.mine.log
+
+-- the same participant is ready again
+pub record IsReadyAgain (board : TableId) (old new : SeatView) : Type 0 where
+  pub ready : IsReady board new
+  pub who : new.mine.who ≡ old.mine.who
+
+-- a participant holds a segment value alone, which is sound, and has acknowledged all of its log
+pub record HoldsAll (old : Mine) (segs : SegsView) (mine : Mine) : Type 0 where
+  pub sound : IsSound segs
+  pub who : mine.who ≡ old.who
+  pub three : mine.opening ≡ old.opening
+  pub held : mine.held ≡ (32, Segments segs) ∷ []
+  pub number : mine.number ≡ length segs.log
+  pub log : mine.log ≡ segs.log
+
+-- a participant has loaded numbers, and nothing else has changed
+abbrev pub LoadsMore : Mine → Mine → Type 0
+LoadsMore mine after = (noted : List (ℕ × ℕ)) × (after ≡ record mine { noted = noted })
+
+-- the participant has come into the roster with the whole log taken in, or has left it
+abbrev pub Changes : ℕ → SegsView → SegsView → Type 0
+Changes who taken given = (noted : ℕ → ℕ) → IsRosterGive (record { who = who; number = length taken.log; noted = noted }) taken given

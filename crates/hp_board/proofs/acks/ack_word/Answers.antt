@@ -1,0 +1,11 @@
+use Rattle.std.proofs.Common.{rules, ap, sym, ◌+◌, ◌∙◌, ℕ, arith}
+use mathlib.Core.Option.{none}
+use Rattle.hp_board.proofs.BoardSteps.{acks}
+use Rattle.hp_board.proofs.acks.ack_word.Goals as goal
+
+pub store-requires : goal.store-requires
+store-requires c = (
+  c.requires.table,
+  omega arith,
+  acks _ _ _ _ _ _ none c.requires.one (ap (λ (n : ℕ). 33 + n) c.requires.who.0) c.requires.hand c.requires.rises c.requires.seen,
+)

@@ -1,0 +1,39 @@
+-- Agreement: the part "Agreement" of the rule in docs/BOARD.md, and what a give tells of rows that become agreed.
+use Rattle.std.specs.Prelude.{◌≡◌, ◌⊎◌, ℕ, ◌<◌, ◌≤◌, true, false, Contains, Option, Some, None, ⊤}
+use Rattle.hp_base.specs.declared.row.Row.{Row}
+use Rattle.hp_segs.specs.SegsView.{SegsView, granted_by, is_member, is_opened}
+use Rattle.hp_segs.specs.declared.outcome.AskLog.{AskLog}
+use Rattle.hp_segs.specs.declared.row_state.Segment.{Segment}
+use Rattle.hp_hall.specs.declared.kept.Kept.{Kept}
+use Rattle.hp_hall.specs.declared.kept.Kept.TheVariants.{Heap, Segments}
+use Rattle.hp_board.specs.Views.{noted_of, value_of}
+use Rattle.hp_board.specs.declared.view.Mine.{Mine}
+
+-- a participant that is in the roster has taken in each record that was granted
+pub record HasTakenIn (segs : SegsView) (who : ℕ) (mine : Mine) : Type 0 where
+  pub granted : is_member segs.roster who ≡ true → (entry : AskLog) (generation : ℕ) → Contains segs.asks entry
+      → granted_by entry.outcome ≡ Some generation → generation ≤ mine.number
+
+-- the roster names participants of the board alone
+abbrev pub IsDeclaredRoster : ℕ → SegsView → Type 0
+IsDeclaredRoster participants segs = (who : ℕ) → is_member segs.roster who ≡ true → who < participants
+
+-- a segment value has the row, and not as an opened one: agreed, or owned by a heap, or given up
+pub record HasInUse (segs : SegsView) (row : Row) : Type 0 where
+  pub segment : Segment
+  pub among : Contains segs.segments segment
+  pub its_row : segment.row ≡ row
+  pub used : is_opened segment.state ≡ false
+
+-- each row that is agreed, owned or given up in a given value was that in the taken one, or each member of the roster has acknowledged its
+-- record, by the numbers that the giver has loaded
+abbrev pub AreAgreedBy : Mine → SegsView → SegsView → Type 0
+AreAgreedBy mine taken given = (row : Row) (member : ℕ) → HasInUse given row → is_member given.roster member ≡ true
+    → HasInUse taken row ⊎ (row.generation ≤ noted_of member mine)
+
+-- so it is of the values that were taken and are given for a slot, where these are segment values
+abbrev pub AgreesFrom : Mine → Option Kept → Kept → Type 0
+AgreesFrom mine (Some (Segments taken)) (Segments given) = AreAgreedBy mine taken given
+AgreesFrom mine (Some (Segments taken)) (Heap given) = ⊤
+AgreesFrom mine (Some (Heap taken)) given = ⊤
+AgreesFrom mine None given = ⊤

@@ -1,0 +1,8 @@
+use hp_base::MAX_PARTICIPANTS;
+use hp_hall::SLOTS;
+
+/// The number of participant 0's acknowledgement word, which stands after the lock words. Own.
+pub const ACK_WORDS: usize = SLOTS;
+
+/// How many words a board has: a lock word for each slot, and an acknowledgement word for each participant that there may be. Own.
+pub const WORDS: usize = SLOTS + MAX_PARTICIPANTS as usize;
