@@ -1,6 +1,6 @@
 -- Names by the number of their line.
 use Rattle.std.proofs.Common.{◌≡◌, ℕ, zero, suc, ◌+◌, ◌<◌, ◌≤◌, List, [], ◌∷◌, ◌++◌, length, take, take_all, drop, set, get_or, Bool, true, false, cond, refl, ap, Bor, sym, ◌∙◌, arith}
-use Rattle.std.specs.Prelude.{◌==◌, Option, Some, None, replicate}
+use Rattle.std.specs.Prelude.{◌==◌, Some, replicate}
 use Rattle.std.specs.Option.{option_map_or}
 use Rattle.std.specs.List.{find}
 use Rattle.std.proofs.Math.Path.{fun_ext}

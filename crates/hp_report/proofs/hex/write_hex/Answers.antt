@@ -1,4 +1,4 @@
-use Rattle.std.proofs.Common.{◌≡◌, ◌+◌, ◌-◌, ◌≤◌, ◌∙◌, take, arith, append_assoc}
+use Rattle.std.proofs.Common.{◌≡◌, ◌+◌, ◌-◌, ◌∙◌, arith, append_assoc}
 use Rattle.hp_report.proofs.HexLemmas.{hex_pair, length_pair}
 use Rattle.hp_report.proofs.TextLemmas.{take_less}
 use Rattle.hp_report.proofs.hex.write_hex.Goals as goal
