@@ -38,6 +38,7 @@ pub fn write_address(addr: u64, buf: &mut [u8], at: usize) -> usize
 }
 
 /// Writes words at a place of a buffer with room for them there, and gives the place behind them.
+#[inline(always)]
 pub fn write_words(words: &[u8], buf: &mut [u8], at: usize) -> usize
     requires { at + length words.now ≤ length buf.old }
     ensures { IsPlaced buf.old buf.new at words.now result }

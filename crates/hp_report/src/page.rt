@@ -63,6 +63,7 @@ impl Page {
     }
 
     /// Adds words.
+    #[inline(always)]
     pub fn put(&mut self, words: &[u8]) -> Result<(), AllocError>
         ensures { OnOk result (self.new ≡ self.old ++ words.now) }
     {

@@ -4,6 +4,7 @@ ghost use Rattle.std.specs.Prelude.{◌≡◌, ◌+◌, ◌≤◌, OnOk, length,
 use std::alloc::AllocError;
 
 /// Makes room for so many bytes behind a place. What stands in front of the place stays.
+#[inline(always)]
 pub fn make_room(bytes: &mut Vec<u8>, at: usize, n: usize) -> Result<(), AllocError>
     requires within { at ≤ length bytes.old.items }
     ensures text { take at bytes.new.items ≡ take at bytes.old.items }
