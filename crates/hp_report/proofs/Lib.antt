@@ -1,5 +1,6 @@
 mod Streaming
 mod HexLemmas
+mod TextLemmas
 mod AddingLemmas
 mod NumberedLemmas
 mod NameLemmas

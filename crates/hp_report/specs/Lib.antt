@@ -1,4 +1,5 @@
 pub mod Writing
+pub mod InPlace
 pub mod Adding
 pub mod Numbered
 pub mod Names

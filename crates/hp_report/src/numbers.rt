@@ -1,64 +1,77 @@
-//! Numbers and addresses as text, written from the last digit to the first.
-ghost use Rattle.std.specs.Prelude.{◌≡◌, ◌<◌, ◌≤◌, false, length, drop};
-ghost use Rattle.std.specs.Fmt.{digit_glyph, digits};
+//! Numbers and addresses as text, written in place: their digits are counted first, and then stand from the last to the first.
+ghost use Rattle.std.specs.Prelude.{◌≡◌, ◌+◌, ◌≤◌, ◌<◌, length};
+ghost use Rattle.std.specs.Fmt.{decimal};
 ghost use Rattle.hp_script.specs.Answers.{address_text, number_text};
+ghost use Rattle.hp_report.specs.InPlace.{IsPlaced};
 
+use crate::hex::{hex_length, write_hex};
 use itoa::write_digits;
 
-/// The bytes of a blank and of the decimal digits of a number.
+/// The most bytes of a blank and of the decimal digits of a number.
 pub const NUMBER: usize = 21;
 
-/// The bytes of a blank, of `0x` and of the hexadecimal digits of a number.
+/// The most bytes of a blank, of `0x` and of the hexadecimal digits of a number.
 pub const ADDRESS: usize = 19;
 
-/// Writes a blank and a number at the end of a buffer of `NUMBER` bytes, and gives the place of the blank.
-pub fn write_number(n: u64, buf: &mut [u8]) -> usize
-    requires { length buf.old ≡ 21 }
-    ensures within { result ≤ 21 }
-    ensures written { drop result buf.new ≡ number_text n }
+/// Writes a blank and a number at a place of a buffer with room for `NUMBER` bytes there, and gives the place behind them.
+pub fn write_number(n: u64, buf: &mut [u8], at: usize) -> usize
+    requires { at + 21 ≤ length buf.old }
+    ensures { IsPlaced buf.old buf.new at (number_text n) result }
 {
-    let start = write_digits(n, buf, NUMBER) - 1;
-    buf[start] = b' ';
-    start
+    let end = at + 1 + decimal_length(n);
+    buf[at] = b' ';
+    let _first = write_digits(n, buf, end);
+    end
 }
 
-/// Writes a blank and an address at the end of a buffer of `ADDRESS` bytes, and gives the place of the blank.
-pub fn write_address(addr: u64, buf: &mut [u8]) -> usize
-    requires { length buf.old ≡ 19 }
-    ensures within { result ≤ 19 }
-    ensures written { drop result buf.new ≡ address_text addr }
+/// Writes a blank and an address at a place of a buffer with room for `ADDRESS` bytes there, and gives the place behind them.
+pub fn write_address(addr: u64, buf: &mut [u8], at: usize) -> usize
+    requires { at + 19 ≤ length buf.old }
+    ensures { IsPlaced buf.old buf.new at (address_text addr) result }
 {
-    let start = write_hex(addr, buf) - 3;
-    buf[start + 2] = b'x';
-    buf[start + 1] = b'0';
-    buf[start] = b' ';
-    start
+    let end = at + 3 + hex_length(addr);
+    buf[at] = b' ';
+    buf[at + 1] = b'0';
+    buf[at + 2] = b'x';
+    let _first = write_hex(addr, buf, end);
+    end
 }
 
-// Writes the lower-case hexadecimal digits of a number at the end of the buffer, and gives the place of the first.
-fn write_hex(n: u64, buf: &mut [u8]) -> usize
-    requires { length buf.old ≡ 19 }
-    ensures within { (3 ≤ result) × (result < 19) }
-    ensures written { drop result buf.new ≡ digits 16 false n }
+/// Writes words at a place of a buffer with room for them there, and gives the place behind them.
+#[inline(always)]
+pub fn write_words(words: &[u8], buf: &mut [u8], at: usize) -> usize
+    requires { at + length words.now ≤ length buf.old }
+    ensures { IsPlaced buf.old buf.new at words.now result }
+{
+    let end = at + words.len();
+    buf[at..end].copy_from_slice(words);
+    end
+}
+
+// How many decimal digits a number has.
+fn decimal_length(n: u64) -> usize
+    ensures { result ≡ length (decimal n) }
 {
     let mut left = n;
-    let mut at = ADDRESS - 1;
-    buf[at] = hex_digit(left % 16);
-    while left >= 16 {
-        left /= 16;
-        at -= 1;
-        buf[at] = hex_digit(left % 16);
+    let mut len = 0;
+    while left >= 10_000 {
+        left /= 10_000;
+        len += 4;
     }
-    at
+    len + short_length(left)
 }
 
-fn hex_digit(digit: u64) -> u8
-    requires { digit < 16 }
-    ensures { result ≡ digit_glyph false digit }
+fn short_length(n: u64) -> usize
+    requires { n < 10000 }
+    ensures { result ≡ length (decimal n) }
 {
-    if digit < 10 {
-        b'0' + digit as u8
+    if n < 10 {
+        1
+    } else if n < 100 {
+        2
+    } else if n < 1_000 {
+        3
     } else {
-        b'a' + (digit as u8 - 10)
+        4
     }
 }

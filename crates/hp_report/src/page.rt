@@ -1,11 +1,12 @@
-use crate::numbers::{ADDRESS, NUMBER, write_address, write_number};
+use crate::numbers::{ADDRESS, NUMBER, write_address, write_number, write_words};
+use crate::room::make_room;
 use hp_base::{Run, Stats};
 use itoa::Buffer;
 use std::alloc::{AllocError, Global};
 use std::marker::Model;
 
 /// From this length on a page is full, in bytes.
-const FULL: usize = 16_384;
+const FULL: usize = 65_536;
 
 /// The room for the last line of a page, in bytes, where its names are not longer than those that a workload has.
 const LAST_LINE: usize = 1_024;
@@ -13,15 +14,19 @@ const LAST_LINE: usize = 1_024;
 /// The text that is made and not yet handed to a sink. Contracts see it as its bytes. Own.
 #[derive(Drop)]
 pub struct Page {
+    // The text, and room behind it.
     bytes: Vec<u8>,
+    len: usize,
 }
 
 impl Model for Page {
-    ghost use Rattle.std.specs.Prelude.{ℕ, List};
+    ghost use Rattle.std.specs.Prelude.{ℕ, ◌≤◌, List, length, take};
 
     ghost Value = { List ℕ };
 
-    ghost view = { λ page. page.bytes.items };
+    ghost view = { λ page. take page.len page.bytes.items };
+
+    ghost invariant = { λ page. page.len ≤ length page.bytes.items };
 }
 
 impl Page {
@@ -33,53 +38,56 @@ impl Page {
     pub fn new(alloc: Global) -> Result<Page, AllocError>
         ensures { IfOk result (λ page. page ≡ []) }
     {
-        Ok(Page {
-            bytes: Vec::with_capacity(alloc, FULL + LAST_LINE)?,
-        })
+        let mut bytes = Vec::new(alloc);
+        bytes.resize(FULL + LAST_LINE, 0)?;
+        Ok(Page { bytes, len: 0 })
     }
 
     /// Its text.
     pub fn text(&self) -> &[u8]
         ensures { result.now ≡ self.now }
     {
-        self.bytes.as_slice()
+        &self.bytes[..self.len]
     }
 
     /// Whether it is to be handed on.
     pub fn is_full(&self) -> bool {
-        self.bytes.len() >= FULL
+        self.len >= FULL
     }
 
     /// Takes its text away, and keeps its memory.
     pub fn clear(&mut self)
         ensures { self.new ≡ [] }
     {
-        self.bytes.clear();
+        self.len = 0;
     }
 
     /// Adds words.
+    #[inline(always)]
     pub fn put(&mut self, words: &[u8]) -> Result<(), AllocError>
         ensures { OnOk result (self.new ≡ self.old ++ words.now) }
     {
-        self.bytes.extend_from_slice(words)
+        make_room(&mut self.bytes, self.len, words.len())?;
+        self.len = write_words(words, self.bytes.as_mut_slice(), self.len);
+        Ok(())
     }
 
     /// Adds a blank and a number.
     pub fn number(&mut self, n: u64) -> Result<(), AllocError>
         ensures { OnOk result (self.new ≡ self.old ++ number_text n) }
     {
-        let mut text = [0u8; NUMBER];
-        let start = write_number(n, &mut text);
-        self.bytes.extend_from_slice(&text[start..])
+        make_room(&mut self.bytes, self.len, NUMBER)?;
+        self.len = write_number(n, self.bytes.as_mut_slice(), self.len);
+        Ok(())
     }
 
     /// Adds a blank and an address.
     pub fn address(&mut self, addr: u64) -> Result<(), AllocError>
         ensures { OnOk result (self.new ≡ self.old ++ address_text addr) }
     {
-        let mut text = [0u8; ADDRESS];
-        let start = write_address(addr, &mut text);
-        self.bytes.extend_from_slice(&text[start..])
+        make_room(&mut self.bytes, self.len, ADDRESS)?;
+        self.len = write_address(addr, self.bytes.as_mut_slice(), self.len);
+        Ok(())
     }
 
     /// Adds words and a number.
@@ -111,10 +119,20 @@ impl Page {
         ensures { OnOk result (self.new ≡ self.old ++ run_text run.now) }
     {
         self.address(run.addr)?;
+        match u64::from(run.count).checked_mul(run.page) {
+            Some(len) => self.number(len),
+            None => self.wide_number(u128::from(run.count) * u128::from(run.page)),
+        }
+    }
+
+    // Adds a blank and a number that may be past 64 bits.
+    fn wide_number(&mut self, n: u128) -> Result<(), AllocError>
+        ensures { OnOk result (self.new ≡ self.old ++ number_text n) }
+    {
         let mut buffer = Buffer::new();
-        let len = buffer.format(u128::from(run.count) * u128::from(run.page));
+        let text = buffer.format(n);
         self.put(b" ")?;
-        self.put(len.as_bytes())
+        self.put(text.as_bytes())
     }
 
     /// Adds the six numbers of statistics.

@@ -1,25 +1,30 @@
-use Rattle.std.proofs.Common.{◌≡◌, ℕ, ◌+◌, ◌-◌, ◌<◌, ◌≤◌, ◌∷◌, ◌++◌, length, drop, ap, ◌∙◌, append-nil, arith, rules}
+use Rattle.std.proofs.Common.{◌≡◌, ◌+◌, ◌≤◌, ◌<◌, ◌^◌, ◌++◌, ◌∷◌, [], length, take, drop, set, refl, ap, ◌∙◌, length-set, arith, rules}
+use Rattle.std.proofs.Math.Facts.{Fits-of_lt}
 use Rattle.std.proofs.lemmas.Fmt.{length-decimal-le}
-use Rattle.std.proofs.lemmas.List.{drop-set, drop_all}
 use Rattle.std.specs.Fmt.{decimal}
+use Rattle.hp_report.proofs.TextLemmas.{front_set, placed}
 use Rattle.hp_report.proofs.numbers.write_number.Goals as goal
 
-pub write_digits-start-requires : goal.write_digits-start-requires
-write_digits-start-requires c =
+pub overflow_add-end-2 : goal.overflow_add-end-2
+overflow_add-end-2 c =
     let short : length (decimal c.args.n) ≤ 20 = search (rules, length-decimal-le 20) in
-    (omega arith, omega arith)
+    let small : length c.args.buf.now < 2 ^ 64 = search rules in
+    Fits-of_lt (omega (arith, c.decimal_length.ensures, c.requires, short, small))
 
-pub overflow_sub-start : goal.overflow_sub-start
-overflow_sub-start c =
+pub write_digits-first-requires : goal.write_digits-first-requires
+write_digits-first-requires c =
     let short : length (decimal c.args.n) ≤ 20 = search (rules, length-decimal-le 20) in
-    omega arith
+    let counted = c.decimal_length.ensures in
+    (omega (arith, counted), omega (arith, counted, c.requires, short, length-set c.args.buf.now c.args.at 32))
 
-pub returns-clause-written : goal.returns-clause-written
-returns-clause-written c =
-    let short : length (decimal c.args.n) ≤ 20 = search (rules, length-decimal-le 20) in
-    let buf = c.write_digits-start.new.buf in
-    let first = c.write_digits-start.result in
-    let next : first - 1 + 1 ≡ first = omega arith in
-    drop-set buf (first - 1) 32 (omega arith)
-    ∙ ap (λ j. 32 ∷ drop j buf) next
-    ∙ ap (λ t. 32 ∷ t) (c.write_digits-start.ensures.written ∙ ap (λ t. decimal c.args.n ++ t) (drop_all 21 c.args.buf.now (omega arith)) ∙ append-nil (decimal c.args.n))
+pub returns : goal.returns
+returns c =
+    let old = c.args.buf.now in
+    let at = c.args.at in
+    let blank = set old at 32 in
+    let digits = c.write_digits-first in
+    let begins : digits.result ≡ at + 1 = omega (arith, digits.ensures.start, c.decimal_length.ensures) in
+    let front : take digits.result blank ≡ take at old ++ 32 ∷ [] = ap (λ k. take k blank) begins ∙ front_set old (take at old) at 32 (omega (arith, c.requires)) refl in
+    let len : length digits.new.buf ≡ length old = omega (arith, length-set old at 32) in
+    placed old blank digits.new.buf (32 ∷ []) (decimal c.args.n) (drop (at + 1 + c.decimal_length.result) blank) at digits.result (at + 1 + c.decimal_length.result)
+    front begins digits.ensures.before digits.ensures.written digits.ensures.start len
