@@ -1,5 +1,5 @@
 -- Values that may be given: the taken one itself, a heap after a call, and the segment value after its giver came into the roster or left.
-use Rattle.std.proofs.Common.{◌≡◌, ◌≢◌, ℕ, ◌+◌, ◌≤◌, true, false, true≢false, List, [], ◌∷◌, ◌++◌, length, Option, Some, None, refl, sym, ap, subst, ◌∙◌, ⊎_elim, arith}
+use Rattle.std.proofs.Common.{◌≡◌, ◌≢◌, ℕ, ◌+◌, ◌≤◌, true, false, true≢false, List, [], ◌∷◌, ◌++◌, drop, length, Option, Some, None, refl, sym, ap, subst, ◌∙◌, inl, ⊎_elim, arith}
 use Rattle.std.specs.Prelude.{Contains}
 use Rattle.std.specs.List.{range_with_len, sum_by}
 use Rattle.std.proofs.lemmas.Bool.{cases_eq}
@@ -10,45 +10,73 @@ use Rattle.hp_heap.specs.declared.entry.Entry.{Entry}
 use Rattle.hp_heap.specs.declared.entry.HeapAnswer.{HeapAnswer}
 use Rattle.hp_heap.specs.declared.entry.HeapCall.{HeapCall}
 use Rattle.hp_heap.specs.History.{HeapView, IsCall, SameButSpare}
+use Rattle.hp_heap.specs.HistoryLaws.{run_cut, run_grown, runs_cut, runs_grown}
+use Rattle.hp_heap.proofs.EntriesLaw.{calls_add_runs}
 use Rattle.hp_heap.specs.PlainHeap.{HeapPage, PlainHeap}
-use Rattle.hp_segs.proofs.Moves.{calls_move, moves_stay}
+use Rattle.hp_segs.proofs.Moves.{calls_move, moves_stay, moves_widen}
 use Rattle.hp_segs.specs.Calls.{MayJoin, MayLeave}
 use Rattle.hp_segs.specs.LaterSteps.{after_join, after_leave}
-use Rattle.hp_segs.specs.Moved.{JoinRoster, LeaveRoster, is_owner_call, is_roster_call}
+use Rattle.hp_segs.specs.Moved.{JoinRoster, LeaveRoster, is_log_call, is_roster_call}
 use Rattle.hp_segs.specs.SegsView.{SegsView}
+use Rattle.hp_segs.specs.declared.outcome.AskLog.{AskLog}
 use Rattle.hp_segs.specs.declared.row_state.Segment.{Segment}
 use Rattle.hp_hall.specs.declared.kept.Kept.{Kept}
 use Rattle.hp_hall.specs.declared.kept.Kept.TheVariants.{Heap, Segments}
 use Rattle.hp_hall.specs.declared.slot.TheConstants.{SLOTS}
-use Rattle.hp_hall.specs.Giving.{Knows, GivesFor, GivesHeap, GivesSegments, IsGiveOf, entries_made, enrols, owns}
-use Rattle.hp_hall.specs.Holding.{HasPages, HeapPart, IsHeldWith, IsTakenAs, StandsFor}
+use Rattle.hp_hall.specs.Giving.{Knows, GivesFor, GivesHeap, GivesSegments, IsGiveOf, entries_made, enrols, logs}
+use Rattle.hp_hall.specs.Holding.{HasPages, HeapPart, IsHeldWith, IsSettledFor, IsTakenAs}
 use Rattle.hp_segs.specs.Standing.{Holding}
+
+pub has_nothing : {X : Type 0} (x : X) → Contains [] x → ⊥
+has_nothing x has = let inside = has.1 in omega arith
+
+nothing_behind : {X : Type 0} (xs : List X) → drop (length xs) xs ≡ []
+nothing_behind [] = refl
+nothing_behind (x ∷ xs) = nothing_behind xs
 
 -- the segment value as it was taken
 pub segs_same : (knows : Knows) (segs : SegsView) → GivesSegments knows segs segs
 segs_same knows segs = record {
   more = [];
   log = sym (append-nil segs.log);
-  form = owns (record { moved = moves_stay is_owner_call segs; others = λ heap none. refl });
+  form = logs (record {
+    give = record {
+      moved = moves_widen is_log_call is_log_call 0 1 segs segs (λ call is. is) (omega arith) (moves_stay is_log_call segs);
+      agreed = λ entry generation member has granted is.
+          absurd (has_nothing entry (subst (λ (l : List AskLog). Contains l entry) (nothing_behind segs.asks) has));
+    };
+    arms = record {
+      others = λ other apart. refl;
+      for_held = λ ask is. inl is;
+      settled = λ ask is. inl is;
+      of_armed = λ armed. armed;
+    };
+  });
 }
 
-kept_same : (knows : Knows) (kept : Kept) → StandsFor knows.who knows.part kept → GivesFor knows (Some kept) kept
-kept_same knows (Heap heap) stands =
-    record { index = refl; serves = refl; own = []; history = sym (append-nil heap.history); numbered = tt; held = stands.held }
-kept_same knows (Segments segs) stands = segs_same knows segs
+-- a heap with the pages and the runs of another has what the other's holding names
+held_with : (a b : HeapView) (holding : Option Holding) → b.plain ≡ a.plain → runs_grown b.history ≡ runs_grown a.history
+    → runs_cut b.history ≡ runs_cut a.history → IsHeldWith a holding → IsHeldWith b holding
+held_with a b None same grown cut held = absurd held
+held_with a b (Some holding) same grown cut held = record {
+  pages = subst (λ (p : PlainHeap). HasPages p.pages holding.owned) (sym same) held.pages;
+  grown = grown ∙ held.grown;
+  cut = cut ∙ held.cut;
+}
 
--- a heap as another was taken has the pages that it owns, where that has them
-held_with : (a b : HeapView) (holding : Option Holding) → b.plain ≡ a.plain → IsHeldWith a holding → IsHeldWith b holding
-held_with a b None same held = absurd held
-held_with a b (Some holding) same held = subst (λ (p : PlainHeap). HasPages p.pages holding.owned) (sym same) held
-
-pub held_alike : (a b : HeapView) (part : ℕ → HeapPart) → b.plain ≡ a.plain → IsHeldWith a (part a.plain.index).holding
-    → IsHeldWith b (part b.plain.index).holding
-held_alike a b part same held =
-    subst (λ (p : PlainHeap). IsHeldWith b (part p.index).holding) (sym same) (held_with a b (part a.plain.index).holding same held)
-
-pub has_nothing : {X : Type 0} (x : X) → Contains [] x → ⊥
-has_nothing x has = let inside = has.1 in omega arith
+-- so has a heap after a call of the giver that leaves it as it was, by which no run comes or goes
+pub held_called : (taken mid given : HeapView) (part : ℕ → HeapPart) (caller : Caller) (call : HeapCall) (answer : HeapAnswer)
+    → SameButSpare taken mid → IsCall caller call answer mid given → given.plain ≡ taken.plain → run_grown call ≡ [] → run_cut answer ≡ []
+    → IsHeldWith taken (part taken.plain.index).holding → IsHeldWith given (part given.plain.index).holding
+held_called taken mid given part caller call answer same is plain none_grown none_cut held =
+    let adds = calls_add_runs caller call answer mid given is in
+    let grown : runs_grown given.history ≡ runs_grown taken.history =
+    adds.grown
+    ∙ (ap (λ l. runs_grown mid.history ++ l) none_grown ∙ (append-nil (runs_grown mid.history) ∙ ap runs_grown same.history)) in
+    let cut : runs_cut given.history ≡ runs_cut taken.history =
+    adds.cut ∙ (ap (λ l. runs_cut mid.history ++ l) none_cut ∙ (append-nil (runs_cut mid.history) ∙ ap runs_cut same.history)) in
+    subst (λ (p : PlainHeap). IsHeldWith given (part p.index).holding) (sym plain)
+    (held_with taken given (part taken.plain.index).holding plain grown cut held)
 
 -- a heap without pages, of which no segment is its own
 pub bare_pages : (pages : List HeapPage) (owned : List Segment) → pages ≡ [] → owned ≡ [] → HasPages pages owned
@@ -66,29 +94,45 @@ entries_taken (Heap taken) old new is heap =
     (cases_eq heap taken.plain.index)
 entries_taken (Segments segs) old new is heap = ap (λ (part : HeapPart). part.entries) (is heap)
 
+-- and the ask with which the taker is armed
+pub armed_taken : (kept : Kept) (old new : ℕ → HeapPart) → IsTakenAs kept old new → (heap : ℕ) → (new heap).armed ≡ (old heap).armed
+armed_taken (Heap taken) old new is heap =
+    ⊎_elim
+    (λ (same : heap ≡ taken.plain.index). ap (λ (n : ℕ). (new n).armed) same ∙ is.0.armed ∙ ap (λ (n : ℕ). (old n).armed) (sym same))
+    (λ (apart : heap ≢ taken.plain.index). ap (λ (part : HeapPart). part.armed) (is.1 heap apart))
+    (cases_eq heap taken.plain.index)
+armed_taken (Segments segs) old new is heap = ap (λ (part : HeapPart). part.armed) (is heap)
+
+-- who is armed with no ask owes none
+pub unarmed_settled : (heap : ℕ) (heard : List AskLog) (part : HeapPart) → part.armed ≡ None → IsSettledFor heap heard part
+unarmed_settled heap heard part none ask is its =
+    let wrong : None ≡ Some ask = sym none ∙ is in
+    absurd (cc)
+
 -- what may stand in place of the taken value may be given
 pub gives_taken : (knows : Knows) (number : ℕ) (taken given : Kept) → knows.taken number ≡ Some taken → GivesFor knows (Some taken) given
     → IsGiveOf knows number given
 gives_taken knows number taken given out gives = subst (λ kept. GivesFor knows kept given) (sym out) gives
 
--- a value as it was taken, of which the giver knows what it stands for
-pub gives_same : (knows : Knows) (number : ℕ) (kept : Kept) → knows.taken number ≡ Some kept → StandsFor knows.who knows.part kept
-    → IsGiveOf knows number kept
-gives_same knows number kept out stands = gives_taken knows number kept kept out (kept_same knows kept stands)
+-- the segment value as it was taken
+pub gives_same : (knows : Knows) (number : ℕ) (segs : SegsView) → knows.taken number ≡ Some (Segments segs) → IsGiveOf knows number (Segments segs)
+gives_same knows number segs out = gives_taken knows number (Segments segs) (Segments segs) out (segs_same knows segs)
 
--- a heap after one call of the giver, which changes neither its index nor whom it serves, and leaves it the pages that it owns
-pub gives_call : (knows : Knows) (holding : Option Holding) (taken mid given : HeapView) (caller : Caller) (call : HeapCall) (answer : HeapAnswer)
-    → SameButSpare taken mid
+-- a heap after one call of the giver, which changes neither its index nor whom it serves, and leaves it what its holding names; the giver's
+-- ask for it is settled
+pub gives_call : (knows : Knows) (taken mid given : HeapView) (caller : Caller) (call : HeapCall) (answer : HeapAnswer) → SameButSpare taken mid
     → IsCall caller call answer mid given → given.plain.index ≡ mid.plain.index → given.plain.serves ≡ mid.plain.serves
-    → caller ≡ record { participant = knows.who; number = entries_made knows.part + 1 } → IsHeldWith given holding
-    → GivesHeap knows.who (entries_made knows.part) holding taken given
-gives_call knows holding taken mid given caller call answer same is index serves next held = record {
+    → caller ≡ record { participant = knows.who; number = entries_made knows.part + 1 }
+    → IsHeldWith given (knows.part given.plain.index).holding
+    → IsSettledFor given.plain.index knows.heard (knows.part given.plain.index) → GivesHeap knows taken given
+gives_call knows taken mid given caller call answer same is index serves next held settled = record {
   index = index ∙ ap (λ (p : PlainHeap). p.index) same.plain;
   serves = serves ∙ ap (λ (p : PlainHeap). p.serves) same.plain;
   own = record { caller = caller; call = call; answer = answer } ∷ [];
   history = is.history ∙ ap (λ (h : List Entry). h ++ record { caller = caller; call = call; answer = answer } ∷ []) same.history;
   numbered = (next, tt);
   held = held;
+  settled = settled;
 }
 
 -- who made no entry has made none in all heaps

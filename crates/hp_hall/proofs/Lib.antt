@@ -17,3 +17,14 @@ pub mod StandingRetires
 pub mod StandingCuts
 pub mod StandingSlots
 pub mod StandingGrowths
+pub mod AskFacts
+pub mod OpenGrants
+pub mod UnclaimedRuns
+pub mod LogAsks
+pub mod RosterAsks
+pub mod OwnerAsks
+pub mod ClaimPuts
+pub mod KnownAsks
+pub mod GivenAsks
+pub mod TablesKnown
+pub mod OwnedKnown

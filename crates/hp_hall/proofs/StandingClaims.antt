@@ -22,7 +22,7 @@ use Rattle.hp_segs.proofs.GrantLemmas.{any_mapped}
 use Rattle.hp_segs.proofs.ListFacts.{filter_alike}
 use Rattle.hp_segs.specs.Standing.{is_claimed_for, standing_of}
 use Rattle.hp_hall.specs.Standings.{ClaimLeavesOthers, IsGrantFor}
-use Rattle.hp_hall.proofs.CountedRows.{any_alike, claimed_by, filter_changed, standing_from}
+use Rattle.hp_hall.proofs.CountedRows.{any_alike, claimed_as, filter_changed, named_from, standing_from}
 use Rattle.hp_hall.proofs.StandingAsks.{told}
 
 -- a record adds for one heap
@@ -32,7 +32,7 @@ one_heap log generation heap other here there =
     let same : Some (Add there.run other) ≡ Some (Add here.run heap) = sym there.added ∙ here.added in
     cc
 
-granted_is : (outcome : Outcome) (generation : ℕ) → granted_by outcome ≡ Some generation → outcome ≡ Granted generation
+pub granted_is : (outcome : Outcome) (generation : ℕ) → granted_by outcome ≡ Some generation → outcome ≡ Granted generation
 granted_is (Granted stamp) generation is =
     let same : stamp ≡ generation = cc in
     ap Granted same
@@ -41,12 +41,12 @@ granted_is (Stale done) generation is = cc
 granted_is (Freed stamp) generation is = cc
 
 -- an ask that is kept for a heap
-record IsAskFor (heap : ℕ) (kept : Option Ask) : Type 0 where
-  ask : Ask
-  is : kept ≡ Some ask
-  its_heap : ask.heap ≡ heap
+pub record IsAskFor (heap : ℕ) (kept : Option Ask) : Type 0 where
+  pub ask : Ask
+  pub is : kept ≡ Some ask
+  pub its_heap : ask.heap ≡ heap
 
-ask_for : (heap : ℕ) (kept : Option Ask) → option_map_or (λ ask. ask.heap == heap) kept false ≡ true → IsAskFor heap kept
+pub ask_for : (heap : ℕ) (kept : Option Ask) → option_map_or (λ ask. ask.heap == heap) kept false ≡ true → IsAskFor heap kept
 ask_for heap None passes = cc
 ask_for heap (Some ask) passes = record { ask = ask; is = refl; its_heap = eqb-true ask.heap heap passes }
 
@@ -81,7 +81,7 @@ apart_by generation other segment true is apart =
     ∙ sym (and_left (segment.row.generation == other) (is_agreed segment.state) off)
 apart_by generation other segment false is apart = refl
 
-unclaimed_apart : (generation other : ℕ) (segments : List Segment) → other ≢ generation
+pub unclaimed_apart : (generation other : ℕ) (segments : List Segment) → other ≢ generation
     → is_unclaimed (map (claimed_segment generation) segments) other ≡ is_unclaimed segments other
 unclaimed_apart generation other segments apart =
     any_mapped (λ segment. (segment.row.generation == other) && is_agreed segment.state) (claimed_segment generation) segments
@@ -117,11 +117,11 @@ module _ (segs : SegsView) (heap generation : ℕ) (entry : AskLog) (sound : IsS
   its_record = subst (IsAddFor segs.log generation) is.its_heap ((told segs entry sound among).heap is.ask generation is.kept is.granted)
 
   module _ (other : ℕ) (apart : other ≢ heap) where
-    claimed_as : (one : AskLog) → Contains segs.asks one → is_claimed_for other made one ≡ is_claimed_for other segs.segments one
-    claimed_as one within =
+    claims_as : (one : AskLog) → Contains segs.asks one → is_claimed_for other made one ≡ is_claimed_for other segs.segments one
+    claims_as one within =
         both_if (option_map_or (λ ask. ask.heap == other) one.ask false) _ _ (λ passes.
         let its = ask_for other one.ask passes in
-        claimed_by segs.segments made (granted_by one.outcome) (λ granted grants.
+        claimed_as segs.segments made (granted_by one.outcome) (λ granted grants.
         unclaimed_apart generation granted segs.segments (λ same.
         let added = (told segs one sound within).heap its.ask granted its.is (granted_is one.outcome granted grants) in
         let owner : its.ask.heap ≡ heap =
@@ -131,6 +131,7 @@ module _ (segs : SegsView) (heap generation : ℕ) (entry : AskLog) (sound : IsS
     pub others_left : standing_of other (claimed_grant segs (Some generation)) ≡ standing_of other segs
     others_left =
         standing_from other segs (claimed_grant segs (Some generation))
+        (named_from other segs (claimed_grant segs (Some generation))
         (filter_changed (λ segment. is_owned_by other segment.state) (λ segment. is_owned_by other segment.state)
         (claimed_segment generation) segs.segments
         (λ k d within.
@@ -138,7 +139,8 @@ module _ (segs : SegsView) (heap generation : ℕ) (entry : AskLog) (sound : IsS
         ((get_or segs.segments k d).row.generation == generation) refl (sound.rows.heaps k d within))
         (λ k d within. stays other generation (get_or segs.segments k d)))
         (filter_alike (is_claimed_for other made) (is_claimed_for other segs.segments) segs.asks
-        (λ k d within. claimed_as (get_or segs.asks k d) (All-contains_itself segs.asks k d within)))
+        (λ k d within. claims_as (get_or segs.asks k d) (All-contains_itself segs.asks k d within))))
+        refl refl
 
 pub claim_leaves_others : ClaimLeavesOthers
 claim_leaves_others segs heap from number generation entry sound grant among is other apart =

@@ -24,8 +24,8 @@ use Rattle.hp_segs.specs.declared.row_state.RowState.TheVariants.{Opened, Agreed
 use Rattle.hp_segs.specs.declared.row_state.Segment.{Segment}
 use Rattle.hp_segs.proofs.GrantLemmas.{any_mapped}
 use Rattle.hp_segs.proofs.ListFacts.{any_off, filter_alike}
-use Rattle.hp_segs.specs.Standing.{is_claimed_for, standing_of}
-use Rattle.hp_hall.proofs.CountedRows.{any_alike, claimed_alike, filter_behind, filter_changed, standing_from}
+use Rattle.hp_segs.specs.Standing.{is_claimed_for}
+use Rattle.hp_hall.proofs.CountedRows.{any_alike, claimed_alike, filter_behind, filter_changed, named_from, named_of}
 
 opened_not_owned : (heap : ℕ) (state : RowState) → is_opened state ≡ true → is_owned_by heap state ≡ false
 opened_not_owned heap Opened is = refl
@@ -135,12 +135,12 @@ module _ (segs : SegsView) (growth : Growth) (sound : IsSound segs) (open_now : 
   entry_off : (heap : ℕ) → is_claimed_for heap (after_grant growth segs).segments entry ≡ false
   entry_off heap = and_right (growth.ask.heap == heap) _ (not_from_true _ unclaimed)
 
-  pub standing_granted : (heap : ℕ) → standing_of heap (after_grant growth segs) ≡ standing_of heap segs
-  standing_granted heap =
+  pub named_granted : (heap : ℕ) → named_of heap (after_grant growth segs) ≡ named_of heap segs
+  named_granted heap =
       let generation : ℕ = growth.generation in
       let owner : ℕ = growth.ask.heap in
       let new : List Segment = map (agreed_segment generation owner) segs.segments in
-      standing_from heap segs (after_grant growth segs)
+      named_from heap segs (after_grant growth segs)
       (filter_changed (λ segment. is_owned_by heap segment.state) (λ segment. is_owned_by heap segment.state)
       (agreed_segment generation owner) segs.segments
       (λ k d within.

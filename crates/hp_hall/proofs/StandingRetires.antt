@@ -1,6 +1,8 @@
 -- A run that a heap gives up leaves what the value has for the other heaps, and takes its rows from what it has for that heap.
-use Rattle.std.proofs.Common.{◌≡◌, ◌≢◌, ◌==◌, ◌∙◌, ℕ, Bool, true, false, not, ◌&&◌, List, map, filter, get_or, refl, ap, sym, if◌then◌else◌}
+use Rattle.std.proofs.Common.{◌≡◌, ◌≢◌, ◌==◌, ◌∙◌, ℕ, Bool, true, false, not, ◌&&◌, cond, List, [], ◌∷◌, ◌++◌, map, filter, get_or, refl, ap, sym, eq-eqb, if◌then◌else◌}
 use Rattle.std.specs.List.{All}
+use Rattle.std.proofs.lemmas.List.{map-append}
+use Rattle.std.proofs.lemmas.List.Elements.{filter-append}
 use Rattle.std.proofs.lemmas.Bool.{and_right, eqb-true, false_from_ne_true, ne_eqb}
 use Rattle.hp_base.specs.declared.row.Run.{Run}
 use Rattle.hp_log.specs.Rows.{in_run}
@@ -15,9 +17,9 @@ use Rattle.hp_segs.specs.declared.row_state.Segment.{Segment}
 use Rattle.hp_segs.proofs.GivenUp.{owned_all, owned_none_agreed}
 use Rattle.hp_segs.proofs.GrantLemmas.{any_mapped}
 use Rattle.hp_segs.proofs.ListFacts.{filter_alike, filter_twice}
-use Rattle.hp_segs.specs.Standing.{is_claimed_for, owned_by, standing_of}
+use Rattle.hp_segs.specs.Standing.{claimed_by, given_up_by, is_claimed_for, owned_by, runs_granted, standing_of}
 use Rattle.hp_hall.specs.Standings.{RetireLeavesOthers, RetireTakesRows}
-use Rattle.hp_hall.proofs.CountedRows.{any_alike, claimed_alike, filter_changed, standing_from}
+use Rattle.hp_hall.proofs.CountedRows.{any_alike, claimed_alike, filter_behind, filter_changed, named_from, standing_from}
 
 -- a row is of one heap
 owned_apart : (heap other : ℕ) (state : RowState) → other ≢ heap → is_owned_by heap state ≡ true → is_owned_by other state ≡ false
@@ -93,16 +95,24 @@ module _ (segs : SegsView) (heap : ℕ) (run : Run) (sound : IsSound segs) (owns
       filter_alike (is_claimed_for other made) (is_claimed_for other segs.segments) segs.asks
       (λ k d within. claimed_alike other segs.segments made (get_or segs.asks k d) (λ generation is. unclaimed_stays generation))
 
+  -- what other heaps gave up is as it was
+  given_up_apart : (other : ℕ) → other ≢ heap → given_up_by other (segs.retired ++ (heap, run) ∷ []) ≡ given_up_by other segs.retired
+  given_up_apart other apart =
+      ap (map (λ (given : ℕ × Run). given.1))
+      (filter_behind (λ (given : ℕ × Run). given.0 == other) segs.retired (heap, run) (ne_eqb heap other (λ same. apart (sym same))))
+
   pub others_left : (other : ℕ) → other ≢ heap → standing_of other (after_retire heap run segs) ≡ standing_of other segs
   others_left other apart =
       standing_from other segs (after_retire heap run segs)
+      (named_from other segs (after_retire heap run segs)
       (filter_changed (λ segment. is_owned_by other segment.state) (λ segment. is_owned_by other segment.state)
       (retired_segment run) segs.segments
       (λ k d within.
       others_by heap other (get_or segs.segments k d) (in_run run (get_or segs.segments k d).row) apart (rows_owned k d within))
       (λ k d within.
       others_stay heap other (get_or segs.segments k d) (in_run run (get_or segs.segments k d).row) apart (rows_owned k d within)))
-      (claimed_stays other)
+      (claimed_stays other))
+      refl (given_up_apart other apart)
 
   -- the heap's own rows but those of the run
   pub owned_left : owned_by heap (after_retire heap run segs) ≡ filter (λ segment. not (in_run run segment.row)) (owned_by heap segs)
@@ -116,10 +126,41 @@ module _ (segs : SegsView) (heap : ℕ) (run : Run) (sound : IsSound segs) (owns
 pub retire_leaves_others : RetireLeavesOthers
 retire_leaves_others segs heap run sound owns other apart = others_left segs heap run sound owns other apart
 
+-- the run comes behind those that the heap gave up
+pub given_up_behind : (heap : ℕ) (run : Run) (retired : List (ℕ × Run))
+    → given_up_by heap (retired ++ (heap, run) ∷ []) ≡ given_up_by heap retired ++ run ∷ []
+given_up_behind heap run retired =
+    let own : List (ℕ × Run) = filter (λ (given : ℕ × Run). given.0 == heap) retired in
+    ap (map (λ (given : ℕ × Run). given.1))
+    (filter-append (λ (given : ℕ × Run). given.0 == heap) retired ((heap, run) ∷ [])
+    ∙ ap (λ b. own ++ cond b ((heap, run) ∷ []) []) (eq-eqb heap heap refl))
+    ∙ map-append (λ (given : ℕ × Run). given.1) own ((heap, run) ∷ [])
+
 pub retire_takes_rows : RetireTakesRows
 retire_takes_rows segs heap run sound owns =
     let made : List Segment = map (retired_segment run) segs.segments in
-    ap (λ (segments : List Segment). record { owned = segments; claimed = filter (is_claimed_for heap made) segs.asks })
+    let left : List Segment = filter (λ segment. not (in_run run segment.row)) (owned_by heap segs) in
+    ap
+    (λ (segments : List Segment). record {
+      owned = segments;
+      claimed = filter (is_claimed_for heap made) segs.asks;
+      came = runs_granted segs.log (filter (is_claimed_for heap made) segs.asks);
+      retired = given_up_by heap (segs.retired ++ (heap, run) ∷ []);
+    })
     (owned_left segs heap run sound owns)
-    ∙ ap (λ (asks : List AskLog). record { owned = filter (λ segment. not (in_run run segment.row)) (owned_by heap segs); claimed = asks })
+    ∙ (ap
+    (λ (asks : List AskLog). record {
+      owned = left;
+      claimed = asks;
+      came = runs_granted segs.log asks;
+      retired = given_up_by heap (segs.retired ++ (heap, run) ∷ []);
+    })
     (claimed_stays segs heap run sound owns heap)
+    ∙ ap
+    (λ (runs : List Run). record {
+      owned = left;
+      claimed = claimed_by heap segs;
+      came = runs_granted segs.log (claimed_by heap segs);
+      retired = runs;
+    })
+    (given_up_behind heap run segs.retired))

@@ -3,15 +3,16 @@ use Rattle.std.specs.Prelude.{◌≡◌, ◌≢◌, ℕ, ◌≤◌, List, [], �
 use Rattle.std.specs.List.{AllByRecursion, range_with_len}
 use Rattle.hp_hall.specs.declared.kept.Kept.{Kept}
 use Rattle.hp_hall.specs.declared.note.Note.{Note}
-use Rattle.hp_hall.specs.HallState.{Did, HallState, IsLater, MineStay, OthersStay, PartsStay, SlotsStay}
+use Rattle.hp_hall.specs.HallState.{Did, HallState, HasMapped, IsLater, MineStay, OthersStay, PartsStay, SlotsStay}
 use Rattle.hp_hall.specs.Holding.{IsGivenAs, IsTakenAs, StandsFor}
 use Rattle.hp_hall.specs.Mail.{Gives, IsAsPlanned, MailStep, Notes, Takes, counted_on, full_posts}
 use Rattle.hp_hall.specs.Own.{Own}
-use Rattle.hp_hall.specs.Values.{Fits, HasAsks, HasEntries, HasLog, HasMember, IsSoundKept, joined_behind}
+use Rattle.hp_hall.specs.Values.{Fits, HasAsks, HasClaimed, HasEntries, HasLog, HasMember, IsSoundKept, SeesAsBefore, joined_behind}
 
--- a participant has taken a value out of a slot: it is the slot's, and sound. A heap has the participant's entries and the pages of its own
--- segments; a segment value has the log and the outcomes that were seen, has the participant in its roster as that knows, and has of the
--- heaps held what was known.
+-- a participant has taken a value out of a slot: it is the slot's, and sound. A heap has the participant's entries, and what its holding
+-- names: the pages of its own segments, and the runs that it has claimed and given up; it has claimed what was granted to the participant's
+-- ask for it. A segment value has the log and the outcomes that were seen, has the participant in its roster as that knows, and has of the
+-- heaps held what was known. Where the participant is in the roster its own table has the pages of the heaps that it then holds.
 pub record HasTaken (me slot : ℕ) (kept : Kept) (old new : HallState) : Type 0 where
   pub fits : Fits slot kept
   pub sound : IsSoundKept kept
@@ -20,6 +21,8 @@ pub record HasTaken (me slot : ℕ) (kept : Kept) (old new : HallState) : Type 0
   pub asks : HasAsks (new.heard me) kept
   pub roster : HasMember me (old.joined me) kept
   pub stands : StandsFor me (new.part me) kept
+  pub claimed : HasClaimed (new.heard me) (new.part me) kept
+  pub mapped : HasMapped me new
   pub part : IsTakenAs kept (old.part me) (new.part me)
   pub joined : new.joined me ≡ old.joined me
   pub own : new.own me ≡ old.own me
@@ -36,7 +39,8 @@ pub record HasFoundHeld (me slot word : ℕ) (old new : HallState) : Type 0 wher
   pub did : Did me [] old new
 
 -- a participant has given a value back to its slot, where it may be taken again: what the participant has seen is that of the value, it
--- has the heap no longer or knows what the segment value has for those that it holds, and it is in the roster as that says
+-- has the heap no longer or knows what the segment value has for those that it holds, and it is in the roster as that says; and where it is
+-- in the roster its own table has the pages of the heaps that it still holds
 pub record HasGiven (me slot : ℕ) (kept : Kept) (old new : HallState) : Type 0 where
   pub taken : new.taken slot ≡ None
   pub home : new.may_take slot
@@ -44,7 +48,9 @@ pub record HasGiven (me slot : ℕ) (kept : Kept) (old new : HallState) : Type 0
   pub joined : new.joined me ≡ joined_behind me kept (old.joined me)
   pub own : new.own me ≡ old.own me
   pub log : HasLog (new.seen me) kept
+  pub sees : SeesAsBefore kept (old.seen me) (new.seen me)
   pub asks : HasAsks (new.heard me) kept
+  pub mapped : HasMapped me new
   pub did : Did me (Gives slot kept ∷ []) old new
 
 -- a participant's own part has come to this, by these steps of its own

@@ -1,13 +1,15 @@
 -- A hall as its callers see it, and what stays of it from one state to a later one: the rule "Halls" of docs/PARTICIPANTS.md.
-use Rattle.std.specs.Prelude.{◌≡◌, ◌≢◌, ℕ, ◌<◌, ◌≤◌, Bool, true, List, ◌++◌, Option, None}
+use Rattle.std.specs.Prelude.{◌≡◌, ◌≢◌, ℕ, ◌<◌, ◌≤◌, Bool, true, List, ◌++◌, Contains, Option, Some, None}
 use Rattle.hp_base.specs.declared.limits.TheConstants.{MAX_HEAPS}
 use Rattle.hp_log.specs.declared.log_record.LogRecord.{LogRecord}
+use Rattle.hp_segs.specs.Standing.{Holding}
 use Rattle.hp_segs.specs.declared.outcome.AskLog.{AskLog}
+use Rattle.hp_segs.specs.declared.row_state.Segment.{Segment}
 use Rattle.hp_hall.specs.declared.kept.Kept.{Kept}
 use Rattle.hp_hall.specs.Giving.{Knows}
 use Rattle.hp_hall.specs.Holding.{HeapPart}
 use Rattle.hp_hall.specs.Mail.{MailStep}
-use Rattle.hp_hall.specs.Own.{Own}
+use Rattle.hp_hall.specs.Own.{Own, rows_known}
 
 -- what a participant knows of another: its number
 pub record Noted : Type 0 where
@@ -46,6 +48,11 @@ pub record HallState : Type 1 where
   pub weight : ℕ
   -- the clock of one thread; threads have none in common, and there it stands still
   pub clock : ℕ
+
+-- where a participant is in the roster its own table has the pages of each heap that it holds
+abbrev pub HasMapped : ℕ → HallState → Type 0
+HasMapped me state = state.joined me ≡ true → (heap : ℕ) (holding : Holding) (segment : Segment) → (state.part me heap).holding ≡ Some holding
+    → Contains holding.owned segment → Contains (rows_known (state.seen me) (state.own me)) segment.row
 
 -- what is known of another later on: its number does not fall
 pub record IsNotedLater (old new : Noted) : Type 0 where

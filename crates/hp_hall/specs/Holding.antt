@@ -1,16 +1,21 @@
 -- What a participant has in a heap: the rule "Holding" of docs/PARTICIPANTS.md.
-use Rattle.std.specs.Prelude.{◌≡◌, ◌≢◌, ℕ, Bool, true, ◌&&◌, ◌==◌, List, Contains, Option, Some, None}
+use Rattle.std.specs.Prelude.{◌≡◌, ◌≢◌, ◌⊎◌, ℕ, Bool, true, ◌&&◌, ◌==◌, List, Contains, Option, Some, None, IsSome}
 use Rattle.std.specs.List.{list_any}
 use Rattle.std.specs.Option.{option_map}
 use Rattle.hp_heap.specs.History.{HeapView, entries_of}
+use Rattle.hp_heap.specs.HistoryLaws.{runs_cut, runs_grown}
 use Rattle.hp_heap.specs.PlainHeap.{HeapPage}
 use Rattle.hp_heap.specs.declared.entry.Entry.{Entry}
 use Rattle.hp_base.specs.declared.row.Row.{Row}
 use Rattle.hp_segs.specs.LaterSteps.{armed_ask}
+use Rattle.hp_segs.specs.PendingRuns.{ArePending}
 use Rattle.hp_segs.specs.SegsView.{SegsView}
+use Rattle.hp_segs.specs.SettledAsks.{IsSettled}
 use Rattle.hp_segs.specs.Standing.{Holding, IsArmed, standing_of}
 use Rattle.hp_segs.specs.declared.ask.Ask.{Ask}
+use Rattle.hp_segs.specs.declared.outcome.AskLog.{AskLog}
 use Rattle.hp_segs.specs.declared.row_state.Segment.{Segment}
+use Rattle.hp_hall.specs.Asks.{ClaimsGrants, IsKnownSettled}
 use Rattle.hp_hall.specs.declared.kept.Kept.{Kept}
 use Rattle.hp_hall.specs.declared.kept.Kept.TheVariants.{Heap, Segments}
 
@@ -33,19 +38,37 @@ pub record HasPages (pages : List HeapPage) (owned : List Segment) : Type 0 wher
   pub owns : (page : HeapPage) → Contains pages page → list_any (λ segment. is_page_of segment.row page) owned ≡ true
   pub pages_of : (segment : Segment) → Contains owned segment → list_any (is_page_of segment.row) pages ≡ true
 
--- a heap in hand has the pages that its holding names
+-- a heap has what a holding names: its pages are those of its own segments; and by its history the runs that came to it are those which it
+-- has claimed, and the runs that were cut from it those which it gave up, each in order
+pub record HasHolding (heap : HeapView) (holding : Holding) : Type 0 where
+  pub pages : HasPages heap.plain.pages holding.owned
+  pub grown : runs_grown heap.history ≡ holding.came
+  pub cut : runs_cut heap.history ≡ holding.retired
+
+-- so has a heap in hand
 abbrev pub IsHeldWith : HeapView → Option Holding → Type 0
 IsHeldWith heap None = ⊥
-IsHeldWith heap (Some holding) = HasPages heap.plain.pages holding.owned
+IsHeldWith heap (Some holding) = HasHolding heap holding
 
--- what a participant learns of a segment value: of each heap that it holds the value has what was known, it is armed with the ask with
--- which it armed itself last, and the open growth and the kept asks are those of the armed
+-- the ask with which a participant is armed, where it is for a heap, is settled, as the participant knows
+abbrev pub IsSettledFor : ℕ → List AskLog → HeapPart → Type 0
+IsSettledFor heap heard part = (ask : Ask) → part.armed ≡ Some ask → ask.heap ≡ heap → IsKnownSettled heard part.holding ask
+
+-- what was granted to it, as far as that was heard, the heap has claimed
+abbrev pub IsClaimedFor : ℕ → List AskLog → HeapPart → Type 0
+IsClaimedFor heap heard part = (ask : Ask) → part.armed ≡ Some ask → ask.heap ≡ heap → ClaimsGrants heard part.holding ask
+
+-- what a participant learns of a segment value: of each heap that it holds the value has what was known; it is armed with the ask with
+-- which it armed itself last, and that is settled, or else it holds the ask's heap; the open growth and the kept asks are those of the armed;
+-- and runs that no heap has claimed are of armed asks, each alone for its heap, and the last one of that
 pub record AreStanding (who : ℕ) (parts : ℕ → HeapPart) (segs : SegsView) : Type 0 where
   pub held : (heap : ℕ) (holding : Holding) → (parts heap).holding ≡ Some holding → holding ≡ standing_of heap segs
   pub armed : (heap : ℕ) → (parts heap).armed ≡ armed_ask segs who
+  pub asking : (ask : Ask) → armed_ask segs who ≡ Some ask → IsSettled ask.from ask.number segs ⊎ IsSome (parts ask.heap).holding
   pub sound : IsArmed segs
+  pub pending : ArePending segs
 
--- a heap in hand is as its holder's part says: it takes the pages of that socket, and has those of its own segments
+-- a heap in hand is as its holder's part says: it takes the pages of that socket, and has what its holding names
 pub record IsAsPart (part : HeapPart) (heap : HeapView) : Type 0 where
   pub serves : heap.plain.serves ≡ part.serves
   pub held : IsHeldWith heap part.holding

@@ -1,7 +1,10 @@
 pub mod Slots
+pub mod Asks
 pub mod Holding
 pub mod Standings
+pub mod AskLaws
 pub mod Values
+pub mod SegsGives
 pub mod Giving
 pub mod Own
 pub mod Mail

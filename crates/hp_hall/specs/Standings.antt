@@ -1,6 +1,6 @@
 -- Laws on what a segment value has for a heap, and on the asks with which participants are armed: what the calls of each kind leave
 -- of it.
-use Rattle.std.specs.Prelude.{◌≡◌, ◌≢◌, ℕ, ◌<◌, true, not, [], filter, Contains, Some, IsSome}
+use Rattle.std.specs.Prelude.{◌≡◌, ◌≢◌, ℕ, ◌<◌, true, not, [], ◌∷◌, ◌++◌, filter, Contains, Some, IsSome}
 use Rattle.hp_base.specs.declared.map_answer.MapAnswer.{MapAnswer}
 use Rattle.hp_base.specs.declared.row.Row.{Row}
 use Rattle.hp_base.specs.declared.row.Run.{Run}
@@ -19,7 +19,8 @@ use Rattle.hp_segs.specs.declared.ask.Ask.{Ask}
 use Rattle.hp_segs.specs.declared.outcome.AskLog.{AskLog}
 use Rattle.hp_segs.specs.declared.outcome.Outcome.TheVariants.{Granted}
 use Rattle.hp_hall.specs.Holding.{HasPages}
-use Rattle.hp_segs.specs.Standing.{IsArmed, owned_by, standing_of}
+use Rattle.hp_segs.specs.PendingRuns.{PendingIsLast}
+use Rattle.hp_segs.specs.Standing.{Holding, IsArmed, given_up_by, owned_by, standing_of}
 
 -- what the value has for each heap is as it was, and so is the ask of each who is armed
 pub record LeavesStanding (old new : SegsView) : Type 0 where
@@ -88,6 +89,19 @@ ClaimLeavesOthers = (segs : SegsView) (heap from number generation : ℕ) (entry
     → grant_of segs.asks from number ≡ Some generation → Contains segs.asks entry → IsGrantFor heap generation entry
     → (other : ℕ) → other ≢ heap → standing_of other (after_claim from number segs) ≡ standing_of other segs
 
+-- a claim puts the outcome of its grant, and the run, behind those that the heap had claimed, and leaves what the heap gave up
+pub record PutsClaim (entry : AskLog) (run : Run) (old new : Holding) : Type 0 where
+  pub claimed : new.claimed ≡ old.claimed ++ entry ∷ []
+  pub came : new.came ≡ old.came ++ run ∷ []
+  pub retired : new.retired ≡ old.retired
+
+-- so it is with each claim, where what no heap has claimed yet is the last of its heap
+abbrev pub ClaimPuts : Type 0
+ClaimPuts = (segs : SegsView) (heap from number generation : ℕ) (entry : AskLog) (run : Run) → IsSound segs → PendingIsLast segs
+    → grant_of segs.asks from number ≡ Some generation → Contains segs.asks entry → IsGrantFor heap generation entry
+    → IsUnclaimedGrant from number segs → claimed_run from number segs ≡ Some run
+    → PutsClaim entry run (standing_of heap segs) (standing_of heap (after_claim from number segs))
+
 -- where a heap has the pages of its segments and takes the run that it claims, it has those of its segments after the claim
 abbrev pub ClaimBrings : Type 0
 ClaimBrings = (segs : SegsView) (from number generation : ℕ) (entry : AskLog) (run : Run) (heap : PlainHeap) → IsSound segs
@@ -106,11 +120,13 @@ abbrev pub RetireLeavesOthers : Type 0
 RetireLeavesOthers = (segs : SegsView) (heap : ℕ) (run : Run) → IsSound segs → OwnsRun heap run segs
     → (other : ℕ) → other ≢ heap → standing_of other (after_retire heap run segs) ≡ standing_of other segs
 
--- and takes the run's rows, and no grant, from what it has for that heap
+-- and takes the run's rows, and no grant, from what it has for that heap, and puts the run behind those that the heap gave up before
 abbrev pub RetireTakesRows : Type 0
 RetireTakesRows = (segs : SegsView) (heap : ℕ) (run : Run) → IsSound segs → OwnsRun heap run segs
-    → standing_of heap (after_retire heap run segs)
-    ≡ record (standing_of heap segs) { owned = filter (λ segment. not (in_run run segment.row)) (owned_by heap segs) }
+    → standing_of heap (after_retire heap run segs) ≡ record (standing_of heap segs) {
+      owned = filter (λ segment. not (in_run run segment.row)) (owned_by heap segs);
+      retired = given_up_by heap segs.retired ++ run ∷ [];
+    }
 
 -- where a heap has the pages of its segments, a run that it cuts is its own, and it has those of its segments after that is given up
 pub record IsGivenUpWith (address : ℕ) (heap : PlainHeap) (run : Run) (segs : SegsView) : Type 0 where

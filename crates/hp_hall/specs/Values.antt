@@ -8,7 +8,7 @@ use Rattle.hp_log.specs.declared.log_record.LogRecord.{LogRecord}
 use Rattle.hp_segs.specs.SegsView.{is_member}
 use Rattle.hp_segs.specs.Sound as segments
 use Rattle.hp_segs.specs.declared.outcome.AskLog.{AskLog}
-use Rattle.hp_hall.specs.Holding.{HeapPart}
+use Rattle.hp_hall.specs.Holding.{HeapPart, IsClaimedFor}
 use Rattle.hp_hall.specs.declared.kept.Kept.{Kept}
 use Rattle.hp_hall.specs.declared.kept.Kept.TheVariants.{Heap, Segments}
 
@@ -34,6 +34,11 @@ IsSoundKept (Segments segs) = segments.IsSound segs
 abbrev pub history_of : Kept → List Entry
 history_of (Heap heap) = heap.history
 history_of (Segments segs) = []
+
+-- what was seen of the log stays where a heap is given
+abbrev pub SeesAsBefore : Kept → List LogRecord → List LogRecord → Type 0
+SeesAsBefore (Heap heap) old new = new ≡ old
+SeesAsBefore (Segments segs) old new = ⊤
 
 -- the log of a segment value
 abbrev pub log_of : Kept → List LogRecord
@@ -69,3 +74,8 @@ HasMember who joined (Segments segs) = is_member segs.roster who ≡ joined
 abbrev pub joined_behind : ℕ → Kept → Bool → Bool
 joined_behind who (Heap heap) joined = joined
 joined_behind who (Segments segs) joined = is_member segs.roster who
+
+-- what was granted to a participant's ask for a heap, as far as it has heard, the heap has claimed
+abbrev pub HasClaimed : List AskLog → (ℕ → HeapPart) → Kept → Type 0
+HasClaimed heard part (Heap heap) = IsClaimedFor heap.plain.index heard (part heap.plain.index)
+HasClaimed heard part (Segments segs) = ⊤

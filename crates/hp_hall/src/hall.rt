@@ -1,4 +1,5 @@
-ghost use Rattle.std.specs.Prelude.{◌≡◌, ℕ, ◌+◌, ◌*◌, ◌^◌, ◌<◌, ◌≤◌, [], ◌∷◌, IfErr, IfOk, length};
+ghost use Rattle.std.specs.Prelude.{◌≡◌, ◌⊎◌, ℕ, ◌+◌, ◌*◌, ◌^◌, ◌<◌, ◌≤◌, [], ◌∷◌, true, IfErr, IfOk, IsSome, length};
+ghost use Rattle.hp_base.specs.declared.limits.TheConstants.{MAX_HEAPS};
 ghost use Rattle.hp_hall.specs.declared.note.Note.{Note};
 ghost use Rattle.hp_hall.specs.Giving.{IsGiveOf};
 ghost use Rattle.hp_hall.specs.HallCalls.{HasComeTo, HasFoundHeld, HasGiven, HasTaken, HavePosted};
@@ -68,9 +69,11 @@ pub trait Hall {
         ensures weight { (state self.new).weight ≤ (state self.old).weight }
         ensures goes_on { goes_on self.old self.new };
 
-    /// Acknowledges records: the participant's table has taken in so many. Own.
+    /// Acknowledges records: the participant's table has taken in so many. It is in the roster, or has the segment value in hand to
+    /// come in. Own.
     fn ack(&mut self, me: u8, number: u64)
         requires serves { (state self.old).serves me }
+        requires may { ((state self.old).joined me ≡ true) ⊎ IsSome ((state self.old).taken MAX_HEAPS) }
         requires rises { ((state self.old).own me).number ≤ number }
         requires seen { number ≤ length ((state self.old).seen me) }
         ensures own { HasComeTo me (after_ack number) (Notes (Note.Acked number) ∷ []) (state self.old) (state self.new) }
@@ -80,8 +83,8 @@ pub trait Hall {
     /// Tells that the table has lost all that the records behind the participant's number drop, as far as it has seen them. Own.
     fn partial(&mut self, me: u8)
         requires serves { (state self.old).serves me }
-        ensures own { HasComeTo me (after_partial (length ((state self.old).seen me)) ((state self.old).own me)) []
-            (state self.old) (state self.new) }
+        ensures own { HasComeTo me (after_partial (length ((state self.old).seen me)) ((state self.old).own me))
+            (Notes Note.Unmapped ∷ []) (state self.old) (state self.new) }
         ensures weight { (state self.new).weight ≤ (state self.old).weight }
         ensures goes_on { goes_on self.old self.new };
 

@@ -13,7 +13,7 @@ pub use busy::Busy;
 pub use hall::Hall;
 pub use hp_mail::Posted;
 pub use kept::Kept;
-pub use laws::{arming_law, holding_law, standing_law};
+pub use laws::{arming_law, holding_law, pending_law, settled_law, standing_law};
 pub use note::Note;
 pub use slot::{SLOTS, Slot};
 pub use waiting::Waiting;

@@ -22,10 +22,12 @@ use Rattle.hp_segs.proofs.Appending.{moves_append}
 use Rattle.hp_segs.proofs.Moves.{moves_widen}
 use Rattle.hp_hall.specs.declared.kept.Kept.{Kept}
 use Rattle.hp_hall.specs.declared.kept.Kept.TheVariants.{Heap, Segments}
-use Rattle.hp_hall.specs.Giving.{Knows, GivesFor, GivesForm, GivesLog, GivesRoster, logs, enrols, owns}
+use Rattle.hp_hall.specs.Giving.{Knows, GivesFor, GivesForm, GivesLog, giver_of, logs, enrols, owns}
+use Rattle.hp_hall.specs.SegsGives.{IsRosterGive}
 use Rattle.hp_plain.specs.HallSteps.{home_slot, with_slot}
 use Rattle.hp_plain.specs.HallView.{HallView, IsHall, SlotView, segs_in, segs_of, slot_at}
-use Rattle.hp_plain.specs.Keeping.{AreAgreed, AreSegsGivenBy, AreTakenIn, IsGivenBy}
+use Rattle.hp_plain.specs.Keeping.{AreAgreed, AreSegsGivenBy, IsGivenBy}
+use Rattle.hp_plain.specs.TakenIn.{AreTakenIn}
 use Rattle.hp_hall.specs.Values.{Fits}
 use Rattle.hp_hall.proofs.Beside.{Beside, Logged, Shared, beside, log_calls_beside, logged, owner_calls_shared, roster_calls_logged, shared}
 use Rattle.hp_hall.proofs.Formed.{armed_given, asks_given}
@@ -35,13 +37,13 @@ use Rattle.hp_plain.proofs.Slotted.{agreed_alike, read_alike, slice_get-set_othe
 module _ (knows : Knows) (before kept : SegsView) where
   segs_given_by : GivesForm knows before kept → AreSegsGivenBy knows.who before kept
   segs_given_by (logs form) =
-      let same : beside kept ≡ beside before = log_calls_beside 1 before kept form.moved in
+      let same : beside kept ≡ beside before = log_calls_beside 1 before kept form.give.moved in
       record {
-        moved = moves_widen is_log_call (λ call. true) 1 1 before kept (λ call is. refl) (omega arith) form.moved;
+        moved = moves_widen is_log_call (λ call. true) 1 1 before kept (λ call is. refl) (omega arith) form.give.moved;
         ranges = ap (λ (b : Beside). b.ranges) same;
-        armed = form.armed;
+        armed = form.arms.others;
         members = λ other apart. ap (λ (b : Beside). is_member b.roster other) same;
-        of_armed = form.of_armed;
+        of_armed = form.arms.of_armed;
       }
   segs_given_by (enrols form) = record {
     moved = moves_widen is_roster_call (λ call. true) 0 1 before kept (λ call is. refl) (omega arith) form.moved;
@@ -51,9 +53,9 @@ module _ (knows : Knows) (before kept : SegsView) where
     of_armed = armed_given knows before kept (enrols form);
   }
   segs_given_by (owns form) =
-      let same : shared kept ≡ shared before = owner_calls_shared 0 before kept form.moved in
+      let same : shared kept ≡ shared before = owner_calls_shared 0 before kept form.give.moved in
       record {
-        moved = moves_widen is_owner_call (λ call. true) 0 1 before kept (λ call is. refl) (omega arith) form.moved;
+        moved = moves_widen is_owner_call (λ call. true) 0 1 before kept (λ call is. refl) (omega arith) form.give.moved;
         ranges = ap (λ (s : Shared). s.ranges) same;
         armed = asks_given knows before kept (owns form);
         members = λ other apart. ap (λ (s : Shared). is_member s.roster other) same;
@@ -98,18 +100,18 @@ module _ (knows : Knows) (before kept : SegsView) where
 
   logs_taken_in : GivesLog knows before kept → AreTakenIn knows.noted before → AreTakenIn knows.noted kept
   logs_taken_in form old entry generation member has grants is =
-      let came : Appends before kept = moves_append is_log_call 1 before kept form.moved in
-      let same : beside kept ≡ beside before = log_calls_beside 1 before kept form.moved in
+      let came : Appends before kept = moves_append is_log_call 1 before kept form.give.moved in
+      let same : beside kept ≡ beside before = log_calls_beside 1 before kept form.give.moved in
       ⊎_elim
       (λ (was : Contains before.asks entry).
       old entry generation member was grants (sym (ap (λ (b : Beside). is_member b.roster member) same) ∙ is))
       (λ (new : Contains came.outcomes entry).
-      form.agreed entry generation member
+      form.give.agreed entry generation member
       (subst (λ (l : List AskLog). Contains l entry)
       (sym (ap (drop (length before.asks)) came.asks ∙ drop-append_seam before.asks came.outcomes)) new) grants is)
       (Contains-append_cases before.asks came.outcomes entry (subst (λ (l : List AskLog). Contains l entry) came.asks has))
 
-  module _ (sound : IsSound before) (own : knows.number ≡ knows.noted knows.who) (form : GivesRoster knows before kept) where
+  module _ (sound : IsSound before) (own : knows.number ≡ knows.noted knows.who) (form : IsRosterGive (giver_of knows) before kept) where
     same_logged : logged kept ≡ logged before
     same_logged = roster_calls_logged 0 before kept form.moved
 
@@ -134,12 +136,12 @@ module _ (knows : Knows) (before kept : SegsView) where
         (λ (apart : member ≢ knows.who). old entry generation member was grants (sym (form.others member apart) ∙ is))
         (cases_eq member knows.who)
 
-  taken_in_by : IsSound before → knows.number ≡ knows.noted knows.who → GivesForm knows before kept → AreTakenIn knows.noted before
+  pub taken_in_by : IsSound before → knows.number ≡ knows.noted knows.who → GivesForm knows before kept → AreTakenIn knows.noted before
       → AreTakenIn knows.noted kept
   taken_in_by sound own (logs form) old = logs_taken_in form old
   taken_in_by sound own (enrols form) old = enrols_taken_in sound own form old
   taken_in_by sound own (owns form) old =
-      let same : shared kept ≡ shared before = owner_calls_shared 0 before kept form.moved in
+      let same : shared kept ≡ shared before = owner_calls_shared 0 before kept form.give.moved in
       still_taken_in (ap (λ (s : Shared). s.asks) same) (ap (λ (s : Shared). s.roster) same) old
 
 module _ (me number : ℕ) (old : HallView) (hall : IsHall old) (before : SlotView) (there : slot_at old number ≡ Some before) where

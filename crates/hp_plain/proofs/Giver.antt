@@ -1,7 +1,6 @@
 -- What the trait says of a give, over what it leaves: the giver's part and the parts of the others.
-use Rattle.std.proofs.Common.{◌≡◌, ◌≢◌, ℕ, Bool, true, false, ne_eqb, List, [], Option, Some, None, refl, sym, ap, subst, ◌∙◌, if◌then◌else◌}
+use Rattle.std.proofs.Common.{◌≡◌, ◌≢◌, ℕ, Bool, true, false, List, [], Option, Some, None, refl, sym, ap, subst, ◌∙◌, if◌then◌else◌}
 use Rattle.std.specs.Option.{option_map}
-use Rattle.std.proofs.lemmas.Bool.{eqb-true}
 use Rattle.std.proofs.lemmas.Option.{same_Some}
 use Rattle.hp_base.specs.declared.limits.TheConstants.{MAX_HEAPS}
 use Rattle.hp_heap.specs.declared.entry.Entry.{Entry}
@@ -14,28 +13,18 @@ use Rattle.hp_hall.specs.declared.kept.Kept.{Kept}
 use Rattle.hp_hall.specs.declared.kept.Kept.TheVariants.{Heap, Segments}
 use Rattle.hp_hall.specs.Giving.{GivesFor}
 use Rattle.hp_plain.specs.HallSteps.{heap_slot, home_slot}
-use Rattle.hp_plain.specs.HallView.{HallView, IsHall, SlotView, history_in, is_held_by, is_held_heap, is_joined, joined_in, part_in, part_of, segs_in, segs_of, serves_in, serves_of, slot_at}
+use Rattle.hp_plain.specs.HallView.{HallView, IsHall, SlotView, history_in, is_held_by, is_held_heap, is_joined, joined_in, log_in, part_in, part_of, seen_in, segs_in, segs_of, serves_in, serves_of, slot_at}
 use Rattle.hp_hall.specs.Holding.{IsGivenAs, IsHeldWith, part_behind}
 use Rattle.hp_segs.specs.Standing.{Holding, standing_of}
 use Rattle.hp_hall.specs.Mail.{MailStep}
-use Rattle.hp_hall.specs.Values.{Fits, history_of, joined_behind}
+use Rattle.hp_hall.specs.Values.{Fits, SeesAsBefore, history_of, joined_behind, log_of}
 use Rattle.hp_hall.proofs.Formed.{asks_given, members_given, standing_given}
 use Rattle.hp_plain.proofs.Given.{known, same_for_others}
+use Rattle.hp_plain.proofs.Held.{held_apart, part_by}
 use Rattle.hp_plain.proofs.Slotted.{MovesSlot, read_alike}
-use Rattle.hp_plain.proofs.Taking.{part_apart, part_by, parts_still, segs_still}
+use Rattle.hp_plain.proofs.Taking.{part_apart, parts_still, segs_still}
 
--- what one participant holds no other does
-apart_by : (who other : ℕ) (kept : Kept) (holder : Option ℕ) → other ≢ who → is_held_heap who kept holder ≡ true
-    → is_held_heap other kept holder ≡ false
-apart_by who other (Heap heap) None apart held = cc
-apart_by who other (Heap heap) (Some holder) apart held = ne_eqb holder other (λ same. apart (sym same ∙ eqb-true holder who held))
-apart_by who other (Segments segs) holder apart held = cc
-
-held_apart : (who other : ℕ) (slot : Option SlotView) → other ≢ who → is_held_by who slot ≡ true → is_held_by other slot ≡ false
-held_apart who other None apart held = cc
-held_apart who other (Some slot) apart held = apart_by who other slot.kept slot.holder apart held
-
--- who gives a heap with its pages holds it
+-- who gives a heap with what it holds has it in hand
 is_held : (heap : HeapView) (holding : Option Holding) (held : Bool) → IsHeldWith heap (if held then holding else None) → held ≡ true
 is_held heap holding true is = refl
 is_held heap holding false is = absurd is
@@ -169,3 +158,16 @@ module _ (me number : ℕ) (before : SlotView) (step : MailStep) (old new : Hall
 
     pub others_joined : GivesFor (known old me) (Some before.kept) kept → (who : ℕ) → who ≢ me → joined_in new who ≡ joined_in old who
     others_joined gives = (joined_by before.kept kept refl refl gives).1
+
+    -- what was seen of the log stays where a heap is given
+    sees_by : (was value : Kept) → before.kept ≡ was → kept ≡ value → GivesFor (known old me) (Some was) value
+        → SeesAsBefore value (seen_in old) (seen_in new)
+    sees_by (Heap was) (Heap value) is same gives =
+        let alike : log_in (Some (home_slot kept)) ≡ log_in (slot_at old number) = ap log_of same ∙ sym (ap log_in there ∙ ap log_of is) in
+        read_alike log_in number (home_slot kept) old new moves.here moves.elsewhere alike MAX_HEAPS
+    sees_by (Heap was) (Segments value) is same gives = absurd gives
+    sees_by (Segments was) (Heap value) is same gives = absurd gives
+    sees_by (Segments was) (Segments value) is same gives = tt
+
+    pub sees_given : GivesFor (known old me) (Some before.kept) kept → SeesAsBefore kept (seen_in old) (seen_in new)
+    sees_given gives = sees_by before.kept kept refl refl gives

@@ -1,23 +1,38 @@
--- A hall of which a value was taken or given back is one.
-use Rattle.std.proofs.Common.{◌≡◌, ◌≢◌, ℕ, ◌<◌, Bool, true, false, List, length, set, Option, Some, None, refl, sym, ap, subst, ◌∙◌, ⊎_elim, arith, length-set, if◌then◌else◌}
-use Rattle.std.specs.List.{slice_get}
+-- A hall of which a value was taken or given back is one, and so is one of which an own part has changed.
+use Rattle.std.proofs.Common.{◌≡◌, ◌≢◌, ℕ, ◌<◌, ◌≤◌, Bool, true, false, List, [], length, set, Option, Some, None, inl, inr, refl, sym, ap, subst, ◌∙◌, ⊎_elim, arith, length-append, length-set, if◌then◌else◌}
+use Rattle.std.specs.List.{slice_get, slice_index_or}
 use Rattle.std.specs.Option.{option_map}
 use Rattle.std.proofs.lemmas.Bool.{cases_eq}
+use Rattle.std.proofs.lemmas.List.{append-nil}
 use Rattle.std.proofs.lemmas.Option.{same_Some}
 use Rattle.hp_base.specs.declared.limits.TheConstants.{MAX_HEAPS}
 use Rattle.hp_heap.specs.History.{HeapView}
+use Rattle.hp_segs.specs.LaterSteps.{armed_ask}
+use Rattle.hp_segs.specs.PendingRuns.{ArePending}
 use Rattle.hp_segs.specs.SegsView.{SegsView}
+use Rattle.hp_segs.specs.SettledAsks.{IsSettled}
 use Rattle.hp_segs.specs.Sound.{IsSound}
+use Rattle.hp_segs.specs.Standing.{Holding, IsArmed, standing_of}
+use Rattle.hp_segs.specs.declared.ask.Ask.{Ask}
+use Rattle.hp_segs.specs.declared.outcome.AskLog.{AskLog}
+use Rattle.hp_hall.specs.AskLaws.{LeavesSettled}
+use Rattle.hp_hall.specs.Asks.{IsKnownSettled}
 use Rattle.hp_hall.specs.declared.kept.Kept.{Kept}
 use Rattle.hp_hall.specs.declared.kept.Kept.TheVariants.{Heap, Segments}
 use Rattle.hp_hall.specs.Giving.{GivesFor}
-use Rattle.hp_plain.specs.HallSteps.{heap_slot, home_slot, out_slot}
-use Rattle.hp_plain.specs.HallView.{HallView, IsHall, IsHeapAtHome, SlotView, is_held_by, part_in, part_of, segs_in, segs_of, slot_at}
-use Rattle.hp_hall.specs.Holding.{HasPages, IsHeldWith}
-use Rattle.hp_segs.specs.Standing.{Holding, IsArmed, owned_by, standing_of}
+use Rattle.hp_hall.specs.Holding.{HasHolding, HeapPart, IsHeldWith}
+use Rattle.hp_hall.specs.Own.{Own, after_ack}
 use Rattle.hp_hall.specs.Values.{Fits, IsSoundKept}
-use Rattle.hp_plain.proofs.Given.{known}
 use Rattle.hp_hall.proofs.Formed.{armed_given, standing_given}
+use Rattle.hp_hall.proofs.GivenAsks.{ArmsForHeld, armed_by_give, pending_given, settled_given}
+use Rattle.hp_hall.proofs.KnownAsks.{known_is_settled}
+use Rattle.hp_plain.specs.HallSteps.{heap_slot, home_slot, out_slot, with_own}
+use Rattle.hp_plain.specs.HallView.{HallView, IsAskHeld, IsHall, IsHeapAtHome, SlotView, heard_in, is_held_by, own_at, part_in, part_of, segs_in, segs_of, slot_at}
+use Rattle.hp_plain.specs.TakenIn.{AreTakenIn, IsOwnOf}
+use Rattle.hp_plain.proofs.Agreeing.{taken_in_by}
+use Rattle.hp_plain.proofs.Given.{known}
+use Rattle.hp_plain.proofs.Held.{asks_there, held_holding, held_once, holding_held, home_unheld, segs_unheld}
+use Rattle.hp_plain.proofs.Owned.{numbers_rise, own_elsewhere, own_here}
 use Rattle.hp_plain.proofs.Slotted.{heap_same, out_not_home, read_alike, segs_not_heap, unheld_heap, slice_get-set_other, slice_get-set_same}
 
 -- a slot has come to this, and beside it nothing of the values, mailboxes and own parts has changed
@@ -32,6 +47,10 @@ pub record IsHallSegs (hall : HallView) (segs : SegsView) : Type 0 where
   pub there : segs_in (slot_at hall MAX_HEAPS) ≡ Some segs
   pub sound : IsSound segs
   pub armed : IsArmed segs
+  pub asking : (who : ℕ) (ask : Ask) → armed_ask segs who ≡ Some ask → IsAskHeld hall segs who ask
+  pub pending : ArePending segs
+  pub owned : (who : ℕ) → who < length hall.owns → IsOwnOf (length segs.log) (own_at hall who)
+  pub agreed : AreTakenIn (λ who. (own_at hall who).number) segs
 
 module _ (number : ℕ) (slot : SlotView) (old new : HallView) (changed : IsChanged number slot old new) where
   now_here : slot_at new number ≡ Some slot
@@ -52,10 +71,13 @@ module _ (number : ℕ) (slot : SlotView) (old new : HallView) (changed : IsChan
       (λ (apart : k ≢ number). elsewhere k s apart (sym (now_elsewhere k apart) ∙ there))
       (cases_eq k number)
 
-  -- so the hall is one, where its segment value is one that a hall may have, and each heap at home has its pages
+  owns_still : (who : ℕ) → own_at new who ≡ own_at old who
+  owns_still who = ap (λ (l : List Own). slice_index_or l who (after_ack 0)) changed.owns
+
+  -- so the hall is one, where its segment value is one that a hall may have, and each heap at home has what that has for it
   pub hall_changed : (segs : SegsView) → IsHall old → Fits number slot.kept → IsHallSegs new segs
-      → ((heap : HeapView) → slot ≡ heap_slot heap → HasPages heap.plain.pages (owned_by number segs))
-      → ((k : ℕ) (heap : HeapView) → k ≢ number → IsHeapAtHome old k heap → HasPages heap.plain.pages (owned_by k segs)) → IsHall new
+      → ((heap : HeapView) → slot ≡ heap_slot heap → HasHolding heap (standing_of number segs))
+      → ((k : ℕ) (heap : HeapView) → k ≢ number → IsHeapAtHome old k heap → HasHolding heap (standing_of k segs)) → IsHall new
   hall_changed segs hall fits is here elsewhere = record {
     slots = ap length changed.slots ∙ length-set old.slots number slot ∙ hall.slots;
     fits = each_now (λ k s. Fits k s.kept) fits (λ k s apart there. hall.fits k s there);
@@ -65,9 +87,31 @@ module _ (number : ℕ) (slot : SlotView) (old new : HallView) (changed : IsChan
     there = is.there;
     sound = is.sound;
     armed = is.armed;
-    pages = λ k heap home.
-        each_now (λ n s. (h : HeapView) → s ≡ heap_slot h → HasPages h.plain.pages (owned_by n segs)) here
+    home = λ k heap home.
+        each_now (λ n s. (h : HeapView) → s ≡ heap_slot h → HasHolding h (standing_of n segs)) here
         (λ n s apart there h same. elsewhere n h apart (there ∙ ap Some same)) k (heap_slot heap) home heap refl;
+    asking = is.asking;
+    pending = is.pending;
+    owned = is.owned;
+    agreed = is.agreed;
+  }
+
+  -- where the segment value stays, it is still one that a hall may have
+  pub same_segs : (hall : IsHall old) → segs_in (Some slot) ≡ segs_in (slot_at old number)
+      → ((who : ℕ) (ask : Ask) → armed_ask hall.segs who ≡ Some ask → is_held_by who (slot_at old ask.heap) ≡ true → IsAskHeld new hall.segs who ask)
+      → IsHallSegs new hall.segs
+  same_segs hall still held = record {
+    there = read_alike segs_in number slot old new now_here now_elsewhere still MAX_HEAPS ∙ hall.there;
+    sound = hall.sound;
+    armed = hall.armed;
+    asking = λ who ask is.
+        ⊎_elim (λ (settled : IsSettled ask.from ask.number hall.segs). inl settled)
+        (λ (holds : is_held_by who (slot_at old ask.heap) ≡ true). held who ask is holds) (hall.asking who ask is);
+    pending = hall.pending;
+    owned = λ who below.
+        subst (IsOwnOf (length hall.segs.log)) (sym (owns_still who)) (hall.owned who (omega (arith, below, ap length changed.owns)));
+    agreed = λ entry generation member has grants is.
+        omega (arith, hall.agreed entry generation member has grants is, ap (λ (own : Own). own.number) (owns_still member));
   }
 
 -- a hall of which a value was taken is one
@@ -75,17 +119,24 @@ pub hall_taken : (me number : ℕ) (kept : Kept) (old new : HallView) → IsHall
     → IsChanged number (out_slot me kept) old new → IsHall new
 hall_taken me number kept old new hall there changed =
     let slot : SlotView = out_slot me kept in
-    let segs = read_alike segs_in number slot old new (now_here number slot old new changed) (now_elsewhere number slot old new changed)
-    (ap segs_in (sym there)) MAX_HEAPS in
     hall_changed number slot old new changed hall.segs hall (hall.fits number (home_slot kept) there)
-    (record { there = segs ∙ hall.there; sound = hall.sound; armed = hall.armed })
-    (λ heap same. absurd (out_not_home me kept (Heap heap) same)) (λ k heap apart home. hall.pages k heap home)
+    (same_segs number slot old new changed hall (ap segs_in (sym there)) (λ who ask is held.
+    ⊎_elim
+    (λ (same : ask.heap ≡ number). absurd (home_unheld who kept (slot_at old number) there (ap (λ (n : ℕ). is_held_by who (slot_at old n)) (sym same) ∙ held)))
+    (λ (apart : ask.heap ≢ number). inr (ap (is_held_by who) (now_elsewhere number slot old new changed ask.heap apart) ∙ held))
+    (cases_eq ask.heap number)))
+    (λ heap same. absurd (out_not_home me kept (Heap heap) same)) (λ k heap apart home. hall.home k heap home)
 
--- a heap that was held as its holding names it has the pages that it owns
-held_pages : (heap : HeapView) (number : ℕ) (held : Bool) (segs : SegsView)
-    → IsHeldWith heap (if held then option_map (standing_of number) (Some segs) else None) → HasPages heap.plain.pages (owned_by number segs)
-held_pages heap number true segs is = is
-held_pages heap number false segs is = absurd is
+-- a heap that was held has what its holding names
+held_home : (heap : HeapView) (number : ℕ) (held : Bool) (segs : SegsView)
+    → IsHeldWith heap (if held then option_map (standing_of number) (Some segs) else None) → HasHolding heap (standing_of number segs)
+held_home heap number true segs is = is
+held_home heap number false segs is = absurd is
+
+-- who gives a heap with what it holds has it in hand
+given_held : (heap : HeapView) (holding : Option Holding) (held : Bool) → IsHeldWith heap (if held then holding else None) → held ≡ true
+given_held heap holding true is = refl
+given_held heap holding false is = absurd is
 
 -- nobody holds a heap at home
 pub unheld_at_home : (hall : HallView) (who number : ℕ) (kept : Kept) → slot_at hall number ≡ Some (home_slot kept)
@@ -97,39 +148,121 @@ unheld_at_home hall who number kept there =
 
 module _ (me number : ℕ) (old new : HallView) (hall : IsHall old) where
   -- a heap that comes in
-  heap_given : (before : SlotView) (was kept : HeapView) → before.kept ≡ Heap was → slot_at old number ≡ Some before
-      → Fits number (Heap kept) → GivesFor (known old me) (Some (Heap was)) (Heap kept) → IsChanged number (heap_slot kept) old new → IsHall new
-  heap_given before was kept is there fits gives changed =
-      let slot : SlotView = heap_slot kept in
-      let segs = read_alike segs_in number slot old new (now_here number slot old new changed) (now_elsewhere number slot old new changed)
-      (sym (ap segs_in there ∙ ap segs_of is)) MAX_HEAPS in
-      let held = subst (λ (s : Option SegsView). IsHeldWith kept (part_of me kept.plain.index (slot_at old kept.plain.index) s).holding)
-      hall.there gives.held in
-      let index = kept.plain.index in
-      let pages : HasPages kept.plain.pages (owned_by number hall.segs) =
-      subst (λ (n : ℕ). HasPages kept.plain.pages (owned_by n hall.segs)) fits.0
-      (held_pages kept index (is_held_by me (slot_at old index)) hall.segs held) in
-      hall_changed number slot old new changed hall.segs hall fits
-      (record { there = segs ∙ hall.there; sound = hall.sound; armed = hall.armed })
-      (λ heap same. subst (λ (h : HeapView). HasPages h.plain.pages (owned_by number hall.segs)) (heap_same kept heap same) pages)
-      (λ k heap apart home. hall.pages k heap home)
+  module _ (before : SlotView) (was kept : HeapView) (is : before.kept ≡ Heap was) (there : slot_at old number ≡ Some before)
+      (fits : Fits number (Heap kept)) (gives : GivesFor (known old me) (Some (Heap was)) (Heap kept)) where
+    held_here : is_held_by me (slot_at old number) ≡ true
+    held_here =
+        let index = kept.plain.index in
+        ap (λ (n : ℕ). is_held_by me (slot_at old n)) (sym fits.0)
+        ∙ given_held kept (option_map (standing_of index) (segs_in (slot_at old MAX_HEAPS))) (is_held_by me (slot_at old index)) gives.held
+
+    has_held : HasHolding kept (standing_of number hall.segs)
+    has_held =
+        let index = kept.plain.index in
+        let held = subst (λ (s : Option SegsView). IsHeldWith kept (part_of me index (slot_at old index) s).holding) hall.there gives.held in
+        subst (λ (n : ℕ). HasHolding kept (standing_of n hall.segs)) fits.0
+        (held_home kept index (is_held_by me (slot_at old index)) hall.segs held)
+
+    -- the giver's ask for it is settled
+    settled_here : (ask : Ask) → armed_ask hall.segs me ≡ Some ask → ask.heap ≡ number → IsSettled ask.from ask.number hall.segs
+    settled_here ask armed same =
+        let index = kept.plain.index in
+        let part : HeapPart = part_in old me index in
+        let its : part.armed ≡ Some ask = ap (λ (s : Option SegsView). (part_of me index (slot_at old index) s).armed) hall.there ∙ armed in
+        let at : ask.heap ≡ index = same ∙ sym fits.0 in
+        let holding : part.holding ≡ Some (standing_of ask.heap hall.segs) =
+        held_holding old hall.segs hall.there me index (ap (λ (n : ℕ). is_held_by me (slot_at old n)) fits.0 ∙ held_here)
+        ∙ ap (λ (n : ℕ). Some (standing_of n hall.segs)) (sym at) in
+        let known_of : IsKnownSettled (heard_in old) part.holding ask = gives.settled ask its at in
+        let heard : heard_in old ≡ hall.segs.asks = asks_there (slot_at old MAX_HEAPS) hall.segs hall.there in
+        known_is_settled hall.segs hall.segs.asks [] ask hall.sound (sym (append-nil hall.segs.asks))
+        (subst (λ (l : List AskLog). IsKnownSettled l (Some (standing_of ask.heap hall.segs)) ask) heard
+        (subst (λ (h : Option Holding). IsKnownSettled (heard_in old) h ask) holding known_of))
+
+    heap_given : IsChanged number (heap_slot kept) old new → IsHall new
+    heap_given changed =
+        let slot : SlotView = heap_slot kept in
+        hall_changed number slot old new changed hall.segs hall fits
+        (same_segs number slot old new changed hall (sym (ap segs_in there ∙ ap segs_of is)) (λ who ask armed held.
+        ⊎_elim
+        (λ (same : ask.heap ≡ number).
+        let holds : is_held_by who (slot_at old number) ≡ true = ap (λ (n : ℕ). is_held_by who (slot_at old n)) (sym same) ∙ held in
+        let own : who ≡ me = held_once who me (slot_at old number) holds held_here in
+        inl (settled_here ask (ap (armed_ask hall.segs) (sym own) ∙ armed) same))
+        (λ (apart : ask.heap ≢ number). inr (ap (is_held_by who) (now_elsewhere number slot old new changed ask.heap apart) ∙ held))
+        (cases_eq ask.heap number)))
+        (λ heap same. subst (λ (h : HeapView). HasHolding h (standing_of number hall.segs)) (heap_same kept heap same) has_held)
+        (λ k heap apart home. hall.home k heap home)
 
   -- a segment value that comes in
-  segs_given : (before : SlotView) (was kept : SegsView) → before.kept ≡ Segments was → slot_at old number ≡ Some before
-      → Fits number (Segments kept) → GivesFor (known old me) (Some (Segments was)) (Segments kept) → IsSound kept
-      → IsChanged number (home_slot (Segments kept)) old new → IsHall new
-  segs_given before was kept is there fits gives sound changed =
-      let slot : SlotView = home_slot (Segments kept) in
-      let same : hall.segs ≡ was =
-      same_Some hall.segs was (sym hall.there ∙ ap (λ (n : ℕ). segs_in (slot_at old n)) (sym fits) ∙ ap segs_in there ∙ ap segs_of is) in
-      let now : segs_in (slot_at new MAX_HEAPS) ≡ Some kept =
-      ap (λ (n : ℕ). segs_in (slot_at new n)) (sym fits) ∙ ap segs_in (now_here number slot old new changed) in
-      let armed = armed_given (known old me) was kept gives.form (subst IsArmed same hall.armed) in
-      let was_sound : IsSound was = subst IsSound same hall.sound in
-      hall_changed number slot old new changed kept hall fits (record { there = now; sound = sound; armed = armed }) (λ heap other. absurd (segs_not_heap heap kept (sym other)))
-      (λ k heap apart home.
-      let stays = standing_given (known old me) was kept was_sound gives.form k (unheld_at_home old me k (Heap heap) home) in
-      subst (HasPages heap.plain.pages) (ap (owned_by k) same ∙ sym (ap (λ (h : Holding). h.owned) stays)) (hall.pages k heap home))
+  module _ (before : SlotView) (was kept : SegsView) (is : before.kept ≡ Segments was) (there : slot_at old number ≡ Some before)
+      (fits : Fits number (Segments kept)) (gives : GivesFor (known old me) (Some (Segments was)) (Segments kept)) (sound : IsSound kept)
+      (changed : IsChanged number (home_slot (Segments kept)) old new) where
+    same_was : hall.segs ≡ was
+    same_was = same_Some hall.segs was (sym hall.there ∙ ap (λ (n : ℕ). segs_in (slot_at old n)) (sym fits) ∙ ap segs_in there ∙ ap segs_of is)
+
+    sound_was : IsSound was
+    sound_was = subst IsSound same_was hall.sound
+
+    armed_was : IsArmed was
+    armed_was = subst IsArmed same_was hall.armed
+
+    -- heaps are held as they were
+    still_held : (who heap : ℕ) → is_held_by who (slot_at old heap) ≡ true → is_held_by who (slot_at new heap) ≡ true
+    still_held who heap held =
+        ⊎_elim
+        (λ (same : heap ≡ number).
+        absurd (segs_unheld who was (slot_at old number) (ap segs_in there ∙ ap segs_of is)
+        (ap (λ (n : ℕ). is_held_by who (slot_at old n)) (sym same) ∙ held)))
+        (λ (apart : heap ≢ number). ap (is_held_by who) (now_elsewhere number (home_slot (Segments kept)) old new changed heap apart) ∙ held)
+        (cases_eq heap number)
+
+    asking_given : (who : ℕ) (ask : Ask) → armed_ask kept who ≡ Some ask → IsAskHeld new kept who ask
+    asking_given who ask armed =
+        let settles : LeavesSettled was kept = settled_given (known old me) was kept sound_was sound armed_was gives.form in
+        let old_asking : (who : ℕ) (ask : Ask) → armed_ask was who ≡ Some ask → IsAskHeld old was who ask =
+        subst (λ (s : SegsView). (who : ℕ) (ask : Ask) → armed_ask s who ≡ Some ask → IsAskHeld old s who ask) same_was hall.asking in
+        ⊎_elim
+        (λ (before : armed_ask was who ≡ Some ask).
+        ⊎_elim (λ (settled : IsSettled ask.from ask.number was). inl (settles ask.from ask.number settled))
+        (λ (held : is_held_by who (slot_at old ask.heap) ≡ true). inr (still_held who ask.heap held)) (old_asking who ask before))
+        (λ (arms : ArmsForHeld (known old me) who ask).
+        inr (still_held who ask.heap
+        (ap (λ (n : ℕ). is_held_by n (slot_at old ask.heap)) arms.0 ∙ holding_held old me ask.heap arms.1)))
+        (armed_by_give (known old me) was kept gives.form who ask armed)
+
+    segs_kept : IsHallSegs new kept
+    segs_kept = record {
+      there = ap (λ (n : ℕ). segs_in (slot_at new n)) (sym fits) ∙ ap segs_in (now_here number (home_slot (Segments kept)) old new changed);
+      sound = sound;
+      armed = armed_given (known old me) was kept gives.form armed_was;
+      asking = asking_given;
+      pending =
+          pending_given (known old me) was kept sound_was sound armed_was gives.form (λ who heap. is_held_by who (slot_at new heap)) asking_given
+          (λ who other heap held also. held_once who other (slot_at new heap) held also) (subst ArePending same_was hall.pending);
+      owned = λ who below.
+          let same = ap (λ (s : SegsView). length s.log) same_was in
+          let own = hall.owned who (omega (arith, below, ap length changed.owns)) in
+          subst (IsOwnOf (length kept.log)) (sym (owns_still number (home_slot (Segments kept)) old new changed who)) (record {
+            behind = own.behind;
+            within = omega (arith, own.within, same, ap length gives.log, length-append was.log gives.more);
+          });
+      agreed = λ entry generation member has grants is.
+          omega
+          (
+            arith,
+            taken_in_by (known old me) was kept sound_was refl gives.form
+                (subst (AreTakenIn (known old me).noted) same_was hall.agreed) entry generation member has grants is,
+            ap (λ (own : Own). own.number) (owns_still number (home_slot (Segments kept)) old new changed member),
+          );
+    }
+
+    segs_given : IsHall new
+    segs_given =
+        hall_changed number (home_slot (Segments kept)) old new changed kept hall fits segs_kept (λ heap other. absurd (segs_not_heap heap kept (sym other)))
+        (λ k heap apart home.
+        let stays = standing_given (known old me) was kept sound_was gives.form k (unheld_at_home old me k (Heap heap) home) in
+        subst (HasHolding heap) (ap (standing_of k) same_was ∙ sym stays) (hall.home k heap home))
 
   -- a hall to which a value was given is one
   pub hall_given : (before : SlotView) (was kept : Kept) → before.kept ≡ was → slot_at old number ≡ Some before → Fits number kept
@@ -139,3 +272,44 @@ module _ (me number : ℕ) (old new : HallView) (hall : IsHall old) where
   hall_given before (Segments was) (Heap kept) is there fits gives sound changed = absurd gives
   hall_given before (Segments was) (Segments kept) is there fits gives sound changed =
       segs_given before was kept is there fits gives sound changed
+
+-- a hall whose participant's own part has come to another of the log, with a number that has not fallen, is one
+pub hall_own : (old new : HallView) (who : ℕ) (own : Own) → IsHall old → new.slots ≡ old.slots → new.boxes ≡ old.boxes
+    → new.owns ≡ set old.owns who own → who < length old.owns → (own_at old who).number ≤ own.number
+    → ((segs : SegsView) → segs_in (slot_at old MAX_HEAPS) ≡ Some segs → IsOwnOf (length segs.log) own) → IsHall new
+hall_own old new who own hall slots boxes owns below rises of =
+    let at : (number : ℕ) → slot_at new number ≡ slot_at old number = λ number. ap (λ (l : List SlotView). slice_get l number) slots in
+    let many : length new.owns ≡ length old.owns = ap length owns ∙ length-set old.owns who own in
+    let now : (other : ℕ) → own_at new other ≡ own_at (with_own who own old) other =
+    λ other. ap (λ (l : List Own). slice_index_or l other (after_ack 0)) owns in
+    record {
+      slots = ap length slots ∙ hall.slots;
+      fits = λ number slot there. hall.fits number slot (sym (at number) ∙ there);
+      boxes = ap length boxes ∙ hall.boxes ∙ sym many;
+      few = omega (arith, hall.few, many);
+      segs = hall.segs;
+      there = ap segs_in (at MAX_HEAPS) ∙ hall.there;
+      sound = hall.sound;
+      armed = hall.armed;
+      home = λ number heap home. hall.home number heap (sym (at number) ∙ home);
+      asking = λ asker ask is.
+          ⊎_elim (λ (settled : IsSettled ask.from ask.number hall.segs). inl settled)
+          (λ (held : is_held_by asker (slot_at old ask.heap) ≡ true). inr (ap (is_held_by asker) (at ask.heap) ∙ held)) (hall.asking asker ask is);
+      pending = hall.pending;
+      owned = λ other inside.
+          subst (IsOwnOf (length hall.segs.log)) (sym (now other))
+          (⊎_elim
+          (λ (same : other ≡ who).
+          subst (IsOwnOf (length hall.segs.log)) (sym (ap (own_at (with_own who own old)) same ∙ own_here old who own below)) (of hall.segs hall.there))
+          (λ (apart : other ≢ who).
+          subst (IsOwnOf (length hall.segs.log)) (sym (own_elsewhere old who other own apart)) (hall.owned other (omega (arith, inside, many))))
+          (cases_eq other who));
+      agreed = λ entry generation member has grants is.
+          omega
+          (
+            arith,
+            hall.agreed entry generation member has grants is,
+            numbers_rise old who own below rises member,
+            ap (λ (own : Own). own.number) (now member),
+          );
+    }

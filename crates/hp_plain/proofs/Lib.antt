@@ -2,8 +2,10 @@ pub mod Agreeing
 pub mod Given
 pub mod Giver
 pub mod Halls
+pub mod Held
 pub mod Homes
 pub mod Mailed
+pub mod Mapped
 pub mod Opened
 pub mod Owned
 pub mod PlainStates

@@ -1,21 +1,26 @@
 -- The slots of a hall as it opens and as it ends.
 use Rattle.std.proofs.Common.{◌≡◌, ℕ, zero, suc, ◌+◌, ◌<◌, ◌⊎◌, Bool, false, List, [], ◌∷◌, ◌++◌, length, get_or, take, drop, map, Option, Some, None, refl, sym, ap, subst, ◌∙◌, inl, inr, ⊎_elim, arith, length-append, if◌then◌else◌}
 use Rattle.std.specs.Option.{option_map}
-use Rattle.std.specs.List.{slice_get}
-use Rattle.std.proofs.lemmas.List.{append_assoc, length-map, map-append, nil_from_length}
+use Rattle.std.specs.Prelude.{Contains, replicate}
+use Rattle.std.specs.List.{slice_get, slice_index_or}
+use Rattle.std.proofs.lemmas.List.{append_assoc, get_or-replicate, length-map, length-replicate, map-append, nil_from_length}
 use Rattle.std.proofs.lemmas.Option.{slice_get_within}
 use Rattle.hp_base.specs.declared.limits.TheConstants.{MAX_HEAPS}
 use Rattle.hp_heap.specs.History.{HeapView, entries_of}
-use Rattle.hp_segs.specs.SegsView.{SegsView}
+use Rattle.hp_segs.specs.SegsView.{SegsView, granted_by}
 use Rattle.hp_hall.specs.declared.kept.Kept.{Kept}
 use Rattle.hp_hall.specs.declared.kept.Kept.TheVariants.{Heap, Segments}
 use Rattle.hp_hall.specs.declared.slot.TheConstants.{SLOTS}
 use Rattle.hp_plain.specs.HallSteps.{heap_slot, home_slot, opening_hall, slots_of}
 use Rattle.hp_plain.specs.HallView.{HallView, IsHall, IsHome, SlotView, history_in, is_held_by, is_held_heap, log_in, part_in, segs_in}
-use Rattle.hp_hall.specs.Holding.{HasPages}
-use Rattle.hp_segs.specs.Standing.{owned_by, standing_of}
+use Rattle.hp_hall.specs.Holding.{HasHolding}
+use Rattle.hp_hall.specs.Own.{Own, after_ack}
+use Rattle.hp_segs.specs.PendingRuns.{ArePending}
+use Rattle.hp_segs.specs.Standing.{standing_of}
+use Rattle.hp_segs.specs.declared.outcome.AskLog.{AskLog}
+use Rattle.hp_plain.specs.TakenIn.{IsOwnOf}
 use Rattle.hp_plain.specs.Moved.{AreSlotsOf, IsFirstHeap, IsLastSegs}
-use Rattle.hp_plain.specs.Opening.{AreHome, AreInOrder, AreUnused, HavePages}
+use Rattle.hp_plain.specs.Opening.{AreHome, AreInOrder, AreUnused, MayOpenWith}
 use Rattle.hp_hall.specs.Values.{Fits, history_of}
 use Rattle.hp_plain.proofs.Slotted.{heap_same, segs_not_heap, unheld_heap}
 
@@ -83,15 +88,39 @@ opened_log [] segs (suc number) count = cc
 opened_log (heap ∷ heaps) segs zero count = cc
 opened_log (heap ∷ heaps) segs (suc number) count = opened_log heaps segs number (omega (arith, count))
 
--- each heap of a hall that opens has its pages
-pub opened_pages : (heaps : List HeapView) (segs : SegsView) → HavePages heaps segs → (number : ℕ) (heap : HeapView)
-    → slice_get (slots_of heaps segs) number ≡ Some (heap_slot heap) → HasPages heap.plain.pages (owned_by number segs)
-opened_pages heaps segs pages number heap there =
+-- each heap of a hall that opens has what the segment value has for it
+pub opened_holds : (heaps : List HeapView) (segs : SegsView) → MayOpenWith heaps segs → (number : ℕ) (heap : HeapView)
+    → slice_get (slots_of heaps segs) number ≡ Some (heap_slot heap) → HasHolding heap (standing_of number segs)
+opened_holds heaps segs opens number heap there =
     ⊎_elim
     (λ (at : (h : HeapView) × (slice_get heaps number ≡ Some h) × (heap_slot heap ≡ heap_slot h)).
-    pages number heap (at.1 ∙ ap Some (sym (heap_same heap at.0 at.2))))
+    opens.held number heap (at.1 ∙ ap Some (sym (heap_same heap at.0 at.2))))
     (λ (at : (number ≡ length heaps) × (heap_slot heap ≡ home_slot (Segments segs))). absurd (segs_not_heap heap segs at.1))
     (opened_at heaps segs number (heap_slot heap) there)
+
+-- where nothing was granted, nothing is pending, and all members have taken in what was
+pub none_granted : (heaps : List HeapView) (segs : SegsView) → MayOpenWith heaps segs → (entry : AskLog) (generation : ℕ)
+    → Contains segs.asks entry → granted_by entry.outcome ≡ Some generation → ⊥
+none_granted heaps segs opens entry generation has granted =
+    let wrong : None ≡ Some generation = sym (opens.ungranted entry has) ∙ granted in
+    cc
+
+pub none_pending : (heaps : List HeapView) (segs : SegsView) → MayOpenWith heaps segs → ArePending segs
+none_pending heaps segs opens = record {
+  of_armed = λ entry ask generation pending. absurd (none_granted heaps segs opens entry generation pending.logged pending.granted);
+  alone = λ entry ask generation growth pending. absurd (none_granted heaps segs opens entry generation pending.logged pending.granted);
+  last = λ entry other ask asked generation number pending. absurd (none_granted heaps segs opens entry generation pending.logged pending.granted);
+}
+
+-- nobody has acknowledged a record
+pub opened_own : (participants who records : ℕ) (owns : List Own) → owns ≡ replicate participants (after_ack 0) → who < length owns
+    → IsOwnOf records (slice_index_or owns who (after_ack 0))
+opened_own participants who records owns are below =
+    let own : slice_index_or owns who (after_ack 0) ≡ after_ack 0 =
+    ap (λ (l : List Own). slice_index_or l who (after_ack 0)) are
+    ∙ get_or-replicate participants who (after_ack 0) (after_ack 0)
+    (omega (arith, below, ap length are ∙ length-replicate participants (after_ack 0))) in
+    subst (IsOwnOf records) (sym own) (record { behind = omega arith; within = omega arith })
 
 -- nobody holds a heap of a hall that opens
 unheld : (who : ℕ) (slot : Option SlotView) → ((there : SlotView) → slot ≡ Some there → there.holder ≡ None) → is_held_by who slot ≡ false

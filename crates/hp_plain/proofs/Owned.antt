@@ -5,16 +5,16 @@ use Rattle.std.specs.Option.{option_map}
 use Rattle.std.proofs.Math.ListN.{get_or-map}
 use Rattle.std.proofs.Math.Seq.{map-set_same}
 use Rattle.std.proofs.lemmas.Bool.{cases_eq}
-use Rattle.std.proofs.lemmas.List.{append-nil, length-set, map-set, get_or-set_same, get_or-set_other}
+use Rattle.std.proofs.lemmas.List.{length-set, map-set, get_or-set_same, get_or-set_other}
 use Rattle.std.proofs.lemmas.Option.{slice_get-get_or, slice_get-map}
 use Rattle.hp_hall.specs.declared.note.Note.{Note}
-use Rattle.hp_hall.specs.declared.note.Note.TheVariants.{Acked, Paused}
+use Rattle.hp_hall.specs.declared.note.Note.TheVariants.{Acked, Paused, Unmapped}
 use Rattle.hp_plain.specs.Course.{IsCourse, slot_same}
-use Rattle.hp_plain.specs.HallSteps.{after_acking, with_note, with_own}
-use Rattle.hp_plain.specs.HallView.{HallView, own_at, slot_at}
+use Rattle.hp_plain.specs.HallSteps.{after_acking, after_unmapping, with_note, with_own}
+use Rattle.hp_plain.specs.HallView.{HallView, own_at, seen_in, slot_at}
 use Rattle.hp_hall.specs.Mail.{Notes}
 use Rattle.hp_plain.specs.Meters.{GoesOnTo, IsNoted, meters_in}
-use Rattle.hp_hall.specs.Own.{Own, after_ack}
+use Rattle.hp_hall.specs.Own.{Own, after_ack, after_partial}
 use Rattle.hp_plain.proofs.Slotted.{agreed_alike}
 
 -- the number that an own part has
@@ -38,7 +38,7 @@ own_here hall who own below = get_or-set_same hall.owns who own (after_ack 0) be
 pub own_elsewhere : (hall : HallView) (who other : ℕ) (own : Own) → other ≢ who → own_at (with_own who own hall) other ≡ own_at hall other
 own_elsewhere hall who other own apart = get_or-set_other hall.owns who other own (after_ack 0) apart
 
-numbers_rise : (hall : HallView) (who : ℕ) (own : Own) → who < length hall.owns → (own_at hall who).number ≤ own.number → (other : ℕ)
+pub numbers_rise : (hall : HallView) (who : ℕ) (own : Own) → who < length hall.owns → (own_at hall who).number ≤ own.number → (other : ℕ)
     → (own_at hall other).number ≤ (own_at (with_own who own hall) other).number
 numbers_rise hall who own below rises other =
     ⊎_elim
@@ -48,27 +48,6 @@ numbers_rise hall who own below rises other =
     omega (arith, ap (λ (o : Own). o.number) now, ap (λ (o : Own). o.number) before))
     (λ (apart : other ≢ who). omega (arith, ap (λ (o : Own). o.number) (own_elsewhere hall who other own apart)))
     (cases_eq other who)
-
--- with its number as it was a participant makes no step
-pub course_own : (hall : HallView) (who : ℕ) (own : Own) → who < length hall.owns → own.number ≡ (own_at hall who).number
-    → IsCourse hall (with_own who own hall)
-course_own hall who own below same =
-    let rises = numbers_rise hall who own below (omega (arith, same)) in
-    record {
-      count = length-set hall.owns who own;
-      slots = λ number. slot_same (slot_at hall number);
-      numbers = rises;
-      clock = omega arith;
-      steps = [];
-      mail = sym (append-nil hall.mail);
-      fulls = omega arith;
-      boxes = refl;
-      kept = refl;
-      turns = refl;
-      meters = ap (λ (numbers : List ℕ). record { clock = hall.clock; numbers = numbers })
-          (map-set_same number_of hall.owns who own (after_ack 0) same);
-      agreed = agreed_alike hall (with_own who own hall) refl rises;
-    }
 
 -- a note is made, with which the own parts and the clock come to these
 module _ (hall : HallView) (who : ℕ) (note : Note) (owns : List Own) (clock : ℕ) where
@@ -103,6 +82,17 @@ course_acking hall who number declared rises =
       shows = omega (arith, rises, number_at hall who);
       clock = refl;
       numbers = map-set number_of hall.owns who own;
+    })
+
+-- what the records drop was unmapped, with the number as it was
+pub course_unmapping : (hall : HallView) (who : ℕ) → who < length hall.owns → IsCourse hall (after_unmapping who hall)
+course_unmapping hall who declared =
+    let own : Own = after_partial (length (seen_in hall)) (own_at hall who) in
+    course_note hall who Unmapped (set hall.owns who own) hall.clock declared (length-set hall.owns who own)
+    (numbers_rise hall who own declared (omega arith)) (omega arith) (record {
+      shows = tt;
+      clock = refl;
+      numbers = map-set_same number_of hall.owns who own (after_ack 0) refl;
     })
 
 goes_later : (moved : Bool) (until : Option ℕ) (old new : ℕ) → GoesOnTo moved until old new → old ≤ new

@@ -1,31 +1,29 @@
 -- What the trait says of a take, over what it leaves; and participants' parts where a slot changed.
-use Rattle.std.proofs.Common.{◌≡◌, ◌≢◌, ℕ, Bool, true, false, ne_eqb, List, [], Option, Some, None, refl, sym, ap, subst, ◌∙◌, if◌then◌else◌}
-use Rattle.std.specs.Option.{option_and_then, option_map}
-use Rattle.std.proofs.lemmas.Bool.{eq-eqb}
+use Rattle.std.proofs.Common.{◌≡◌, ◌≢◌, ℕ, true, ne_eqb, List, Option, Some, inl, inr, refl, sym, ap, subst, ◌∙◌, ⊎_elim}
+use Rattle.std.specs.Option.{is_some, option_and_then}
+use Rattle.std.proofs.lemmas.Bool.{cases_eq, eq-eqb}
 use Rattle.std.proofs.lemmas.Option.{same_Some}
 use Rattle.hp_base.specs.declared.limits.TheConstants.{MAX_HEAPS}
-use Rattle.hp_heap.specs.declared.entry.Entry.{Entry}
 use Rattle.hp_heap.specs.History.{HeapView, entries_of}
 use Rattle.hp_segs.specs.LaterSteps.{armed_ask}
+use Rattle.hp_segs.specs.PendingRuns.{ArePending}
 use Rattle.hp_segs.specs.SegsView.{SegsView}
+use Rattle.hp_segs.specs.SettledAsks.{IsSettled}
+use Rattle.hp_segs.specs.Standing.{Holding, IsArmed, standing_of}
+use Rattle.hp_segs.specs.declared.ask.Ask.{Ask}
+use Rattle.hp_segs.specs.declared.outcome.AskLog.{AskLog}
+use Rattle.hp_hall.specs.Asks.{ClaimsGrants}
 use Rattle.hp_hall.specs.declared.kept.Kept.{Kept}
 use Rattle.hp_hall.specs.declared.kept.Kept.TheVariants.{Heap, Segments}
-use Rattle.hp_plain.specs.HallSteps.{home_slot, out_slot}
-use Rattle.hp_plain.specs.HallView.{HallView, IsHall, SlotView, history_in, is_joined, joined_in, part_in, part_of, segs_in, serves_in, slot_at}
-use Rattle.hp_hall.specs.Holding.{HasPages, HeapPart, IsHeldWith, IsTakenAs, StandsFor}
-use Rattle.hp_segs.specs.Standing.{Holding, IsArmed, owned_by, standing_of}
+use Rattle.hp_hall.specs.Holding.{HasHolding, IsClaimedFor, IsHeldWith, IsTakenAs, StandsFor}
 use Rattle.hp_hall.specs.Mail.{MailStep}
-use Rattle.hp_hall.specs.Values.{Fits}
+use Rattle.hp_hall.specs.Values.{Fits, HasClaimed}
+use Rattle.hp_hall.proofs.GivenAsks.{asker_is}
+use Rattle.hp_hall.proofs.KnownAsks.{settled_is_claimed}
+use Rattle.hp_plain.specs.HallSteps.{home_slot, out_slot}
+use Rattle.hp_plain.specs.HallView.{HallView, IsAskHeld, IsHall, SlotView, heard_in, history_in, is_held_by, is_joined, joined_in, part_in, part_of, segs_in, serves_in, slot_at}
+use Rattle.hp_plain.proofs.Held.{asks_there, held_holding, holding_is, home_unheld, part_by}
 use Rattle.hp_plain.proofs.Slotted.{MovesSlot, read_alike}
-
--- a part, by whether the heap is held
-abbrev pub part_by : ℕ → ℕ → List Entry → Option ℕ → Option SegsView → Bool → HeapPart
-part_by who heap entries serves segs held = record {
-  entries = entries;
-  serves = serves;
-  holding = if held then option_map (standing_of heap) segs else None;
-  armed = option_and_then (λ segs. armed_ask segs who) segs;
-}
 
 module _ (number : ℕ) (slot : SlotView) (me : ℕ) (step : MailStep) (old new : HallView) (moves : MovesSlot number slot me step old new) where
   -- the segment value stays where the changed slot has the one that it had
@@ -46,12 +44,6 @@ module _ (number : ℕ) (slot : SlotView) (me : ℕ) (step : MailStep) (old new 
         let last : Option SegsView = segs_in (slot_at old MAX_HEAPS) in
         ap (part_of who heap (slot_at new heap)) segs
         ∙ read_alike (λ (s : Option SlotView). part_of who heap s last) number slot old new moves.here moves.elsewhere (alike heap last) heap
-
--- what is held is what the segment value has for it
-held_is : (segs : SegsView) (heap : ℕ) (holding : Holding) (held : Bool)
-    → ◌≡◌ {A = Option Holding} (if held then option_map (standing_of heap) (Some segs) else None) (Some holding) → holding ≡ standing_of heap segs
-held_is segs heap holding true is = cc
-held_is segs heap holding false is = cc
 
 -- nobody but the taker's part is another
 out_alike : (me who heap : ℕ) (kept : Kept) (segs : Option SegsView) → who ≢ me
@@ -90,21 +82,33 @@ module _ (me number : ℕ) (kept : Kept) (step : MailStep) (old new : HallView) 
       ∙ ap (λ (k : Kept). part_of me heap (Some (home_slot k)) value) (sym is)
       ∙ ap (λ (s : Option SlotView). part_of me heap s value) (sym there))
 
+  -- what the taker held it holds still
+  still_held : (heap : ℕ) → is_held_by me (slot_at old heap) ≡ true → is_held_by me (slot_at new heap) ≡ true
+  still_held heap held =
+      ⊎_elim
+      (λ (same : heap ≡ number).
+      absurd (home_unheld me kept (slot_at old number) there (ap (λ (n : ℕ). is_held_by me (slot_at old n)) (sym same) ∙ held)))
+      (λ (apart : heap ≢ number). ap (is_held_by me) (moves.elsewhere heap apart) ∙ held)
+      (cases_eq heap number)
+
+  heap_held : (heap : HeapView) → kept ≡ Heap heap → Fits number (Heap heap)
+      → (part_in new me heap.plain.index).holding ≡ Some (standing_of heap.plain.index hall.segs)
+  heap_held heap is fits =
+      let index = heap.plain.index in
+      let at : slot_at new index ≡ Some (out_slot me (Heap heap)) =
+      ap (slot_at new) fits.0 ∙ moves.here ∙ ap (λ (k : Kept). Some (out_slot me k)) is in
+      held_holding new hall.segs (still ∙ hall.there) me index (ap (is_held_by me) at ∙ eq-eqb me me refl)
+
   heap_stands : (heap : HeapView) → kept ≡ Heap heap → Fits number (Heap heap) → StandsFor me (part_in new me) (Heap heap)
   heap_stands heap is fits =
       let index = heap.plain.index in
       let at : slot_at new index ≡ Some (out_slot me (Heap heap)) =
       ap (slot_at new) fits.0 ∙ moves.here ∙ ap (λ (k : Kept). Some (out_slot me k)) is in
-      let segs : segs_in (slot_at new MAX_HEAPS) ≡ Some hall.segs = still ∙ hall.there in
-      let held : (part_in new me index).holding ≡ Some (standing_of index hall.segs) =
-      ap (λ (s : Option SlotView). (part_of me index s (segs_in (slot_at new MAX_HEAPS))).holding) at
-      ∙ ap (λ (s : Option SegsView). (part_of me index (Some (out_slot me (Heap heap))) s).holding) segs
-      ∙ ap (λ (held : Bool). (part_by me index [] None (Some hall.segs) held).holding) (eq-eqb me me refl) in
-      let pages : HasPages heap.plain.pages (owned_by number hall.segs) =
-      hall.pages number heap (there ∙ ap (λ (k : Kept). Some (home_slot k)) is) in
+      let held = heap_held heap is fits in
+      let holds : HasHolding heap (standing_of number hall.segs) = hall.home number heap (there ∙ ap (λ (k : Kept). Some (home_slot k)) is) in
       record {
         serves = sym (ap serves_in at);
-        held = subst (IsHeldWith heap) (sym held) (subst (λ (n : ℕ). HasPages heap.plain.pages (owned_by n hall.segs)) (sym fits.0) pages);
+        held = subst (IsHeldWith heap) (sym held) (subst (λ (n : ℕ). HasHolding heap (standing_of n hall.segs)) (sym fits.0) holds);
       }
 
   segs_stand : (segs : SegsView) → kept ≡ Segments segs → Fits number (Segments segs) → StandsFor me (part_in new me) (Segments segs)
@@ -112,13 +116,43 @@ module _ (me number : ℕ) (kept : Kept) (step : MailStep) (old new : HallView) 
       let now : segs_in (slot_at new MAX_HEAPS) ≡ Some segs =
       ap (λ (n : ℕ). segs_in (slot_at new n)) (sym fits) ∙ ap segs_in moves.here ∙ ap (λ (k : Kept). segs_in (Some (out_slot me k))) is in
       let same : hall.segs ≡ segs = same_Some hall.segs segs (sym hall.there ∙ sym still ∙ now) in
+      let asking : (ask : Ask) → armed_ask segs me ≡ Some ask → IsAskHeld old segs me ask =
+      subst (λ (s : SegsView). (ask : Ask) → armed_ask s me ≡ Some ask → IsAskHeld old s me ask) same (hall.asking me) in
       record {
-        held = λ heap holding held.
-            held_is segs heap holding _ (sym (ap (λ (s : Option SegsView). (part_of me heap (slot_at new heap) s).holding) now) ∙ held);
+        held = λ heap holding held. holding_is new segs now me heap holding held;
         armed = λ heap. ap (option_and_then (λ segs. armed_ask segs me)) now;
+        asking = λ ask armed.
+            ⊎_elim (λ (settled : IsSettled ask.from ask.number segs). inl settled)
+            (λ (held : is_held_by me (slot_at old ask.heap) ≡ true).
+            inr (ap is_some (held_holding new segs now me ask.heap (still_held ask.heap held)))) (asking ask armed);
         sound = subst IsArmed same hall.armed;
+        pending = subst ArePending same hall.pending;
       }
 
   pub stands_taken : (value : Kept) → kept ≡ value → Fits number value → StandsFor me (part_in new me) value
   stands_taken (Heap heap) is fits = heap_stands heap is fits
   stands_taken (Segments segs) is fits = segs_stand segs is fits
+
+  -- what was granted to the taker's ask for the heap that it took, the heap has claimed
+  heap_claimed : (heap : HeapView) → kept ≡ Heap heap → Fits number (Heap heap)
+      → IsClaimedFor heap.plain.index (heard_in new) (part_in new me heap.plain.index)
+  heap_claimed heap is fits ask armed its =
+      let segs = hall.segs in
+      let now : segs_in (slot_at new MAX_HEAPS) ≡ Some segs = still ∙ hall.there in
+      let its_ask : armed_ask segs me ≡ Some ask = sym (ap (option_and_then (λ s. armed_ask s me)) now) ∙ armed in
+      let settled : IsSettled ask.from ask.number segs =
+      ⊎_elim (λ (settled : IsSettled ask.from ask.number segs). settled)
+      (λ (held : is_held_by me (slot_at old ask.heap) ≡ true).
+      absurd (home_unheld me kept (slot_at old number) there (ap (λ (n : ℕ). is_held_by me (slot_at old n)) (sym (its ∙ fits.0)) ∙ held)))
+      (hall.asking me ask its_ask) in
+      let who : ask.from ≡ me = asker_is segs me ask hall.sound its_ask in
+      let claims : ClaimsGrants segs.asks (Some (standing_of ask.heap segs)) ask =
+      settled_is_claimed segs ask hall.sound hall.armed.kept (ap (armed_ask segs) who ∙ its_ask) settled in
+      let held : Some (standing_of ask.heap segs) ≡ (part_in new me heap.plain.index).holding =
+      ap (λ (n : ℕ). Some (standing_of n segs)) its ∙ sym (heap_held heap is fits) in
+      subst (λ (h : Option Holding). ClaimsGrants (heard_in new) h ask) held
+      (subst (λ (l : List AskLog). ClaimsGrants l (Some (standing_of ask.heap segs)) ask) (sym (asks_there (slot_at new MAX_HEAPS) segs now)) claims)
+
+  pub claimed_taken : (value : Kept) → kept ≡ value → Fits number value → HasClaimed (heard_in new) (part_in new me) value
+  claimed_taken (Heap heap) is fits = heap_claimed heap is fits
+  claimed_taken (Segments segs) is fits = tt

@@ -1,5 +1,5 @@
 -- What the calls of a hall of plain values leave: the rules "Halls" and "Messages" of docs/PARTICIPANTS.md.
-use Rattle.std.specs.Prelude.{ℕ, Bool, List, [], ◌∷◌, ◌++◌, Option, Some, None, map, replicate, slice_set}
+use Rattle.std.specs.Prelude.{ℕ, Bool, List, [], ◌∷◌, ◌++◌, Option, Some, None, length, map, replicate, slice_set}
 use Rattle.hp_base.specs.declared.plan.Action.{Action}
 use Rattle.hp_frame.specs.declared.frame.Frame.{Frame}
 use Rattle.hp_heap.specs.History.{HeapView}
@@ -7,12 +7,12 @@ use Rattle.hp_segs.specs.SegsView.{SegsView}
 use Rattle.hp_hall.specs.declared.kept.Kept.{Kept}
 use Rattle.hp_hall.specs.declared.kept.Kept.TheVariants.{Heap, Segments}
 use Rattle.hp_hall.specs.declared.note.Note.{Note}
-use Rattle.hp_hall.specs.declared.note.Note.TheVariants.{Acked, Paused}
+use Rattle.hp_hall.specs.declared.note.Note.TheVariants.{Acked, Paused, Unmapped}
 use Rattle.hp_mail.specs.declared.posted.Posted.{Posted}
-use Rattle.hp_plain.specs.HallView.{HallView, SlotView}
+use Rattle.hp_plain.specs.HallView.{HallView, SlotView, own_at, seen_in}
 use Rattle.hp_hall.specs.Mail.{MailStep, Posts, Takes, Gives, Notes, counted_on, full_of}
 use Rattle.hp_plain.specs.Boxes.{after_step}
-use Rattle.hp_hall.specs.Own.{Own, after_ack}
+use Rattle.hp_hall.specs.Own.{Own, after_ack, after_partial}
 
 -- a value at home in its slot, and one that a participant has taken
 abbrev pub home_slot : Kept → SlotView
@@ -74,6 +74,11 @@ with_note who note hall = with_mail who (Notes note) hall.fulls hall
 -- after a participant has acknowledged so many records
 abbrev pub after_acking : ℕ → ℕ → HallView → HallView
 after_acking who number hall = with_note who (Acked number) (with_own who (after_ack number) hall)
+
+-- after a participant has unmapped what the records of the log drop
+abbrev pub after_unmapping : ℕ → HallView → HallView
+after_unmapping who hall =
+    with_note who Unmapped (with_own who (after_partial (length (seen_in hall)) (own_at hall who)) hall)
 
 -- after a turn ended with the clock at a reading
 abbrev pub after_pause : ℕ → Bool → Option ℕ → ℕ → HallView → HallView

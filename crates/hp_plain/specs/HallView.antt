@@ -1,5 +1,5 @@
 -- A hall of plain values, as contracts see it: the rule "Halls" of docs/PARTICIPANTS.md.
-use Rattle.std.specs.Prelude.{◌≡◌, ℕ, ◌≤◌, Bool, false, ◌==◌, List, [], ◌++◌, length, Option, Some, None, slice_get, slice_index_or, if◌then◌else◌}
+use Rattle.std.specs.Prelude.{◌≡◌, ℕ, ◌<◌, ◌≤◌, ◌⊎◌, Bool, true, false, ◌==◌, List, [], ◌++◌, length, Option, Some, None, slice_get, slice_index_or, if◌then◌else◌}
 use Rattle.std.specs.Option.{option_and_then, option_map}
 use Rattle.hp_base.specs.declared.limits.TheConstants.{MAX_HEAPS, MAX_PARTICIPANTS}
 use Rattle.hp_frame.specs.declared.frame.Frame.{Frame}
@@ -7,17 +7,21 @@ use Rattle.hp_heap.specs.declared.entry.Entry.{Entry}
 use Rattle.hp_heap.specs.History.{HeapView, entries_of}
 use Rattle.hp_log.specs.declared.log_record.LogRecord.{LogRecord}
 use Rattle.hp_segs.specs.LaterSteps.{armed_ask}
+use Rattle.hp_segs.specs.PendingRuns.{ArePending}
 use Rattle.hp_segs.specs.SegsView.{SegsView, is_member}
+use Rattle.hp_segs.specs.SettledAsks.{IsSettled}
 use Rattle.hp_segs.specs.Sound.{IsSound}
+use Rattle.hp_segs.specs.declared.ask.Ask.{Ask}
 use Rattle.hp_segs.specs.declared.outcome.AskLog.{AskLog}
 use Rattle.hp_hall.specs.declared.kept.Kept.{Kept}
 use Rattle.hp_hall.specs.declared.kept.Kept.TheVariants.{Heap, Segments}
 use Rattle.hp_hall.specs.declared.slot.TheConstants.{SLOTS}
-use Rattle.hp_hall.specs.Holding.{HasPages, HeapPart}
-use Rattle.hp_segs.specs.Standing.{IsArmed, owned_by, standing_of}
+use Rattle.hp_hall.specs.Holding.{HasHolding, HeapPart}
+use Rattle.hp_segs.specs.Standing.{IsArmed, standing_of}
 use Rattle.hp_hall.specs.Mail.{MailStep, steps_of}
 use Rattle.hp_hall.specs.Own.{Own, after_ack}
 use Rattle.hp_hall.specs.Values.{Fits, asks_of, history_of, log_of}
+use Rattle.hp_plain.specs.TakenIn.{AreTakenIn, IsOwnOf}
 
 -- a slot: its value, and who holds that, where it is out; while it is out, the value is the one that was taken
 pub record SlotView : Type 0 where
@@ -135,15 +139,27 @@ HasDone old new who steps = steps_of who new.mail ≡ steps_of who old.mail ++ s
 abbrev pub IsHeapAtHome : HallView → ℕ → HeapView → Type 0
 IsHeapAtHome hall number heap = slot_at hall number ≡ Some (record { kept = Heap heap; holder = None })
 
--- what holds of every hall: each value is one of its slot, and each participant has a mailbox and an own part; the segment value is sound,
--- its open growth and its outcomes are of armed asks; and each heap at home has the pages that it owns
+-- a participant's armed ask is settled, or it has the heap of that in hand
+abbrev pub IsAskHeld : HallView → SegsView → ℕ → Ask → Type 0
+IsAskHeld hall segs who ask = IsSettled ask.from ask.number segs ⊎ (is_held_by who (slot_at hall ask.heap) ≡ true)
+
+-- what holds of every hall: each value is one of its slot, and each participant has a mailbox and an own part
 pub record IsHall (hall : HallView) : Type 0 where
   pub slots : length hall.slots ≡ SLOTS
   pub fits : (number : ℕ) (slot : SlotView) → slot_at hall number ≡ Some slot → Fits number slot.kept
   pub boxes : length hall.boxes ≡ length hall.owns
   pub few : length hall.owns ≤ MAX_PARTICIPANTS
+  -- the segment value is sound, and its open growth and its outcomes are of armed asks
   pub segs : SegsView
   pub there : segs_in (slot_at hall MAX_HEAPS) ≡ Some segs
   pub sound : IsSound segs
   pub armed : IsArmed segs
-  pub pages : (number : ℕ) (heap : HeapView) → IsHeapAtHome hall number heap → HasPages heap.plain.pages (owned_by number segs)
+  -- each heap at home has what the segment value has for it: its pages, and the runs that it has claimed and given up
+  pub home : (number : ℕ) (heap : HeapView) → IsHeapAtHome hall number heap → HasHolding heap (standing_of number segs)
+  -- an asker has its heap in hand as long as its ask is not settled; and runs that no heap has claimed are of armed asks, each alone for
+  -- its heap, and the last one of that
+  pub asking : (who : ℕ) (ask : Ask) → armed_ask segs who ≡ Some ask → IsAskHeld hall segs who ask
+  pub pending : ArePending segs
+  -- each own part is one of the log, and the members of the roster have taken in what was granted
+  pub owned : (who : ℕ) → who < length hall.owns → IsOwnOf (length segs.log) (own_at hall who)
+  pub agreed : AreTakenIn (λ who. (own_at hall who).number) segs

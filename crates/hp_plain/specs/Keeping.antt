@@ -1,16 +1,16 @@
 -- What slots keep while values are taken and given back: the rule "Halls" of docs/PARTICIPANTS.md.
-use Rattle.std.specs.Prelude.{◌≡◌, ◌≢◌, ℕ, ◌<◌, ◌≤◌, true, List, [], ◌∷◌, ◌++◌, Contains, Some, map, slice_get, slice_set, ⊤}
+use Rattle.std.specs.Prelude.{◌≡◌, ◌≢◌, ℕ, ◌<◌, List, [], ◌∷◌, ◌++◌, Some, map, slice_get, slice_set, ⊤}
 use Rattle.std.specs.List.{AllByRecursion}
 use Rattle.hp_base.specs.declared.limits.TheConstants.{MAX_HEAPS}
 use Rattle.hp_heap.specs.declared.entry.Entry.{Entry}
 use Rattle.hp_heap.specs.History.{HeapView}
 use Rattle.hp_segs.specs.LaterSteps.{armed_ask}
 use Rattle.hp_segs.specs.Moved.{IsMoved}
-use Rattle.hp_segs.specs.SegsView.{SegsView, granted_by, is_member}
-use Rattle.hp_segs.specs.declared.outcome.AskLog.{AskLog}
+use Rattle.hp_segs.specs.SegsView.{SegsView, is_member}
 use Rattle.hp_hall.specs.declared.kept.Kept.{Kept}
 use Rattle.hp_hall.specs.declared.kept.Kept.TheVariants.{Heap, Segments}
 use Rattle.hp_plain.specs.HallView.{HallView, own_at, segs_in, slot_at}
+use Rattle.hp_plain.specs.TakenIn.{AreTakenIn}
 use Rattle.hp_segs.specs.Standing.{IsArmed}
 use Rattle.hp_hall.specs.Mail.{MailStep, Posts, Fetches, Takes, Gives, Notes}
 use Rattle.hp_hall.specs.Values.{IsSoundKept}
@@ -75,12 +75,7 @@ IsKeptBy count (step ∷ steps) old new = IsStepOver count step old × IsKeptBy 
 abbrev pub values_in : HallView → List Kept
 values_in hall = map (λ slot. slot.kept) hall.slots
 
--- each member of the roster has taken in each record that was granted, by these numbers of the participants
-abbrev pub AreTakenIn : (ℕ → ℕ) → SegsView → Type 0
-AreTakenIn number segs = (entry : AskLog) (generation member : ℕ) → Contains segs.asks entry
-    → granted_by entry.outcome ≡ Some generation → is_member segs.roster member ≡ true → generation ≤ number member
-
--- so it is in a hall
+-- each member of the roster has taken in each record that was granted
 abbrev pub AreAgreed : HallView → Type 0
 AreAgreed hall = (segs : SegsView) → segs_in (slot_at hall MAX_HEAPS) ≡ Some segs
     → AreTakenIn (λ who. (own_at hall who).number) segs

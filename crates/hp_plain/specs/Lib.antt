@@ -1,4 +1,5 @@
 pub mod Boxes
+pub mod TakenIn
 pub mod HallView
 pub mod Keeping
 pub mod InTurn

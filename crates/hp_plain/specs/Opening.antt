@@ -1,11 +1,15 @@
 -- How a hall of plain values opens and ends: the rule "Halls" of docs/PARTICIPANTS.md.
-use Rattle.std.specs.Prelude.{◌≡◌, ℕ, ◌<◌, List, [], Some, length, slice_get}
+use Rattle.std.specs.Prelude.{◌≡◌, ℕ, ◌<◌, List, [], Contains, Some, None, length, slice_get}
 use Rattle.hp_base.specs.declared.limits.TheConstants.{MAX_HEAPS}
 use Rattle.hp_heap.specs.History.{HeapView}
-use Rattle.hp_segs.specs.SegsView.{SegsView}
+use Rattle.hp_segs.specs.LaterSteps.{armed_ask}
+use Rattle.hp_segs.specs.SegsView.{SegsView, granted_by}
+use Rattle.hp_segs.specs.SettledAsks.{IsSettled}
+use Rattle.hp_segs.specs.Standing.{IsArmed, standing_of}
+use Rattle.hp_segs.specs.declared.ask.Ask.{Ask}
+use Rattle.hp_segs.specs.declared.outcome.AskLog.{AskLog}
 use Rattle.hp_hall.specs.declared.slot.TheConstants.{SLOTS}
-use Rattle.hp_hall.specs.Holding.{HasPages}
-use Rattle.hp_segs.specs.Standing.{owned_by}
+use Rattle.hp_hall.specs.Holding.{HasHolding}
 use Rattle.hp_plain.specs.HallView.{HallView, slot_at, IsHome}
 
 -- the heaps of a hall: one for each slot of a heap, in the order of their indexes
@@ -17,10 +21,13 @@ pub record AreInOrder (heaps : List HeapView) : Type 0 where
 abbrev pub AreUnused : List HeapView → Type 0
 AreUnused heaps = (number : ℕ) (heap : HeapView) → slice_get heaps number ≡ Some heap → heap.history ≡ []
 
--- each of these heaps has the pages that the segment value has for it
-abbrev pub HavePages : List HeapView → SegsView → Type 0
-HavePages heaps segs =
-    (number : ℕ) (heap : HeapView) → slice_get heaps number ≡ Some heap → HasPages heap.plain.pages (owned_by number segs)
+-- a hall may open with these heaps and this segment value: each heap has what the value has for it, the value's growth and outcomes are of
+-- armed asks, each of these is settled, and no record was granted, since nobody has acknowledged one
+pub record MayOpenWith (heaps : List HeapView) (segs : SegsView) : Type 0 where
+  pub held : (number : ℕ) (heap : HeapView) → slice_get heaps number ≡ Some heap → HasHolding heap (standing_of number segs)
+  pub armed : IsArmed segs
+  pub settled : (who : ℕ) (ask : Ask) → armed_ask segs who ≡ Some ask → IsSettled ask.from ask.number segs
+  pub ungranted : (entry : AskLog) → Contains segs.asks entry → granted_by entry.outcome ≡ None
 
 -- every value is there
 abbrev pub AreHome : HallView → Type 0

@@ -1,10 +1,9 @@
 //! A hall of plain values, in one thread.
 ghost use Rattle.std.specs.Prelude.{◌≡◌, ◌≤◌, ℕ, [], IfOk, None};
 ghost use Rattle.hp_base.specs.declared.limits.TheConstants.{MAX_PARTICIPANTS};
-ghost use Rattle.hp_segs.specs.Standing.{IsArmed};
 ghost use Rattle.hp_plain.specs.HallView.{IsHall, part_in};
 ghost use Rattle.hp_plain.specs.HallSteps.{opening_hall, slots_of};
-ghost use Rattle.hp_plain.specs.Opening.{AreHome, AreInOrder, AreUnused, HavePages};
+ghost use Rattle.hp_plain.specs.Opening.{AreHome, AreInOrder, AreUnused, MayOpenWith};
 
 mod calls;
 mod messages;
@@ -50,7 +49,6 @@ pub struct HallParts {
 }
 
 impl Model for PlainHall {
-    ghost use Rattle.hp_segs.specs.Standing.{IsArmed};
     ghost use Rattle.hp_plain.specs.HallView.{HallView};
 
     ghost Value = { HallView };
@@ -63,9 +61,9 @@ impl Model for PlainHall {
 }
 
 impl PlainHall {
-    /// A hall of these values for so many participants: the heap at each place in the slot of that number. Each heap has the pages
-    /// that the segment value has for it, and that value's growth and outcomes are of armed asks. Nothing is out, the mailboxes are
-    /// empty, nobody has acknowledged a record, and the clock stands at 0. Own.
+    /// A hall of these values for so many participants: the heap at each place in the slot of that number. Each heap has what the segment
+    /// value has for it, and that value's growth and outcomes are of armed asks, which are settled; no record was granted. Nothing is out,
+    /// the mailboxes are empty, nobody has acknowledged a record, and the clock stands at 0. Own.
     pub fn new(
         alloc: Global,
         participants: u8,
@@ -74,8 +72,7 @@ impl PlainHall {
     ) -> Result<PlainHall, AllocError>
         requires few { participants ≤ MAX_PARTICIPANTS }
         requires heaps { AreInOrder heaps.items }
-        requires pages { HavePages heaps.items segs }
-        requires armed { IsArmed segs }
+        requires opens { MayOpenWith heaps.items segs }
         ensures hall { IfOk result (λ hall. hall ≡ opening_hall participants heaps.items segs) }
 
         // Over heaps without a call nobody has made an entry, and nobody holds a heap.
@@ -121,8 +118,9 @@ impl PlainHall {
         self.fulls
     }
 
-    /// What holds of every hall: each value is one of its slot, each participant has a mailbox and its own part, the segment value is
-    /// sound with its growth and outcomes of armed asks, and each heap at home has the pages that it owns. It does nothing.
+    /// What holds of every hall: each value is one of its slot; each participant has a mailbox and its own part; the segment value is
+    /// sound with its growth and outcomes of armed asks; each heap at home has what that has for it; whose ask is not settled has its heap
+    /// in hand; and the members of the roster have taken in what was granted. It does nothing.
     pub fn sound(&self)
         ensures { IsHall self.now }
     {

@@ -1,8 +1,11 @@
 //! Two participants in a hall of plain values, by hand.
-ghost use Rattle.std.specs.Prelude.{◌≡◌, ◌<◌, ℕ, [], IfOk, Some, length, slice_get};
+ghost use Rattle.std.specs.Prelude.{◌≡◌, ◌<◌, ℕ, [], Contains, IfOk, Some, None, length, slice_get};
 ghost use Rattle.hp_heap.specs.History.{HeapView};
 ghost use Rattle.hp_plain.specs.HallView.{own_at, part_in, seen_in};
-ghost use Rattle.hp_segs.specs.Standing.{IsArmed, owned_by};
+ghost use Rattle.hp_plain_tests.specs.Untouched.{IsUnasked, IsUntouched, nothing_held};
+ghost use Rattle.hp_segs.specs.SegsView.{granted_by};
+ghost use Rattle.hp_segs.specs.Standing.{standing_of};
+ghost use Rattle.hp_segs.specs.declared.outcome.AskLog.{AskLog};
 ghost use Rattle.hp_plain.specs.Opening.{AreHome, AreInOrder, AreUnused};
 
 mod cases;
@@ -15,7 +18,7 @@ mod values;
 use hp_base::{MAX_HEAPS, PoolLine, Request};
 use hp_heap::Heap;
 use hp_plain::PlainHall;
-use hp_segs::{Ask, Segs};
+use hp_segs::{Ask, Cause, Segs};
 use std::alloc::{AllocError, Global};
 use std::test::Fail;
 
@@ -34,11 +37,12 @@ fn vacant_heaps(alloc: Global) -> Result<Vec<Heap>, AllocError>
     Ok(heaps)
 }
 
-// A segment value with the record of an open growth, whose asker is armed with its ask. No heap owns a segment.
-fn grown_segs(alloc: Global) -> Result<Segs, Fail>
-    ensures armed { IfOk result (λ segs. IsArmed segs) }
-    ensures unowned { IfOk result (λ segs. (heap : ℕ) → owned_by heap segs ≡ []) }
-    ensures one { IfOk result (λ segs. length segs.log ≡ 1) }
+// A segment value with the two records of a growth that failed. No heap has anything of it, and nobody is armed.
+fn failed_segs(alloc: Global) -> Result<Segs, Fail>
+    ensures unasked { IfOk result (λ segs. IsUnasked segs) }
+    ensures ungranted { IfOk result (λ segs. (entry : AskLog) → Contains segs.asks entry → granted_by entry.outcome ≡ None) }
+    ensures bare { IfOk result (λ segs. (heap : ℕ) → standing_of heap segs ≡ nothing_held) }
+    ensures two { IfOk result (λ segs. length segs.log ≡ 2) }
 {
     let request = Request::new(1000, 0, 0, 0).ok().ok_or("a good request")?;
     let ask = Ask {
@@ -56,12 +60,17 @@ fn grown_segs(alloc: Global) -> Result<Segs, Fail>
         slots: 4,
     };
     let mut segs = Segs::new(alloc, [pool].as_slice(), 2, 0)?;
-    segs.arm(&ask)?;
-    segs.reserve_records(1)?;
+    segs.reserve_records(3)?;
     let Ok(run) = segs.plan_run(&ask) else {
         return Err("a planned run".into());
     };
     segs.open_run(&ask, &run);
+    let late = Cause::Late {
+        participant: 0,
+        from: 0,
+        to: 1000,
+    };
+    segs.cancel(late);
     Ok(segs)
 }
 
@@ -69,12 +78,12 @@ fn grown_segs(alloc: Global) -> Result<Segs, Fail>
 fn hall_of_two(alloc: Global) -> Result<PlainHall, Fail>
     ensures two { IfOk result (λ hall. length hall.owns ≡ 2) }
     ensures home { IfOk result (λ hall. AreHome hall) }
-    ensures unused { IfOk result (λ hall. (who number : ℕ) → (part_in hall who number).entries ≡ []) }
+    ensures untouched { IfOk result (λ hall. (who number : ℕ) → IsUntouched (part_in hall who number)) }
     ensures nothing_yet { IfOk result (λ hall. (own_at hall 1).number ≡ 0) }
-    ensures one { IfOk result (λ hall. length (seen_in hall) ≡ 1) }
+    ensures records { IfOk result (λ hall. length (seen_in hall) ≡ 2) }
     ensures clock { IfOk result (λ hall. hall.clock ≡ 0) }
 {
-    let segs = grown_segs(alloc)?;
+    let segs = failed_segs(alloc)?;
     let heaps = vacant_heaps(alloc)?;
     let hall = PlainHall::new(alloc, 2, heaps, segs)?;
     Ok(hall)

@@ -233,7 +233,7 @@ ready_still before doer old new log later asks now more same known parts grown r
   sockets = λ heap. ap (λ (part : HeapPart). part.serves) (parts heap) ∙ ready.sockets heap
       ∙ ap (λ (context : Context). slice_get (sockets_of context.pools) heap) (sym known);
   unheld = λ heap. ap (λ (part : HeapPart). part.holding) (parts heap) ∙ ready.unheld heap;
-  settled = subst (λ (who : ℕ). HasSettledAsks who new now) (sym same.me)
+  settled = subst (λ (who : ℕ). HasSettledAsks new now) (sym same.me)
       (settled_more before.party.me old new asks now more grown (λ heap. ap (λ (part : HeapPart). part.armed) (parts heap)) ready.settled);
   counted = omega (
     arith,

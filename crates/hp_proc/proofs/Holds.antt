@@ -154,7 +154,7 @@ keeps_called doer after heap next {call} {answer} {a} step counted pages holds =
 pub settled_called : (doer after : ParticipantView) (a : HallState) → after ≡ after_call doer → AreSettled (moment doer.party.me doer a)
     → AreSettled (moment doer.party.me after a)
 settled_called doer after a counted settled =
-    subst (λ (who : ℕ). HasSettledAsks who (a.part doer.party.me) (a.heard doer.party.me))
+    subst (λ (who : ℕ). HasSettledAsks (a.part doer.party.me) (a.heard doer.party.me))
     (sym (ap (λ (doer : ParticipantView). doer.party.me) counted)) settled
 
 pub room_called : (calls : ℕ) (doer after : ParticipantView) (heap next : HeapView) → next.spare + 1 ≡ heap.spare → after ≡ after_call doer

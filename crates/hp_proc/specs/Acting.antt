@@ -1,5 +1,5 @@
 -- What a participant does of its line, step by step: the rule "Lines" of docs/PARTICIPANTS.md.
-use Rattle.std.specs.Prelude.{◌≡◌, ℕ, ◌+◌, ◌<◌, Bool, false, List, [], ◌∷◌, ◌++◌, length, Option, Some}
+use Rattle.std.specs.Prelude.{◌≡◌, ℕ, ◌+◌, ◌<◌, Bool, false, List, [], ◌∷◌, ◌++◌, length, Option, Some, None}
 use Rattle.hp_base.specs.declared.caught.Caught.{Caught}
 use Rattle.hp_base.specs.declared.row.Run.{Run}
 use Rattle.hp_hall.specs.Mail.{MailStep, Gives, Takes}
@@ -28,43 +28,50 @@ use Rattle.hp_serve.specs.Serving.{acks_behind, gives_segments, takes_segments}
 use Rattle.hp_serve.specs.Waiting.{IsTurned}
 use Rattle.hp_serve.specs.declared.pages_asked.PagesAsked.{PagesAsked}
 
--- what a participant did, with the steps that it made in the hall
-pub data Acts (count : ℕ) : ParticipantView → ParticipantView → List Done → List MailStep → Type 0 where
-  nothing : (doer : ParticipantView) → Acts count doer doer [] []
+-- what a participant did, with the steps that it made in the hall: with the heap in its hand before and behind, where it had one, and the
+-- heaps that it took meanwhile, in their order
+pub data Acts (count : ℕ) : Option ℕ → Option ℕ → List ℕ → ParticipantView → ParticipantView → List Done → List MailStep → Type 0 where
+  nothing : (hand : Option ℕ) (doer : ParticipantView) → Acts count hand hand [] doer doer [] []
   -- it waited a turn for a heap that another one held
   waits_turn : (until : ℕ) (doer : ParticipantView) (after : Party) (moved : Bool) (steps : List MailStep)
-      → IsTurned count until doer.party after steps (Some moved) → Acts count doer (with_party after doer) [] steps
-  -- it took a heap, or gave one back
-  takes_heap : (doer : ParticipantView) (heap : HeapView) → Acts count doer doer [] (Takes heap.plain.index (Heap heap) ∷ [])
-  gives_heap : (doer : ParticipantView) (heap : HeapView) → Acts count doer doer [] (Gives heap.plain.index (Heap heap) ∷ [])
+      → IsTurned count until doer.party after steps (Some moved) → Acts count None None [] doer (with_party after doer) [] steps
+  -- it took a heap, or gave back the one in its hand
+  takes_heap : (doer : ParticipantView) (heap : HeapView)
+      → Acts count None (Some heap.plain.index) (heap.plain.index ∷ []) doer doer [] (Takes heap.plain.index (Heap heap) ∷ [])
+  gives_heap : (doer : ParticipantView) (heap : HeapView)
+      → Acts count (Some heap.plain.index) None [] doer doer [] (Gives heap.plain.index (Heap heap) ∷ [])
   -- it made a call of the heap in its hand, which cut no run from it
   makes_call : (doer : ParticipantView) (heap : ℕ) (call : HeapCall) (answer : HeapAnswer) → run_cut answer ≡ []
-      → Acts count doer (after_call doer) (Called heap call answer ∷ []) []
+      → Acts count (Some heap) (Some heap) [] doer (after_call doer) (Called heap call answer ∷ []) []
   -- it cut a run from the heap in its hand, and gave it up
   cuts_run : (doer : ParticipantView) (heap addr : ℕ) (run : Run) (taken : SegsView)
-      → Acts count doer (after_call doer) (Called heap (call.Cut addr) (gives.Pages run) ∷ [])
+      → Acts count (Some heap) (Some heap) [] doer (after_call doer) (Called heap (call.Cut addr) (gives.Pages run) ∷ [])
       (takes_segments taken ∷ gives_segments (after_retire heap run taken) ∷ [])
-  -- it asked for pages
+  -- it asked for pages for the heap in its hand
   asks_pages : (doer : ParticipantView) (after : Party) (asked : PagesAsked) (run : Option Run) (steps : List MailStep)
-      → DoesAsk count doer.party after asked steps run → Acts count doer (with_party after doer) (Asked asked run ∷ []) steps
-  -- it told the coordinator so
+      → DoesAsk count doer.party after asked steps run
+      → Acts count (Some asked.heap) (Some asked.heap) [] doer (with_party after doer) (Asked asked run ∷ []) steps
+  -- with no heap in its hand it told the coordinator of a run that it had given up, and waited for the answer
   notifies_run : (doer : ParticipantView) (after : Party) (heap : ℕ) (run : Run) (steps : List MailStep)
-      → DoesNotify count doer.party after heap run steps → Acts count doer (with_party after doer) (GaveUp heap run ∷ []) steps
+      → DoesNotify count doer.party after heap run steps
+      → Acts count None None [] doer (with_party after doer) (GaveUp heap run ∷ []) steps
   -- it attached, or tried to: it looked at the segment value and caught up with its whole log, and noted what that left
   attaches : (doer : ParticipantView) (after : Party) (taken : SegsView) (caught : Caught) → Attaches doer.party after taken.log caught
-      → Acts count doer (with_standing (standing_tried (length taken.log) caught doer.context.standing) (with_party after doer))
+      → Acts count None None [] doer (with_standing (standing_tried (length taken.log) caught doer.context.standing) (with_party after doer))
       (Looked (length taken.log) ∷ CaughtUp (length taken.log) caught ∷ [])
       (takes_segments taken ∷ (acks_behind caught (length taken.log) ++ (gives_segments (after_attaching doer.party.me caught taken) ∷ [])))
   -- it detached, which no primary does, and noted that
   detaches : (doer : ParticipantView) (taken : SegsView) → 0 < doer.party.me
-      → Acts count doer (with_standing (record doer.context.standing { attached = false }) (with_party (after_detaching doer.party) doer)) []
+      → Acts count None None [] doer
+      (with_standing (record doer.context.standing { attached = false }) (with_party (after_detaching doer.party) doer)) []
       (takes_segments taken ∷ gives_segments (after_leave doer.party.me taken) ∷ [])
   -- it noted where the elements of its lines lie
   notes_left : (doer : ParticipantView) (elements : List OwnElement)
-      → Acts count doer (with_standing (record doer.context.standing { elements = elements }) doer) [] []
+      → Acts count None None [] doer (with_standing (record doer.context.standing { elements = elements }) doer) [] []
   -- one thing after another
-  and_then : (doer mid after : ParticipantView) (first rest : List Done) (before behind : List MailStep) → Acts count doer mid first before
-      → Acts count mid after rest behind → Acts count doer after (first ++ rest) (before ++ behind)
+  and_then : (hand between last : Option ℕ) (held more : List ℕ) (doer mid after : ParticipantView) (first rest : List Done)
+      (before behind : List MailStep) → Acts count hand between held doer mid first before → Acts count between last more mid after rest behind
+      → Acts count hand last (held ++ more) doer after (first ++ rest) (before ++ behind)
 
 -- the asks and notices of a trace took numbers one above another, from one to the next, and each ask has its answer
 unfoldable pub AreAsked : List LogRecord → List AskLog → ℕ → ℕ → ℕ → List Done → Type 0

@@ -1,14 +1,17 @@
 -- A participant that does a line in a hall: the rule "Lines" of docs/PARTICIPANTS.md.
-use Rattle.std.specs.Prelude.{◌≡◌, ◌≢◌, ℕ, ◌+◌, ◌<◌, ◌≤◌, ◌^◌, List, None}
+use Rattle.std.specs.Prelude.{◌≡◌, ◌≢◌, ℕ, ◌+◌, ◌<◌, ◌≤◌, ◌^◌, true, List, [], Contains, None, ⊤}
 use Rattle.hp_base.specs.declared.limits.TheConstants.{MAX_HEAPS}
-use Rattle.hp_hall.specs.HallState.{Did, HallState, OthersStay, SlotsStay}
+use Rattle.hp_base.specs.declared.row.Row.{Row}
+use Rattle.hp_hall.specs.HallState.{Did, HallState, HasMapped, OthersStay, SlotsStay}
 use Rattle.hp_hall.specs.Mail.{MailStep}
+use Rattle.hp_hall.specs.Own.{rows_known}
 use Rattle.hp_heap.specs.History.{HeapView}
 use Rattle.hp_script.specs.declared.answer.Answer.{Answer}
+use Rattle.hp_script.specs.declared.answer.Answer.TheVariants.{Address}
 use Rattle.hp_script.specs.declared.line.Line.{Line}
 use Rattle.hp_proc.specs.Doing.{Doing}
 use Rattle.hp_proc.specs.ParticipantView.{ParticipantView, with_calls}
-use Rattle.hp_proc.specs.Progress.{AreSettled, Does, DoesLine, IsInHand, MayDo, Moment, in_hand, moment_of}
+use Rattle.hp_proc.specs.Progress.{AreSettled, Does, DoesLine, DoesOnce, IsInHand, MayDo, Moment, in_hand, moment_of}
 use Rattle.hp_serve.specs.InHall.{CanServe, IsTiedIn, RemainsIn}
 use Rattle.hp_serve.specs.Party.{IsSameParty, Party}
 
@@ -23,13 +26,17 @@ moment_with heap me doer state = in_hand heap (moment me doer state)
 abbrev pub did_in : ℕ → HallState → HallState → List MailStep → Type 0
 did_in me old new steps = Did me steps old new
 
--- what it did of a line, with no heap in hand, and with one; and what it did of a whole line
-abbrev pub DoesHere : ℕ → ParticipantView → ParticipantView → HallState → HallState → Doing → Doing → Type 0
-DoesHere me old new from to doing rest = Does from.count (did_in me from to) doing rest (moment me old from) (moment me new to)
+-- what it did of a line from no heap in hand to none, in which it held these heaps, one after another; or some heaps, none of them twice; and
+-- what it did with a heap in hand
+abbrev pub DoesHere : List ℕ → ℕ → ParticipantView → ParticipantView → HallState → HallState → Doing → Doing → Type 0
+DoesHere held me old new from to doing rest = Does held from.count (did_in me from to) doing rest (moment me old from) (moment me new to)
+
+abbrev pub DoesOnceHere : ℕ → ParticipantView → ParticipantView → HallState → HallState → Doing → Doing → Type 0
+DoesOnceHere me old new from to doing rest = DoesOnce from.count (did_in me from to) doing rest (moment me old from) (moment me new to)
 
 abbrev pub DoesHeld : ℕ → ParticipantView → ParticipantView → HeapView → HeapView → HallState → HallState → Doing → Doing → Type 0
 DoesHeld me old new before behind from to doing rest =
-    Does from.count (did_in me from to) doing rest (moment_with before me old from) (moment_with behind me new to)
+    Does [] from.count (did_in me from to) doing rest (moment_with before me old from) (moment_with behind me new to)
 
 abbrev pub DoesLineHere : ℕ → ParticipantView → ParticipantView → HallState → HallState → Line → Answer → Type 0
 DoesLineHere me old new from to line given = DoesLine from.count (did_in me from to) line given (moment me old from) (moment me new to)
@@ -74,11 +81,13 @@ pub record ChangesRoster (me : ℕ) (old new : Party) (from to : HallState) : Ty
   pub slots : SlotsStay from to
   pub others : OthersStay me from to
 
--- it has a heap in hand, and may do something with it: it can serve, and its asks are settled
+-- it has a heap in hand, and may do something with it: it can serve, its asks are settled, and where it is in the roster its own table has the
+-- heap's pages
 pub record HoldsIn (me : ℕ) (doer : ParticipantView) (heap : HeapView) (state : HallState) : Type 0 where
   pub can : CanServe me doer.party state
   pub in_hand : IsInHand state.taken (moment me doer state) heap
   pub settled : AreSettled (moment me doer state)
+  pub mapped : HasMapped me state
 
 -- a heap in hand has room for so many calls, and so have the numbers of its holder's calls
 pub record HasRoom (calls : ℕ) (heap : HeapView) (doer : ParticipantView) : Type 0 where
@@ -86,10 +95,30 @@ pub record HasRoom (calls : ℕ) (heap : HeapView) (doer : ParticipantView) : Ty
   pub counted : doer.context.calls + calls < 2 ^ 64
 
 -- it did something with the heap in its hand: it has that heap in hand still, it is the same one, what it knows is as it was but for the
--- number of its calls, its table is tied, and the slots stay
+-- number of its calls, its asks are settled, its table is tied and has the heap's pages, and the slots stay
 pub record KeepsHeld (me : ℕ) (old new : ParticipantView) (before behind : HeapView) (from to : HallState) : Type 0 where
   pub in_hand : IsInHand to.taken (moment me new to) behind
   pub index : behind.plain.index ≡ before.plain.index
   pub its_socket : behind.plain.serves ≡ before.plain.serves
   pub context : new.context ≡ with_calls new.context.calls old.context
+  pub settled : AreSettled (moment me new to)
+  pub mapped : HasMapped me to
   pub remains : RemainsIn me old.party new.party from to
+
+-- what its own table is known by stays
+pub record TableStays (me : ℕ) (old new : HallState) : Type 0 where
+  pub joined : new.joined me ≡ old.joined me
+  pub seen : new.seen me ≡ old.seen me
+  pub own : new.own me ≡ old.own me
+
+-- an address lies in one of these rows
+pub record LiesIn (rows : List Row) (address : ℕ) : Type 0 where
+  pub row : Row
+  pub among : Contains rows row
+  pub from : row.addr ≤ address
+  pub below : address < row.addr + row.page
+
+-- an address that it answers lies in a row of its own table, where it is in the roster
+abbrev pub IsMapped : ℕ → HallState → Answer → Type 0
+IsMapped me state (Address address) = state.joined me ≡ true → LiesIn (rows_known (state.seen me) (state.own me)) address
+IsMapped me state _ = ⊤

@@ -1,5 +1,5 @@
 -- How a participant goes on with its line: the rule "Lines" of docs/PARTICIPANTS.md.
-use Rattle.std.specs.Prelude.{◌≡◌, ◌≢◌, ℕ, ◌+◌, ◌<◌, ◌==◌, List, ◌++◌, length, Option, Some, None, slice_get, ⊤, if◌then◌else◌}
+use Rattle.std.specs.Prelude.{◌≡◌, ◌≢◌, ℕ, ◌+◌, ◌<◌, ◌≤◌, ◌==◌, List, [], ◌++◌, count_by, length, Option, Some, None, slice_get, ⊤, if◌then◌else◌}
 use Rattle.hp_base.specs.Requests.{refusal_of}
 use Rattle.hp_base.specs.declared.request.Request.{Request}
 use Rattle.hp_base.specs.declared.tag.Caller.{Caller}
@@ -34,17 +34,19 @@ use Rattle.hp_proc.specs.Histories.{entries_for}
 use Rattle.hp_serve.specs.Party.{IsSameParty, Party}
 use Rattle.hp_proc.specs.ParticipantView.{ParticipantView}
 
--- a participant at a moment of its line: itself, what it knows of its lines, its parts in the heaps, and what it has seen of the log and of
--- the outcomes
+-- a participant at a moment of its line: itself, what it knows of its lines, the heap in its hand, where it has one, its parts in the heaps,
+-- and what it has seen of the log and of the outcomes
 pub record Moment : Type 0 where
   pub party : Party
   pub context : Context
+  pub hand : Option ℕ
   pub parts : ℕ → HeapPart
   pub log : List LogRecord
   pub asks : List AskLog
 
 abbrev pub moment_of : ParticipantView → (ℕ → HeapPart) → List LogRecord → List AskLog → Moment
-moment_of doer parts log asks = record { party = doer.party; context = doer.context; parts = parts; log = log; asks = asks }
+moment_of doer parts log asks =
+    record { party = doer.party; context = doer.context; hand = None; parts = parts; log = log; asks = asks }
 
 -- the participant at a moment
 abbrev pub doer_at : Moment → ParticipantView
@@ -57,16 +59,20 @@ with_hand who heap parts index =
 
 -- a moment at which it has a heap in hand
 abbrev pub in_hand : HeapView → Moment → Moment
-in_hand heap moment = record moment { parts = with_hand moment.party.me heap moment.parts }
+in_hand heap moment = record moment { hand = Some heap.plain.index; parts = with_hand moment.party.me heap moment.parts }
 
--- what it did of a line, from one moment to a later one: its trace leads from what was left to do to what is left now; each heap has its
--- calls, numbered on over all heaps; and each of its asks has its answer
-pub record Does (count : ℕ) (did : List MailStep → Type 0) (doing rest : Doing) (old new : Moment) : Type 0 where
+-- no heap is named twice
+abbrev pub AreOnce : List ℕ → Type 0
+AreOnce heaps = (heap : ℕ) → count_by (λ other. other == heap) heaps ≤ 1
+
+-- what it did of a line, from one moment to a later one, on which it took these heaps into its hand: its trace leads from what was left to do
+-- to what is left now; each heap has its calls, numbered on over all heaps; and each of its asks has its answer
+pub record Does (held : List ℕ) (count : ℕ) (did : List MailStep → Type 0) (doing rest : Doing) (old new : Moment) : Type 0 where
   pub trace : List Done
   pub steps : List MailStep
   pub leads : Leads doing trace rest
   pub made : did steps
-  pub acts : Acts count (doer_at old) (doer_at new) trace steps
+  pub acts : Acts count old.hand new.hand held (doer_at old) (doer_at new) trace steps
   pub entries : (heap : ℕ) → (new.parts heap).entries
       ≡ (old.parts heap).entries ++ entries_for old.party.me heap (old.context.calls + 1) (calls_in trace)
   pub serves : (heap : ℕ) → (new.parts heap).serves ≡ (old.parts heap).serves
@@ -81,25 +87,36 @@ pub record Does (count : ℕ) (did : List MailStep → Type 0) (doing rest : Doi
 
 -- so it did, and its last call was one of that heap
 pub record DoesIn (heap count : ℕ) (did : List MailStep → Type 0) (doing rest : Doing) (old new : Moment) : Type 0 where
-  pub does : Does count did doing rest old new
+  pub does : Does [] count did doing rest old new
   pub last : last_heap (calls_in does.trace) ≡ Some heap
 
--- it tried that heap, which answered its line or was passed; where the answer is an address, its last call was one of that heap
-pub record Tries (heap count : ℕ) (did : List MailStep → Type 0) (doing otherwise : Doing) (given : Option Answer) (old new : Moment)
-    : Type 0 where
-  pub does : Does count did doing (unless_answered otherwise given) old new
+-- it tried that heap, which answered its line or was passed, while it held these heaps, one after another; where the answer is an address,
+-- its last call was one of that heap
+pub record Tries (heap : ℕ) (held : List ℕ) (count : ℕ) (did : List MailStep → Type 0) (doing otherwise : Doing) (given : Option Answer)
+    (old new : Moment) : Type 0 where
+  pub does : Does held count did doing (unless_answered otherwise given) old new
   pub last : (address : ℕ) → given ≡ Some (gives.Address address) → last_heap (calls_in does.trace) ≡ Some heap
 
--- it did so to that answer; where that is an address, its last call was one of that heap
+-- it did so, and held no heap twice
+pub record DoesOnce (count : ℕ) (did : List MailStep → Type 0) (doing rest : Doing) (old new : Moment) : Type 0 where
+  pub held : List ℕ
+  pub once : AreOnce held
+  pub does : Does held count did doing rest old new
+
+-- it did so to that answer, and held no heap twice; where the answer is an address, its last call was one of that heap
 pub record Brings (heap count : ℕ) (did : List MailStep → Type 0) (doing : Doing) (answer : Answer) (old new : Moment) : Type 0 where
-  pub does : Does count did doing (Doing.Ended answer) old new
+  pub held : List ℕ
+  pub once : AreOnce held
+  pub does : Does held count did doing (Doing.Ended answer) old new
   pub last : (address : ℕ) → answer ≡ gives.Address address → last_heap (calls_in does.trace) ≡ Some heap
 
--- a line was done, by what is known when it began, and was answered so; what it left is noted
+-- a line was done, by what is known when it began, and was answered so; it held no heap twice; what it left is noted
 pub record DoesLine (count : ℕ) (did : List MailStep → Type 0) (line : Line) (answer : Answer) (old new : Moment) : Type 0 where
   pub facts : Facts
   pub known : AreFactsOf old.party.socket old.context line facts
-  pub does : Does count did (doing_of line line.act facts) (Doing.Ended answer) old new
+  pub held : List ℕ
+  pub once : AreOnce held
+  pub does : Does held count did (doing_of line line.act facts) (Doing.Ended answer) old new
   pub left : new.context.standing ≡ after_line line answer does.trace old.context.standing
 
 -- the line is an allocation with these options, whose size and options are not refused, and this is its request
@@ -128,11 +145,12 @@ AreOfSockets moment = (heap : ℕ) → (moment.parts heap).serves ≡ slice_get 
 pub record MayDo (moment : Moment) : Type 0 where
   pub sockets : AreOfSockets moment
   pub unheld : (heap : ℕ) → (moment.parts heap).holding ≡ None
-  pub settled : HasSettledAsks moment.party.me moment.parts moment.asks
+  pub settled : HasSettledAsks moment.parts moment.asks
   pub counted : moment.context.calls ≡ entries_made moment.parts
 
--- it has a heap in hand, which it has taken: the heap's history is that one's and entries of its own, numbered on over all heaps, and its
--- pages are those of the heap's own segments; it holds no other
+-- it has a heap in hand, which it has taken: the heap's history is that one's and entries of its own, numbered on over all heaps, and it has
+-- what its holding names: its pages are those of its own segments, and its growths and cuts those of the runs that it has claimed and given up;
+-- the participant holds no other
 pub record IsInHand (taken : ℕ → Option Kept) (moment : Moment) (heap : HeapView) : Type 0 where
   pub was : HeapView
   pub taken_is : taken heap.plain.index ≡ Some (Heap was)
@@ -156,4 +174,4 @@ caller_of doer = record { participant = doer.party.me; number = doer.context.cal
 
 -- it is so with the asks of a participant that are settled
 abbrev pub AreSettled : Moment → Type 0
-AreSettled moment = HasSettledAsks moment.party.me moment.parts moment.asks
+AreSettled moment = HasSettledAsks moment.parts moment.asks

@@ -77,3 +77,5 @@ pub mod GivenUpCalls
 pub mod FormCalls
 pub mod RunPlaces
 pub mod SettledLaws
+pub mod AddedRuns
+pub mod ClaimedOrder

@@ -23,7 +23,7 @@ not_stale (Freed generation) is = refl
 
 module _ (from number : ℕ) where
   -- a grant or a refusal is an outcome other than Stale
-  answers : (entry : AskLog) → grants_or_refuses from number entry ≡ true → is_outcome_for from number entry ≡ true
+  pub answers : (entry : AskLog) → grants_or_refuses from number entry ≡ true → is_outcome_for from number entry ≡ true
   answers entry is =
       let who = and_parts (entry.from == from) _ is in
       let which = and_parts (entry.number == number) _ who.1 in

@@ -21,6 +21,8 @@ pub mod SettledAsks
 pub mod Laws
 pub mod GrowthLaws
 pub mod Standing
+pub mod PendingRuns
+pub mod GrantedRuns
 pub mod PlaceLaws
 pub mod Opening
 pub mod AsksView

@@ -3,6 +3,7 @@ ghost use Rattle.hp_segs.specs.Laws.{CallsAppend, CallsKeep, CallsMove, ClaimIsS
 ghost use Rattle.hp_segs.specs.GrowthLaws.{CallsLeaveArmed, GrantsHavePlace, OpenHasPlace};
 ghost use Rattle.hp_segs.specs.Forms.{LogFormLeaves, OwnerFormLeaves, RangeFormLeaves, RosterFormLeaves};
 ghost use Rattle.hp_segs.specs.GivenUp.{CallsGiveUp};
+ghost use Rattle.hp_segs.specs.GrantedRuns.{ClaimedInOrder};
 ghost use Rattle.hp_segs.specs.PlaceLaws.{ListsApart, OverlapIsLowest, SlotsApart};
 ghost use Rattle.hp_segs.specs.SettledAsks.{AboveIsUnsettled, ClaimSettles, RefusalSettles, UnclaimedIsUnsettled};
 
@@ -44,6 +45,11 @@ pub fn growths_law()
 /// Each call leaves what was given up before it, and puts its own run after that, with its heap. Own.
 pub fn retired_law()
     ensures calls { CallsGiveUp }
+{}
+
+/// The runs that a heap has claimed are, in the order of the log, those of its claimed outcomes, in the order of these. Own.
+pub fn claimed_law()
+    ensures order { ClaimedInOrder }
 {}
 
 /// What each form of a give leaves. Calls that log leave the roster, the segments that heaps have, what these gave up, and external

@@ -52,7 +52,7 @@ open_apart who asks armed (Some growth) is settled = λ same.
     omega (arith, settled growth.ask its, closed, is.above)
 
 module _ (who : ℕ) (parts now : ℕ → HeapPart) (segs : SegsView) (heard more : List AskLog) (grown : segs.asks ≡ heard ++ more)
-    (same : (heap : ℕ) → now heap ≡ parts heap) (standing : AreStanding who now segs) (settled : HasSettledAsks who parts heard) where
+    (same : (heap : ℕ) → now heap ≡ parts heap) (standing : AreStanding who now segs) (settled : HasSettledAsks parts heard) where
   -- whose asks are settled, and stay so
   armed_closed : (ask : Ask) → armed_ask segs who ≡ Some ask → ask.number ≤ closed_number segs.asks who
   armed_closed ask is =

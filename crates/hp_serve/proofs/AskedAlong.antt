@@ -88,7 +88,7 @@ answer_closes log asks ask run answer =
 
 -- so the asks of its participant are settled
 pub settled_by : (log : List LogRecord) (asks : List AskLog) (ask : Ask) (mid new : ℕ → HeapPart) (run : Option Run)
-    → ((heap : ℕ) → (mid heap).armed ≡ Some ask) → Settles log asks ask mid new run → HasSettledAsks ask.from new asks
+    → ((heap : ℕ) → (mid heap).armed ≡ Some ask) → Settles log asks ask mid new run → HasSettledAsks new asks
 settled_by log asks ask mid new run armed settles heap other is =
     let both : Some ask ≡ Some other = sym (settles.armed heap ∙ armed heap) ∙ is in
     let same : ask.number ≡ other.number = ap (λ (o : Option Ask). option_map_or (λ (ask : Ask). ask.number) o 0) both in
@@ -96,7 +96,7 @@ settled_by log asks ask mid new run armed settles heap other is =
 
 -- settled asks stay settled where outcomes follow
 pub settled_more : (who : ℕ) (old new : ℕ → HeapPart) (asks now more : List AskLog) → now ≡ asks ++ more
-    → ((heap : ℕ) → (new heap).armed ≡ (old heap).armed) → HasSettledAsks who old asks → HasSettledAsks who new now
+    → ((heap : ℕ) → (new heap).armed ≡ (old heap).armed) → HasSettledAsks old asks → HasSettledAsks new now
 settled_more who old new asks now more grown same settled heap ask is =
     let whole : closed_number now who ≡ closed_number (asks ++ more) who = ap (λ asks. closed_number asks who) grown in
     omega (arith, settled heap ask (sym (same heap) ∙ is), closed_more asks more who, whole)

@@ -5,18 +5,20 @@ use Rattle.hp_base.specs.declared.limits.TheConstants.{MAX_READING}
 use Rattle.hp_base.specs.declared.plan_entry.MsgKind.TheVariants as message
 use Rattle.hp_base.specs.declared.row.Run.{Run}
 use Rattle.hp_frame.specs.declared.frame.Frame.{Frame}
+use Rattle.hp_hall.specs.HallState.{Did, HallState}
 use Rattle.hp_hall.specs.Mail.{MailStep, Notes, Posts}
 use Rattle.hp_hall.specs.declared.note.Note.TheVariants.{Read}
 use Rattle.hp_mail.specs.declared.posted.Posted.{Posted}
 use Rattle.hp_segs.specs.LaterSteps.{after_arm}
 use Rattle.hp_segs.specs.SegsView.{SegsView}
 use Rattle.hp_segs.specs.declared.ask.Ask.{Ask}
-use Rattle.hp_serve.specs.Asking.{after_settling, alloc_body, ask_of, free_body, next_number}
+use Rattle.hp_serve.specs.Asking.{GrowsHeld, IsAsked, after_settling, alloc_body, ask_of, free_body, next_number}
 use Rattle.hp_serve.specs.Frames.{Says}
 use Rattle.hp_serve.specs.Looking.{IsLookAt}
 use Rattle.hp_serve.specs.Party.{Party, after_alloc, after_free, one_more}
 use Rattle.hp_serve.specs.Serving.{gives_segments, takes_segments}
 use Rattle.hp_serve.specs.Waiting.{IsWaited}
+use Rattle.hp_serve.specs.declared.answered.Answered.{Answered}
 use Rattle.hp_serve.specs.declared.pages_asked.PagesAsked.{PagesAsked}
 use Rattle.hp_serve.specs.declared.settling.Found.TheVariants.{Settled, Open}
 
@@ -65,8 +67,16 @@ pub record DoesAsk (count : ℕ) (party after : Party) (asked : PagesAsked) (ste
   pub awaited : IsAwaitedBy count (after_alloc after.asked party) after (ask_of party.me after.asked asked) since rest run
   pub are : steps ≡ sending ++ rest
 
--- a participant tells that it gave up a run of a heap, as the plan has its next notice, reads its clock, and waits for the answer, for
--- three deadlines at most
+-- a participant asked for pages in a hall: by the next number, and has its answer; what was granted came to the heap, which it holds; and
+-- where nobody stopped meanwhile it made such steps
+pub record AsksIn (me : ℕ) (old new : Party) (asked : PagesAsked) (from to : HallState) (answered : Answered) : Type 0 where
+  pub did : answered.stopped ≡ false
+      → (steps : List MailStep) × Did me steps from to × DoesAsk from.count old new asked steps answered.run
+  pub asked : IsAsked (to.seen me) (to.heard me) me old.asked new.asked asked answered.run
+  pub grows : GrowsHeld asked.heap answered.run (from.part me asked.heap) (to.part me asked.heap)
+
+-- a participant tells that it gave up a run of a heap, as the plan has its next notice, reads its clock, and waits for the answer, for three
+-- deadlines at most
 pub record DoesNotify (count : ℕ) (party after : Party) (heap : ℕ) (run : Run) (steps : List MailStep) : Type 0 where
   pub frame : Frame
   pub posted : Posted

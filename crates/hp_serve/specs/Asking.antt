@@ -1,8 +1,9 @@
 -- How a participant asks for pages, and gives pages up: the rule "Asking" of docs/PARTICIPANTS.md.
-use Rattle.std.specs.Prelude.{◌≡◌, ◌≢◌, ℕ, ◌+◌, ◌-◌, ◌^◌, ◌<◌, ◌≤◌, max, min, not, List, [], ◌++◌, Contains, Option, Some, None, IsSome, find, filter, ⊤}
+use Rattle.std.specs.Prelude.{◌≡◌, ◌≢◌, ℕ, ◌+◌, ◌-◌, ◌^◌, ◌<◌, ◌≤◌, max, min, not, List, [], ◌∷◌, ◌++◌, Contains, Option, Some, None, IsSome, find, filter, ⊤}
 use Rattle.hp_base.specs.declared.row.Run.{Run}
 use Rattle.hp_frame.specs.declared.message.Body.{Body}
 use Rattle.hp_frame.specs.declared.message.Body.TheVariants.{Alloc, Free}
+use Rattle.hp_hall.specs.Asks.{IsKnownSettled}
 use Rattle.hp_hall.specs.Holding.{HasPages, HeapPart}
 use Rattle.hp_segs.specs.Standing.{Holding}
 use Rattle.hp_heap.specs.Growing.{CanGrow, after_grow, run_bytes}
@@ -41,9 +42,9 @@ Gives log _ _ = ⊥
 abbrev pub next_number : ℕ → List AskLog → ℕ → ℕ
 next_number asked asks who = max asked (closed_number asks who) + 1
 
--- a participant's asks are settled: that with which it is armed, where there is one, has a number not above the closed one
-abbrev pub HasSettledAsks : ℕ → (ℕ → HeapPart) → List AskLog → Type 0
-HasSettledAsks who parts heard = (heap : ℕ) (ask : Ask) → (parts heap).armed ≡ Some ask → ask.number ≤ closed_number heard who
+-- a participant's asks are settled: of that with which it is armed, where there is one, it knows so
+abbrev pub HasSettledAsks : (ℕ → HeapPart) → List AskLog → Type 0
+HasSettledAsks parts heard = (heap : ℕ) (ask : Ask) → (parts heap).armed ≡ Some ask → IsKnownSettled heard (parts ask.heap).holding ask
 
 -- a participant is armed with the ask, and no heap that it holds has claimed anything for that number
 pub record IsArmedWith (ask : Ask) (parts : ℕ → HeapPart) : Type 0 where
@@ -81,10 +82,18 @@ abbrev pub BringsPages : ℕ → Run → Holding → Holding → Type 0
 BringsPages index run old new = (heap : PlainHeap) → heap.index ≡ index → HasPages heap.pages old.owned
     → HasPages (after_grow run heap).pages new.owned
 
+-- a run that was granted comes to a heap: it may, and brings its pages; of the heap's runs it comes behind those that came before, and what
+-- the heap gave up stays
+pub record BringsRun (index : ℕ) (run : Run) (old new : Holding) : Type 0 where
+  pub may : MayCome index run old
+  pub pages : BringsPages index run old new
+  pub came : new.came ≡ old.came ++ run ∷ []
+  pub retired : new.retired ≡ old.retired
+
 -- what a run that was granted makes of a holding, or none
 abbrev pub Grows : ℕ → Holding → Holding → Option Run → Type 0
 Grows index old new None = new ≡ old
-Grows index old new (Some run) = MayCome index run old × BringsPages index run old new
+Grows index old new (Some run) = BringsRun index run old new
 
 -- a participant's part in a heap that it holds, before and after: it made no entry there, the heap takes the pages of the same socket, it
 -- holds it still, and what the heap has grew by the run
@@ -103,9 +112,10 @@ pub record IsHeldAsBefore (old new : HeapPart) : Type 0 where
   pub serves : new.serves ≡ old.serves
   pub holding : new.holding ≡ old.holding
 
--- the ask is settled: it has its answer, what was granted has come to its heap, and all else is as it was
+-- the ask is settled, as its participant knows: it has its answer, what was granted has come to its heap, and all else is as it was
 pub record Settles (log : List LogRecord) (asks : List AskLog) (ask : Ask) (old new : ℕ → HeapPart) (run : Option Run) : Type 0 where
   pub answer : HasAnswer log asks ask run
+  pub known : IsKnownSettled asks (new ask.heap).holding ask
   pub grows : GrowsHeld ask.heap run (old ask.heap) (new ask.heap)
   pub others : (heap : ℕ) → heap ≢ ask.heap → new heap ≡ old heap
   pub armed : (heap : ℕ) → (new heap).armed ≡ (old heap).armed
@@ -133,12 +143,16 @@ pub record IsCutFrom (index : ℕ) (run : Run) (holding : Holding) (left : Plain
   pub cut : IsRunCut address whole run
   pub left_is : left ≡ after_cut address whole
 
--- what is left of a holding once a run is given up
+-- what is left of a holding once a run is given up: its own segments are without the run's rows, and the run comes behind those that were
+-- given up before
 abbrev pub without_run : Run → Holding → Holding
-without_run run holding = record holding { owned = filter (λ segment. not (in_run run segment.row)) holding.owned }
+without_run run holding = record holding {
+  owned = filter (λ segment. not (in_run run segment.row)) holding.owned;
+  retired = holding.retired ++ run ∷ [];
+}
 
--- a participant's part in a heap that it holds, before and after it gives up a run: the holding is without the run's rows, and a heap from
--- which the run was cut has the pages that it names
+-- a participant's part in a heap that it holds, before and after it gives up a run: that is left of the holding, and a heap from which the
+-- run was cut has the pages that it names
 pub record GivesUp (index : ℕ) (run : Run) (old new : HeapPart) : Type 0 where
   pub before : Holding
   pub held : old.holding ≡ Some before

@@ -24,7 +24,7 @@ use Rattle.hp_serve.specs.Falling.{IsDue}
 use Rattle.hp_serve.specs.Frames.{Says, SaysNothing}
 use Rattle.hp_serve.specs.Party.{Party, due_in}
 use Rattle.hp_serve.specs.Posting.{IsPosted}
-use Rattle.hp_serve.specs.Serving.{CatchesUp, IsWorn, acks_behind, after_catching_up, answer_behind, gives_segments, hearing, takes_segments, IsMemberServed}
+use Rattle.hp_serve.specs.Serving.{CatchesUp, IsWorn, after_catching_up, answer_behind, gives_segments, hearing, takes_segments, tells_behind, IsMemberServed}
 
 -- no validator denies anything
 abbrev pub nobody_denies : ℕ → ℕ → Option (List ℕ × ℕ)
@@ -78,7 +78,7 @@ with_core core party = record party { core = Some core }
 pub data IsMapped (party after : Party) (steps : List MailStep) (answer : Option Out) : Type 0 where
   maps : (core next : Core) (taken : SegsView) (caught : Caught) (table : MapsView) (own now : ℕ) (more : List MailStep)
       → party.core ≡ Some core
-      → steps ≡ takes_segments taken ∷ (acks_behind caught (length taken.log) ++ (Notes (Loaded 0 own) ∷ Notes (Read now) ∷ more))
+      → steps ≡ takes_segments taken ∷ (tells_behind caught (length taken.log) ++ (Notes (Loaded 0 own) ∷ Notes (Read now) ∷ more))
       → CatchesUp taken.log party.maps table caught
       → IsHanded (SelfMapped caught now) core next taken more answer
       → after ≡ with_core next (after_catching_up caught table party) → IsMapped party after steps answer

@@ -12,7 +12,7 @@ use Rattle.hp_frame.specs.declared.message.Body.{Body}
 use Rattle.hp_frame.specs.declared.message.Body.TheVariants.{Sync, Answer}
 use Rattle.hp_hall.specs.Mail.{MailStep, Fetches, Gives, Notes, Posts, Takes}
 use Rattle.hp_hall.specs.declared.kept.Kept.TheVariants.{Segments}
-use Rattle.hp_hall.specs.declared.note.Note.TheVariants.{Acked}
+use Rattle.hp_hall.specs.declared.note.Note.TheVariants.{Acked, Unmapped}
 use Rattle.hp_mail.specs.declared.posted.Posted.{Posted}
 use Rattle.hp_log.specs.declared.log_record.LogRecord.{LogRecord}
 use Rattle.hp_maps.specs.Catching.{HasAnswered, HasReason, new_rows, newer, number_after}
@@ -35,11 +35,19 @@ pub record CatchesUp (log : List LogRecord) (old new : MapsView) (caught : Caugh
   pub reason : HasReason old.may_fail caught
   pub stays : new.may_fail ≡ old.may_fail
 
--- what is acknowledged behind a catching up with so many records: all of them, or nothing where a mapping failed
+-- what a participant that attaches tells behind a catching up with so many records: it acknowledges all of them, or nothing where a mapping
+-- failed, since its table is then empty as before
 abbrev pub acks_behind : Caught → ℕ → List MailStep
 acks_behind caught.Done records = Notes (Acked records) ∷ []
 acks_behind (caught.Refused row call) records = []
 acks_behind (caught.Elsewhere row call got) records = []
+
+-- what a participant that has a table tells behind a catching up with so many records: it acknowledges all of them, or where a mapping
+-- failed tells that its table has lost what they drop
+abbrev pub tells_behind : Caught → ℕ → List MailStep
+tells_behind caught.Done records = Notes (Acked records) ∷ []
+tells_behind (caught.Refused row call) records = Notes Unmapped ∷ []
+tells_behind (caught.Elsewhere row call got) records = Notes Unmapped ∷ []
 
 -- a reply is posted to participant 0, as the plan has it for the next reply
 pub record Replies (party : Party) (body : Body) (step : MailStep) : Type 0 where
@@ -60,7 +68,7 @@ pub record Obeys (party after : Party) (taken : SegsView) (steps : List MailStep
   pub reply : MailStep
   pub replied : Replies party (reply_of party.me caught taken) reply
   pub done : steps
-      ≡ acks_behind caught (length taken.log) ++ (gives_segments (after_catching party.me caught taken) ∷ reply ∷ [])
+      ≡ tells_behind caught (length taken.log) ++ (gives_segments (after_catching party.me caught taken) ∷ reply ∷ [])
   pub after_is : after ≡ after_reply (after_catching_up caught after.maps party)
 
 -- a mapper has made so many calls that its participant stops

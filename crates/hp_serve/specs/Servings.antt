@@ -17,7 +17,7 @@ use Rattle.hp_serve.specs.Coordinating.{IsAskIn, stepping}
 use Rattle.hp_serve.specs.Frames.{Says}
 use Rattle.hp_serve.specs.Party.{Party, one_more}
 use Rattle.hp_serve.specs.Posting.{is_asker, result_body}
-use Rattle.hp_serve.specs.Serving.{IsWorn, acks_behind, gives_segments, takes_segments}
+use Rattle.hp_serve.specs.Serving.{IsWorn, gives_segments, takes_segments, tells_behind}
 
 -- so is each post among these steps: to whom, and the frame
 abbrev pub EachPost : (ℕ → Frame → Type 0) → List MailStep → Type 0
@@ -33,7 +33,7 @@ EachPost P (Notes note ∷ steps) = EachPost P steps
 pub data FollowsSync (party : Party) (steps : List MailStep) (answer : Option Bool) : Type 0 where
   replies : (taken : SegsView) (caught : Caught) (frame : Frame) (posted : Posted) → is_member taken.roster party.me ≡ true
       → Says frame (reply_of party.me caught taken)
-      → steps ≡ takes_segments taken ∷ (acks_behind caught (length taken.log) ++ (gives_segments (after_catching party.me caught taken)
+      → steps ≡ takes_segments taken ∷ (tells_behind caught (length taken.log) ++ (gives_segments (after_catching party.me caught taken)
       ∷ Posts 0 frame (action_of party.plan message.Reply party.me (one_more party.sent.replies)) posted ∷ []))
       → answer ≡ Some true → FollowsSync party steps answer
   -- not in the roster it gives the value back as it was

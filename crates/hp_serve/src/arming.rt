@@ -2,13 +2,15 @@
 ghost use Rattle.std.specs.Prelude.{◌≡◌, ℕ, ◌<◌, [], ◌∷◌, Some, IfOk, IfSome, IsSome, OnErr, OnOk};
 ghost use Rattle.hp_base.specs.declared.limits.TheConstants.{MAX_PARTICIPANTS};
 ghost use Rattle.hp_segs.specs.Calls.{MayArm};
-ghost use Rattle.hp_segs.specs.LaterSteps.{after_arm};
+ghost use Rattle.hp_segs.specs.LaterSteps.{after_arm, armed_ask};
 ghost use Rattle.hp_segs.specs.SegsView.{SegsView, closed_number};
+ghost use Rattle.hp_segs.specs.SettledAsks.{IsSettled};
 ghost use Rattle.hp_segs.specs.Sound.{IsSound};
+ghost use Rattle.hp_segs.specs.declared.ask.Ask.{Ask};
 ghost use Rattle.hp_serve.specs.Asking.{IsAwaiting, IsHeldAsBefore, HasSettledAsks, next_number};
 ghost use Rattle.hp_serve.specs.Asking.{ask_of};
 ghost use Rattle.hp_serve.specs.Serving.{gives_segments, takes_segments};
-ghost use Rattle.hp_hall.specs.HallState.{Did};
+ghost use Rattle.hp_hall.specs.HallState.{Did, HasMapped};
 ghost use Rattle.hp_serve.specs.SegmentSlot.{GivesBack, HasSegs, MayHold, StaysButParts};
 
 use crate::calls::{give_back, put_back, take_segments};
@@ -39,7 +41,8 @@ fn ask_of(me: u8, number: u64, asked: &PagesAsked) -> Ask
     }
 }
 
-// Arms a participant, which has taken the segment value, with a new ask, and gives the value back: as it was, where memory ran out.
+// Arms a participant, which has taken the segment value, with a new ask for a heap that it holds, where its earlier one is settled, and gives
+// the value back: as it was, where memory ran out.
 fn arm_taken<H: Hall>(hall: &mut H, me: u8, segs: Segs, ask: &Ask) -> Result<(), AllocError>
     requires has { HasSegs me segs (H.state hall.old) }
     requires sound { IsSound segs }
@@ -47,6 +50,7 @@ fn arm_taken<H: Hall>(hall: &mut H, me: u8, segs: Segs, ask: &Ask) -> Result<(),
     requires may { MayArm ask.now segs }
     requires above { closed_number segs.asks me < ask.now.number }
     requires holds { IsSome ((H.state hall.old).part me ask.now.heap).holding }
+    requires settled { (earlier : Ask) → armed_ask segs me ≡ Some earlier → IsSettled earlier.from earlier.number segs }
     ensures armed { OnOk result ((heap : ℕ) → ((H.state hall.new).part me heap).armed ≡ Some ask.now) }
     ensures held { (heap : ℕ) → IsHeldAsBefore ((H.state hall.old).part me heap) ((H.state hall.new).part me heap) }
     ensures ok { OnOk result (GivesBack me (after_arm ask.now segs) (H.state hall.old) (H.state hall.new)) }
@@ -76,7 +80,7 @@ pub(crate) fn arm<H: Hall>(
 ) -> Result<Ask, AllocError>
     requires may { MayHold me (H.state hall.old) }
     requires few { me < MAX_PARTICIPANTS }
-    requires settled { HasSettledAsks me ((H.state hall.old).part me) ((H.state hall.old).heard me) }
+    requires settled { HasSettledAsks ((H.state hall.old).part me) ((H.state hall.old).heard me) }
     requires holds { IsSome ((H.state hall.old).part me asked.now.heap).holding }
     ensures asked { IfOk result (λ ask. ask ≡ ask_of me ask.number asked.now) }
     ensures number { IfOk result (λ ask. ask.number ≡ next_number before ((H.state hall.new).heard me) me) }
@@ -84,6 +88,7 @@ pub(crate) fn arm<H: Hall>(
     ensures held { (heap : ℕ) → IsHeldAsBefore ((H.state hall.old).part me heap) ((H.state hall.new).part me heap) }
     ensures did { IfOk result (λ ask. (taken : SegsView) × (ask.number ≡ next_number before taken.asks me)
         × Did me (takes_segments taken ∷ gives_segments (after_arm ask taken) ∷ []) (H.state hall.old) (H.state hall.new)) }
+    ensures mapped { HasMapped me (H.state hall.new) }
     ensures stays { StaysButParts me (H.state hall.old) (H.state hall.new) }
     ensures goes_on { H.goes_on hall.old hall.new }
 {

@@ -1,7 +1,7 @@
 //! What a participant does that attaches or detaches, in one hold of the segment value.
-ghost use Rattle.std.specs.Prelude.{◌≡◌, ℕ, ◌^◌, ◌<◌, ◌≤◌, ◌++◌, ◌||◌, [], ◌∷◌, true, false, length};
+ghost use Rattle.std.specs.Prelude.{◌≡◌, ℕ, ◌^◌, ◌<◌, ◌≤◌, ◌++◌, ◌||◌, [], ◌∷◌, true, false, IsSome, length};
 ghost use Rattle.hp_base.specs.Mapping.{is_done};
-ghost use Rattle.hp_base.specs.declared.limits.TheConstants.{MAX_PARTICIPANTS};
+ghost use Rattle.hp_base.specs.declared.limits.TheConstants.{MAX_HEAPS, MAX_PARTICIPANTS};
 ghost use Rattle.hp_maps.specs.MapsView.{MapsView, calls_of, chunk_rows};
 ghost use Rattle.hp_segs.specs.LaterSteps.{after_join, after_leave};
 ghost use Rattle.hp_segs.specs.SegsView.{SegsView};
@@ -37,6 +37,7 @@ fn take_whole_log<H: Hall, M: Mapper>(
     segs: &Segs,
 ) -> Caught
     requires serves { (H.state hall.old).serves me }
+    requires hand { IsSome ((H.state hall.old).taken MAX_HEAPS) }
     requires seen { segs.now.log ≡ (H.state hall.old).seen me }
     requires tied { IsTied segs.now.log ((H.state hall.old).own me) joined maps.old }
     requires calls { calls_of maps.old ≤ 2 ^ 63 }

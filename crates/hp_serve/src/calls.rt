@@ -1,10 +1,10 @@
 //! The calls of a hall that serving makes, each with all that later steps need of it.
-ghost use Rattle.std.specs.Prelude.{◌≡◌, ℕ, ◌<◌, ◌≤◌, length};
+ghost use Rattle.std.specs.Prelude.{◌≡◌, ℕ, ◌<◌, ◌≤◌, IsSome, length};
 ghost use Rattle.hp_base.specs.declared.limits.TheConstants.{MAX_HEAPS};
 ghost use Rattle.hp_hall.specs.declared.kept.Kept.{Kept};
 ghost use Rattle.hp_hall.specs.Giving.{IsGiveOf};
 ghost use Rattle.hp_hall.specs.Holding.{part_behind};
-ghost use Rattle.hp_serve.specs.Serving.{acks_behind};
+ghost use Rattle.hp_serve.specs.Serving.{tells_behind};
 ghost use Rattle.hp_serve.specs.Tied.{own_after};
 ghost use Rattle.hp_hall.specs.HallState.{OthersStay, SlotsStayBut, known_to};
 ghost use Rattle.hp_hall.specs.HallCalls.{HasComeTo, HasTaken};
@@ -61,13 +61,14 @@ pub fn put_back<H: Hall>(hall: &mut H, me: u8, segs: Segs)
     give_segments(hall, me, segs);
 }
 
-/// Tells what became of a catching up with the log that was taken, of so many records: all of them are acknowledged, or what the
-/// new ones drop is unmapped.
+/// Tells what became of a catching up with the log of the segment value that is taken, of so many records: all of them are acknowledged, or
+/// what the new ones drop is unmapped.
 pub(crate) fn tell_number<H: Hall>(hall: &mut H, me: u8, caught: &Caught, records: u64)
     requires serves { (H.state hall.old).serves me }
     requires rises { ((H.state hall.old).own me).number ≤ records }
     requires seen { length ((H.state hall.old).seen me) ≡ records }
-    ensures own { HasComeTo me (own_after caught.now records ((H.state hall.old).own me)) (acks_behind caught.now records)
+    requires hand { IsSome ((H.state hall.old).taken MAX_HEAPS) }
+    ensures own { HasComeTo me (own_after caught.now records ((H.state hall.old).own me)) (tells_behind caught.now records)
         (H.state hall.old) (H.state hall.new) }
     ensures weight { (H.state hall.new).weight ≤ (H.state hall.old).weight }
     ensures goes_on { H.goes_on hall.old hall.new }

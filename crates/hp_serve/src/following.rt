@@ -12,7 +12,7 @@ ghost use Rattle.hp_hall.specs.Mail.{Posts};
 ghost use Rattle.hp_segs.specs.SegsView.{is_member};
 ghost use Rattle.hp_serve.specs.Frames.{Says};
 ghost use Rattle.hp_serve.specs.Party.{one_more};
-ghost use Rattle.hp_serve.specs.Serving.{CatchesUp, acks_behind, gives_segments, is_reply};
+ghost use Rattle.hp_serve.specs.Serving.{CatchesUp, gives_segments, is_reply, tells_behind};
 ghost use Rattle.hp_serve.specs.Tied.{IsTied};
 ghost use Rattle.hp_hall.specs.HallState.{Did, Stays};
 ghost use Rattle.hp_serve.specs.SegmentSlot.{FreesSegs, HasSegs, MayCatchUp, PutsBack};
@@ -81,7 +81,7 @@ pub(crate) fn obey<H: Hall, M: Mapper>(
     ensures caught { CatchesUp segs.log maps.old maps.new result }
     ensures tied { IsTied ((H.state hall.new).seen me) ((H.state hall.new).own me) (joined || is_done result) maps.new }
     ensures did { (frame : Frame) × (posted : Posted) × Says frame (reply_of me result segs)
-        × Did me (acks_behind result (length segs.log) ++ (gives_segments (after_catching me result segs)
+        × Did me (tells_behind result (length segs.log) ++ (gives_segments (after_catching me result segs)
         ∷ Posts 0 frame (action_of plan.now MsgKind.Reply me (one_more replies)) posted ∷ [])) (H.state hall.old) (H.state hall.new) }
     ensures weight { (H.state hall.new).weight ≤ (H.state hall.old).weight + H.scale * 2 }
     ensures back { FreesSegs me (H.state hall.old) (H.state hall.new) }

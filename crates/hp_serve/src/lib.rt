@@ -1,6 +1,7 @@
 //! What participants do in any hall between their lines: how they serve, wait, ask for pages and give them up, attach and detach.
 #![tactic(auto)]
 
+mod answered;
 mod arming;
 mod asking;
 mod attaching;
@@ -20,7 +21,9 @@ mod retiring;
 mod sent;
 mod server;
 mod settling;
+mod waited;
 
+pub use answered::Answered;
 pub use calls::{put_back, take_segments};
 pub use end::End;
 pub use framing::framed;

@@ -10,7 +10,7 @@ ghost use Rattle.hp_maps.specs.MapsView.{calls_of};
 ghost use Rattle.hp_segs.specs.Sound.{IsSound};
 ghost use Rattle.hp_serve.specs.Coordinating.{IsHanded, IsMapped};
 ghost use Rattle.hp_serve.specs.Party.{Party, with_table};
-ghost use Rattle.hp_serve.specs.Serving.{CatchesUp, acks_behind};
+ghost use Rattle.hp_serve.specs.Serving.{CatchesUp, tells_behind};
 ghost use Rattle.hp_serve.specs.Tied.{IsTied};
 ghost use Rattle.hp_hall.specs.HallState.{Did, MayServe};
 ghost use Rattle.hp_serve.specs.SegmentSlot.{FreesSegs, HasSegs, StaysButOwn};
@@ -40,7 +40,7 @@ fn catch_and_hand<H: Hall, M: Mapper>(
     requires tied { IsTied segs.log ((H.state hall.old).own 0) joined.old maps.old }
     requires calls { calls_of maps.old ≤ 2 ^ 63 }
     ensures handed { (caught : Caught) × (own now : ℕ) × (more : List MailStep)
-        × Did 0 (acks_behind caught (length segs.log) ++ (Notes (Note.Loaded 0 own) ∷ Notes (Note.Read now) ∷ more))
+        × Did 0 (tells_behind caught (length segs.log) ++ (Notes (Note.Loaded 0 own) ∷ Notes (Note.Read now) ∷ more))
         (H.state hall.old) (H.state hall.new) × CatchesUp segs.log maps.old maps.new caught
         × (joined.new ≡ (joined.old || is_done caught))
         × IsHanded (SelfMapped caught now) core.old core.new segs more (result_ok result) }

@@ -18,6 +18,7 @@ mod ending;
 mod giving_up;
 mod heeding;
 mod member;
+mod outlasting;
 mod resting;
 mod serving;
 mod waiting;

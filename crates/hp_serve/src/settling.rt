@@ -10,7 +10,7 @@ ghost use Rattle.hp_segs.specs.Steps.{after_claim, claimed_run};
 ghost use Rattle.hp_serve.specs.Asking.{IsAwaiting, Settles, after_settling};
 ghost use Rattle.hp_serve.specs.Looking.{HasFound, IsLookAt};
 ghost use Rattle.hp_serve.specs.Serving.{gives_segments, takes_segments};
-ghost use Rattle.hp_hall.specs.HallState.{Did};
+ghost use Rattle.hp_hall.specs.HallState.{Did, HasMapped};
 ghost use Rattle.hp_serve.specs.SegmentSlot.{GivesBack, MayHold, StaysButParts};
 
 use crate::calls::{give_back, put_back, take_segments};
@@ -54,6 +54,7 @@ pub(crate) fn look<H: Hall>(hall: &mut H, ask: &Ask) -> Found
     ensures found { HasFound ((H.state hall.new).seen ask.now.from) ((H.state hall.new).heard ask.now.from) ask.now
         ((H.state hall.old).part ask.now.from) ((H.state hall.new).part ask.now.from) result }
     ensures did { (steps : List MailStep) × Did ask.now.from steps (H.state hall.old) (H.state hall.new) × IsLookAt ask.now steps result }
+    ensures mapped { HasMapped ask.now.from (H.state hall.new) }
     ensures stays { StaysButParts ask.now.from (H.state hall.old) (H.state hall.new) }
     ensures goes_on { H.goes_on hall.old hall.new }
 {
@@ -84,6 +85,7 @@ pub(crate) fn settle<H: Hall>(hall: &mut H, ask: &Ask, since: u64, now: u64) -> 
         ((H.state hall.old).part ask.now.from) ((H.state hall.new).part ask.now.from) result }
     ensures did { (taken : SegsView) × Did ask.now.from (takes_segments taken
         ∷ gives_segments (after_settling ask.now since now taken) ∷ []) (H.state hall.old) (H.state hall.new) }
+    ensures mapped { HasMapped ask.now.from (H.state hall.new) }
     ensures stays { StaysButParts ask.now.from (H.state hall.old) (H.state hall.new) }
     ensures goes_on { H.goes_on hall.old hall.new }
 {

@@ -33,7 +33,7 @@ pub record MayBeginToAsk (hall : HallView) (who : ℕ) : Type 0 where
 pub record MayAsk (hall : SoloView) (party : Party) : Type 0 where
   pub waits : MayWait hall party
   pub holds : IsSome (part_in hall.plain party.me 0).holding
-  pub settled : HasSettledAsks party.me (part_in hall.plain party.me) (heard_in hall.plain)
+  pub settled : HasSettledAsks (part_in hall.plain party.me) (heard_in hall.plain)
 
 -- heap 0 in the hand of one that has these parts: it takes pages, and has those that its holding names
 pub record IsInHand (parts : ℕ → HeapPart) (heap : PlainHeap) : Type 0 where

@@ -117,12 +117,12 @@ module _ (old new : HallView) (who : ℕ) (heap : HeapView) (is : IsTakenFirst o
       (cases_eq other 0)
 
   -- and no ask that is not settled
-  pub settled_first : (heard : List AskLog) → HasSettledAsks who (part_in new who) heard
+  pub settled_first : (heard : List AskLog) → HasSettledAsks (part_in new who) heard
   settled_first heard other ask armed = absurd (none_armed (part_in new who other).armed ask (unarmed_still other) armed)
 
 -- one that holds heap 0 and may wait may ask
 pub may_ask : (hall : SoloView) (party : Party) (heap : PlainHeap) → MayWait hall party → IsInHand (part_in hall.plain party.me) heap
-    → HasSettledAsks party.me (part_in hall.plain party.me) (heard_in hall.plain) → MayAsk hall party
+    → HasSettledAsks (part_in hall.plain party.me) (heard_in hall.plain) → MayAsk hall party
 may_ask hall party heap waits hand settled = record {
   waits = waits;
   holds = subst (λ (o : Option Holding). IsSome o) (sym hand.held) refl;

@@ -76,7 +76,7 @@ fn leaves_the_roster_and_joins_again(rt: HostRuntime) -> Result<(), Fail> {
 
 #[test]
 fn tells_what_was_acknowledged(rt: HostRuntime) -> Result<(), Fail> {
-    let steps = [Join, Partial, Numbers((1, 0))];
+    let steps = [Join, Partial, Numbers((2, 0))];
     play(
         rt.alloc(),
         First::Nothing,

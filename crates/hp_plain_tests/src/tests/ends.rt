@@ -19,10 +19,10 @@ fn is_called_by(heap: &Heap, callers: &[u8]) -> bool {
 }
 
 /// Whether the heaps are all there, each at its index, these participants called heap 3 and nobody another heap, those in the roster
-/// are these, as bits, and there is one record.
+/// are these, as bits, and there are two records.
 pub fn has_ended(parts: &HallParts, callers: &[u8], roster: u16) -> bool {
     let segs = &parts.segs;
-    if parts.heaps.len() != MAX_HEAPS || segs.roster() != roster || segs.records().len() != 1 {
+    if parts.heaps.len() != MAX_HEAPS || segs.roster() != roster || segs.records().len() != 2 {
         return false;
     }
     for index in 0..parts.heaps.len() {

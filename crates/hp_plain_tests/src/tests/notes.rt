@@ -49,12 +49,12 @@ pub fn rest(hall: &mut PlainHall, deadline: u64) -> bool
     true
 }
 
-/// Participant 1 acknowledges the one record, looks up what it has acknowledged and what the primary has, lets those above it serve, which
+/// Participant 1 acknowledges the first record, looks up what it has acknowledged and what the primary has, lets those above it serve, which
 /// moves nothing, and reads the clock.
 pub fn note_each(hall: &mut PlainHall) -> (u64, u64, u64)
     requires two { length hall.old.owns ≡ 2 }
     requires nothing_yet { (own_at hall.old 1).number ≡ 0 }
-    requires one { length (seen_in hall.old) ≡ 1 }
+    requires records { length (seen_in hall.old) ≡ 2 }
     requires home { AreHome hall.old }
     ensures count { length hall.new.owns ≡ 2 }
     ensures home { AreHome hall.new }

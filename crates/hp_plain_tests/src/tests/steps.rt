@@ -1,7 +1,8 @@
 //! What the participants of a hall of two do, one step after another, with what has to come of each.
-ghost use Rattle.std.specs.Prelude.{◌≡◌, ℕ, [], OnOk, length};
+ghost use Rattle.std.specs.Prelude.{◌≡◌, ℕ, OnOk, length};
 ghost use Rattle.hp_plain.specs.HallView.{own_at, part_in, seen_in};
 ghost use Rattle.hp_plain.specs.Opening.{AreHome};
+ghost use Rattle.hp_plain_tests.specs.Untouched.{IsUntouched};
 
 use super::ends::has_ended;
 use super::hall_of_two;
@@ -63,7 +64,7 @@ struct Otherwise {
 fn call_each(hall: &mut PlainHall) -> Result<(), AllocError>
     requires two { length hall.old.owns ≡ 2 }
     requires home { AreHome hall.old }
-    requires first { (who heap : ℕ) → (part_in hall.old who heap).entries ≡ [] }
+    requires first { (who heap : ℕ) → IsUntouched (part_in hall.old who heap) }
     ensures home { OnOk result (AreHome hall.new) }
     ensures two { length hall.new.owns ≡ 2 }
 {
@@ -75,9 +76,9 @@ fn call_each(hall: &mut PlainHall) -> Result<(), AllocError>
 fn do_first(hall: &mut PlainHall, first: First) -> Result<bool, AllocError>
     requires two { length hall.old.owns ≡ 2 }
     requires home { AreHome hall.old }
-    requires first { (who heap : ℕ) → (part_in hall.old who heap).entries ≡ [] }
+    requires first { (who heap : ℕ) → IsUntouched (part_in hall.old who heap) }
     requires nothing_yet { (own_at hall.old 1).number ≡ 0 }
-    requires one { length (seen_in hall.old) ≡ 1 }
+    requires records { length (seen_in hall.old) ≡ 2 }
     ensures home { OnOk result (AreHome hall.new) }
     ensures two { length hall.new.owns ≡ 2 }
 {
@@ -139,9 +140,9 @@ fn do_steps(hall: &mut PlainHall, steps: &[Step]) -> Result<(), Fail>
 fn go_on(hall: &mut PlainHall, first: First, steps: &[Step]) -> Result<(), Fail>
     requires two { length hall.old.owns ≡ 2 }
     requires home { AreHome hall.old }
-    requires first { (who heap : ℕ) → (part_in hall.old who heap).entries ≡ [] }
+    requires first { (who heap : ℕ) → IsUntouched (part_in hall.old who heap) }
     requires nothing_yet { (own_at hall.old 1).number ≡ 0 }
-    requires one { length (seen_in hall.old) ≡ 1 }
+    requires records { length (seen_in hall.old) ≡ 2 }
     ensures home { OnOk result (AreHome hall.new) }
 {
     if !do_first(hall, first)? {

@@ -7,6 +7,7 @@ ghost use Rattle.hp_hall.specs.Mail.{Notes};
 ghost use Rattle.hp_plain.specs.HallView.{IsHome, own_at, part_in, slot_at};
 ghost use Rattle.hp_plain.specs.Opening.{AreHome};
 ghost use Rattle.hp_plain.specs.PlainState.{plain_state};
+ghost use Rattle.hp_plain_tests.specs.Untouched.{IsUntouched};
 
 use hp_base::Caller;
 use hp_hall::{Busy, Hall, Kept, Note, Slot};
@@ -19,7 +20,7 @@ pub fn call_first(hall: &mut PlainHall, me: u8, index: u32) -> Result<(), AllocE
     requires me { me < length hall.old.owns }
     requires index { index < MAX_HEAPS }
     requires home { AreHome hall.old }
-    requires first { (heap : ℕ) → (part_in hall.old me heap).entries ≡ [] }
+    requires first { (heap : ℕ) → IsUntouched (part_in hall.old me heap) }
     ensures home { OnOk result (AreHome hall.new) }
     ensures count { length hall.new.owns ≡ length hall.old.owns }
     ensures others { OnOk result (OthersStay me (plain_state hall.old) (plain_state hall.new)) }
@@ -84,7 +85,7 @@ pub fn call_across(hall: &mut PlainHall, me: u8, other: u8, index: u32) -> Resul
     requires secondary { 0 < other }
     requires index { index < MAX_HEAPS }
     requires home { AreHome hall.old }
-    requires first { (heap : ℕ) → (part_in hall.old me heap).entries ≡ [] }
+    requires first { (heap : ℕ) → IsUntouched (part_in hall.old me heap) }
     ensures home { OnOk result (AreHome hall.new) }
     ensures count { length hall.new.owns ≡ length hall.old.owns }
 {

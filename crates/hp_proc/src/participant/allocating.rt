@@ -1,7 +1,7 @@
 //! An allocation: its heaps are tried one after another, and each may grow.
 ghost use Rattle.std.specs.List.{All};
 ghost use Rattle.std.specs.Option.{option_map};
-ghost use Rattle.std.specs.Prelude.{◌≡◌, ◌*◌, ◌<◌, ◌∷◌, List, Some, None, IfOk, OnErr, OnOk, map, length, Contains, true};
+ghost use Rattle.std.specs.Prelude.{◌≡◌, ◌*◌, ◌<◌, [], ◌∷◌, List, Some, None, IfOk, OnErr, OnOk, map, length, Contains, true};
 ghost use Rattle.hp_base.specs.declared.limits.TheConstants.{MAX_HEAPS};
 ghost use Rattle.hp_base.specs.declared.tag.Tag.{Tag};
 ghost use Rattle.hp_script.specs.Part.{Part};
@@ -12,11 +12,10 @@ ghost use Rattle.hp_serve.specs.Clocks.{RisesWithin, longest_allocation, longest
 ghost use Rattle.hp_proc.specs.Contexts.{IsNextLine, IsSocketHeapOf, named_heap};
 ghost use Rattle.hp_proc.specs.Heaps.{NamedHeap, heaps_for, socket_heaps};
 ghost use Rattle.hp_proc.specs.ParticipantView.{after_answer};
-ghost use Rattle.hp_proc.specs.Progress.{AreSettled, Brings, IsAllocation, MayDo, Tries};
+ghost use Rattle.hp_proc.specs.Progress.{AreOnce, Brings, IsAllocation, MayDo, Tries};
 ghost use Rattle.hp_proc.specs.declared.socket_heap.SocketHeap.{SocketHeap};
 ghost use Rattle.hp_hall.specs.HallState.{IsBusy};
-ghost use Rattle.hp_proc.specs.LineInHall.{DoesLineHere, HasCalled, HasRoom, HoldsIn, IsIdleAgain, IsReadyIn, KeepsHeld};
-ghost use Rattle.hp_proc.specs.LineInHall.{did_in, moment, moment_with};
+ghost use Rattle.hp_proc.specs.LineInHall.{DoesLineHere, HasCalled, HasRoom, HoldsIn, IsIdleAgain, IsMapped, IsReadyIn, KeepsHeld, did_in, moment, moment_with};
 
 use super::Participant;
 use crate::page_sizes::without_hint;
@@ -58,13 +57,14 @@ impl<'p, M: Mapper> Participant<'p, M> {
         requires of_socket { heap.old.plain.serves ≡ Some place.now.socket }
         requires room { HasRoom 3 heap.old self.old }
         ensures does { IfOk result (λ given. (heaps : List NamedHeap)
-            → Tries place.now.index (H.state hall.old).count
+            → Tries place.now.index [] (H.state hall.old).count
             (did_in self.old.party.me (H.state hall.old)
             (H.state hall.new)) (trying self.old.context.pools request.now tag (named_heap place.now
             ∷ heaps)) (trying self.old.context.pools request.now tag heaps) given
             (moment_with heap.old self.old.party.me self.old (H.state hall.old))
             (moment_with heap.new self.old.party.me self.new (H.state hall.new))) }
-        ensures settled { OnOk result (AreSettled (moment self.old.party.me self.new (H.state hall.new))) }
+        ensures lies { IfOk result (λ given. (answer : Answer) → given ≡ Some answer
+            → IsMapped self.old.party.me (H.state hall.new) answer) }
         ensures clock { RisesWithin H.pending (λ hall. IsBusy (H.state hall)) (longest_growth self.old.party.deadline)
             (H.state hall.old).clock (H.state hall.new).clock }
         ensures keeps { KeepsHeld self.old.party.me self.old self.new heap.old heap.new (H.state hall.old) (H.state hall.new) }
@@ -94,11 +94,13 @@ impl<'p, M: Mapper> Participant<'p, M> {
         requires place { IsSocketHeapOf self.old.context.pools place.now }
         requires ready { IsReadyIn self.old.party.me self.old (H.state hall.old) }
         ensures does { IfOk result (λ given. (heaps : List NamedHeap)
-            → Tries place.now.index (H.state hall.old).count
+            → Tries place.now.index (place.now.index ∷ []) (H.state hall.old).count
             (did_in self.old.party.me (H.state hall.old)
             (H.state hall.new)) (trying self.old.context.pools request.now tag (named_heap place.now
             ∷ heaps)) (trying self.old.context.pools request.now tag heaps) given
             (moment self.old.party.me self.old (H.state hall.old)) (moment self.old.party.me self.new (H.state hall.new))) }
+        ensures lies { IfOk result (λ given. (answer : Answer) → given ≡ Some answer
+            → IsMapped self.old.party.me (H.state hall.new) answer) }
         ensures ready { OnOk result (MayDo (moment self.old.party.me self.new (H.state hall.new))) }
         ensures clock { RisesWithin H.pending (λ hall. IsBusy (H.state hall)) (longest_growth self.old.party.deadline)
             (H.state hall.old).clock (H.state hall.new).clock }
@@ -120,11 +122,13 @@ impl<'p, M: Mapper> Participant<'p, M> {
         tag: Tag,
     ) -> Result<(Answer, u32), AllocError>
         requires places { (place : SocketHeap) → Contains places.now place → IsSocketHeapOf self.old.context.pools place }
+        requires apart { AreOnce (map (λ place. place.index) places.now) }
         requires ready { IsReadyIn self.old.party.me self.old (H.state hall.old) }
         ensures does { IfOk result (λ given. Brings given.1 (H.state hall.old).count
             (did_in self.old.party.me (H.state hall.old)
             (H.state hall.new)) (serving self.old.context.pools request.now tag (map named_heap places.now)) given.0
             (moment self.old.party.me self.old (H.state hall.old)) (moment self.old.party.me self.new (H.state hall.new))) }
+        ensures lies { IfOk result (λ given. IsMapped self.old.party.me (H.state hall.new) given.0) }
         ensures few { IfOk result (λ given. given.1 < MAX_HEAPS) }
         ensures ready { OnOk result (MayDo (moment self.old.party.me self.new (H.state hall.new))) }
         ensures clock { RisesWithin H.pending (λ hall. IsBusy
@@ -189,6 +193,7 @@ impl<'p, M: Mapper> Participant<'p, M> {
         requires ready { IsReadyIn self.old.party.me self.old (H.state hall.old) }
         ensures does { IfOk result (λ given. DoesLineHere self.old.party.me self.old self.new (H.state hall.old)
             (H.state hall.new) line.now given) }
+        ensures lies { IfOk result (λ given. IsMapped self.old.party.me (H.state hall.new) given) }
         ensures ready { OnOk result (MayDo (moment self.old.party.me self.new (H.state hall.new))) }
         ensures clock { RisesWithin H.pending (λ hall. IsBusy (H.state hall)) (longest_allocation self.old.party.deadline)
             (H.state hall.old).clock (H.state hall.new).clock }
@@ -222,6 +227,7 @@ impl<'p, M: Mapper> Participant<'p, M> {
         requires ready { IsReadyIn self.old.party.me self.old (H.state hall.old) }
         ensures does { IfOk result (λ given. DoesLineHere self.old.party.me self.old self.new (H.state hall.old)
             (H.state hall.new) line.now given) }
+        ensures lies { IfOk result (λ given. IsMapped self.old.party.me (H.state hall.new) given) }
         ensures ready { OnOk result (MayDo (moment self.old.party.me self.new (H.state hall.new))) }
         ensures clock { RisesWithin H.pending (λ hall. IsBusy (H.state hall)) (longest_allocation self.old.party.deadline)
             (H.state hall.old).clock (H.state hall.new).clock }

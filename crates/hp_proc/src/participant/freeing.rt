@@ -7,10 +7,10 @@ ghost use Rattle.hp_heap.specs.declared.entry.HeapCall.TheVariants as call;
 ghost use Rattle.hp_script.specs.declared.answer.Answer.TheVariants as gives;
 ghost use Rattle.hp_proc.specs.Freeing.{MayAct, acting, cutting, freeing, left_of, resized_answer};
 ghost use Rattle.hp_proc.specs.ParticipantView.{after_call};
-ghost use Rattle.hp_proc.specs.Progress.{AreSettled, caller_of};
+ghost use Rattle.hp_proc.specs.Progress.{caller_of};
 ghost use Rattle.hp_proc.specs.declared.searched_heap.SearchedHeap.{SearchedHeap};
 ghost use Rattle.hp_hall.specs.HallState.{OthersStay};
-ghost use Rattle.hp_proc.specs.LineInHall.{DoesHeld, HasRoom, HoldsIn, KeepsHeld, moment};
+ghost use Rattle.hp_proc.specs.LineInHall.{DoesHeld, HasRoom, HoldsIn, KeepsHeld};
 
 use super::Participant;
 use crate::element_act::{ElementAct, Left};
@@ -36,7 +36,6 @@ impl<'p, M: Mapper> Participant<'p, M> {
         requires room { HasRoom 2 heap.old self.old }
         ensures does { DoesHeld self.old.party.me self.old self.new heap.old heap.new (H.state hall.old)
             (H.state hall.new) (freeing place.now addr) (left_of place.now.index result) }
-        ensures settled { AreSettled (moment self.old.party.me self.new (H.state hall.new)) }
         ensures keeps { KeepsHeld self.old.party.me self.old self.new heap.old heap.new (H.state hall.old) (H.state hall.new) }
         ensures others { OthersStay self.old.party.me (H.state hall.old) (H.state hall.new) }
         ensures goes_on { H.goes_on hall.old hall.new }
@@ -66,7 +65,6 @@ impl<'p, M: Mapper> Participant<'p, M> {
         requires room { HasRoom 1 heap.old self.old }
         ensures does { DoesHeld self.old.party.me self.old self.new heap.old heap.new (H.state hall.old)
             (H.state hall.new) (cutting place.now addr) (left_of place.now.index result) }
-        ensures settled { AreSettled (moment self.old.party.me self.new (H.state hall.new)) }
         ensures keeps { KeepsHeld self.old.party.me self.old self.new heap.old heap.new (H.state hall.old) (H.state hall.new) }
         ensures others { OthersStay self.old.party.me (H.state hall.old) (H.state hall.new) }
         ensures goes_on { H.goes_on hall.old hall.new }
@@ -121,7 +119,6 @@ impl<'p, M: Mapper> Participant<'p, M> {
         requires room { HasRoom 2 heap.old self.old }
         ensures does { DoesHeld self.old.party.me self.old self.new heap.old heap.new (H.state hall.old)
             (H.state hall.new) (acting action place.now addr) (left_of place.now.index result) }
-        ensures settled { AreSettled (moment self.old.party.me self.new (H.state hall.new)) }
         ensures keeps { KeepsHeld self.old.party.me self.old self.new heap.old heap.new (H.state hall.old) (H.state hall.new) }
         ensures others { OthersStay self.old.party.me (H.state hall.old) (H.state hall.new) }
         ensures goes_on { H.goes_on hall.old hall.new }

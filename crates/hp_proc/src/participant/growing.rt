@@ -1,25 +1,31 @@
 //! A heap in a participant's hand gets pages, where some are granted.
-ghost use Rattle.std.specs.Prelude.{◌≡◌, ◌+◌, ◌<◌, ◌≤◌, Some, None, IfOk, OnOk, IsSome, false};
+ghost use Rattle.std.specs.Prelude.{◌≡◌, ◌+◌, ◌<◌, ◌≤◌, Some, None, IfNone, IfOk, IfSome, IsSome, false, true};
 ghost use Rattle.hp_base.specs.declared.tag.Tag.{Tag};
 ghost use Rattle.hp_proc.specs.Allocating.{asking, behind_asking, with_run};
 ghost use Rattle.hp_serve.specs.Clocks.{RisesWithin, longest_growth, longest_wait};
 ghost use Rattle.hp_proc.specs.Doing.{Doing};
 ghost use Rattle.hp_proc.specs.Heaps.{page_sizes_for};
-ghost use Rattle.hp_proc.specs.Progress.{AreSettled};
+ghost use Rattle.hp_heap.specs.Allowed.{IsAllowed};
+ghost use Rattle.hp_heap.specs.History.{IsCall};
+ghost use Rattle.hp_heap.specs.declared.entry.HeapAnswer.TheVariants as gives;
+ghost use Rattle.hp_heap.specs.declared.entry.HeapCall.TheVariants as call;
+ghost use Rattle.hp_proc.specs.ParticipantView.{after_call};
+ghost use Rattle.hp_proc.specs.Progress.{caller_of};
 ghost use Rattle.hp_hall.specs.HallState.{IsBusy};
-ghost use Rattle.hp_proc.specs.LineInHall.{DoesHeld, HasRoom, HoldsIn, KeepsHeld, moment};
+ghost use Rattle.hp_proc.specs.LineInHall.{DoesHeld, HasRoom, HoldsIn, KeepsHeld};
 
 use super::Participant;
 use crate::page_sizes::page_sizes_for;
 use crate::socket_heap::SocketHeap;
-use hp_base::{Mapper, Request};
+use hp_base::{Mapper, Request, Run};
 use hp_hall::Waiting;
 use hp_heap::Heap;
 use hp_serve::PagesAsked;
 use std::alloc::AllocError;
 
 impl<'p, M: Mapper> Participant<'p, M> {
-    // Asks for pages for the heap in its hand, which takes the run in that is granted; it answers whether one was.
+    // Asks for pages for the heap in its hand, which takes the run in that is granted; it answers whether one was. Where somebody stopped
+    // meanwhile the heap has taken the run in too, before the line ends.
     fn ask_in<H: Waiting>(
         &mut self,
         hall: &mut H,
@@ -34,7 +40,6 @@ impl<'p, M: Mapper> Participant<'p, M> {
             → DoesHeld self.old.party.me self.old self.new heap.old heap.new (H.state hall.old)
             (H.state hall.new) (Doing.Asks asked.now (with_run asked.now.heap asked.now.request tag otherwise))
             (behind_asking asked.now.heap asked.now.request tag otherwise granted)) }
-        ensures settled { OnOk result (AreSettled (moment self.old.party.me self.new (H.state hall.new))) }
         ensures clock { RisesWithin H.pending (λ hall. IsBusy (H.state hall)) (longest_wait self.old.party.deadline)
             (H.state hall.old).clock (H.state hall.new).clock }
         ensures keeps { KeepsHeld self.old.party.me self.old self.new heap.old heap.new (H.state hall.old) (H.state hall.new) }
@@ -43,11 +48,27 @@ impl<'p, M: Mapper> Participant<'p, M> {
         ensures spare { heap.old.spare ≤ heap.new.spare + 1 }
         ensures more { self.new.context.calls ≤ self.old.context.calls + 1 }
     {
-        match self.ask(hall, asked)? {
-            None => Ok(false),
+        let answered = self.ask(hall, asked)?;
+        let granted = self.grow_by(heap, answered.run);
+        if answered.stopped {
+            return Err(AllocError);
+        }
+        Ok(granted)
+    }
+
+    // The heap in its hand takes in the run that was granted, where one was, and it answers whether one was.
+    fn grow_by(&mut self, heap: &mut Heap, run: Option<Run>) -> bool
+        requires allowed { IfSome run (λ run. IsAllowed self.old.party.me (call.Grow run) heap.old.plain) }
+        requires room { HasRoom 1 heap.old self.old }
+        ensures none { IfNone run ((result ≡ false) × (heap.new ≡ heap.old) × (self.new ≡ self.old)) }
+        ensures some { IfSome run (λ run. (result ≡ true) × (self.new ≡ after_call self.old)
+            × IsCall (caller_of self.old) (call.Grow run) gives.Done heap.old heap.new) }
+    {
+        match run {
+            None => false,
             Some(run) => {
                 self.grow_in(heap, &run);
-                Ok(true)
+                true
             }
         }
     }
@@ -69,7 +90,6 @@ impl<'p, M: Mapper> Participant<'p, M> {
             (H.state hall.new) (asking place.now.index place.now.socket request.now tag otherwise
             (page_sizes_for self.old.context.pools place.now.socket request.now.flags)) (behind_asking place.now.index
             request.now tag otherwise granted)) }
-        ensures settled { OnOk result (AreSettled (moment self.old.party.me self.new (H.state hall.new))) }
         ensures clock { RisesWithin H.pending (λ hall. IsBusy (H.state hall)) (longest_growth self.old.party.deadline)
             (H.state hall.old).clock (H.state hall.new).clock }
         ensures keeps { KeepsHeld self.old.party.me self.old self.new heap.old heap.new (H.state hall.old) (H.state hall.new) }

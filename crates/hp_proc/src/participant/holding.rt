@@ -1,5 +1,5 @@
 //! How a participant takes a heap into its hand, and gives it back.
-ghost use Rattle.std.specs.Prelude.{◌≡◌, ◌<◌, IfOk, OnErr};
+ghost use Rattle.std.specs.Prelude.{◌≡◌, ◌<◌, [], ◌∷◌, IfOk, OnErr};
 ghost use Rattle.hp_base.specs.declared.limits.TheConstants.{MAX_HEAPS};
 ghost use Rattle.hp_hall.specs.declared.kept.Kept.{Kept};
 ghost use Rattle.hp_serve.specs.Clocks.{RisesWithin};
@@ -7,7 +7,7 @@ ghost use Rattle.hp_proc.specs.Doing.{Doing};
 ghost use Rattle.hp_serve.specs.Party.{IsSameParty};
 ghost use Rattle.hp_proc.specs.Progress.{AreSettled, Does, IsInHand, MayDo, in_hand};
 ghost use Rattle.hp_hall.specs.HallState.{IsBusy, OthersStay, SlotsStayBut};
-ghost use Rattle.hp_proc.specs.LineInHall.{AreFreeBut, HasRoom, HoldsIn, IsFreeAt, IsIdleIn, IsReadyIn, did_in, moment, moment_with};
+ghost use Rattle.hp_proc.specs.LineInHall.{AreFreeBut, HasRoom, HoldsIn, IsFreeAt, IsIdleIn, IsReadyIn, TableStays, did_in, moment, moment_with};
 ghost use Rattle.hp_serve.specs.InHall.{IsTiedIn};
 
 use super::Participant;
@@ -21,7 +21,7 @@ impl<'p, M: Mapper> Participant<'p, M> {
     fn take_heap<H: Waiting>(&mut self, hall: &mut H, index: u32) -> Result<Heap, AllocError>
         requires few { index < MAX_HEAPS }
         requires ready { IsReadyIn self.old.party.me self.old (H.state hall.old) }
-        ensures did { IfOk result (λ heap. (doing : Doing) → Does (H.state hall.old).count
+        ensures did { IfOk result (λ heap. (doing : Doing) → Does (index ∷ []) (H.state hall.old).count
             (did_in self.old.party.me (H.state hall.old) (H.state hall.new)) doing doing
             (moment self.old.party.me self.old (H.state hall.old)) (moment_with heap self.old.party.me self.new (H.state hall.new))) }
         ensures holds { IfOk result (λ heap. HoldsIn self.old.party.me self.new heap (H.state hall.new)) }
@@ -43,17 +43,17 @@ impl<'p, M: Mapper> Participant<'p, M> {
         }
     }
 
-    // Gives a heap back.
+    // Gives a heap back, once its asks are settled.
     pub(crate) fn put<H: Hall>(&self, hall: &mut H, heap: Heap)
         requires serves { (H.state hall.old).serves self.now.party.me }
         requires in_hand { IsInHand (H.state hall.old).taken (moment self.now.party.me self.now (H.state hall.old)) heap }
-        ensures does { (doing : Doing) → Does (H.state hall.old).count
+        requires settled { AreSettled (moment self.now.party.me self.now (H.state hall.old)) }
+        ensures does { (doing : Doing) → Does [] (H.state hall.old).count
             (did_in self.now.party.me (H.state hall.old) (H.state hall.new)) doing doing
             (moment_with heap self.now.party.me self.now (H.state hall.old)) (moment self.now.party.me self.now (H.state hall.new)) }
-        ensures ready { AreSettled (moment self.now.party.me self.now (H.state hall.old))
-            → MayDo (moment self.now.party.me self.now (H.state hall.new)) }
-        ensures tied { IsTiedIn self.now.party.me self.now.party (H.state hall.old)
-            → IsTiedIn self.now.party.me self.now.party (H.state hall.new) }
+        ensures ready { MayDo (moment self.now.party.me self.now (H.state hall.new)) }
+        ensures tied { IsTiedIn self.now.party.me self.now.party (H.state hall.old) → IsTiedIn self.now.party.me self.now.party (H.state hall.new) }
+        ensures table { TableStays self.now.party.me (H.state hall.old) (H.state hall.new) }
         ensures free { IsFreeAt heap.plain.index (H.state hall.new) }
         ensures slots { SlotsStayBut heap.plain.index (H.state hall.old) (H.state hall.new) }
         ensures others { OthersStay self.now.party.me (H.state hall.old) (H.state hall.new) }
@@ -72,7 +72,7 @@ impl<'p, M: Mapper> Participant<'p, M> {
     ) -> Result<Heap, AllocError>
         requires few { index < MAX_HEAPS }
         requires ready { IsReadyIn self.old.party.me self.old (H.state hall.old) }
-        ensures did { IfOk result (λ heap. (doing : Doing) → Does (H.state hall.old).count
+        ensures did { IfOk result (λ heap. (doing : Doing) → Does (index ∷ []) (H.state hall.old).count
             (did_in self.old.party.me (H.state hall.old) (H.state hall.new)) doing doing
             (moment self.old.party.me self.old (H.state hall.old)) (moment_with heap self.old.party.me self.new (H.state hall.new))) }
         ensures holds { IfOk result (λ heap. HoldsIn self.old.party.me self.new heap (H.state hall.new)) }

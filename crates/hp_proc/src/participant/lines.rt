@@ -1,14 +1,16 @@
 //! The lines that a participant does.
-ghost use Rattle.std.specs.Prelude.{◌≡◌, ◌^◌, ◌<◌, ◌≤◌, Some, None, IfOk, OnOk, MatchResult, true};
+ghost use Rattle.std.specs.Prelude.{◌≡◌, ℕ, ◌^◌, ◌<◌, ◌≤◌, Some, None, IfOk, OnOk, MatchResult, true};
 ghost use Rattle.hp_base.specs.Requests.{rounded_size};
 ghost use Rattle.hp_base.specs.declared.request.BadRequest.TheVariants as bad;
+ghost use Rattle.hp_script.specs.Part.{Part};
 ghost use Rattle.hp_script.specs.declared.line.Act.TheVariants as act;
+ghost use Rattle.hp_script.specs.declared.options.Options.{Options};
 ghost use Rattle.hp_serve.specs.Clocks.{RisesWithin, longest_wait};
 ghost use Rattle.hp_proc.specs.Contexts.{IsNextLine};
 ghost use Rattle.hp_proc.specs.Freeing.{resize_refusal};
 ghost use Rattle.hp_proc.specs.Progress.{IsLineBuilt, MayDo};
 ghost use Rattle.hp_hall.specs.HallState.{IsBusy};
-ghost use Rattle.hp_proc.specs.LineInHall.{DoesLineHere, IsIdleAgain, IsReadyIn, moment};
+ghost use Rattle.hp_proc.specs.LineInHall.{DoesLineHere, IsIdleAgain, IsMapped, IsReadyIn, moment};
 
 use super::Participant;
 use hp_base::{BadRequest, Mapper, round64};
@@ -134,6 +136,10 @@ impl<'p, M: Mapper> Participant<'p, M> {
         // What it did, by what was known when it began, and what that leaves.
         ensures does { IfOk result (λ given. DoesLineHere self.old.party.me self.old self.new (H.state hall.old)
             (H.state hall.new) line.now given) }
+
+        // An address that an allocation answers lies in a page that the participant has mapped.
+        ensures lies { IfOk result (λ given. (label : Part) (size : ℕ) (options : Options) → line.now.act ≡ act.Alloc label size options
+            → IsMapped self.old.party.me (H.state hall.new) given) }
         ensures ready { OnOk result (MayDo (moment self.old.party.me self.new (H.state hall.new))) }
         ensures clock { RisesWithin H.pending (λ hall. IsBusy (H.state hall)) (2 ^ 40) (H.state hall.old).clock (H.state hall.new).clock }
         ensures idle { IsIdleAgain self.old.party.me self.old.party self.new.party (H.state hall.new) }

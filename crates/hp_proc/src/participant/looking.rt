@@ -1,5 +1,5 @@
 //! A line looks for its element in heaps, and acts on it where it is there.
-ghost use Rattle.std.specs.Prelude.{◌≡◌, ◌<◌, ◌∷◌, List, Some, None, IfOk, OnOk, Contains, false};
+ghost use Rattle.std.specs.Prelude.{◌≡◌, ◌<◌, [], ◌∷◌, List, Some, None, IfOk, OnOk, Contains, false, map};
 ghost use Rattle.hp_base.specs.declared.tag.Tag.{Tag};
 ghost use Rattle.hp_script.specs.Acts.{label_used};
 ghost use Rattle.hp_proc.specs.Allocating.{unless_answered};
@@ -8,10 +8,10 @@ ghost use Rattle.hp_proc.specs.Contexts.{AreFactsOf, IsPlaceOf};
 ghost use Rattle.hp_proc.specs.Doing.{Doing};
 ghost use Rattle.hp_proc.specs.Freeing.{IsSizedWell, act_for, acting, behind_looking, left_of, looking};
 ghost use Rattle.hp_proc.specs.Lines.{Facts, on_element};
-ghost use Rattle.hp_proc.specs.Progress.{AreSettled, MayDo};
+ghost use Rattle.hp_proc.specs.Progress.{AreOnce, MayDo};
 ghost use Rattle.hp_proc.specs.declared.searched_heap.SearchedHeap.{SearchedHeap};
 ghost use Rattle.hp_hall.specs.HallState.{IsBusy, OthersStay};
-ghost use Rattle.hp_proc.specs.LineInHall.{DoesHeld, DoesHere, HasCalled, HasRoom, HoldsIn, IsReadyIn, KeepsHeld, moment};
+ghost use Rattle.hp_proc.specs.LineInHall.{DoesHeld, DoesHere, DoesOnceHere, HasCalled, HasRoom, HoldsIn, IsReadyIn, KeepsHeld, moment};
 
 use super::Participant;
 use crate::element_act::{ElementAct, Left};
@@ -44,7 +44,6 @@ impl<'p, M: Mapper> Participant<'p, M> {
         ensures does { (places : List SearchedHeap) → DoesHeld self.old.party.me self.old self.new heap.old heap.new (H.state hall.old)
             (H.state hall.new) (looking tag (acting action) (place.now
             ∷ places)) (behind_looking place.now.index (looking tag (acting action) places) result) }
-        ensures settled { AreSettled (moment self.old.party.me self.new (H.state hall.new)) }
         ensures keeps { KeepsHeld self.old.party.me self.old self.new heap.old heap.new (H.state hall.old) (H.state hall.new) }
         ensures others { OthersStay self.old.party.me (H.state hall.old) (H.state hall.new) }
         ensures goes_on { H.goes_on hall.old hall.new }
@@ -61,7 +60,7 @@ impl<'p, M: Mapper> Participant<'p, M> {
         left: Left,
     ) -> Result<Answer, AllocError>
         requires ready { IsReadyIn self.old.party.me self.old (H.state hall.old) }
-        ensures does { IfOk result (λ given. DoesHere self.old.party.me self.old self.new (H.state hall.old)
+        ensures does { IfOk result (λ given. DoesHere [] self.old.party.me self.old self.new (H.state hall.old)
             (H.state hall.new) (left_of heap left) (Doing.Ended given)) }
         ensures ready { OnOk result (MayDo (moment self.old.party.me self.new (H.state hall.new))) }
         ensures clock { RisesWithin H.pending (λ hall. IsBusy (H.state hall)) (longest_wait self.old.party.deadline)
@@ -91,7 +90,7 @@ impl<'p, M: Mapper> Participant<'p, M> {
         requires place { IsPlaceOf self.old.context.pools place.now }
         requires ready { IsReadyIn self.old.party.me self.old (H.state hall.old) }
         ensures does { IfOk result (λ left. (places : List SearchedHeap)
-            → DoesHere self.old.party.me self.old self.new (H.state hall.old)
+            → DoesHere (place.now.index ∷ []) self.old.party.me self.old self.new (H.state hall.old)
             (H.state hall.new) (looking tag (acting action) (place.now
             ∷ places)) (behind_looking place.now.index (looking tag (acting action) places) left)) }
         ensures ready { OnOk result (MayDo (moment self.old.party.me self.new (H.state hall.new))) }
@@ -117,7 +116,7 @@ impl<'p, M: Mapper> Participant<'p, M> {
         requires place { IsPlaceOf self.old.context.pools place.now }
         requires ready { IsReadyIn self.old.party.me self.old (H.state hall.old) }
         ensures does { IfOk result (λ given. (places : List SearchedHeap)
-            → DoesHere self.old.party.me self.old self.new (H.state hall.old)
+            → DoesHere (place.now.index ∷ []) self.old.party.me self.old self.new (H.state hall.old)
             (H.state hall.new) (looking tag (acting action) (place.now
             ∷ places)) (unless_answered (looking tag (acting action) places) given)) }
         ensures ready { OnOk result (MayDo (moment self.old.party.me self.new (H.state hall.new))) }
@@ -145,8 +144,9 @@ impl<'p, M: Mapper> Participant<'p, M> {
     ) -> Result<Answer, AllocError>
         requires size { IsSizedWell action }
         requires places { (place : SearchedHeap) → Contains places.now place → IsPlaceOf self.old.context.pools place }
+        requires apart { AreOnce (map (λ place. place.index) places.now) }
         requires ready { IsReadyIn self.old.party.me self.old (H.state hall.old) }
-        ensures does { IfOk result (λ given. DoesHere self.old.party.me self.old self.new (H.state hall.old)
+        ensures does { IfOk result (λ given. DoesOnceHere self.old.party.me self.old self.new (H.state hall.old)
             (H.state hall.new) (looking tag (acting action) places.now) (Doing.Ended given)) }
         ensures ready { OnOk result (MayDo (moment self.old.party.me self.new (H.state hall.new))) }
         ensures clock { RisesWithin H.pending (λ hall. IsBusy (H.state hall)) (longest_wait self.old.party.deadline)
@@ -174,7 +174,7 @@ impl<'p, M: Mapper> Participant<'p, M> {
         requires size { IsSizedWell (act_for false size) }
         requires ready { IsReadyIn self.old.party.me self.old (H.state hall.old) }
         ensures does { IfOk result (λ given. (facts : Facts) → AreFactsOf self.old.party.socket self.old.context line.now facts
-            → DoesHere self.old.party.me self.old self.new (H.state hall.old)
+            → DoesOnceHere self.old.party.me self.old self.new (H.state hall.old)
             (H.state hall.new) (on_element self.old.party.me facts
             (λ tag. looking tag (acting (act_for tag.zone size))) facts.maker) (Doing.Ended given)) }
         ensures ready { OnOk result (MayDo (moment self.old.party.me self.new (H.state hall.new))) }

@@ -3,7 +3,7 @@ ghost use Rattle.std.specs.Prelude.{◌≡◌, ◌≢◌, ◌^◌, ℕ, ◌+◌,
 ghost use Rattle.std.specs.Prelude.{List, Some, IfOk, IsSome, Ok, OnErr, OnOk};
 ghost use Rattle.std.specs.Result.{result_ok};
 ghost use Rattle.hp_base.specs.Mapping.{is_done};
-ghost use Rattle.hp_hall.specs.HallState.{Did, IsBusy};
+ghost use Rattle.hp_hall.specs.HallState.{Did, HasMapped, IsBusy};
 ghost use Rattle.hp_hall.specs.Mail.{MailStep};
 ghost use Rattle.hp_heap.specs.PlainHeap.{PlainHeap};
 ghost use Rattle.hp_maps.specs.MapsView.{calls_of};
@@ -11,8 +11,8 @@ ghost use Rattle.hp_segs.specs.LaterSteps.{after_leave};
 ghost use Rattle.hp_segs.specs.SegsView.{SegsView};
 ghost use Rattle.hp_segs.specs.Standing.{Holding};
 ghost use Rattle.hp_segs.specs.Steps.{after_retire};
-ghost use Rattle.hp_serve.specs.AskSteps.{DoesAsk, DoesNotify};
-ghost use Rattle.hp_serve.specs.Asking.{GivesUp, GrowsHeld, HasSettledAsks, IsAsked, IsCutFrom, IsHeldAsBefore};
+ghost use Rattle.hp_serve.specs.AskSteps.{AsksIn, DoesNotify};
+ghost use Rattle.hp_serve.specs.Asking.{GivesUp, HasSettledAsks, IsCutFrom, IsHeldAsBefore};
 ghost use Rattle.hp_serve.specs.Attaching.{Attaches, after_attaching, after_detaching};
 ghost use Rattle.hp_serve.specs.Clocks.{RisesWithin, longest_wait};
 ghost use Rattle.hp_serve.specs.Coordinating.{IsServed};
@@ -26,7 +26,7 @@ ghost use Rattle.hp_serve.specs.Waiting.{IsTurned, LeavesAsked};
 use super::Participant;
 use hp_base::{Caught, Mapper, Run};
 use hp_hall::{Hall, Waiting};
-use hp_serve::PagesAsked;
+use hp_serve::{Answered, PagesAsked};
 use std::alloc::AllocError;
 
 impl<'p, M: Mapper> Participant<'p, M> {
@@ -70,24 +70,20 @@ impl<'p, M: Mapper> Participant<'p, M> {
         self.server.turn(hall, until)
     }
 
-    // Asks the coordinator for pages for a heap that it holds.
+    // Asks the coordinator for pages for a heap that it holds. Once the ask is sent it is settled in the end.
     pub(crate) fn ask<H: Waiting>(
         &mut self,
         hall: &mut H,
         asked: &PagesAsked,
-    ) -> Result<Option<Run>, AllocError>
+    ) -> Result<Answered, AllocError>
         requires can { CanServe self.old.party.me self.old.party (H.state hall.old) }
         requires holds { IsSome ((H.state hall.old).part self.old.party.me asked.now.heap).holding }
-        requires settled { HasSettledAsks self.old.party.me ((H.state hall.old).part self.old.party.me) ((H.state hall.old).heard
+        requires settled { HasSettledAsks ((H.state hall.old).part self.old.party.me) ((H.state hall.old).heard
             self.old.party.me) }
-        ensures did { IfOk result (λ run. (steps : List MailStep) × Did self.old.party.me steps (H.state hall.old) (H.state hall.new)
-            × DoesAsk (H.state hall.old).count self.old.party self.new.party asked.now steps run) }
-        ensures asked { IfOk result (λ run. IsAsked ((H.state hall.new).seen self.old.party.me) ((H.state hall.new).heard
-            self.old.party.me) self.old.party.me self.old.party.asked self.new.party.asked asked.now run) }
-        ensures grows { IfOk result (λ run. GrowsHeld asked.now.heap run ((H.state hall.old).part self.old.party.me
-            asked.now.heap) ((H.state hall.new).part self.old.party.me asked.now.heap)) }
-        ensures settled { OnOk result (HasSettledAsks self.old.party.me ((H.state hall.new).part self.old.party.me) ((H.state
-            hall.new).heard self.old.party.me)) }
+        ensures asks { IfOk result (AsksIn self.old.party.me self.old.party self.new.party asked.now (H.state hall.old)
+            (H.state hall.new)) }
+        ensures settled { HasSettledAsks ((H.state hall.new).part self.old.party.me) ((H.state hall.new).heard self.old.party.me) }
+        ensures mapped { HasMapped self.old.party.me (H.state hall.new) }
         ensures others { (heap : ℕ) → heap ≢ asked.now.heap
             → IsHeldAsBefore ((H.state hall.old).part self.old.party.me heap) ((H.state hall.new).part self.old.party.me heap) }
         ensures err { OnErr result ((heap : ℕ)

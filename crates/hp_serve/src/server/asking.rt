@@ -1,5 +1,5 @@
 //! How a participant asks for pages.
-ghost use Rattle.std.specs.Prelude.{◌≡◌, ◌≢◌, ℕ, ◌^◌, ◌<◌, ◌≤◌, ◌⊎◌, min, List, [], ◌∷◌, false, true, IfOk, IsSome, OnErr, OnOk};
+ghost use Rattle.std.specs.Prelude.{◌≡◌, ◌≢◌, ℕ, ◌^◌, ◌<◌, ◌≤◌, ◌⊎◌, ◌||◌, min, List, [], ◌∷◌, false, true, IfOk, IsSome, OnErr};
 ghost use Rattle.hp_base.specs.Plans.{action_of};
 ghost use Rattle.hp_base.specs.declared.limits.TheConstants.{MAX_PARTICIPANTS, MAX_READING};
 ghost use Rattle.hp_base.specs.declared.plan_entry.MsgKind.{MsgKind};
@@ -7,25 +7,33 @@ ghost use Rattle.hp_frame.specs.declared.frame.Frame.{Frame};
 ghost use Rattle.hp_hall.specs.Mail.{MailStep, Notes, Posts};
 ghost use Rattle.hp_hall.specs.declared.note.Note.{Note};
 ghost use Rattle.hp_mail.specs.declared.posted.Posted.{Posted};
-ghost use Rattle.hp_serve.specs.Asking.{GrowsHeld, IsAsked, IsAwaiting, IsHeldAsBefore, HasSettledAsks, Settles, alloc_body};
-ghost use Rattle.hp_serve.specs.AskSteps.{DoesAsk, IsAwaitedBy, IsSettledLate, waits_until};
+ghost use Rattle.hp_serve.specs.Asking.{IsAwaiting, IsHeldAsBefore, HasSettledAsks, Settles, alloc_body};
+ghost use Rattle.hp_serve.specs.AskSteps.{AsksIn, IsAwaitedBy, IsSettledLate, waits_until};
 ghost use Rattle.hp_serve.specs.Clocks.{RisesWithin, longest_wait};
 ghost use Rattle.hp_serve.specs.Frames.{Says};
 ghost use Rattle.hp_serve.specs.Party.{after_alloc, one_more};
 ghost use Rattle.hp_serve.specs.Waiting.{IsReading};
-ghost use Rattle.hp_hall.specs.HallState.{Did, IsBusy, Stays};
+ghost use Rattle.hp_hall.specs.HallState.{Did, HasMapped, IsBusy, Stays};
 ghost use Rattle.hp_serve.specs.InHall.{CanServe, IsTiedIn, RemainsIn};
 
 use super::Server;
+use crate::answered::Answered;
 use crate::arming::arm;
 use crate::own_posts::{alloc_body, post_own};
 use crate::pages_asked::PagesAsked;
 use crate::sent::one_more;
 use crate::settling::{Found, look, settle};
-use hp_base::{MAX_READING, Mapper, MsgKind, Run};
+use hp_base::{MAX_READING, Mapper, MsgKind};
 use hp_hall::{Hall, Waiting};
 use hp_segs::Ask;
 use std::alloc::AllocError;
+
+// One of two stopped.
+fn either(first: bool, second: bool) -> bool
+    ensures { result ≡ (first || second) }
+{
+    first || second
+}
 
 impl<'p, M: Mapper> Server<'p, M> {
     // Until when it waits for an answer, where that is a reading of the clock from before it asked: for three of its deadlines.
@@ -66,89 +74,89 @@ impl<'p, M: Mapper> Server<'p, M> {
         since
     }
 
-    // Waits until its deadlines have passed, whether it was answered or not, and then settles its ask.
-    fn settle_late<H: Waiting>(
-        &mut self,
-        hall: &mut H,
-        ask: &Ask,
-        since: u64,
-    ) -> Result<Option<Run>, AllocError>
+    // Waits until its deadlines have passed, whether it was answered or not and whoever stops, and then settles its ask.
+    fn settle_late<H: Waiting>(&mut self, hall: &mut H, ask: &Ask, since: u64) -> Answered
         requires can { CanServe self.old.me self.old (H.state hall.old) }
         requires own { ask.now.from ≡ self.old.me }
         requires few { ask.now.from < MAX_PARTICIPANTS }
         requires awaits { IsAwaiting ask.now ((H.state hall.old).part self.old.me) }
-        ensures settles { IfOk result (λ run. Settles ((H.state hall.new).seen self.old.me) ((H.state hall.new).heard
-            self.old.me) ask.now ((H.state hall.old).part self.old.me) ((H.state hall.new).part self.old.me) run) }
-        ensures err { OnErr result ((heap : ℕ) → (H.state hall.new).part self.old.me heap ≡ (H.state hall.old).part self.old.me heap) }
-        ensures did { IfOk result (λ run. (steps : List MailStep) × Did self.old.me steps (H.state hall.old) (H.state hall.new)
-            × IsSettledLate (H.state hall.old).count self.old self.new ask.now since steps) }
+        ensures settles { Settles ((H.state hall.new).seen self.old.me) ((H.state hall.new).heard self.old.me) ask.now
+            ((H.state hall.old).part self.old.me) ((H.state hall.new).part self.old.me) result.run }
+        ensures did { result.stopped ≡ false → (steps : List MailStep) × Did self.old.me steps (H.state hall.old) (H.state hall.new)
+            × IsSettledLate (H.state hall.old).count self.old self.new ask.now since steps }
         ensures asked { self.new.asked ≡ self.old.asked }
         ensures clock { ((H.state hall.new).clock ≡ (H.state hall.old).clock) ⊎ ((H.state hall.new).clock
             ≤ waits_until since self.old.deadline) }
+        ensures mapped { HasMapped self.old.me (H.state hall.new) }
         ensures remains { RemainsIn self.old.me self.old self.new (H.state hall.old) (H.state hall.new) }
         ensures goes_on { H.goes_on hall.old hall.new }
     {
         let until = self.waits_until(since);
-        let now = self.wait(hall, until, false)?;
-        let run = settle(hall, ask, since, now);
-        Ok(run)
-    }
-
-    // Waits for the answer to the ask that it sent behind that reading of the clock, for three deadlines at most, and then looks. Where it
-    // was answered and nothing stands, it waits until the deadlines have passed.
-    fn await_answer<H: Waiting>(
-        &mut self,
-        hall: &mut H,
-        ask: &Ask,
-        since: u64,
-    ) -> Result<Option<Run>, AllocError>
-        requires can { CanServe self.old.me self.old (H.state hall.old) }
-        requires own { ask.now.from ≡ self.old.me }
-        requires few { ask.now.from < MAX_PARTICIPANTS }
-        requires awaits { IsAwaiting ask.now ((H.state hall.old).part self.old.me) }
-        ensures settles { IfOk result (λ run. Settles ((H.state hall.new).seen self.old.me) ((H.state hall.new).heard
-            self.old.me) ask.now ((H.state hall.old).part self.old.me) ((H.state hall.new).part self.old.me) run) }
-        ensures err { OnErr result ((heap : ℕ) → (H.state hall.new).part self.old.me heap ≡ (H.state hall.old).part self.old.me heap) }
-        ensures did { IfOk result (λ run. (steps : List MailStep) × Did self.old.me steps (H.state hall.old) (H.state hall.new)
-            × IsAwaitedBy (H.state hall.old).count self.old self.new ask.now since steps run) }
-        ensures asked { self.new.asked ≡ self.old.asked }
-        ensures clock { ((H.state hall.new).clock ≡ (H.state hall.old).clock) ⊎ ((H.state hall.new).clock
-            ≤ waits_until since self.old.deadline) }
-        ensures remains { RemainsIn self.old.me self.old self.new (H.state hall.old) (H.state hall.new) }
-        ensures goes_on { H.goes_on hall.old hall.new }
-    {
-        let until = self.waits_until(since);
-        let _reading = self.wait(hall, until, true)?;
-        match look(hall, ask) {
-            Found::Settled { run } => Ok(run),
-            Found::Open => self.settle_late(hall, ask, since),
+        let waited = self.wait_out(hall, until, false);
+        let run = settle(hall, ask, since, waited.reading);
+        Answered {
+            run,
+            stopped: waited.stopped,
         }
     }
 
-    /// Asks the coordinator for pages for a heap that it holds, waits for the answer, and claims the run that was granted; the answer is
-    /// `None` where the ask was refused, or taken back after three deadlines. It serves while it waits, and holds the slots that it held
-    /// before. Without memory to be armed, and where a participant stops while it serves, the ask is left. After the growth of a heap by a
-    /// secondary process in rte_malloc, under Multi-process Support.
+    // Waits for the answer to the ask that it sent behind that reading of the clock, for three deadlines at most and whoever stops, and then
+    // looks. Where it was answered and nothing stands, it waits until the deadlines have passed.
+    fn await_answer<H: Waiting>(&mut self, hall: &mut H, ask: &Ask, since: u64) -> Answered
+        requires can { CanServe self.old.me self.old (H.state hall.old) }
+        requires own { ask.now.from ≡ self.old.me }
+        requires few { ask.now.from < MAX_PARTICIPANTS }
+        requires awaits { IsAwaiting ask.now ((H.state hall.old).part self.old.me) }
+        ensures settles { Settles ((H.state hall.new).seen self.old.me) ((H.state hall.new).heard self.old.me) ask.now
+            ((H.state hall.old).part self.old.me) ((H.state hall.new).part self.old.me) result.run }
+        ensures did { result.stopped ≡ false → (steps : List MailStep) × Did self.old.me steps (H.state hall.old) (H.state hall.new)
+            × IsAwaitedBy (H.state hall.old).count self.old self.new ask.now since steps result.run }
+        ensures asked { self.new.asked ≡ self.old.asked }
+        ensures clock { ((H.state hall.new).clock ≡ (H.state hall.old).clock) ⊎ ((H.state hall.new).clock
+            ≤ waits_until since self.old.deadline) }
+        ensures mapped { HasMapped self.old.me (H.state hall.new) }
+        ensures remains { RemainsIn self.old.me self.old self.new (H.state hall.old) (H.state hall.new) }
+        ensures goes_on { H.goes_on hall.old hall.new }
+    {
+        let until = self.waits_until(since);
+        let waited = self.wait_out(hall, until, true);
+        match look(hall, ask) {
+            Found::Settled { run } => Answered {
+                run,
+                stopped: waited.stopped,
+            },
+            Found::Open => {
+                let late = self.settle_late(hall, ask, since);
+                Answered {
+                    run: late.run,
+                    stopped: either(waited.stopped, late.stopped),
+                }
+            }
+        }
+    }
+
+    /// Asks the coordinator for pages for a heap that it holds, waits for the answer, and claims the run that was granted; there is none
+    /// where the ask was refused, or taken back after three deadlines. It serves while it waits, and holds the slots that it held before.
+    /// Once it is armed, its ask is settled in the end: where somebody stops while it serves it waits on, for no longer than it would have,
+    /// and its answer says so. Without memory to be armed, nothing is asked. After the growth of a heap by a secondary process in
+    /// rte_malloc, under Multi-process Support.
     pub fn ask<H: Waiting>(
         &mut self,
         hall: &mut H,
         asked: &PagesAsked,
-    ) -> Result<Option<Run>, AllocError>
+    ) -> Result<Answered, AllocError>
         requires can { CanServe self.old.me self.old (H.state hall.old) }
         requires holds { IsSome ((H.state hall.old).part self.old.me asked.now.heap).holding }
-        requires settled { HasSettledAsks self.old.me ((H.state hall.old).part self.old.me) ((H.state hall.old).heard self.old.me) }
+        requires settled { HasSettledAsks ((H.state hall.old).part self.old.me) ((H.state hall.old).heard self.old.me) }
 
-        // What it did, what it asked for and was answered, and what came to the heap.
-        ensures did { IfOk result (λ run. (steps : List MailStep) × Did self.old.me steps (H.state hall.old) (H.state hall.new)
-            × DoesAsk (H.state hall.old).count self.old self.new asked.now steps run) }
-        ensures asked { IfOk result (λ run. IsAsked ((H.state hall.new).seen self.old.me) ((H.state hall.new).heard
-            self.old.me) self.old.me self.old.asked self.new.asked asked.now run) }
-        ensures grows { IfOk result (λ run. GrowsHeld asked.now.heap run ((H.state hall.old).part self.old.me
-            asked.now.heap) ((H.state hall.new).part self.old.me asked.now.heap)) }
-        ensures settled { OnOk result (HasSettledAsks self.old.me ((H.state hall.new).part self.old.me) ((H.state
-            hall.new).heard self.old.me)) }
+        // What it asked for and was answered, and what came to the heap.
+        ensures asks { IfOk result (AsksIn self.old.me self.old self.new asked.now (H.state hall.old) (H.state hall.new)) }
 
-        // What it has in all other heaps stays, and in that one too where it stopped.
+        // Its asks are settled, and where it is in the roster its table has the pages of the heaps that it holds.
+        ensures settled { HasSettledAsks ((H.state hall.new).part self.old.me) ((H.state hall.new).heard self.old.me) }
+        ensures mapped { HasMapped self.old.me (H.state hall.new) }
+
+        // What it has in all other heaps stays, and in that one too where nothing was asked.
         ensures others { (heap : ℕ) → heap ≢ asked.now.heap
             → IsHeldAsBefore ((H.state hall.old).part self.old.me heap) ((H.state hall.new).part self.old.me heap) }
         ensures err { OnErr result ((heap : ℕ)
@@ -160,6 +168,7 @@ impl<'p, M: Mapper> Server<'p, M> {
     {
         let ask = arm(hall, self.me, self.asked, asked)?;
         let since = self.send(hall, &ask);
-        self.await_answer(hall, &ask, since)
+        let answered = self.await_answer(hall, &ask, since);
+        Ok(answered)
     }
 }

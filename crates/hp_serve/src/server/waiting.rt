@@ -31,7 +31,7 @@ fn sooner_of(reading: u64, until: u64, due: Option<u64>) -> u64
 }
 
 // Whether something moved: of its own, or of others below or above.
-fn has_moved(own: bool, below: bool, above: bool) -> bool
+pub(super) fn has_moved(own: bool, below: bool, above: bool) -> bool
     ensures { result ≡ (own || (below || above)) }
 {
     own || (below || above)
@@ -39,7 +39,7 @@ fn has_moved(own: bool, below: bool, above: bool) -> bool
 
 impl<'p, M: Mapper> Server<'p, M> {
     // Serves until nothing is left for it, 1,024 times at most, and answers whether it did something.
-    fn serve_some<H: Hall>(&mut self, hall: &mut H) -> Result<bool, AllocError>
+    pub(super) fn serve_some<H: Hall>(&mut self, hall: &mut H) -> Result<bool, AllocError>
         requires can { CanServe self.old.me self.old (H.state hall.old) }
         ensures served { (steps : List MailStep) × Did self.old.me steps (H.state hall.old) (H.state hall.new)
             × IsServedOut (H.state hall.old).count self.old self.new steps (result_ok result) }
@@ -98,7 +98,7 @@ impl<'p, M: Mapper> Server<'p, M> {
     }
 
     // Ends a turn with a pause until the sooner of its deadlines.
-    fn end_turn<H: Waiting>(&self, hall: &mut H, until: u64, moved: bool)
+    pub(super) fn end_turn<H: Waiting>(&self, hall: &mut H, until: u64, moved: bool)
         requires serves { (H.state hall.old).serves self.now.me }
         requires before { H.pending (H.state hall.old).clock until ≡ H.scale }
         ensures falls { left_to_do H.scale H.pending self.now (H.state hall.new) + H.pending (H.state hall.new).clock until
@@ -152,7 +152,7 @@ impl<'p, M: Mapper> Server<'p, M> {
 
     // Whether its wait has ended at a reading of the clock: that has reached the deadline, or, where it heeds that, its last ask is
     // answered.
-    fn ends_wait(&self, reading: u64, until: u64, heeds: bool) -> bool
+    pub(super) fn ends_wait(&self, reading: u64, until: u64, heeds: bool) -> bool
         ensures ended { result ≡ true → HasWaited heeds self.now until reading }
         ensures waits_on { result ≡ false → WaitsOn heeds self.now until reading }
     {

@@ -43,7 +43,8 @@ pub fn ask_for_page(
         page: PAGE,
         request,
     };
-    party.ask(hall, &asked)
+    let answered = party.ask(hall, &asked)?;
+    Ok(answered.run)
 }
 
 // A run comes to a heap, and what can be is cut from there again.

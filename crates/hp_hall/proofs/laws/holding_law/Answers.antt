@@ -1,4 +1,5 @@
 -- The laws are lemmas.
+use Rattle.hp_hall.proofs.ClaimPuts.{claim_puts}
 use Rattle.hp_hall.proofs.StandingBrings.{claim_brings}
 use Rattle.hp_hall.proofs.StandingClaims.{claim_leaves_others}
 use Rattle.hp_hall.proofs.StandingCuts.{retire_takes_pages}
@@ -9,6 +10,7 @@ use Rattle.hp_hall.proofs.laws.holding_law.Goals as goal
 pub returns : goal.returns
 returns c = record {
   claim_others = claim_leaves_others;
+  claim_puts = claim_puts;
   claim = claim_brings;
   claimed_run = claimed_can_grow;
   retire_others = retire_leaves_others;

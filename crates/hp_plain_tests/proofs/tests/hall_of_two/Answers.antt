@@ -1,16 +1,60 @@
-use Rattle.std.proofs.Common.{length, sym, ap, subst, ◌∙◌}
+use Rattle.std.proofs.Common.{◌≡◌, ◌∙◌, ℕ, [], length, Option, Some, None, refl, sym, ap, subst}
+use Rattle.std.specs.Prelude.{IfSome}
+use Rattle.std.specs.Option.{option_and_then}
 use Rattle.std.proofs.lemmas.List.{length-replicate}
 use Rattle.hp_base.specs.declared.limits.TheConstants.{MAX_HEAPS}
-use Rattle.hp_plain.specs.HallView.{HallView, own_at, seen_in}
-use Rattle.hp_plain.specs.Opening.{AreHome}
+use Rattle.hp_heap.specs.History.{HeapView}
+use Rattle.hp_heap.specs.HistoryLaws.{runs_cut, runs_grown}
+use Rattle.hp_segs.specs.GrowthLaws.{IsOfArmed}
+use Rattle.hp_segs.specs.LaterSteps.{armed_ask}
+use Rattle.hp_segs.specs.SegsView.{SegsView}
+use Rattle.hp_segs.specs.Standing.{Holding, IsArmed}
+use Rattle.hp_segs.specs.declared.ask.Ask.{Ask}
+use Rattle.hp_segs.specs.declared.growth.Growth.{Growth}
+use Rattle.hp_hall.specs.Holding.{HasHolding}
 use Rattle.hp_hall.specs.Own.{after_ack}
-use Rattle.hp_plain.proofs.Opened.{opened_home, opened_log}
 use Rattle.hp_hall.proofs.Gives.{bare_pages}
+use Rattle.hp_plain.specs.HallView.{HallView, own_at, part_in, seen_in}
+use Rattle.hp_plain.specs.Opening.{AreHome}
+use Rattle.hp_plain.proofs.Opened.{opened_home, opened_log, opened_segs}
+use Rattle.hp_plain_tests.specs.Untouched.{IsUnasked, nothing_held}
 use Rattle.hp_plain_tests.proofs.tests.hall_of_two.Goals as goal
 
-pub new-requires-clause-pages : goal.new-requires-clause-pages
-new-requires-clause-pages c = λ number heap there.
-    bare_pages _ _ (c.in_ok-heaps.ensures.bare number heap there) (c.in_ok-segs.ensures.unowned number)
+no_runs : (runs_grown [] ≡ []) × (runs_cut [] ≡ [])
+unfolding runs_grown runs_cut
+no_runs = (refl, refl)
+
+-- a vacant heap has what nothing was claimed for
+holds_nothing : (heap : HeapView) (holding : Holding) → heap.plain.pages ≡ [] → heap.history ≡ [] → holding ≡ nothing_held → HasHolding heap holding
+holds_nothing heap holding bare unused is =
+    subst (HasHolding heap) (sym is) (record {
+      pages = bare_pages heap.plain.pages [] bare refl;
+      grown = ap runs_grown unused ∙ no_runs.0;
+      cut = ap runs_cut unused ∙ no_runs.1;
+    })
+
+-- no ask and no growth are of a value of which nobody is armed
+none_armed : (segs : SegsView) (who : ℕ) (ask : Ask) → IsUnasked segs → armed_ask segs who ≡ Some ask → ⊥
+none_armed segs who ask none is =
+    let wrong : None ≡ Some ask = sym (none.unarmed who) ∙ is in
+    cc
+
+all_armed : (segs : SegsView) → IsUnasked segs → IsArmed segs
+all_armed segs none = record {
+  growth = subst (λ (growth : Option Growth). IfSome growth (IsOfArmed segs.asks segs.armed)) (sym none.alone) tt;
+  kept = λ entry ask armed has keeps is. absurd (none_armed segs entry.from armed none is);
+}
+
+pub new-requires-clause-opens : goal.new-requires-clause-opens
+new-requires-clause-opens c =
+    let heaps = c.in_ok-heaps.ensures in
+    let segs = c.in_ok-segs.ensures in
+    record {
+      held = λ number heap there. holds_nothing heap _ (heaps.bare number heap there) (heaps.unused number heap there) (segs.bare number);
+      armed = all_armed _ segs.unasked;
+      settled = λ who ask is. absurd (none_armed _ who ask segs.unasked is);
+      ungranted = segs.ungranted;
+    }
 
 pub returns-clause-two : goal.returns-clause-two
 returns-clause-two c = ap (λ (h : HallView). length h.owns) c.in_ok-hall.ensures.hall ∙ length-replicate 2 (after_ack 0)
@@ -18,16 +62,22 @@ returns-clause-two c = ap (λ (h : HallView). length h.owns) c.in_ok-hall.ensure
 pub returns-clause-home : goal.returns-clause-home
 returns-clause-home c = subst AreHome (sym c.in_ok-hall.ensures.hall) (opened_home 2 _ _ c.in_ok-heaps.ensures.order.count)
 
-pub returns-clause-unused : goal.returns-clause-unused
-returns-clause-unused c = c.in_ok-hall.ensures.unused c.in_ok-heaps.ensures.unused
+pub returns-clause-untouched : goal.returns-clause-untouched
+returns-clause-untouched c = λ who number. record {
+  entries = c.in_ok-hall.ensures.unused c.in_ok-heaps.ensures.unused who number;
+  unarmed =
+      ap (λ (h : HallView). (part_in h who number).armed) c.in_ok-hall.ensures.hall
+      ∙ ap (option_and_then (λ (segs : SegsView). armed_ask segs who)) (opened_segs _ _ MAX_HEAPS c.in_ok-heaps.ensures.order.count)
+      ∙ c.in_ok-segs.ensures.unasked.unarmed who;
+}
 
 pub returns-clause-nothing_yet : goal.returns-clause-nothing_yet
 returns-clause-nothing_yet c = ap (λ (h : HallView). (own_at h 1).number) c.in_ok-hall.ensures.hall
 
-pub returns-clause-one : goal.returns-clause-one
-returns-clause-one c =
+pub returns-clause-records : goal.returns-clause-records
+returns-clause-records c =
     ap (λ (h : HallView). length (seen_in h)) c.in_ok-hall.ensures.hall
-    ∙ ap length (opened_log _ _ MAX_HEAPS c.in_ok-heaps.ensures.order.count) ∙ c.in_ok-segs.ensures.one
+    ∙ ap length (opened_log _ _ MAX_HEAPS c.in_ok-heaps.ensures.order.count) ∙ c.in_ok-segs.ensures.two
 
 pub returns-clause-clock : goal.returns-clause-clock
 returns-clause-clock c = ap (λ (h : HallView). h.clock) c.in_ok-hall.ensures.hall

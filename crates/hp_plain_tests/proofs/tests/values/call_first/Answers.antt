@@ -7,7 +7,7 @@ use Rattle.hp_hall.specs.declared.kept.Kept.TheVariants.{Heap}
 use Rattle.hp_hall.specs.Giving.{Knows, entries_made}
 use Rattle.hp_hall.specs.Holding.{StandsFor}
 use Rattle.hp_plain.proofs.Given.{known}
-use Rattle.hp_hall.proofs.Gives.{entries_made-none, entries_taken, gives_call, gives_taken, held_alike}
+use Rattle.hp_hall.proofs.Gives.{armed_taken, entries_made-none, entries_taken, gives_call, gives_taken, held_called, unarmed_settled}
 use Rattle.hp_hall.proofs.HallStates.{others_then}
 use Rattle.hp_plain.proofs.Homes.{home_again}
 use Rattle.hp_plain_tests.proofs.tests.values.call_first.Goals as goal
@@ -26,14 +26,17 @@ give-requires-clause-gives c =
     let is = c.stats-stats.ensures in
     let same : given.plain ≡ mid.plain = is.heap ∙ after_stats me mid.plain in
     let none : entries_made knows.part ≡ 0 =
-    entries_made-none knows.part (λ heap. entries_taken c.take.result _ _ c.take.ensures.took.part heap ∙ c.requires.first heap) in
+    entries_made-none knows.part (λ heap. entries_taken c.take.result _ _ c.take.ensures.took.part heap ∙ (c.requires.first heap).entries) in
     let next : ◌≡◌ {A = Caller} (record { participant = me; number = 1 }) (record { participant = me; number = entries_made knows.part + 1 }) =
     ap (λ (n : ℕ). record { participant = me; number = n + 1 }) (sym none) in
     let stands : StandsFor me knows.part (Heap taken) = subst (StandsFor me knows.part) c.into_heap-heap.ensures c.take.ensures.took.stands in
     let plain : given.plain ≡ taken.plain = same ∙ c.reserve.ensures.same.plain in
     gives_taken knows c.args.index (Heap taken) (Heap given) (c.take.ensures.took.taken ∙ ap Some c.into_heap-heap.ensures)
-    (gives_call knows (knows.part given.plain.index).holding taken mid given _ call.Stats _ c.reserve.ensures.same is (ap (λ (p : PlainHeap). p.index) same)
-    (ap (λ (p : PlainHeap). p.serves) same) next (held_alike taken given knows.part plain stands.held))
+    (gives_call knows taken mid given _ call.Stats _ c.reserve.ensures.same is (ap (λ (p : PlainHeap). p.index) same)
+    (ap (λ (p : PlainHeap). p.serves) same) next
+    (held_called taken mid given knows.part _ call.Stats _ c.reserve.ensures.same is plain refl refl stands.held)
+    (unarmed_settled given.plain.index knows.heard (knows.part given.plain.index)
+    (armed_taken c.take.result _ _ c.take.ensures.took.part given.plain.index ∙ (c.requires.first given.plain.index).unarmed)))
 
 pub returns-clause-home : goal.returns-clause-home
 returns-clause-home c =

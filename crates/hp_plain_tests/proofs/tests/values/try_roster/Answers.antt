@@ -1,8 +1,5 @@
-use Rattle.std.proofs.Common.{Some, ap, subst, ◌∙◌}
+use Rattle.std.proofs.Common.{Some, ap, ◌∙◌}
 use Rattle.hp_base.specs.declared.limits.TheConstants.{MAX_HEAPS}
-use Rattle.hp_hall.specs.declared.kept.Kept.TheVariants.{Segments}
-use Rattle.hp_plain.specs.HallView.{part_in}
-use Rattle.hp_hall.specs.Holding.{StandsFor}
 use Rattle.hp_plain.proofs.Given.{known}
 use Rattle.hp_hall.proofs.Gives.{gives_same}
 use Rattle.hp_hall.proofs.HallStates.{others_then}
@@ -10,9 +7,8 @@ use Rattle.hp_plain_tests.proofs.tests.values.try_roster.Goals as goal
 
 pub give-requires-clause-gives : goal.give-requires-clause-gives
 give-requires-clause-gives c =
-    gives_same (known c.try_take.new.self c.args.me) MAX_HEAPS (Segments c.into_segments-segs.result)
+    gives_same (known c.try_take.new.self c.args.me) MAX_HEAPS c.into_segments-segs.result
     (c.in_ok-try_take.ensures.took.taken ∙ ap Some c.into_segments-segs.ensures)
-    (subst (StandsFor c.args.me (part_in c.try_take.new.self c.args.me)) c.into_segments-segs.ensures c.in_ok-try_take.ensures.took.stands)
 
 pub returns-clause-others : goal.returns-clause-others
 returns-clause-others c = others_then c.try_take.ensures.others c.give.ensures.others

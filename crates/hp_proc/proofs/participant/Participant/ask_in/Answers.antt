@@ -96,7 +96,7 @@ returns-in-None-clause-does g c = λ tag otherwise.
 pub returns-in-None-clause-settled : goal.returns-in-None-clause-settled
 returns-in-None-clause-settled g c =
     let me = c.args.self.now.party.me in
-    subst (λ who. HasSettledAsks who ((g.H.Hall.state c.ask.new.hall).part me) ((g.H.Hall.state c.ask.new.hall).heard me)) (sym c.ask.ensures.remains.same.me)
+    subst (λ who. HasSettledAsks ((g.H.Hall.state c.ask.new.hall).part me) ((g.H.Hall.state c.ask.new.hall).heard me)) (sym c.ask.ensures.remains.same.me)
     c.in_ok-ask.ensures.settled
 
 pub grow_in-requires-clause-allowed : goal.grow_in-requires-clause-allowed
@@ -166,5 +166,5 @@ returns-in-Some-clause-keeps g c =
 pub returns-in-Some-clause-settled : goal.returns-in-Some-clause-settled
 returns-in-Some-clause-settled g c =
     let me = c.args.self.now.party.me in
-    subst (λ who. HasSettledAsks who ((g.H.Hall.state c.ask.new.hall).part me) ((g.H.Hall.state c.ask.new.hall).heard me))
+    subst (λ who. HasSettledAsks ((g.H.Hall.state c.ask.new.hall).part me) ((g.H.Hall.state c.ask.new.hall).heard me))
     (sym (ap (λ (doer : ParticipantView). doer.party.me) c.grow_in.ensures.counted ∙ c.ask.ensures.remains.same.me)) c.in_ok-ask.ensures.settled

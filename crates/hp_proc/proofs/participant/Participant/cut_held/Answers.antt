@@ -146,7 +146,7 @@ returns-in-Some g c =
           (does_still old.count (did_in me new new) left (in_hand cut (moment_of after part seen heard)) (moment_with cut me after new) []
           (did_same me new) (Acts.nothing after) (λ at. (same at).entries) (λ at. (same at).serves) (same_party after.party) refl refl more.0 more.1 outcomes.0
           outcomes.1));
-      settled = subst (λ (who : ℕ). HasSettledAsks who later (new.heard me)) (sym is_me)
+      settled = subst (λ (who : ℕ). HasSettledAsks later (new.heard me)) (sym is_me)
           (settled_more me part later heard (new.heard me) outcomes.0 outcomes.1 (given_up_armed place.index run part later gives_up apart)
           c.requires.holds.settled);
       keeps = record {

@@ -96,7 +96,7 @@ returns-in-Ok g c =
         };
         in_hand = taken_in_hand heap (mid.part me) (new.part me) shown.here shown.apart new.taken doer c.taking.self (mid.seen me) (new.seen me)
             (mid.heard me) (new.heard me) was.stays.same was.context ready out shown.few shown.has shown.stands shown.sound;
-        settled = subst (λ (who : ℕ). HasSettledAsks who (new.part me) (new.heard me)) (sym was.stays.same.me)
+        settled = subst (λ (who : ℕ). HasSettledAsks (new.part me) (new.heard me)) (sym was.stays.same.me)
             (settled_more me (old.part me) (new.part me) (old.heard me) (new.heard me) heard.0 heard.1
             (λ index.
             took_armed heap (mid.part me) (new.part me) shown.here shown.apart index

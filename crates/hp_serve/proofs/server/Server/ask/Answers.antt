@@ -104,7 +104,7 @@ returns-clause-goes_on g c =
 
 pub arm-requires-clause-settled : goal.arm-requires-clause-settled
 arm-requires-clause-settled g c =
-    subst (λ (party : Party). HasSettledAsks party.me ((g.H.Hall.state c.args.hall.now).part party.me) ((g.H.Hall.state c.args.hall.now).heard party.me))
+    subst (λ (party : Party). HasSettledAsks ((g.H.Hall.state c.args.hall.now).part party.me) ((g.H.Hall.state c.args.hall.now).heard party.me))
     (sym c.self.view_is) c.requires.settled
 
 pub returns-clause-asked : goal.returns-clause-asked
@@ -151,8 +151,8 @@ returns-clause-settled g c =
     subst (λ who. IfOk result (λ run. Settles ((g.H.Hall.state new).seen who) ((g.H.Hall.state new).heard who) ask (mid who) ((g.H.Hall.state new).part who) run))
     who
     c.await_answer.ensures.settles in
-    on_ok _ (HasSettledAsks me ((g.H.Hall.state new).part me) ((g.H.Hall.state new).heard me)) result
-    (λ run is. subst (λ who. HasSettledAsks who ((g.H.Hall.state new).part me) ((g.H.Hall.state new).heard me)) from
+    on_ok _ (HasSettledAsks ((g.H.Hall.state new).part me) ((g.H.Hall.state new).heard me)) result
+    (λ run is. subst (λ who. HasSettledAsks ((g.H.Hall.state new).part me) ((g.H.Hall.state new).heard me)) from
     (settled_by ((g.H.Hall.state new).seen me) ((g.H.Hall.state new).heard me) ask (mid me) ((g.H.Hall.state new).part me) run armed is)) settles
 
 -- what the participant holds stays until it awaits its answer

@@ -2,15 +2,16 @@ use Rattle.std.proofs.Common.{ℕ, refl, ap, subst, sym, arith}
 use Rattle.std.proofs.lemmas.Option.{slice_get_within}
 use Rattle.hp_hall.specs.Giving.{Knows}
 use Rattle.hp_plain.specs.HallSteps.{after_give, home_slot}
-use Rattle.hp_plain.specs.HallView.{IsHome, slot_at, taken_from}
+use Rattle.hp_plain.specs.HallView.{IsHall, IsHome, slot_at, taken_from}
 use Rattle.hp_hall.specs.Mail.{Gives, MailStep}
 use Rattle.hp_hall.specs.Slots.{slot_number}
 use Rattle.hp_hall.specs.Values.{Fits}
 use Rattle.hp_hall.specs.Weights.{boxes_weight}
 use Rattle.hp_plain.proofs.Agreeing.{agreed_given, given_by}
 use Rattle.hp_plain.proofs.Given.{IsGivenFor, given, known, later_given, still_fit}
-use Rattle.hp_plain.proofs.Giver.{joined_given, others_given, others_joined, part_given}
+use Rattle.hp_plain.proofs.Giver.{joined_given, others_given, others_joined, part_given, sees_given}
 use Rattle.hp_plain.proofs.Halls.{hall_given}
+use Rattle.hp_plain.proofs.Mapped.{mapped_in}
 use Rattle.hp_plain.proofs.PlainStates.{did_one, others_one, slots_one}
 use Rattle.hp_plain.proofs.Read.{has_asks, has_log}
 use Rattle.hp_plain.proofs.Slotted.{gave}
@@ -41,6 +42,14 @@ returns c =
     let step : MailStep = Gives number kept in
     let hall = c.sound.ensures in
     let fits : Fits number kept = still_fit knows number before.kept kept (hall.fits number before was.there) was.gives in
+    let now : IsHall new =
+    subst IsHall (sym c.give_at.ensures)
+    (hall_given me number old (after_give me number kept old) hall before before.kept kept refl was.there fits was.gives c.sound-2.ensures (record {
+      below = slice_get_within old.slots number before was.there;
+      slots = refl;
+      boxes = refl;
+      owns = refl;
+    })) in
     let later = later_given knows before.kept kept was.gives in
     let by = given_by knows before.kept kept was.gives in
     let agreed = agreed_given me number old hall before was.there kept fits was.gives in
@@ -53,7 +62,9 @@ returns c =
         joined = joined_given me number before step old new hall was.there kept fits moves was.gives;
         own = moves.makes.own me;
         log = has_log new number (home_slot kept) moves.here kept refl fits;
+        sees = sees_given me number before step old new hall was.there kept fits moves was.gives;
         asks = has_asks new number (home_slot kept) moves.here kept refl fits;
+        mapped = mapped_in new me now;
         did = did_one me step old new moves.makes;
       };
       slots = slots_one me step old new number (home_slot kept) moves;

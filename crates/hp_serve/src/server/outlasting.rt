@@ -1,0 +1,119 @@
+//! How a participant waits that has to see its wait through, whoever stops meanwhile.
+ghost use Rattle.std.specs.Prelude.{◌≡◌, ℕ, ◌+◌, ◌*◌, ◌<◌, ◌≤◌, ◌⊎◌, List, Some, false};
+ghost use Rattle.hp_hall.specs.HallState.{Did};
+ghost use Rattle.hp_hall.specs.Mail.{MailStep};
+ghost use Rattle.hp_hall.specs.Weights.{moved_of};
+ghost use Rattle.hp_serve.specs.Falling.{if_moved, served_of};
+ghost use Rattle.hp_serve.specs.InHall.{CanServe, StaysIn, left_to_do};
+ghost use Rattle.hp_serve.specs.Party.{due_in};
+ghost use Rattle.hp_serve.specs.Waiting.{IsWaited, LeavesAsked, PausesFor};
+
+use super::Server;
+use super::waiting::has_moved;
+use crate::waited::Waited;
+use hp_base::Mapper;
+use hp_hall::{Hall, Waiting};
+use std::alloc::AllocError;
+
+// Whether others moved something, by what letting them serve answered: one that stopped did something.
+fn others_moved(answer: Result<bool, AllocError>) -> bool
+    ensures { if_moved result ≡ moved_of answer }
+{
+    match answer {
+        Ok(moved) => moved,
+        Err(AllocError) => true,
+    }
+}
+
+// Whether its own serving did something, by what that answered: where it stopped, that counts as nothing.
+fn own_moved(answer: Result<bool, AllocError>) -> bool
+    ensures { if_moved result ≡ served_of answer }
+{
+    match answer {
+        Ok(moved) => moved,
+        Err(AllocError) => false,
+    }
+}
+
+impl<'p, M: Mapper> Server<'p, M> {
+    // A turn without its pause, in which all serve, whoever stops. Returned is whether something moved.
+    fn serve_on<H: Waiting>(&mut self, hall: &mut H) -> bool
+        requires can { CanServe self.old.me self.old (H.state hall.old) }
+        ensures weight { left_to_do H.scale H.pending self.new (H.state hall.new) + H.scale * if_moved result
+            ≤ left_to_do H.scale H.pending self.old (H.state hall.old) }
+        ensures clock { (H.state hall.new).clock ≡ (H.state hall.old).clock }
+        ensures asks { LeavesAsked self.old self.new }
+        ensures stays { StaysIn self.old.me self.old self.new (H.state hall.old) (H.state hall.new) }
+        ensures goes_on { H.goes_on hall.old hall.new }
+    {
+        let me = self.me;
+        let below = others_moved(hall.others(me, false));
+        let own = own_moved(self.serve_some(hall));
+        let above = others_moved(hall.others(me, true));
+        has_moved(own, below, above)
+    }
+
+    // A turn of a wait until a deadline, which comes to its end whoever stops.
+    fn turn_on<H: Waiting>(&mut self, hall: &mut H, until: u64)
+        requires can { CanServe self.old.me self.old (H.state hall.old) }
+        requires before { H.pending (H.state hall.old).clock until ≡ H.scale }
+        ensures falls { left_to_do H.scale H.pending self.new (H.state hall.new) + H.pending (H.state hall.new).clock until
+            < left_to_do H.scale H.pending self.old (H.state hall.old) + H.pending (H.state hall.old).clock until }
+        ensures paused { PausesFor (λ deadline. H.pending (H.state hall.old).clock deadline
+            ≡ H.scale) until (due_in self.new.core) (H.state hall.old).clock (H.state hall.new).clock }
+        ensures asks { LeavesAsked self.old self.new }
+        ensures stays { StaysIn self.old.me self.old self.new (H.state hall.old) (H.state hall.new) }
+        ensures goes_on { H.goes_on hall.old hall.new }
+    {
+        let moved = self.serve_on(hall);
+        self.end_turn(hall, until, moved);
+    }
+
+    // Takes such turns until a reading of the clock has reached the deadline, or, where it heeds that, its last ask is answered. Returned is
+    // the last reading.
+    fn outlast<H: Waiting>(&mut self, hall: &mut H, until: u64, heeds: bool) -> u64
+        requires can { CanServe self.old.me self.old (H.state hall.old) }
+        ensures waited { heeds ≡ false → until ≤ result }
+        ensures clock { ((H.state hall.new).clock ≡ (H.state hall.old).clock) ⊎ ((H.state hall.new).clock ≤ until) }
+        ensures asks { LeavesAsked self.old self.new }
+        ensures stays { StaysIn self.old.me self.old self.new (H.state hall.old) (H.state hall.new) }
+        ensures goes_on { H.goes_on hall.old hall.new }
+    {
+        'waiting: loop {
+            let reading = hall.now(self.me);
+            let over = self.ends_wait(reading, until, heeds);
+            if over {
+                return reading;
+            }
+            self.turn_on(hall, until);
+        }
+    }
+
+    // Waits as `wait` does, and for as long where somebody stops: it serves on, and so do the others.
+    pub(crate) fn wait_out<H: Waiting>(&mut self, hall: &mut H, until: u64, heeds: bool) -> Waited
+        requires can { CanServe self.old.me self.old (H.state hall.old) }
+
+        // Where nobody stopped it is such a wait.
+        ensures turned { result.stopped ≡ false → (steps : List MailStep) × Did self.old.me steps (H.state hall.old) (H.state hall.new)
+            × IsWaited (H.state hall.old).count until heeds self.old self.new steps (Some result.reading) }
+        ensures waited { heeds ≡ false → until ≤ result.reading }
+        ensures clock { ((H.state hall.new).clock ≡ (H.state hall.old).clock) ⊎ ((H.state hall.new).clock ≤ until) }
+        ensures asks { LeavesAsked self.old self.new }
+        ensures stays { StaysIn self.old.me self.old self.new (H.state hall.old) (H.state hall.new) }
+        ensures goes_on { H.goes_on hall.old hall.new }
+    {
+        match self.wait(hall, until, heeds) {
+            Ok(reading) => Waited {
+                reading,
+                stopped: false,
+            },
+            Err(AllocError) => {
+                let reading = self.outlast(hall, until, heeds);
+                Waited {
+                    reading,
+                    stopped: true,
+                }
+            }
+        }
+    }
+}
