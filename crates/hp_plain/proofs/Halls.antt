@@ -248,8 +248,7 @@ module _ (me number : ℕ) (old new : HallView) (hall : IsHall old) where
             within = omega (arith, own.within, same, ap length gives.log, length-append was.log gives.more);
           });
       agreed = λ entry generation member has grants is.
-          omega
-          (
+          omega (
             arith,
             taken_in_by (known old me) was kept sound_was refl gives.form
                 (subst (AreTakenIn (known old me).noted) same_was hall.agreed) entry generation member has grants is,
@@ -305,8 +304,7 @@ hall_own old new who own hall slots boxes owns below rises of =
           subst (IsOwnOf (length hall.segs.log)) (sym (own_elsewhere old who other own apart)) (hall.owned other (omega (arith, inside, many))))
           (cases_eq other who));
       agreed = λ entry generation member has grants is.
-          omega
-          (
+          omega (
             arith,
             hall.agreed entry generation member has grants is,
             numbers_rise old who own below rises member,

@@ -23,7 +23,8 @@ pub use growth::Growth;
 pub use hp_base::PoolLine;
 pub use hp_log::LogRecord;
 pub use laws::{
-    claimed_law, forms_law, growths_law, moves_law, places_law, retired_law, segments_law, settling_law,
+    claimed_law, forms_law, growths_law, moves_law, places_law, retired_law, segments_law,
+    settling_law,
 };
 pub use list_info::ListInfo;
 pub use log_laws::log_law;
