@@ -1,4 +1,4 @@
--- That what lines gave up has gone before later lines see the log. The rule "Reasons" of docs/PARTICIPANTS.md.
+-- That what lines gave up has gone before later lines see the log. The rule "Reasons" of docs/RUNS.md.
 use Rattle.std.specs.Prelude.{◌≡◌, ℕ, ◌+◌, ◌≤◌, false, List, [], ◌∷◌, ◌++◌, drop, flat_map, length, take, Some}
 use Rattle.std.specs.List.{All, range_with_len}
 use Rattle.std.specs.List.Sorted.{IsPermutation}

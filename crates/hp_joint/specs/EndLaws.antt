@@ -1,5 +1,5 @@
 -- What is true of every run of a workload in one thread: how it opens, goes on from line to line, and ends. The rule "Together" of
--- docs/PARTICIPANTS.md.
+-- docs/RUNS.md.
 use Rattle.std.specs.Prelude.{◌≡◌, ◌<◌, ◌≤◌, ℕ, List, [], ◌∷◌, ◌++◌, length, map, true, Option, Some, slice_get, slice_index}
 use Rattle.std.specs.Int.{bit_at}
 use Rattle.std.specs.List.{Contains}

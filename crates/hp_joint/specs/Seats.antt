@@ -1,5 +1,5 @@
 -- What a participant does while others do their part, in the steps between which others may act. The rule "Together" of
--- docs/PARTICIPANTS.md.
+-- docs/RUNS.md.
 use Rattle.std.specs.Prelude.{◌≡◌, ◌≢◌, ℕ, ◌+◌, ◌*◌, ◌≤◌, ⊤, Bool, true, false, List, [], ◌∷◌, ◌++◌, length, map, Contains, Option, Some, None}
 use Rattle.hp_base.specs.declared.caught.Caught.{Caught}
 use Rattle.hp_base.specs.declared.plan.Action.{Action}

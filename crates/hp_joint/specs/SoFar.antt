@@ -1,5 +1,5 @@
 -- How far a workload was run, by all its participants in one thread: what holds between two of its lines. The rule "Together" of
--- docs/PARTICIPANTS.md.
+-- docs/RUNS.md.
 use Rattle.std.specs.Prelude.{◌≡◌, ℕ, ◌<◌, ◌≤◌, true, List, length, Some, slice_get, slice_index}
 use Rattle.std.specs.List.{All}
 use Rattle.hp_base.specs.declared.limits.TheConstants.{MAX_HEAPS}

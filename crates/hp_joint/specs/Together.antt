@@ -1,5 +1,5 @@
 -- A run of all participants of a hall, step by step: what each makes of itself, of the segment value and of the mailboxes. The rule
--- "Together" of docs/PARTICIPANTS.md.
+-- "Together" of docs/RUNS.md.
 use Rattle.std.specs.Prelude.{◌≡◌, ℕ, List, [], length, replicate, Some, None, slice_get, slice_set}
 use Rattle.hp_base.specs.declared.pool_line.PoolLine.{PoolLine}
 use Rattle.hp_frame.specs.declared.frame.Frame.{Frame}

@@ -1,4 +1,4 @@
--- How often a plan loses messages, or doubles them. The rule "Reasons" of docs/PARTICIPANTS.md.
+-- How often a plan loses messages, or doubles them. The rule "Reasons" of docs/RUNS.md.
 use Rattle.std.specs.Prelude.{◌≡◌, ℕ, zero, suc, ◌+◌, ◌≤◌, Bool, true, false, not, ◌&&◌, ◌==◌, List, count_by, if◌then◌else◌}
 use Rattle.hp_base.specs.Plans.{action_of, kind_place}
 use Rattle.hp_base.specs.declared.plan.Action.{Action}

@@ -1,4 +1,4 @@
--- What stands while participants of one thread wait for the answer to an ask or a notice. The rule "Reasons" of docs/PARTICIPANTS.md.
+-- What stands while participants of one thread wait for the answer to an ask or a notice. The rule "Reasons" of docs/RUNS.md.
 use Rattle.std.specs.Prelude.{◌≡◌, ◌≢◌, ℕ, ◌+◌, ◌-◌, ◌*◌, ◌<◌, ◌≤◌, ◌⊎◌, ⊤, Bool, true, false, ◌&&◌, ◌||◌, ◌==◌, List, [], ◌∷◌, length, replicate, count_by, Option, Some, None, is_some, if◌then◌else◌, slice_get, slice_index_or, slice_set}
 use Rattle.std.specs.List.{All, list_any}
 use Rattle.hp_base.specs.declared.limits.TheConstants.{MAX_COUNT, MAX_DEADLINE}

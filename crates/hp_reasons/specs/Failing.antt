@@ -1,4 +1,4 @@
--- Which mappings fail: those of the open growth's pages. The rule "Reasons" of docs/PARTICIPANTS.md.
+-- Which mappings fail: those of the open growth's pages. The rule "Reasons" of docs/RUNS.md.
 use Rattle.std.specs.Prelude.{◌≡◌, ℕ, ◌≤◌, true, false, List, Contains, Option, Some, is_some}
 use Rattle.std.specs.Option.{option_map}
 use Rattle.hp_base.specs.declared.caught.Caught.{Caught}

@@ -1,4 +1,4 @@
--- What a line makes of a world. The rule "Reasons" of docs/PARTICIPANTS.md.
+-- What a line makes of a world. The rule "Reasons" of docs/RUNS.md.
 use Rattle.std.specs.Prelude.{◌≡◌, ◌≤◌, ◌^◌, ⊤, ℕ, Bool, true, false, ◌||◌, List, [], ◌∷◌, Some, count_by}
 use Rattle.std.specs.List.{list_any}
 use Rattle.hp_hall.specs.Mail.{MailStep}

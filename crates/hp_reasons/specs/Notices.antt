@@ -1,4 +1,4 @@
--- Which notices have their outcome: that the run that a participant gave up has gone back. The rule "Reasons" of docs/PARTICIPANTS.md.
+-- Which notices have their outcome: that the run that a participant gave up has gone back. The rule "Reasons" of docs/RUNS.md.
 use Rattle.std.specs.Prelude.{◌≡◌, ℕ, ◌+◌, ◌≤◌, Bool, true, false, List, [], ◌∷◌, find, map, Some, if◌then◌else◌}
 use Rattle.std.specs.Option.{option_map_or}
 use Rattle.hp_base.specs.declared.limits.TheConstants.{MAX_HEAPS}

@@ -1,5 +1,5 @@
 -- How often growths were refused as late, how often asks were taken back or stale, and how many asks and notices have no outcome. The rule
--- "Reasons" of docs/PARTICIPANTS.md.
+-- "Reasons" of docs/RUNS.md.
 use Rattle.std.specs.Prelude.{◌≡◌, ℕ, zero, suc, ◌+◌, ◌*◌, ⊤, Bool, true, false, ◌&&◌, ◌==◌, List, count_by, if◌then◌else◌}
 use Rattle.std.specs.List.{list_any}
 use Rattle.hp_segs.specs.SegsView.{is_outcome_for, is_stale}

@@ -1,4 +1,4 @@
--- That all is quiet between asks and notices. The rule "Reasons" of docs/PARTICIPANTS.md.
+-- That all is quiet between asks and notices. The rule "Reasons" of docs/RUNS.md.
 use Rattle.std.specs.Prelude.{◌≡◌, ℕ, ◌≤◌, Bool, false, [], Some, None, replicate, slice_get}
 use Rattle.hp_core.specs.Core.{Core}
 use Rattle.hp_core.specs.declared.asked.Asked.{Asked}

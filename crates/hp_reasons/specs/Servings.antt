@@ -1,4 +1,4 @@
--- What one serving makes of a participant and of what all share, while it alone does something. The rule "Reasons" of docs/PARTICIPANTS.md.
+-- What one serving makes of a participant and of what all share, while it alone does something. The rule "Reasons" of docs/RUNS.md.
 use Rattle.std.specs.Prelude.{◌≡◌, ℕ, zero, suc, ◌≤◌, ◌<◌, Bool, true, false, List, [], ◌∷◌, length, Some, None, slice_index, if◌then◌else◌}
 use Rattle.hp_base.specs.Plans.{action_of}
 use Rattle.hp_base.specs.declared.caught.Caught.{Caught}

@@ -1,5 +1,5 @@
 -- What all participants of a hall share, at a moment at which the segment value is at home, and what steps of one of them make of it. The
--- rule "Reasons" of docs/PARTICIPANTS.md.
+-- rule "Reasons" of docs/RUNS.md.
 use Rattle.std.specs.Prelude.{◌≡◌, ℕ, ◌≤◌, List, [], ◌∷◌, Some, drop, length, map, slice_get, slice_index_or, slice_set}
 use Rattle.hp_base.specs.declared.limits.TheConstants.{MAX_HEAPS}
 use Rattle.hp_base.specs.declared.plan.Action.{Action}

@@ -1,4 +1,4 @@
--- What one serving makes of an ask's stage. The rule "Reasons" of docs/PARTICIPANTS.md.
+-- What one serving makes of an ask's stage. The rule "Reasons" of docs/RUNS.md.
 use Rattle.std.specs.Prelude.{◌≡◌, ◌≢◌, ℕ, ◌+◌, ◌<◌, ◌≤◌, ◌^◌, ⊤, Bool, true, false, List, Some, None, slice_get, slice_set}
 use Rattle.std.specs.List.{All, list_any}
 use Rattle.hp_core.specs.Asks.{asker}

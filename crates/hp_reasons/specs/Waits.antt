@@ -1,4 +1,4 @@
--- What a turn, a wait, an ask and a notice make of a world. The rule "Reasons" of docs/PARTICIPANTS.md.
+-- What a turn, a wait, an ask and a notice make of a world. The rule "Reasons" of docs/RUNS.md.
 use Rattle.std.specs.Prelude.{◌≡◌, ◌+◌, ◌*◌, ◌<◌, ◌≤◌, ◌^◌, ℕ, Bool, true, false, List, Option, Some, None, slice_get}
 use Rattle.hp_base.specs.declared.row.Run.{Run}
 use Rattle.hp_core.specs.Asks.{asker}

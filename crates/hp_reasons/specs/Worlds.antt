@@ -1,4 +1,4 @@
--- Halls of one thread as worlds. The rule "Reasons" of docs/PARTICIPANTS.md.
+-- Halls of one thread as worlds. The rule "Reasons" of docs/RUNS.md.
 use Rattle.std.specs.Prelude.{◌≡◌, ◌≢◌, ◌≤◌, ℕ, false, List, Some, length, slice_get}
 use Rattle.std.specs.List.{AllByRecursion}
 use Rattle.hp_base.specs.declared.limits.TheConstants.{MAX_PARTICIPANTS}

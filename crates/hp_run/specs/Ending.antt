@@ -1,5 +1,5 @@
 -- What a run has come to: an end of its workload, why mappings failed, what agreement is worth, why growths were refused, that nothing is
--- left to do where the plan loses no message, and why allocations found no memory. The rules "Together" and "Reasons" of docs/PARTICIPANTS.md.
+-- left to do where the plan loses no message, and why allocations found no memory. The rules "Together" and "Reasons" of docs/RUNS.md.
 use Rattle.std.specs.Prelude.{◌≡◌, ◌<◌, ℕ, true, false, List, length, Option}
 use Rattle.std.specs.List.{All}
 use Rattle.hp_base.specs.Mapping.{FailingCall}

@@ -1,5 +1,5 @@
 -- At which mapping calls of a run a mapping may have failed, and what was answered: those that its plan names, as the plan says, and those of a
--- mapper that is not steady, in whatever way. The rule "Together" of docs/PARTICIPANTS.md.
+-- mapper that is not steady, in whatever way. The rule "Together" of docs/RUNS.md.
 use Rattle.std.specs.Prelude.{◌≡◌, ℕ, ◌+◌, ◌⊎◌, Bool, true, false, List, Option, Some, slice_get}
 use Rattle.std.specs.List.{Contains}
 use Rattle.hp_base.specs.Mapping.{FailingCall, IsSteady, may_fail_at}

@@ -1,4 +1,4 @@
--- What a run begins with: its heaps, its hall, and its participants. The rule "Turns in one thread" of docs/PARTICIPANTS.md.
+-- What a run begins with: its heaps, its hall, and its participants. The rule "Turns in one thread" of docs/RUNS.md.
 use Rattle.std.specs.Prelude.{◌≡◌, ℕ, List, [], Option, Some, length, replicate, slice_get}
 use Rattle.hp_base.specs.Mapping.{FailingCall}
 use Rattle.hp_base.specs.declared.limits.TheConstants.{MAX_SEGMENTS}

@@ -1,4 +1,4 @@
--- What a run needs of its workload, and how far it came. The rule "Turns in one thread" of docs/PARTICIPANTS.md.
+-- What a run needs of its workload, and how far it came. The rule "Turns in one thread" of docs/RUNS.md.
 use Rattle.std.specs.Prelude.{◌≡◌, ℕ, ◌<◌, false, List, map, Option, Some, slice_get}
 use Rattle.std.specs.List.{All}
 use Rattle.hp_base.specs.Participants.{IsAbsent}

@@ -1,4 +1,4 @@
--- What a participant leaves at the end of a run: the rule "Ending" of docs/PARTICIPANTS.md.
+-- What a participant leaves at the end of a run: the rule "Ending" of docs/RUNS.md.
 use Rattle.std.specs.Prelude.{◌≡◌}
 use Rattle.hp_base.specs.Mapping.{owned}
 use Rattle.hp_maps.specs.declared.table.Table.{Table}

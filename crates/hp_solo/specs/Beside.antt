@@ -1,4 +1,4 @@
--- What those beside one that waits do for it: the rule "Turns in one thread" of docs/PARTICIPANTS.md.
+-- What those beside one that waits do for it: the rule "Turns in one thread" of docs/RUNS.md.
 use Rattle.std.specs.Prelude.{◌≡◌, ℕ, Bool, false, Some}
 use Rattle.hp_plain.specs.HallSteps.{with_note}
 use Rattle.hp_hall.specs.declared.note.Note.TheVariants.{Yielded}

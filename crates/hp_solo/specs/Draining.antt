@@ -1,4 +1,4 @@
--- Turns of all participants in one thread, behind the last line: the rule "Turns in one thread" of docs/PARTICIPANTS.md.
+-- Turns of all participants in one thread, behind the last line: the rule "Turns in one thread" of docs/RUNS.md.
 use Rattle.std.specs.Prelude.{◌≡◌, ℕ, ◌-◌, ◌^◌, ◌≤◌, false, List, [], length, Option, Some, None, IsSome, ⊤}
 use Rattle.hp_plain.specs.Course.{IsCourse}
 use Rattle.hp_plain.specs.HallSteps.{after_pause}

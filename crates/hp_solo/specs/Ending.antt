@@ -1,4 +1,4 @@
--- What the participants of a hall of one thread leave at the end of a run: the rule "Ending" of docs/PARTICIPANTS.md.
+-- What the participants of a hall of one thread leave at the end of a run: the rule "Ending" of docs/RUNS.md.
 use Rattle.std.specs.Prelude.{◌≡◌, ℕ, ◌<◌, Bool, List, length, Option, Some, is_none, IsSome, IsSomeAnd, slice_get}
 use Rattle.std.specs.List.{list_any}
 use Rattle.hp_maps.specs.declared.table.Table.{Table}

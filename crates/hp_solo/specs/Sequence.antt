@@ -1,4 +1,4 @@
--- In which order one that does a line and those beside it did what they did: the rule "Turns in one thread" of docs/PARTICIPANTS.md.
+-- In which order one that does a line and those beside it did what they did: the rule "Turns in one thread" of docs/RUNS.md.
 use Rattle.std.specs.Prelude.{◌≡◌, ℕ, suc, Bool, true, false, List, [], ◌∷◌, length, map, Option, Some, None, IfSome, slice_set, ⊤}
 use Rattle.hp_plain.specs.Course.{IsCourse}
 use Rattle.hp_plain.specs.HallSteps.{after_pause, with_note}

@@ -1,4 +1,4 @@
--- How participants serve while others do their lines: the rule "Turns in one thread" of docs/PARTICIPANTS.md.
+-- How participants serve while others do their lines: the rule "Turns in one thread" of docs/RUNS.md.
 use Rattle.std.specs.Prelude.{◌≡◌, ℕ, Bool, false, List, [], ◌∷◌, ◌++◌, length, Option, Some, None, ⊤}
 use Rattle.std.specs.List.Sorted.{IsNonDecreasingBy}
 use Rattle.hp_plain.specs.HallView.{HallView, HasDone}

@@ -1,4 +1,4 @@
--- A hall in which participants take turns in one thread, as contracts see it: the rule "Turns in one thread" of docs/PARTICIPANTS.md.
+-- A hall in which participants take turns in one thread, as contracts see it: the rule "Turns in one thread" of docs/RUNS.md.
 use Rattle.std.specs.Prelude.{◌≡◌, ◌≢◌, ℕ, zero, suc, ◌+◌, ◌<◌, ◌≤◌, ◌⊎◌, ◌^◌, ◌-◌, Bool, true, false, List, [], ◌∷◌, ◌++◌, length, Option, Some, None, IsSome, slice_get, sum_by, if◌then◌else◌, ⊤}
 use Rattle.std.specs.List.{list_any}
 use Rattle.hp_base.specs.declared.limits.TheConstants.{MAX_HEAPS}

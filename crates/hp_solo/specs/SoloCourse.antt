@@ -1,5 +1,5 @@
 -- The course of a hall of one thread: what later states keep of earlier ones, in which order all was done, and that this joins: the rule
--- "Turns in one thread" of docs/PARTICIPANTS.md.
+-- "Turns in one thread" of docs/RUNS.md.
 use Rattle.std.specs.Prelude.{◌≡◌, ℕ, zero, suc, Bool, true, false, List, [], ◌∷◌, ◌++◌, length, Option, Some, None, IsSome, refl, ⊤}
 use Rattle.std.proofs.Common.{◌∙◌, sym, subst}
 use Rattle.std.proofs.lemmas.Bool.{or_from, or_parts}
