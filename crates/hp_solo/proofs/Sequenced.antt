@@ -37,12 +37,6 @@ module _ (me : ℕ) (old new : SoloView) (away : IsAway (server_at old.servers m
   one_call step did makes =
       in_sequence (step ∷ []) did (λ going. Sequence.goes_on old new new step [] (makes going) (Sequence.stands new))
 
-  -- what it tells without a step
-  pub told : IsMadeBy me [] old.plain new.plain → HasDone old.plain new.plain me [] → new.servers ≡ old.servers
-      → new.plain.clock ≡ old.plain.clock → IsInSequence old new
-  told made did servers clock =
-      in_sequence [] did (λ going. Sequence.tells old new new [] made servers clock (Sequence.stands new))
-
   -- a pause
   pub paused : (moved : Bool) (until : Option ℕ) (reading : ℕ) → new.plain ≡ after_pause me moved until reading old.plain
       → new.servers ≡ old.servers → (moved ≡ true → reading ≡ old.plain.clock)

@@ -11,7 +11,7 @@ use Rattle.hp_serve.specs.Party.{Party}
 use Rattle.hp_solo.specs.Sequence.{IsCall, IsInSequence, Makes}
 use Rattle.hp_solo.specs.Solo.{AreLater, AreTied, IsAway, IsSolo, AloneView, SoloView, party_at, party_in, server_at}
 use Rattle.hp_solo.specs.SoloCourse.{IsSoloCourse, server_stays}
-use Rattle.hp_solo.proofs.Sequenced.{made_by, one_call, told}
+use Rattle.hp_solo.proofs.Sequenced.{made_by, one_call}
 use Rattle.hp_solo.proofs.SoloTies.{tied_on}
 
 -- who is away is not there
@@ -75,16 +75,6 @@ module _ (value : SoloView) (old : HallView) (servers : List AloneView)
       (subst (λ (hall : SoloView). IsInSequence hall (record { plain = new; servers = servers })) value_is
       (one_call me (record { plain = old; servers = servers }) (record { plain = new; servers = servers }) away_here step did.made
       (λ going. Makes.calls step call (made_by me (step ∷ []) old new course did.made nothing) refl others.clock)))
-
-  -- by what it tells without a step
-  pub goes_on_told : (new : HallView) → IsCourse old new → Did me [] (plain_state old) (plain_state new)
-      → OthersStay me (plain_state old) (plain_state new) → IsSoloCourse value (record { plain = new; servers = servers })
-  goes_on_told new course did others =
-      let nothing : (who : ℕ) → who ≢ me → HasDone old new who [] = λ who apart. others.done who apart ∙ sym (append-nil (steps_of who old.mail)) in
-      goes_on new course nothing
-      (subst (λ (hall : SoloView). IsInSequence hall (record { plain = new; servers = servers })) value_is
-      (told me (record { plain = old; servers = servers }) (record { plain = new; servers = servers }) away_here
-      (made_by me [] old new course did.made nothing) did.made refl others.clock))
 
   module _ (is : IsSolo (record { plain = old; servers = servers })) where
     pub may_call : me < length old.owns

@@ -60,6 +60,8 @@ module _ (me : ℕ) (old new : HallView) (servers : List AloneView) where
     asks = took.asks;
     roster = took.roster;
     stands = took.stands;
+    claimed = took.claimed;
+    mapped = took.mapped;
     part = took.part;
     joined = took.joined;
     own = took.own;
@@ -76,7 +78,9 @@ module _ (me : ℕ) (old new : HallView) (servers : List AloneView) where
     joined = gave.joined;
     own = gave.own;
     log = gave.log;
+    sees = gave.sees;
     asks = gave.asks;
+    mapped = gave.mapped;
     did = record { made = gave.did.made };
   }
 

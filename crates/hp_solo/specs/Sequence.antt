@@ -5,7 +5,7 @@ use Rattle.hp_plain.specs.HallSteps.{after_pause, with_note}
 use Rattle.hp_plain.specs.HallView.{HallView, HasDone}
 use Rattle.hp_hall.specs.Mail.{MailStep, Fetches, Gives, Notes, Posts, Takes}
 use Rattle.hp_hall.specs.declared.note.Note.{Note}
-use Rattle.hp_hall.specs.declared.note.Note.TheVariants.{Acked, Loaded, Paused, Read, Yielded}
+use Rattle.hp_hall.specs.declared.note.Note.TheVariants.{Acked, Loaded, Paused, Read, Unmapped, Yielded}
 use Rattle.hp_serve.specs.Coordinating.{IsServed}
 use Rattle.hp_serve.specs.Party.{Party}
 use Rattle.hp_solo.specs.Solo.{IsAway, IsBeside, IsNextDue, IsQuiet, AloneView, SoloView, has_stopped, party_at, server_at}
@@ -54,6 +54,7 @@ abbrev pub IsCallNote : Note → Type 0
 IsCallNote (Read now) = ⊤
 IsCallNote (Loaded participant number) = ⊤
 IsCallNote (Acked number) = ⊤
+IsCallNote Unmapped = ⊤
 IsCallNote (Yielded above moved) = ⊥
 IsCallNote (Paused moved until) = ⊥
 
@@ -81,13 +82,11 @@ pub data Makes (me : ℕ) (old new : SoloView) : MailStep → Type 0 where
       → (moved ≡ false → IfSome until (λ deadline. IsNextDue old.plain.clock old.servers deadline new.plain.clock))
       → Makes me old new (Notes (Paused moved until))
 
--- its calls, one after another, and the steps that they are; that its table has lost something it tells without a step
+-- its calls, one after another, and the steps that they are
 pub data Sequence (me : ℕ) : SoloView → List MailStep → SoloView → Type 0 where
   stands : (hall : SoloView) → Sequence me hall [] hall
   goes_on : (old mid new : SoloView) (step : MailStep) (steps : List MailStep) → Makes me old mid step → Sequence me mid steps new
       → Sequence me old (step ∷ steps) new
-  tells : (old mid new : SoloView) (steps : List MailStep) → IsMadeBy me [] old.plain mid.plain → mid.servers ≡ old.servers
-      → mid.plain.clock ≡ old.plain.clock → Sequence me mid steps new → Sequence me old steps new
 
 -- one alone is away
 pub record IsAloneAway (me : ℕ) (servers : List AloneView) : Type 0 where

@@ -171,8 +171,6 @@ pub sequence_then : (me : ℕ) (a b c : SoloView) (first last : List MailStep) �
 sequence_then me _ b c _ last (Sequence.stands _) next = next
 sequence_then me a b c _ last (Sequence.goes_on _ mid _ step steps made here) next =
     Sequence.goes_on a mid c step (steps ++ last) made (sequence_then me mid b c steps last here next)
-sequence_then me a b c first last (Sequence.tells _ mid _ _ made servers clock here) next =
-    Sequence.tells a mid c (first ++ last) made servers clock (sequence_then me mid b c first last here next)
 
 pub solo_same : (a : SoloView) → IsSoloCourse a a
 solo_same a = record {

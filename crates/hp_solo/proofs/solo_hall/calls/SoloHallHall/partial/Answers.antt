@@ -1,11 +1,13 @@
-use Rattle.std.proofs.Common.{[], ◌≤◌, length, sym, subst}
+use Rattle.std.proofs.Common.{[], ◌∷◌, ◌≤◌, length, sym, subst}
 use Rattle.hp_hall.specs.HallCalls.{HasComeTo}
+use Rattle.hp_hall.specs.Mail.{Notes}
 use Rattle.hp_hall.specs.Own.{after_partial}
+use Rattle.hp_hall.specs.declared.note.Note.TheVariants.{Unmapped}
 use Rattle.hp_plain.specs.HallView.{own_at, seen_in}
 use Rattle.hp_solo.specs.Solo.{SoloView, solo_weight}
 use Rattle.hp_solo.specs.SoloCourse.{IsSoloCourse}
 use Rattle.hp_solo.specs.SoloState.{solo_state}
-use Rattle.hp_solo.proofs.SoloCalls.{goes_on_told, holds_after}
+use Rattle.hp_solo.proofs.SoloCalls.{goes_on_by, holds_after}
 use Rattle.hp_solo.proofs.SoloStates.{comes_over, weight_same}
 use Rattle.hp_solo.proofs.solo_hall.calls.SoloHallHall.partial.Goals as goal
 
@@ -23,10 +25,10 @@ returns g c =
     let me = c.args.me in
     let is = c.partial.ensures in
     let after : SoloView = record { plain = new; servers = servers } in
-    let goes = goes_on_told value old servers c.self.view_is me c.requires.serves new is.goes_on is.own.did is.own.others in
+    let goes = goes_on_by value old servers c.self.view_is me c.requires.serves new (Notes Unmapped) tt is.goes_on is.own.did is.own.others in
     let here = subst (λ (hall : SoloView). IsSoloCourse hall after) (sym c.self.view_is) goes in
     record {
-      own = subst (λ (hall : SoloView). HasComeTo me (after_partial (length (seen_in hall.plain)) (own_at hall.plain me)) [] (solo_state hall) (solo_state after)) c.self.view_is (comes_over me old new servers (after_partial (length (seen_in old)) (own_at old me)) [] here is.own);
+      own = subst (λ (hall : SoloView). HasComeTo me (after_partial (length (seen_in hall.plain)) (own_at hall.plain me)) (Notes Unmapped ∷ []) (solo_state hall) (solo_state after)) c.self.view_is (comes_over me old new servers (after_partial (length (seen_in old)) (own_at old me)) (Notes Unmapped ∷ []) here is.own);
       weight = subst (λ (hall : SoloView). solo_weight after ≤ solo_weight hall) c.self.view_is (weight_same me old new servers is.own.others.clock is.weight);
       goes_on = goes;
     }
