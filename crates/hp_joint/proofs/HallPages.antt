@@ -116,4 +116,4 @@ module _ (workload : Workload) (courses : List Course) (parties : List Party) (h
       owns_pages so.now.segs heap (segs_sound workload courses parties hall so)
       (subst (λ (index : ℕ). HasPages heap.plain.pages (owned_by index so.now.segs)) (sym its)
       (subst (λ (value : SegsView). HasPages heap.plain.pages (owned_by index value)) same
-      (is.pages index heap (heap_home workload courses parties hall so heaps segs slots index heap at)))))
+      (is.home index heap (heap_home workload courses parties hall so heaps segs slots index heap at)).pages)))

@@ -1,5 +1,5 @@
 -- Behind a line each participant has come to where it is: the doer by what it did of it, and each other one by what it served.
-use Rattle.std.proofs.Common.{◌≡◌, ◌≢◌, ◌∙◌, ◌==◌, ℕ, ◌≤◌, ne_eqb, cond, List, [], ◌∷◌, ◌++◌, append-nil, length, Some, refl, ap, sym, subst, arith, inl, inr, ⊎_elim}
+use Rattle.std.proofs.Common.{◌≡◌, ◌≢◌, ◌∙◌, ◌==◌, ℕ, ◌≤◌, ne_eqb, cond, List, [], ◌∷◌, ◌++◌, append-nil, length, Some, None, refl, ap, sym, subst, arith, inl, inr, ⊎_elim}
 use Rattle.std.specs.Prelude.{slice_get}
 use Rattle.std.proofs.lemmas.Bool.{cases_eq, cond-false, cond-true, eq-eqb}
 use Rattle.std.proofs.lemmas.Option.{same_Some, slice_get_within}
@@ -85,7 +85,9 @@ module _ (workload : Workload) (courses : List Course) (parties behind : List Pa
   own_comes seat there =
       let did = goes.does.does.does in
       let long : goes.doer.party.deadline ≤ longest = subst (λ (deadline : ℕ). deadline ≤ longest) (sym its.deadline) given.deadline in
-      let comes = acts_path workload.participants who goes.doer goes.after trace did.steps did.acts its.me long seat (sits seat there)
+      let comes =
+      acts_path workload.participants who None None goes.does.does.held goes.doer goes.after trace did.steps did.acts its.me long seat
+      (sits seat there)
       ((so.seats who seat there).standing ∙ sym (ap (λ (context : Context). context.standing) goes.knew)) in
       came_by workload.participants who behind more left goes.course.steps seat goes.after.party did.steps goes.behind_is
       (steps_done old new goes.course who did.steps did.made)

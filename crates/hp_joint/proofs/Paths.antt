@@ -5,11 +5,11 @@ use Rattle.hp_base.specs.declared.caught.Caught.{Caught}
 use Rattle.hp_base.specs.declared.caught.Caught.TheVariants as caught
 use Rattle.hp_hall.specs.Mail.{MailStep, Notes}
 use Rattle.hp_hall.specs.declared.note.Note.{Note}
-use Rattle.hp_hall.specs.declared.note.Note.TheVariants.{Acked}
+use Rattle.hp_hall.specs.declared.note.Note.TheVariants.{Acked, Unmapped}
 use Rattle.hp_proc.specs.Courses.{Standing}
 use Rattle.hp_proc.specs.Doing.{Done}
 use Rattle.hp_serve.specs.Party.{Party}
-use Rattle.hp_serve.specs.Serving.{acks_behind, gives_segments, takes_segments}
+use Rattle.hp_serve.specs.Serving.{acks_behind, gives_segments, takes_segments, tells_behind}
 use Rattle.hp_segs.specs.SegsView.{SegsView}
 use Rattle.hp_joint.specs.Seats.{Handles, Mails, Path, Quietly, Seat, seated}
 
@@ -35,7 +35,7 @@ pub record Serves (count who : ℕ) (party after : Party) (steps : List MailStep
 abbrev pub ServesFrom : ℕ → ℕ → Party → Party → List MailStep → Type 0
 ServesFrom count who party after steps = (seat : Seat) → Serves count who party after steps seat
 
--- what is noted of a catching up
+-- what is noted of a catching up by one that attaches
 abbrev pub noted_of : Caught → ℕ → List Note
 noted_of caught.Done records = Acked records ∷ []
 noted_of (caught.Refused row call) records = []
@@ -47,6 +47,18 @@ pub held_notes : (caught : Caught) (records : ℕ) (notes : List Note) (rest : L
 held_notes caught.Done records notes rest = refl
 held_notes (caught.Refused row call) records notes rest = refl
 held_notes (caught.Elsewhere row call got) records notes rest = refl
+
+-- and by one that has a table: of one at which a mapping failed it tells that its table has lost what was dropped
+abbrev pub told_of : Caught → ℕ → List Note
+told_of caught.Done records = Acked records ∷ []
+told_of (caught.Refused row call) records = Unmapped ∷ []
+told_of (caught.Elsewhere row call got) records = Unmapped ∷ []
+
+pub told_notes : (caught : Caught) (records : ℕ) (notes : List Note) (rest : List MailStep)
+    → tells_behind caught records ++ (map Notes notes ++ rest) ≡ map Notes (told_of caught records ++ notes) ++ rest
+told_notes caught.Done records notes rest = refl
+told_notes (caught.Refused row call) records notes rest = refl
+told_notes (caught.Elsewhere row call got) records notes rest = refl
 
 module _ (count who : ℕ) where
   -- the same steps under another name

@@ -1,5 +1,5 @@
 -- What a participant does of its line is a path.
-use Rattle.std.proofs.Common.{◌≡◌, ◌≢◌, ◌∙◌, ℕ, ◌<◌, ◌≤◌, false, List, [], ◌∷◌, ◌++◌, append-nil, append_assoc, length, refl, ap, sym, subst, arith}
+use Rattle.std.proofs.Common.{◌≡◌, ◌≢◌, ◌∙◌, ℕ, ◌<◌, ◌≤◌, false, List, [], ◌∷◌, ◌++◌, Option, append-nil, append_assoc, length, refl, ap, sym, subst, arith}
 use Rattle.hp_base.specs.declared.caught.Caught.{Caught}
 use Rattle.hp_base.specs.declared.row.Run.{Run}
 use Rattle.hp_hall.specs.Mail.{MailStep}
@@ -140,20 +140,21 @@ module _ (count who : ℕ) where
             (Handles.detaches (seated_as doer seat) taken (no_primary doer.party me above)));
       }
 
-  acting_path : (doer after : ParticipantView) (trace : List Done) (steps : List MailStep) → Acts count doer after trace steps
+  acting_path : (hand last : Option ℕ) (held : List ℕ) (doer after : ParticipantView) (trace : List Done) (steps : List MailStep)
+      → Acts count hand last held doer after trace steps
       → doer.party.me ≡ who → doer.party.deadline ≤ longest → (seat : Seat) → ActedAs count who doer after trace steps seat
-  acting_path _ _ _ _ (Acts.nothing doer) me long seat =
+  acting_path _ _ _ _ _ _ _ (Acts.nothing hand doer) me long seat =
       acted_as doer doer.party [] [] seat
       (acted_by count who doer.party doer.party [] _ (serves_same count who doer.party (leaving doer.context.standing seat)))
-  acting_path _ _ _ _ (Acts.waits_turn until doer after moved steps turned) me long seat =
+  acting_path _ _ _ _ _ _ _ (Acts.waits_turn until doer after moved steps turned) me long seat =
       acted_as doer after [] steps seat
       (acted_by count who doer.party after steps _
       (turn_path count who until doer.party after steps moved turned me (leaving doer.context.standing seat)))
-  acting_path _ _ _ _ (Acts.takes_heap doer heap) me long seat =
+  acting_path _ _ _ _ _ _ _ (Acts.takes_heap doer heap) me long seat =
       heap_acted doer _ seat (Path.holds (seated_as doer seat) (seated_as doer seat) _ [] tt (Path.ends (seated_as doer seat)))
-  acting_path _ _ _ _ (Acts.gives_heap doer heap) me long seat =
+  acting_path _ _ _ _ _ _ _ (Acts.gives_heap doer heap) me long seat =
       heap_acted doer _ seat (Path.holds (seated_as doer seat) (seated_as doer seat) _ [] tt (Path.ends (seated_as doer seat)))
-  acting_path _ _ _ _ (Acts.makes_call doer heap called answer uncut) me long seat =
+  acting_path _ _ _ _ _ _ _ (Acts.makes_call doer heap called answer uncut) me long seat =
       let behind : Seat = record seat { trace = seat.trace ++ Called heap called answer ∷ [] } in
       record {
         behind = behind;
@@ -163,28 +164,29 @@ module _ (count who : ℕ) where
         path = path_quiet count who (seated_as doer seat) (seated_as (after_call doer) behind)
             (Quietly.calls (seated_as doer seat) heap called answer uncut);
       }
-  acting_path _ _ _ _ (Acts.cuts_run doer heap addr run taken) me long seat = cuts_acted doer heap addr run taken seat
-  acting_path _ _ _ _ (Acts.asks_pages doer after asked run steps does) me long seat =
+  acting_path _ _ _ _ _ _ _ (Acts.cuts_run doer heap addr run taken) me long seat = cuts_acted doer heap addr run taken seat
+  acting_path _ _ _ _ _ _ _ (Acts.asks_pages doer after asked run steps does) me long seat =
       acted_as doer after _ steps seat
       (ask_path count who doer.party after asked run steps me long does (leaving doer.context.standing seat))
-  acting_path _ _ _ _ (Acts.notifies_run doer after heap run steps does) me long seat =
+  acting_path _ _ _ _ _ _ _ (Acts.notifies_run doer after heap run steps does) me long seat =
       acted_as doer after _ steps seat
       (notice_path count who doer.party after heap run steps me does (leaving doer.context.standing seat))
-  acting_path _ _ _ _ (Acts.attaches doer after taken caught attaches) me long seat =
+  acting_path _ _ _ _ _ _ _ (Acts.attaches doer after taken caught attaches) me long seat =
       attaches_acted doer after taken caught me attaches seat
-  acting_path _ _ _ _ (Acts.detaches doer taken above) me long seat = detaches_acted doer taken me above seat
-  acting_path _ _ _ _ (Acts.notes_left doer elements) me long seat = notes_acted doer elements seat
-  acting_path _ _ _ _ (Acts.and_then doer mid after first rest before behind_it here next) me long seat =
-      let begins = acting_path doer mid first before here me long seat in
+  acting_path _ _ _ _ _ _ _ (Acts.detaches doer taken above) me long seat = detaches_acted doer taken me above seat
+  acting_path _ _ _ _ _ _ _ (Acts.notes_left doer elements) me long seat = notes_acted doer elements seat
+  acting_path _ _ _ _ _ _ _ (Acts.and_then hand between last held more doer mid after first rest before behind_it here next) me long seat =
+      let begins = acting_path hand between held doer mid first before here me long seat in
       acted_on doer mid after first rest before behind_it seat begins
-      (acting_path mid after rest behind_it next (begins.me ∙ me) (omega (arith, long, begins.deadline)) begins.behind)
+      (acting_path between last more mid after rest behind_it next (begins.me ∙ me) (omega (arith, long, begins.deadline)) begins.behind)
 
   -- from a seat it comes to what it does of its line
-  pub acts_path : (doer after : ParticipantView) (trace : List Done) (steps : List MailStep) → Acts count doer after trace steps
+  pub acts_path : (hand last : Option ℕ) (held : List ℕ) (doer after : ParticipantView) (trace : List Done) (steps : List MailStep)
+      → Acts count hand last held doer after trace steps
       → doer.party.me ≡ who → doer.party.deadline ≤ longest → (seat : Seat) → seat.party ≡ doer.party
       → seat.standing ≡ doer.context.standing → Comes count who after.party after.context.standing trace steps seat
-  acts_path doer after trace steps acts me long seat is left =
-      let acted = acting_path doer after trace steps acts me long seat in
+  acts_path hand last held doer after trace steps acts me long seat is left =
+      let acted = acting_path hand last held doer after trace steps acts me long seat in
       comes_at count who doer.party after.party after.context.standing trace steps seat is
       (subst (λ (standing : Standing). Comes count who after.party after.context.standing trace steps
       (record seat { party = doer.party; standing = standing })) (sym left)

@@ -18,9 +18,9 @@ use Rattle.hp_maps.specs.MapsView.{MapsView}
 use Rattle.hp_segs.specs.SegsView.{SegsView, is_member}
 use Rattle.hp_serve.specs.Coordinating.{IsAnswered, IsCarried, IsCoreServed, IsHanded, IsHandled, IsMapped, IsObeyed, IsPolled, IsRested, IsServed, IsSettled, loads_of, stepping, with_core}
 use Rattle.hp_serve.specs.Party.{Party, after_reply}
-use Rattle.hp_serve.specs.Serving.{IsFollowed, IsHeeded, IsMemberServed, IsTold, Obeys, acks_behind, after_catching_up, gives_segments, hearing, takes_segments}
+use Rattle.hp_serve.specs.Serving.{IsFollowed, IsHeeded, IsMemberServed, IsTold, Obeys, after_catching_up, gives_segments, hearing, takes_segments, tells_behind}
 use Rattle.hp_joint.specs.Seats.{Handles, Knows, Mails, Path, Quietly, Seat, seated}
-use Rattle.hp_joint.proofs.Paths.{Serves, ServesFrom, held_notes, noted_of, path_handle, path_mail, path_notes, path_quiet, path_then, serves_behind, serves_here, serves_noted, serves_notes, serves_quietly, serves_then, serves_to}
+use Rattle.hp_joint.proofs.Paths.{Serves, ServesFrom, path_handle, path_mail, path_notes, path_quiet, path_then, serves_behind, serves_here, serves_noted, serves_notes, serves_quietly, serves_then, serves_to, told_notes, told_of}
 use Rattle.hp_joint.proofs.PathsPosting.{posted_path}
 
 -- where it was taken and this done
@@ -46,15 +46,15 @@ handed_stepped event core next taken more answer (IsHanded.no_room did next_is i
 
 -- what it notes before its step, for which it has caught up
 abbrev before_mapped : Caught → ℕ → ℕ → ℕ → List Note
-before_mapped caught records own now = noted_of caught records ++ (Loaded 0 own ∷ Read now ∷ [])
+before_mapped caught records own now = told_of caught records ++ (Loaded 0 own ∷ Read now ∷ [])
 
 -- so its notes stand between the taking and the giving
 noted_and : (caught : Caught) (records own now : ℕ) (more given : List MailStep) → more ≡ given
-    → acks_behind caught records ++ (Notes (Loaded 0 own) ∷ Notes (Read now) ∷ more)
+    → tells_behind caught records ++ (Notes (Loaded 0 own) ∷ Notes (Read now) ∷ more)
     ≡ map Notes (before_mapped caught records own now) ++ given
 noted_and caught records own now more given is =
-    ap (λ (more : List MailStep). acks_behind caught records ++ (Notes (Loaded 0 own) ∷ Notes (Read now) ∷ more)) is
-    ∙ held_notes caught records (Loaded 0 own ∷ Read now ∷ []) given
+    ap (λ (more : List MailStep). tells_behind caught records ++ (Notes (Loaded 0 own) ∷ Notes (Read now) ∷ more)) is
+    ∙ told_notes caught records (Loaded 0 own ∷ Read now ∷ []) given
 
 module _ (count who : ℕ) (primary : who ≡ 0) where
   -- it catches up for its coordinator
@@ -232,10 +232,10 @@ module _ (count who : ℕ) where
       let did =
       taken_and taken (takes_segments taken ∷ more) more _ refl
       (obeys.done
-      ∙ given_and (acks_behind obeys.caught records) (after_catching party.me obeys.caught taken)
+      ∙ given_and (tells_behind obeys.caught records) (after_catching party.me obeys.caught taken)
       (after_catching who obeys.caught taken) obeys.reply _
       (ap (λ (n : ℕ). after_catching n obeys.caught taken) me) obeys.replied.posts
-      ∙ held_notes obeys.caught records [] _) in
+      ∙ told_notes obeys.caught records [] _) in
       serves_to count who party new after _ (takes_segments taken ∷ more) seat obeys.after_is did
       (record {
         behind = seat;
@@ -245,7 +245,7 @@ module _ (count who : ℕ) where
         standing = refl;
         trace = refl;
         path = Path.handles (seated party seat) (seated mid seat) (seated new seat) taken (after_catching who obeys.caught taken)
-            (noted_of obeys.caught records ++ []) _ handles speaks;
+            (told_of obeys.caught records ++ []) _ handles speaks;
       })
 
   followed_path : (party after : Party) (taken : SegsView) (more : List MailStep) → party.me ≡ who → IsFollowed party after taken more true

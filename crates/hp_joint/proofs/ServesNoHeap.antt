@@ -16,7 +16,7 @@ use Rattle.hp_segs.specs.SegsView.{SegsView}
 use Rattle.hp_serve.specs.Coordinating.{IsAnswered, IsCarried, IsCoreServed, IsHanded, IsHandled, IsMapped, IsObeyed, IsPolled, IsRested, IsServed, IsSettled, loads_of}
 use Rattle.hp_serve.specs.Party.{Party}
 use Rattle.hp_serve.specs.Posting.{AreTold, IsPosted, IsToldOne, is_told, syncs_after}
-use Rattle.hp_serve.specs.Serving.{IsFollowed, IsHeeded, IsMemberServed, IsTold, acks_behind}
+use Rattle.hp_serve.specs.Serving.{IsFollowed, IsHeeded, IsMemberServed, IsTold, tells_behind}
 use Rattle.hp_solo.specs.Served.{ServesOn}
 use Rattle.hp_joint.proofs.HeapGivers.{GiveNoHeap, IsNoGive}
 
@@ -81,10 +81,10 @@ is_posted count party after answer steps (IsPosted.nobody to number what good is
 
 -- WHAT IS NOTED
 
-acks_none : (caught : Caught) (records : ℕ) → GiveNoHeap (acks_behind caught records)
-acks_none caught.Done records = (tt, tt)
-acks_none (caught.Refused row call) records = tt
-acks_none (caught.Elsewhere row call got) records = tt
+tells_none : (caught : Caught) (records : ℕ) → GiveNoHeap (tells_behind caught records)
+tells_none caught.Done records = (tt, tt)
+tells_none (caught.Refused row call) records = (tt, tt)
+tells_none (caught.Elsewhere row call got) records = (tt, tt)
 
 noted_if : (is : Bool) (note : Note) → GiveNoHeap (if is then Notes note ∷ [] else [])
 noted_if true note = (tt, tt)
@@ -111,7 +111,7 @@ mapped party after steps answer (IsMapped.maps core next taken caught table own 
     record {
       none = subst GiveNoHeap (sym did) (
         tt,
-        none_both (acks_behind caught (length taken.log)) _ (acks_none caught (length taken.log))
+        none_both (tells_behind caught (length taken.log)) _ (tells_none caught (length taken.log))
             (tt, (tt, handed _ core next taken more answer is_handed)),
       );
       joined = λ joined. ap (λ (party : Party). party.joined) after_is ∙ still_true party.joined (is_done caught) joined;
@@ -188,7 +188,7 @@ followed : (party after : Party) (taken : SegsView) (more : List MailStep) → I
     → Leaves party after more
 followed party after taken more (IsFollowed.obeys member obeys is) = record {
   none = subst GiveNoHeap (sym obeys.done)
-      (none_both (acks_behind obeys.caught (length taken.log)) _ (acks_none obeys.caught (length taken.log))
+      (none_both (tells_behind obeys.caught (length taken.log)) _ (tells_none obeys.caught (length taken.log))
       (tt, (subst IsNoGive (sym obeys.replied.posts) tt, tt)));
   joined = λ joined. ap (λ (party : Party). party.joined) obeys.after_is ∙ still_true party.joined (is_done obeys.caught) joined;
 }
