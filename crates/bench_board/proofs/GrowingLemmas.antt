@@ -20,8 +20,7 @@ use Rattle.hp_segs.specs.Steps.{after_agree, after_open, after_reserve}
 use Rattle.hp_segs.specs.declared.ask.Ask.{Ask}
 use Rattle.hp_base.specs.declared.row.Run.{Run}
 use Rattle.hp_segs.proofs.Moves.{calls_move, moves_compose, moves_stay}
-use Rattle.hp_hall.specs.Giving.{AgreesBy}
-use Rattle.hp_board.specs.SegsGives.{Giver, SegsGive, IsRosterGive, enrols, logs}
+use Rattle.hp_hall.specs.SegsGives.{AgreesBy, Giver, SegsGive, IsRosterGive, enrols, logs}
 use Rattle.hp_hall.specs.declared.kept.Kept.{Kept}
 use Rattle.hp_hall.specs.declared.kept.Kept.TheVariants.{Segments}
 use Rattle.hp_board.specs.Giving.{MayGive, giver_of}

@@ -3,7 +3,7 @@ use Rattle.std.specs.Prelude.{◌≡◌, ℕ, ◌<◌, ◌≤◌, List, [], ◌�
 use Rattle.atomic_table.specs.Seated.{TableId}
 use Rattle.hp_segs.specs.SegsView.{SegsView}
 use Rattle.hp_segs.specs.Sound.{IsSound}
-use Rattle.hp_board.specs.SegsGives.{IsRosterGive}
+use Rattle.hp_hall.specs.SegsGives.{IsRosterGive}
 use Rattle.hp_hall.specs.declared.kept.Kept.TheVariants.{Segments}
 use Rattle.hp_board.specs.SeatView.{SeatView}
 use Rattle.hp_board.specs.declared.view.Mine.{Mine}

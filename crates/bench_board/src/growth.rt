@@ -1,7 +1,6 @@
 ghost use Rattle.std.specs.Prelude.{◌≡◌, ℕ, ◌+◌, ◌^◌, ◌<◌, ◌≤◌, true, length, slice_index};
 ghost use Rattle.hp_segs.specs.Moved.{IsMovedBy, is_log_call};
-ghost use Rattle.hp_hall.specs.Giving.{AgreesBy};
-ghost use Rattle.hp_board.specs.SegsGives.{SegsGive};
+ghost use Rattle.hp_hall.specs.SegsGives.{AgreesBy, SegsGive};
 ghost use Rattle.hp_board.specs.Giving.{giver_of};
 ghost use Rattle.hp_board.specs.Views.{noted_of};
 ghost use Rattle.hp_segs.specs.Calls.{IsUnnotedGrowth};

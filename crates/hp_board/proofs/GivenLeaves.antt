@@ -9,7 +9,7 @@ use Rattle.hp_segs.specs.declared.outcome.AskLog.{AskLog}
 use Rattle.hp_segs.specs.Sound.{IsSound}
 use Rattle.hp_segs.proofs.Appending.{moves_append}
 use Rattle.hp_segs.proofs.FormCalls.{log_form_leaves, owner_form_leaves, roster_form_leaves}
-use Rattle.hp_board.specs.SegsGives.{Giver, IsLogGive, IsOwnerGive, IsRosterGive, SegsGive, logs, enrols, owns}
+use Rattle.hp_hall.specs.SegsGives.{Giver, IsLogGive, IsOwnerGive, IsRosterGive, SegsGive, logs, enrols, owns}
 use Rattle.hp_board.specs.Left.{IsLeft}
 use Rattle.hp_board.proofs.Fronts.{front_same}
 

@@ -12,8 +12,7 @@ use Rattle.hp_heap.proofs.HistoryLaw.{IsSameHeap, after-same}
 use Rattle.hp_hall.specs.declared.kept.Kept.{Kept}
 use Rattle.hp_hall.specs.declared.kept.Kept.TheVariants.{Heap, Segments}
 use Rattle.hp_board.specs.declared.view.Mine.{Mine}
-use Rattle.hp_hall.specs.Giving.{AgreesBy}
-use Rattle.hp_board.specs.SegsGives.{Giver, SegsGive, logs}
+use Rattle.hp_hall.specs.SegsGives.{AgreesBy, Giver, SegsGive, logs}
 use Rattle.hp_segs.specs.SegsView.{SegsView}
 use Rattle.hp_segs.specs.declared.outcome.AskLog.{AskLog}
 use Rattle.hp_board.specs.Giving.{Gives, MayGive, giver_of}

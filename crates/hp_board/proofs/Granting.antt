@@ -14,7 +14,7 @@ use Rattle.hp_segs.specs.Steps.{after_agree, agreed_growth, granted_unless, is_b
 use Rattle.hp_segs.specs.declared.fault.NotAll.{NotAll}
 use Rattle.hp_segs.specs.declared.growth.Growth.{Growth}
 use Rattle.hp_segs.specs.declared.outcome.AskLog.{AskLog}
-use Rattle.hp_hall.specs.Giving.{AgreesBy}
+use Rattle.hp_hall.specs.SegsGives.{AgreesBy}
 use Rattle.hp_board.proofs.Gives.{agrees_same}
 
 -- what agrees by some numbers agrees by greater ones

@@ -19,7 +19,7 @@ use Rattle.hp_segs.specs.declared.outcome.Outcome.TheVariants.{Granted, Refused,
 use Rattle.hp_segs.specs.declared.row_state.Segment.{Segment}
 use Rattle.hp_segs.proofs.GrantedRows.{rows_are_granted}
 use Rattle.hp_hall.specs.Own.{rows_known}
-use Rattle.hp_board.specs.SegsGives.{Giver}
+use Rattle.hp_hall.specs.SegsGives.{Giver}
 use Rattle.hp_hall.proofs.StandingLists.{any_contained, found_in}
 use Rattle.hp_board.specs.Agreement.{HasInUse, HasTakenIn}
 use Rattle.hp_board.specs.Left.{IsLeft}

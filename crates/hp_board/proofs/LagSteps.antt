@@ -4,7 +4,7 @@ use Rattle.std.specs.Option.{is_some}
 use Rattle.hp_base.specs.declared.limits.TheConstants.{MAX_HEAPS}
 use Rattle.hp_heap.specs.History.{HeapView}
 use Rattle.hp_segs.specs.SegsView.{SegsView, is_member}
-use Rattle.hp_board.specs.SegsGives.{Giver}
+use Rattle.hp_hall.specs.SegsGives.{Giver}
 use Rattle.hp_hall.specs.declared.kept.Kept.{Kept}
 use Rattle.hp_hall.specs.declared.kept.Kept.TheVariants.{Heap, Segments}
 use Rattle.hp_board.specs.KeptValues.{IsKeptAt}

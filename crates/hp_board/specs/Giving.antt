@@ -1,6 +1,6 @@
 -- What may be given back in place of what was taken: the rule "Giving" of docs/BOARD.md.
 use Rattle.std.specs.Prelude.{◌≡◌, ℕ, length, Some}
-use Rattle.hp_board.specs.SegsGives.{Giver, SegsGive}
+use Rattle.hp_hall.specs.SegsGives.{Giver, SegsGive}
 use Rattle.hp_hall.specs.declared.kept.Kept.{Kept}
 use Rattle.hp_hall.specs.declared.kept.Kept.TheVariants.{Heap, Segments}
 use Rattle.hp_board.specs.KeptValues.{GivesHeap}

@@ -2,7 +2,7 @@
 use Rattle.std.specs.Prelude.{◌≡◌, ◌≢◌, ◌⊎◌, ℕ, ◌≤◌, true, length, Contains, Some}
 use Rattle.hp_segs.specs.SegsView.{SegsView, granted_by, is_member}
 use Rattle.hp_segs.specs.declared.outcome.AskLog.{AskLog}
-use Rattle.hp_board.specs.SegsGives.{Giver}
+use Rattle.hp_hall.specs.SegsGives.{Giver}
 use Rattle.hp_board.specs.Views.{BeginsWith}
 
 -- log and outcomes begin with the taken ones, the others are in the roster where they were, each new grant was taken in by the members as

@@ -2,7 +2,6 @@ pub mod KeptValues
 pub mod Views
 pub mod Parts
 pub mod Handed
-pub mod SegsGives
 pub mod Giving
 pub mod Words
 pub mod Lag
