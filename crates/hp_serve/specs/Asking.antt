@@ -4,7 +4,7 @@ use Rattle.hp_base.specs.declared.row.Run.{Run}
 use Rattle.hp_frame.specs.declared.message.Body.{Body}
 use Rattle.hp_frame.specs.declared.message.Body.TheVariants.{Alloc, Free}
 use Rattle.hp_hall.specs.Asks.{IsKnownSettled}
-use Rattle.hp_hall.specs.Holding.{HasPages, HeapPart}
+use Rattle.hp_hall.specs.Holding.{HasPages, HeapPart, IsSettledFor}
 use Rattle.hp_segs.specs.Standing.{Holding}
 use Rattle.hp_heap.specs.Growing.{CanGrow, after_grow, run_bytes}
 use Rattle.hp_heap.specs.Laws.{IsRunCut}
@@ -44,7 +44,7 @@ next_number asked asks who = max asked (closed_number asks who) + 1
 
 -- a participant's asks are settled: of that with which it is armed, where there is one, it knows so
 abbrev pub HasSettledAsks : (ℕ → HeapPart) → List AskLog → Type 0
-HasSettledAsks parts heard = (heap : ℕ) (ask : Ask) → (parts heap).armed ≡ Some ask → IsKnownSettled heard (parts ask.heap).holding ask
+HasSettledAsks parts heard = (heap : ℕ) → IsSettledFor heap heard (parts heap)
 
 -- a participant is armed with the ask, and no heap that it holds has claimed anything for that number
 pub record IsArmedWith (ask : Ask) (parts : ℕ → HeapPart) : Type 0 where

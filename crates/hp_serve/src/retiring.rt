@@ -4,9 +4,9 @@ ghost use Rattle.hp_segs.specs.Standing.{Holding};
 ghost use Rattle.hp_heap.specs.PlainHeap.{PlainHeap};
 ghost use Rattle.hp_segs.specs.SegsView.{SegsView};
 ghost use Rattle.hp_segs.specs.Steps.{after_retire};
-ghost use Rattle.hp_serve.specs.Asking.{GivesUp, IsCutFrom};
+ghost use Rattle.hp_serve.specs.Asking.{GivesUp, HasSettledAsks, IsCutFrom};
 ghost use Rattle.hp_serve.specs.Serving.{gives_segments, takes_segments};
-ghost use Rattle.hp_hall.specs.HallState.{Did};
+ghost use Rattle.hp_hall.specs.HallState.{Did, HasMapped};
 ghost use Rattle.hp_serve.specs.SegmentSlot.{MayHold, StaysButParts};
 
 use crate::calls::{give_back, take_segments};
@@ -22,6 +22,9 @@ pub(crate) fn retire_run<H: Hall>(hall: &mut H, me: u8, heap: u32, run: &Run)
     ensures others { (other : ℕ) → other ≢ heap → (H.state hall.new).part me other ≡ (H.state hall.old).part me other }
     ensures did { (taken : SegsView) × Did me (takes_segments taken ∷ gives_segments (after_retire heap run.now taken) ∷ [])
         (H.state hall.old) (H.state hall.new) }
+    ensures settled { HasSettledAsks ((H.state hall.old).part me) ((H.state hall.old).heard me)
+        → HasSettledAsks ((H.state hall.new).part me) ((H.state hall.new).heard me) }
+    ensures mapped { HasMapped me (H.state hall.new) }
     ensures stays { StaysButParts me (H.state hall.old) (H.state hall.new) }
     ensures goes_on { H.goes_on hall.old hall.new }
 {

@@ -9,13 +9,13 @@ ghost use Rattle.hp_mail.specs.declared.posted.Posted.{Posted};
 ghost use Rattle.hp_heap.specs.PlainHeap.{PlainHeap};
 ghost use Rattle.hp_segs.specs.SegsView.{SegsView};
 ghost use Rattle.hp_segs.specs.Steps.{after_retire};
-ghost use Rattle.hp_serve.specs.Asking.{GivesUp, IsCutFrom, free_body};
+ghost use Rattle.hp_serve.specs.Asking.{GivesUp, HasSettledAsks, IsCutFrom, free_body};
 ghost use Rattle.hp_serve.specs.AskSteps.{DoesNotify};
 ghost use Rattle.hp_serve.specs.Clocks.{RisesWithin, longest_wait};
 ghost use Rattle.hp_serve.specs.Frames.{Says};
 ghost use Rattle.hp_serve.specs.Party.{after_free, one_more};
 ghost use Rattle.hp_serve.specs.Serving.{gives_segments, takes_segments};
-ghost use Rattle.hp_hall.specs.HallState.{Did, IsBusy, Stays};
+ghost use Rattle.hp_hall.specs.HallState.{Did, HasMapped, IsBusy, Stays};
 ghost use Rattle.hp_serve.specs.InHall.{CanServe, IsTiedIn, StaysIn};
 ghost use Rattle.hp_serve.specs.SegmentSlot.{MayHold, StaysButParts};
 
@@ -39,6 +39,11 @@ impl<'p, M: Mapper> Server<'p, M> {
             ≡ (H.state hall.old).part self.now.me other }
         ensures did { (taken : SegsView) × Did self.now.me (takes_segments taken
             ∷ gives_segments (after_retire heap run.now taken) ∷ []) (H.state hall.old) (H.state hall.new) }
+
+        // Its asks stay settled, and where it is in the roster its table has the pages of the heaps that it holds.
+        ensures settled { HasSettledAsks ((H.state hall.old).part self.now.me) ((H.state hall.old).heard self.now.me)
+            → HasSettledAsks ((H.state hall.new).part self.now.me) ((H.state hall.new).heard self.now.me) }
+        ensures mapped { HasMapped self.now.me (H.state hall.new) }
         ensures stays { StaysButParts self.now.me (H.state hall.old) (H.state hall.new) }
         ensures goes_on { H.goes_on hall.old hall.new }
     {
