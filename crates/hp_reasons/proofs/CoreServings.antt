@@ -20,11 +20,11 @@ use Rattle.hp_serve.specs.Coordinating.{IsAnswered, IsCarried, IsCoreServed, IsH
 use Rattle.hp_serve.specs.Falling.{IsDue}
 use Rattle.hp_serve.specs.Frames.{Says}
 use Rattle.hp_serve.specs.Party.{Party, due_in}
-use Rattle.hp_serve.specs.Serving.{CatchesUp, acks_behind}
+use Rattle.hp_serve.specs.Serving.{CatchesUp, tells_behind}
 use Rattle.hp_reasons.specs.Servings.{CarriesOut, CoordinatesSo, CoreServes, Handles, MapsItself, Polls, Steps, numbered}
 use Rattle.hp_reasons.specs.Shared.{MakesAll, Shared, fetched_by}
 use Rattle.hp_reasons.proofs.Postings.{posted}
-use Rattle.hp_reasons.proofs.Sharing.{acked, cut_at, fetched_one, found_nothing, gave, loaded, numbered_clock, numbered_segs, read_clock, took}
+use Rattle.hp_reasons.proofs.Sharing.{cut_at, fetched_one, found_nothing, gave, loaded, numbered_clock, numbered_segs, read_clock, told_behind, took}
 
 -- WHAT ITS COORDINATOR DOES
 
@@ -49,12 +49,12 @@ mapped party after steps answer old new
     (IsMapped.maps core next taken ended table own now more there did caught_up is_handed after_is) makes =
     let rest : List MailStep = Notes (Loaded 0 own) ∷ Notes (Read now) ∷ more in
     let had =
-    took 0 taken (acks_behind ended (length taken.log) ++ rest) old new
+    took 0 taken (tells_behind ended (length taken.log) ++ rest) old new
     (subst (λ (steps : List MailStep). MakesAll 0 steps old new) did makes) in
     let mid = numbered 0 ended old in
     let noted =
-    acked 0 ended rest old new
-    (subst (λ (segs : SegsView). MakesAll 0 (acks_behind ended (length segs.log) ++ rest) old new) had.0 had.1) in
+    told_behind 0 ended rest old new
+    (subst (λ (segs : SegsView). MakesAll 0 (tells_behind ended (length segs.log) ++ rest) old new) had.0 had.1) in
     let read = read_clock 0 now more mid new (loaded 0 0 own (Notes (Read now) ∷ more) mid new noted) in
     let same : taken ≡ mid.segs = had.0 ∙ sym (numbered_segs 0 ended old) in
     let reading : now ≡ old.clock = read.0 ∙ numbered_clock 0 ended old in

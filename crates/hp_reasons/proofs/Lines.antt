@@ -1,6 +1,6 @@
 -- What a participant does of its line leads from a quiet world to a quiet one, in which it owes word of a run, or not: it walks over all
 -- that it did.
-use Rattle.std.proofs.Common.{◌≡◌, ◌≢◌, ◌∙◌, ℕ, ◌≤◌, ◌<◌, ◌^◌, Bool, true, false, ◌||◌, List, [], ◌∷◌, ◌++◌, length, count_by, inl, inr, refl, sym, ap, subst, arith}
+use Rattle.std.proofs.Common.{◌≡◌, ◌≢◌, ◌∙◌, ℕ, ◌≤◌, ◌<◌, ◌^◌, Bool, true, false, ◌||◌, List, [], ◌∷◌, ◌++◌, length, count_by, Option, inl, inr, refl, sym, ap, subst, arith}
 use Rattle.std.specs.List.{list_any}
 use Rattle.std.proofs.lemmas.Bool.{cases_Bool}
 use Rattle.std.proofs.lemmas.List.Folds.{list_any-append}
@@ -138,11 +138,11 @@ module _ (quietly : AreWaitsQuiet) (set : Setting) (me : ℕ) (is_set : IsSettin
       same)
 
   -- while it is out, what it does but for an attach leaves it out
-  still_out : (old between : SoloView) (doer mid : ParticipantView) (world : World) (first : List Done) (before : List MailStep)
-      → IsWorldOf old me doer.party world → IsQuietWorld set world → Acts set.count doer mid first before → Sequence me old before between
+  still_out : (hand last : Option ℕ) (held : List ℕ) (old between : SoloView) (doer mid : ParticipantView) (world : World) (first : List Done) (before : List MailStep)
+      → IsWorldOf old me doer.party world → IsQuietWorld set world → Acts set.count hand last held doer mid first before → Sequence me old before between
       → (owes : Bool) → LeadsTo (IsQuietOwing set owes) between me mid.party → doer.party.joined ≡ false → list_any is_looked first ≡ false
       → mid.party.joined ≡ false
-  still_out old between doer mid world first before its quiet here sequence owes behind out nothing =
+  still_out hand last held old between doer mid world first before its quiet here sequence owes behind out nothing =
       let place = quiet.base.places me doer.party its.own in
       let is_out : is_member world.shared.segs.roster me ≡ false = place.joined ∙ out in
       let secondary : me ≢ 0 =
@@ -151,59 +151,59 @@ module _ (quietly : AreWaitsQuiet) (set : Setting) (me : ℕ) (is_set : IsSettin
       subst (λ (n : ℕ). is_member world.shared.segs.roster n ≡ true) (sym zero) quiet.base.primary in
       cc) in
       let now =
-      out_stays set.count me secondary doer mid first before old between place.me here nothing sequence
+      out_stays set.count me secondary hand last held doer mid first before old between place.me here nothing sequence
       (hall_out old me doer.party world its is_out) in
       sym (behind.holds.quiet.base.places me mid.party behind.its.own).joined ∙ world_out between me mid.party behind.world behind.its now
 
-  walks : (doer after : ParticipantView) (trace : List Done) (steps : List MailStep) → Acts set.count doer after trace steps → (old new : SoloView)
-      (world : World) → IsWorldOf old me doer.party world → (owes left : Bool) → IsQuietOwing set owes world → new.plain.clock ≤ 2 ^ 62
+  walks : (hand last : Option ℕ) (held : List ℕ) (doer after : ParticipantView) (trace : List Done) (steps : List MailStep)
+      → Acts set.count hand last held doer after trace steps → (old new : SoloView) (world : World) → IsWorldOf old me doer.party world → (owes left : Bool) → IsQuietOwing set owes world → new.plain.clock ≤ 2 ^ 62
       → Sequence me old steps new → AttachesOnce doer.party trace → Owes owes trace left → LeadsTo (IsQuietOwing set left) new me after.party
-  walks doer after trace steps (Acts.nothing _) old new world its owes left owing early sequence once pays =
+  walks _ _ _ doer after trace steps (Acts.nothing _ _) old new world its owes left owing early sequence once pays =
       knows_more old new doer.party doer.party world [] its owes left owing (owes_still owes left pays) sequence tt (λ own. own.along.made)
       (record { me = refl; deadline = refl; plan = refl; core = refl; asked = refl; sent = refl; calls = omega arith })
       (record { joined = refl; maps = refl })
-  walks doer _ trace steps (Acts.waits_turn until _ after moved _ turned) old new world its owes left owing early sequence once pays =
+  walks _ _ _ doer _ trace steps (Acts.waits_turn until _ after moved _ turned) old new world its owes left owing early sequence once pays =
       left_as left owes new after (owes_still owes left pays)
       (quietly.turns quietly.known set until me owes old new doer.party after moved steps world is_set its owing
       (not_above world.shared.clock old.plain.clock new.plain.clock (2 ^ 62) its.shared.clock
       (clock_rises me steps old new sequence
-      (acts_timed set.count doer _ [] steps (Acts.waits_turn until doer after moved steps turned))) early) sequence turned)
-  walks doer after trace steps (Acts.takes_heap _ heap) old new world its owes left owing early sequence once pays =
+      (acts_timed set.count _ _ _ doer _ [] steps (Acts.waits_turn until doer after moved steps turned))) early) sequence turned)
+  walks _ _ _ doer after trace steps (Acts.takes_heap _ heap) old new world its owes left owing early sequence once pays =
       knows_more old new doer.party doer.party world steps its owes left owing (owes_still owes left pays) sequence (tt, tt)
       (λ own. own.along.made.2 ∙ own.along.made.1)
       (record { me = refl; deadline = refl; plan = refl; core = refl; asked = refl; sent = refl; calls = omega arith })
       (record { joined = refl; maps = refl })
-  walks doer after trace steps (Acts.gives_heap _ heap) old new world its owes left owing early sequence once pays =
+  walks _ _ _ doer after trace steps (Acts.gives_heap _ heap) old new world its owes left owing early sequence once pays =
       knows_more old new doer.party doer.party world steps its owes left owing (owes_still owes left pays) sequence (tt, tt)
       (λ own. own.along.made.2 ∙ own.along.made.1)
       (record { me = refl; deadline = refl; plan = refl; core = refl; asked = refl; sent = refl; calls = omega arith })
       (record { joined = refl; maps = refl })
-  walks doer after trace steps (Acts.makes_call _ heap call answer none) old new world its owes left owing early sequence once pays =
+  walks _ _ _ doer after trace steps (Acts.makes_call _ heap call answer none) old new world its owes left owing early sequence once pays =
       knows_more old new doer.party after.party world [] its owes left owing (owes_no_more owes left heap call answer none pays) sequence tt
       (λ own. own.along.made)
       (record { me = refl; deadline = refl; plan = refl; core = refl; asked = refl; sent = refl; calls = omega arith })
       (record { joined = refl; maps = refl })
-  walks doer after trace steps (Acts.cuts_run _ heap addr run taken) old new world its owes left owing early sequence once pays =
+  walks _ _ _ doer after trace steps (Acts.cuts_run _ heap addr run taken) old new world its owes left owing early sequence once pays =
       let own = own_calls old new doer.party world steps its sequence (tt, (tt, tt)) in
       left_as left true new after.party (owes_cut owes left heap addr run pays)
       (cuts set me old new doer.party after.party world its owes owing own.servers own.along.order
       (record { me = refl; deadline = refl; plan = refl; core = refl; asked = refl; sent = refl; calls = omega arith }) own.along.at
       own.along.shared heap run taken own.along.made (record { joined = refl; maps = refl }))
-  walks doer _ trace steps (Acts.asks_pages _ after asked run _ does) old new world its owes left owing early sequence once pays =
+  walks _ _ _ doer _ trace steps (Acts.asks_pages _ after asked run _ does) old new world its owes left owing early sequence once pays =
       let does_so = owes_once owes left (Asked asked run) pays in
       left_as left false new after (does_so.left_is ∙ does_so.may)
       (quietly.asks quietly.known set me old new doer.party after asked run steps world is_set its
       (subst (λ (owes : Bool). IsQuietOwing set owes world) does_so.may owing)
       (not_above world.shared.clock old.plain.clock new.plain.clock (2 ^ 62) its.shared.clock
       (clock_rises me steps old new sequence
-      (acts_timed set.count doer _ trace steps (Acts.asks_pages doer after asked run steps does))) early) sequence does)
-  walks doer _ trace steps (Acts.notifies_run _ after heap run _ does) old new world its owes left owing early sequence once pays =
+      (acts_timed set.count _ _ _ doer _ trace steps (Acts.asks_pages doer after asked run steps does))) early) sequence does)
+  walks _ _ _ doer _ trace steps (Acts.notifies_run _ after heap run _ does) old new world its owes left owing early sequence once pays =
       left_as left false new after (owes_once owes left (GaveUp heap run) pays).left_is
       (quietly.notifies quietly.known set me heap old new doer.party after run steps world is_set its owing.quiet
       (not_above world.shared.clock old.plain.clock new.plain.clock (2 ^ 62) its.shared.clock
       (clock_rises me steps old new sequence
-      (acts_timed set.count doer _ trace steps (Acts.notifies_run doer after heap run steps does))) early) sequence does)
-  walks doer _ trace steps (Acts.attaches _ mid taken ended tries) old new world its owes left owing early sequence once pays =
+      (acts_timed set.count _ _ _ doer _ trace steps (Acts.notifies_run doer after heap run steps does))) early) sequence does)
+  walks _ _ _ doer _ trace steps (Acts.attaches _ mid taken ended tries) old new world its owes left owing early sequence once pays =
       let given = gives_segments (after_attaching doer.party.me ended taken) ∷ [] in
       let own =
       own_calls old new doer.party world steps its sequence
@@ -217,7 +217,7 @@ module _ (quietly : AreWaitsQuiet) (set : Setting) (me : ℕ) (is_set : IsSettin
       world.shared own.along.at)
       (owing.quiet.base.places me doer.party its.own).me own.along.made)
       (out_before doer.party _ _ refl once) (tried_so doer.party mid taken.log ended tries))
-  walks doer after trace steps (Acts.detaches _ taken secondary) old new world its owes left owing early sequence once pays =
+  walks _ _ _ doer after trace steps (Acts.detaches _ taken secondary) old new world its owes left owing early sequence once pays =
       let own = own_calls old new doer.party world steps its sequence (tt, (tt, tt)) in
       left_as left owes new after.party (owes_still owes left pays)
       (leaves set me old new doer.party after.party world its owes owing own.servers own.along.order
@@ -225,24 +225,24 @@ module _ (quietly : AreWaitsQuiet) (set : Setting) (me : ℕ) (is_set : IsSettin
       own.along.shared (has_place old doer.party world its owing.quiet) taken
       (subst (λ (who : ℕ). MakesAll me (takes_segments taken ∷ gives_segments (after_leave who taken) ∷ []) world.shared own.along.at)
       (owing.quiet.base.places me doer.party its.own).me own.along.made) refl)
-  walks doer after trace steps (Acts.notes_left _ elements) old new world its owes left owing early sequence once pays =
+  walks _ _ _ doer after trace steps (Acts.notes_left _ elements) old new world its owes left owing early sequence once pays =
       knows_more old new doer.party after.party world [] its owes left owing (owes_still owes left pays) sequence tt (λ own. own.along.made)
       (record { me = refl; deadline = refl; plan = refl; core = refl; asked = refl; sent = refl; calls = omega arith })
       (record { joined = refl; maps = refl })
-  walks doer after _ steps (Acts.and_then _ mid _ first rest before behind here next) old new world its owes left owing early sequence once
-      pays =
+  walks _ _ _ doer after _ steps (Acts.and_then hand between last held more _ mid _ first rest before behind here next) old new world its owes
+      left owing early sequence once pays =
       let cut = cut_in me old new steps before behind refl sequence in
-      let rises = clock_rises me behind cut.mid new cut.ends (acts_timed set.count mid after rest behind next) in
+      let rises = clock_rises me behind cut.mid new cut.ends (acts_timed set.count between last more mid after rest behind next) in
       let both = owes_both owes left first rest pays in
       let begins =
-      walks doer mid first before here old cut.mid world its owes both.mid owing
+      walks hand between held doer mid first before here old cut.mid world its owes both.mid owing
       (not_above cut.mid.plain.clock cut.mid.plain.clock new.plain.clock (2 ^ 62) refl rises early) cut.begins
       (first_once doer.party first rest once) both.begins in
-      walks mid after rest behind next cut.mid new begins.world begins.its both.mid left begins.holds early cut.ends
+      walks between last more mid after rest behind next cut.mid new begins.world begins.its both.mid left begins.holds early cut.ends
       (rest_once doer.party mid.party first rest once
-      (still_out old cut.mid doer mid world first before its owing.quiet here cut.begins both.mid begins)) both.ends
+      (still_out hand between held old cut.mid doer mid world first before its owing.quiet here cut.begins both.mid begins)) both.ends
 
 -- so it is
 pub acts_in_quiet : ActsInQuiet
-acts_in_quiet quietly set me owes left old new doer after trace steps world is_set its owing early sequence once pays acts =
-    walks quietly set me is_set doer after trace steps acts old new world its owes left owing early sequence once pays
+acts_in_quiet quietly set me owes left old new hand last held doer after trace steps world is_set its owing early sequence once pays acts =
+    walks quietly set me is_set hand last held doer after trace steps acts old new world its owes left owing early sequence once pays

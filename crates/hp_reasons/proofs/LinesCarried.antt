@@ -7,7 +7,7 @@ use Rattle.hp_base.specs.declared.caught.Caught.TheVariants as caught
 use Rattle.hp_plain.specs.HallSteps.{after_pause, with_note}
 use Rattle.hp_hall.specs.Mail.{Fetches, Gives, MailStep, Notes, Posts, Takes}
 use Rattle.hp_hall.specs.declared.note.Note.{Note}
-use Rattle.hp_hall.specs.declared.note.Note.TheVariants.{Acked, Loaded, Paused, Read, Yielded}
+use Rattle.hp_hall.specs.declared.note.Note.TheVariants.{Acked, Loaded, Paused, Read, Unmapped, Yielded}
 use Rattle.hp_proc.specs.Acting.{Acts}
 use Rattle.hp_serve.specs.Attaching.{after_attaching}
 use Rattle.hp_proc.specs.Doing.{Done}
@@ -22,7 +22,6 @@ use Rattle.hp_reasons.proofs.TurnsCalls.{served_calls}
 -- it holds behind what others do, and behind one's own calls, by the steps that are left
 pub record IsCarried (me : ℕ) (Holds : SoloView → Type 0) (Left : List MailStep → Type 0) : Type 0 where
   pub others : (who : ℕ) (moved : Bool) (old new : SoloView) → who ≢ me → ServesOnce who moved old new → Holds old → Holds new
-  pub tells : (old new : SoloView) → IsMadeBy me [] old.plain new.plain → new.plain.clock ≡ old.plain.clock → Holds old → Holds new
   pub calls : (step : MailStep) (steps : List MailStep) (old new : SoloView) → IsCall step → IsMadeBy me (step ∷ []) old.plain new.plain
       → new.plain.clock ≡ old.plain.clock → Left (step ∷ steps) → Holds old → Holds new × Left steps
   pub yields : (above moved : Bool) (steps : List MailStep) (hall : SoloView) → Left (Notes (Yielded above (Some moved)) ∷ steps)
@@ -80,8 +79,6 @@ module _ (me : ℕ) (Holds : SoloView → Type 0) (Left : List MailStep → Type
   sequence_carried _ old new (Sequence.goes_on _ mid _ step steps makes more) left holds =
       let behind = makes_carried step steps old mid makes left holds in
       sequence_carried steps mid new more behind.1 behind.0
-  sequence_carried steps old new (Sequence.tells _ mid _ _ made servers clock more) left holds =
-      sequence_carried steps mid new more left (carried.tells old mid made clock holds)
 
 -- THE CLOCK
 
@@ -104,6 +101,7 @@ note_timed : (note : Note) → IsCallNote note → IsNoteUntil note
 note_timed (Read now) call = tt
 note_timed (Loaded participant number) call = tt
 note_timed (Acked number) call = tt
+note_timed Unmapped call = tt
 note_timed (Yielded above moved) call = absurd call
 note_timed (Paused moved until) call = absurd call
 
@@ -142,10 +140,10 @@ along_timed count = record {
 }
 
 -- all that a line does is timed
-pub acts_timed : (count : ℕ) (doer after : ParticipantView) (trace : List Done) (steps : List MailStep) → Acts count doer after trace steps
-    → AreTimed steps
-acts_timed count doer after trace steps acts =
-    (acts_are count (λ who. ⊤) ⊤ AreTimed (along_timed count) doer after trace steps acts (λ looks. tt) tt).0
+pub acts_timed : (count : ℕ) (hand last : Option ℕ) (held : List ℕ) (doer after : ParticipantView) (trace : List Done) (steps : List MailStep)
+    → Acts count hand last held doer after trace steps → AreTimed steps
+acts_timed count hand last held doer after trace steps acts =
+    (acts_are count (λ who. ⊤) ⊤ AreTimed (along_timed count) hand last held doer after trace steps acts (λ looks. tt) tt).0
 
 module _ (me first : ℕ) where
   -- the clock has not fallen below a reading
@@ -162,7 +160,6 @@ module _ (me first : ℕ) where
   clock_carried : IsCarried me IsFrom AreTimed
   clock_carried = record {
     others = λ who moved old new other serves from. omega (arith, serves.made.course.clock, from);
-    tells = λ old new made clock from. omega (arith, clock, from);
     calls = λ step steps old new call made clock left from. (omega (arith, clock, from), left.1);
     yields = λ above moved steps hall left from. (from, left.1);
     pauses = λ moved until steps old new is stands goes left from. (pauses_from moved until old new stands goes left.0 from, left.1);

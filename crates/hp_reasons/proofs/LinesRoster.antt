@@ -135,7 +135,6 @@ module _ (me : ℕ) where
     others = λ who moved old new other serves was.
         others_out (length old.plain.owns) who serves.steps (values_in old.plain) (values_in new.plain) (λ same. other (sym same))
         (made_kept who serves.steps old.plain new.plain serves.made) was;
-    tells = λ old new made clock was. subst (KeepsOut me) (sym (made_kept me [] old.plain new.plain made)) was;
     calls = λ step steps old new call made clock left was. calls_out step steps old.plain new.plain made left was;
     yields = λ above moved steps hall left was. (was, left);
     pauses = λ moved until steps old new is stands goes left was. (subst (KeepsOut me) (sym (ap values_in is)) was, left);
@@ -234,12 +233,12 @@ module _ (count me : ℕ) (secondary : me ≢ 0) where
   }
 
   -- so who is out stays out where its line doesn't attach
-  pub out_stays : (doer after : ParticipantView) (trace : List Done) (steps : List MailStep) (old new : SoloView) → doer.party.me ≡ me
-      → Acts count doer after trace steps → list_any is_looked trace ≡ false → Sequence me old steps new
+  pub out_stays : (hand last : Option ℕ) (held : List ℕ) (doer after : ParticipantView) (trace : List Done) (steps : List MailStep) (old new : SoloView) → doer.party.me ≡ me
+      → Acts count hand last held doer after trace steps → list_any is_looked trace ≡ false → Sequence me old steps new
       → KeepsOut me (values_in old.plain) → KeepsOut me (values_in new.plain)
-  out_stays doer after trace steps old new its acts looks sequence was =
+  out_stays hand last held doer after trace steps old new its acts looks sequence was =
       let never : list_any is_looked trace ≡ true → ⊥ = λ looked. cc in
-      let own = acts_are count (λ who. who ≡ me) ⊥ (StaysOut me) along_out doer after trace steps acts never its in
+      let own = acts_are count (λ who. who ≡ me) ⊥ (StaysOut me) along_out hand last held doer after trace steps acts never its in
       sequence_carried me (λ hall. KeepsOut me (values_in hall.plain)) (StaysOut me) (out_carried me) steps old new sequence own.0 was
 
 -- WORLDS

@@ -10,7 +10,7 @@ use Rattle.hp_frame.specs.declared.frame.Frame.{Frame}
 use Rattle.hp_hall.specs.Mail.{Gives, MailStep, Notes, Posts, Takes}
 use Rattle.hp_hall.specs.declared.kept.Kept.TheVariants.{Heap}
 use Rattle.hp_hall.specs.declared.note.Note.{Note}
-use Rattle.hp_hall.specs.declared.note.Note.TheVariants.{Acked, Loaded, Paused, Read, Yielded}
+use Rattle.hp_hall.specs.declared.note.Note.TheVariants.{Acked, Loaded, Paused, Read, Unmapped, Yielded}
 use Rattle.hp_mail.specs.declared.posted.Posted.{Posted}
 use Rattle.hp_heap.specs.History.{HeapView}
 use Rattle.hp_segs.specs.LaterSteps.{after_leave, after_withdraw, grows_for, withdrawn_growth, withdrawn_unless}
@@ -80,6 +80,7 @@ abbrev pub IsNoteUntil : Note → Type 0
 IsNoteUntil (Read now) = ⊤
 IsNoteUntil (Loaded participant number) = ⊤
 IsNoteUntil (Acked number) = ⊤
+IsNoteUntil Unmapped = ⊤
 IsNoteUntil (Yielded above moved) = ⊤
 IsNoteUntil (Paused moved None) = ⊥
 IsNoteUntil (Paused moved (Some until)) = ⊤
@@ -241,21 +242,25 @@ module _ (count : ℕ) (Is : ℕ → Type 0) (May : Type 0) (Q : List MailStep �
       ∙ either_way (list_any is_looked first)
 
   -- all that a line does
-  pub acts_are : (doer after : ParticipantView) (trace : List Done) (steps : List MailStep) → Acts count doer after trace steps
+  pub acts_are : (hand last : Option ℕ) (held : List ℕ) (doer after : ParticipantView) (trace : List Done) (steps : List MailStep)
+      → Acts count hand last held doer after trace steps
       → (list_any is_looked trace ≡ true → May) → Is doer.party.me → Q steps × Is after.party.me
-  acts_are doer after trace steps (Acts.nothing _) may its = (along.none, its)
-  acts_are doer _ trace steps (Acts.waits_turn until _ after moved _ turned) may its = turned_are until doer.party after steps moved turned its
-  acts_are doer after trace steps (Acts.takes_heap _ heap) may its = (along.takes_heap heap, its)
-  acts_are doer after trace steps (Acts.gives_heap _ heap) may its = (along.gives_heap heap, its)
-  acts_are doer after trace steps (Acts.makes_call _ heap call answer none) may its = (along.none, its)
-  acts_are doer after trace steps (Acts.cuts_run _ heap addr run taken) may its = (along.holds taken _ refl, its)
-  acts_are doer _ trace steps (Acts.asks_pages _ after asked run _ does) may its = asks_are doer.party after asked steps run does its
-  acts_are doer _ trace steps (Acts.notifies_run _ after heap run _ does) may its = notifies_are doer.party after heap run steps does its
-  acts_are doer _ trace steps (Acts.attaches _ after taken ended tries) may its =
+  acts_are _ _ _ doer after trace steps (Acts.nothing _ _) may its = (along.none, its)
+  acts_are _ _ _ doer _ trace steps (Acts.waits_turn until _ after moved _ turned) may its =
+      turned_are until doer.party after steps moved turned its
+  acts_are _ _ _ doer after trace steps (Acts.takes_heap _ heap) may its = (along.takes_heap heap, its)
+  acts_are _ _ _ doer after trace steps (Acts.gives_heap _ heap) may its = (along.gives_heap heap, its)
+  acts_are _ _ _ doer after trace steps (Acts.makes_call _ heap call answer none) may its = (along.none, its)
+  acts_are _ _ _ doer after trace steps (Acts.cuts_run _ heap addr run taken) may its = (along.holds taken _ refl, its)
+  acts_are _ _ _ doer _ trace steps (Acts.asks_pages _ after asked run _ does) may its =
+      asks_are doer.party after asked steps run does its
+  acts_are _ _ _ doer _ trace steps (Acts.notifies_run _ after heap run _ does) may its =
+      notifies_are doer.party after heap run steps does its
+  acts_are _ _ _ doer _ trace steps (Acts.attaches _ after taken ended tries) may its =
       (along.attaches doer.party.me taken ended (may refl), subst Is (sym (ap (λ (party : Party). party.me) tries.after_is)) its)
-  acts_are doer after trace steps (Acts.detaches _ taken secondary) may its = (along.leaves doer.party.me taken its, its)
-  acts_are doer after trace steps (Acts.notes_left _ elements) may its = (along.none, its)
-  acts_are doer after trace steps (Acts.and_then _ mid _ first rest before behind here next) may its =
-      let begins = acts_are doer mid first before here (λ looks. may (looks_first first rest looks)) its in
-      let ends = acts_are mid after rest behind next (λ looks. may (looks_rest first rest looks)) begins.1 in
+  acts_are _ _ _ doer after trace steps (Acts.detaches _ taken secondary) may its = (along.leaves doer.party.me taken its, its)
+  acts_are _ _ _ doer after trace steps (Acts.notes_left _ elements) may its = (along.none, its)
+  acts_are _ _ _ doer after trace steps (Acts.and_then hand between last held more _ mid _ first rest before behind here next) may its =
+      let begins = acts_are hand between held doer mid first before here (λ looks. may (looks_first first rest looks)) its in
+      let ends = acts_are between last more mid after rest behind next (λ looks. may (looks_rest first rest looks)) begins.1 in
       (along.both before behind begins.0 ends.0, ends.1)

@@ -16,7 +16,7 @@ use Rattle.hp_serve.specs.Party.{Party, one_more}
 use Rattle.hp_serve.specs.Serving.{IsFollowed, IsHeeded, IsMemberServed, IsTold, Obeys, gives_segments, is_sync}
 use Rattle.hp_reasons.specs.Servings.{MemberServes, MembersServeSo, ObeysIn, numbered}
 use Rattle.hp_reasons.specs.Shared.{MakesAll, Shared, fetched_by, posted_to, with_segs}
-use Rattle.hp_reasons.proofs.Sharing.{acked, fetched_one, found_nothing, gave, numbered_segs, posted_one, took}
+use Rattle.hp_reasons.proofs.Sharing.{fetched_one, found_nothing, gave, numbered_segs, posted_one, told_behind, took}
 
 -- a member obeys, with the value that is shared
 obeyed : (old new : Shared) (party after : Party) (steps : List MailStep) → Obeys party after old.segs steps
@@ -27,7 +27,7 @@ obeyed old new party after steps obeys makes =
     let mid = numbered party.me caught old in
     let back =
     gave party.me given (obeys.reply ∷ []) mid new
-    (acked party.me caught (gives_segments given ∷ obeys.reply ∷ []) old new
+    (told_behind party.me caught (gives_segments given ∷ obeys.reply ∷ []) old new
     (subst (λ (steps : List MailStep). MakesAll party.me steps old new) obeys.done makes)) in
     let frame = obeys.replied.frame in
     let action = action_of party.plan message.Reply party.me (one_more party.sent.replies) in

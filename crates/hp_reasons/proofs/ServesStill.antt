@@ -15,7 +15,7 @@ use Rattle.hp_segs.specs.SegsView.{SegsView}
 use Rattle.hp_serve.specs.Coordinating.{IsAnswered, IsCarried, IsCoreServed, IsHanded, IsHandled, IsMapped, IsObeyed, IsPolled, IsRested, IsServed, IsSettled, loads_of}
 use Rattle.hp_serve.specs.Party.{Party}
 use Rattle.hp_serve.specs.Posting.{AreTold, IsPosted, IsToldOne, is_told, syncs_after}
-use Rattle.hp_serve.specs.Serving.{IsFollowed, IsHeeded, IsMemberServed, IsTold, acks_behind}
+use Rattle.hp_serve.specs.Serving.{IsFollowed, IsHeeded, IsMemberServed, IsTold, tells_behind}
 use Rattle.hp_reasons.proofs.StepsAlong.{AreStill, IsStill, still_both}
 
 -- WHAT IS POSTED
@@ -45,10 +45,10 @@ is_posted count party after answer steps (IsPosted.nobody to number what good is
 
 -- WHAT IS NOTED
 
-acks_still : (ended : Caught) (records : ℕ) → AreStill (acks_behind ended records)
-acks_still caught.Done records = (tt, tt)
-acks_still (caught.Refused row call) records = tt
-acks_still (caught.Elsewhere row call got) records = tt
+tells_still : (ended : Caught) (records : ℕ) → AreStill (tells_behind ended records)
+tells_still caught.Done records = (tt, tt)
+tells_still (caught.Refused row call) records = (tt, tt)
+tells_still (caught.Elsewhere row call got) records = (tt, tt)
 
 load_still : (is : Bool) (member number : ℕ) → AreStill (if is then Notes (Loaded member number) ∷ [] else [])
 load_still true member number = (tt, tt)
@@ -70,7 +70,7 @@ mapped : (party after : Party) (steps : List MailStep) (answer : Out) → IsMapp
 mapped party after steps answer (IsMapped.maps core next taken ended table own now more there did caught_up is_handed after_is) =
     subst AreStill (sym did) (
       tt,
-      still_both (acks_behind ended (length taken.log)) _ (acks_still ended (length taken.log))
+      still_both (tells_behind ended (length taken.log)) _ (tells_still ended (length taken.log))
           (tt, (tt, handed _ core next taken more answer is_handed)),
     )
 mapped party after steps answer (IsMapped.worn taken is_worn did after_is none) = absurd (none-some answer (sym none))
@@ -133,7 +133,7 @@ module _ (count : ℕ) where
 followed : (party after : Party) (taken : SegsView) (more : List MailStep) → IsFollowed party after taken more true → AreStill more
 followed party after taken more (IsFollowed.obeys member obeys is) =
     subst AreStill (sym obeys.done)
-    (still_both (acks_behind obeys.caught (length taken.log)) _ (acks_still obeys.caught (length taken.log))
+    (still_both (tells_behind obeys.caught (length taken.log)) _ (tells_still obeys.caught (length taken.log))
     (tt, (subst IsStill (sym obeys.replied.posts) tt, tt)))
 followed party after taken more (IsFollowed.is_out out did after_is is) = subst AreStill (sym did) (tt, tt)
 followed party after taken more (IsFollowed.is_worn member worn did after_is is) = absurd (true≢false is)

@@ -13,7 +13,7 @@ use Rattle.hp_hall.specs.declared.note.Note.TheVariants.{Loaded, Read}
 use Rattle.hp_mail.specs.declared.posted.Posted.{Posted}
 use Rattle.hp_segs.specs.SegsView.{SegsView}
 use Rattle.hp_segs.specs.Sound.{IsSound}
-use Rattle.hp_serve.specs.Serving.{acks_behind, gives_segments, takes_segments}
+use Rattle.hp_serve.specs.Serving.{acks_behind, gives_segments, takes_segments, tells_behind}
 use Rattle.hp_reasons.specs.Servings.{numbered}
 use Rattle.hp_reasons.specs.Shared.{MakesAll, Shared, fetched_by, posted_to, with_boxes, with_segs}
 
@@ -75,12 +75,19 @@ gave who given more old new makes = record {
   rest = subst (λ (at : Shared). MakesAll who more at new) makes.1.2 makes.2;
 }
 
--- what is acknowledged behind a catching up with the log
+-- what one that attaches acknowledges behind a catching up with the log
 pub acked : (who : ℕ) (ended : Caught) (more : List MailStep) (old new : Shared)
     → MakesAll who (acks_behind ended (length old.segs.log) ++ more) old new → MakesAll who more (numbered who ended old) new
 acked who caught.Done more old new makes = subst (λ (at : Shared). MakesAll who more at new) makes.1.1 makes.2
 acked who (caught.Refused row call) more old new makes = makes
 acked who (caught.Elsewhere row call got) more old new makes = makes
+
+-- and what one tells that has a table
+pub told_behind : (who : ℕ) (ended : Caught) (more : List MailStep) (old new : Shared)
+    → MakesAll who (tells_behind ended (length old.segs.log) ++ more) old new → MakesAll who more (numbered who ended old) new
+told_behind who caught.Done more old new makes = subst (λ (at : Shared). MakesAll who more at new) makes.1.1 makes.2
+told_behind who (caught.Refused row call) more old new makes = subst (λ (at : Shared). MakesAll who more at new) makes.1 makes.2
+told_behind who (caught.Elsewhere row call got) more old new makes = subst (λ (at : Shared). MakesAll who more at new) makes.1 makes.2
 
 -- it changes numbers alone
 pub numbered_segs : (who : ℕ) (ended : Caught) (at : Shared) → (numbered who ended at).segs ≡ at.segs

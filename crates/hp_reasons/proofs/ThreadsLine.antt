@@ -1,5 +1,5 @@
 -- A line of a run leads from a quiet world to a quiet one, and behind it nothing is owed.
-use Rattle.std.proofs.Common.{◌≡◌, ◌≢◌, ◌∙◌, ℕ, ◌<◌, ◌≤◌, ◌^◌, ⊎_elim, false, List, length, Some, refl, sym, ap, subst, arith}
+use Rattle.std.proofs.Common.{◌≡◌, ◌≢◌, ◌∙◌, ℕ, ◌<◌, ◌≤◌, ◌^◌, ⊎_elim, false, List, length, Some, None, refl, sym, ap, subst, arith}
 use Rattle.std.specs.Prelude.{slice_get, slice_set}
 use Rattle.std.proofs.Math.ListN.{length-set}
 use Rattle.std.proofs.lemmas.Bool.{cases_eq}
@@ -66,9 +66,9 @@ module _ (set : Setting) (sets : IsSetting set) (waits : AreWaitsQuiet) (acts : 
         others = λ who other. at.all who ∙ apart old.servers vacated who other;
       })
 
-  did : Acts set.count does.doer does.after does.does.does.trace does.does.does.steps
+  did : Acts set.count None None does.does.held does.doer does.after does.does.does.trace does.does.does.steps
   did =
-      subst (λ (count : ℕ). Acts count does.doer does.after does.does.does.trace does.does.does.steps)
+      subst (λ (count : ℕ). Acts count None None does.does.held does.doer does.after does.does.does.trace does.does.does.steps)
       (sym does.all ∙ ap (λ (hall : HallView). length hall.owns) gone_plain ∙ all_count set old world at quiet.quiet) does.does.does.acts
 
   looks : AttachesOnce does.doer.party does.does.does.trace
@@ -81,7 +81,7 @@ module _ (set : Setting) (sets : IsSetting set) (waits : AreWaitsQuiet) (acts : 
 
   leads : LeadsTo (IsQuietOwing set false) does.back me does.after.party
   leads =
-      acts waits set me false false does.away does.back does.doer does.after does.does.does.trace does.does.does.steps world sets gone
+      acts waits set me false false does.away does.back None None does.does.held does.doer does.after does.does.does.trace does.does.does.steps world sets gone
       quiet early does.sequence looks owes did
 
   within : me < length does.back.servers

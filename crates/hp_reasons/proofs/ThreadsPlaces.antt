@@ -41,8 +41,6 @@ pub sequence_long : (me : ℕ) (old new : SoloView) (steps : List MailStep) → 
 sequence_long me _ _ _ (Sequence.stands hall) = refl
 sequence_long me old new _ (Sequence.goes_on _ mid _ step steps makes more) =
     sequence_long me mid new steps more ∙ makes_long me old mid step makes
-sequence_long me old new steps (Sequence.tells _ mid _ _ made servers clock more) =
-    sequence_long me mid new steps more ∙ ap (λ (servers : List AloneView). length servers) servers
 
 -- NOBODY HAS STOPPED
 

@@ -19,7 +19,7 @@ use Rattle.hp_reasons.specs.Waits.{AreServingsKnown}
 use Rattle.hp_reasons.specs.Worlds.{IsWorldOf}
 use Rattle.hp_reasons.proofs.TurnsSequence.{begins_with, calls_own, cut_in, yields_in}
 use Rattle.hp_reasons.proofs.TurnsStages.{no_place}
-use Rattle.hp_reasons.proofs.TurnsVisits.{AreOn, VisitedTo, own_out, told_on, visits_on}
+use Rattle.hp_reasons.proofs.TurnsVisits.{AreOn, VisitedTo, own_out, still_on, visits_on}
 
 -- a note leaves the world
 noted_on : (me : ℕ) (note : Note) (hall : SoloView) (party : Party) (world : World) → IsWorldOf hall me party world
@@ -82,10 +82,9 @@ module _ (known : AreServingsKnown) (set : Setting) (me : ℕ) (During : ℕ →
       → During 0 world → Sequence me old steps new → steps ≡ Notes (Yielded false (Some below)) ∷ rest → BelowServed below party rest new
   below_serve old new party steps rest below world its during sequence are =
       let begins = begins_with me old new steps (Notes (Yielded false (Some below))) rest are sequence in
-      let told = told_on known me old begins.at party [] world begins.told refl its in
-      let yields = yields_in me begins.at begins.behind false below begins.makes in
-      let visited = (visits_on known set me During on 0 me begins.at yields.between party world yields.visits
-      (λ who above under same. omega (arith, under, same)) told during).1 in
+      let yields = yields_in me old begins.behind false below begins.makes in
+      let visited = (visits_on known set me During on 0 me old yields.between party world yields.visits
+      (λ who above under same. omega (arith, under, same)) its during).1 in
       let base = on.base 0 world during in
       record {
         hall = begins.behind;
@@ -97,11 +96,11 @@ module _ (known : AreServingsKnown) (set : Setting) (me : ℕ) (During : ℕ →
         };
         ends = begins.ends;
         still = λ none beside.
-            let there : is_some (party_at begins.at.servers 0) ≡ true =
-            ap is_some (sym (told.others 0 (λ (same : 0 ≡ me). beside (sym same))))
+            let there : is_some (party_at old.servers 0) ≡ true =
+            ap is_some (sym (its.others 0 (λ (same : 0 ≡ me). beside (sym same))))
             ∙ some_there world.parties (omega (arith, base.parties, on.setting.some)) in
             ap (λ (boxes : List (List Frame)). box_of boxes 0) visited.its.shared.boxes
-            ∙ (yields.quiet none).empty (have_not_stopped (IsBeside me false) begins.at.servers told.going) 0 (omega (arith, beside)) there;
+            ∙ (yields.quiet none).empty (have_not_stopped (IsBeside me false) old.servers its.going) 0 (omega (arith, beside)) there;
       }
 
   -- those above have served
@@ -119,15 +118,14 @@ module _ (known : AreServingsKnown) (set : Setting) (me : ℕ) (During : ℕ →
       → AboveServed above party rest new world
   above_serve old new party steps rest above world its during sequence are =
       let begins = begins_with me old new steps (Notes (Yielded true (Some above))) rest are sequence in
-      let told = told_on known me old begins.at party [] world begins.told refl its in
-      let yields = yields_in me begins.at begins.behind true above begins.makes in
-      let visits = visits_on known set me During on (suc me) (length begins.at.servers) begins.at yields.between party world yields.visits
-      (λ who over under same. omega (arith, over, same)) told during in
+      let yields = yields_in me old begins.behind true above begins.makes in
+      let visits = visits_on known set me During on (suc me) (length old.servers) old yields.between party world yields.visits
+      (λ who over under same. omega (arith, over, same)) its during in
       let visited = visits.1 in
       let base = on.base (suc me) world during in
       record {
         hall = begins.behind;
-        visited = length begins.at.servers;
+        visited = length old.servers;
         behind = omega (arith, visits.0);
         «to» = record {
           world = visited.world;
@@ -138,13 +136,13 @@ module _ (known : AreServingsKnown) (set : Setting) (me : ℕ) (During : ℕ →
         ends = begins.ends;
         all = λ who past.
             let nobody : slice_get world.parties who ≡ None =
-            told.others who (λ (same : who ≡ me). omega (arith, same, past, visits.0))
-            ∙ ap party_in (slice_get_past begins.at.servers who past) in
+            its.others who (λ (same : who ≡ me). omega (arith, same, past, visits.0))
+            ∙ ap party_in (slice_get_past old.servers who past) in
             omega (arith, no_place world.parties who nobody, base.parties);
         still = λ none.
             visited.its.shared.boxes
-            ∙ (yields.quiet none).boxes (have_not_stopped (IsBeside me true) begins.at.servers told.going)
-            ∙ sym told.shared.boxes;
+            ∙ (yields.quiet none).boxes (have_not_stopped (IsBeside me true) old.servers its.going)
+            ∙ sym its.shared.boxes;
       }
 
   -- all have
@@ -181,7 +179,7 @@ module _ (known : AreServingsKnown) (set : Setting) (me : ℕ) (During : ℕ →
       refl in
       record {
         world = over.to.world;
-        its = told_on known me over.hall new after [] over.to.world over.ends refl over.to.its;
+        its = still_on known me over.hall new after [] over.to.world over.ends refl over.to.its;
         visited = over.visited;
         behind = over.behind;
         during = over.to.during;

@@ -15,7 +15,7 @@ use Rattle.hp_segs.specs.SegsView.{SegsView}
 use Rattle.hp_serve.specs.Coordinating.{Hands, IsAnswered, IsCarried, IsCoreServed, IsHanded, IsHandled, IsMapped, IsObeyed, IsPolled, IsRested, IsServed, IsSettled, loads_of}
 use Rattle.hp_serve.specs.Party.{Party}
 use Rattle.hp_serve.specs.Posting.{AreTold, IsPosted, IsToldOne}
-use Rattle.hp_serve.specs.Serving.{IsFollowed, IsHeeded, IsMemberServed, IsTold, Obeys, Replies, acks_behind}
+use Rattle.hp_serve.specs.Serving.{IsFollowed, IsHeeded, IsMemberServed, IsTold, Obeys, Replies, acks_behind, tells_behind}
 use Rattle.hp_solo.specs.Sequence.{IsCall}
 use Rattle.hp_reasons.specs.Worlds.{AreCalls}
 
@@ -37,12 +37,18 @@ pub calls_rest : (first rest : List MailStep) → AreCalls (first ++ rest) → A
 calls_rest [] rest calls = calls
 calls_rest (step ∷ first) rest calls = calls_rest first rest calls.1
 
--- WHAT PARTICIPANT 0 DOES
-
+-- what is told behind a catching up
 pub acks_calls : (caught : Caught) (records : ℕ) → AreCalls (acks_behind caught records)
 acks_calls caught.Done records = (tt, tt)
 acks_calls (caught.Refused row call) records = tt
 acks_calls (caught.Elsewhere row call got) records = tt
+
+tells_calls : (caught : Caught) (records : ℕ) → AreCalls (tells_behind caught records)
+tells_calls caught.Done records = (tt, tt)
+tells_calls (caught.Refused row call) records = (tt, tt)
+tells_calls (caught.Elsewhere row call got) records = (tt, tt)
+
+-- WHAT PARTICIPANT 0 DOES
 
 handed_calls : (event : CoreEvent) (core after : Core) (taken : SegsView) (steps : List MailStep) (answer : Option Out)
     → IsHanded event core after taken steps answer → AreCalls steps
@@ -58,7 +64,7 @@ mapped_calls : (party after : Party) (steps : List MailStep) (answer : Option Ou
 mapped_calls party after steps answer (IsMapped.maps core next taken caught table own now more there are caught_up is_handed after_is) =
     calls_are steps _ are (
       tt,
-      calls_then (acks_behind caught _) _ (acks_calls caught _)
+      calls_then (tells_behind caught _) _ (tells_calls caught _)
           (tt, (tt, handed_calls _ core next taken more answer is_handed)),
     )
 mapped_calls party after steps answer (IsMapped.worn taken is_worn are after_is is) = calls_are steps _ are (tt, (tt, tt))
@@ -155,7 +161,7 @@ reply_call party body step replies = subst IsCall (sym replies.posts) tt
 
 obeys_calls : (party after : Party) (taken : SegsView) (steps : List MailStep) → Obeys party after taken steps → AreCalls steps
 obeys_calls party after taken steps obeys =
-    calls_are steps _ obeys.done (calls_then (acks_behind obeys.caught _) _ (acks_calls obeys.caught _)
+    calls_are steps _ obeys.done (calls_then (tells_behind obeys.caught _) _ (tells_calls obeys.caught _)
     (tt, (reply_call party _ obeys.reply obeys.replied, tt)))
 
 followed_calls : (party after : Party) (taken : SegsView) (steps : List MailStep) (goes : Bool) → IsFollowed party after taken steps goes

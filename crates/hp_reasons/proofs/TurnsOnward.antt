@@ -24,7 +24,7 @@ use Rattle.hp_reasons.proofs.TurnsPause.{HasTurned, at_clock, has_turned, paused
 use Rattle.hp_reasons.proofs.TurnsSequence.{begins_with, cut_in, pauses_in}
 use Rattle.hp_reasons.proofs.TurnsServings.{FollowsAt, IsDuring, LeadsAt}
 use Rattle.hp_reasons.proofs.TurnsStages.{stages_on}
-use Rattle.hp_reasons.proofs.TurnsVisits.{told_on}
+use Rattle.hp_reasons.proofs.TurnsVisits.{still_on}
 
 -- A PAUSE
 
@@ -58,32 +58,31 @@ pause_on known me until old new party steps moved world its sequence pauses =
     let cut = cut_in me old new steps (Notes (Read pauses.now) ∷ []) (step ∷ []) pauses.are sequence in
     let read = read_on known me old cut.mid party pauses.now world cut.begins its in
     let begins = begins_with me cut.mid new (step ∷ []) step [] refl cut.ends in
-    let told = told_on known me cut.mid begins.at party [] world begins.told refl read.its in
-    let paused = pauses_in me begins.at begins.behind moved pauses.next begins.makes in
+    let paused = pauses_in me cut.mid begins.behind moved pauses.next begins.makes in
     let now : ℕ = begins.behind.plain.clock in
     let there : IsWorldOf begins.behind me party (at_clock now world) =
     subst (λ (plain : HallView). IsWorldOf (record { plain = plain; servers = begins.behind.servers }) me party (at_clock now world)) (sym paused.is)
     (subst (λ (servers : List AloneView).
-    IsWorldOf (record { plain = after_pause me moved (Some pauses.next) now begins.at.plain; servers = servers }) me party (at_clock now world))
-    (sym paused.servers) (paused_world me pauses.next now moved begins.at party world told)) in
+    IsWorldOf (record { plain = after_pause me moved (Some pauses.next) now cut.mid.plain; servers = servers }) me party (at_clock now world))
+    (sym paused.servers) (paused_world me pauses.next now moved cut.mid party world read.its)) in
     record {
       now = now;
-      its = told_on known me begins.behind new party [] (at_clock now world) begins.ends refl there;
-      stands = λ some. paused.stands some ∙ sym told.shared.clock;
-      later = λ none. omega (arith, (paused.goes none).later, told.shared.clock);
+      its = still_on known me begins.behind new party [] (at_clock now world) begins.ends refl there;
+      stands = λ some. paused.stands some ∙ sym read.its.shared.clock;
+      later = λ none. omega (arith, (paused.goes none).later, read.its.shared.clock);
       within = λ none. omega (arith, (paused.goes none).within, pauses.sooner.within);
       least = λ none primary found due is to_come. elim (cases_eq me 0) [
         | inl same ↦
             (let own : Some party ≡ Some primary =
-            sym told.own ∙ ap (slice_get world.parties) same ∙ found in
+            sym read.its.own ∙ ap (slice_get world.parties) same ∙ found in
             let one : party ≡ primary = cc in
             let sooner =
             pauses.sooner.least due (ap (λ (party : Party). due_in party.core) one ∙ is) (omega (arith, to_come, read.now_is)) in
             omega (arith, sooner, (paused.goes none).within))
         | inr apart ↦
-            (let there : due_at (party_at begins.at.servers 0) ≡ Some due =
-            ap due_at (sym (told.others 0 (λ (same : 0 ≡ me). apart (sym same))) ∙ found) ∙ is in
-            (paused.goes none).least due (0, there, omega (arith, to_come, told.shared.clock)))
+            (let there : due_at (party_at cut.mid.servers 0) ≡ Some due =
+            ap due_at (sym (read.its.others 0 (λ (same : 0 ≡ me). apart (sym same))) ∙ found) ∙ is in
+            (paused.goes none).least due (0, there, omega (arith, to_come, read.its.shared.clock)))
       ];
     }
 

@@ -49,8 +49,6 @@ module _ (known : CoursesGoAlong) (me : ℕ) where
       let made = call_made old mid step calls.0 makes in
       own_more old mid new (step ∷ []) steps at made.0 (calls.0, tt) made.1 order shared
       (λ at shared order. calls_own mid new steps at more calls.1 order shared)
-  calls_own old new steps at (Sequence.tells _ mid _ _ made servers clock more) calls order shared =
-      own_more old mid new [] steps at made tt servers order shared (λ at shared order. calls_own mid new steps at more calls order shared)
 
 -- a sequence between two of its states
 pub record IsCutIn (me : ℕ) (old : SoloView) (first rest : List MailStep) (new : SoloView) : Type 0 where
@@ -73,24 +71,15 @@ cut_as me old new _ (step ∷ first) rest (Sequence.goes_on _ mid _ one more mak
       begins = Sequence.goes_on old mid behind.mid step first (subst (Makes me old mid) same makes) behind.begins;
       ends = behind.ends;
     }
-cut_as me old new steps (step ∷ first) rest (Sequence.tells _ mid _ _ made servers clock ends) is =
-    let behind = cut_as me mid new steps (step ∷ first) rest ends is in
-    record {
-      mid = behind.mid;
-      begins = Sequence.tells old mid behind.mid (step ∷ first) made servers clock behind.begins;
-      ends = behind.ends;
-    }
 
 pub cut_in : (me : ℕ) (old new : SoloView) (steps first rest : List MailStep) → steps ≡ first ++ rest → Sequence me old steps new
     → IsCutIn me old first rest new
 cut_in me old new steps first rest is sequence = cut_as me old new steps first rest sequence is
 
--- a call, what was told before it, and the rest
+-- a call, and the rest
 pub record BeginsWith (me : ℕ) (old : SoloView) (step : MailStep) (rest : List MailStep) (new : SoloView) : Type 0 where
-  pub at : SoloView
   pub behind : SoloView
-  pub told : Sequence me old [] at
-  pub makes : Makes me at behind step
+  pub makes : Makes me old behind step
   pub ends : Sequence me behind rest new
 
 begins_at : (me : ℕ) (old new : SoloView) (steps : List MailStep) (step : MailStep) (rest : List MailStep) → Sequence me old steps new
@@ -100,20 +89,9 @@ begins_at me old new _ step rest (Sequence.goes_on _ mid _ first more makes ends
     let one : first ≡ step = cc in
     let all : more ≡ rest = cc in
     record {
-      at = old;
       behind = mid;
-      told = Sequence.stands old;
       makes = subst (Makes me old mid) one makes;
       ends = subst (λ (steps : List MailStep). Sequence me mid steps new) all ends;
-    }
-begins_at me old new steps step rest (Sequence.tells _ mid _ _ made servers clock ends) is =
-    let behind = begins_at me mid new steps step rest ends is in
-    record {
-      at = behind.at;
-      behind = behind.behind;
-      told = Sequence.tells old mid behind.at [] made servers clock behind.told;
-      makes = behind.makes;
-      ends = behind.ends;
     }
 
 -- a sequence begins with its first call

@@ -19,7 +19,7 @@ use Rattle.hp_reasons.specs.Worlds.{IsWorldOf}
 use Rattle.hp_reasons.proofs.TurnsAll.{read_on}
 use Rattle.hp_reasons.proofs.TurnsOnward.{turns_on}
 use Rattle.hp_reasons.proofs.TurnsSequence.{cut_in}
-use Rattle.hp_reasons.proofs.TurnsVisits.{told_on}
+use Rattle.hp_reasons.proofs.TurnsVisits.{still_on}
 
 -- so many turns
 module _ (known : AreServingsKnown) (set : Setting) (call : Asked) (sent until me : ℕ) (heeds : Bool) (is_sent : IsSent set call sent)
@@ -30,7 +30,7 @@ module _ (known : AreServingsKnown) (set : Setting) (call : Asked) (sent until m
   unfolding AreTurns
   turns_all zero old new party after steps world its at_turn sequence are = record {
     world = world;
-    its = subst (λ (party : Party). IsWorldOf new me party world) (sym are.0) (told_on known me old new party steps world sequence are.1 its);
+    its = subst (λ (party : Party). IsWorldOf new me party world) (sym are.0) (still_on known me old new party steps world sequence are.1 its);
     holds = at_turn;
   }
   turns_all (suc turns) old new party after steps world its at_turn sequence are =

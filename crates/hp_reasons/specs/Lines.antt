@@ -1,5 +1,5 @@
 -- What a line makes of a world. The rule "Reasons" of docs/RUNS.md.
-use Rattle.std.specs.Prelude.{◌≡◌, ◌≤◌, ◌^◌, ⊤, ℕ, Bool, true, false, ◌||◌, List, [], ◌∷◌, Some, count_by}
+use Rattle.std.specs.Prelude.{◌≡◌, ◌≤◌, ◌^◌, ⊤, ℕ, Bool, true, false, ◌||◌, List, [], ◌∷◌, Option, Some, count_by}
 use Rattle.std.specs.List.{list_any}
 use Rattle.hp_hall.specs.Mail.{MailStep}
 use Rattle.hp_heap.specs.declared.entry.HeapAnswer.{HeapAnswer}
@@ -82,7 +82,7 @@ LinesOweNothing = (line : Line) (facts : Facts) (trace : List Done) (answer : An
 
 -- what a participant does of its line leads from a quiet world to a quiet one
 abbrev pub ActsInQuiet : Type 0
-ActsInQuiet = AreWaitsQuiet → (set : Setting) (me : ℕ) (owes left : Bool) (old new : SoloView) (doer after : ParticipantView) (trace : List Done)
-    (steps : List MailStep) (world : World) → IsSetting set → IsWorldOf old me doer.party world → IsQuietOwing set owes world
+ActsInQuiet = AreWaitsQuiet → (set : Setting) (me : ℕ) (owes left : Bool) (old new : SoloView) (hand last : Option ℕ) (held : List ℕ)
+    (doer after : ParticipantView) (trace : List Done) (steps : List MailStep) (world : World) → IsSetting set → IsWorldOf old me doer.party world → IsQuietOwing set owes world
     → new.plain.clock ≤ 2 ^ 62 → Sequence me old steps new → AttachesOnce doer.party trace → Owes owes trace left
-    → Acts set.count doer after trace steps → LeadsTo (IsQuietOwing set left) new me after.party
+    → Acts set.count hand last held doer after trace steps → LeadsTo (IsQuietOwing set left) new me after.party
