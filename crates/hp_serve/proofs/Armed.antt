@@ -1,5 +1,6 @@
--- What arms a participant with a new ask: no growth of it is open, nothing is claimed for the new number, and the value may be given back.
-use Rattle.std.proofs.Common.{◌≡◌, ◌∙◌, ℕ, ◌+◌, ◌<◌, ◌≤◌, max, false, true, not, List, [], ◌++◌, length, drop, append-nil, Option, Some, None, IfSome, refl, ap, sym, subst, arith}
+-- What arms a participant with a new ask: its earlier one is settled, no growth of it is open, nothing is claimed for the new number, and
+-- the value may be given back.
+use Rattle.std.proofs.Common.{◌≡◌, ◌∙◌, ℕ, ◌+◌, ◌<◌, ◌≤◌, max, false, true, not, List, [], ◌++◌, length, drop, append-nil, Option, Some, None, IfSome, refl, ap, sym, subst, inl, inr, arith}
 use Rattle.std.specs.Prelude.{Contains, IsSome, slice_index_or, slice_set}
 use Rattle.std.specs.List.{fold}
 use Rattle.std.specs.Option.{option_map, option_map_or}
@@ -10,6 +11,8 @@ use Rattle.hp_hall.specs.Giving.{GivesSegments, Knows, logs}
 use Rattle.hp_hall.specs.Holding.{AreStanding, HeapPart, part_behind}
 use Rattle.hp_segs.specs.Standing.{Holding, is_claimed_for, standing_of}
 use Rattle.hp_hall.specs.Standings.{ArmKeeps}
+use Rattle.hp_hall.specs.Asks.{IsKnownSettled}
+use Rattle.hp_hall.proofs.KnownAsks.{known_is_settled}
 use Rattle.hp_hall.proofs.StandingAsks.{closed_above}
 use Rattle.hp_heap.proofs.ChoiceLaw.{Contains-filter}
 use Rattle.hp_segs.proofs.GrantLemmas.{closing, closing_grows}
@@ -18,6 +21,7 @@ use Rattle.hp_segs.specs.GrowthLaws.{IsOfArmed}
 use Rattle.hp_segs.specs.LaterSteps.{after_arm, armed_ask}
 use Rattle.hp_segs.specs.Moved.{Arm, is_log_call}
 use Rattle.hp_segs.specs.SegsView.{SegsView, closed_number, granted_by, is_stale, is_unclaimed}
+use Rattle.hp_segs.specs.SettledAsks.{IsSettled}
 use Rattle.hp_segs.specs.Sound.{IsSound}
 use Rattle.hp_segs.specs.declared.ask.Ask.{Ask}
 use Rattle.hp_segs.specs.declared.growth.Growth.{Growth}
@@ -26,6 +30,7 @@ use Rattle.hp_segs.specs.declared.outcome.Outcome.{Outcome}
 use Rattle.hp_segs.specs.declared.outcome.Outcome.TheVariants.{Granted, Refused, Stale, Freed}
 use Rattle.hp_segs.specs.declared.row_state.Segment.{Segment}
 use Rattle.hp_segs.proofs.Moves.{calls_move, moves_widen}
+use Rattle.hp_segs.proofs.SettledLaws.{above_is_unsettled}
 use Rattle.hp_serve.specs.Asking.{IsHeldAsBefore, HasSettledAsks}
 
 -- nothing stands behind all outcomes
@@ -41,31 +46,43 @@ closed_more asks more who =
     more in
     omega (arith, whole, closing_grows who (closed_number asks who) more)
 
--- an open growth of a participant is of the ask with which it is armed, which is above the closed number
-open_apart : (who : ℕ) (asks : List AskLog) (armed : List (Option Ask)) (growth : Option Growth) → IfSome growth (IsOfArmed asks armed)
-    → ((ask : Ask) → slice_index_or armed who None ≡ Some ask → ask.number ≤ closed_number asks who) → HasNoGrowth who growth
-open_apart who asks armed None is settled = tt
-open_apart who asks armed (Some growth) is settled = λ same.
-    let its : slice_index_or armed who None ≡ Some growth.ask =
-    ap (λ from. slice_index_or armed from None) (sym same) ∙ is.its_ask in
-    let closed : closed_number asks growth.ask.from ≡ closed_number asks who = ap (closed_number asks) same in
-    omega (arith, settled growth.ask its, closed, is.above)
+-- an open growth of a participant is of the ask with which it is armed, and that is not settled
+open_apart : (who : ℕ) (segs : SegsView) (growth : Option Growth) → IfSome growth (IsOfArmed segs.asks segs.armed)
+    → ((ask : Ask) → armed_ask segs who ≡ Some ask → IsSettled ask.from ask.number segs) → HasNoGrowth who growth
+open_apart who segs None is settled = tt
+open_apart who segs (Some growth) is settled = λ same.
+    let its : armed_ask segs who ≡ Some growth.ask =
+    ap (λ from. slice_index_or segs.armed from None) (sym same) ∙ is.its_ask in
+    above_is_unsettled segs growth.ask.from growth.ask.number is.above (settled growth.ask its)
+
+-- an ask whose heap is in hand is settled where its participant knows so
+settled_in_hand : (segs : SegsView) (heard more : List AskLog) (ask : Ask) (held : Option Holding) → IsSound segs → segs.asks ≡ heard ++ more
+    → ((holding : Holding) → held ≡ Some holding → holding ≡ standing_of ask.heap segs) → IsSome held → IsKnownSettled heard held ask
+    → IsSettled ask.from ask.number segs
+settled_in_hand segs heard more ask None sound grown has holds known = cc
+settled_in_hand segs heard more ask (Some holding) sound grown has holds known =
+    known_is_settled segs heard more ask sound grown
+    (subst (λ (holding : Holding). IsKnownSettled heard (Some holding) ask) (has holding refl) known)
 
 module _ (who : ℕ) (parts now : ℕ → HeapPart) (segs : SegsView) (heard more : List AskLog) (grown : segs.asks ≡ heard ++ more)
-    (same : (heap : ℕ) → now heap ≡ parts heap) (standing : AreStanding who now segs) (settled : HasSettledAsks parts heard) where
-  -- whose asks are settled, and stay so
-  armed_closed : (ask : Ask) → armed_ask segs who ≡ Some ask → ask.number ≤ closed_number segs.asks who
-  armed_closed ask is =
-      let mine : (parts 0).armed ≡ Some ask = ap (λ (part : HeapPart). part.armed) (sym (same 0)) ∙ (standing.armed 0 ∙ is) in
-      let closed : closed_number segs.asks who ≡ closed_number (heard ++ more) who = ap (λ asks. closed_number asks who) grown in
-      omega (arith, settled 0 ask mine, closed_more heard more who, closed)
+    (same : (heap : ℕ) → now heap ≡ parts heap) (sound : IsSound segs) (standing : AreStanding who now segs)
+    (settled : HasSettledAsks parts heard) where
+  -- the ask with which it is armed is settled: by the value, or as the participant knows that has the ask's heap in hand
+  pub earlier_settled : (earlier : Ask) → armed_ask segs who ≡ Some earlier → IsSettled earlier.from earlier.number segs
+  earlier_settled earlier is = elim (standing.asking earlier is) [
+    | inl done ↦ done
+    | inr holds ↦
+        let mine : (parts 0).armed ≡ Some earlier = ap (λ (part : HeapPart). part.armed) (sym (same 0)) ∙ (standing.armed 0 ∙ is) in
+        let known = subst (λ (part : HeapPart). IsKnownSettled heard part.holding earlier) (sym (same earlier.heap)) (settled 0 earlier mine) in
+        settled_in_hand segs heard more earlier (now earlier.heap).holding sound grown (standing.held earlier.heap) holds known
+  ]
 
   -- it may be armed with any ask of its own
   pub may_arm : (ask : Ask) → ask.from ≡ who → who < 16 → MayArm ask segs
   may_arm ask own few = record {
     participant = subst (λ from. from < 16) (sym own) few;
     alone = subst (λ from. HasNoGrowth from segs.growth) (sym own)
-        (open_apart who segs.asks segs.armed segs.growth standing.sound.growth armed_closed);
+        (open_apart who segs segs.growth standing.sound.growth earlier_settled);
   }
 
 -- the next number is above the last one and the closed one
@@ -137,27 +154,36 @@ none_claimed who ask parts segs held own above heap holding entry is among from 
 -- the heap of the ask that is armed is held
 is_held : (knows : Knows) (ask other : Ask) (segs : SegsView) → IsSound segs → MayArm ask segs → ask.from ≡ knows.who
     → IsSome (knows.part ask.heap).holding → armed_ask (after_arm ask segs) knows.who ≡ Some other
-    → (knows.part other.heap).holding ≡ None → ⊥
-is_held knows ask other segs sound may own holds is none =
+    → IsSome (knows.part other.heap).holding
+is_held knows ask other segs sound may own holds is =
     let few : knows.who < 16 = subst (λ from. from < 16) own may.participant in
     let both : Some ask ≡ Some other = sym (armed_now knows.who ask segs own few sound) ∙ is in
     let same : ask.heap ≡ other.heap = ap (λ (o : Option Ask). option_map_or (λ (ask : Ask). ask.heap) o 0) both in
-    let there : IsSome {T = Holding} None = subst (λ (holding : Option Holding). IsSome holding)
-    (ap (λ heap. (knows.part heap).holding) same ∙ none) holds in
-    cc
+    subst (λ heap. IsSome (knows.part heap).holding) same holds
 
--- the value with the ask armed may be given back by its participant
+-- a settled ask is so still once another is armed
+settled_still : (ask : Ask) (segs : SegsView) (from number : ℕ) → IsSettled from number segs → IsSettled from number (after_arm ask segs)
+settled_still ask segs from number settled = record { answered = settled.answered; claimed = settled.claimed }
+
+-- the value with the ask armed may be given back by its participant, whose earlier ask is settled
 pub arm_gives : (knows : Knows) (ask : Ask) (segs : SegsView) → ArmKeeps → IsSound segs → MayArm ask segs → ask.from ≡ knows.who
-    → closed_number segs.asks ask.from < ask.number → IsSome (knows.part ask.heap).holding → GivesSegments knows segs (after_arm ask segs)
-arm_gives knows ask segs keeps sound may own above holds = record {
+    → closed_number segs.asks ask.from < ask.number → IsSome (knows.part ask.heap).holding
+    → ((earlier : Ask) → armed_ask segs knows.who ≡ Some earlier → IsSettled earlier.from earlier.number segs)
+    → GivesSegments knows segs (after_arm ask segs)
+arm_gives knows ask segs keeps sound may own above holds settled = record {
   more = [];
   log = sym (append-nil segs.log);
   form = logs (record {
-    moved = moves_widen is_log_call is_log_call 0 1 segs (after_arm ask segs) (λ call allowed. allowed) (omega arith)
-        (calls_move is_log_call (Arm ask) segs refl may);
-    agreed = λ entry generation member among granted joined. absurd (none_more segs.asks entry among);
-    armed = λ other apart. get_or-set_other segs.armed ask.from other (Some ask) None (λ same. apart (same ∙ own));
-    for_held = λ other is apart none. is_held knows ask other segs sound may own holds is none;
-    of_armed = λ armed. keeps segs ask sound armed may above;
+    give = record {
+      moved = moves_widen is_log_call is_log_call 0 1 segs (after_arm ask segs) (λ call allowed. allowed) (omega arith)
+          (calls_move is_log_call (Arm ask) segs refl may);
+      agreed = λ entry generation member among granted joined. absurd (none_more segs.asks entry among);
+    };
+    arms = record {
+      others = λ other apart. get_or-set_other segs.armed ask.from other (Some ask) None (λ same. apart (same ∙ own));
+      for_held = λ other is. inr (is_held knows ask other segs sound may own holds is);
+      settled = λ earlier is. inr (settled_still ask segs earlier.from earlier.number (settled earlier is));
+      of_armed = λ armed. keeps segs ask sound armed may above;
+    };
   });
 }

@@ -80,15 +80,20 @@ step_is_given knows event taken given sound moved gives leaves known =
       more = appends.records;
       log = appends.log;
       form = logs (record {
-        moved = moved;
-        agreed = λ entry generation member came granted is_in.
-            let was_in : is_member taken.roster member ≡ true = sym (ap (λ roster. is_member roster member) gives.roster) ∙ is_in in
-            shown_is_known knows.noted event (with_room taken) generation member
-            (omega (arith, member_within taken.roster member was_in, sound.places.roster_places)) known
-            (gives.agreed entry generation member came granted was_in);
-        armed = λ other not_me. leaves.armed other;
-        for_held = λ ask armed unarmed. absurd (unarmed (sym (leaves.armed knows.who) ∙ armed));
-        of_armed = leaves.sound;
+        give = record {
+          moved = moved;
+          agreed = λ entry generation member came granted is_in.
+              let was_in : is_member taken.roster member ≡ true = sym (ap (λ roster. is_member roster member) gives.roster) ∙ is_in in
+              shown_is_known knows.noted event (with_room taken) generation member
+              (omega (arith, member_within taken.roster member was_in, sound.places.roster_places)) known
+              (gives.agreed entry generation member came granted was_in);
+        };
+        arms = record {
+          others = λ other not_me. leaves.armed other;
+          for_held = λ ask armed. inl (sym (leaves.armed knows.who) ∙ armed);
+          settled = λ ask armed. inl (leaves.armed knows.who ∙ armed);
+          of_armed = leaves.sound;
+        };
       });
     }
 

@@ -25,7 +25,7 @@ use Rattle.hp_serve.specs.Coordinating.{IsHanded, IsMapped, IsOutside, IsTrueOf,
 use Rattle.hp_serve.specs.Falling.{CoreFalls, maps_weight}
 use Rattle.hp_serve.specs.Party.{IsSameParty, Party, with_table}
 use Rattle.hp_serve.specs.Posting.{IsSpoken}
-use Rattle.hp_serve.specs.Serving.{CatchesUp, IsWorn, acks_behind, gives_segments, takes_segments}
+use Rattle.hp_serve.specs.Serving.{CatchesUp, IsWorn, tells_behind, gives_segments, takes_segments}
 use Rattle.hp_serve.specs.Tied.{IsTied}
 use Rattle.hp_serve.proofs.Scaled.{handed_falls}
 use Rattle.hp_serve.proofs.Spoken.{step_spoken}
@@ -95,7 +95,7 @@ pub mapped_by : (party : Party) (core next : Core) (before table : MapsView) (jo
     (own now : ℕ) (more : List MailStep) (answer : Option Out) → joined_then ≡ (joined || is_done caught) → CatchesUp taken.log before table caught
     → IsHanded (SelfMapped caught now) core next taken more answer
     → IsMapped (with_table core before joined party) (with_table next table joined_then party)
-    (takes_segments taken ∷ (acks_behind caught (length taken.log) ++ (Notes (Loaded 0 own) ∷ Notes (Read now) ∷ more))) answer
+    (takes_segments taken ∷ (tells_behind caught (length taken.log) ++ (Notes (Loaded 0 own) ∷ Notes (Read now) ∷ more))) answer
 mapped_by party core next before table joined joined_then taken caught own now more answer has caught_up is =
     maps core next taken caught table own now more refl refl caught_up is (ap (λ b. with_table next table b party) has)
 

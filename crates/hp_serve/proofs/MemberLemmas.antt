@@ -18,7 +18,7 @@ use Rattle.hp_segs.specs.SegsView.{SegsView, is_member}
 use Rattle.hp_serve.proofs.Weighs.{answer_weighs, some_weight, sync_weighs}
 use Rattle.hp_serve.specs.Frames.{Says}
 use Rattle.hp_serve.specs.Party.{Party, after_reply, one_more}
-use Rattle.hp_serve.specs.Serving.{CatchesUp, IsFollowed, Obeys, acks_behind, after_catching_up, gives_segments, is_reply, is_sync, obeys}
+use Rattle.hp_serve.specs.Serving.{CatchesUp, IsFollowed, Obeys, tells_behind, after_catching_up, gives_segments, is_reply, is_sync, obeys}
 
 -- what holds at one number and at each other one holds at all
 pub at_each : (P : ℕ → Type 0) (k : ℕ) → P k → ((n : ℕ) → n ≢ k → P n) → (n : ℕ) → P n
@@ -36,7 +36,7 @@ pub obeyed : (party after : Party) (taken : SegsView) (ended : Caught) (frame : 
     → Says frame (reply_of party.me ended taken) → CatchesUp taken.log party.maps after.maps ended
     → after ≡ after_reply (after_catching_up ended after.maps party)
     → Obeys party after taken
-    (acks_behind ended (length taken.log) ++ (gives_segments (after_catching party.me ended taken)
+    (tells_behind ended (length taken.log) ++ (gives_segments (after_catching party.me ended taken)
     ∷ Posts 0 frame (action_of party.plan message.Reply party.me (one_more party.sent.replies)) posted ∷ []))
 obeyed party after taken ended frame posted says caught_up after_is = record {
   caught = ended;
@@ -52,14 +52,14 @@ pub has_followed : (party inside : Party) (taken : SegsView) (ended : Caught) (m
     (posted : Posted) → inside ≡ party → is_member taken.roster inside.me ≡ true → Says frame (reply_of inside.me ended taken)
     → CatchesUp taken.log inside.maps maps ended → joined ≡ (inside.joined || is_done ended) → replies ≡ one_more inside.sent.replies
     → IsFollowed party (record inside { joined = joined; maps = maps; sent = record inside.sent { replies = replies } }) taken
-    (acks_behind ended (length taken.log) ++ (gives_segments (after_catching inside.me ended taken)
+    (tells_behind ended (length taken.log) ++ (gives_segments (after_catching inside.me ended taken)
     ∷ Posts 0 frame (action_of inside.plan message.Reply inside.me (one_more inside.sent.replies)) posted ∷ []))
     true
 has_followed party inside taken ended maps joined replies frame posted same member says caught_up joined_is replies_is =
     let left : Bool → ℕ → Party = λ j r. record inside { joined = j; maps = maps; sent = record inside.sent { replies = r } } in
     let after_is = ap (λ j. left j replies) joined_is ∙ ap (λ r. left (inside.joined || is_done ended) r) replies_is in
     let steps =
-    acks_behind ended (length taken.log) ++ (gives_segments (after_catching inside.me ended taken)
+    tells_behind ended (length taken.log) ++ (gives_segments (after_catching inside.me ended taken)
     ∷ Posts 0 frame (action_of inside.plan message.Reply inside.me (one_more inside.sent.replies)) posted ∷ []) in
     subst (λ party. IsFollowed party (left joined replies) taken steps true) same
     (obeys member (obeyed inside (left joined replies) taken ended frame posted says caught_up after_is) refl)

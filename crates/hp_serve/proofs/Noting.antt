@@ -1,5 +1,5 @@
 -- What a member gives back in place of the segment value that it took: that value, with a failed mapping noted, or as it was.
-use Rattle.std.proofs.Common.{◌≡◌, List, [], length, drop, Some, refl, ap, ◌∙◌, sym, subst, arith}
+use Rattle.std.proofs.Common.{◌≡◌, List, [], length, drop, Some, refl, ap, ◌∙◌, sym, subst, inl, arith}
 use Rattle.std.proofs.lemmas.List.{append-nil, drop_all}
 use Rattle.std.specs.List.{Contains}
 use Rattle.std.specs.Prelude.{ℕ, Bool, true, false, None, slice_index_or, if◌then◌else◌}
@@ -53,15 +53,19 @@ noted_gives knows taken given is of_armed = record {
   more = [];
   log = is.log ∙ sym (append-nil taken.log);
   form = logs (record {
-    moved = moves_widen is_log_call is_log_call 0 1 taken given (λ call allowed. allowed) (omega arith) is.moved;
-    agreed =
-        λ entry generation member there granted joined.
-        absurd (none_there entry (drop (length taken.asks) given.asks)
-        (drop_all (length taken.asks) given.asks (omega (arith, ap (λ (asks : List AskLog). length asks) is.asks))) there);
-    armed = λ other apart. ap (λ armed. slice_index_or armed other None) is.armed;
-    for_held = λ ask armed unarmed.
-        absurd (unarmed (sym (ap (λ armed. slice_index_or armed knows.who None) is.armed) ∙ armed));
-    of_armed = of_armed;
+    give = record {
+      moved = moves_widen is_log_call is_log_call 0 1 taken given (λ call allowed. allowed) (omega arith) is.moved;
+      agreed =
+          λ entry generation member there granted joined.
+          absurd (none_there entry (drop (length taken.asks) given.asks)
+          (drop_all (length taken.asks) given.asks (omega (arith, ap (λ (asks : List AskLog). length asks) is.asks))) there);
+    };
+    arms = record {
+      others = λ other apart. ap (λ armed. slice_index_or armed other None) is.armed;
+      for_held = λ ask armed. inl (sym (ap (λ armed. slice_index_or armed knows.who None) is.armed) ∙ armed);
+      settled = λ ask armed. inl (ap (λ armed. slice_index_or armed knows.who None) is.armed ∙ armed);
+      of_armed = of_armed;
+    };
   });
 }
 

@@ -43,7 +43,7 @@ module _ (who heap : ℕ) (run : Run) (parts : ℕ → HeapPart) (segs : SegsVie
         more = [];
         log = sym (append-nil segs.log);
         form = owns (record {
-          moved = calls_move is_owner_call (Retire heap run) segs refl owns_run;
+          give = record { moved = calls_move is_owner_call (Retire heap run) segs refl owns_run };
           others = λ other none. others_stay other (λ is.
               let here : (parts heap).holding ≡ None =
               ap (λ other. (parts other).holding) (sym is) ∙ (ap (λ (part : HeapPart). part.holding) (sym (same other)) ∙ none) in

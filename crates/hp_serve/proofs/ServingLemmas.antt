@@ -20,7 +20,7 @@ use Rattle.hp_serve.specs.Coordinating.{Hands, IsAnswered, IsAskIn, IsCarried, I
 use Rattle.hp_serve.specs.Frames.{Says, to_handler}
 use Rattle.hp_serve.specs.Party.{Party}
 use Rattle.hp_serve.specs.Posting.{AreTold, IsPosted, IsToldOne, is_told, syncs_after}
-use Rattle.hp_serve.specs.Serving.{answer_behind, IsFollowed, IsHeeded, IsMemberServed, IsTold, acks_behind, gives_segments, is_sync, takes_segments}
+use Rattle.hp_serve.specs.Serving.{answer_behind, IsFollowed, IsHeeded, IsMemberServed, IsTold, tells_behind, gives_segments, is_sync, takes_segments}
 use Rattle.hp_serve.specs.Servings.{EachPost, FollowsSync, HandsOver, IsCorePost, IsReplyPost, ServesSo}
 use Rattle.hp_serve.proofs.Telling.{told_declared}
 
@@ -43,11 +43,11 @@ each_then P (Notes note ∷ first) more here there = each_then P first more here
 each_of : (P : ℕ → Frame → Type 0) (steps same : List MailStep) → steps ≡ same → EachPost P same → EachPost P steps
 each_of P steps same is each = subst (EachPost P) (sym is) each
 
-each_acks : (P : ℕ → Frame → Type 0) (caught : Caught) (records : ℕ) (more : List MailStep) → EachPost P more
-    → EachPost P (acks_behind caught records ++ more)
-each_acks P caught.Done records more each = each
-each_acks P (caught.Refused row call) records more each = each
-each_acks P (caught.Elsewhere row call got) records more each = each
+each_tells : (P : ℕ → Frame → Type 0) (caught : Caught) (records : ℕ) (more : List MailStep) → EachPost P more
+    → EachPost P (tells_behind caught records ++ more)
+each_tells P caught.Done records more each = each
+each_tells P (caught.Refused row call) records more each = each
+each_tells P (caught.Elsewhere row call got) records more each = each
 
 -- OF PARTICIPANT 0
 
@@ -91,7 +91,7 @@ module _ (count : ℕ) where
   each_mapped : (party after : Party) (steps : List MailStep) (answer : Option Out) → IsMapped party after steps answer → Each steps
   each_mapped party after steps answer (IsMapped.maps core next taken caught table own now more core_is did caught_up is after_is) =
       each_of (IsCorePost count) steps _ did
-      (each_acks (IsCorePost count) caught (length taken.log) _ (each_handed _ core next taken more answer is))
+      (each_tells (IsCorePost count) caught (length taken.log) _ (each_handed _ core next taken more answer is))
   each_mapped party after steps answer (IsMapped.worn taken is_worn did after_is none) = each_of (IsCorePost count) steps _ did tt
 
   each_settled : (party after : Party) (answer : Out) (steps : List MailStep) (goes : Bool) → IsSettled count party after answer steps goes → Each steps
@@ -221,7 +221,7 @@ followed_so : (party after : Party) (taken : SegsView) (steps : List MailStep) (
 followed_so party after taken steps goes (IsFollowed.obeys member obeys is) =
     FollowsSync.replies taken obeys.caught obeys.replied.frame obeys.replied.posted member obeys.replied.says
     (ap (λ (steps : List MailStep). takes_segments taken ∷ steps) (obeys.done
-    ∙ ap (λ (reply : MailStep). acks_behind obeys.caught (length taken.log) ++ (gives_segments (after_catching party.me obeys.caught taken)
+    ∙ ap (λ (reply : MailStep). tells_behind obeys.caught (length taken.log) ++ (gives_segments (after_catching party.me obeys.caught taken)
     ∷ reply ∷ [])) obeys.replied.posts))
     (ap answer_behind is)
 followed_so party after taken steps goes (IsFollowed.is_out member did after_is is) =
@@ -266,9 +266,9 @@ each_followed party after taken steps goes frame generation round says (IsFollow
       is_sync = says;
     } in
     each_of P steps _ (obeys.done
-    ∙ ap (λ (reply : MailStep). acks_behind obeys.caught (length taken.log) ++ (gives_segments (after_catching party.me obeys.caught taken)
+    ∙ ap (λ (reply : MailStep). tells_behind obeys.caught (length taken.log) ++ (gives_segments (after_catching party.me obeys.caught taken)
     ∷ reply ∷ [])) obeys.replied.posts)
-    (each_acks P obeys.caught (length taken.log) _ (reply, tt))
+    (each_tells P obeys.caught (length taken.log) _ (reply, tt))
 each_followed party after taken steps goes frame generation round says (IsFollowed.is_out member did after_is is) =
     each_of (IsReplyPost party (Some frame)) steps _ did tt
 each_followed party after taken steps goes frame generation round says (IsFollowed.is_worn member worn did after_is is) =

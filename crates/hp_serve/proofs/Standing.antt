@@ -1,5 +1,6 @@
 -- What a participant has in the heaps where a segment value is given back: the rule "Holding" of docs/PARTICIPANTS.md.
-use Rattle.std.proofs.Common.{◌≡◌, ◌∙◌, ℕ, Option, Some, None, refl, ap, sym}
+use Rattle.std.proofs.Common.{◌≡◌, ◌∙◌, ℕ, Option, Some, None, refl, ap, sym, subst, inl, inr}
+use Rattle.std.specs.Prelude.{IsSome}
 use Rattle.std.specs.Option.{option_map}
 use Rattle.hp_segs.specs.LaterSteps.{armed_ask}
 use Rattle.hp_segs.specs.SegsView.{SegsView}
@@ -39,5 +40,10 @@ pub standing_with : (who : ℕ) (parts later : ℕ → HeapPart) (taken : SegsVi
 standing_with who parts later taken same are = record {
   held = λ heap holding is. are.held heap holding (sym (ap (λ (part : HeapPart). part.holding) (same heap)) ∙ is);
   armed = λ heap. ap (λ (part : HeapPart). part.armed) (same heap) ∙ are.armed heap;
+  asking = λ ask is. elim (are.asking ask is) [
+    | inl settled ↦ inl settled
+    | inr holds ↦ inr (subst (λ (part : HeapPart). IsSome part.holding) (sym (same ask.heap)) holds)
+  ];
   sound = are.sound;
+  pending = are.pending;
 }

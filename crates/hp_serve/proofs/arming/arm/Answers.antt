@@ -1,11 +1,11 @@
--- No growth of the participant is open, so it may be armed; and nothing is claimed for the new number.
+-- The participant's earlier ask is settled and no growth of it is open, so it may be armed; and nothing is claimed for the new number.
 use Rattle.std.proofs.Common.{◌∙◌, ℕ, ap, refl, sym, subst}
 use Rattle.std.specs.Prelude.{IsSome}
 use Rattle.hp_hall.specs.Holding.{HeapPart}
 use Rattle.hp_hall.proofs.HallStates.{did_then}
 use Rattle.hp_segs.specs.declared.ask.Ask.{Ask}
 use Rattle.hp_serve.specs.Asking.{next_number}
-use Rattle.hp_serve.proofs.Armed.{may_arm, next_above, none_claimed}
+use Rattle.hp_serve.proofs.Armed.{earlier_settled, may_arm, next_above, none_claimed}
 use Rattle.hp_serve.proofs.AskedAlong.{held_same, held_then}
 use Rattle.hp_serve.proofs.SegmentSlots.{Took, gave_parts, put_parts, took_has}
 use Rattle.hp_serve.proofs.arming.arm.Goals as goal
@@ -37,7 +37,7 @@ arm_taken-requires-clause-may g c =
     let mid = g.H.Hall.state c.take_segments-segs.new.hall in
     let took = c.take_segments-segs.ensures.took in
     let grown = c.take_segments-segs.ensures.others.later.heard me in
-    may_arm me (old.part me) (mid.part me) c.take_segments-segs.result (old.heard me) grown.0 (took.asks ∙ grown.1) took.part took.stands
+    may_arm me (old.part me) (mid.part me) c.take_segments-segs.result (old.heard me) grown.0 (took.asks ∙ grown.1) took.part took.sound took.stands
     c.requires.settled c.ask_of-ask.result (ap (λ (ask : Ask). ask.from) c.ask_of-ask.ensures) c.requires.few
 
 pub arm_taken-requires-clause-holds : goal.arm_taken-requires-clause-holds
@@ -50,6 +50,26 @@ arm_taken-requires-clause-holds g c =
     (sym (ap (λ (part : HeapPart). part.holding) (c.take_segments-segs.ensures.took.part c.ask_of-ask.result.heap)
     ∙ ap (λ (heap : ℕ). (old.part me heap).holding) its_heap))
     c.requires.holds
+
+-- its earlier ask is settled, by the value or as it knows
+pub arm_taken-requires-clause-settled : goal.arm_taken-requires-clause-settled
+arm_taken-requires-clause-settled g c =
+    let me = c.args.me in
+    let old = g.H.Hall.state c.args.hall.now in
+    let mid = g.H.Hall.state c.take_segments-segs.new.hall in
+    let took = c.take_segments-segs.ensures.took in
+    let grown = c.take_segments-segs.ensures.others.later.heard me in
+    earlier_settled me (old.part me) (mid.part me) c.take_segments-segs.result (old.heard me) grown.0 (took.asks ∙ grown.1) took.part took.sound
+    took.stands c.requires.settled
+
+pub returns-clause-mapped : goal.returns-clause-mapped
+returns-clause-mapped g c = c.in_ok-arm_taken.ensures.ok.gave.mapped
+
+pub returns-in_err-arm_taken-clause-mapped : goal.returns-in_err-arm_taken-clause-mapped
+returns-in_err-arm_taken-clause-mapped g c = c.in_err-arm_taken.ensures.err.gave.mapped
+
+pub returns-in_default-clause-mapped : goal.returns-in_default-clause-mapped
+returns-in_default-clause-mapped g c = c.put_back.ensures.back.back.gave.mapped
 
 pub returns-clause-number : goal.returns-clause-number
 returns-clause-number g c =

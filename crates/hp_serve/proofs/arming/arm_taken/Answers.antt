@@ -21,7 +21,8 @@ give_back-requires g c =
       gives = gives_in_place knows segs c.arm.new.self c.requires.has.taken
           (subst (GivesSegments knows segs) (sym c.in-Ok.ensures.ok)
           (arm_gives knows ask segs arm_keeps c.requires.sound c.requires.may c.requires.own
-          (subst (λ from. closed_number segs.asks from < ask.number) (sym c.requires.own) c.requires.above) c.requires.holds));
+          (subst (λ from. closed_number segs.asks from < ask.number) (sym c.requires.own) c.requires.above) c.requires.holds
+          c.requires.settled));
     }
 
 pub returns-in-Ok-clause-held : goal.returns-in-Ok-clause-held

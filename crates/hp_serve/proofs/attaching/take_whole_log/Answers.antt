@@ -1,5 +1,5 @@
 -- What the participant knows of its table lets it catch up, and few events come; the acknowledgement is its own step.
-use Rattle.std.proofs.Common.{◌≡◌, ◌∙◌, ◌≤◌, true, false, List, length, sym, ap, subst, arith}
+use Rattle.std.proofs.Common.{◌≡◌, ◌∙◌, ◌≤◌, true, false, List, length, inr, sym, ap, subst, arith}
 use Rattle.hp_base.specs.Mapping.{is_done}
 use Rattle.hp_base.specs.declared.caught.Caught.TheVariants.{Done}
 use Rattle.hp_hall.specs.HallState.{Did}
@@ -37,6 +37,10 @@ catch_up-caught-requires-clause-spare g c =
     (tied_can (places_of segs.pools) segs.log records ((g.H.Hall.state c.args.hall.now).own c.args.me) c.args.joined c.args.maps.now
     c.records-records.ensures.records (c.log_law.ensures.placed segs sound) few c.requires.tied c.requires.calls) in
     omega (arith, told, c.records-records.type_inv.1)
+
+-- the segment value is in hand
+pub ack-requires-clause-may : goal.ack-requires-clause-may
+ack-requires-clause-may g c = inr c.requires.hand
 
 pub returns-then-is_done-clause-did : goal.returns-then-is_done-clause-did
 returns-then-is_done-clause-did g c =

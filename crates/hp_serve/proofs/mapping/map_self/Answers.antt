@@ -3,7 +3,7 @@ use Rattle.std.proofs.Common.{◌∙◌, [], ◌∷◌, ◌++◌, length, arith}
 use Rattle.hp_hall.specs.Mail.{Notes}
 use Rattle.hp_hall.specs.declared.note.Note.TheVariants.{Loaded, Read}
 use Rattle.hp_hall.proofs.HallStates.{did_then}
-use Rattle.hp_serve.specs.Serving.{acks_behind, gives_segments, takes_segments}
+use Rattle.hp_serve.specs.Serving.{tells_behind, gives_segments, takes_segments}
 use Rattle.hp_serve.proofs.Handed.{mapped_by, tied_still, worn_by}
 use Rattle.hp_serve.proofs.SegmentSlots.{Took, freed_own, may_hold, put_own, put_stays, took_has}
 use Rattle.hp_serve.proofs.mapping.map_self.Goals as goal
@@ -73,7 +73,7 @@ returns-clause-mapped g c =
     let segs = c.take_segments-segs.result in
     let handed = c.catch_and_hand.ensures.handed in
     let behind =
-    acks_behind handed.0 (length segs.log) ++ (Notes (Loaded 0 handed.1) ∷ Notes (Read handed.2) ∷ handed.3) in (
+    tells_behind handed.0 (length segs.log) ++ (Notes (Loaded 0 handed.1) ∷ Notes (Read handed.2) ∷ handed.3) in (
       takes_segments segs ∷ behind,
       did_then c.take_segments-segs.ensures.took.did handed.4,
       λ party. mapped_by party c.args.core.now c.catch_and_hand.new.core c.args.maps.now c.catch_and_hand.new.maps c.args.joined.now

@@ -5,7 +5,7 @@ use Rattle.hp_base.specs.declared.plan_entry.MsgKind.TheVariants.{Reply}
 use Rattle.hp_core.specs.Following.{after_catching}
 use Rattle.hp_hall.specs.Mail.{Posts}
 use Rattle.hp_serve.specs.Party.{Party, one_more}
-use Rattle.hp_serve.specs.Serving.{IsWorn, acks_behind, gives_segments, is_out, is_worn, takes_segments}
+use Rattle.hp_serve.specs.Serving.{IsWorn, tells_behind, gives_segments, is_out, is_worn, takes_segments}
 use Rattle.hp_serve.specs.Tied.{IsTied}
 use Rattle.hp_serve.proofs.MemberLemmas.{has_followed}
 use Rattle.hp_serve.proofs.Tying.{tied_since}
@@ -207,7 +207,7 @@ returns-clause-followed g c =
     let gives = gives_segments (after_catching c.self.inside.me c.obey-caught.result segs) in
     let posts =
     Posts 0 did.0 (action_of c.self.inside.plan.now Reply c.self.inside.me (one_more c.self.inside.sent.replies)) did.1 in
-    let more = acks_behind c.obey-caught.result (length segs.log) ++ (gives ∷ posts ∷ []) in (
+    let more = tells_behind c.obey-caught.result (length segs.log) ++ (gives ∷ posts ∷ []) in (
       segs,
       more,
       subst (λ who. Did who (takes_segments segs ∷ more) (g.H.Hall.state c.args.hall.now) (g.H.Hall.state c.obey-caught.new.hall)) me
