@@ -1,4 +1,5 @@
 pub mod Agreeing
+pub mod FirstHall
 pub mod Given
 pub mod Giver
 pub mod Halls

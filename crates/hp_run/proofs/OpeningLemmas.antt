@@ -13,11 +13,10 @@ use Rattle.hp_heap.specs.History.{HeapView, IsSound, opening_of, replay}
 use Rattle.hp_heap.specs.PlainHeap.{PlainHeap}
 use Rattle.hp_heap.specs.declared.entry.Entry.{Entry}
 use Rattle.hp_script.specs.declared.workload.Workload.{Workload}
-use Rattle.hp_hall.proofs.Gives.{bare_pages}
 use Rattle.hp_plain.specs.HallSteps.{opening_hall}
 use Rattle.hp_plain.specs.HallView.{HallView}
-use Rattle.hp_segs.specs.Standing.{owned_by}
-use Rattle.hp_plain.specs.Opening.{HavePages}
+use Rattle.hp_plain.specs.Opening.{MayOpenWith}
+use Rattle.hp_plain.proofs.FirstHall.{new_opens}
 use Rattle.hp_hall.specs.Own.{after_ack}
 use Rattle.hp_segs.specs.SegsView.{SegsView}
 use Rattle.hp_proc.specs.Heaps.{names_socket, sockets_of}
@@ -116,16 +115,11 @@ not_named entries plan index other distinct so_far within =
     (subst (λ (late : PlanEntry). names_same (get_or entries i d) late ≡ false) (get_or_default entries index d other within)
     (distinct i index d early within)))
 
--- no segment is a heap's own where a segment value opens
-pub none_owned : (workload : Workload) (segs : SegsView) (heap : ℕ) → segs ≡ first_segs workload → owned_by heap segs ≡ []
-none_owned workload segs heap is = ap (owned_by heap) is
-
--- the heaps of a workload have the pages that the segment value has for them where both open
-pub first_pages : (workload : Workload) (heaps : List HeapView) (segs : SegsView) → AreFirstHeaps workload heaps
-    → segs ≡ first_segs workload → HavePages heaps segs
-first_pages workload heaps segs first is = λ number heap there.
-    bare_pages heap.plain.pages (owned_by number segs) (first_bare workload heaps first number heap there)
-    (none_owned workload segs number is)
+-- a hall may open with the heaps and the segment value of a workload
+pub first_opens : (workload : Workload) (heaps : List HeapView) (segs : SegsView) → AreFirstHeaps workload heaps
+    → segs ≡ first_segs workload → MayOpenWith heaps segs
+first_opens workload heaps segs first is =
+    new_opens workload.pools.items workload.participants workload.absent heaps segs is first.unused (first_bare workload heaps first)
 
 -- the hall over them, to which nobody has come yet
 pub empty_hall_is : (workload : Workload) (heaps : List HeapView) (segs : SegsView) (plain : HallView) (hall : SoloView)

@@ -44,6 +44,8 @@ line_made does =
     record {
       facts = does.facts;
       known = does.known;
+      held = does.held;
+      once = does.once;
       does = record {
         trace = it.trace;
         steps = it.steps;

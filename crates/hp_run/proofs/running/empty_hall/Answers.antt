@@ -3,13 +3,13 @@ use Rattle.hp_base.specs.declared.pool_line.PoolLine.{PoolLine}
 use Rattle.hp_segs.specs.Opening.{opening}
 use Rattle.hp_solo.specs.Solo.{SoloView, nobody}
 use Rattle.hp_run.specs.Opening.{IsEmptyHall}
-use Rattle.hp_run.proofs.OpeningLemmas.{empty_hall_is, first_pages, if_ok}
+use Rattle.hp_run.proofs.OpeningLemmas.{empty_hall_is, first_opens, if_ok}
 use Rattle.hp_run.proofs.running.empty_hall.Goals as goal
 
-pub new-requires-2-clause-pages : goal.new-requires-2-clause-pages
-new-requires-2-clause-pages g c =
+pub new-requires-2-clause-opens : goal.new-requires-2-clause-opens
+new-requires-2-clause-opens g c =
     let workload = c.args.workload.now in
-    first_pages workload c.in_ok-heaps.heaps.items c.in_ok-segs.segs c.in_ok-heaps.ensures
+    first_opens workload c.in_ok-heaps.heaps.items c.in_ok-segs.segs c.in_ok-heaps.ensures
     (c.in_ok-segs.ensures
     ∙ ap (λ (pools : List PoolLine). opening pools workload.participants workload.absent) c.deref.ensures.value)
 
