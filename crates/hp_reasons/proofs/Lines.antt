@@ -138,8 +138,9 @@ module _ (quietly : AreWaitsQuiet) (set : Setting) (me : ℕ) (is_set : IsSettin
       same)
 
   -- while it is out, what it does but for an attach leaves it out
-  still_out : (hand last : Option ℕ) (held : List ℕ) (old between : SoloView) (doer mid : ParticipantView) (world : World) (first : List Done) (before : List MailStep)
-      → IsWorldOf old me doer.party world → IsQuietWorld set world → Acts set.count hand last held doer mid first before → Sequence me old before between
+  still_out : (hand last : Option ℕ) (held : List ℕ) (old between : SoloView) (doer mid : ParticipantView) (world : World)
+      (first : List Done) (before : List MailStep) → IsWorldOf old me doer.party world → IsQuietWorld set world
+      → Acts set.count hand last held doer mid first before → Sequence me old before between
       → (owes : Bool) → LeadsTo (IsQuietOwing set owes) between me mid.party → doer.party.joined ≡ false → list_any is_looked first ≡ false
       → mid.party.joined ≡ false
   still_out hand last held old between doer mid world first before its quiet here sequence owes behind out nothing =
@@ -156,7 +157,8 @@ module _ (quietly : AreWaitsQuiet) (set : Setting) (me : ℕ) (is_set : IsSettin
       sym (behind.holds.quiet.base.places me mid.party behind.its.own).joined ∙ world_out between me mid.party behind.world behind.its now
 
   walks : (hand last : Option ℕ) (held : List ℕ) (doer after : ParticipantView) (trace : List Done) (steps : List MailStep)
-      → Acts set.count hand last held doer after trace steps → (old new : SoloView) (world : World) → IsWorldOf old me doer.party world → (owes left : Bool) → IsQuietOwing set owes world → new.plain.clock ≤ 2 ^ 62
+      → Acts set.count hand last held doer after trace steps → (old new : SoloView) (world : World)
+      → IsWorldOf old me doer.party world → (owes left : Bool) → IsQuietOwing set owes world → new.plain.clock ≤ 2 ^ 62
       → Sequence me old steps new → AttachesOnce doer.party trace → Owes owes trace left → LeadsTo (IsQuietOwing set left) new me after.party
   walks _ _ _ doer after trace steps (Acts.nothing _ _) old new world its owes left owing early sequence once pays =
       knows_more old new doer.party doer.party world [] its owes left owing (owes_still owes left pays) sequence tt (λ own. own.along.made)
@@ -229,8 +231,8 @@ module _ (quietly : AreWaitsQuiet) (set : Setting) (me : ℕ) (is_set : IsSettin
       knows_more old new doer.party after.party world [] its owes left owing (owes_still owes left pays) sequence tt (λ own. own.along.made)
       (record { me = refl; deadline = refl; plan = refl; core = refl; asked = refl; sent = refl; calls = omega arith })
       (record { joined = refl; maps = refl })
-  walks _ _ _ doer after _ steps (Acts.and_then hand between last held more _ mid _ first rest before behind here next) old new world its owes
-      left owing early sequence once pays =
+  walks _ _ _ doer after _ steps (Acts.and_then hand between last held more _ mid _ first rest before behind here next) old new world its
+      owes left owing early sequence once pays =
       let cut = cut_in me old new steps before behind refl sequence in
       let rises = clock_rises me behind cut.mid new cut.ends (acts_timed set.count between last more mid after rest behind next) in
       let both = owes_both owes left first rest pays in

@@ -140,8 +140,8 @@ along_timed count = record {
 }
 
 -- all that a line does is timed
-pub acts_timed : (count : ℕ) (hand last : Option ℕ) (held : List ℕ) (doer after : ParticipantView) (trace : List Done) (steps : List MailStep)
-    → Acts count hand last held doer after trace steps → AreTimed steps
+pub acts_timed : (count : ℕ) (hand last : Option ℕ) (held : List ℕ) (doer after : ParticipantView) (trace : List Done)
+    (steps : List MailStep) → Acts count hand last held doer after trace steps → AreTimed steps
 acts_timed count hand last held doer after trace steps acts =
     (acts_are count (λ who. ⊤) ⊤ AreTimed (along_timed count) hand last held doer after trace steps acts (λ looks. tt) tt).0
 

@@ -233,8 +233,9 @@ module _ (count me : ℕ) (secondary : me ≢ 0) where
   }
 
   -- so who is out stays out where its line doesn't attach
-  pub out_stays : (hand last : Option ℕ) (held : List ℕ) (doer after : ParticipantView) (trace : List Done) (steps : List MailStep) (old new : SoloView) → doer.party.me ≡ me
-      → Acts count hand last held doer after trace steps → list_any is_looked trace ≡ false → Sequence me old steps new
+  pub out_stays : (hand last : Option ℕ) (held : List ℕ) (doer after : ParticipantView) (trace : List Done) (steps : List MailStep)
+      (old new : SoloView) → doer.party.me ≡ me → Acts count hand last held doer after trace steps
+      → list_any is_looked trace ≡ false → Sequence me old steps new
       → KeepsOut me (values_in old.plain) → KeepsOut me (values_in new.plain)
   out_stays hand last held doer after trace steps old new its acts looks sequence was =
       let never : list_any is_looked trace ≡ true → ⊥ = λ looked. cc in

@@ -81,8 +81,8 @@ module _ (set : Setting) (sets : IsSetting set) (waits : AreWaitsQuiet) (acts : 
 
   leads : LeadsTo (IsQuietOwing set false) does.back me does.after.party
   leads =
-      acts waits set me false false does.away does.back None None does.does.held does.doer does.after does.does.does.trace does.does.does.steps world sets gone
-      quiet early does.sequence looks owes did
+      acts waits set me false false does.away does.back None None does.does.held does.doer does.after does.does.does.trace
+      does.does.does.steps world sets gone quiet early does.sequence looks owes did
 
   within : me < length does.back.servers
   within =

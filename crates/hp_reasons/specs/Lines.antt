@@ -83,6 +83,7 @@ LinesOweNothing = (line : Line) (facts : Facts) (trace : List Done) (answer : An
 -- what a participant does of its line leads from a quiet world to a quiet one
 abbrev pub ActsInQuiet : Type 0
 ActsInQuiet = AreWaitsQuiet → (set : Setting) (me : ℕ) (owes left : Bool) (old new : SoloView) (hand last : Option ℕ) (held : List ℕ)
-    (doer after : ParticipantView) (trace : List Done) (steps : List MailStep) (world : World) → IsSetting set → IsWorldOf old me doer.party world → IsQuietOwing set owes world
-    → new.plain.clock ≤ 2 ^ 62 → Sequence me old steps new → AttachesOnce doer.party trace → Owes owes trace left
+    (doer after : ParticipantView) (trace : List Done) (steps : List MailStep) (world : World) → IsSetting set
+    → IsWorldOf old me doer.party world → IsQuietOwing set owes world → new.plain.clock ≤ 2 ^ 62
+    → Sequence me old steps new → AttachesOnce doer.party trace → Owes owes trace left
     → Acts set.count hand last held doer after trace steps → LeadsTo (IsQuietOwing set left) new me after.party
