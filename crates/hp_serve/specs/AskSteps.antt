@@ -72,7 +72,7 @@ pub record DoesAsk (count : ℕ) (party after : Party) (asked : PagesAsked) (ste
 pub record AsksIn (me : ℕ) (old new : Party) (asked : PagesAsked) (from to : HallState) (answered : Answered) : Type 0 where
   pub did : answered.stopped ≡ false
       → (steps : List MailStep) × Did me steps from to × DoesAsk from.count old new asked steps answered.run
-  pub asked : IsAsked (to.seen me) (to.heard me) me old.asked new.asked asked answered.run
+  pub answer : IsAsked (to.seen me) (to.heard me) me old.asked new.asked asked answered.run
   pub grows : GrowsHeld asked.heap answered.run (from.part me asked.heap) (to.part me asked.heap)
 
 -- a participant tells that it gave up a run of a heap, as the plan has its next notice, reads its clock, and waits for the answer, for three
