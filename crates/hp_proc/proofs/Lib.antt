@@ -18,7 +18,6 @@ pub mod Makers
 pub mod Mapped
 pub mod Noted
 pub mod PagesStay
-pub mod Pushed
 pub mod Rising
 pub mod SocketHeapLemmas
 pub mod Unarmed
