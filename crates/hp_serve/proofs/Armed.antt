@@ -72,8 +72,10 @@ module _ (who : ℕ) (parts now : ℕ → HeapPart) (segs : SegsView) (heard mor
   earlier_settled earlier is = elim (standing.asking earlier is) [
     | inl done ↦ done
     | inr holds ↦
-        let mine : (parts 0).armed ≡ Some earlier = ap (λ (part : HeapPart). part.armed) (sym (same 0)) ∙ (standing.armed 0 ∙ is) in
-        let known = subst (λ (part : HeapPart). IsKnownSettled heard part.holding earlier) (sym (same earlier.heap)) (settled 0 earlier mine) in
+        let mine : (parts earlier.heap).armed ≡ Some earlier =
+        ap (λ (part : HeapPart). part.armed) (sym (same earlier.heap)) ∙ (standing.armed earlier.heap ∙ is) in
+        let known =
+        subst (λ (part : HeapPart). IsKnownSettled heard part.holding earlier) (sym (same earlier.heap)) (settled earlier.heap earlier mine refl) in
         settled_in_hand segs heard more earlier (now earlier.heap).holding sound grown (standing.held earlier.heap) holds known
   ]
 

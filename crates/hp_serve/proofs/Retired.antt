@@ -1,9 +1,11 @@
 -- A run that was cut from a heap is its own, and what the value has for that heap is without the run's rows once it is given up.
-use Rattle.std.proofs.Common.{◌≡◌, ◌≢◌, ◌∙◌, ℕ, [], append-nil, Option, Some, None, refl, ap, sym, subst}
+use Rattle.std.proofs.Common.{◌≡◌, ◌≢◌, ◌∙◌, ℕ, List, [], ◌++◌, append-nil, Option, Some, None, refl, ap, sym, subst, inl, inr}
+use Rattle.std.proofs.lemmas.Bool.{cases_eq}
 use Rattle.std.specs.Option.{option_map}
 use Rattle.hp_base.specs.declared.row.Run.{Run}
 use Rattle.hp_hall.specs.Giving.{GivesSegments, Knows, owns}
-use Rattle.hp_hall.specs.Holding.{AreStanding, HasPages, HeapPart, part_behind}
+use Rattle.hp_hall.specs.Asks.{IsKnownSettled}
+use Rattle.hp_hall.specs.Holding.{AreStanding, HasPages, HeapPart, IsSettledFor, part_behind}
 use Rattle.hp_segs.specs.Standing.{Holding, owned_by, standing_of}
 use Rattle.hp_hall.specs.Standings.{IsGivenUpWith, RetireLeavesOthers, RetireTakesPages, RetireTakesRows}
 use Rattle.hp_heap.specs.Cut.{after_cut}
@@ -15,8 +17,10 @@ use Rattle.hp_segs.specs.SegsView.{SegsView}
 use Rattle.hp_segs.specs.Sound.{IsSound}
 use Rattle.hp_segs.specs.Steps.{after_retire}
 use Rattle.hp_segs.specs.declared.ask.Ask.{Ask}
+use Rattle.hp_segs.specs.declared.outcome.AskLog.{AskLog}
 use Rattle.hp_segs.proofs.Moves.{calls_move}
-use Rattle.hp_serve.specs.Asking.{GivesUp, IsCutFrom, without_run}
+use Rattle.hp_serve.specs.Asking.{GivesUp, HasSettledAsks, IsCutFrom, without_run}
+use Rattle.hp_serve.proofs.AskKnown.{known_more}
 use Rattle.hp_serve.proofs.AskSettled.{held_by, part_alike}
 
 module _ (who heap : ℕ) (run : Run) (parts : ℕ → HeapPart) (segs : SegsView) (sound : IsSound segs) (standing : AreStanding who parts segs)
@@ -82,3 +86,20 @@ module _ (who heap : ℕ) (run : Run) (parts : ℕ → HeapPart) (segs : SegsVie
               (subst (λ index. HasPages (after_cut cut.address cut.whole).pages (owned_by index given)) cut.its_index
               (given_up left cut).pages));
         }
+
+-- who gives up a run stays settled in its asks: what the heap has claimed stays, and outcomes follow
+pub settled_behind : (heap : ℕ) (run : Run) (old new : ℕ → HeapPart) (segs : SegsView) (heard more : List AskLog) → IsSound segs
+    → segs.asks ≡ heard ++ more → GivesUp heap run (old heap) (new heap) → ((other : ℕ) → other ≢ heap → new other ≡ old other)
+    → HasSettledAsks old heard → HasSettledAsks new segs.asks
+settled_behind heap run old new segs heard more sound grown gives others settled other = elim (cases_eq other heap) [
+  | inl same ↦ subst (λ index. IsSettledFor index segs.asks (new index)) (sym same) (λ ask armed its.
+      let was : (old heap).armed ≡ Some ask = sym (ap (λ (part : HeapPart). part.armed) gives.left) ∙ armed in
+      let known : IsKnownSettled segs.asks (Some gives.before) ask =
+      subst (λ (held : Option Holding). IsKnownSettled segs.asks held ask) gives.held
+      (known_more segs heard more (old heap).holding ask sound grown (settled heap ask was its)) in
+      let left : (new heap).holding ≡ Some (without_run run gives.before) = ap (λ (part : HeapPart). part.holding) gives.left in
+      subst (λ (held : Option Holding). IsKnownSettled segs.asks held ask) (sym left)
+      (record { answered = known.answered; claims = known.claims }))
+  | inr apart ↦ subst (λ (part : HeapPart). IsSettledFor other segs.asks part) (sym (others other apart)) (λ ask armed its.
+      known_more segs heard more (old other).holding ask sound grown (settled other ask armed its))
+]

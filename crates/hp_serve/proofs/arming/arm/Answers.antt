@@ -4,7 +4,8 @@ use Rattle.std.specs.Prelude.{IsSome}
 use Rattle.hp_hall.specs.Holding.{HeapPart}
 use Rattle.hp_hall.proofs.HallStates.{did_then}
 use Rattle.hp_segs.specs.declared.ask.Ask.{Ask}
-use Rattle.hp_serve.specs.Asking.{next_number}
+use Rattle.hp_serve.specs.Asking.{HasSettledAsks, next_number}
+use Rattle.hp_serve.proofs.AskKnown.{settled_more}
 use Rattle.hp_serve.proofs.Armed.{earlier_settled, may_arm, next_above, none_claimed}
 use Rattle.hp_serve.proofs.AskedAlong.{held_same, held_then}
 use Rattle.hp_serve.proofs.SegmentSlots.{Took, gave_parts, put_parts, took_has}
@@ -152,3 +153,31 @@ returns-in_default-clause-stays g c =
 pub returns-in_default-clause-goes_on : goal.returns-in_default-clause-goes_on
 returns-in_default-clause-goes_on g c =
     g.met.H.Hall.goes_on_then _ _ _ c.take_segments-segs.ensures.goes_on c.put_back.ensures.goes_on
+
+-- where nothing was armed its asks are settled still: it holds what it held, and outcomes follow
+pub returns-in_err-arm_taken-clause-err : goal.returns-in_err-arm_taken-clause-err
+returns-in_err-arm_taken-clause-err g c =
+    let me = c.args.me in
+    let old = g.H.Hall.state c.args.hall.now in
+    let new = g.H.Hall.state c.arm_taken.new.hall in
+    let took = c.take_segments-segs.ensures.took in
+    let grown = c.take_segments-segs.ensures.others.later.heard me in
+    let gave = c.in_err-arm_taken.ensures.err.gave in
+    subst (HasSettledAsks (new.part me)) gave.asks
+    (settled_more c.take_segments-segs.result (old.part me) (new.part me) (old.heard me) grown.0 took.sound (took.asks ∙ grown.1)
+    (λ heap. ap (λ (part : HeapPart). part.armed) (gave.part heap)
+    ∙ (sym (took.stands.armed heap) ∙ ap (λ (part : HeapPart). part.armed) (took.part heap)))
+    (λ heap. (returns-in_err-arm_taken-clause-held g c heap).holding) c.requires.settled)
+
+pub returns-in_default-clause-err : goal.returns-in_default-clause-err
+returns-in_default-clause-err g c =
+    let me = c.args.me in
+    let old = g.H.Hall.state c.args.hall.now in
+    let new = g.H.Hall.state c.put_back.new.hall in
+    let took = c.take_segments-segs.ensures.took in
+    let grown = c.take_segments-segs.ensures.others.later.heard me in
+    let back = c.put_back.ensures.back in
+    subst (HasSettledAsks (new.part me)) back.back.gave.asks
+    (settled_more c.take_segments-segs.result (old.part me) (new.part me) (old.heard me) grown.0 took.sound (took.asks ∙ grown.1)
+    (λ heap. ap (λ (part : HeapPart). part.armed) (back.parts.part heap ∙ took.part heap))
+    (λ heap. (returns-in_default-clause-held g c heap).holding) c.requires.settled)

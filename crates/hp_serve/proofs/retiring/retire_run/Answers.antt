@@ -7,9 +7,10 @@ use Rattle.hp_hall.specs.Holding.{part_behind}
 use Rattle.hp_hall.proofs.StandingCuts.{retire_takes_pages}
 use Rattle.hp_hall.proofs.StandingRetires.{retire_leaves_others, retire_takes_rows}
 use Rattle.hp_segs.specs.SegsView.{SegsView, is_member}
+use Rattle.hp_serve.specs.Asking.{HasSettledAsks}
 use Rattle.hp_serve.specs.Serving.{gives_segments}
 use Rattle.hp_serve.proofs.Noting.{gives_in_place}
-use Rattle.hp_serve.proofs.Retired.{gives_up, owns_run, part_stays, retire_gives}
+use Rattle.hp_serve.proofs.Retired.{gives_up, owns_run, part_stays, retire_gives, settled_behind}
 use Rattle.hp_serve.proofs.Standing.{standing_with}
 use Rattle.hp_serve.proofs.SegmentSlots.{Took, gave_parts, took_serves}
 use Rattle.hp_serve.proofs.retiring.retire_run.Goals as goal
@@ -84,6 +85,23 @@ returns-clause-others g c = λ other apart.
     (λ heap. subst (λ (given : SegsView). (g.H.Hall.state c.give_back.new.hall).part me heap ≡ part_behind me given heap (old heap))
     c.retire.ensures.step
     (c.give_back.ensures.back.gave.part heap ∙ ap (part_behind me c.retire.new.self heap) (c.take_segments-segs.ensures.took.part heap))) other apart
+
+pub returns-clause-settled : goal.returns-clause-settled
+returns-clause-settled g c = λ settled.
+    let me = c.args.me in
+    let old = g.H.Hall.state c.args.hall.now in
+    let new = g.H.Hall.state c.give_back.new.hall in
+    let segs = c.take_segments-segs.result in
+    let took = c.take_segments-segs.ensures.took in
+    let grown = c.take_segments-segs.ensures.others.later.heard me in
+    let heard : segs.asks ≡ new.heard me =
+    ap (λ (segs : SegsView). segs.asks) (sym c.retire.ensures.step) ∙ c.give_back.ensures.back.gave.asks in
+    subst (HasSettledAsks (new.part me)) heard
+    (settled_behind c.args.heap c.args.run.now (old.part me) (new.part me) segs (old.heard me) grown.0 took.sound (took.asks ∙ grown.1)
+    (returns-clause-gives_up g c) (returns-clause-others g c) settled)
+
+pub returns-clause-mapped : goal.returns-clause-mapped
+returns-clause-mapped g c = c.give_back.ensures.back.gave.mapped
 
 pub returns-clause-did : goal.returns-clause-did
 returns-clause-did g c = (
