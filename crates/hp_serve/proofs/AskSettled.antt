@@ -1,13 +1,16 @@
 -- What settles an ask: a grant is claimed, a refusal stands, or the ask is taken back.
-use Rattle.std.proofs.Common.{◌≡◌, ◌≢◌, ◌∙◌, ℕ, [], append-nil, Option, Some, None, refl, ap, sym, subst}
-use Rattle.std.specs.Prelude.{IsSome, slice_index_or}
+use Rattle.std.proofs.Common.{◌≡◌, ◌≢◌, ◌∙◌, ℕ, [], ◌∷◌, ◌++◌, append-nil, Option, Some, None, refl, ap, sym, subst}
+use Rattle.std.specs.Prelude.{Contains, IsSome, slice_index_or}
 use Rattle.std.specs.List.{find}
 use Rattle.std.specs.Option.{option_and_then, option_map}
+use Rattle.std.proofs.lemmas.List.Elements.{Contains-append_right}
 use Rattle.hp_base.specs.declared.row.Run.{Run}
+use Rattle.hp_heap.proofs.ChoiceLaw.{Contains-here}
+use Rattle.hp_hall.specs.Asks.{IsClaimedIn}
 use Rattle.hp_hall.specs.Giving.{GivesSegments, Knows, owns}
 use Rattle.hp_hall.specs.Holding.{AreStanding, HasPages, HeapPart, part_behind}
 use Rattle.hp_segs.specs.Standing.{Holding, owned_by, standing_of}
-use Rattle.hp_hall.specs.Standings.{ClaimBrings, ClaimLeavesOthers, ClaimedCanGrow, IsGrantFor}
+use Rattle.hp_hall.specs.Standings.{ClaimBrings, ClaimLeavesOthers, ClaimPuts, ClaimedCanGrow, IsGrantFor, PutsClaim}
 use Rattle.hp_heap.specs.Growing.{after_grow}
 use Rattle.hp_segs.specs.Calls.{IsUnclaimedGrant}
 use Rattle.hp_segs.specs.LaterSteps.{armed_ask}
@@ -21,6 +24,7 @@ use Rattle.hp_segs.specs.declared.outcome.Cause.{Cause}
 use Rattle.hp_segs.specs.declared.outcome.Outcome.TheVariants.{Granted, Refused}
 use Rattle.hp_segs.proofs.Moves.{calls_move}
 use Rattle.hp_serve.specs.Asking.{BringsPages, Gives, IsAwaiting, MayCome, Settles}
+use Rattle.hp_serve.proofs.AskKnown.{known_by, only_answer, refused_known}
 use Rattle.hp_serve.proofs.AskOutcomes.{can_claim, grant_for, grant_is, is_among, keeps_the_ask}
 
 -- a part behind a give is as it was, where the value has the same for its heap and its participant is armed with the same ask
@@ -83,7 +87,7 @@ pub claim_gives : (knows : Knows) (who number : ℕ) (segs : SegsView) → IsUnc
 claim_gives knows who number segs may others = record {
   more = [];
   log = claim_log who number segs ∙ sym (append-nil segs.log);
-  form = owns (record { moved = calls_move is_owner_call (Claim who number) segs refl may; others = others });
+  form = owns (record { give = record { moved = calls_move is_owner_call (Claim who number) segs refl may }; others = others });
 }
 
 module _ (ask : Ask) (parts : ℕ → HeapPart) (segs : SegsView) (sound : IsSound segs) (standing : AreStanding ask.from parts segs)
@@ -108,7 +112,7 @@ module _ (ask : Ask) (parts : ℕ → HeapPart) (segs : SegsView) (sound : IsSou
         let wrong : Some held.0 ≡ None = sym held.1 ∙ no in
         cc)
 
-    module _ (brings : ClaimBrings) (grows : ClaimedCanGrow) (run : Run) (run_is : Some run ≡ claimed_run ask.from ask.number segs)
+    module _ (puts : ClaimPuts) (brings : ClaimBrings) (grows : ClaimedCanGrow) (run : Run) (run_is : Some run ≡ claimed_run ask.from ask.number segs)
         (now : ℕ → HeapPart) (is : (heap : ℕ) → now heap ≡ part_behind ask.from (after_claim ask.from ask.number segs) heap (parts heap))
       where
         abbrev given : SegsView
@@ -142,6 +146,22 @@ module _ (ask : Ask) (parts : ℕ → HeapPart) (segs : SegsView) (sound : IsSou
             (subst (λ index. HasPages heap.pages (owned_by index segs)) (sym index)
             (subst (λ (holding : Holding). HasPages heap.pages holding.owned) (standing.held ask.heap held.0 held.1) had)))
 
+        -- the grant and the run come behind what the heap had claimed
+        its_puts : PutsClaim entry run (standing_of ask.heap segs) (standing_of ask.heap given)
+        its_puts =
+            puts segs ask.heap ask.from ask.number generation entry run sound standing.pending.last
+            (grant_is ask parts segs sound standing awaits entry found generation granted)
+            (is_among ask parts segs sound standing awaits entry found generation granted)
+            (grant_for ask parts segs sound standing awaits entry found generation granted)
+            (can_claim ask parts segs sound standing awaits entry found generation granted) (sym run_is)
+
+        -- so it is claimed
+        claimed_now : IsClaimedIn (now ask.heap).holding entry
+        claimed_now =
+            subst (λ (holding : Option Holding). IsClaimedIn holding entry) (sym holds_now)
+            (subst (λ asks. Contains asks entry) (sym its_puts.claimed)
+            (Contains-append_right (standing_of ask.heap segs).claimed (entry ∷ []) entry (Contains-here entry [])))
+
         armed_now : (heap : ℕ) → (now heap).armed ≡ (parts heap).armed
         armed_now heap =
             ap (λ (part : HeapPart). part.armed) (is heap) ∙ (claim_armed ask.from ask.number segs ask.from ∙ sym (standing.armed heap))
@@ -155,6 +175,7 @@ module _ (ask : Ask) (parts : ℕ → HeapPart) (segs : SegsView) (sound : IsSou
             kept = keeps_the_ask ask parts segs sound standing awaits entry found;
             given = subst (λ outcome. Gives segs.log outcome (Some run)) (sym granted) its_run;
           };
+          known = known_by segs.asks (now ask.heap).holding ask entry found (only_answer segs ask entry sound found) (λ stamp granted. claimed_now);
           grows = record {
             entries = ap (λ (part : HeapPart). part.entries) (is ask.heap);
             serves = ap (λ (part : HeapPart). part.serves) (is ask.heap);
@@ -162,7 +183,12 @@ module _ (ask : Ask) (parts : ℕ → HeapPart) (segs : SegsView) (sound : IsSou
             behind = standing_of ask.heap given;
             held = held.1;
             holds = holds_now;
-            grows = (may, pages);
+            grows = record {
+              may = may;
+              pages = pages;
+              came = its_puts.came ∙ ap (λ (holding : Holding). holding.came ++ run ∷ []) (sym (standing.held ask.heap held.0 held.1));
+              retired = its_puts.retired ∙ ap (λ (holding : Holding). holding.retired) (sym (standing.held ask.heap held.0 held.1));
+            };
           };
           others = λ heap apart. is heap ∙ part_alike ask.from heap given (parts heap)
               (held_by heap segs given (parts heap).holding (others_stay heap apart) (standing.held heap))
@@ -180,6 +206,7 @@ module _ (ask : Ask) (parts : ℕ → HeapPart) (segs : SegsView) (sound : IsSou
       kept = keeps_the_ask ask parts segs sound standing awaits entry found;
       given = subst (λ outcome. Gives segs.log outcome None) (sym refused) tt;
     };
+    known = refused_known segs.asks (now ask.heap).holding ask entry cause found (only_answer segs ask entry sound found) refused;
     grows = record {
       entries = ap (λ (part : HeapPart). part.entries) (is ask.heap);
       serves = ap (λ (part : HeapPart). part.serves) (is ask.heap);

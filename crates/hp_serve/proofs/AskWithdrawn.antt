@@ -26,6 +26,7 @@ use Rattle.hp_segs.specs.declared.outcome.Outcome.TheVariants.{Refused}
 use Rattle.hp_segs.proofs.Appending.{calls_append}
 use Rattle.hp_segs.proofs.Moves.{calls_move, moves_widen}
 use Rattle.hp_serve.specs.Asking.{Gives, IsAwaiting, Settles}
+use Rattle.hp_serve.proofs.AskKnown.{IsOnly, only_last, refused_known}
 use Rattle.hp_serve.proofs.AskOutcomes.{is_armed_in}
 use Rattle.hp_serve.proofs.AskSettled.{held_by, part_alike, some_holding}
 
@@ -167,12 +168,17 @@ withdraw_gives knows segs from number since now keeps sound may none =
       more = appends.records;
       log = appends.log;
       form = logs (record {
-        moved = withdraw_moves segs from number since now may;
-        agreed = λ entry generation member among granted joined. absurd
-            (not_granted segs given from number last entry generation among granted);
-        armed = λ other apart. ap (λ armed. slice_index_or armed other None) last.armed;
-        for_held = λ ask is apart none. apart (sym (ap (λ armed. slice_index_or armed knows.who None) last.armed) ∙ is);
-        of_armed = λ armed. keeps segs from number since now sound armed may;
+        give = record {
+          moved = withdraw_moves segs from number since now may;
+          agreed = λ entry generation member among granted joined. absurd
+              (not_granted segs given from number last entry generation among granted);
+        };
+        arms = record {
+          others = λ other apart. ap (λ armed. slice_index_or armed other None) last.armed;
+          for_held = λ ask is. inl (sym (ap (λ armed. slice_index_or armed knows.who None) last.armed) ∙ is);
+          settled = λ ask is. inl (ap (λ armed. slice_index_or armed knows.who None) last.armed ∙ is);
+          of_armed = λ armed. keeps segs from number since now sound armed may;
+        };
       });
     }
 
@@ -213,6 +219,11 @@ module _ (ask : Ask) (parts : ℕ → HeapPart) (segs : SegsView) (sound : IsSou
             kept = last.kept ∙ is_armed_in ask parts segs sound standing awaits;
             given = subst (λ outcome. Gives given.log outcome None) (sym last.refused) tt;
           };
+          known = refused_known given.asks (now ask.heap).holding ask last.entry last.cause
+              (last_is_found segs given ask.from ask.number none last)
+              (subst (λ asks. IsOnly asks ask last.entry) (sym last.asks)
+              (only_last segs.asks ask last.entry (found_none (find (grants_or_refuses ask.from ask.number) segs.asks) none)))
+              last.refused;
           grows = record {
             entries = ap (λ (part : HeapPart). part.entries) (same ask.heap);
             serves = ap (λ (part : HeapPart). part.serves) (same ask.heap);

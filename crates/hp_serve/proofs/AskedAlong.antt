@@ -1,20 +1,14 @@
 -- What was settled along what comes before and behind: who asked has its answer, and its asks are settled.
-use Rattle.std.proofs.Common.{◌≡◌, ◌∙◌, ℕ, ◌≤◌, true, false, List, ◌++◌, Option, Some, refl, ap, sym, subst, arith}
-use Rattle.std.specs.Prelude.{IfOk, IsSome, OnErr, OnOk, Result, Ok, Err}
-use Rattle.std.specs.Option.{option_map_or}
+use Rattle.std.proofs.Common.{◌≡◌, ◌∙◌, ℕ, Bool, true, false, ◌||◌, List, ◌++◌, Option, Some, refl, ap, sym, subst}
+use Rattle.std.specs.Prelude.{IfOk, IsSome, OnErr, Result, Ok, Err}
 use Rattle.hp_base.specs.declared.row.Run.{Run}
-use Rattle.hp_hall.proofs.StandingAsks.{closed_above}
+use Rattle.hp_hall.specs.Asks.{IsKnownSettled}
 use Rattle.hp_hall.specs.Holding.{HeapPart}
 use Rattle.hp_log.specs.declared.log_record.LogRecord.{LogRecord}
-use Rattle.hp_segs.specs.SegsView.{closed_number, is_grant_or_refusal, is_stale}
 use Rattle.hp_segs.specs.declared.ask.Ask.{Ask}
 use Rattle.hp_segs.specs.declared.outcome.AskLog.{AskLog}
-use Rattle.hp_segs.specs.declared.outcome.Outcome.{Outcome}
-use Rattle.hp_segs.specs.declared.outcome.Outcome.TheVariants.{Granted, Refused, Stale, Freed}
 use Rattle.hp_serve.specs.Asking.{GrowsHeld, HasAnswer, HasSettledAsks, IsAsked, IsAwaiting, IsHeldAsBefore, Settles, ask_of, next_number}
 use Rattle.hp_serve.specs.declared.pages_asked.PagesAsked.{PagesAsked}
-use Rattle.hp_serve.proofs.AskOutcomes.{outcome_found}
-use Rattle.hp_serve.proofs.Armed.{closed_more}
 
 -- it awaits its answer as before, where its parts are as they were
 pub awaits_along : (ask : Ask) (old new : ℕ → HeapPart) → ((heap : ℕ) → new heap ≡ old heap) → IsAwaiting ask old → IsAwaiting ask new
@@ -58,6 +52,7 @@ pub settles_along : (log : List LogRecord) (asks : List AskLog) (ask : Ask) (old
     → ((heap : ℕ) → mid heap ≡ old heap) → Settles log asks ask mid new run → Settles log asks ask old new run
 settles_along log asks ask old mid new run same settles = record {
   answer = settles.answer;
+  known = settles.known;
   grows = grows_along ask.heap run (old ask.heap) (mid ask.heap) (new ask.heap) (held_same (old ask.heap) (mid ask.heap) (same ask.heap))
       settles.grows;
   others = λ heap apart. settles.others heap apart ∙ same heap;
@@ -71,35 +66,13 @@ pub grows_from : (log : List LogRecord) (asks : List AskLog) (ask : Ask) (old mi
 grows_from log asks ask old mid new run same settles =
     grows_along ask.heap run (old ask.heap) (mid ask.heap) (new ask.heap) (same ask.heap) settles.grows
 
-fresh_by : (outcome : Outcome) → is_grant_or_refusal outcome ≡ true → is_stale outcome ≡ false
-fresh_by (Granted generation) is = refl
-fresh_by (Refused cause) is = refl
-fresh_by (Stale done) is = cc
-fresh_by (Freed generation) is = cc
-
--- an ask that has its answer is closed
-pub answer_closes : (log : List LogRecord) (asks : List AskLog) (ask : Ask) (run : Option Run) → HasAnswer log asks ask run
-    → ask.number ≤ closed_number asks ask.from
-answer_closes log asks ask run answer =
-    let its = outcome_found asks ask answer.entry answer.logged in
-    let below = closed_above asks answer.entry its.among (fresh_by answer.entry.outcome its.settles) in
-    let same : closed_number asks answer.entry.from ≡ closed_number asks ask.from = ap (closed_number asks) its.who in
-    omega (arith, below, same, its.which)
-
--- so the asks of its participant are settled
+-- a participant that is armed with the ask knows then that its asks are settled
 pub settled_by : (log : List LogRecord) (asks : List AskLog) (ask : Ask) (mid new : ℕ → HeapPart) (run : Option Run)
     → ((heap : ℕ) → (mid heap).armed ≡ Some ask) → Settles log asks ask mid new run → HasSettledAsks new asks
 settled_by log asks ask mid new run armed settles heap other is =
     let both : Some ask ≡ Some other = sym (settles.armed heap ∙ armed heap) ∙ is in
-    let same : ask.number ≡ other.number = ap (λ (o : Option Ask). option_map_or (λ (ask : Ask). ask.number) o 0) both in
-    omega (arith, answer_closes log asks ask run settles.answer, same)
-
--- settled asks stay settled where outcomes follow
-pub settled_more : (who : ℕ) (old new : ℕ → HeapPart) (asks now more : List AskLog) → now ≡ asks ++ more
-    → ((heap : ℕ) → (new heap).armed ≡ (old heap).armed) → HasSettledAsks old asks → HasSettledAsks new now
-settled_more who old new asks now more grown same settled heap ask is =
-    let whole : closed_number now who ≡ closed_number (asks ++ more) who = ap (λ asks. closed_number asks who) grown in
-    omega (arith, settled heap ask (sym (same heap) ∙ is), closed_more asks more who, whole)
+    let same : ask ≡ other = cc in
+    subst (λ (asked : Ask). IsKnownSettled asks (new asked.heap).holding asked) same settles.known
 
 -- it asked by the next number, and was answered so
 pub is_asked : (log : List LogRecord) (asks found since : List AskLog) (who before after : ℕ) (asked : PagesAsked) (ask : Ask)
@@ -115,25 +88,16 @@ is_asked log asks found since who before after asked ask mid new run ask_is afte
       (subst (λ ask. HasAnswer log asks ask run) ask_is settles.answer);
 }
 
-module _ {T E : Type 0} where
-  -- what an answer that is there shows
-  pub if_ok : (P Q : T → Type 0) (result : Result T E) → ((value : T) → P value → Q value) → IfOk result P → IfOk result Q
-  if_ok P Q (Ok value) shows is = shows value is
-  if_ok P Q (Err refusal) shows is = tt
+-- where of two waits together nobody stopped, nobody did in either
+pub stops_neither : (first second all : Bool) → all ≡ (first || second) → all ≡ false → (first ≡ false) × (second ≡ false)
+stops_neither true second all is none = let wrong : true ≡ false = sym is ∙ none in absurd (cc)
+stops_neither false true all is none = let wrong : true ≡ false = sym is ∙ none in absurd (cc)
+stops_neither false false all is none = (refl, refl)
 
-  pub on_ok : (P : T → Type 0) (Q : Type 0) (result : Result T E) → ((value : T) → P value → Q) → IfOk result P → OnOk result Q
-  on_ok P Q (Ok value) shows is = shows value is
-  on_ok P Q (Err refusal) shows is = tt
-
-  -- and what either shows
-  pub in_both : (P : T → Type 0) (Q R : Type 0) (result : Result T E) → ((value : T) → P value → R) → (Q → R) → IfOk result P
-      → OnErr result Q → R
-  in_both P Q R (Ok value) shows tells is err = shows value is
-  in_both P Q R (Err refusal) shows tells is err = tells err
-
-  pub on_err : (Q R : Type 0) (result : Result T E) → (Q → R) → OnErr result Q → OnErr result R
-  on_err Q R (Ok value) tells err = tt
-  on_err Q R (Err refusal) tells err = tells err
+-- what an answer that is there shows
+pub if_ok : {T E : Type 0} (P Q : T → Type 0) (result : Result T E) → ((value : T) → P value → Q value) → IfOk result P → IfOk result Q
+if_ok P Q (Ok value) shows is = shows value is
+if_ok P Q (Err refusal) shows is = tt
 
 -- what holds holds on a refusal
 pub on_err_any : {T E : Type 0} (result : Result T E) (P : Type 0) → P → OnErr result P

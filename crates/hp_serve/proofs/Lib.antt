@@ -1,5 +1,6 @@
 pub mod Armed
 pub mod AskDone
+pub mod AskKnown
 pub mod AskLooks
 pub mod AskOutcomes
 pub mod AskSettled

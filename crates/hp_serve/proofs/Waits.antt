@@ -125,7 +125,8 @@ moved_is (Ok false) true is = cc
 moved_is (Ok false) false is = refl
 moved_is (Err refusal) moved is = cc
 
-any_moved : (scale : ℕ) (own below above moved : Bool) → moved ≡ (own || (below || above))
+-- what moved at all is of one of the three
+pub any_moved : (scale : ℕ) (own below above moved : Bool) → moved ≡ (own || (below || above))
     → scale * if_moved moved ≤ scale * if_moved own + scale * if_moved below + scale * if_moved above
 any_moved scale true below above moved is = omega (arith, ap (λ (b : Bool). scale * if_moved b) is)
 any_moved scale false true above moved is = omega (arith, ap (λ (b : Bool). scale * if_moved b) is)
@@ -145,11 +146,12 @@ all_pay scale first second third all below own above moved first_is second_is th
       ap (λ (n : ℕ). scale * n) (served_is all moved all_is),
     )
 
-paid : (scale : ℕ) (moved : Bool) → 1 ≤ pause_weight scale moved + scale * if_moved moved
+-- what moved, or else the pause, uses up 1
+pub paid : (scale : ℕ) (moved : Bool) → 1 ≤ pause_weight scale moved + scale * if_moved moved
 paid scale true = omega arith
 paid scale false = omega arith
 
--- what moved, or else the pause, uses up 1
+-- so it is by an answer
 pub turn_pays : {E : Type 0} (scale : ℕ) (result : Result Bool E) (moved : Bool) → result ≡ Ok moved
     → 1 ≤ pause_weight scale moved + scale * served_of result
 turn_pays scale result moved is = omega (arith, paid scale moved, ap (λ (n : ℕ). scale * n) (served_is result moved is))

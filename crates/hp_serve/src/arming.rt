@@ -88,6 +88,7 @@ pub(crate) fn arm<H: Hall>(
     ensures held { (heap : ℕ) → IsHeldAsBefore ((H.state hall.old).part me heap) ((H.state hall.new).part me heap) }
     ensures did { IfOk result (λ ask. (taken : SegsView) × (ask.number ≡ next_number before taken.asks me)
         × Did me (takes_segments taken ∷ gives_segments (after_arm ask taken) ∷ []) (H.state hall.old) (H.state hall.new)) }
+    ensures err { OnErr result (HasSettledAsks ((H.state hall.new).part me) ((H.state hall.new).heard me)) }
     ensures mapped { HasMapped me (H.state hall.new) }
     ensures stays { StaysButParts me (H.state hall.old) (H.state hall.new) }
     ensures goes_on { H.goes_on hall.old hall.new }

@@ -1,5 +1,6 @@
 -- What stands for the ask is found, and a grant is claimed.
 use Rattle.std.proofs.Common.{◌≡◌, ◌∙◌, ℕ, [], ◌∷◌, Some, None, refl, ap, sym}
+use Rattle.hp_hall.proofs.ClaimPuts.{claim_puts}
 use Rattle.hp_hall.proofs.StandingBrings.{claim_brings}
 use Rattle.hp_hall.proofs.StandingClaims.{claim_leaves_others}
 use Rattle.hp_hall.proofs.StandingGrowths.{claimed_can_grow}
@@ -84,7 +85,7 @@ returns-in-Some-Granted-clause-found g c =
     (sym c.claim_taken-run.ensures.back.gave.asks ∙ claim_asks ask.from ask.number segs)
     (claim_settles ask mid segs c.take_segments-segs.ensures.took.sound c.take_segments-segs.ensures.took.stands awaits stands.entry stands.found
     _ stands.is
-    claim_leaves_others claim_brings claimed_can_grow c.claim_taken-run.result c.claim_taken-run.ensures.run new
+    claim_leaves_others claim_puts claim_brings claimed_can_grow c.claim_taken-run.result c.claim_taken-run.ensures.run new
     c.claim_taken-run.ensures.back.gave.part))
 
 pub returns-in-Some-Granted-clause-did : goal.returns-in-Some-Granted-clause-did

@@ -1,6 +1,7 @@
 -- A grant is claimed, a refusal stands, and else the ask is taken back.
 use Rattle.std.proofs.Common.{◌≡◌, ◌∙◌, ℕ, [], ◌∷◌, Some, None, ap, sym, subst}
 use Rattle.hp_hall.proofs.StandingArms.{withdraw_keeps}
+use Rattle.hp_hall.proofs.ClaimPuts.{claim_puts}
 use Rattle.hp_hall.proofs.StandingBrings.{claim_brings}
 use Rattle.hp_hall.proofs.StandingClaims.{claim_leaves_others}
 use Rattle.hp_hall.proofs.StandingGrowths.{claimed_can_grow}
@@ -131,7 +132,7 @@ returns-in-Granted-clause-settles g c =
     (sym c.claim_taken-run.ensures.back.gave.asks ∙ (claim_asks ask.from ask.number c.withdraw.new.self ∙ ap (λ (segs : SegsView). segs.asks) as_it_was))
     (claim_settles ask mid segs c.take_segments-segs.ensures.took.sound c.take_segments-segs.ensures.took.stands awaits stands.entry stands.found
     _ stands.is
-    claim_leaves_others claim_brings claimed_can_grow c.claim_taken-run.result
+    claim_leaves_others claim_puts claim_brings claimed_can_grow c.claim_taken-run.result
     (subst (λ (segs : SegsView). Some c.claim_taken-run.result ≡ claimed_run ask.from ask.number segs) as_it_was
     c.claim_taken-run.ensures.run) new
     (subst (λ (segs : SegsView). (heap : ℕ) → new heap ≡ part_behind ask.from (after_claim ask.from ask.number segs) heap (mid heap))
