@@ -94,6 +94,6 @@ known_more segs heard more holding ask sound grown known =
 pub settled_more : (segs : SegsView) (old new : ℕ → HeapPart) (heard more : List AskLog) → IsSound segs → segs.asks ≡ heard ++ more
     → ((heap : ℕ) → (new heap).armed ≡ (old heap).armed) → ((heap : ℕ) → (new heap).holding ≡ (old heap).holding)
     → HasSettledAsks old heard → HasSettledAsks new segs.asks
-settled_more segs old new heard more sound grown armed held settled heap ask is =
-    known_more segs heard more (new ask.heap).holding ask sound grown
-    (subst (λ (holding : Option Holding). IsKnownSettled heard holding ask) (sym (held ask.heap)) (settled heap ask (sym (armed heap) ∙ is)))
+settled_more segs old new heard more sound grown armed held settled heap ask is its =
+    known_more segs heard more (new heap).holding ask sound grown
+    (subst (λ (holding : Option Holding). IsKnownSettled heard holding ask) (sym (held heap)) (settled heap ask (sym (armed heap) ∙ is) its))
