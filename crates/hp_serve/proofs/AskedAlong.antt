@@ -69,10 +69,11 @@ grows_from log asks ask old mid new run same settles =
 -- a participant that is armed with the ask knows then that its asks are settled
 pub settled_by : (log : List LogRecord) (asks : List AskLog) (ask : Ask) (mid new : ℕ → HeapPart) (run : Option Run)
     → ((heap : ℕ) → (mid heap).armed ≡ Some ask) → Settles log asks ask mid new run → HasSettledAsks new asks
-settled_by log asks ask mid new run armed settles heap other is =
+settled_by log asks ask mid new run armed settles heap other is its =
     let both : Some ask ≡ Some other = sym (settles.armed heap ∙ armed heap) ∙ is in
     let same : ask ≡ other = cc in
-    subst (λ (asked : Ask). IsKnownSettled asks (new asked.heap).holding asked) same settles.known
+    subst (λ (heap : ℕ). IsKnownSettled asks (new heap).holding other) its
+    (subst (λ (asked : Ask). IsKnownSettled asks (new asked.heap).holding asked) same settles.known)
 
 -- it asked by the next number, and was answered so
 pub is_asked : (log : List LogRecord) (asks found since : List AskLog) (who before after : ℕ) (asked : PagesAsked) (ask : Ask)

@@ -206,7 +206,7 @@ returns-clause-asks g c =
                 sent.3 its_number c.send-since.ensures.sent sent.4
                 (subst (λ count. IsAwaitedBy count c.send-since.new.self after ask c.send-since.result awaited.0 run) count awaited.2),
           );
-      asked = is_asked (new.seen me) (new.heard me) ((g.H.Hall.state c.arm.new.hall).heard me) grown.0 me party.asked after.asked asked ask
+      answer = is_asked (new.seen me) (new.heard me) ((g.H.Hall.state c.arm.new.hall).heard me) grown.0 me party.asked after.asked asked ask
           (mid.part me) (new.part me) run ask_is its_number number grown.1 settles;
       grows = subst (λ (heap : ℕ). GrowsHeld heap run (old.part me heap) (new.part me heap)) its_heap
           (grows_from (new.seen me) (new.heard me) ask (old.part me) (mid.part me) (new.part me) run held settles);
