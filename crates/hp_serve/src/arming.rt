@@ -72,7 +72,7 @@ fn arm_taken<H: Hall>(hall: &mut H, me: u8, segs: Segs, ask: &Ask) -> Result<(),
 
 /// Arms a participant with its next ask for pages, where its last one had that number. Without memory for the log places of the ask, or
 /// where the numbers have come to an end, it is armed as before. Own.
-pub(crate) fn arm<H: Hall>(
+pub fn arm<H: Hall>(
     hall: &mut H,
     me: u8,
     before: u64,

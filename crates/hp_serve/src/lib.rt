@@ -24,6 +24,7 @@ mod settling;
 mod waited;
 
 pub use answered::Answered;
+pub use arming::arm;
 pub use calls::{put_back, take_segments};
 pub use end::End;
 pub use framing::framed;

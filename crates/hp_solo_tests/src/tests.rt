@@ -1,11 +1,12 @@
 //! Two participants in a hall of plain values, by hand: what each serving does, what it leaves in the log, and in which tables.
-ghost use Rattle.std.specs.Prelude.{◌≡◌, ◌<◌, ℕ, List, [], ◌∷◌, Some, IfOk, IsSome, slice_get};
+ghost use Rattle.std.specs.Prelude.{◌≡◌, ◌<◌, ℕ, List, [], ◌∷◌, None, Some, IfOk, IsSome, slice_get};
 ghost use Rattle.hp_base.specs.declared.limits.TheConstants.{MAX_PARTICIPANTS};
-ghost use Rattle.hp_segs.specs.Standing.{IsArmed, owned_by};
-ghost use Rattle.hp_plain.specs.Opening.{AreInOrder};
+ghost use Rattle.hp_hall.specs.HallState.{OthersStay, SlotsStayBut};
+ghost use Rattle.hp_plain.specs.Opening.{AreInOrder, AreUnused};
 ghost use Rattle.hp_heap.specs.History.{HeapView};
 ghost use Rattle.hp_log.specs.declared.log_record.LogRecord.{LogRecord};
 ghost use Rattle.hp_segs.specs.Opening.{opening};
+ghost use Rattle.hp_serve.specs.SegmentSlot.{MayHold};
 ghost use Rattle.hp_serve.specs.Tied.{IsTied, nothing_yet};
 ghost use Rattle.hp_solo.specs.SoloAsks.{IsOpening};
 
@@ -15,18 +16,17 @@ mod attaching;
 mod ends;
 mod frames;
 mod growths;
-mod pages;
 mod playing;
 pub(crate) mod shown;
 mod stage;
 
 use hp_base::{MAX_HEAPS, MAX_SEGMENTS, MemMapper, MsgKind, Plan, PlanEntry, PoolLine, Request};
+use hp_hall::{Hall, Slot};
 use hp_heap::Heap;
 use hp_maps::{LocalMaps, Planned};
 use hp_plain::PlainHall;
-use hp_segs::{Ask, Segs};
-use hp_serve::Server;
-use pages::retire_page;
+use hp_segs::Segs;
+use hp_serve::{PagesAsked, Server, arm};
 use std::alloc::{AllocError, Global};
 use std::test::Fail;
 
@@ -42,6 +42,7 @@ const DEADLINE: u64 = 200;
 fn empty_heap(alloc: Global, index: u32) -> Heap
     ensures index { result.plain.index ≡ index }
     ensures bare { result.plain.pages ≡ [] }
+    ensures unused { result.history ≡ [] }
     ensures serves { index ≡ 0 → IsSome result.plain.serves }
 {
     if index == 0 {
@@ -52,9 +53,10 @@ fn empty_heap(alloc: Global, index: u32) -> Heap
 }
 
 // All heaps, without memory.
-pub(crate) fn empty_heaps(alloc: Global) -> Result<Vec<Heap>, AllocError>
+fn empty_heaps(alloc: Global) -> Result<Vec<Heap>, AllocError>
     ensures order { IfOk result (λ heaps. AreInOrder heaps.items) }
     ensures bare { IfOk result (λ heaps. (number : ℕ) (heap : HeapView) → slice_get heaps.items number ≡ Some heap → heap.plain.pages ≡ []) }
+    ensures unused { IfOk result (λ heaps. AreUnused heaps.items) }
     ensures serves { IfOk result (λ heaps. (heap : HeapView) → slice_get heaps.items 0 ≡ Some heap → IsSome heap.plain.serves) }
 {
     let mut heaps = Vec::with_capacity(alloc, MAX_HEAPS)?;
@@ -64,14 +66,12 @@ pub(crate) fn empty_heaps(alloc: Global) -> Result<Vec<Heap>, AllocError>
     Ok(heaps)
 }
 
-// The first ask of a participant: a page of 2M for heap 0.
-pub(crate) fn first_ask(from: u8) -> Result<Ask, Fail>
-    ensures { IfOk result (λ ask. ask.from ≡ from) }
+// What each of the two asks for: a page of 2M for heap 0.
+pub(crate) fn first_page() -> Result<PagesAsked, Fail>
+    ensures { IfOk result (λ asked. asked.heap ≡ 0) }
 {
     let request = Request::new(1000, 0, 0, 0).ok().ok_or("a good request")?;
-    Ok(Ask {
-        from,
-        number: 1,
+    Ok(PagesAsked {
         heap: 0,
         socket: 0,
         page: PAGE,
@@ -80,7 +80,7 @@ pub(crate) fn first_ask(from: u8) -> Result<Ask, Fail>
 }
 
 // A segment value of the pool line `pool 0 2M 4`, of two participants.
-pub(crate) fn opening_segs(alloc: Global) -> Result<Segs, AllocError>
+fn opening_segs(alloc: Global) -> Result<Segs, AllocError>
     ensures { IfOk result (λ segs. segs ≡ opening (record { socket = 0; page = PAGE; pages = 4; slots = 4 } ∷ []) 2 0) }
 {
     let pool = PoolLine {
@@ -92,28 +92,26 @@ pub(crate) fn opening_segs(alloc: Global) -> Result<Segs, AllocError>
     Segs::new(alloc, [pool].as_slice(), 2, 0)
 }
 
-// One of the two is armed with its first ask. No heap owns a segment.
-pub(crate) fn armed_segs(alloc: Global, asker: u8) -> Result<Segs, Fail>
-    requires { asker < 2 }
-    ensures armed { IfOk result (λ segs. IsArmed segs) }
-    ensures unowned { IfOk result (λ segs. (heap : ℕ) → owned_by heap segs ≡ []) }
+// One of the two takes heap 0, which stays in its hand from then on, and is armed with its first ask, for pages for that heap. It sends the
+// ask by hand.
+pub(crate) fn arm_first<H: Hall>(
+    hall: &mut H,
+    me: u8,
+    asked: &PagesAsked,
+) -> Result<(), AllocError>
+    requires may { MayHold me (H.state hall.old) }
+    requires few { me < MAX_PARTICIPANTS }
+    requires home { (H.state hall.old).may_take 0 }
+    requires unarmed { (heap : ℕ) → ((H.state hall.old).part me heap).armed ≡ None }
+    requires first { asked.now.heap ≡ 0 }
+    ensures slots { SlotsStayBut 0 (H.state hall.old) (H.state hall.new) }
+    ensures own { (H.state hall.new).own me ≡ (H.state hall.old).own me }
+    ensures others { OthersStay me (H.state hall.old) (H.state hall.new) }
+    ensures goes_on { H.goes_on hall.old hall.new }
 {
-    let mut segs = opening_segs(alloc)?;
-    let ask = first_ask(asker)?;
-    segs.arm(&ask)?;
-    Ok(segs)
-}
-
-// Participant 1 is armed, and heap 0 was granted a page by the first ask of participant 0, and has given it up.
-fn retired_segs(alloc: Global) -> Result<Segs, Fail>
-    ensures armed { IfOk result (λ segs. IsArmed segs) }
-    ensures unowned { IfOk result (λ segs. (heap : ℕ) → owned_by heap segs ≡ []) }
-{
-    let mut segs = opening_segs(alloc)?;
-    retire_page(&mut segs)?;
-    let ask = first_ask(1)?;
-    segs.arm(&ask)?;
-    Ok(segs)
+    let _heap = hall.take(me, Slot::Heap(0));
+    let _ask = arm(hall, me, 0, asked)?;
+    Ok(())
 }
 
 // That the first message of a kind that concerns participant 1 is lost.
@@ -136,13 +134,12 @@ pub(crate) fn plan_of(alloc: Global, planned: Option<PlanEntry>) -> Result<Plan,
     Ok(plan)
 }
 
-// The plain values of a hall of the two.
-pub(crate) fn plain_hall(alloc: Global, segs: Segs) -> Result<PlainHall, AllocError>
-    requires armed { IsArmed segs }
-    requires unowned { (heap : ℕ) → owned_by heap segs ≡ [] }
-    ensures opening { IfOk result (IsOpening segs) }
+// The plain values of a hall of the two, in which nobody has asked.
+pub(crate) fn plain_hall(alloc: Global) -> Result<PlainHall, AllocError>
+    ensures opening { IfOk result IsOpening }
 {
     let heaps = empty_heaps(alloc)?;
+    let segs = opening_segs(alloc)?;
     let hall = PlainHall::new(alloc, 2, heaps, segs)?;
     Ok(hall)
 }

@@ -6,11 +6,12 @@ ghost use Rattle.hp_solo.specs.Solo.{MayWait};
 ghost use Rattle.hp_solo.specs.SoloAsks.{MayBeginToAsk};
 
 use super::asking::{ask_for_page, cut_granted, notify, retire, take_heap};
-use super::opening::hall_for_asks;
-use super::steps::{look, read};
+use super::opening::hall_of_two;
+use super::steps::{acks, free, look, others, read};
 use crate::tests::shown::{End, SegsShown};
-use crate::tests::{BASE, PAGE, first_ask, lost, plan_of};
+use crate::tests::{BASE, PAGE, first_page, lost, plan_of};
 use hp_base::{MemMapper, MsgKind, Plan, PlanEntry, Request, Run};
+use hp_hall::Posted;
 use hp_segs::RowState;
 use hp_serve::Server;
 use hp_solo::SoloHall;
@@ -125,12 +126,34 @@ fn give_up_granted(
     Ok(run)
 }
 
+// It does so, and tells by hand that it did, as participant 1: the run, where participant 0 has then taken in the record that drops it, and
+// it has not itself.
+fn tell_granted(
+    hall: &mut SoloHall<'_, MemMapper>,
+    party: &mut Server<'_, MemMapper>,
+    request: Request,
+) -> Result<Option<Run>, AllocError>
+    requires may { MayWait hall.old party.old }
+    requires begins { MayBeginToAsk hall.old.plain party.old.me }
+    ensures may { MayWait hall.new party.new }
+{
+    let run = retire_granted(hall, party, request)?;
+    let posted = free(hall, party);
+    let served = others(hall, party, false)?;
+    if posted == Posted::Sent && served && acks(hall, party) == (2, 1) {
+        Ok(run)
+    } else {
+        Ok(None)
+    }
+}
+
 // What the one does in its line.
 #[derive(Clone, Copy)]
 enum Line {
     Ask,
     Retire,
     GiveUp,
+    Tell,
 }
 
 // It does its line: the run that was granted, or given up.
@@ -148,6 +171,7 @@ fn do_line(
         Line::Ask => ask_once(hall, party, request),
         Line::Retire => retire_granted(hall, party, request),
         Line::GiveUp => give_up_granted(hall, party, request),
+        Line::Tell => tell_granted(hall, party, request),
     }
 }
 
@@ -179,9 +203,9 @@ fn go_and_come(
 fn what_comes(alloc: Global, plan: &Plan, me: u8, line: Line) -> Result<Option<Came>, Fail>
     requires { me < 2 }
 {
-    let ask = first_ask(me)?;
-    let mut hall = hall_for_asks(alloc, plan)?;
-    Ok(go_and_come(&mut hall, me, ask.request, line))
+    let asked = first_page()?;
+    let mut hall = hall_of_two(alloc, plan)?;
+    Ok(go_and_come(&mut hall, me, asked.request, line))
 }
 
 // Something else has come of a line.
@@ -274,19 +298,27 @@ fn retires_what_was_cut(rt: HostRuntime) -> Result<(), Fail> {
     comes(rt.alloc(), None, 1, Line::Retire, wanted)
 }
 
-// Once it has told so, a second record has dropped the page, the notice has an outcome, and the pool has the page again.
+// What comes of it once a second record has dropped the page: the notice has an outcome, and the pool has the page again.
+const DROPPED: Came = Came {
+    run: Some(FIRST_PAGE),
+    shown: SegsShown {
+        records: 2,
+        left: 4,
+        state: None,
+        outcomes: 2,
+        last: Some((1, 2, End::Freed(2))),
+    },
+    reading: 0,
+};
+
+// It has told so, and waited for the answer.
 #[test]
 fn gives_a_page_back_to_its_pool(rt: HostRuntime) -> Result<(), Fail> {
-    let wanted = Came {
-        run: Some(FIRST_PAGE),
-        shown: SegsShown {
-            records: 2,
-            left: 4,
-            state: None,
-            outcomes: 2,
-            last: Some((1, 2, End::Freed(2))),
-        },
-        reading: 0,
-    };
-    comes(rt.alloc(), None, 1, Line::GiveUp, wanted)
+    comes(rt.alloc(), None, 1, Line::GiveUp, DROPPED)
+}
+
+// The record is logged at once when participant 0 serves the notice, which takes it in itself then.
+#[test]
+fn drops_what_was_given_up(rt: HostRuntime) -> Result<(), Fail> {
+    comes(rt.alloc(), None, 1, Line::Tell, DROPPED)
 }

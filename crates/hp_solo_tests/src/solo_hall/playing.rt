@@ -1,17 +1,18 @@
 //! One of two participants does a line by hand, step after step, and the other serves.
-ghost use Rattle.std.specs.Prelude.{◌<◌, length};
+ghost use Rattle.std.specs.Prelude.{◌≡◌, ◌<◌, length};
 ghost use Rattle.hp_base.specs.declared.limits.TheConstants.{MAX_HEAPS};
 ghost use Rattle.hp_plain.specs.HallView.{IsHome, slot_at};
 ghost use Rattle.hp_solo.specs.Solo.{MayWait};
+ghost use Rattle.hp_solo.specs.SoloAsks.{MayBeginToAsk};
 
 use super::opening::hall_of_two;
-use super::steps::{acks, ask, fetch, others, outcome, pause, take_turn, turn};
-use crate::tests::plan_of;
+use super::steps::{acks, arm, ask, fetch, others, outcome, pause, take_turn, turn};
 use crate::tests::shown::End;
+use crate::tests::{first_page, plan_of};
 use hp_base::{MemMapper, Plan, PlanEntry};
 use hp_hall::{Posted, Waiting};
 use hp_maps::Table;
-use hp_serve::Server;
+use hp_serve::{PagesAsked, Server};
 use hp_solo::{SoloEnd, SoloHall};
 use std::alloc::{AllocError, Global};
 use std::test::Fail;
@@ -41,11 +42,12 @@ pub enum Step {
     Away,
 }
 
-// The step at that place, counted from 0, came out otherwise; or somebody is away before the line, or has stopped in it; or the end is
-// another one.
+// The step at that place, counted from 0, came out otherwise; or the one that does the line could not be armed, or somebody is away before
+// the line, or has stopped in it; or the end is another one.
 #[derive(Debug, Drop)]
 enum Otherwise {
     Step { place: usize },
+    Unarmed,
     Away,
     Stopped,
     End,
@@ -105,10 +107,37 @@ fn do_steps(
     Ok(())
 }
 
+// It does its line: it is armed with its first ask, and each step comes out as it stands.
+fn do_line(
+    hall: &mut SoloHall<'_, MemMapper>,
+    party: &mut Server<'_, MemMapper>,
+    asked: &PagesAsked,
+    steps: &[Step],
+) -> Result<(), Otherwise>
+    requires few { party.old.me < 2 }
+    requires may { MayWait hall.old party.old }
+    requires begins { MayBeginToAsk hall.old.plain party.old.me }
+    requires first { asked.now.heap ≡ 0 }
+    ensures may { MayWait hall.new party.new }
+{
+    if arm(hall, party, asked).is_err() {
+        return Err(Otherwise::Unarmed);
+    }
+    do_steps(hall, party, steps)
+}
+
 // The one of a number goes away, does its line, and comes back, and nobody has stopped.
-fn go_and_come(hall: &mut SoloHall<'_, MemMapper>, me: u8, steps: &[Step]) -> Result<(), Otherwise>
-    requires me { me < length hall.old.plain.owns }
+fn go_and_come(
+    hall: &mut SoloHall<'_, MemMapper>,
+    me: u8,
+    asked: &PagesAsked,
+    steps: &[Step],
+) -> Result<(), Otherwise>
+    requires me { me < 2 }
+    requires two { length hall.old.plain.owns ≡ 2 }
     requires home { IsHome (slot_at hall.old.plain MAX_HEAPS) }
+    requires begins { MayBeginToAsk hall.old.plain me }
+    requires first { asked.now.heap ≡ 0 }
     ensures home { IsHome (slot_at hall.new.plain MAX_HEAPS) }
 {
     if !hall.has_all() {
@@ -117,7 +146,7 @@ fn go_and_come(hall: &mut SoloHall<'_, MemMapper>, me: u8, steps: &[Step]) -> Re
     let Some(mut party) = hall.away(me) else {
         return Err(Otherwise::Away);
     };
-    let done = do_steps(hall, &mut party, steps);
+    let done = do_line(hall, &mut party, asked, steps);
     hall.back(party);
     if hall.has_stopped() || hall.stopped() {
         return Err(Otherwise::Stopped);
@@ -129,8 +158,9 @@ fn go_and_come(hall: &mut SoloHall<'_, MemMapper>, me: u8, steps: &[Step]) -> Re
 fn end_after(alloc: Global, plan: &Plan, me: u8, steps: &[Step]) -> Result<(u64, u64), Fail>
     requires { me < 2 }
 {
-    let mut hall = hall_of_two(alloc, plan, me)?;
-    go_and_come(&mut hall, me, steps)?;
+    let asked = first_page()?;
+    let mut hall = hall_of_two(alloc, plan)?;
+    go_and_come(&mut hall, me, &asked, steps)?;
     let plain = hall.into_plain();
     Ok((plain.clock(), plain.fulls()))
 }
@@ -156,8 +186,9 @@ pub fn ends(
 fn drain_after(alloc: Global, plan: &Plan, me: u8, steps: &[Step]) -> Result<SoloEnd, Fail>
     requires { me < 2 }
 {
-    let mut hall = hall_of_two(alloc, plan, me)?;
-    go_and_come(&mut hall, me, steps)?;
+    let asked = first_page()?;
+    let mut hall = hall_of_two(alloc, plan)?;
+    go_and_come(&mut hall, me, &asked, steps)?;
     hall.drain();
     if !hall.has_all() {
         return Err(Otherwise::Away.into());

@@ -2,15 +2,31 @@
 ghost use Rattle.std.specs.Prelude.{◌≡◌, ◌<◌, ◌≤◌, ℕ};
 ghost use Rattle.hp_hall.specs.Weights.{pending_at};
 ghost use Rattle.hp_solo.specs.Solo.{MayWait};
+ghost use Rattle.hp_solo.specs.SoloAsks.{MayBeginToAsk};
 
-use crate::tests::PAGE;
 use crate::tests::shown::{End, SegsShown, shown_in};
+use crate::tests::{BASE, PAGE, arm_first};
 use hp_base::{Action, MemMapper};
 use hp_frame::Body;
 use hp_hall::{Hall, Posted, Waiting};
-use hp_serve::{Server, framed, put_back, take_segments};
+use hp_serve::{PagesAsked, Server, framed, put_back, take_segments};
 use hp_solo::SoloHall;
 use std::alloc::AllocError;
+
+/// It takes heap 0, and is armed with its first ask, for pages for that heap.
+pub fn arm(
+    hall: &mut SoloHall<'_, MemMapper>,
+    party: &Server<'_, MemMapper>,
+    asked: &PagesAsked,
+) -> Result<(), AllocError>
+    requires few { party.now.me < 2 }
+    requires may { MayWait hall.old party.now }
+    requires begins { MayBeginToAsk hall.old.plain party.now.me }
+    requires first { asked.now.heap ≡ 0 }
+    ensures may { MayWait hall.new party.now }
+{
+    arm_first(hall, party.number(), asked)
+}
 
 /// It posts its first ask to participant 0, as one of that number.
 pub fn ask(hall: &mut SoloHall<'_, MemMapper>, party: &Server<'_, MemMapper>, from: u8) -> Posted
@@ -29,6 +45,22 @@ pub fn ask(hall: &mut SoloHall<'_, MemMapper>, party: &Server<'_, MemMapper>, fr
         align: 0,
         bound: 0,
         flags: 0,
+    });
+    hall.post(me, 0, frame, Action::Deliver)
+}
+
+/// It tells participant 0, as participant 1, that it gave the first page up, by a notice of number 2.
+pub fn free(hall: &mut SoloHall<'_, MemMapper>, party: &Server<'_, MemMapper>) -> Posted
+    requires may { MayWait hall.old party.now }
+    ensures may { MayWait hall.new party.now }
+{
+    let me = party.number();
+    let frame = framed(Body::Free {
+        from: 1,
+        number: 2,
+        heap: 0,
+        address: BASE,
+        length: PAGE,
     });
     hall.post(me, 0, frame, Action::Deliver)
 }

@@ -3,7 +3,7 @@
 use super::acts::Act;
 use super::growths::{GRANTED, LATE};
 use super::lost;
-use super::playing::{play, play_with_retired_page};
+use super::playing::play;
 use super::shown::End;
 use super::stage::Shown;
 use Act::*;
@@ -107,48 +107,4 @@ const NOTICED_TWICE: &[Act] = &[
 #[test]
 fn answers_a_notice(rt: HostRuntime) -> Result<(), Fail> {
     play(rt.alloc(), None, NOTICED_TWICE)
-}
-
-// The page was given up before.
-const RETIRED: Shown = Shown {
-    records: 1,
-    numbers: (0, 0),
-    left: 3,
-    rows: (None, None),
-    outcomes: 1,
-    last: Some((0, 1, End::Granted(1))),
-};
-
-// Its Drop is logged, and participant 0 has taken it in.
-const DROPPED: Shown = Shown {
-    records: 2,
-    numbers: (2, 0),
-    left: 4,
-    outcomes: 2,
-    last: Some((1, 1, End::Freed(2))),
-    ..RETIRED
-};
-
-// A page that a heap gave up goes back with a notice: the Drop is logged, and both take it in.
-const GIVEN_UP: &[Act] = &[
-    Shows(RETIRED),
-    Free(1),
-    Primary(true),
-    Due(Some(200)),
-    Shows(DROPPED),
-    Secondary(true),
-    Primary(true),
-    Due(None),
-    Secondary(true),
-    Secondary(false),
-    Primary(false),
-    Shows(Shown {
-        numbers: (2, 2),
-        ..DROPPED
-    }),
-];
-
-#[test]
-fn drops_what_was_given_up(rt: HostRuntime) -> Result<(), Fail> {
-    play_with_retired_page(rt.alloc(), GIVEN_UP)
 }

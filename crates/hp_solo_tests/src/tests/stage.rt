@@ -1,19 +1,18 @@
 //! Two participants and their hall.
-ghost use Rattle.std.specs.Prelude.{◌≡◌, ◌<◌, ℕ, []};
-ghost use Rattle.hp_segs.specs.Standing.{IsArmed, owned_by};
+ghost use Rattle.std.specs.Prelude.{◌<◌};
 
 use super::shown::{End, SegsShown, shown_in};
-use super::{member, plain_hall};
+use super::{arm_first, first_page, member, plain_hall};
 use hp_base::{Action, MemMapper, Plan, Row};
 use hp_frame::Frame;
 use hp_hall::{Hall, Posted};
 use hp_plain::PlainHall;
 use hp_proc::{LineContext, Participant};
 use hp_script::{Act, Answer, Line};
-use hp_segs::Segs;
 use hp_serve::{Server, put_back, take_segments};
 use std::alloc::{AllocError, Global};
 use std::marker::Model;
+use std::test::Fail;
 
 // A hall of plain values, and its two participants.
 #[derive(Drop)]
@@ -27,16 +26,16 @@ pub(super) struct Stage<'p> {
 
 impl<'p> Model for Stage<'p> {
     ghost use Rattle.std.specs.Prelude.{◌≡◌, length};
-    ghost use Rattle.hp_plain.specs.HallView.{HallView};
-    ghost use Rattle.hp_plain.specs.Opening.{AreHome};
+    ghost use Rattle.hp_base.specs.declared.limits.TheConstants.{MAX_HEAPS};
+    ghost use Rattle.hp_plain.specs.HallView.{HallView, IsHome, slot_at};
     ghost use Rattle.hp_solo.specs.Solo.{IsTiedAt};
 
     ghost Value = { HallView };
 
     ghost view = { λ a. a.hall };
 
-    // All values are there, and each participant's table is tied to what the hall knows of it.
-    ghost invariant = { λ a. (length a.hall.owns ≡ 2) × AreHome a.hall × IsTiedAt a.hall 0 a.primary × IsTiedAt a.hall 1 a.secondary.party };
+    // The segment value is there, and each participant's table is tied to what the hall knows of it.
+    ghost invariant = { λ a. (length a.hall.owns ≡ 2) × IsHome (slot_at a.hall MAX_HEAPS) × IsTiedAt a.hall 0 a.primary × IsTiedAt a.hall 1 a.secondary.party };
 }
 
 // What the segment value and the tables show.
@@ -78,12 +77,11 @@ pub(super) fn left_by(
 }
 
 impl<'p> Stage<'p> {
-    // Two participants that have taken in nothing, in a hall of that segment value.
-    pub(super) fn new(alloc: Global, plan: &'p Plan, segs: Segs) -> Result<Stage<'p>, AllocError>
-        requires armed { IsArmed segs }
-        requires unowned { (heap : ℕ) → owned_by heap segs ≡ [] }
-    {
-        let hall = plain_hall(alloc, segs)?;
+    // Two participants that have taken in nothing, in a hall in which participant 1 holds heap 0 and is armed with its first ask.
+    pub(super) fn new(alloc: Global, plan: &'p Plan) -> Result<Stage<'p>, Fail> {
+        let asked = first_page()?;
+        let mut hall = plain_hall(alloc)?;
+        arm_first(&mut hall, 1, &asked)?;
         let primary = member(alloc, 0, plan)?;
         let server = member(alloc, 1, plan)?;
         let secondary = Participant::new(server, LineContext::new(alloc, None, true));
