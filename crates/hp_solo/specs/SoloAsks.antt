@@ -7,20 +7,18 @@ use Rattle.hp_hall.specs.Holding.{HasPages, HeapPart}
 use Rattle.hp_segs.specs.Standing.{Holding}
 use Rattle.hp_plain.specs.Opening.{AreHome}
 use Rattle.hp_heap.specs.PlainHeap.{PlainHeap}
-use Rattle.hp_segs.specs.LaterSteps.{armed_ask}
-use Rattle.hp_segs.specs.SegsView.{SegsView}
 use Rattle.hp_serve.specs.Asking.{HasSettledAsks, IsCutFrom}
 use Rattle.hp_serve.specs.Party.{Party}
 use Rattle.hp_serve.specs.Tied.{nothing_yet}
 use Rattle.hp_solo.specs.Solo.{MayWait, SoloView}
 
--- a hall of two as it opens over a segment value: all values are there, nobody has acknowledged a record, each is armed as in that value,
--- and heap 0 takes the pages of a socket
-pub record IsOpening (segs : SegsView) (hall : HallView) : Type 0 where
+-- a hall of two as it opens where nobody was armed: all values are there, nobody has acknowledged a record, and heap 0 takes the pages of a
+-- socket
+pub record IsOpening (hall : HallView) : Type 0 where
   pub two : length hall.owns ≡ 2
   pub home : AreHome hall
   pub nothing_yet : (who : ℕ) → own_at hall who ≡ nothing_yet
-  pub armed : (who heap : ℕ) → (part_in hall who heap).armed ≡ armed_ask segs who
+  pub unarmed : (who heap : ℕ) → (part_in hall who heap).armed ≡ None
   pub serves : (who : ℕ) → IsSome (part_in hall who 0).serves
 
 -- one that was never armed may take heap 0, to ask for pages

@@ -7,8 +7,7 @@ use Rattle.hp_hall.specs.HallState.{SlotsStay, Stays}
 use Rattle.hp_hall.specs.Mail.{steps_of}
 use Rattle.hp_hall.specs.declared.note.Note.{Note}
 use Rattle.hp_plain.specs.Course.{IsCourse}
-use Rattle.hp_plain.specs.HallView.{HallView, joined_in, own_at, part_in, slot_at}
-use Rattle.hp_plain.specs.Opening.{AreHome}
+use Rattle.hp_plain.specs.HallView.{HallView, IsHome, joined_in, own_at, part_in, slot_at}
 use Rattle.hp_plain.specs.PlainState.{plain_state}
 use Rattle.hp_serve.proofs.MemberLemmas.{at_each}
 use Rattle.hp_serve.specs.InHall.{CanServe, IsTiedIn, StaysAlone}
@@ -61,15 +60,16 @@ waits_stayed old new party after course same slots tied may =
 
 -- ON A STAGE
 
-pub stage_holds : (hall : HallView) (who : ℕ) → who < length hall.owns → AreHome hall → MayHold who (plain_state hall)
+pub stage_holds : (hall : HallView) (who : ℕ) → who < length hall.owns → IsHome (slot_at hall MAX_HEAPS) → MayHold who (plain_state hall)
 stage_holds hall who declared home = record {
   serves = declared;
-  free = free_home (slot_at hall MAX_HEAPS) (home MAX_HEAPS (omega arith));
-  home = home MAX_HEAPS (omega arith);
+  free = free_home (slot_at hall MAX_HEAPS) home;
+  home = home;
 }
 
 -- one of the two may serve
-pub stage_can : (hall : HallView) (who : ℕ) (party : Party) → length hall.owns ≡ 2 → who < 2 → AreHome hall → IsTiedAt hall who party
+pub stage_can : (hall : HallView) (who : ℕ) (party : Party) → length hall.owns ≡ 2 → who < 2 → IsHome (slot_at hall MAX_HEAPS)
+    → IsTiedAt hall who party
     → CanServe party.me party (plain_state hall)
 stage_can hall who party two below home at =
     let declared = is_declared hall who party two below at in
@@ -77,8 +77,8 @@ stage_can hall who party two below home at =
       may = record {
         serves = declared;
         declared = declared;
-        free = free_home (slot_at hall MAX_HEAPS) (home MAX_HEAPS (omega arith));
-        home = home MAX_HEAPS (omega arith);
+        free = free_home (slot_at hall MAX_HEAPS) home;
+        home = home;
       };
       tied = tied_own hall who party at;
     }

@@ -1,4 +1,4 @@
 mod SoloOpened
-mod RetiredPage
+mod Arming
 mod StageLemmas
 mod Callers

@@ -42,26 +42,26 @@ first_serves : (heaps : List HeapView) (segs : SegsView) → 0 < length heaps
 first_serves [] segs some serves = absurd (omega arith)
 first_serves (heap ∷ heaps) segs some serves = serves heap refl
 
--- a hall opens over a segment value and heaps, the first of which is a socket's
+-- a hall opens over a segment value of which nobody is armed, and heaps, the first of which is a socket's
 pub opens : (heaps : List HeapView) (segs : SegsView) (hall : HallView) → hall ≡ opening_hall 2 heaps segs → length heaps ≡ MAX_HEAPS
-    → ((heap : HeapView) → slice_get heaps 0 ≡ Some heap → IsSome heap.plain.serves) → IsOpening segs hall
-opens heaps segs hall opened count serves = record {
+    → segs.armed ≡ replicate 16 None → ((heap : HeapView) → slice_get heaps 0 ≡ Some heap → IsSome heap.plain.serves) → IsOpening hall
+opens heaps segs hall opened count armed serves = record {
   two = ap (λ (h : HallView). length h.owns) opened ∙ length-replicate 2 (after_ack 0);
   home = subst AreHome (sym opened) (opened_home 2 heaps segs count);
   nothing_yet = λ who. ap (λ (h : HallView). own_at h who) opened ∙ all_alike nothing_yet 2 who;
-  armed = λ who heap.
+  unarmed = λ who heap.
       ap (λ (h : HallView). (part_in h who heap).armed) opened
-      ∙ ap (option_and_then (λ (s : SegsView). armed_ask s who)) (opened_segs heaps segs MAX_HEAPS count);
+      ∙ ap (option_and_then (λ (s : SegsView). armed_ask s who)) (opened_segs heaps segs MAX_HEAPS count) ∙ unarmed_new segs who armed;
   serves = λ who.
       subst (λ (h : HallView). IsSome (part_in h who 0).serves) (sym opened) (first_serves heaps segs (omega (arith, count)) serves);
 }
 
--- where nobody was armed each may begin to ask
-pub may_begin : (segs : SegsView) (hall : HallView) (who : ℕ) → segs.armed ≡ replicate 16 None → IsOpening segs hall → MayBeginToAsk hall who
-may_begin segs hall who armed is = record {
+-- there each may begin to ask
+pub may_begin : (hall : HallView) (who : ℕ) → IsOpening hall → MayBeginToAsk hall who
+may_begin hall who is = record {
   home = is.home 0 (omega arith);
   serves = is.serves who;
-  unarmed = λ heap. is.armed who heap ∙ unarmed_new segs who armed;
+  unarmed = is.unarmed who;
 }
 
 none_armed : (o : Option Ask) (ask : Ask) → o ≡ None → o ≡ Some ask → ⊥
@@ -70,7 +70,7 @@ none_armed o ask none some = cc
 held_is : (heap : HeapView) (holding : Option Holding) → IsHeldWith heap holding
     → (held : Holding) × (holding ≡ Some held) × HasPages heap.plain.pages held.owned
 held_is heap None held = absurd held
-held_is heap (Some holding) held = (holding, refl, held)
+held_is heap (Some holding) held = (holding, refl, held.pages)
 
 -- what a participant learns that takes a value out of the slot of heap 0, and what that makes of its parts
 pub record IsTakenFirst (old new : HallView) (who : ℕ) (kept : Kept) : Type 0 where
@@ -153,7 +153,7 @@ module _ (old new : ℕ → HeapPart) (heap : PlainHeap) (run : Run) (hand : IsI
       whole = after_grow run heap;
       address = address;
       its_index = index_grown heap run ∙ hand.index;
-      pages = grows.grows.1 heap hand.index pages_before;
+      pages = grows.grows.pages heap hand.index pages_before;
       cut = is;
       left_is = refl;
     },

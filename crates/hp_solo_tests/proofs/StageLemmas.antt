@@ -1,11 +1,10 @@
--- Two participants and their hall, as tests have them: all values are there and both are tied when the hall opens, after a call of it,
--- and after a serving of one of the two.
+-- Two participants and their hall, as tests have them: the segment value is there and both are tied when the hall opens, after a call of
+-- it, and after a serving of one of the two.
 use Rattle.std.proofs.Common.{◌≡◌, ◌≢◌, ℕ, ◌<◌, List, length, sym, subst, ◌∙◌, arith}
 use Rattle.hp_log.specs.declared.log_record.LogRecord.{LogRecord}
-use Rattle.hp_segs.specs.SegsView.{SegsView}
+use Rattle.hp_base.specs.declared.limits.TheConstants.{MAX_HEAPS}
 use Rattle.hp_plain.specs.Course.{IsCourse}
 use Rattle.hp_plain.specs.HallView.{HallView, IsHome, own_at, seen_in, slot_at}
-use Rattle.hp_plain.specs.Opening.{AreHome}
 use Rattle.hp_hall.specs.Own.{Own}
 use Rattle.hp_serve.specs.Party.{Party}
 use Rattle.hp_serve.specs.Tied.{IsTied, nothing_yet}
@@ -13,9 +12,9 @@ use Rattle.hp_solo.specs.Solo.{IsPartyServed, IsTiedAt}
 use Rattle.hp_solo.specs.SoloAsks.{IsOpening}
 use Rattle.hp_solo.proofs.SoloTies.{tied_on}
 
--- what holds of the stage: all values are there, and each participant's table is tied to what the hall knows of it
+-- what holds of the stage: the segment value is there, and each participant's table is tied to what the hall knows of it
 abbrev pub IsStaged : HallView → Party → Party → Type 0
-IsStaged hall primary secondary = (length hall.owns ≡ 2) × AreHome hall × IsTiedAt hall 0 primary × IsTiedAt hall 1 secondary
+IsStaged hall primary secondary = (length hall.owns ≡ 2) × IsHome (slot_at hall MAX_HEAPS) × IsTiedAt hall 0 primary × IsTiedAt hall 1 secondary
 
 -- who is tied to a hall of two is one of its participants, and tied by its own number
 pub is_declared : (hall : HallView) (who : ℕ) (party : Party) → length hall.owns ≡ 2 → who < 2 → IsTiedAt hall who party
@@ -36,18 +35,18 @@ opened_tied hall who party own number tied = record {
 }
 
 -- when the hall opens
-pub staged_new : (hall : HallView) (segs : SegsView) (primary secondary : Party) → IsOpening segs hall → primary.me ≡ 0 → secondary.me ≡ 1
+pub staged_new : (hall : HallView) (primary secondary : Party) → IsOpening hall → primary.me ≡ 0 → secondary.me ≡ 1
     → ((log : List LogRecord) → IsTied log nothing_yet primary.joined primary.maps)
     → ((log : List LogRecord) → IsTied log nothing_yet secondary.joined secondary.maps) → IsStaged hall primary secondary
-staged_new hall segs primary secondary opening first second tied_first tied_second = (
+staged_new hall primary secondary opening first second tied_first tied_second = (
   opening.two,
-  opening.home,
+  opening.home MAX_HEAPS (omega arith),
   opened_tied hall 0 primary (opening.nothing_yet 0) first tied_first,
   opened_tied hall 1 secondary (opening.nothing_yet 1) second tied_second,
 )
 
 -- later on, where the own parts are as they were
-pub staged_to : (old new : HallView) (primary secondary : Party) → IsCourse old new → AreHome new
+pub staged_to : (old new : HallView) (primary secondary : Party) → IsCourse old new → IsHome (slot_at new MAX_HEAPS)
     → ((who : ℕ) → own_at new who ≡ own_at old who) → IsStaged old primary secondary → IsStaged new primary secondary
 staged_to old new primary secondary course home own is = (
   course.count ∙ is.0,
@@ -61,7 +60,7 @@ pub staged_on : (old new : HallView) (primary secondary : Party) → IsCourse ol
     → ((number : ℕ) → IsHome (slot_at old number) → IsHome (slot_at new number)) → ((who : ℕ) → own_at new who ≡ own_at old who)
     → IsStaged old primary secondary → IsStaged new primary secondary
 staged_on old new primary secondary course home own is =
-    staged_to old new primary secondary course (λ number below. home number (is.1 number below)) own is
+    staged_to old new primary secondary course (home MAX_HEAPS is.1) own is
 
 served_tied : (old new : HallView) (who : ℕ) (party after : Party) → IsTiedAt old who party → IsPartyServed old new party after
     → IsTiedAt new who after
@@ -80,7 +79,7 @@ pub staged_primary : (old new : HallView) (primary after secondary : Party) → 
     → IsStaged old primary secondary → IsStaged new after secondary
 staged_primary old new primary after secondary served is = (
   served.serving.course.count ∙ is.0,
-  (λ number below. served.serving.home number (is.1 number below)),
+  served.serving.home MAX_HEAPS is.1,
   served_tied old new 0 primary after is.2 served,
   other_tied old new 0 1 primary after secondary (λ same. cc) is.2 served is.3,
 )
@@ -89,7 +88,7 @@ pub staged_secondary : (old new : HallView) (primary secondary after : Party) �
     → IsStaged old primary secondary → IsStaged new primary after
 staged_secondary old new primary secondary after served is = (
   served.serving.course.count ∙ is.0,
-  (λ number below. served.serving.home number (is.1 number below)),
+  served.serving.home MAX_HEAPS is.1,
   other_tied old new 1 0 secondary after primary (λ same. cc) is.3 served is.2,
   served_tied old new 1 secondary after is.3 served,
 )
@@ -102,7 +101,7 @@ pub staged_attached : (old new : HallView) (primary secondary after : Party) →
 staged_attached old new primary secondary after course home own same tied is =
     let number = is.3.number in (
       course.count ∙ is.0,
-      (λ number below. home number (is.1 number below)),
+      home MAX_HEAPS is.1,
       tied_on old new 0 primary course (own 0 (λ zero. absurd (omega (arith, zero, number)))) is.2,
       record {
         number = same ∙ number;

@@ -94,11 +94,7 @@ fn opening_segs(alloc: Global) -> Result<Segs, AllocError>
 
 // One of the two takes heap 0, which stays in its hand from then on, and is armed with its first ask, for pages for that heap. It sends the
 // ask by hand.
-pub(crate) fn arm_first<H: Hall>(
-    hall: &mut H,
-    me: u8,
-    asked: &PagesAsked,
-) -> Result<(), AllocError>
+pub(crate) fn arm_first<H: Hall>(hall: &mut H, me: u8, asked: &PagesAsked) -> Result<(), AllocError>
     requires may { MayHold me (H.state hall.old) }
     requires few { me < MAX_PARTICIPANTS }
     requires home { (H.state hall.old).may_take 0 }

@@ -1,7 +1,7 @@
 //! Acts are played on a stage of their own.
 use super::acts::{Act, perform};
-use super::stage::{Left, Stage};
 use super::plan_of;
+use super::stage::{Left, Stage};
 use hp_base::{Plan, PlanEntry};
 use std::alloc::Global;
 use std::test::Fail;

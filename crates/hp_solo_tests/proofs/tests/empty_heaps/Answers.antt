@@ -32,8 +32,8 @@ loop-index-preserved c =
       count = omega (arith, c.push_reserved.ensures.len, is.count);
       room = omega (arith, c.push_reserved.ensures.capacity, is.room);
       each = λ number heap there.
-          each_more (λ k h. (h.plain.index ≡ k) × (h.plain.pages ≡ []) × (k ≡ 0 → IsSome h.plain.serves)) heaps.items c.empty_heap.result is.each
-          (made.index ∙ index, made.bare, λ first. made.serves (index ∙ first)) number heap
+          each_more (λ k h. (h.plain.index ≡ k) × (h.plain.pages ≡ []) × (h.history ≡ []) × (k ≡ 0 → IsSome h.plain.serves)) heaps.items c.empty_heap.result is.each
+          (made.index ∙ index, made.bare, made.unused, λ first. made.serves (index ∙ first)) number heap
           (subst (λ (l : List HeapView). slice_get l number ≡ Some heap) c.push_reserved.ensures.items there);
     }
 
@@ -49,5 +49,8 @@ returns-clause-order c =
 pub returns-clause-bare : goal.returns-clause-bare
 returns-clause-bare c = λ number heap there. (c.loop-index.invariant.each number heap there).1
 
+pub returns-clause-unused : goal.returns-clause-unused
+returns-clause-unused c = λ number heap there. (c.loop-index.invariant.each number heap there).2
+
 pub returns-clause-serves : goal.returns-clause-serves
-returns-clause-serves c = λ heap there. (c.loop-index.invariant.each 0 heap there).2 refl
+returns-clause-serves c = λ heap there. (c.loop-index.invariant.each 0 heap there).3 refl

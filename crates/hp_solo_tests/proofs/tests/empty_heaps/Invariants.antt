@@ -8,5 +8,5 @@ invariant-loop-index l = record {
   count : vec_len l.heaps ≡ l.index;
   room : MAX_HEAPS ≤ vec_capacity l.heaps;
   each : (number : ℕ) (heap : HeapView) → slice_get l.heaps.items number ≡ Some heap → (heap.plain.index ≡ number) × (heap.plain.pages ≡ [])
-      × (number ≡ 0 → IsSome heap.plain.serves);
+      × (heap.history ≡ []) × (number ≡ 0 → IsSome heap.plain.serves);
 }

@@ -1,15 +1,17 @@
--- Every value is there, and nobody has acknowledged a record.
-use Rattle.hp_hall.proofs.Gives.{bare_pages}
+-- A hall may open so, and nobody has asked in it.
+use Rattle.std.proofs.Common.{ap}
+use Rattle.hp_plain.proofs.FirstHall.{new_opens}
+use Rattle.hp_segs.specs.SegsView.{SegsView}
 use Rattle.hp_solo_tests.proofs.SoloOpened.{opens}
 use Rattle.hp_solo_tests.proofs.tests.plain_hall.Goals as goal
 
-pub new-requires-clause-pages : goal.new-requires-clause-pages
-new-requires-clause-pages c = λ number heap there.
-    bare_pages _ _ (c.in_ok-heaps.ensures.bare number heap there) (c.requires.unowned number)
+pub new-requires-clause-opens : goal.new-requires-clause-opens
+new-requires-clause-opens c =
+    new_opens _ 2 0 c.in_ok-heaps.heaps.items c.in_ok-segs.segs c.in_ok-segs.ensures c.in_ok-heaps.ensures.unused c.in_ok-heaps.ensures.bare
 
 pub returns : goal.returns
 returns c =
     record {
-      opening = opens c.in_ok-heaps.heaps.items c.args.segs c.in_ok-hall.hall c.in_ok-hall.ensures.hall c.in_ok-heaps.ensures.order.count
-          c.in_ok-heaps.ensures.serves;
+      opening = opens c.in_ok-heaps.heaps.items c.in_ok-segs.segs c.in_ok-hall.hall c.in_ok-hall.ensures.hall c.in_ok-heaps.ensures.order.count
+          (ap (λ (s : SegsView). s.armed) c.in_ok-segs.ensures) c.in_ok-heaps.ensures.serves;
     }

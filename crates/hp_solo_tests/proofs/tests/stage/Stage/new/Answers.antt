@@ -1,12 +1,36 @@
-use Rattle.std.proofs.Common.{ap, subst, sym}
+-- Both are tied when the hall opens, and still once participant 1 is armed.
+use Rattle.std.proofs.Common.{◌≡◌, ◌<◌, length, subst, sym, ap, arith}
+use Rattle.hp_base.specs.declared.limits.TheConstants.{MAX_HEAPS}
+use Rattle.hp_plain.specs.HallView.{own_at}
 use Rattle.hp_serve.specs.Party.{Party}
+use Rattle.hp_serve.proofs.MemberLemmas.{at_each}
 use Rattle.hp_proc.specs.ParticipantView.{ParticipantView}
-use Rattle.hp_solo_tests.proofs.StageLemmas.{IsStaged, staged_new}
+use Rattle.hp_solo_tests.proofs.Callers.{stage_holds}
+use Rattle.hp_solo_tests.proofs.StageLemmas.{IsStaged, staged_new, staged_to}
 use Rattle.hp_solo_tests.proofs.tests.stage.Stage.new.Goals as goal
+
+pub arm_first-requires : goal.arm_first-requires
+arm_first-requires c =
+    let hall = c.in_ok-hall.hall in
+    let opening = c.in_ok-hall.ensures.opening in
+    record {
+      may = stage_holds hall 1 (omega (arith, opening.two)) (opening.home MAX_HEAPS (omega arith));
+      few = omega arith;
+      home = opening.home 0 (omega arith);
+      unarmed = opening.unarmed 1;
+      first = c.in_ok-asked.ensures;
+    }
 
 pub invariant_of-result : goal.invariant_of-result
 invariant_of-result c =
-    subst (λ (secondary : Party). IsStaged c.in_ok-hall.hall c.in_ok-primary.primary secondary)
+    let opened = c.in_ok-hall.hall in
+    let armed = c.arm_first.new.hall in
+    let opening = c.in_ok-hall.ensures.opening in
+    let did = c.arm_first.ensures in
+    subst (λ (secondary : Party). IsStaged armed c.in_ok-primary.primary secondary)
     (sym (ap (λ (doer : ParticipantView). doer.party) c.new-secondary.ensures))
-    (staged_new c.in_ok-hall.hall c.args.segs c.in_ok-primary.primary c.in_ok-server.server c.in_ok-hall.ensures.opening
-    c.in_ok-primary.ensures.number c.in_ok-server.ensures.number c.in_ok-primary.ensures.tied c.in_ok-server.ensures.tied)
+    (staged_to opened armed c.in_ok-primary.primary c.in_ok-server.server did.goes_on
+    (did.slots.home MAX_HEAPS (λ (same : MAX_HEAPS ≡ 0). cc) (opening.home MAX_HEAPS (omega arith)))
+    (at_each (λ n. own_at armed n ≡ own_at opened n) 1 did.own did.others.own)
+    (staged_new opened c.in_ok-primary.primary c.in_ok-server.server opening
+    c.in_ok-primary.ensures.number c.in_ok-server.ensures.number c.in_ok-primary.ensures.tied c.in_ok-server.ensures.tied))

@@ -1,0 +1,19 @@
+-- The heap is in its hand, and it was armed with no ask before.
+use Rattle.std.proofs.Common.{ℕ, sym, subst}
+use Rattle.std.specs.Prelude.{IsSome}
+use Rattle.hp_solo_tests.proofs.Arming.{armed_then, holds_it, may_arm, none_open}
+use Rattle.hp_solo_tests.proofs.tests.arm_first.Goals as goal
+
+pub arm-_ask-requires : goal.arm-_ask-requires
+arm-_ask-requires g c =
+    let me = c.args.me in
+    let old = g.H.Hall.state c.args.hall.now in
+    let mid = g.H.Hall.state c.take.new.self in
+    let is = c.take.ensures in
+    record {
+      may = may_arm me old mid c.take.result is.took is.slots is.others c.requires.may;
+      few = c.requires.few;
+      settled = none_open me old mid c.take.result is.took is.slots is.others c.requires.unarmed;
+      holds = subst (λ (heap : ℕ). IsSome (mid.part me heap).holding) (sym c.requires.first)
+          (holds_it me old mid c.take.result is.took is.slots is.others);
+    }
