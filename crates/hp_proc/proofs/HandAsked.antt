@@ -6,17 +6,19 @@ use Rattle.std.specs.List.{range_with_len}
 use Rattle.std.specs.Prelude.{IsSome, slice_get}
 use Rattle.hp_base.specs.declared.limits.TheConstants.{MAX_HEAPS}
 use Rattle.hp_base.specs.declared.row.Run.{Run}
+use Rattle.hp_heap.proofs.EntriesLaw.{calls_add_runs}
 use Rattle.hp_heap.proofs.FrontsLaw.{calls_keep_sound}
 use Rattle.hp_heap.proofs.GrowLaw.{no_chunks}
 use Rattle.hp_heap.specs.Growing.{CanGrow}
 use Rattle.hp_heap.specs.History.{HeapView, IsCall, entries_of}
+use Rattle.hp_heap.specs.HistoryLaws.{runs_cut}
 use Rattle.hp_heap.specs.PlainHeap.{PlainHeap}
 use Rattle.hp_heap.specs.Step.{after}
 use Rattle.hp_heap.specs.declared.entry.Entry.{Entry}
-use Rattle.hp_heap.specs.declared.entry.HeapAnswer.{HeapAnswer}
+use Rattle.hp_heap.specs.declared.entry.HeapAnswer.TheVariants as gives
 use Rattle.hp_heap.specs.declared.entry.HeapCall.TheVariants as call
 use Rattle.hp_hall.specs.Giving.{IsNumbered, entries_made}
-use Rattle.hp_hall.specs.Holding.{HasPages, HeapPart, IsHeldWith}
+use Rattle.hp_hall.specs.Holding.{HasHolding, HasPages, HeapPart, IsHeldWith}
 use Rattle.hp_segs.specs.Standing.{Holding}
 use Rattle.hp_hall.specs.Mail.{MailStep}
 use Rattle.hp_hall.specs.declared.kept.Kept.{Kept}
@@ -88,26 +90,27 @@ held_some heap None held = absurd held
 held_some heap (Some holding) held = refl
 
 held_holding : (heap : HeapView) (holding : Option Holding) (one : Holding) → holding ≡ Some one → IsHeldWith heap holding
-    → HasPages heap.plain.pages one.owned
+    → HasHolding heap one
 held_holding heap holding one is held = subst (λ (holding : Option Holding). IsHeldWith heap holding) is held
 
 module _ (doer after : ParticipantView) (old new : ℕ → HeapPart) (log later : List LogRecord) (asks heard : List AskLog) (heap : HeapView)
     (same : IsSameParty doer.party after.party) (known : after.context ≡ doer.context) where
   -- the next thing that its line does is that ask
   pub does_ask : (count : ℕ) (did : List MailStep → Type 0) (asked : PagesAsked) (then_on : Option Run → Doing) (run : Option Run)
-      (steps : List MailStep) → did steps → DoesAsk count doer.party after.party asked steps run
+      (steps : List MailStep) → asked.heap ≡ heap.plain.index → did steps → DoesAsk count doer.party after.party asked steps run
       → IsAsked later heard doer.party.me doer.party.asked after.party.asked asked run → ((index : ℕ) → (new index).entries ≡ (old index).entries)
       → ((index : ℕ) → (new index).serves ≡ (old index).serves) → (more : List LogRecord) → later ≡ log ++ more
-      → (outcomes : List AskLog) → heard ≡ asks ++ outcomes → Does count did (Doing.Asks asked then_on) (then_on run)
+      → (outcomes : List AskLog) → heard ≡ asks ++ outcomes → Does [] count did (Doing.Asks asked then_on) (then_on run)
       (in_hand heap (moment_of doer old log asks)) (in_hand heap (moment_of after new later heard))
   unfolding Leads Goes AreAsked
-  does_ask count did asked then_on run steps made acts is entries serves more log_is outcomes asks_are = record {
+  does_ask count did asked then_on run steps its made acts is entries serves more log_is outcomes asks_are = record {
     trace = Asked asked run ∷ [];
     steps = steps;
     leads = (run, refl, refl);
     made = made;
-    acts = subst (λ (after : ParticipantView). Acts count doer after (Asked asked run ∷ []) steps) (goes_as doer after known)
-        (Acts.asks_pages doer after.party asked run steps acts);
+    acts = subst (λ (index : ℕ). Acts count (Some index) (Some index) [] doer after (Asked asked run ∷ []) steps) its
+        (subst (λ (after : ParticipantView). Acts count (Some asked.heap) (Some asked.heap) [] doer after (Asked asked run ∷ []) steps)
+        (goes_as doer after known) (Acts.asks_pages doer after.party asked run steps acts));
     entries = λ index.
         hand_same doer.party.me after.party.me heap old new same.me entries index ∙ sym (append-nil (with_hand doer.party.me heap old index).entries);
     serves = λ index.
@@ -156,18 +159,18 @@ module _ (after : ParticipantView) (old new : ℕ → HeapPart) (log later : Lis
     (out : ℕ → Option Kept) (hand : IsInHand out (moment_of after old log asks) heap) (asked : ℕ) (run : Run)
     (its : asked ≡ heap.plain.index) (others : (index : ℕ) → index ≢ asked → IsHeldAsBefore (old index) (new index))
     (grows : GrowsHeld asked (Some run) (old asked) (new asked)) where
-  had : HasPages heap.plain.pages grows.before.owned
+  had : HasHolding heap grows.before
   had =
       held_holding heap (old heap.plain.index).holding grows.before (ap (λ index. (old index).holding) (sym its) ∙ grows.held) hand.held
 
   -- a run that came may be taken in
   pub can_grow : IsSome heap.plain.serves → CanGrow run heap.plain
-  can_grow some = grows.grows.0 heap.plain (sym its) had some (no_chunks heap.plain some hand.sound.tiled.kind)
+  can_grow some = grows.grows.may heap.plain (sym its) had.pages some (no_chunks heap.plain some hand.sound.tiled.kind)
 
-  module _ (next : HeapView) (answer : HeapAnswer) (counted : ParticipantView) (counted_is : counted ≡ after_call after)
-      (is : IsCall (caller_of after) (call.Grow run) answer heap next) where
+  module _ (next : HeapView) (counted : ParticipantView) (counted_is : counted ≡ after_call after)
+      (is : IsCall (caller_of after) (call.Grow run) gives.Done heap next) where
     abbrev entry : Entry
-    entry = record { caller = caller_of after; call = call.Grow run; answer = answer }
+    entry = record { caller = caller_of after; call = call.Grow run; answer = gives.Done }
 
     entries : (index : ℕ) → (new index).entries ≡ (old index).entries
     entries = asked_entries asked (Some run) old new others grows
@@ -176,7 +179,7 @@ module _ (after : ParticipantView) (old new : ℕ → HeapPart) (log later : Lis
     serves = asked_serves asked (Some run) old new others grows
 
     index_is : next.plain.index ≡ heap.plain.index
-    index_is = call_index (caller_of after) (call.Grow run) answer heap next is
+    index_is = call_index (caller_of after) (call.Grow run) gives.Done heap next is
 
     its_next : asked ≡ next.plain.index
     its_next = its ∙ sym index_is
@@ -187,7 +190,17 @@ module _ (after : ParticipantView) (old new : ℕ → HeapPart) (log later : Lis
     pages : HasPages next.plain.pages grows.behind.owned
     unfolding after
     pages =
-        subst (λ (plain : PlainHeap). HasPages plain.pages grows.behind.owned) (sym is.heap) (grows.grows.1 heap.plain (sym its) had)
+        subst (λ (plain : PlainHeap). HasPages plain.pages grows.behind.owned) (sym is.heap) (grows.grows.pages heap.plain (sym its) had.pages)
+
+    -- the run comes behind those that came before, by its history and by what it has claimed
+    brought : HasHolding next grows.behind
+    brought =
+        let adds = calls_add_runs (caller_of after) (call.Grow run) gives.Done heap next is in
+        record {
+          pages = pages;
+          grown = adds.grown ∙ ap (λ (came : List Run). came ++ run ∷ []) had.grown ∙ sym grows.grows.came;
+          cut = adds.cut ∙ append-nil (runs_cut heap.history) ∙ had.cut ∙ sym grows.grows.retired;
+        }
 
     -- once it has, the heap is in hand with it
     pub hand_grown : IsInHand out (moment_of counted new later heard) next
@@ -197,15 +210,15 @@ module _ (after : ParticipantView) (old new : ℕ → HeapPart) (log later : Lis
           taken_is = ap out index_is ∙ hand.taken_is;
           few = subst (λ (index : ℕ). index < MAX_HEAPS) (sym index_is) hand.few;
           index = index_is ∙ hand.index;
-          serves = call_serves (caller_of after) (call.Grow run) answer heap next is ∙ hand.serves;
+          serves = call_serves (caller_of after) (call.Grow run) gives.Done heap next is ∙ hand.serves;
           own = hand.own ++ entry ∷ [];
-          history = is.history ∙ sym (own_behind after old log asks (call.Grow run) answer heap next is out hand);
+          history = is.history ∙ sym (own_behind after old log asks (call.Grow run) gives.Done heap next is out hand);
           numbered = subst (λ (count : ℕ). IsNumbered after.party.me count (hand.own ++ entry ∷ [])) (sym (made_same old new entries))
-              (numbered_next after old log asks (call.Grow run) answer heap next is out hand);
+              (numbered_next after old log asks (call.Grow run) gives.Done heap next is out hand);
           earlier = hand.earlier ∙ ap (λ (index : ℕ). (old index).entries) (sym index_is) ∙ sym (entries next.plain.index);
-          held = subst (λ (holding : Option Holding). IsHeldWith next holding) (sym holds) pages;
+          held = subst (λ (holding : Option Holding). IsHeldWith next holding) (sym holds) brought;
           sound = calls_keep_sound (caller_of after) (call.Grow run) answer heap next hand.sound is;
-          its_socket = call_serves (caller_of after) (call.Grow run) answer heap next is ∙ hand.its_socket
+          its_socket = call_serves (caller_of after) (call.Grow run) gives.Done heap next is ∙ hand.its_socket
               ∙ ap (λ (index : ℕ). (old index).serves) (sym index_is) ∙ sym (serves next.plain.index);
           sockets = λ index. serves index ∙ hand.sockets index;
           others = λ other apart.

@@ -6,6 +6,8 @@ use Rattle.std.proofs.lemmas.List.{length-append}
 use Rattle.std.proofs.lemmas.List.Elements.{filter-append}
 use Rattle.hp_base.specs.declared.limits.TheConstants.{MAX_HEAPS}
 use Rattle.hp_base.specs.declared.tag.Caller.{Caller}
+use Rattle.hp_base.specs.declared.row.Run.{Run}
+use Rattle.hp_heap.proofs.EntriesLaw.{calls_add_runs}
 use Rattle.hp_heap.proofs.FrontsLaw.{calls_keep_sound}
 use Rattle.hp_heap.proofs.HistoryLaw.{after-same}
 use Rattle.hp_heap.specs.History.{HeapView, IsCall, SameButSpare, StandsFor, entries_of}
@@ -26,7 +28,8 @@ use Rattle.hp_proc.specs.Acting.{Acts, AreAsked}
 use Rattle.hp_proc.specs.Courses.{OwnCall}
 use Rattle.hp_proc.specs.Doing.{Doing, Goes, Leads}
 use Rattle.hp_proc.specs.Doing.Done.{Called}
-use Rattle.hp_proc.specs.Histories.{entries_for, entry_for, run_cut}
+use Rattle.hp_heap.specs.HistoryLaws.{run_cut, run_grown, runs_cut, runs_grown}
+use Rattle.hp_proc.specs.Histories.{entries_for, entry_for}
 use Rattle.hp_proc.specs.ParticipantView.{ParticipantView, after_call}
 use Rattle.hp_proc.specs.Progress.{Does, DoesIn, IsInHand, Moment, caller_of, in_hand, moment_of, with_hand}
 
@@ -120,18 +123,20 @@ module _ (doer : ParticipantView) (parts : ℕ → HeapPart) (log : List LogReco
 
   -- the next thing that its line does is that call, with the steps that it makes along with it
   pub does_acted : (count : ℕ) (did : List MailStep → Type 0) (then_on : HeapAnswer → Doing) (after : ParticipantView) (steps : List MailStep)
-      → after ≡ after_call doer → did steps → Acts count doer (after_call doer) (Called old.plain.index call answer ∷ []) steps
-      → Does count did (Doing.Calls old.plain.index call then_on) (then_on answer) (in_hand old (moment_of doer parts log asks))
+      → after ≡ after_call doer → did steps
+      → Acts count (Some old.plain.index) (Some old.plain.index) [] doer (after_call doer) (Called old.plain.index call answer ∷ []) steps
+      → Does [] count did (Doing.Calls old.plain.index call then_on) (then_on answer) (in_hand old (moment_of doer parts log asks))
       (in_hand new (moment_of after parts log asks))
   unfolding Leads Goes AreAsked
   does_acted count did then_on after steps counted made acts =
-      subst (λ (after : ParticipantView). Does count did (Doing.Calls old.plain.index call then_on) (then_on answer)
+      subst (λ (after : ParticipantView). Does [] count did (Doing.Calls old.plain.index call then_on) (then_on answer)
       (in_hand old (moment_of doer parts log asks)) (in_hand new (moment_of after parts log asks))) (sym counted) (record {
         trace = Called old.plain.index call answer ∷ [];
         steps = steps;
         leads = (answer, refl, refl);
         made = made;
-        acts = acts;
+        acts = subst (λ (behind : ℕ). Acts count (Some old.plain.index) (Some behind) [] doer (after_call doer)
+            (Called old.plain.index call answer ∷ []) steps) (sym index_is) acts;
         entries = entries_by;
         serves = λ heap. hand_serves doer.party.me new parts heap ∙ sym (hand_serves doer.party.me old parts heap);
         counted = refl;
@@ -146,7 +151,7 @@ module _ (doer : ParticipantView) (parts : ℕ → HeapPart) (log : List LogReco
   -- so it is with a call that cuts no run, which makes none
   pub does_call : (count : ℕ) (did : List MailStep → Type 0) (then_on : HeapAnswer → Doing) (after : ParticipantView) → after ≡ after_call doer
       → did [] → run_cut answer ≡ []
-      → Does count did (Doing.Calls old.plain.index call then_on) (then_on answer) (in_hand old (moment_of doer parts log asks))
+      → Does [] count did (Doing.Calls old.plain.index call then_on) (then_on answer) (in_hand old (moment_of doer parts log asks))
       (in_hand new (moment_of after parts log asks))
   does_call count did then_on after counted none whole =
       does_acted count did then_on after [] counted none (Acts.makes_call doer old.plain.index call answer whole)
@@ -194,18 +199,31 @@ module _ (doer : ParticipantView) (parts : ℕ → HeapPart) (log : List LogReco
           counted = omega (arith, hand.counted, length-append hand.own (entry ∷ []));
         })
 
-    held_still : (holding : Option Holding) → new.plain.pages ≡ old.plain.pages → IsHeldWith old holding → IsHeldWith new holding
-    held_still None same held = absurd held
-    held_still (Some holding) same held = subst (λ (pages : List HeapPage). HasPages pages holding.owned) (sym same) held
+    held_still : (holding : Option Holding) → new.plain.pages ≡ old.plain.pages → run_grown call ≡ [] → run_cut answer ≡ []
+        → IsHeldWith old holding → IsHeldWith new holding
+    held_still None same none whole held = absurd held
+    held_still (Some holding) same none whole held =
+        let adds = calls_add_runs (caller_of doer) call answer old new is in
+        record {
+          pages = subst (λ (pages : List HeapPage). HasPages pages holding.owned) (sym same) held.pages;
+          grown = adds.grown ∙ ap (λ (more : List Run). runs_grown old.history ++ more) none ∙ append-nil (runs_grown old.history) ∙ held.grown;
+          cut = adds.cut ∙ ap (λ (more : List Run). runs_cut old.history ++ more) whole ∙ append-nil (runs_cut old.history) ∙ held.cut;
+        }
 
-    -- so it is where its pages stay
-    pub hand_stays : (after : ParticipantView) → after ≡ after_call doer → new.plain.pages ≡ old.plain.pages
-        → IsInHand taken (moment_of after parts log asks) new
-    hand_stays after counted same = hand_called after counted (held_still (parts old.plain.index).holding same hand.held)
+    -- so it is where its pages stay, and by the call no run comes or goes
+    pub hand_stays : (after : ParticipantView) → after ≡ after_call doer → new.plain.pages ≡ old.plain.pages → run_grown call ≡ []
+        → run_cut answer ≡ [] → IsInHand taken (moment_of after parts log asks) new
+    hand_stays after counted same none whole =
+        hand_called after counted (held_still (parts old.plain.index).holding same none whole hand.held)
 
-held_spared : (old new : HeapView) (holding : Option Holding) → new.plain ≡ old.plain → IsHeldWith old holding → IsHeldWith new holding
-held_spared old new None same held = absurd held
-held_spared old new (Some holding) same held = subst (λ (heap : PlainHeap). HasPages heap.pages holding.owned) (sym same) held
+held_spared : (old new : HeapView) (holding : Option Holding) → new.plain ≡ old.plain → new.history ≡ old.history → IsHeldWith old holding
+    → IsHeldWith new holding
+held_spared old new None plain same held = absurd held
+held_spared old new (Some holding) plain same held = record {
+  pages = subst (λ (heap : PlainHeap). HasPages heap.pages holding.owned) (sym plain) held.pages;
+  grown = ap (λ (history : List Entry). runs_grown history) same ∙ held.grown;
+  cut = ap (λ (history : List Entry). runs_cut history) same ∙ held.cut;
+}
 
 module _ (old new : HeapView) (same : SameButSpare old new) (moment : Moment) where
   -- a heap with room for more calls is in hand as before
@@ -224,7 +242,7 @@ module _ (old new : HeapView) (same : SameButSpare old new) (moment : Moment) wh
         numbered = hand.numbered;
         earlier = hand.earlier ∙ ap (λ (index : ℕ). (moment.parts index).entries) (sym index);
         held = subst (λ (index : ℕ). IsHeldWith new (moment.parts index).holding) (sym index)
-            (held_spared old new (moment.parts old.plain.index).holding same.plain hand.held);
+            (held_spared old new (moment.parts old.plain.index).holding same.plain same.history hand.held);
         sound = record {
           tiled = subst (λ (heap : PlainHeap). IsTiled heap) (sym same.plain) hand.sound.tiled;
           lists = same.lists ∙ hand.sound.lists ∙ ap (λ (heap : PlainHeap). free_lists heap) (sym same.plain);
@@ -238,9 +256,9 @@ module _ (old new : HeapView) (same : SameButSpare old new) (moment : Moment) wh
       }
 
   -- and what was done up to there is the same
-  pub does_spared : (count : ℕ) (did : List MailStep → Type 0) (doing rest : Doing) (before : Moment)
-      → Does count did doing rest before (in_hand old moment) → Does count did doing rest before (in_hand new moment)
-  does_spared count did doing rest before does =
-      subst (λ (heap : PlainHeap). Does count did doing rest before (in_hand (record new { plain = heap }) moment)) (sym same.plain)
-      (subst (λ (history : List Entry). Does count did doing rest before (in_hand (record new { plain = old.plain; history = history }) moment))
+  pub does_spared : {held : List ℕ} (count : ℕ) (did : List MailStep → Type 0) (doing rest : Doing) (before : Moment)
+      → Does held count did doing rest before (in_hand old moment) → Does held count did doing rest before (in_hand new moment)
+  does_spared {held} count did doing rest before does =
+      subst (λ (heap : PlainHeap). Does held count did doing rest before (in_hand (record new { plain = heap }) moment)) (sym same.plain)
+      (subst (λ (history : List Entry). Does held count did doing rest before (in_hand (record new { plain = old.plain; history = history }) moment))
       (sym same.history) does)

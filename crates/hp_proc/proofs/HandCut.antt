@@ -1,10 +1,11 @@
 -- Whole pages that are cut from a heap in hand, and given up; and calls that cut none.
-use Rattle.std.proofs.Common.{◌≡◌, ◌≢◌, ◌∙◌, ℕ, Bool, true, false, [], Option, Some, None, refl, ap, sym, subst, ⊎_elim}
+use Rattle.std.proofs.Common.{◌≡◌, ◌≢◌, ◌∙◌, ℕ, Bool, true, false, List, [], ◌∷◌, ◌++◌, append-nil, Option, Some, None, refl, ap, sym, subst, ⊎_elim}
 use Rattle.std.proofs.lemmas.Bool.Decides.{eqb_tells}
 use Rattle.std.specs.Option.{option_map}
 use Rattle.hp_base.specs.declared.row.Run.{Run}
 use Rattle.hp_base.specs.declared.tag.Caller.{Caller}
-use Rattle.hp_hall.specs.Holding.{HasPages, HeapPart, IsHeldWith}
+use Rattle.hp_heap.proofs.EntriesLaw.{calls_add_runs}
+use Rattle.hp_hall.specs.Holding.{HasHolding, HeapPart, IsHeldWith}
 use Rattle.hp_segs.specs.Standing.{Holding}
 use Rattle.hp_heap.specs.Cut.{PageCut, after_cut, after_cut_of, cut_at, run_of}
 use Rattle.hp_heap.specs.History.{HeapView, IsCall}
@@ -18,7 +19,7 @@ use Rattle.hp_heap.specs.declared.entry.HeapCall.TheVariants as call
 use Rattle.hp_heap.specs.declared.freeing.FreeFault.{FreeFault}
 use Rattle.hp_heap.specs.declared.freeing.FreeFault.TheVariants as fault
 use Rattle.hp_serve.specs.Asking.{GivesUp, IsCutFrom, without_run}
-use Rattle.hp_proc.specs.Histories.{run_cut}
+use Rattle.hp_heap.specs.HistoryLaws.{run_cut, runs_cut, runs_grown}
 use Rattle.hp_proc.proofs.HandMoved.{IsSamePart}
 
 left_whole : (heap : PlainHeap) (found : Option PageCut) → gives.Nothing ≡ run_answer (option_map run_of found) → after_cut_of found heap ≡ heap
@@ -45,18 +46,29 @@ cut_from_held addr index run heap (Some owned) same held cut = (
   owned,
   after_cut addr heap.plain,
   refl,
-  record { whole = heap.plain; address = addr; its_index = sym same; pages = held; cut = cut; left_is = refl },
+  record { whole = heap.plain; address = addr; its_index = sym same; pages = held.pages; cut = cut; left_is = refl },
 )
 
--- once it is given up the heap has the pages of its own segments
-pub held_behind_cut : (addr index : ℕ) (run : Run) (old new : HeapView) (before behind : HeapPart) → index ≡ old.plain.index
-    → IsHeldWith old before.holding → IsRunCut addr old.plain run → new.plain ≡ after_cut addr old.plain
+-- once it is given up the heap has what its holding names: the pages of its own segments, and the run behind those that it gave up before
+pub held_behind_cut : (caller : Caller) (addr index : ℕ) (run : Run) (old new : HeapView) (before behind : HeapPart) → index ≡ old.plain.index
+    → IsHeldWith old before.holding → IsRunCut addr old.plain run → IsCall caller (call.Cut addr) (gives.Pages run) old new
     → GivesUp index run before behind → IsHeldWith new behind.holding
-held_behind_cut addr index run old new before behind same held cut left gives =
-    let whole : HasPages old.plain.pages gives.before.owned = subst (IsHeldWith old) gives.held held in
-    subst (IsHeldWith new) (ap (λ (part : HeapPart). part.holding) (sym gives.left))
-    (gives.pages new.plain
-    (record { whole = old.plain; address = addr; its_index = sym same; pages = whole; cut = cut; left_is = left }))
+held_behind_cut caller addr index run old new before behind same held cut step up =
+    let whole : HasHolding old up.before = subst (IsHeldWith old) up.held held in
+    let adds = calls_add_runs caller (call.Cut addr) (gives.Pages run) old new step in
+    subst (IsHeldWith new) (ap (λ (part : HeapPart). part.holding) (sym up.left))
+    (record {
+      pages = up.pages new.plain (record {
+        whole = old.plain;
+        address = addr;
+        its_index = sym same;
+        pages = whole.pages;
+        cut = cut;
+        left_is = cut_leaves caller addr (gives.Pages run) old new step;
+      });
+      grown = adds.grown ∙ append-nil (runs_grown old.history) ∙ whole.grown;
+      cut = adds.cut ∙ ap (λ (retired : List Run). retired ++ run ∷ []) whole.cut;
+    })
 
 -- what a search, a free and a resize answer names no run that was cut
 pub found_whole : (found : Option ℕ) → run_cut (address_answer found) ≡ []

@@ -1,12 +1,13 @@
 -- A heap that comes into a participant's hand, and that goes back.
-use Rattle.std.proofs.Common.{◌≡◌, ◌≢◌, ◌∙◌, ℕ, Bool, suc, zero, ◌+◌, ◌<◌, ◌≤◌, eqb, eq-eqb, List, [], ◌∷◌, ◌++◌, length, append-nil, Option, Some, None, refl, ap, sym, subst, ⊎_elim, arith}
+use Rattle.std.proofs.Common.{◌≡◌, ◌≢◌, ◌∙◌, ℕ, Bool, true, ◌||◌, suc, zero, ◌+◌, ◌<◌, ◌≤◌, eqb, eq-eqb, List, [], ◌∷◌, ◌++◌, length, append-nil, Option, Some, None, refl, ap, sym, subst, ⊎_elim, arith}
 use Rattle.std.specs.Prelude.{slice_get, sum_by}
 use Rattle.hp_proc.specs.Contexts.{Context}
 use Rattle.hp_proc.specs.Heaps.{sockets_of}
-use Rattle.std.specs.List.{range_with_len}
+use Rattle.std.specs.List.{list_any, range_with_len}
 use Rattle.std.proofs.lemmas.Bool.{cond-true}
 use Rattle.std.proofs.lemmas.Bool.Decides.{eqb_tells}
 use Rattle.std.proofs.lemmas.List.{length-append}
+use Rattle.std.proofs.lemmas.List.Folds.{list_any-append}
 use Rattle.std.proofs.lemmas.List.Sums.{sum_by-cons}
 use Rattle.hp_base.specs.declared.limits.TheConstants.{MAX_HEAPS}
 use Rattle.hp_base.specs.declared.tag.Caller.{Caller}
@@ -14,23 +15,57 @@ use Rattle.hp_heap.specs.History.{HeapView, entries_of}
 use Rattle.hp_heap.specs.History as heaps
 use Rattle.hp_heap.specs.declared.entry.Entry.{Entry}
 use Rattle.hp_hall.specs.Giving.{IsNumbered, entries_made}
-use Rattle.hp_hall.specs.Holding.{AreApart, HeapPart, IsAsPart, IsPartTaken, IsTakenAs, StandsFor, part_ended}
+use Rattle.hp_hall.specs.Asks.{ClaimsGrants, IsClaimedIn}
+use Rattle.hp_hall.specs.Holding.{AreApart, HeapPart, IsAsPart, IsClaimedFor, IsPartTaken, IsSettledFor, IsTakenAs, StandsFor, part_ended}
 use Rattle.hp_hall.specs.declared.kept.Kept.{Kept}
 use Rattle.hp_hall.specs.declared.kept.Kept.TheVariants.{Heap}
 use Rattle.hp_hall.specs.declared.slot.TheConstants.{SLOTS}
 use Rattle.hp_hall.specs.Mail.{MailStep}
-use Rattle.hp_hall.specs.Values.{Fits, HasEntries, IsSoundKept}
+use Rattle.hp_hall.specs.Values.{Fits, HasClaimed, HasEntries, IsSoundKept}
 use Rattle.hp_proc.specs.Acting.{Acts}
 use Rattle.hp_serve.specs.Asking.{HasSettledAsks}
 use Rattle.hp_serve.specs.Waiting.{IsTurned}
 use Rattle.hp_log.specs.declared.log_record.LogRecord.{LogRecord}
+use Rattle.hp_segs.specs.SegsView.{grants_or_refuses}
+use Rattle.hp_segs.specs.Standing.{Holding}
 use Rattle.hp_segs.specs.declared.outcome.AskLog.{AskLog}
 use Rattle.hp_serve.specs.Party.{IsSameParty}
 use Rattle.hp_proc.specs.ParticipantView.{ParticipantView}
 use Rattle.hp_proc.specs.Progress.{AreSettled, IsInHand, MayDo, moment_of, with_hand}
-use Rattle.hp_serve.proofs.AskedAlong.{settled_more}
 use Rattle.hp_proc.proofs.Joining.{goes_as}
 use Rattle.hp_proc.proofs.HandCalls.{entries_of_on, hand_apart, hand_here}
+
+-- what was heard of an ask is heard still
+heard_still : (from number : ℕ) (asks now more : List AskLog) → now ≡ asks ++ more → list_any (grants_or_refuses from number) asks ≡ true
+    → list_any (grants_or_refuses from number) now ≡ true
+heard_still from number asks now more grown heard =
+    ap (λ (asks : List AskLog). list_any (grants_or_refuses from number) asks) grown
+    ∙ list_any-append (grants_or_refuses from number) asks more
+    ∙ ap (λ (before : Bool). before || list_any (grants_or_refuses from number) more) heard
+
+-- of a heap that is not in hand nothing is to be claimed
+claims_none : (heard : List AskLog) (holding : Option Holding) (ask : Ask) → holding ≡ None → ClaimsGrants heard holding ask
+claims_none heard holding ask none entry generation among who which granted =
+    subst (λ (holding : Option Holding). IsClaimedIn holding entry) (sym none) tt
+
+module _ (old new : ℕ → HeapPart) (asks now more : List AskLog) (grown : now ≡ asks ++ more)
+    (armed : (heap : ℕ) → (new heap).armed ≡ (old heap).armed) (settled : HasSettledAsks old asks) where
+  settled_in : (heap : ℕ) → IsClaimedFor heap now (new heap) → IsSettledFor heap now (new heap)
+  settled_in heap claimed ask is its = record {
+    answered = heard_still ask.from ask.number asks now more grown (settled heap ask (sym (armed heap) ∙ is) its).answered;
+    claims = claimed ask is its;
+  }
+
+  -- settled asks stay settled while it has no heap in hand
+  pub settled_unheld : ((heap : ℕ) → (new heap).holding ≡ None) → HasSettledAsks new now
+  settled_unheld unheld heap = settled_in heap (λ ask is its. claims_none now (new heap).holding ask (unheld heap))
+
+  -- and once it has taken one, which has claimed what was granted to its ask for that
+  pub settled_taken : (index : ℕ) → IsClaimedFor index now (new index) → ((other : ℕ) → other ≢ index → (new other).holding ≡ None)
+      → HasSettledAsks new now
+  settled_taken index claimed unheld heap = settled_in heap
+      (⊎_elim (λ here. subst (λ (at : ℕ). IsClaimedFor at now (new at)) (sym here.1) claimed)
+      (λ other. λ ask is its. claims_none now (new heap).holding ask (unheld heap other.1)) (eqb_tells heap index))
 
 -- entries that are numbered on are all of that participant
 own_all : (who count : ℕ) (own : List Entry) → IsNumbered who count own → entries_of who own ≡ own
@@ -100,7 +135,7 @@ module _ (who : ℕ) (heap : HeapView) (old new : ℕ → HeapPart) (here : new 
       ∙ ap (λ (index : ℕ). (old index).serves) (sym its.1))
       (λ other. ap (λ (part : HeapPart). part.serves) (apart index other.1)) (eqb_tells index heap.plain.index)
 
-  given_armed : (index : ℕ) → (new index).armed ≡ (old index).armed
+  pub given_armed : (index : ℕ) → (new index).armed ≡ (old index).armed
   given_armed index = ⊎_elim
       (λ its.
       ap (λ (index : ℕ). (new index).armed) its.1 ∙ ap (λ (part : HeapPart). part.armed) here
@@ -131,7 +166,7 @@ module _ (who : ℕ) (heap : HeapView) (old new : ℕ → HeapPart) (here : new 
   ready_given taken doer log later asks now more same hand grown settled = record {
     sockets = λ index. given_serves index ∙ hand.sockets index;
     unheld = given_unheld hand.others;
-    settled = settled_more doer.party.me old new asks now more grown given_armed settled;
+    settled = settled_unheld old new asks now more grown given_armed settled (given_unheld hand.others);
     counted = hand.counted
         ∙ sym (given_made hand.was.history hand.own hand.few hand.history
         (own_all who (entries_made old) hand.own (subst (λ (who : ℕ). IsNumbered who (entries_made old) hand.own) (sym same) hand.numbered))
@@ -197,19 +232,21 @@ module _ (heap : HeapView) (old new : ℕ → HeapPart) (here : IsPartTaken (old
   }
 
 -- what a take of a heap shows
-pub record IsTook (who number : ℕ) (heap : HeapView) (old new : ℕ → HeapPart) : Type 0 where
+pub record IsTook (who number : ℕ) (heap : HeapView) (old new : ℕ → HeapPart) (heard : List AskLog) : Type 0 where
   pub index : heap.plain.index ≡ number
   pub few : heap.plain.index < MAX_HEAPS
   pub sound : heaps.IsSound heap
   pub has : entries_of who heap.history ≡ (old heap.plain.index).entries
   pub stands : IsAsPart (new heap.plain.index) heap
+  pub claimed : IsClaimedFor heap.plain.index heard (new heap.plain.index)
   pub here : IsPartTaken (old heap.plain.index) (new heap.plain.index)
   pub apart : AreApart heap.plain.index old new
 
-pub take_shows : (who inside number : ℕ) (kept : Kept) (heap : HeapView) (old new : ℕ → ℕ → HeapPart) → inside ≡ who → kept ≡ Heap heap
-    → Fits number kept → IsSoundKept kept → HasEntries inside (old inside) kept → StandsFor inside (new inside) kept
-    → IsTakenAs kept (old inside) (new inside) → IsTook who number heap (old who) (new who)
-take_shows who inside number kept heap old new mine is fits sound has stands taken =
+pub take_shows : (who inside number : ℕ) (kept : Kept) (heap : HeapView) (old new : ℕ → ℕ → HeapPart) (heard : ℕ → List AskLog) → inside ≡ who
+    → kept ≡ Heap heap → Fits number kept → IsSoundKept kept → HasEntries inside (old inside) kept → StandsFor inside (new inside) kept
+    → HasClaimed (heard inside) (new inside) kept → IsTakenAs kept (old inside) (new inside)
+    → IsTook who number heap (old who) (new who) (heard who)
+take_shows who inside number kept heap old new heard mine is fits sound has stands claimed taken =
     let fit : Fits number (Heap heap) = subst (λ (kept : Kept). Fits number kept) is fits in
     let took : IsTakenAs (Heap heap) (old who) (new who) =
     subst (λ (who : ℕ). IsTakenAs (Heap heap) (old who) (new who)) mine
@@ -221,6 +258,8 @@ take_shows who inside number kept heap old new mine is fits sound has stands tak
       has = subst (λ (who : ℕ). HasEntries who (old who) (Heap heap)) mine (subst (λ (kept : Kept). HasEntries inside (old inside) kept) is has);
       stands = subst (λ (who : ℕ). StandsFor who (new who) (Heap heap)) mine
           (subst (λ (kept : Kept). StandsFor inside (new inside) kept) is stands);
+      claimed = subst (λ (who : ℕ). HasClaimed (heard who) (new who) (Heap heap)) mine
+          (subst (λ (kept : Kept). HasClaimed (heard inside) (new inside) kept) is claimed);
       here = took.0;
       apart = took.1;
     }
@@ -233,8 +272,8 @@ ready_still before doer old new log later asks now more same known parts grown r
   sockets = λ heap. ap (λ (part : HeapPart). part.serves) (parts heap) ∙ ready.sockets heap
       ∙ ap (λ (context : Context). slice_get (sockets_of context.pools) heap) (sym known);
   unheld = λ heap. ap (λ (part : HeapPart). part.holding) (parts heap) ∙ ready.unheld heap;
-  settled = subst (λ (who : ℕ). HasSettledAsks new now) (sym same.me)
-      (settled_more before.party.me old new asks now more grown (λ heap. ap (λ (part : HeapPart). part.armed) (parts heap)) ready.settled);
+  settled = settled_unheld old new asks now more grown (λ heap. ap (λ (part : HeapPart). part.armed) (parts heap)) ready.settled
+      (λ heap. ap (λ (part : HeapPart). part.holding) (parts heap) ∙ ready.unheld heap);
   counted = omega (
     arith,
     ap (λ (context : Context). context.calls) known,
@@ -246,11 +285,11 @@ ready_still before doer old new log later asks now more same known parts grown r
 
 -- it waited one turn more
 pub waits_more : (count counted until : ℕ) (doer mid after : ParticipantView) (moved : Bool) (first last : List MailStep) → counted ≡ count
-    → after.context ≡ mid.context → Acts count doer mid [] first → IsTurned counted until mid.party after.party last (Some moved)
-    → Acts count doer after [] (first ++ last)
+    → after.context ≡ mid.context → Acts count None None [] doer mid [] first → IsTurned counted until mid.party after.party last (Some moved)
+    → Acts count None None [] doer after [] (first ++ last)
 waits_more count counted until doer mid after moved first last same knew waited turned =
-    Acts.and_then doer mid after [] [] first last waited
-    (subst (λ (after : ParticipantView). Acts count mid after [] last) (goes_as mid after knew)
+    Acts.and_then None None None [] [] doer mid after [] [] first last waited
+    (subst (λ (after : ParticipantView). Acts count None None [] mid after [] last) (goes_as mid after knew)
     (Acts.waits_turn until mid after.party moved last
     (subst (λ (count : ℕ). IsTurned count until mid.party after.party last (Some moved)) same turned)))
 

@@ -13,7 +13,7 @@ use Rattle.hp_proc.specs.Allocating.{unless_answered}
 use Rattle.hp_proc.specs.Contexts.{Context}
 use Rattle.hp_proc.specs.Courses.{OwnCall, calls_in, last_heap}
 use Rattle.hp_proc.specs.Doing.{Doing, Done}
-use Rattle.hp_proc.specs.Histories.{run_cut}
+use Rattle.hp_heap.specs.HistoryLaws.{run_cut}
 use Rattle.hp_proc.specs.ParticipantView.{ParticipantView, after_call}
 use Rattle.hp_proc.specs.Progress.{Brings, Does, DoesIn, Moment, Tries, caller_of, in_hand, moment_of}
 use Rattle.hp_proc.proofs.HandCalls.{call_in}

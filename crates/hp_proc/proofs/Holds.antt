@@ -1,11 +1,11 @@
 -- A participant with a heap in hand, over what calls leave.
-use Rattle.std.proofs.Common.{◌≡◌, ◌+◌, ◌∙◌, ℕ, refl, sym, ap, subst, arith}
-use Rattle.hp_hall.specs.HallState.{HallState, MayServe, OthersStay, SlotsStay, SlotsStayBut}
+use Rattle.std.proofs.Common.{◌≡◌, ◌+◌, ◌++◌, ◌∙◌, ℕ, List, [], refl, sym, ap, subst, arith}
+use Rattle.hp_hall.specs.HallState.{HallState, HasMapped, MayServe, OthersStay, SlotsStay, SlotsStayBut}
 use Rattle.hp_hall.proofs.HallStates.{did_then, later_same, may_still, others_same, slots_same}
 use Rattle.hp_heap.specs.History.{HeapView, IsCall}
+use Rattle.hp_heap.specs.HistoryLaws.{run_cut, run_grown}
 use Rattle.hp_heap.specs.declared.entry.HeapAnswer.{HeapAnswer}
 use Rattle.hp_heap.specs.declared.entry.HeapCall.{HeapCall}
-use Rattle.hp_serve.specs.Asking.{HasSettledAsks}
 use Rattle.hp_proc.specs.Contexts.{Context}
 use Rattle.hp_proc.specs.Courses.{Standing}
 use Rattle.hp_proc.specs.Doing.{Doing}
@@ -61,6 +61,8 @@ keeps_same me doer heap {a} holds = record {
   index = refl;
   its_socket = refl;
   context = refl;
+  settled = holds.settled;
+  mapped = holds.mapped;
   remains = remains_same me doer.party a holds.can.tied;
 }
 
@@ -76,6 +78,8 @@ keeps_then {first} {mid} {last} {one} {two} {three} {a} {b} {c} here next =
       index = there.index ∙ here.index;
       its_socket = there.its_socket ∙ here.its_socket;
       context = knew_then first.context mid.context last.context here.context there.context;
+      settled = there.settled;
+      mapped = there.mapped;
       remains = remains_then here.remains there.remains;
     }
 
@@ -91,6 +95,8 @@ keeps_after {first} {mid} {last} {one} {two} {three} {a} {b} {c} here knew heap 
       index = there.index ∙ ap (λ (heap : HeapView). heap.plain.index) heap;
       its_socket = there.its_socket ∙ ap (λ (heap : HeapView). heap.plain.serves) heap;
       context = knew_after first.context mid.context last.context knew there.context;
+      settled = there.settled;
+      mapped = there.mapped;
       remains = remains_then here there.remains;
     }
 
@@ -105,12 +111,12 @@ can_on {first} {last} {before} {behind} {a} {b} keeps may =
     subst (λ (who : ℕ). CanServe who last.party b) (sym keeps.remains.same.me) here
 
 pub holds_on : {first last : ParticipantView} {before behind : HeapView} {a b : HallState}
-    → KeepsHeld first.party.me first last before behind a b → AreSettled (moment first.party.me last b) → MayServe first.party.me a
-    → HoldsIn last.party.me last behind b
-holds_on {first} {last} {before} {behind} {a} {b} keeps settled may = record {
+    → KeepsHeld first.party.me first last before behind a b → MayServe first.party.me a → HoldsIn last.party.me last behind b
+holds_on {first} {last} {before} {behind} {a} {b} keeps may = record {
   can = can_on keeps may;
   in_hand = subst (λ (who : ℕ). IsInHand b.taken (moment who last b) behind) (sym keeps.remains.same.me) keeps.in_hand;
-  settled = subst (λ (who : ℕ). AreSettled (moment who last b)) (sym keeps.remains.same.me) settled;
+  settled = subst (λ (who : ℕ). AreSettled (moment who last b)) (sym keeps.remains.same.me) keeps.settled;
+  mapped = subst (λ (who : ℕ). HasMapped who b) (sym keeps.remains.same.me) keeps.mapped;
 }
 
 -- lines of which each goes on from where the one before ended
@@ -136,26 +142,23 @@ pub remains_called : {me : ℕ} {first : Party} (mid last : ParticipantView) {a 
 remains_called {me} {first} mid last {a} {b} here called =
     subst (λ (last : ParticipantView). RemainsIn me first last.party a b) (sym called) here
 
--- a call of the heap in its hand, which leaves the heap its pages
+-- a call of the heap in its hand, which leaves the heap its pages, and by which no run comes or goes
 pub keeps_called : (doer after : ParticipantView) (heap next : HeapView) {call : HeapCall} {answer : HeapAnswer} {a : HallState}
-    → IsCall (caller_of doer) call answer heap next → after ≡ after_call doer → next.plain.pages ≡ heap.plain.pages
-    → HoldsIn doer.party.me doer heap a → KeepsHeld doer.party.me doer after heap next a a
-keeps_called doer after heap next {call} {answer} {a} step counted pages holds =
+    → IsCall (caller_of doer) call answer heap next → after ≡ after_call doer → next.plain.pages ≡ heap.plain.pages → run_grown call ≡ []
+    → run_cut answer ≡ [] → HoldsIn doer.party.me doer heap a → KeepsHeld doer.party.me doer after heap next a a
+keeps_called doer after heap next {call} {answer} {a} step counted pages none whole holds =
     let me = doer.party.me in
     subst (λ (after : ParticipantView). KeepsHeld me doer after heap next a a) (sym counted)
     (record {
-      in_hand = hand_stays doer (a.part me) (a.seen me) (a.heard me) call answer heap next step a.taken holds.in_hand (after_call doer) refl pages;
+      in_hand = hand_stays doer (a.part me) (a.seen me) (a.heard me) call answer heap next step a.taken holds.in_hand (after_call doer) refl pages
+          none whole;
       index = call_index (caller_of doer) call answer heap next step;
       its_socket = call_serves (caller_of doer) call answer heap next step;
       context = refl;
+      settled = holds.settled;
+      mapped = holds.mapped;
       remains = remains_same me doer.party a holds.can.tied;
     })
-
-pub settled_called : (doer after : ParticipantView) (a : HallState) → after ≡ after_call doer → AreSettled (moment doer.party.me doer a)
-    → AreSettled (moment doer.party.me after a)
-settled_called doer after a counted settled =
-    subst (λ (who : ℕ). HasSettledAsks (a.part doer.party.me) (a.heard doer.party.me))
-    (sym (ap (λ (doer : ParticipantView). doer.party.me) counted)) settled
 
 pub room_called : (calls : ℕ) (doer after : ParticipantView) (heap next : HeapView) → next.spare + 1 ≡ heap.spare → after ≡ after_call doer
     → HasRoom (calls + 1) heap doer → HasRoom calls next after
@@ -166,13 +169,14 @@ room_called calls doer after heap next spare counted room =
     (record { spare = omega (arith, left, spare); counted = omega (arith, numbers) })
 
 -- what was done of a line, and what was done of it next
-pub does_next : (me : ℕ) {inside : ℕ} (first : Moment) (mid last : ℕ → Moment) {doing rest end : Doing} {a b c : HallState} → inside ≡ me
-    → b.count ≡ a.count → Does a.count (did_in me a b) doing rest first (mid me)
-    → Does b.count (did_in inside b c) rest end (mid inside) (last inside) → Does a.count (did_in me a c) doing end first (last me)
-does_next me {inside} first mid last {doing} {rest} {end} {a} {b} {c} here count was next =
+pub does_next : {held more : List ℕ} (me : ℕ) {inside : ℕ} (first : Moment) (mid last : ℕ → Moment) {doing rest end : Doing}
+    {a b c : HallState} → inside ≡ me → b.count ≡ a.count → Does held a.count (did_in me a b) doing rest first (mid me)
+    → Does more b.count (did_in inside b c) rest end (mid inside) (last inside)
+    → Does (held ++ more) a.count (did_in me a c) doing end first (last me)
+does_next {held} {more} me {inside} first mid last {doing} {rest} {end} {a} {b} {c} here count was next =
     does_then a.count (did_in me a b) (did_in me b c) (did_in me a c) doing rest end first (mid me) (last me) (λ one two. did_then) was
-    (subst (λ (count : ℕ). Does count (did_in me b c) rest end (mid me) (last me)) count
-    (subst (λ (who : ℕ). Does b.count (did_in who b c) rest end (mid who) (last who)) here next))
+    (subst (λ (count : ℕ). Does more count (did_in me b c) rest end (mid me) (last me)) count
+    (subst (λ (who : ℕ). Does more b.count (did_in who b c) rest end (mid who) (last who)) here next))
 
 -- a line that did nothing, and one that waited alone
 pub again_same : (doer : ParticipantView) {a : HallState} → IsIdleIn doer.party.me doer.party a → HasCalled doer.party.me doer doer a

@@ -100,9 +100,9 @@ context_joined calls more old mid new here there =
     ∙ ap (λ (context : Context). record (after_calls more context) { standing = new.standing }) here
     ∙ ap (λ (count : ℕ). record old { standing = new.standing; calls = count }) (omega arith)
 
-module _ (count : ℕ) (here_did there_did did : List MailStep → Type 0) (doing left rest : Doing) (old mid new : Moment)
+module _ {held more : List ℕ} (count : ℕ) (here_did there_did did : List MailStep → Type 0) (doing left rest : Doing) (old mid new : Moment)
     (join : (first second : List MailStep) → here_did first → there_did second → did (first ++ second))
-    (here : Does count here_did doing left old mid) (there : Does count there_did left rest mid new) where
+    (here : Does held count here_did doing left old mid) (there : Does more count there_did left rest mid new) where
   abbrev whole : List Done
   whole = here.trace ++ there.trace
 
@@ -129,13 +129,14 @@ module _ (count : ℕ) (here_did there_did did : List MailStep → Type 0) (doin
       (subst (λ (who : ℕ). AreAsked new.log new.asks who mid.party.asked new.party.asked there.trace) here.same.me there.asked)
 
   -- what was done, and what was done behind it
-  pub does_then : Does count did doing rest old new
+  pub does_then : Does (held ++ more) count did doing rest old new
   does_then = record {
     trace = whole;
     steps = here.steps ++ there.steps;
     leads = leads_on doing here.trace there.trace left rest here.leads there.leads;
     made = join here.steps there.steps here.made there.made;
-    acts = Acts.and_then (doer_at old) (doer_at mid) (doer_at new) here.trace there.trace here.steps there.steps here.acts there.acts;
+    acts = Acts.and_then old.hand mid.hand new.hand held more (doer_at old) (doer_at mid) (doer_at new) here.trace there.trace here.steps
+        there.steps here.acts there.acts;
     entries = entries_are;
     serves = λ heap. there.serves heap ∙ here.serves heap;
     counted = subst (λ (calls : ℕ). new.context ≡ record (after_calls calls old.context) { standing = new.context.standing })
@@ -166,14 +167,15 @@ context_still old new same =
     subst (λ (context : Context). context ≡ record (after_calls 0 old) { standing = context.standing }) (sym same)
     (ap (λ (calls : ℕ). record old { calls = calls }) (omega arith))
 
--- nothing of its line was done, while the log and the outcomes went on
-pub does_still : (count : ℕ) (did : List MailStep → Type 0) (doing : Doing) (old new : Moment) (steps : List MailStep) → did steps
-    → Acts count (doer_at old) (doer_at new) [] steps → ((heap : ℕ) → (new.parts heap).entries ≡ (old.parts heap).entries)
+-- nothing of its line was done but that heaps were taken and given, while the log and the outcomes went on
+pub does_still : {held : List ℕ} (count : ℕ) (did : List MailStep → Type 0) (doing : Doing) (old new : Moment) (steps : List MailStep)
+    → did steps → Acts count old.hand new.hand held (doer_at old) (doer_at new) [] steps
+    → ((heap : ℕ) → (new.parts heap).entries ≡ (old.parts heap).entries)
     → ((heap : ℕ) → (new.parts heap).serves ≡ (old.parts heap).serves) → IsSameParty old.party new.party
     → new.context ≡ old.context → new.party.asked ≡ old.party.asked → (more : List LogRecord) → new.log ≡ old.log ++ more
-    → (outcomes : List AskLog) → new.asks ≡ old.asks ++ outcomes → Does count did doing doing old new
+    → (outcomes : List AskLog) → new.asks ≡ old.asks ++ outcomes → Does held count did doing doing old new
 unfolding Leads
-does_still count did doing old new steps made acts entries serves same known asked more log outcomes asks = record {
+does_still {held} count did doing old new steps made acts entries serves same known asked more log outcomes asks = record {
   trace = [];
   steps = steps;
   leads = refl;
@@ -191,9 +193,10 @@ does_still count did doing old new steps made acts entries serves same known ask
 }
 
 -- nothing was done
-pub does_same : (count : ℕ) (did : List MailStep → Type 0) (doing : Doing) (moment : Moment) → did [] → Does count did doing doing moment moment
+pub does_same : (count : ℕ) (did : List MailStep → Type 0) (doing : Doing) (moment : Moment) → did []
+    → Does [] count did doing doing moment moment
 does_same count did doing moment none =
-    does_still count did doing moment moment [] none (Acts.nothing (doer_at moment)) (λ heap. refl) (λ heap. refl)
+    does_still count did doing moment moment [] none (Acts.nothing moment.hand (doer_at moment)) (λ heap. refl) (λ heap. refl)
     (record { me = refl; socket = refl; plan = refl; deadline = refl }) refl refl [] (sym (append-nil moment.log)) []
     (sym (append-nil moment.asks))
 

@@ -6,6 +6,7 @@ pub mod HandAsked
 pub mod HandCalls
 pub mod HandCut
 pub mod HandGiven
+pub mod HandGrown
 pub mod HandMoved
 pub mod HandTried
 pub mod Holds

@@ -24,7 +24,8 @@ use Rattle.hp_proc.specs.Freeing.{looking, freeing}
 use Rattle.hp_proc.specs.declared.searched_heap.SearchedHeap.{SearchedHeap}
 use Rattle.hp_proc.specs.Courses.{OwnCall}
 use Rattle.hp_segs.specs.Returned.{returned_runs}
-use Rattle.hp_proc.specs.Histories.{entries_for, entry_for, granted_runs}
+use Rattle.hp_segs.specs.GrantedRuns.{granted_runs}
+use Rattle.hp_proc.specs.Histories.{entries_for, entry_for}
 use Rattle.hp_proc.specs.Outcomes.{registers}
 use Rattle.hp_proc.specs.LinesDone.{is_grant}
 use Rattle.hp_segs.specs.SegsView.{closed_number}

@@ -3,6 +3,7 @@ use Rattle.std.specs.Prelude.{◌≡◌, ℕ, ◌+◌, ◌<◌, ◌≤◌, Bool,
 use Rattle.std.specs.List.{All, list_any}
 use Rattle.std.specs.List.Sorted.{IsPermutation}
 use Rattle.hp_heap.specs.History.{HeapView, IsSound, entries_of}
+use Rattle.hp_heap.specs.HistoryLaws.{runs_cut, runs_grown}
 use Rattle.hp_heap.specs.PlainHeap.{PlainHeap}
 use Rattle.hp_heap.specs.declared.entry.Entry.{Entry}
 use Rattle.hp_maps.specs.Catching.{Lags}
@@ -18,8 +19,9 @@ use Rattle.hp_proc.specs.Doing.{Done}
 use Rattle.hp_proc.specs.Heaps.{sockets_of}
 use Rattle.hp_proc.specs.Courses.{calls_in}
 use Rattle.hp_proc.specs.LinesDone.{Course, courses_of, trace_of, IsNoneUngranted, AreDone, opening_standing, standing_after}
+use Rattle.hp_segs.specs.GrantedRuns.{granted_runs}
 use Rattle.hp_segs.specs.Returned.{returned_runs}
-use Rattle.hp_proc.specs.Histories.{entries_for, grown_runs, cut_runs, granted_runs}
+use Rattle.hp_proc.specs.Histories.{entries_for}
 use Rattle.hp_proc.specs.Outcomes.{AreAnsweredSo, IsOfAnAskOfATrace, IsOfATraceUnlessStale, AreInTurn, AreAskedFor, IsRefusedIn}
 use Rattle.hp_proc.specs.Seen.{AreSeen, AreRefusals, HasTakenIn, counted_on, seen_in, seen_by_lines}
 use Rattle.hp_proc.specs.Awaits.{AreAwaited}
@@ -42,11 +44,11 @@ KeepsCalls did heaps = (who index : ℕ) (heap : HeapView) → slice_get heaps i
 -- each heap grew by the runs that were granted for it, in their order
 abbrev pub AreGrown : List HeapView → SegsView → Type 0
 AreGrown heaps segs = (index : ℕ) (heap : HeapView) → slice_get heaps index ≡ Some heap
-    → grown_runs heap.history ≡ granted_runs index segs.asks 1 segs.log
+    → runs_grown heap.history ≡ granted_runs index segs.asks 1 segs.log
 
 -- what was cut from heaps has gone back by one Drop each, or is Retiring
 abbrev pub HaveGoneBack : List HeapView → SegsView → Type 0
-HaveGoneBack heaps segs = IsPermutation (flat_map (λ heap. cut_runs heap.history) heaps)
+HaveGoneBack heaps segs = IsPermutation (flat_map (λ heap. runs_cut heap.history) heaps)
     (returned_runs segs.asks false 1 segs.log ++ segs.retiring)
 
 -- the heap has a page at a slot

@@ -108,6 +108,9 @@ impl<'p, M: Mapper> Participant<'p, M> {
             ≡ (H.state hall.old).part self.now.party.me other }
         ensures did { (taken : SegsView) × Did self.now.party.me (takes_segments taken
             ∷ gives_segments (after_retire heap run.now taken) ∷ []) (H.state hall.old) (H.state hall.new) }
+        ensures settled { HasSettledAsks ((H.state hall.old).part self.now.party.me) ((H.state hall.old).heard self.now.party.me)
+            → HasSettledAsks ((H.state hall.new).part self.now.party.me) ((H.state hall.new).heard self.now.party.me) }
+        ensures mapped { HasMapped self.now.party.me (H.state hall.new) }
         ensures stays { StaysButParts self.now.party.me (H.state hall.old) (H.state hall.new) }
         ensures goes_on { H.goes_on hall.old hall.new }
     {

@@ -1,5 +1,5 @@
 -- The element is freed or resized.
-use Rattle.std.proofs.Common.{◌≡◌, ◌∙◌, ℕ, Bool, true, false, refl, ap, sym, subst}
+use Rattle.std.proofs.Common.{◌≡◌, ◌∙◌, ℕ, Bool, [], true, false, refl, ap, sym, subst}
 use Rattle.hp_heap.specs.History.{HeapView, IsCall}
 use Rattle.hp_heap.specs.Step.{resize_answer}
 use Rattle.hp_heap.specs.declared.entry.HeapCall.TheVariants as call
@@ -8,7 +8,7 @@ use Rattle.hp_script.specs.declared.answer.Answer.TheVariants as answer
 use Rattle.hp_proc.specs.Doing.{Doing}
 use Rattle.hp_proc.specs.Freeing.{acting, resized, resized_answer, resizing}
 use Rattle.hp_proc.specs.ParticipantView.{ParticipantView, after_call}
-use Rattle.hp_proc.specs.Progress.{AreSettled, Does, caller_of}
+use Rattle.hp_proc.specs.Progress.{Does, caller_of}
 use Rattle.hp_proc.specs.declared.element_act.ElementAct.{ElementAct}
 use Rattle.hp_proc.specs.declared.searched_heap.SearchedHeap.{SearchedHeap}
 use Rattle.hp_proc.proofs.HandCalls.{does_call}
@@ -17,8 +17,8 @@ use Rattle.hp_proc.proofs.Joining.{does_same}
 use Rattle.hp_proc.proofs.PagesStay.{resize_pages}
 use Rattle.hp_hall.specs.HallState.{HallState}
 use Rattle.hp_hall.proofs.HallStates.{did_same, others_same}
-use Rattle.hp_proc.specs.LineInHall.{HoldsIn, KeepsHeld, did_in, moment, moment_with}
-use Rattle.hp_proc.proofs.Holds.{keeps_called, keeps_same, settled_called}
+use Rattle.hp_proc.specs.LineInHall.{HoldsIn, KeepsHeld, did_in, moment_with}
+use Rattle.hp_proc.proofs.Holds.{keeps_called, keeps_same}
 use Rattle.hp_proc.proofs.participant.Participant.act_held.Goals as goal
 
 -- the line ends with the answer of a resize
@@ -33,15 +33,13 @@ module _ (doer : ParticipantView) (hall : HallState) (heap : HeapView) (size add
 
   -- what was done of a resize, and what is known then
   record IsResized (zone : Bool) (given : Answer) (next : HeapView) (after : ParticipantView) : Type 0 where
-    pub does : Does hall.count (did_in me hall hall) (resizing zone size place addr) (Doing.Ended given) (moment_with heap me doer hall)
+    pub does : Does [] hall.count (did_in me hall hall) (resizing zone size place addr) (Doing.Ended given) (moment_with heap me doer hall)
         (moment_with next me after hall)
-    pub settled : AreSettled (moment me after hall)
     pub keeps : KeepsHeld me doer after heap next hall hall
 
   is_refused : IsResized true answer.IsZone heap doer
   is_refused = record {
     does = does_same hall.count (did_in me hall hall) (Doing.Ended answer.IsZone) (moment_with heap me doer hall) (did_same me hall);
-    settled = holds.settled;
     keeps = keeps_same me doer heap holds;
   }
 
@@ -57,15 +55,15 @@ module _ (doer : ParticipantView) (hall : HallState) (heap : HeapView) (size add
   is_resized false given next after refused done =
       let is = done refl in
       record {
-        does = subst (λ (rest : Doing). Does hall.count (did_in me hall hall) (resizing false size place addr) rest
+        does = subst (λ (rest : Doing). Does [] hall.count (did_in me hall hall) (resizing false size place addr) rest
             (moment_with heap me doer hall) (moment_with next me after hall))
             (resized_is is.0 ∙ ap (λ (given : Answer). Doing.Ended given) (sym is.1))
-            (subst (λ (index : ℕ). Does hall.count (did_in me hall hall) (Doing.Calls index (call.Resize addr size) resized)
+            (subst (λ (index : ℕ). Does [] hall.count (did_in me hall hall) (Doing.Calls index (call.Resize addr size) resized)
             (resized (resize_answer is.0)) (moment_with heap me doer hall) (moment_with next me after hall)) (sym its)
             (does_call doer (hall.part me) (hall.seen me) (hall.heard me) (call.Resize addr size) (resize_answer is.0) heap next is.3 hall.count
             (did_in me hall hall) resized after is.2 (did_same me hall) (resized_whole is.0)));
-        settled = settled_called doer after hall is.2 holds.settled;
-        keeps = keeps_called doer after heap next is.3 is.2 (resize_pages (caller_of doer) addr size (resize_answer is.0) heap next is.3) holds;
+        keeps = keeps_called doer after heap next is.3 is.2 (resize_pages (caller_of doer) addr size (resize_answer is.0) heap next is.3) refl
+            (resized_whole is.0) holds;
       }
 
 pub returns-in-Resize : goal.returns-in-Resize
@@ -80,9 +78,8 @@ returns-in-Resize g c =
     is_resized doer hall heap c.in-Resize.size c.args.addr c.args.place.now c.requires.its c.requires.holds c.in-Resize.zone c.resize_held.result
     next after c.resize_held.ensures.zone c.resize_held.ensures.resized in
     record {
-      does = subst (λ (action : ElementAct). Does hall.count (did_in me hall hall) (acting action c.args.place.now c.args.addr)
+      does = subst (λ (action : ElementAct). Does [] hall.count (did_in me hall hall) (acting action c.args.place.now c.args.addr)
           (Doing.Ended c.resize_held.result) (moment_with heap me doer hall) (moment_with next me after hall)) (sym c.in-Resize.is) is.does;
-      settled = is.settled;
       keeps = is.keeps;
       others = others_same me hall;
       goes_on = g.met.H.Hall.goes_on_same _;

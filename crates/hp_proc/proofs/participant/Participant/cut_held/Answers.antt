@@ -1,5 +1,5 @@
 -- The pages are cut, and the run of them is given up while the heap is in hand.
-use Rattle.std.proofs.Common.{◌≡◌, ◌≢◌, ◌∙◌, ℕ, Bool, true, false, not, cond, is_some, [], ◌∷◌, refl, ap, sym, subst}
+use Rattle.std.proofs.Common.{◌≡◌, ◌≢◌, ◌∙◌, ℕ, Bool, true, false, not, cond, is_some, [], ◌∷◌, Some, refl, ap, sym, subst}
 use Rattle.hp_hall.specs.Holding.{HeapPart, IsHeldWith}
 use Rattle.hp_heap.specs.PlainHeap.{PlainHeap}
 use Rattle.hp_heap.specs.declared.entry.HeapAnswer.TheVariants as gives
@@ -15,17 +15,16 @@ use Rattle.hp_proc.specs.Progress.{Does, caller_of, in_hand, moment_of}
 use Rattle.hp_serve.specs.Serving.{gives_segments, takes_segments}
 use Rattle.hp_proc.specs.declared.element_act.Left.TheVariants.{GaveUp}
 use Rattle.hp_proc.specs.declared.searched_heap.SearchedHeap.{SearchedHeap}
-use Rattle.hp_serve.proofs.AskedAlong.{settled_more}
 use Rattle.hp_serve.proofs.Carrying.{same_party}
 use Rattle.hp_proc.proofs.HandCalls.{call_index, call_serves, does_acted, does_call}
-use Rattle.hp_proc.proofs.HandCut.{cut_from_held, cut_leaves, cut_nothing, given_up_armed, given_up_part, held_behind_cut}
+use Rattle.hp_proc.proofs.HandCut.{cut_from_held, cut_nothing, given_up_part, held_behind_cut}
 use Rattle.hp_proc.proofs.HandMoved.{hand_moved, hand_same}
 use Rattle.hp_proc.proofs.Joining.{does_same, does_still, does_then}
-use Rattle.hp_hall.specs.HallState.{Did, OthersStay}
+use Rattle.hp_hall.specs.HallState.{Did, HasMapped, OthersStay}
 use Rattle.hp_serve.specs.SegmentSlot.{MayHold}
 use Rattle.hp_hall.proofs.HallStates.{did_same, did_then, others_same}
 use Rattle.hp_proc.specs.LineInHall.{did_in, moment_with}
-use Rattle.hp_proc.proofs.Holds.{keeps_called, keeps_same, knew_called, remains_called, settled_called}
+use Rattle.hp_proc.proofs.Holds.{keeps_called, keeps_same, knew_called, remains_called}
 use Rattle.hp_serve.proofs.InHalls.{in_same, remains_by, tied_later}
 use Rattle.hp_serve.proofs.SegmentSlots.{may_hold}
 use Rattle.hp_proc.proofs.participant.Participant.cut_held.Goals as goal
@@ -49,10 +48,9 @@ returns-then-is_none g c =
     let heap = c.args.heap.now in
     let at = moment_with heap me doer hall in
     record {
-      does = subst (λ (doing : Doing). Does hall.count (did_in me hall hall) doing (Doing.Ended answer.Done) at at)
+      does = subst (λ (doing : Doing). Does [] hall.count (did_in me hall hall) doing (Doing.Ended answer.Done) at at)
           (sym (external_ends c.args.place.now c.args.addr c.is_none.result c.if-is_none.true c.is_none.ensures))
           (does_same hall.count (did_in me hall hall) (Doing.Ended answer.Done) at (did_same me hall));
-      settled = c.requires.holds.settled;
       keeps = keeps_same me doer heap c.requires.holds;
       others = others_same me hall;
       goes_on = g.met.H.Hall.goes_on_same _;
@@ -88,14 +86,13 @@ returns-in-None g c =
     let step = c.in-None.ensures.step in
     let counted = c.cut_in.ensures.counted in
     record {
-      does = subst (λ (doing : Doing). Does hall.count (did_in me hall hall) doing (Doing.Ended answer.Done) (moment_with heap me doer hall)
+      does = subst (λ (doing : Doing). Does [] hall.count (did_in me hall hall) doing (Doing.Ended answer.Done) (moment_with heap me doer hall)
           (moment_with next me after hall))
           (sym (socket_cuts place c.args.addr heap.plain.index c.is_none.result c.if-is_none.false c.is_none.ensures c.requires.its))
           (does_call doer part seen heard (call.Cut c.args.addr) gives.Nothing heap next step hall.count (did_in me hall hall)
           (giving_up place.index) after counted (did_same me hall) refl);
-      settled = settled_called doer after hall counted c.requires.holds.settled;
       keeps = keeps_called doer after heap next step counted
-          (ap (λ (heap : PlainHeap). heap.pages) (cut_nothing (caller_of doer) c.args.addr heap next step)) c.requires.holds;
+          (ap (λ (heap : PlainHeap). heap.pages) (cut_nothing (caller_of doer) c.args.addr heap next step)) refl refl c.requires.holds;
       others = others_same me hall;
       goes_on = g.met.H.Hall.goes_on_same _;
     }
@@ -133,7 +130,7 @@ returns-in-Some g c =
     let held = subst (λ (index : ℕ). IsHeldWith heap (part index).holding) (sym c.requires.its) c.requires.holds.in_hand.held in
     let called = remains_called doer after (remains_by (in_same me doer.party old c.requires.holds.can.tied)) counted in
     record {
-      does = subst (λ (doing : Doing). Does old.count (did_in me old new) doing left (moment_with heap me doer old) (moment_with cut me after new))
+      does = subst (λ (doing : Doing). Does [] old.count (did_in me old new) doing left (moment_with heap me doer old) (moment_with cut me after new))
           (sym (socket_cuts place c.args.addr heap.plain.index c.is_none.result c.if-is_none.false c.is_none.ensures c.requires.its))
           (does_then old.count (did_in me old new) (did_in me new new) (did_in me old new)
           (Doing.Calls heap.plain.index (call.Cut c.args.addr) (giving_up place.index)) left left (moment_with heap me doer old)
@@ -144,22 +141,23 @@ returns-in-Some g c =
           (subst (λ (who : ℕ). Did who (takes_segments taken ∷ gives_segments (after_retire place.index run taken) ∷ []) old new) is_me is.did.1))
           (Acts.cuts_run doer heap.plain.index c.args.addr run taken))
           (does_still old.count (did_in me new new) left (in_hand cut (moment_of after part seen heard)) (moment_with cut me after new) []
-          (did_same me new) (Acts.nothing after) (λ at. (same at).entries) (λ at. (same at).serves) (same_party after.party) refl refl more.0 more.1 outcomes.0
+          (did_same me new) (Acts.nothing (Some cut.plain.index) after) (λ at. (same at).entries) (λ at. (same at).serves) (same_party after.party) refl refl more.0 more.1 outcomes.0
           outcomes.1));
-      settled = subst (λ (who : ℕ). HasSettledAsks later (new.heard me)) (sym is_me)
-          (settled_more me part later heard (new.heard me) outcomes.0 outcomes.1 (given_up_armed place.index run part later gives_up apart)
-          c.requires.holds.settled);
       keeps = record {
         in_hand = hand_moved doer part seen heard (call.Cut c.args.addr) (gives.Pages run) heap cut step old.taken c.requires.holds.in_hand new.taken
             after later (new.seen me) (new.heard me) is.stays.slots.taken
             called.same (ap (λ (doer : ParticipantView). doer.context) counted) parts
             (λ other far. ap (λ (part : HeapPart). part.holding) (apart other (λ same. far (same ∙ c.requires.its))))
             (subst (λ (index : ℕ). IsHeldWith cut (later index).holding) c.requires.its
-            (held_behind_cut c.args.addr place.index run heap cut (part place.index) (later place.index) c.requires.its held
-            c.in-Some.ensures.pages (cut_leaves (caller_of doer) c.args.addr (gives.Pages run) heap cut step) gives_up));
+            (held_behind_cut (caller_of doer) c.args.addr place.index run heap cut (part place.index) (later place.index) c.requires.its held
+            c.in-Some.ensures.pages step gives_up));
         index = call_index _ _ _ _ _ step;
         its_socket = call_serves _ _ _ _ _ step;
         context = knew_called doer doer after refl counted;
+        settled = subst
+            (λ (who : ℕ). HasSettledAsks (old.part who) (old.heard who) → HasSettledAsks (new.part who) (new.heard who)) is_me is.settled
+            c.requires.holds.settled;
+        mapped = subst (λ (who : ℕ). HasMapped who new) is_me is.mapped;
         remains = record {
           same = called.same;
           tied = tied_later me after.party others.later own called.tied;

@@ -13,15 +13,15 @@ use Rattle.hp_segs.specs.declared.outcome.AskLog.{AskLog}
 use Rattle.hp_proc.specs.Doing.{Doing}
 use Rattle.hp_proc.specs.Freeing.{freed, freeing}
 use Rattle.hp_proc.specs.ParticipantView.{ParticipantView, after_call}
-use Rattle.hp_proc.specs.Progress.{AreSettled, Does, caller_of, in_hand, moment_of}
+use Rattle.hp_proc.specs.Progress.{Does, caller_of, in_hand, moment_of}
 use Rattle.hp_proc.specs.declared.searched_heap.SearchedHeap.{SearchedHeap}
 use Rattle.hp_proc.proofs.HandCalls.{call_index, call_serves, does_call}
 use Rattle.hp_proc.proofs.HandCut.{freed_whole}
 use Rattle.hp_proc.proofs.PagesStay.{free_pages}
 use Rattle.hp_hall.specs.HallState.{OthersStay}
 use Rattle.hp_hall.proofs.HallStates.{did_same, others_same}
-use Rattle.hp_proc.specs.LineInHall.{did_in, moment, moment_with}
-use Rattle.hp_proc.proofs.Holds.{does_next, holds_on, keeps_called, keeps_then, room_called, settled_called}
+use Rattle.hp_proc.specs.LineInHall.{did_in, moment_with}
+use Rattle.hp_proc.proofs.Holds.{does_next, holds_on, keeps_called, keeps_then, room_called}
 use Rattle.hp_proc.proofs.participant.Participant.free_held.Goals as goal
 
 -- the free was called, with what comes of it
@@ -29,12 +29,12 @@ freed_here : (count : ℕ) (did : List MailStep → Type 0) (doer after : Partic
     (heap next : HeapView) (place : SearchedHeap) (addr : ℕ) (fault : Option FreeFault)
     → IsCall (caller_of doer) (call.Free addr false) (fault_answer fault) heap next → after ≡ after_call doer → did []
     → place.index ≡ heap.plain.index → (given : HeapAnswer) → fault_answer fault ≡ given
-    → Does count did (freeing place addr) (freed place addr given) (in_hand heap (moment_of doer parts log asks))
+    → Does [] count did (freeing place addr) (freed place addr given) (in_hand heap (moment_of doer parts log asks))
     (in_hand next (moment_of after parts log asks))
 freed_here count did doer after parts log asks heap next place addr fault step counted none its given is =
-    subst (λ (given : HeapAnswer). Does count did (freeing place addr) (freed place addr given) (in_hand heap (moment_of doer parts log asks))
+    subst (λ (given : HeapAnswer). Does [] count did (freeing place addr) (freed place addr given) (in_hand heap (moment_of doer parts log asks))
     (in_hand next (moment_of after parts log asks))) is
-    (subst (λ (index : ℕ). Does count did (Doing.Calls index (call.Free addr false) (freed place addr)) (freed place addr (fault_answer fault))
+    (subst (λ (index : ℕ). Does [] count did (Doing.Calls index (call.Free addr false) (freed place addr)) (freed place addr (fault_answer fault))
     (in_hand heap (moment_of doer parts log asks)) (in_hand next (moment_of after parts log asks))) (sym its)
     (does_call doer parts log asks (call.Free addr false) (fault_answer fault) heap next step count did (freed place addr) after counted
     none (freed_whole fault)))
@@ -48,8 +48,9 @@ cut_held-requires g c =
     let step = c.free_in.ensures.step in
     let counted = c.free_in.ensures.counted in
     record {
-      holds = holds_on (keeps_called doer mid heap next step counted (free_pages _ _ false _ heap next step) c.requires.holds)
-          (settled_called doer mid (g.H.Hall.state c.args.hall.now) counted c.requires.holds.settled) c.requires.holds.can.may;
+      holds = holds_on
+          (keeps_called doer mid heap next step counted (free_pages _ _ false _ heap next step) refl (freed_whole _) c.requires.holds)
+          c.requires.holds.can.may;
       its = c.requires.its ∙ sym (call_index _ _ _ _ _ step);
       of_socket = c.requires.of_socket ∙ sym (call_serves _ _ _ _ _ step);
       room = room_called 1 doer mid heap next step.spare counted c.requires.room;
@@ -69,8 +70,7 @@ returns-in-Err-NotAnElement g c =
       does = freed_here hall.count (did_in me hall hall) doer after (hall.part me) (hall.seen me) (hall.heard me) heap next c.args.place.now
           c.args.addr (Some c.in-Err-NotAnElement.field-0) c.in-Err-NotAnElement.ensures.step counted (did_same me hall) c.requires.its gives.NotAnElement
           (ap (λ (fault : FreeFault). fault_answer (Some fault)) c.in-Err-NotAnElement.field-0-is);
-      settled = settled_called doer after hall counted c.requires.holds.settled;
-      keeps = keeps_called doer after heap next step counted (free_pages _ _ false _ heap next step) c.requires.holds;
+      keeps = keeps_called doer after heap next step counted (free_pages _ _ false _ heap next step) refl (freed_whole _) c.requires.holds;
       others = others_same me hall;
       goes_on = g.met.H.Hall.goes_on_same _;
     }
@@ -89,8 +89,7 @@ returns-in-Err-IsZone g c =
       does = freed_here hall.count (did_in me hall hall) doer after (hall.part me) (hall.seen me) (hall.heard me) heap next c.args.place.now
           c.args.addr (Some c.in-Err-IsZone.field-0) c.in-Err-IsZone.ensures.step counted (did_same me hall) c.requires.its gives.IsZone
           (ap (λ (fault : FreeFault). fault_answer (Some fault)) c.in-Err-IsZone.field-0-is);
-      settled = settled_called doer after hall counted c.requires.holds.settled;
-      keeps = keeps_called doer after heap next step counted (free_pages _ _ false _ heap next step) c.requires.holds;
+      keeps = keeps_called doer after heap next step counted (free_pages _ _ false _ heap next step) refl (freed_whole _) c.requires.holds;
       others = others_same me hall;
       goes_on = g.met.H.Hall.goes_on_same _;
     }
@@ -114,8 +113,8 @@ returns-in-Ok g c =
       does = does_next me (moment_with heap me doer old) (λ who. moment_with next who mid old) (λ who. moment_with last who after new) here refl
           (freed_here old.count (did_in me old old) doer mid (old.part me) (old.seen me) (old.heard me) heap next c.args.place.now c.args.addr None
           c.in-Ok.ensures.step counted (did_same me old) c.requires.its gives.Done refl) is.does;
-      settled = subst (λ (who : ℕ). AreSettled (moment who after new)) here is.settled;
-      keeps = keeps_then (keeps_called doer mid heap next step counted (free_pages _ _ false _ heap next step) c.requires.holds) is.keeps;
+      keeps = keeps_then
+          (keeps_called doer mid heap next step counted (free_pages _ _ false _ heap next step) refl (freed_whole _) c.requires.holds) is.keeps;
       others = subst (λ (who : ℕ). OthersStay who old new) here is.others;
       goes_on = is.goes_on;
     }

@@ -1,11 +1,11 @@
 -- One page size more is asked for, and a run was granted or none was so far.
-use Rattle.std.proofs.Common.{rules, ◌≡◌, ◌≤◌, ◌<◌, ◌∙◌, ◌+◌, ◌∷◌, ℕ, Bool, List, drop, get_or, length, true, false, refl, ap, sym, subst, arith}
+use Rattle.std.proofs.Common.{rules, ◌≡◌, ◌≤◌, ◌<◌, ◌∙◌, ◌+◌, ◌∷◌, ℕ, Bool, List, [], drop, get_or, length, true, false, refl, ap, sym, subst, arith}
 use Rattle.std.specs.Prelude.{◌^◌}
 use Rattle.std.proofs.lemmas.List.{drop_all, drop_more}
 use Rattle.hp_proc.specs.Allocating.{asking, behind_asking, searching_again}
 use Rattle.hp_serve.specs.Clocks.{longest_wait}
 use Rattle.hp_proc.specs.Progress.{AreSettled, Does, IsInHand, in_hand}
-use Rattle.hp_hall.specs.HallState.{IsBusy}
+use Rattle.hp_hall.specs.HallState.{HasMapped, IsBusy}
 use Rattle.hp_hall.proofs.HallStates.{did_same, later_then, slots_then}
 use Rattle.hp_heap.specs.History.{HeapView}
 use Rattle.hp_proc.specs.Contexts.{Context}
@@ -72,28 +72,23 @@ returns-then-branch-clause-does g c = λ tag otherwise.
     let next = asking index socket request tag otherwise (drop (c.loop-page.page-index + 1) items) in
     let before = in_hand c.args.heap.now (moment me c.args.self.now (g.H.Hall.state first)) in
     let here =
-    subst (λ (left : List ℕ). Does (g.H.Hall.state first).count (did_in me (g.H.Hall.state first) (g.H.Hall.state second)) (asking index socket request tag otherwise items)
+    subst (λ (left : List ℕ). Does [] (g.H.Hall.state first).count (did_in me (g.H.Hall.state first) (g.H.Hall.state second)) (asking index socket request tag otherwise items)
     (asking index socket request tag otherwise left) before (in_hand c.loop-page.heap (moment me c.loop-page.self (g.H.Hall.state second))))
     (drop_more items c.loop-page.page-index 0 c.loop-page-test.true) (was.does tag otherwise) in
     let there =
-    subst (λ (granted : Bool). Does (g.H.Hall.state second).count (did_in c.loop-page.self.party.me (g.H.Hall.state second) (g.H.Hall.state third))
+    subst (λ (granted : Bool). Does [] (g.H.Hall.state second).count (did_in c.loop-page.self.party.me (g.H.Hall.state second) (g.H.Hall.state third))
     (asking index socket request tag otherwise (get_or items c.loop-page.page-index 0 ∷ drop (c.loop-page.page-index + 1) items))
     (behind_asking index request tag next granted)
     (in_hand c.loop-page.heap (moment c.loop-page.self.party.me c.loop-page.self (g.H.Hall.state second)))
     (in_hand c.ask_in.new.heap (moment c.loop-page.self.party.me c.ask_in.new.self (g.H.Hall.state third))))
     c.if-branch.true (c.in_ok-ask_in.ensures.does tag next) in
-    subst (λ (pages : List ℕ). Does (g.H.Hall.state c.args.hall.now).count (did_in c.args.self.now.party.me (g.H.Hall.state c.args.hall.now) (g.H.Hall.state c.ask_in.new.hall))
+    subst (λ (pages : List ℕ). Does [] (g.H.Hall.state c.args.hall.now).count (did_in c.args.self.now.party.me (g.H.Hall.state c.args.hall.now) (g.H.Hall.state c.ask_in.new.hall))
     (asking c.args.place.now.index c.args.place.now.socket c.args.request.now tag otherwise pages) (searching_again c.args.place.now.index c.args.request.now tag)
     (in_hand c.args.heap.now (moment c.args.self.now.party.me c.args.self.now (g.H.Hall.state c.args.hall.now)))
     (in_hand c.ask_in.new.heap (moment c.args.self.now.party.me c.ask_in.new.self (g.H.Hall.state c.ask_in.new.hall))))
     c.loop-page.invariant.pages
     (does_more (g.H.Hall.state first) (g.H.Hall.state second) (g.H.Hall.state third) c.loop-page.self.party.me me (in_hand c.loop-page.heap) (in_hand c.ask_in.new.heap) c.loop-page.self c.ask_in.new.self before (asking index socket request tag otherwise items) (asking index socket request tag otherwise (get_or items c.loop-page.page-index 0 ∷ drop (c.loop-page.page-index + 1) items)) (behind_asking index request tag next true) was.remains.same.me
     ((g.met.H.Hall.goes_on_later first second was.goes_on).count) here there)
-
-pub returns-then-branch-clause-settled : goal.returns-then-branch-clause-settled
-returns-then-branch-clause-settled g c =
-    subst (λ (who : ℕ). AreSettled (moment who c.ask_in.new.self (g.H.Hall.state c.ask_in.new.hall)))
-    c.loop-page.invariant.remains.same.me c.in_ok-ask_in.ensures.settled
 
 -- NONE WAS
 
@@ -119,11 +114,11 @@ loop-page-preserved g c =
           let next = asking index socket request tag otherwise (drop (c.loop-page.page-index + 1) items) in
           let before = in_hand c.args.heap.now (moment me c.args.self.now (g.H.Hall.state first)) in
           let here =
-          subst (λ (left : List ℕ). Does (g.H.Hall.state first).count (did_in me (g.H.Hall.state first) (g.H.Hall.state second)) (asking index socket request tag otherwise items)
+          subst (λ (left : List ℕ). Does [] (g.H.Hall.state first).count (did_in me (g.H.Hall.state first) (g.H.Hall.state second)) (asking index socket request tag otherwise items)
           (asking index socket request tag otherwise left) before (in_hand c.loop-page.heap (moment me c.loop-page.self (g.H.Hall.state second))))
           (drop_more items c.loop-page.page-index 0 c.loop-page-test.true) (was.does tag otherwise) in
           let there =
-          subst (λ (granted : Bool). Does (g.H.Hall.state second).count (did_in c.loop-page.self.party.me (g.H.Hall.state second) (g.H.Hall.state third))
+          subst (λ (granted : Bool). Does [] (g.H.Hall.state second).count (did_in c.loop-page.self.party.me (g.H.Hall.state second) (g.H.Hall.state third))
           (asking index socket request tag otherwise (get_or items c.loop-page.page-index 0 ∷ drop (c.loop-page.page-index + 1) items))
           (behind_asking index request tag next granted)
           (in_hand c.loop-page.heap (moment c.loop-page.self.party.me c.loop-page.self (g.H.Hall.state second)))
@@ -131,7 +126,7 @@ loop-page-preserved g c =
           c.if-branch.false (c.in_ok-ask_in.ensures.does tag next) in
           does_more (g.H.Hall.state first) (g.H.Hall.state second) (g.H.Hall.state third) c.loop-page.self.party.me me (in_hand c.loop-page.heap) (in_hand c.ask_in.new.heap) c.loop-page.self c.ask_in.new.self before (asking index socket request tag otherwise items) (asking index socket request tag otherwise (get_or items c.loop-page.page-index 0 ∷ drop (c.loop-page.page-index + 1) items)) (behind_asking index request tag next false) was.remains.same.me
           ((g.met.H.Hall.goes_on_later first second was.goes_on).count) here there;
-      holds = holds_on one.keeps c.in_ok-ask_in.ensures.settled was.holds.can.may;
+      holds = holds_on one.keeps was.holds.can.may;
       heap = passed.0 ∙ was.heap;
       context = passed.1 ∙ was.context;
       remains = record {
@@ -165,28 +160,25 @@ returns-clause-keeps g c =
       index = ap (λ (heap : HeapView). heap.plain.index) was.heap;
       its_socket = ap (λ (heap : HeapView). heap.plain.serves) was.heap;
       context = knew_same c.args.self.now.context c.loop-page.self.context was.context;
+      settled = subst (λ (who : ℕ). AreSettled (moment who c.loop-page.self (g.H.Hall.state c.loop-page.hall))) me was.holds.settled;
+      mapped = subst (λ (who : ℕ). HasMapped who (g.H.Hall.state c.loop-page.hall)) me was.holds.mapped;
       remains = was.remains;
     }
 
 pub returns-clause-does : goal.returns-clause-does
 returns-clause-does g c = λ tag otherwise.
     let items = c.deref-page-items.result.now in
-    subst (λ (pages : List ℕ). Does (g.H.Hall.state c.args.hall.now).count (did_in c.args.self.now.party.me (g.H.Hall.state c.args.hall.now) (g.H.Hall.state c.loop-page.hall))
+    subst (λ (pages : List ℕ). Does [] (g.H.Hall.state c.args.hall.now).count (did_in c.args.self.now.party.me (g.H.Hall.state c.args.hall.now) (g.H.Hall.state c.loop-page.hall))
     (asking c.args.place.now.index c.args.place.now.socket c.args.request.now tag otherwise pages) otherwise
     (in_hand c.args.heap.now (moment c.args.self.now.party.me c.args.self.now (g.H.Hall.state c.args.hall.now)))
     (in_hand c.loop-page.heap (moment c.args.self.now.party.me c.loop-page.self (g.H.Hall.state c.loop-page.hall))))
     c.loop-page.invariant.pages
-    (subst (λ (left : List ℕ). Does (g.H.Hall.state c.args.hall.now).count (did_in c.args.self.now.party.me (g.H.Hall.state c.args.hall.now) (g.H.Hall.state c.loop-page.hall))
+    (subst (λ (left : List ℕ). Does [] (g.H.Hall.state c.args.hall.now).count (did_in c.args.self.now.party.me (g.H.Hall.state c.args.hall.now) (g.H.Hall.state c.loop-page.hall))
     (asking c.args.place.now.index c.args.place.now.socket c.args.request.now tag otherwise items)
     (asking c.args.place.now.index c.args.place.now.socket c.args.request.now tag otherwise left)
     (in_hand c.args.heap.now (moment c.args.self.now.party.me c.args.self.now (g.H.Hall.state c.args.hall.now)))
     (in_hand c.loop-page.heap (moment c.args.self.now.party.me c.loop-page.self (g.H.Hall.state c.loop-page.hall))))
     (drop_all c.loop-page.page-index items (omega (arith, c.loop-page-test.false))) (c.loop-page.invariant.does tag otherwise))
-
-pub returns-clause-settled : goal.returns-clause-settled
-returns-clause-settled g c =
-    subst (λ (who : ℕ). AreSettled (moment who c.loop-page.self (g.H.Hall.state c.loop-page.hall)))
-    c.loop-page.invariant.remains.same.me c.loop-page.invariant.holds.settled
 
 -- BY HOW MUCH IT CARRIES THE CLOCK
 

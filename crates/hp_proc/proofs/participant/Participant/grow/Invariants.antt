@@ -1,4 +1,4 @@
-use Rattle.std.proofs.Common.{◌≡◌, ◌*◌, ◌≤◌, drop, length}
+use Rattle.std.proofs.Common.{◌≡◌, ◌*◌, ◌≤◌, [], drop, length}
 use Rattle.hp_base.specs.declared.tag.Tag.{Tag}
 use Rattle.hp_proc.specs.Allocating.{asking}
 use Rattle.hp_serve.specs.Clocks.{RisesWithin, longest_wait}
@@ -14,7 +14,7 @@ use Rattle.hp_proc.proofs.participant.Participant.grow.Given as goal
 abbrev pub invariant-loop-page : goal.invariant-loop-page
 invariant-loop-page g l = record {
   pages : l.page-items ≡ page_sizes_for l.fn.self.context.pools l.fn.place.socket l.fn.request.flags;
-  does : (tag : Tag) (otherwise : Doing) → Does (g.H.Hall.state l.fn.hall).count (did_in l.fn.self.party.me (g.H.Hall.state l.fn.hall) (g.H.Hall.state l.hall))
+  does : (tag : Tag) (otherwise : Doing) → Does [] (g.H.Hall.state l.fn.hall).count (did_in l.fn.self.party.me (g.H.Hall.state l.fn.hall) (g.H.Hall.state l.hall))
       (asking l.fn.place.index l.fn.place.socket l.fn.request tag otherwise l.page-items)
       (asking l.fn.place.index l.fn.place.socket l.fn.request tag otherwise (drop l.page-index l.page-items))
       (in_hand l.fn.heap (moment l.fn.self.party.me l.fn.self (g.H.Hall.state l.fn.hall)))

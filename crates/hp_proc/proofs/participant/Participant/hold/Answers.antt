@@ -3,7 +3,7 @@ use Rattle.std.proofs.Common.{◌∙◌, ℕ, ap, sym, subst, arith}
 use Rattle.hp_heap.specs.PlainHeap.{PlainHeap}
 use Rattle.hp_proc.specs.LineInHall.{AreFreeBut, IsFreeAt, moment}
 use Rattle.hp_serve.specs.InHall.{IsTiedIn}
-use Rattle.hp_proc.specs.Progress.{IsInHand}
+use Rattle.hp_proc.specs.Progress.{AreSettled, IsInHand}
 use Rattle.hp_proc.proofs.HandCalls.{does_spared, hand_spared}
 use Rattle.hp_proc.proofs.LinesInHall.{idle_again}
 use Rattle.hp_proc.proofs.participant.Participant.hold.Goals as goal
@@ -19,6 +19,11 @@ put-requires-clause-in_hand g c =
     subst (λ (who : ℕ). IsInHand mid.taken (moment who doer mid) c.reserve.new.self) (sym c.take_heap.ensures.same.me)
     (hand_spared c.in_ok-heap.heap c.reserve.new.self c.reserve.ensures.same _ mid.taken c.in_ok-heap.ensures.holds.in_hand)
 
+pub put-requires-clause-settled : goal.put-requires-clause-settled
+put-requires-clause-settled g c =
+    let mid = g.H.Hall.state c.take_heap.new.hall in
+    subst (λ (who : ℕ). AreSettled (moment who c.take_heap.new.self mid)) (sym c.take_heap.ensures.same.me) c.in_ok-heap.ensures.holds.settled
+
 pub returns-in-Ok-clause-did : goal.returns-in-Ok-clause-did
 returns-in-Ok-clause-did g c = λ doing.
     does_spared c.in_ok-heap.heap c.reserve.new.self c.reserve.ensures.same _ _ _ doing doing _ (c.in_ok-heap.ensures.did doing)
@@ -30,6 +35,7 @@ returns-in-Ok-clause-holds g c =
       can = held.can;
       in_hand = hand_spared c.in_ok-heap.heap c.reserve.new.self c.reserve.ensures.same _ (g.H.Hall.state c.take_heap.new.hall).taken held.in_hand;
       settled = held.settled;
+      mapped = held.mapped;
     }
 
 pub returns-in-Err-clause-slots : goal.returns-in-Err-clause-slots

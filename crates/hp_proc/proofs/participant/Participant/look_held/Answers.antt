@@ -11,7 +11,7 @@ use Rattle.hp_log.specs.declared.log_record.LogRecord.{LogRecord}
 use Rattle.hp_segs.specs.declared.outcome.AskLog.{AskLog}
 use Rattle.hp_proc.specs.Doing.{Doing}
 use Rattle.hp_proc.specs.Freeing.{acting, behind_looking, going_on, looking}
-use Rattle.hp_proc.specs.Histories.{run_cut}
+use Rattle.hp_heap.specs.HistoryLaws.{run_cut}
 use Rattle.hp_proc.specs.ParticipantView.{ParticipantView, after_call}
 use Rattle.hp_proc.specs.Progress.{AreSettled, Does, caller_of, in_hand, moment_of}
 use Rattle.hp_proc.specs.declared.element_act.Left.{Left}

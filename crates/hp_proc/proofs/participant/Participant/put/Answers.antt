@@ -39,10 +39,14 @@ returns g c =
           (given_entries me heap (old.part me) (new.part me) given.0 given.1)
           (λ at. given_serves me heap (old.part me) (new.part me) given.0 given.1 at ∙ sym (hand_serves me heap (old.part me) at))
           (same_party doer.party) refl refl seen.0 seen.1 heard.0 heard.1;
-      ready = λ settled.
-          ready_given me heap (old.part me) (new.part me) given.0 given.1 old.taken doer (old.seen me) (new.seen me) (old.heard me) (new.heard me)
-          heard.0 refl c.requires.in_hand heard.1 settled;
+      ready = ready_given me heap (old.part me) (new.part me) given.0 given.1 old.taken doer (old.seen me) (new.seen me) (old.heard me)
+          (new.heard me) heard.0 refl c.requires.in_hand heard.1 c.requires.settled;
       tied = λ tied. tied_later me doer.party others.later own tied;
+      table = record {
+        joined = subst (λ (who : ℕ). new.joined who ≡ old.joined who) mine is.gave.joined;
+        seen = subst (λ (who : ℕ). new.seen who ≡ old.seen who) mine is.gave.sees;
+        own = own;
+      };
       free = subst (λ (index : ℕ). IsFreeAt index new) c.index-index.ensures (record { taken = is.gave.taken; home = is.gave.home });
       slots = subst (λ (index : ℕ). SlotsStayBut index old new) c.index-index.ensures is.slots;
       others = others;

@@ -1,20 +1,19 @@
 -- The heap was taken, or another one holds it and the participant takes a turn.
-use Rattle.std.proofs.Common.{rules, ◌≡◌, ◌∙◌, ℕ, ◌++◌, List, [], ◌∷◌, Some, refl, ap, sym, subst, arith}
+use Rattle.std.proofs.Common.{rules, ◌≡◌, ◌∙◌, ℕ, ◌++◌, List, [], ◌∷◌, Some, None, refl, ap, sym, subst, arith}
 use Rattle.std.specs.Prelude.{◌-◌, ◌^◌}
-use Rattle.hp_hall.specs.HallState.{Did}
+use Rattle.hp_hall.specs.HallState.{Did, HasMapped}
 use Rattle.hp_hall.specs.Holding.{HeapPart}
 use Rattle.hp_hall.specs.Mail.{MailStep, Takes}
 use Rattle.hp_hall.specs.declared.kept.Kept.{Kept}
 use Rattle.hp_hall.specs.declared.kept.Kept.TheVariants.{Heap}
 use Rattle.hp_hall.proofs.HallStates.{did_same, did_then, later_then}
 use Rattle.hp_proc.specs.Acting.{Acts}
-use Rattle.hp_serve.specs.Asking.{HasSettledAsks}
 use Rattle.hp_proc.specs.LineInHall.{moment}
-use Rattle.hp_proc.specs.Progress.{in_hand, with_hand}
-use Rattle.hp_serve.proofs.AskedAlong.{on_err_any, settled_more}
+use Rattle.hp_proc.specs.Progress.{Does, in_hand, with_hand}
+use Rattle.hp_serve.proofs.AskedAlong.{on_err_any}
 use Rattle.hp_serve.proofs.Carrying.{same_party}
 use Rattle.hp_proc.proofs.HandCalls.{hand_serves}
-use Rattle.hp_proc.proofs.HandGiven.{ready_still, take_shows, taken_in_hand, took_armed, took_hand, took_serves, waits_more}
+use Rattle.hp_proc.proofs.HandGiven.{ready_still, settled_taken, take_shows, taken_in_hand, took_armed, took_hand, took_serves, waits_more}
 use Rattle.hp_proc.proofs.LinesInHall.{free_but, idle_can, idle_in, idle_may, may_but}
 use Rattle.hp_serve.proofs.InHalls.{in_can, in_did, in_may, in_others, in_same, in_then, in_tied, tied_later}
 use Rattle.hp_proc.proofs.Joining.{does_still}
@@ -25,7 +24,7 @@ pub taking-init : goal.taking-init
 taking-init g c =
     let old = g.H.Hall.state c.args.hall.now in
     record {
-      waited = ([], did_same _ old, Acts.nothing c.args.self.now);
+      waited = ([], did_same _ old, Acts.nothing None c.args.self.now);
       stays = in_same c.args.self.now.party.me c.args.self.now.party old c.requires.ready.idle.tied;
       context = refl;
       asked = refl;
@@ -58,12 +57,13 @@ returns-in-Ok g c =
     let kept = c.in-Ok.kept in
     let mine = c.number.ensures ∙ was.stays.same.me in
     let shown =
-    take_shows me c.number.result c.args.index kept heap mid.part new.part mine c.into_heap.ensures took.fits took.sound took.entries took.stands
-    took.part in
+    take_shows me c.number.result c.args.index kept heap mid.part new.part new.heard mine c.into_heap.ensures took.fits took.sound took.entries
+    took.stands took.claimed took.part in
     let later = later_then was.stays.waits.later is.others.later in
     let seen = later.seen me in
     let heard = later.heard me in
     let before = was.stays.waits.later.heard me in
+    let last = is.others.later.heard me in
     let idle = idle_in was.stays c.requires.ready.idle in
     let step =
     subst (λ (kept : Kept). Did me (Takes heap.plain.index kept ∷ []) mid new) c.into_heap.ensures
@@ -76,9 +76,12 @@ returns-in-Ok g c =
     subst (λ (kept : Kept). new.taken heap.plain.index ≡ Some kept) c.into_heap.ensures (ap new.taken shown.index ∙ took.taken) in
     record {
       did = λ doing.
-          does_still old.count (λ (steps : List MailStep). Did me steps old new) doing (moment me doer old) (in_hand heap (moment me c.taking.self new))
+          subst (λ (index : ℕ). Does (index ∷ []) old.count (λ (steps : List MailStep). Did me steps old new) doing doing (moment me doer old)
+          (in_hand heap (moment me c.taking.self new))) shown.index
+          (does_still old.count (λ (steps : List MailStep). Did me steps old new) doing (moment me doer old) (in_hand heap (moment me c.taking.self new))
           (was.waited.0 ++ Takes heap.plain.index (Heap heap) ∷ []) (did_then was.waited.1 step)
-          (Acts.and_then doer c.taking.self c.taking.self [] [] was.waited.0 (Takes heap.plain.index (Heap heap) ∷ []) was.waited.2
+          (Acts.and_then None None (Some heap.plain.index) [] (heap.plain.index ∷ []) doer c.taking.self c.taking.self [] [] was.waited.0
+          (Takes heap.plain.index (Heap heap) ∷ []) was.waited.2
           (Acts.takes_heap c.taking.self heap))
           (λ index.
           subst (λ (who : ℕ). (with_hand who heap (new.part me) index).entries ≡ (mid.part me index).entries) (sym was.stays.same.me)
@@ -88,7 +91,7 @@ returns-in-Ok g c =
           hand_serves c.taking.self.party.me heap (new.part me) index
           ∙ took_serves heap (mid.part me) (new.part me) shown.here shown.apart index
           ∙ ap (λ (part : HeapPart). part.serves) (was.stays.waits.parts.part index))
-          was.stays.same was.context was.asked seen.0 seen.1 heard.0 heard.1;
+          was.stays.same was.context was.asked seen.0 seen.1 heard.0 heard.1);
       holds = record {
         can = record {
           may = may_but (omega (arith, c.requires.few)) is.others.later is.slots idle;
@@ -96,11 +99,10 @@ returns-in-Ok g c =
         };
         in_hand = taken_in_hand heap (mid.part me) (new.part me) shown.here shown.apart new.taken doer c.taking.self (mid.seen me) (new.seen me)
             (mid.heard me) (new.heard me) was.stays.same was.context ready out shown.few shown.has shown.stands shown.sound;
-        settled = subst (λ (who : ℕ). HasSettledAsks (new.part me) (new.heard me)) (sym was.stays.same.me)
-            (settled_more me (old.part me) (new.part me) (old.heard me) (new.heard me) heard.0 heard.1
-            (λ index.
-            took_armed heap (mid.part me) (new.part me) shown.here shown.apart index
-            ∙ ap (λ (part : HeapPart). part.armed) (was.stays.waits.parts.part index)) c.requires.ready.ready.settled);
+        settled = settled_taken (mid.part me) (new.part me) (mid.heard me) (new.heard me) last.0 last.1
+            (took_armed heap (mid.part me) (new.part me) shown.here shown.apart) ready.settled heap.plain.index shown.claimed
+            (λ other away. ap (λ (part : HeapPart). part.holding) (shown.apart other away) ∙ ready.unheld other);
+        mapped = subst (λ (who : ℕ). HasMapped who new) mine took.mapped;
       };
       index = shown.index;
       same = was.stays.same;

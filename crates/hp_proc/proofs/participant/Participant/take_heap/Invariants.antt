@@ -1,4 +1,4 @@
-use Rattle.std.proofs.Common.{◌≡◌, ◌+◌, ◌-◌, ◌^◌, List, []}
+use Rattle.std.proofs.Common.{◌≡◌, ◌+◌, ◌-◌, ◌^◌, List, [], None}
 use Rattle.hp_hall.specs.HallState.{Did, IsBusy}
 use Rattle.hp_hall.specs.Mail.{MailStep}
 use Rattle.hp_proc.specs.Acting.{Acts}
@@ -9,7 +9,7 @@ use Rattle.hp_proc.proofs.participant.Participant.take_heap.Given as goal
 abbrev pub invariant-taking : goal.invariant-taking
 invariant-taking g l = record {
   waited : (steps : List MailStep) × Did l.fn.self.party.me steps (g.H.Hall.state l.fn.hall) (g.H.Hall.state l.hall)
-      × Acts (g.H.Hall.state l.fn.hall).count l.fn.self l.self [] steps;
+      × Acts (g.H.Hall.state l.fn.hall).count None None [] l.fn.self l.self [] steps;
   stays : StaysIn l.fn.self.party.me l.fn.self.party l.self.party (g.H.Hall.state l.fn.hall) (g.H.Hall.state l.hall);
   context : l.self.context ≡ l.fn.self.context;
   asked : l.self.party.asked ≡ l.fn.self.party.asked;
