@@ -1,9 +1,10 @@
 -- What one that does a line by hand may do in a hall of one thread, and what its calls leave.
-use Rattle.std.proofs.Common.{◌≡◌, ◌∙◌, ◌<◌, ℕ, length, sym, subst, arith}
+use Rattle.std.proofs.Common.{◌≡◌, ◌∙◌, ◌<◌, ℕ, Option, length, sym, ap, subst, arith, IsSome}
 use Rattle.std.proofs.lemmas.List.{append-nil}
 use Rattle.hp_base.specs.declared.limits.TheConstants.{MAX_HEAPS}
 use Rattle.hp_hall.specs.HallCalls.{Idles}
 use Rattle.hp_hall.specs.HallState.{SlotsStay, Stays}
+use Rattle.hp_hall.specs.Holding.{HeapPart}
 use Rattle.hp_hall.specs.Mail.{steps_of}
 use Rattle.hp_hall.specs.declared.note.Note.{Note}
 use Rattle.hp_plain.specs.Course.{IsCourse}
@@ -14,6 +15,7 @@ use Rattle.hp_serve.specs.InHall.{CanServe, IsTiedIn, StaysAlone}
 use Rattle.hp_serve.specs.Party.{IsSameParty, Party}
 use Rattle.hp_serve.specs.SegmentSlot.{MayHold}
 use Rattle.hp_solo.specs.Solo.{IsPartyServed, IsTiedAt, MayWait, SoloView}
+use Rattle.hp_solo.specs.SoloAsks.{MayBeginToAsk}
 use Rattle.hp_solo.specs.SoloCourse.{IsSoloCourse}
 use Rattle.hp_solo.specs.SoloState.{solo_state}
 use Rattle.hp_solo.proofs.SoloTies.{free_home}
@@ -52,7 +54,19 @@ waits_idle old new party {who} number course idles may =
     waits_on old new party course (subst (λ (n : ℕ). own_at new.plain n ≡ own_at old.plain n) number idles.mine.own)
     (idles.slots.home MAX_HEAPS may.home) may
 
--- and behind what it did itself
+-- and may begin to ask still
+pub begins_stay : (old new : SoloView) (me : ℕ) {who : ℕ} → who ≡ me → Stays who (solo_state old) (solo_state new)
+    → MayBeginToAsk old.plain me → MayBeginToAsk new.plain me
+begins_stay old new me {who} number stays begins =
+    let part : (heap : ℕ) → part_in new.plain me heap ≡ part_in old.plain me heap =
+    subst (λ (n : ℕ). (heap : ℕ) → part_in new.plain n heap ≡ part_in old.plain n heap) number stays.mine.parts.part in
+    record {
+      home = stays.slots.home 0 begins.home;
+      serves = subst (λ (o : Option ℕ). IsSome o) (sym (ap (λ (part : HeapPart). part.serves) (part 0))) begins.serves;
+      unarmed = λ heap. ap (λ (part : HeapPart). part.armed) (part heap) ∙ begins.unarmed heap;
+    }
+
+-- it may wait behind what it did itself
 pub waits_stayed : (old new : SoloView) (party after : Party) → IsSoloCourse old new → IsSameParty party after
     → SlotsStay (solo_state old) (solo_state new) → IsTiedIn party.me after (solo_state new) → MayWait old party → MayWait new after
 waits_stayed old new party after course same slots tied may =

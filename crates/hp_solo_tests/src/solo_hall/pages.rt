@@ -7,7 +7,7 @@ ghost use Rattle.hp_solo.specs.SoloAsks.{MayBeginToAsk};
 
 use super::asking::{ask_for_page, cut_granted, notify, retire, take_heap};
 use super::opening::hall_of_two;
-use super::steps::{acks, free, look, others, read};
+use super::steps::{acks, answer_early, free, look, others, read};
 use crate::tests::shown::{End, SegsShown};
 use crate::tests::{BASE, PAGE, first_page, lost, plan_of};
 use hp_base::{MemMapper, MsgKind, Plan, PlanEntry, Request, Run};
@@ -90,6 +90,22 @@ fn ask_once(
     ask_for_page(hall, party, request)
 }
 
+// It does so, where a RESULT for its ask is in its mailbox already.
+fn ask_misled(
+    hall: &mut SoloHall<'_, MemMapper>,
+    party: &mut Server<'_, MemMapper>,
+    request: Request,
+) -> Result<Option<Run>, AllocError>
+    requires may { MayWait hall.old party.old }
+    requires begins { MayBeginToAsk hall.old.plain party.old.me }
+    ensures may { MayWait hall.new party.new }
+{
+    match answer_early(hall, party) {
+        Posted::Sent => ask_once(hall, party, request),
+        _ => Ok(None),
+    }
+}
+
 // It takes heap 0, asks for a page, cuts it from the heap again, and gives it up: what was given up.
 fn retire_granted(
     hall: &mut SoloHall<'_, MemMapper>,
@@ -151,6 +167,7 @@ fn tell_granted(
 #[derive(Clone, Copy)]
 enum Line {
     Ask,
+    AskMisled,
     Retire,
     GiveUp,
     Tell,
@@ -169,6 +186,7 @@ fn do_line(
 {
     match line {
         Line::Ask => ask_once(hall, party, request),
+        Line::AskMisled => ask_misled(hall, party, request),
         Line::Retire => retire_granted(hall, party, request),
         Line::GiveUp => give_up_granted(hall, party, request),
         Line::Tell => tell_granted(hall, party, request),
@@ -270,6 +288,17 @@ fn finds_a_grant_whose_result_is_lost(rt: HostRuntime) -> Result<(), Fail> {
     };
     let planned = Some(lost(MsgKind::Answer));
     comes(rt.alloc(), planned, 1, Line::Ask, wanted)
+}
+
+// A RESULT comes before there is an outcome: the ask waits on until its deadlines have passed, and claims what was granted meanwhile.
+#[test]
+fn claims_what_is_granted_after_a_result_too_early(rt: HostRuntime) -> Result<(), Fail> {
+    let wanted = Came {
+        run: Some(FIRST_PAGE),
+        shown: granted(1),
+        reading: 600,
+    };
+    comes(rt.alloc(), None, 1, Line::AskMisled, wanted)
 }
 
 // The first SYNC is lost: the asker itself is late at 200, and the growth is rolled back by a second record.

@@ -65,6 +65,23 @@ pub fn free(hall: &mut SoloHall<'_, MemMapper>, party: &Server<'_, MemMapper>) -
     hall.post(me, 0, frame, Action::Deliver)
 }
 
+/// A RESULT for its first ask comes into its mailbox by hand, before it has asked.
+pub fn answer_early(hall: &mut SoloHall<'_, MemMapper>, party: &Server<'_, MemMapper>) -> Posted
+    requires may { MayWait hall.old party.now }
+    requires begins { MayBeginToAsk hall.old.plain party.now.me }
+    ensures may { MayWait hall.new party.now }
+    ensures begins { MayBeginToAsk hall.new.plain party.now.me }
+{
+    let me = party.number();
+    let frame = framed(Body::Answer {
+        from: 0,
+        number: 1,
+        what: 2,
+        code: 0,
+    });
+    hall.post(me, me, frame, Action::Deliver)
+}
+
 /// Those below or above it serve.
 pub fn others(
     hall: &mut SoloHall<'_, MemMapper>,
