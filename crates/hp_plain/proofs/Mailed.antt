@@ -1,8 +1,6 @@
 -- Steps with mailboxes: what they weigh, what they are noted as, and the course of a hall that made one.
-use Rattle.std.proofs.Common.{◌≡◌, ◌≢◌, ◌↔◌, ℕ, ◌+◌, ◌*◌, ◌<◌, ◌≤◌, eqb, cond, Bool, true, false, List, [], ◌∷◌, ◌++◌, length, set, drop, map, replicate, refl, ap, sym, ◌∙◌, arith}
-use Rattle.std.specs.List.{filter, slice_get, sum_by}
-use Rattle.std.proofs.lemmas.List.{map-append}
-use Rattle.std.proofs.lemmas.List.Elements.{filter-append}
+use Rattle.std.proofs.Common.{◌≡◌, ℕ, ◌+◌, ◌*◌, ◌<◌, ◌≤◌, List, [], ◌∷◌, ◌++◌, length, set, drop, replicate, refl, ap, sym, ◌∙◌, arith}
+use Rattle.std.specs.List.{slice_get, sum_by}
 use Rattle.std.proofs.lemmas.List.Sums.{sum_by-set, sum_by-append, sum_by-cons}
 use Rattle.hp_frame.specs.declared.frame.Frame.{Frame}
 use Rattle.hp_mail.specs.declared.posted.Posted.{Posted}
@@ -13,7 +11,7 @@ use Rattle.hp_plain.specs.HallView.{HallView, HasDone, slot_at}
 use Rattle.hp_plain.specs.InTurn.{ShowsHome, homes_after, homes_in}
 use Rattle.hp_plain.specs.Keeping.{ShowsValues, values_after, values_in}
 use Rattle.hp_hall.specs.Mail.{MailStep, counted_on, full_post, steps_of}
-use Rattle.hp_plain.specs.Boxes.{IsMailStep, box_after, box_of, copies, posted_as}
+use Rattle.hp_plain.specs.Boxes.{IsMailStep, box_after, box_of, copies}
 use Rattle.hp_plain.specs.Meters.{IsMetered, meters_in}
 use Rattle.hp_plain.specs.PlainPosts.{steps_of-append}
 use Rattle.hp_hall.specs.Weights.{box_weight, boxes_weight, fetched_weight, frame_weight}

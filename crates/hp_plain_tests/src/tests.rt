@@ -1,9 +1,9 @@
 //! Two participants in a hall of plain values, by hand.
-ghost use Rattle.std.specs.Prelude.{◌≡◌, ◌<◌, ℕ, [], Contains, IfOk, Some, None, length, slice_get};
+ghost use Rattle.std.specs.Prelude.{◌≡◌, ◌<◌, ℕ, true, [], Contains, IfOk, Some, None, length, slice_get};
 ghost use Rattle.hp_heap.specs.History.{HeapView};
-ghost use Rattle.hp_plain.specs.HallView.{own_at, part_in, seen_in};
+ghost use Rattle.hp_plain.specs.HallView.{joined_in, own_at, part_in, seen_in};
 ghost use Rattle.hp_plain_tests.specs.Untouched.{IsUnasked, IsUntouched, nothing_held};
-ghost use Rattle.hp_segs.specs.SegsView.{granted_by};
+ghost use Rattle.hp_segs.specs.SegsView.{granted_by, is_member};
 ghost use Rattle.hp_segs.specs.Standing.{standing_of};
 ghost use Rattle.hp_segs.specs.declared.outcome.AskLog.{AskLog};
 ghost use Rattle.hp_plain.specs.Opening.{AreHome, AreInOrder, AreUnused};
@@ -37,12 +37,14 @@ fn vacant_heaps(alloc: Global) -> Result<Vec<Heap>, AllocError>
     Ok(heaps)
 }
 
-// A segment value with the two records of a growth that failed. No heap has anything of it, and nobody is armed.
+// A segment value with two participants in its roster and the two records of a growth that failed. No heap has anything of it, and nobody
+// is armed.
 fn failed_segs(alloc: Global) -> Result<Segs, Fail>
     ensures unasked { IfOk result (λ segs. IsUnasked segs) }
     ensures ungranted { IfOk result (λ segs. (entry : AskLog) → Contains segs.asks entry → granted_by entry.outcome ≡ None) }
     ensures bare { IfOk result (λ segs. (heap : ℕ) → standing_of heap segs ≡ nothing_held) }
     ensures two { IfOk result (λ segs. length segs.log ≡ 2) }
+    ensures member { IfOk result (λ segs. is_member segs.roster 1 ≡ true) }
 {
     let request = Request::new(1000, 0, 0, 0).ok().ok_or("a good request")?;
     let ask = Ask {
@@ -81,6 +83,7 @@ fn hall_of_two(alloc: Global) -> Result<PlainHall, Fail>
     ensures untouched { IfOk result (λ hall. (who number : ℕ) → IsUntouched (part_in hall who number)) }
     ensures nothing_yet { IfOk result (λ hall. (own_at hall 1).number ≡ 0) }
     ensures records { IfOk result (λ hall. length (seen_in hall) ≡ 2) }
+    ensures joined { IfOk result (λ hall. joined_in hall 1 ≡ true) }
     ensures clock { IfOk result (λ hall. hall.clock ≡ 0) }
 {
     let segs = failed_segs(alloc)?;

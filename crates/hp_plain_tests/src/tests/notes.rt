@@ -1,7 +1,7 @@
 //! What is noted of a participant, and the clock of a hall.
 ghost use Rattle.std.specs.Prelude.{◌≡◌, ◌<◌, ◌≤◌, ℕ, false, true, [], ◌∷◌, Some, length};
 ghost use Rattle.hp_hall.specs.HallState.{Did, OthersStay};
-ghost use Rattle.hp_plain.specs.HallView.{HasDone, own_at, seen_in};
+ghost use Rattle.hp_plain.specs.HallView.{HasDone, joined_in, own_at, seen_in};
 ghost use Rattle.hp_hall.specs.Mail.{Notes, steps_of};
 ghost use Rattle.hp_plain.specs.Opening.{AreHome};
 ghost use Rattle.hp_plain.specs.PlainState.{plain_state};
@@ -49,12 +49,13 @@ pub fn rest(hall: &mut PlainHall, deadline: u64) -> bool
     true
 }
 
-/// Participant 1 acknowledges the first record, looks up what it has acknowledged and what the primary has, lets those above it serve, which
+/// Participant 1, which is in the roster, acknowledges the first record, looks up what it has acknowledged and what the primary has, lets those above it serve, which
 /// moves nothing, and reads the clock.
 pub fn note_each(hall: &mut PlainHall) -> (u64, u64, u64)
     requires two { length hall.old.owns ≡ 2 }
     requires nothing_yet { (own_at hall.old 1).number ≡ 0 }
     requires records { length (seen_in hall.old) ≡ 2 }
+    requires joined { joined_in hall.old 1 ≡ true }
     requires home { AreHome hall.old }
     ensures count { length hall.new.owns ≡ 2 }
     ensures home { AreHome hall.new }

@@ -1,6 +1,6 @@
 //! What the participants of a hall of two do, one step after another, with what has to come of each.
-ghost use Rattle.std.specs.Prelude.{◌≡◌, ℕ, OnOk, length};
-ghost use Rattle.hp_plain.specs.HallView.{own_at, part_in, seen_in};
+ghost use Rattle.std.specs.Prelude.{◌≡◌, ℕ, true, OnOk, length};
+ghost use Rattle.hp_plain.specs.HallView.{joined_in, own_at, part_in, seen_in};
 ghost use Rattle.hp_plain.specs.Opening.{AreHome};
 ghost use Rattle.hp_plain_tests.specs.Untouched.{IsUntouched};
 
@@ -17,7 +17,7 @@ use hp_plain::PlainHall;
 use std::alloc::{AllocError, Global};
 use std::test::Fail;
 
-/// What is done first, while nobody has called a heap or acknowledged a record.
+/// What is done first, while nobody has called a heap or acknowledged a record, and 1 is in the roster.
 #[derive(Clone, Copy)]
 pub enum First {
     // Nothing.
@@ -79,6 +79,7 @@ fn do_first(hall: &mut PlainHall, first: First) -> Result<bool, AllocError>
     requires first { (who heap : ℕ) → IsUntouched (part_in hall.old who heap) }
     requires nothing_yet { (own_at hall.old 1).number ≡ 0 }
     requires records { length (seen_in hall.old) ≡ 2 }
+    requires joined { joined_in hall.old 1 ≡ true }
     ensures home { OnOk result (AreHome hall.new) }
     ensures two { length hall.new.owns ≡ 2 }
 {
@@ -143,6 +144,7 @@ fn go_on(hall: &mut PlainHall, first: First, steps: &[Step]) -> Result<(), Fail>
     requires first { (who heap : ℕ) → IsUntouched (part_in hall.old who heap) }
     requires nothing_yet { (own_at hall.old 1).number ≡ 0 }
     requires records { length (seen_in hall.old) ≡ 2 }
+    requires joined { joined_in hall.old 1 ≡ true }
     ensures home { OnOk result (AreHome hall.new) }
 {
     if !do_first(hall, first)? {

@@ -11,9 +11,9 @@ use Rattle.hp_log.specs.Rows.{rows_of}
 use Rattle.hp_log.specs.declared.log_record.LogRecord.{LogRecord}
 use Rattle.hp_log.specs.declared.log_record.LogRecord.TheVariants.{Add, Drop}
 use Rattle.hp_segs.specs.LaterSteps.{armed_ask}
-use Rattle.hp_segs.specs.SegsView.{SegsView, granted_by, is_owned_by}
+use Rattle.hp_segs.specs.SegsView.{SegsView, granted_by, is_member, is_owned_by}
 use Rattle.hp_segs.specs.Standing.{Holding, claimed_by, given_up_by, is_claimed_for, owned_by, runs_granted, standing_of}
-use Rattle.hp_segs.specs.Opening.{opening}
+use Rattle.hp_segs.specs.Opening.{opening, opening_roster}
 use Rattle.hp_segs.specs.Steps.{after_cancel, after_open, after_reserve, segment_of, without_run}
 use Rattle.hp_segs.specs.declared.ask.Ask.{Ask}
 use Rattle.hp_segs.specs.declared.outcome.AskLog.{AskLog}
@@ -42,13 +42,14 @@ nobodys heap kept (row ∷ rows) = by (kept (segment_of Opened row))
     by true = nobodys heap kept rows
     by false = nobodys heap kept rows
 
--- a value without a record, of which nobody is armed, and nothing was given up
+-- a value of two participants without a record, of which nobody is armed, and nothing was given up
 record IsBare (segs : SegsView) : Type 0 where
   log : segs.log ≡ []
   segments : segs.segments ≡ []
   asks : segs.asks ≡ []
   armed : segs.armed ≡ replicate 16 None
   retired : segs.retired ≡ []
+  roster : segs.roster ≡ opening_roster 2 0
 
 module _ (ask : Ask) (run : Run) (cause : Cause) (old new : SegsView) (bare : IsBare old) (is : new ≡ after_cancel cause (after_open ask run old)) where
   abbrev failed : SegsView
@@ -105,6 +106,9 @@ module _ (ask : Ask) (run : Run) (cause : Cause) (old new : SegsView) (bare : Is
       ap (λ (s : SegsView). length s.log) is
       ∙ ap (λ (l : List LogRecord). length ((l ++ Add run ask.heap ∷ []) ++ Drop run ∷ [])) bare.log
 
+  second_is_in : is_member new.roster 1 ≡ true
+  second_is_in = ap (λ (s : SegsView). is_member s.roster 1) is ∙ ap (λ (l : List Bool). is_member l 1) bare.roster
+
 -- a new value is one, also once there is room for records
 bare_reserved : (pools : List PoolLine) (first before : SegsView) → first ≡ opening pools 2 0 → before ≡ after_reserve 3 first → IsBare before
 bare_reserved pools first before is reserved = record {
@@ -113,6 +117,7 @@ bare_reserved pools first before is reserved = record {
   asks = ap (λ (s : SegsView). s.asks) reserved ∙ ap (λ (s : SegsView). s.asks) is;
   armed = ap (λ (s : SegsView). s.armed) reserved ∙ ap (λ (s : SegsView). s.armed) is;
   retired = ap (λ (s : SegsView). s.retired) reserved ∙ ap (λ (s : SegsView). s.retired) is;
+  roster = ap (λ (s : SegsView). s.roster) reserved ∙ ap (λ (s : SegsView). s.roster) is;
 }
 
 pub returns-clause-unasked : goal.returns-clause-unasked
@@ -133,4 +138,9 @@ returns-clause-bare c =
 pub returns-clause-two : goal.returns-clause-two
 returns-clause-two c =
     two_records _ _ _ c.reserve_records.new.self c.cancel.new.self
+    (bare_reserved _ _ _ c.in_ok-segs.ensures c.in_ok-reserve_records.ensures.ok) (c.cancel.ensures.step ∙ ap (after_cancel _) c.open_run.ensures.step)
+
+pub returns-clause-member : goal.returns-clause-member
+returns-clause-member c =
+    second_is_in _ _ _ c.reserve_records.new.self c.cancel.new.self
     (bare_reserved _ _ _ c.in_ok-segs.ensures c.in_ok-reserve_records.ensures.ok) (c.cancel.ensures.step ∙ ap (after_cancel _) c.open_run.ensures.step)

@@ -14,7 +14,7 @@ use Rattle.hp_segs.specs.declared.growth.Growth.{Growth}
 use Rattle.hp_hall.specs.Holding.{HasHolding}
 use Rattle.hp_hall.specs.Own.{after_ack}
 use Rattle.hp_hall.proofs.Gives.{bare_pages}
-use Rattle.hp_plain.specs.HallView.{HallView, own_at, part_in, seen_in}
+use Rattle.hp_plain.specs.HallView.{HallView, is_joined, joined_in, own_at, part_in, seen_in}
 use Rattle.hp_plain.specs.Opening.{AreHome}
 use Rattle.hp_plain.proofs.Opened.{opened_home, opened_log, opened_segs}
 use Rattle.hp_plain_tests.specs.Untouched.{IsUnasked, nothing_held}
@@ -78,6 +78,11 @@ pub returns-clause-records : goal.returns-clause-records
 returns-clause-records c =
     ap (λ (h : HallView). length (seen_in h)) c.in_ok-hall.ensures.hall
     ∙ ap length (opened_log _ _ MAX_HEAPS c.in_ok-heaps.ensures.order.count) ∙ c.in_ok-segs.ensures.two
+
+pub returns-clause-joined : goal.returns-clause-joined
+returns-clause-joined c =
+    ap (λ (h : HallView). joined_in h 1) c.in_ok-hall.ensures.hall
+    ∙ ap (is_joined 1) (opened_segs _ _ MAX_HEAPS c.in_ok-heaps.ensures.order.count) ∙ c.in_ok-segs.ensures.member
 
 pub returns-clause-clock : goal.returns-clause-clock
 returns-clause-clock c = ap (λ (h : HallView). h.clock) c.in_ok-hall.ensures.hall

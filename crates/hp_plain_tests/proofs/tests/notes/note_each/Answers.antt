@@ -1,4 +1,4 @@
-use Rattle.std.proofs.Common.{ℕ, false, true, [], ◌∷◌, ◌<◌, length, refl, Some, sym, ap, subst, arith}
+use Rattle.std.proofs.Common.{false, true, [], ◌∷◌, ◌<◌, length, refl, Some, sym, ap, subst, inl, arith}
 use Rattle.hp_hall.specs.HallState.{Did, OthersStay}
 use Rattle.hp_hall.specs.Mail.{Notes}
 use Rattle.hp_hall.specs.declared.note.Note.TheVariants.{Yielded}
@@ -9,6 +9,9 @@ use Rattle.hp_plain.specs.PlainState.{plain_state}
 use Rattle.hp_plain.proofs.PlainStates.{did_one, stays_one}
 use Rattle.hp_plain.proofs.Stepped.{MakesMail, makes_note}
 use Rattle.hp_plain_tests.proofs.tests.notes.note_each.Goals as goal
+
+pub ack-requires-clause-may : goal.ack-requires-clause-may
+ack-requires-clause-may c = inl c.requires.joined
 
 pub number_of-own-requires-clause-home : goal.number_of-own-requires-clause-home
 number_of-own-requires-clause-home c = λ number below. c.ack.ensures.own.slots.home number (c.requires.home number below)
