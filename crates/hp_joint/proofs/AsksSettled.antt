@@ -1,18 +1,24 @@
--- Where each ask of a trace has its answer, its participant is armed with no ask above its closed number; and where it is so with all, no
--- growth is open.
-use Rattle.std.proofs.Common.{◌≡◌, ◌==◌, ◌∙◌, ℕ, ◌+◌, ◌-◌, ◌≤◌, Bool, false, true, not, List, Option, Some, None, IfSome, refl, ap, sym, arith}
+-- Where each ask of a trace has its answer, that with which its participant is armed was granted or refused, and has no number above the closed
+-- one; and where it is so with all, no growth is open.
+use Rattle.std.proofs.Common.{◌≡◌, ◌==◌, ◌∙◌, ℕ, ◌+◌, ◌-◌, ◌≤◌, Bool, false, true, not, List, Option, Some, None, IfSome, refl, ap, sym, subst, arith}
 use Rattle.std.specs.Prelude.{slice_get}
-use Rattle.std.specs.List.{find}
-use Rattle.std.proofs.lemmas.Bool.{and_parts, eqb-true}
+use Rattle.std.specs.List.{find, list_any}
+use Rattle.std.proofs.lemmas.Bool.{and_from, and_parts, eqb-true}
 use Rattle.hp_base.specs.declared.pool_line.PoolLine.{PoolLine}
+use Rattle.hp_base.specs.declared.row.Run.{Run}
+use Rattle.hp_hall.proofs.AskFacts.{any_there}
 use Rattle.hp_hall.proofs.StandingAsks.{closed_above}
 use Rattle.hp_heap.proofs.Members.{find_some}
 use Rattle.hp_segs.specs.GrowthLaws.{IsOfArmed}
 use Rattle.hp_segs.specs.LaterSteps.{armed_ask}
-use Rattle.hp_segs.specs.SegsView.{closed_number, is_outcome_for, is_stale}
+use Rattle.hp_log.specs.declared.log_record.LogRecord.{LogRecord}
+use Rattle.hp_segs.specs.SegsView.{closed_number, grants_or_refuses, is_grant_or_refusal, is_outcome_for, is_stale}
 use Rattle.hp_segs.specs.declared.ask.Ask.{Ask}
 use Rattle.hp_segs.specs.declared.growth.Growth.{Growth}
 use Rattle.hp_segs.specs.declared.outcome.AskLog.{AskLog}
+use Rattle.hp_segs.specs.declared.outcome.Outcome.{Outcome}
+use Rattle.hp_segs.specs.declared.outcome.Outcome.TheVariants.{Freed, Granted, Refused, Stale}
+use Rattle.hp_serve.specs.Asking.{Gives}
 use Rattle.hp_proc.specs.Acting.{AreAsked}
 use Rattle.hp_proc.specs.Courses.{numbered_in}
 use Rattle.hp_proc.specs.Doing.Done.{Asked}
@@ -43,6 +49,27 @@ found_closed asks who number entry found =
     let own : closed_number asks entry.from ≡ closed_number asks who = ap (closed_number asks) (eqb-true entry.from who parts.0) in
     omega (arith, below, own, eqb-true entry.number number rest.0)
 
+-- what gives a run, or none, is a grant or a refusal
+gives_answer : (log : List LogRecord) (outcome : Outcome) (run : Option Run) → Gives log outcome run → is_grant_or_refusal outcome ≡ true
+gives_answer log (Granted generation) None gives = absurd gives
+gives_answer log (Granted generation) (Some run) gives = refl
+gives_answer log (Refused cause) None gives = refl
+gives_answer log (Refused cause) (Some run) gives = absurd gives
+gives_answer log (Stale done) None gives = absurd gives
+gives_answer log (Stale done) (Some run) gives = absurd gives
+gives_answer log (Freed generation) None gives = absurd gives
+gives_answer log (Freed generation) (Some run) gives = absurd gives
+
+-- so where such an outcome is found for a number, that was granted or refused
+found_answered : (log : List LogRecord) (asks : List AskLog) (who number : ℕ) (entry : AskLog) (run : Option Run)
+    → find (is_outcome_for who number) asks ≡ Some entry → Gives log entry.outcome run → list_any (grants_or_refuses who number) asks ≡ true
+found_answered log asks who number entry run found gives =
+    let is = find_some (is_outcome_for who number) asks entry found in
+    let parts = and_parts (entry.from == who) _ is.0 in
+    let rest = and_parts (entry.number == number) _ parts.1 in
+    any_there (grants_or_refuses who number) asks entry is.1
+    (and_from (entry.from == who) _ parts.0 (and_from (entry.number == number) _ rest.0 (gives_answer log entry.outcome run gives)))
+
 module _ (count absent : ℕ) (pools : List PoolLine) (first now : Joint) (is : IsFirst count absent pools first)
     (runs : Runs count first now) where
   -- whoever is armed with an ask has a seat
@@ -55,13 +82,25 @@ module _ (count absent : ℕ) (pools : List PoolLine) (first now : Joint) (is : 
       cc
 
   -- an armed ask of a participant whose asks have their answers
-  pub closed_of : (who : ℕ) (seat : Seat) → slice_get now.seats who ≡ Some seat
+  closed_of : (who : ℕ) (seat : Seat) → slice_get now.seats who ≡ Some seat
       → AreAsked now.segs.log now.segs.asks who 0 seat.party.asked seat.trace → (ask : Ask) → armed_ask now.segs who ≡ Some ask
       → ask.number ≤ closed_number now.segs.asks who
   closed_of who seat there asked ask armed =
       let made = armed_made count absent pools first now is runs who ask armed seat there in
       let its = answered count absent pools first now is runs who seat there asked (ask.number - 1) made.asked made.run made.its in
       omega (arith, found_closed now.segs.asks who (ask.number - 1 + 1) its.entry its.logged, made.some)
+
+  -- it was granted or refused
+  pub answered_of : (who : ℕ) (seat : Seat) → slice_get now.seats who ≡ Some seat
+      → AreAsked now.segs.log now.segs.asks who 0 seat.party.asked seat.trace → (ask : Ask) → armed_ask now.segs who ≡ Some ask
+      → list_any (grants_or_refuses ask.from ask.number) now.segs.asks ≡ true
+  answered_of who seat there asked ask armed =
+      let made = armed_made count absent pools first now is runs who ask armed seat there in
+      let its = answered count absent pools first now is runs who seat there asked (ask.number - 1) made.asked made.run made.its in
+      let number : ask.number - 1 + 1 ≡ ask.number = omega (arith, made.some) in
+      subst (λ (from : ℕ). list_any (grants_or_refuses from ask.number) now.segs.asks ≡ true) (sym (ap (λ (ask : Ask). ask.from) made.is))
+      (subst (λ (number : ℕ). list_any (grants_or_refuses who number) now.segs.asks ≡ true) number
+      (found_answered now.segs.log now.segs.asks who (ask.number - 1 + 1) its.entry made.run its.logged its.given))
 
   module _ (asked : AllAsked now) where
     -- of anybody

@@ -1,37 +1,29 @@
 -- The segment value that a hall of all participants keeps between lines: its pools, its roster, no external memory and no growth.
-use Rattle.std.proofs.Common.{◌≡◌, ◌∙◌, ℕ, ◌<◌, ◌≤◌, ⊎_elim, true, false, List, [], count_by, Option, Some, None, IfSome, refl, ap, sym, subst, arith}
+use Rattle.std.proofs.Common.{◌≡◌, ◌∙◌, ℕ, ◌<◌, ◌≤◌, true, false, List, [], count_by, Option, Some, None, refl, ap, sym, subst, arith}
 use Rattle.std.specs.List.{slice_get}
-use Rattle.std.specs.Option.{option_and_then}
-use Rattle.std.proofs.lemmas.Bool.{cases_lt}
 use Rattle.std.proofs.lemmas.Option.{same_Some}
 use Rattle.hp_base.specs.declared.limits.TheConstants.{MAX_HEAPS}
 use Rattle.hp_plain.specs.Course.{IsLater, IsLaterKept, IsLaterSegs}
 use Rattle.hp_plain.specs.CourseLaws.{IsLeftTo}
-use Rattle.hp_plain.specs.HallView.{HallView, SlotView, heard_in, part_in, segs_in, segs_of, slot_at}
+use Rattle.hp_plain.specs.HallView.{HallView, SlotView, segs_in, segs_of, slot_at}
 use Rattle.hp_hall.specs.declared.kept.Kept.{Kept}
 use Rattle.hp_hall.specs.declared.kept.Kept.TheVariants.{Heap, Segments}
 use Rattle.hp_plain.proofs.Walks.{idle_stay_in_place, ranges_stay}
 use Rattle.hp_script.specs.declared.workload.Workload.{Workload}
-use Rattle.hp_segs.specs.GrowthLaws.{IsOfArmed}
-use Rattle.hp_segs.specs.LaterSteps.{armed_ask}
 use Rattle.hp_segs.specs.Moved.{is_growth_step}
-use Rattle.hp_segs.specs.SegsView.{SegsView, closed_number, is_member}
+use Rattle.hp_segs.specs.SegsView.{SegsView, is_member}
 use Rattle.hp_segs.specs.Sound.{IsSound}
-use Rattle.hp_segs.specs.declared.ask.Ask.{Ask}
-use Rattle.hp_segs.specs.declared.growth.Growth.{Growth}
-use Rattle.hp_segs.specs.declared.outcome.AskLog.{AskLog}
 use Rattle.hp_segs.proofs.Appending.{moves_append}
 use Rattle.hp_proc.specs.LinesDone.{Course, courses_of, opening_standing, standing_after}
 use Rattle.hp_serve.specs.Party.{Party}
-use Rattle.hp_proc.proofs.Unarmed.{all_alike}
 use Rattle.hp_joint.specs.Seats.{Seat}
 use Rattle.hp_joint.specs.SoFar.{SoFar, first_hall, first_segs}
 use Rattle.hp_joint.proofs.FirstSegs.{nobody_first}
 use Rattle.hp_joint.proofs.HallEnds.{are_segs, party_of}
 use Rattle.hp_joint.proofs.HallHistories.{undeclared_idle}
 use Rattle.hp_joint.proofs.SeatsAlong.{count_along}
-use Rattle.hp_joint.proofs.SegsAlong.{armed_along, sound_along}
-use Rattle.hp_joint.proofs.SoFarFacts.{asks_are}
+use Rattle.hp_joint.proofs.SegsAlong.{sound_along}
+use Rattle.hp_joint.proofs.SoFarFacts.{none_open_so_far}
 use Rattle.hp_joint.proofs.Walked.{get_there}
 
 -- a later segment value is one that calls made of the earlier one
@@ -84,58 +76,9 @@ module _ (workload : Workload) (courses : List Course) (parties : List Party) (h
       ranges_stay (first_hall workload so.heaps) hall so.course (first_segs workload) so.now.segs
       (are_segs workload courses parties hall so)
 
-  -- the ask with which a declared participant is armed is settled
-  pub armed_settled : (who : ℕ) → who < workload.participants → (ask : Ask) → armed_ask so.now.segs who ≡ Some ask
-      → ask.number ≤ closed_number so.now.segs.asks who
-  armed_settled who below ask is =
-      let its = party_of workload courses parties hall so who below in
-      let party : Party = its.0 in
-      let each = so.each who party its.1 in
-      let armed : (part_in hall who 0).armed ≡ Some ask =
-      ap (option_and_then (λ (segs : SegsView). armed_ask segs who)) so.its_segs ∙ is in
-      let closed : closed_number (heard_in hall) party.me ≡ closed_number so.now.segs.asks who =
-      ap (λ (asks : List AskLog). closed_number asks party.me) (asks_are workload courses parties hall so)
-      ∙ ap (closed_number so.now.segs.asks) each.me in
-      omega (arith, each.ready.settled 0 ask armed, closed)
-
-  -- and nobody else is armed
-  pub undeclared_unarmed : (who : ℕ) → workload.participants ≤ who → armed_ask so.now.segs who ≡ None
-  undeclared_unarmed who beyond = (left_to who beyond).armed ∙ all_alike None 16 who
-
-  -- so each ask with which anybody is armed is settled
-  pub asks_closed : (who : ℕ) (ask : Ask) → armed_ask so.now.segs who ≡ Some ask → ask.number ≤ closed_number so.now.segs.asks who
-  asks_closed who ask is =
-      ⊎_elim (λ below. armed_settled who below ask is) (λ beyond. absurd (no_ask who ask (undeclared_unarmed who beyond) is))
-      (cases_lt who workload.participants)
-    where
-      no_ask : (who : ℕ) (ask : Ask) → armed_ask so.now.segs who ≡ None → armed_ask so.now.segs who ≡ Some ask → ⊥
-      no_ask who ask none is = cc
-
-  module _ (growth : Growth) (is : IsOfArmed so.now.segs.asks so.now.segs.armed growth) where
-    not_declared : growth.ask.from < workload.participants → ⊥
-    not_declared below =
-        let settled : growth.ask.number ≤ closed_number so.now.segs.asks growth.ask.from =
-        armed_settled growth.ask.from below growth.ask is.its_ask in
-        let above : closed_number so.now.segs.asks growth.ask.from < growth.ask.number = is.above in
-        absurd (omega (arith, settled, above))
-
-    not_other : workload.participants ≤ growth.ask.from → ⊥
-    not_other beyond =
-        let unarmed : armed_ask so.now.segs growth.ask.from ≡ None = undeclared_unarmed growth.ask.from beyond in
-        let armed : armed_ask so.now.segs growth.ask.from ≡ Some growth.ask = is.its_ask in
-        cc
-
-  none_open : (growth : Option Growth) → IfSome growth (IsOfArmed so.now.segs.asks so.now.segs.armed) → growth ≡ None
-  none_open None is = refl
-  none_open (Some growth) is =
-      ⊎_elim (λ below. absurd (not_declared growth is below)) (λ beyond. absurd (not_other growth is beyond))
-      (cases_lt growth.ask.from workload.participants)
-
   -- the clause `settled`
   pub none_growing : so.now.segs.growth ≡ None
-  none_growing =
-      none_open so.now.segs.growth
-      (armed_along workload.participants workload.absent workload.pools.items so.first so.is_first so.now so.runs).growth
+  none_growing = none_open_so_far workload courses parties hall so
 
   -- each declared participant has a seat
   pub seat_of : (who : ℕ) → who < workload.participants → (seat : Seat) × (slice_get so.now.seats who ≡ Some seat)

@@ -182,7 +182,7 @@ module _ (workload : Workload) (heaps : List HeapView) (given : IsGiven workload
     ready_first = record {
       sockets = sockets_first;
       unheld = λ heap. opened_unheld heaps value workload.participants who heap;
-      settled = λ heap ask armed. absurd (none_armed (part_in opened who heap).armed ask (unarmed heap) armed);
+      settled = λ heap ask armed its. absurd (none_armed (part_in opened who heap).armed ask (unarmed heap) armed);
       counted = sym (entries_made-none (part_in opened who) nothing_made);
     }
 

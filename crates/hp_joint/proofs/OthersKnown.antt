@@ -1,17 +1,19 @@
 -- A participant that served while another one did its line, or behind the last line: what it knows and what the heaps have of it stays.
-use Rattle.std.proofs.Common.{◌≡◌, ◌∙◌, ℕ, ◌≤◌, List, ◌++◌, length, Some, ap, sym, subst, arith}
+use Rattle.std.proofs.Common.{◌≡◌, ◌∙◌, ℕ, true, List, ◌++◌, length, Option, Some, None, ap, sym, subst}
 use Rattle.std.specs.Prelude.{slice_get}
-use Rattle.std.specs.List.{range_with_len}
+use Rattle.std.specs.List.{list_any, range_with_len}
 use Rattle.std.specs.Option.{option_and_then}
 use Rattle.hp_base.specs.declared.limits.TheConstants.{MAX_HEAPS}
 use Rattle.hp_plain.specs.Course.{IsCourse, course_heard, course_seen}
 use Rattle.hp_plain.specs.HallView.{HallView, heard_in, own_at, part_in, seen_in, segs_in, slot_at}
 use Rattle.hp_plain.specs.Opening.{AreHome}
+use Rattle.hp_hall.specs.Asks.{IsClaimedIn}
 use Rattle.hp_hall.specs.declared.slot.TheConstants.{SLOTS}
 use Rattle.hp_log.specs.declared.log_record.LogRecord.{LogRecord}
 use Rattle.hp_script.specs.declared.workload.Workload.{Workload}
 use Rattle.hp_segs.specs.LaterSteps.{armed_ask}
-use Rattle.hp_segs.specs.SegsView.{SegsView, closed_number}
+use Rattle.hp_segs.specs.SegsView.{SegsView, grants_or_refuses}
+use Rattle.hp_segs.specs.Standing.{Holding}
 use Rattle.hp_segs.specs.declared.ask.Ask.{Ask}
 use Rattle.hp_segs.specs.declared.outcome.AskLog.{AskLog}
 use Rattle.hp_proc.specs.Acting.{AreAsked}
@@ -21,13 +23,14 @@ use Rattle.hp_proc.specs.Doing.{Done}
 use Rattle.hp_proc.specs.Heaps.{sockets_of}
 use Rattle.hp_proc.specs.Histories.{entries_for}
 use Rattle.hp_proc.specs.LinesDone.{Course}
+use Rattle.hp_serve.specs.Asking.{HasSettledAsks}
 use Rattle.hp_serve.specs.Party.{IsSameParty, Party}
 use Rattle.hp_proc.specs.Progress.{MayDo, moment_of}
 use Rattle.hp_serve.specs.Tied.{IsTied}
 use Rattle.hp_joint.specs.Seats.{Seat}
 use Rattle.hp_joint.specs.SoFar.{IsSoFarFor, SoFar, context_of, doer_of, trace_for}
 use Rattle.hp_joint.specs.Together.{Joint, Runs}
-use Rattle.hp_joint.proofs.AsksSettled.{closed_of}
+use Rattle.hp_joint.proofs.AsksSettled.{answered_of}
 use Rattle.hp_joint.proofs.HeapGivers.{NoOtherGives}
 use Rattle.hp_joint.proofs.LineMore.{asked_later}
 use Rattle.hp_joint.proofs.PartsOn.{asks_shown, entries_rest, log_shown, made_alike, serves_still, slots_still, unheld_at_home}
@@ -81,15 +84,18 @@ module _ (workload : Workload) (courses later : List Course) (parties : List Par
         (ap (λ (party : Party). party.asked) (sym after_is))
         (subst (λ (trace : List Done). AreAsked (seen_in new) (heard_in new) who 0 after.asked trace) (sym (still ∙ own)) asked)))
 
-    settled : (heap : ℕ) (ask : Ask) → (part_in new who heap).armed ≡ Some ask → ask.number ≤ closed_number (heard_in new) after.me
-    settled heap ask armed =
-        let below =
-        closed_of workload.participants workload.absent workload.pools.items so.first next so.is_first runs who last late asked_there ask
-        (armed_shown new next.segs its_segs who heap ask armed) in
-        let closed : closed_number (heard_in new) after.me ≡ closed_number next.segs.asks who =
-        ap (closed_number (heard_in new)) (same.me ∙ its.me)
-        ∙ ap (λ (asks : List AskLog). closed_number asks who) (asks_shown new next.segs its_segs) in
-        omega (arith, below, closed)
+    unheld : (heap : ℕ) → (part_in new who heap).holding ≡ None
+    unheld heap = unheld_at_home new home (slots_still old new course (slots_so_far workload courses parties old so)) who heap
+
+    settled : HasSettledAsks (part_in new who) (heard_in new)
+    settled heap ask armed heap_is = record {
+      answered =
+          subst (λ (asks : List AskLog). list_any (grants_or_refuses ask.from ask.number) asks ≡ true) (sym (asks_shown new next.segs its_segs))
+          (answered_of workload.participants workload.absent workload.pools.items so.first next so.is_first runs who last late asked_there ask
+          (armed_shown new next.segs its_segs who heap ask armed));
+      claims = λ entry generation among from number granted.
+          subst (λ (holding : Option Holding). IsClaimedIn holding entry) (sym (unheld heap)) tt;
+    }
 
     entries : (heap : ℕ) → (part_in new who heap).entries ≡ (part_in old who heap).entries
     entries heap = entries_rest of old new course gives who apart heap
@@ -99,7 +105,7 @@ module _ (workload : Workload) (courses later : List Course) (parties : List Par
       sockets = λ heap.
           serves_still old new course heap ∙ its.ready.sockets heap
           ∙ ap (λ (context : Context). slice_get (sockets_of context.pools) heap) (sym context);
-      unheld = λ heap. unheld_at_home new home (slots_still old new course (slots_so_far workload courses parties old so)) who heap;
+      unheld = unheld;
       settled = settled;
       counted =
           ap (λ (context : Context). context.calls) context
