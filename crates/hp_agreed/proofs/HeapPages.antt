@@ -17,7 +17,7 @@ use Rattle.hp_heap.specs.declared.entry.HeapCall.{HeapCall}
 use Rattle.hp_heap.specs.declared.entry.HeapCall.TheVariants as call
 use Rattle.hp_heap.proofs.AllocKept.{alloc_kept}
 use Rattle.hp_heap.proofs.ChoiceLaw.{Contains-filter, Contains-here}
-use Rattle.hp_proc.specs.Histories.{grown_runs, run_grown}
+use Rattle.hp_heap.specs.HistoryLaws.{run_grown, runs_grown}
 use Rattle.hp_proc.proofs.PagesStay.{freed_pages, resized_pages}
 
 -- a page is one of a run of these
@@ -70,14 +70,14 @@ of_first runs more page is = record { run = is.run; its_run = Contains-append_le
 
 -- so is a page behind the calls of a history
 pub replayed_pages : (history : List Entry) (heap : PlainHeap) (page : HeapPage) → Contains (replay heap history).pages page
-    → Contains heap.pages page ⊎ IsRunPage (grown_runs history) page
-unfolding after_entry
+    → Contains heap.pages page ⊎ IsRunPage (runs_grown history) page
+unfolding after_entry runs_grown
 replayed_pages [] heap page among = inl among
 replayed_pages (entry ∷ history) heap page among =
     elim (replayed_pages history (after_entry heap entry) page among) [
       | inl before ↦ elim (after_pages entry.caller.participant entry.call heap page before) [
         | inl there ↦ inl there
-        | inr came ↦ inr (of_first (run_grown entry.call) (grown_runs history) page came)
+        | inr came ↦ inr (of_first (run_grown entry.call) (runs_grown history) page came)
       ]
-      | inr later ↦ inr (of_more (run_grown entry.call) (grown_runs history) page later)
+      | inr later ↦ inr (of_more (run_grown entry.call) (runs_grown history) page later)
     ]

@@ -37,7 +37,8 @@ use Rattle.hp_segs.specs.declared.row_state.RowState.TheVariants.{Agreed, Opened
 use Rattle.hp_segs.specs.declared.row_state.Segment.{Segment}
 use Rattle.hp_segs.proofs.TableUse.{at_place}
 use Rattle.hp_proc.specs.Ends.{IsEnd, OwnsItsPages, has_page_at}
-use Rattle.hp_proc.specs.Histories.{granted_runs, grown_runs, run_granted}
+use Rattle.hp_heap.specs.HistoryLaws.{runs_grown}
+use Rattle.hp_segs.specs.GrantedRuns.{added_for, granted_runs}
 use Rattle.hp_agreed.specs.Alike.{AttachedPagesAlike, EndPagesAlike, IsMappedAlike, TablesHave}
 use Rattle.hp_agreed.proofs.AttachedAlike.{attached_map_alike}
 use Rattle.hp_agreed.proofs.EndAlike.{tables_alike}
@@ -93,7 +94,7 @@ run_listed lists run i is =
     }
 
 -- what all runs of a log have, each has that was granted for a heap
-granted_so : (Q : Run → Type 0) (heap : ℕ) (granted : Bool) (entry : LogRecord) (run : Run) → Contains (run_granted heap granted entry) run
+granted_so : (Q : Run → Type 0) (heap : ℕ) (granted : Bool) (entry : LogRecord) (run : Run) → Contains (added_for heap granted entry) run
     → Q (run_in entry) → Q run
 granted_so Q heap granted (Drop other) run among its = absurd (Contains-none run among)
 granted_so Q heap granted (Add other for) run among its = by_test (granted && (for == heap)) among
@@ -109,7 +110,7 @@ of_granted : (Q : Run → Type 0) (heap : ℕ) (asks : List AskLog) (generation 
     → All (λ entry. Q (run_in entry)) log → Contains (granted_runs heap asks generation log) run → Q run
 of_granted Q heap asks generation [] run all among = absurd (Contains-none run among)
 of_granted Q heap asks generation (entry ∷ log) run all among =
-    let first : List Run = run_granted heap (is_granted asks generation) entry in
+    let first : List Run = added_for heap (is_granted asks generation) entry in
     elim (Contains-append_cases first (granted_runs heap asks (generation + 1) log) run among) [
       | inl here ↦
           granted_so Q heap (is_granted asks generation) entry run here (All-head (λ (entry : LogRecord). Q (run_in entry)) entry log all)
@@ -119,7 +120,7 @@ of_granted Q heap asks generation (entry ∷ log) run all among =
 
 -- a page of a heap that grew by granted runs lies at its slot of its list
 page_listed : (segs : SegsView) (index : ℕ) (heap : HeapView) (page : HeapPage) → segments.IsSound segs → IsSound heap
-    → grown_runs heap.history ≡ granted_runs index segs.asks 1 segs.log → Contains heap.plain.pages page
+    → runs_grown heap.history ≡ granted_runs index segs.asks 1 segs.log → Contains heap.plain.pages page
     → IsListed (lists_of segs.pools) page
 page_listed segs index heap page sound is grown among =
     let left : Contains (replay _ heap.history).pages page =

@@ -11,7 +11,8 @@ use Rattle.hp_base.specs.declared.row.Run.{Run}
 use Rattle.hp_heap.specs.declared.entry.Entry.{Entry}
 use Rattle.hp_proc.specs.Courses.{OwnCall, calls_in}
 use Rattle.hp_proc.specs.Doing.{Done}
-use Rattle.hp_proc.specs.Histories.{cut_runs, entries_for, entry_for, run_cut}
+use Rattle.hp_heap.specs.HistoryLaws.{run_cut, runs_cut}
+use Rattle.hp_proc.specs.Histories.{entries_for, entry_for}
 use Rattle.hp_proc.proofs.Joining.{calls_on}
 
 -- the runs that calls cut, one after another
@@ -97,14 +98,15 @@ module _ {A : Type 0} (heap : ℕ) (runs : List A) where
       (λ own. picked_none (start + 1) n (omega (arith, eqb-true heap start own)))
 
 pub cuts_by : (own : Bool) (entry : Entry) (entries : List Entry)
-    → cut_runs (if own then entry ∷ entries else entries) ≡ (if own then run_cut entry.answer else []) ++ cut_runs entries
+    → runs_cut (if own then entry ∷ entries else entries) ≡ (if own then run_cut entry.answer else []) ++ runs_cut entries
+unfolding runs_cut
 cuts_by true entry entries = refl
 cuts_by false entry entries = refl
 
 module _ (who : ℕ) where
   -- the runs that a participant's calls cut from the heap of an index
   abbrev pub cuts_at : ℕ → List OwnCall → ℕ → List Run
-  cuts_at number calls index = cut_runs (entries_for who index number calls)
+  cuts_at number calls index = runs_cut (entries_for who index number calls)
 
   -- those of the first call, and then of the others
   cuts_first : (own : OwnCall) (calls : List OwnCall) (number index : ℕ)
@@ -113,6 +115,7 @@ module _ (who : ℕ) where
 
   -- no call cuts nothing
   no_cuts : (indices : List ℕ) (number : ℕ) → flat_map (cuts_at number []) indices ≡ []
+  unfolding runs_cut
   no_cuts [] number = refl
   no_cuts (index ∷ indices) number = no_cuts indices number
 

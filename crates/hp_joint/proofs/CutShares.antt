@@ -11,7 +11,8 @@ use Rattle.hp_heap.specs.declared.entry.Entry.{Entry}
 use Rattle.hp_proc.specs.Courses.{calls_in}
 use Rattle.hp_proc.specs.Doing.{Done}
 use Rattle.hp_proc.specs.Ends.{KeepsCalls}
-use Rattle.hp_proc.specs.Histories.{cut_runs, entries_for, run_cut}
+use Rattle.hp_heap.specs.HistoryLaws.{run_cut, runs_cut}
+use Rattle.hp_proc.specs.Histories.{entries_for}
 use Rattle.hp_joint.proofs.CutRuns.{at_heap, calls_within, cuts_at, cuts_by, cuts_by_heap, cuts_in, flat_map_alike, flat_map_parts, picked_once}
 
 module _ {X A : Type 0} where
@@ -42,7 +43,7 @@ module _ {X Y A : Type 0} (piece : X → Y → List A) where
 
 -- the runs that a participant's entries of a history cut
 abbrev cuts_for : List Entry → ℕ → List Run
-cuts_for entries who = cut_runs (entries_of who entries)
+cuts_for entries who = runs_cut (entries_of who entries)
 
 module _ (entry : Entry) (entries : List Entry) where
   -- those of the first entry, where it is the participant's, and then of the others
@@ -64,7 +65,7 @@ module _ (entry : Entry) (entries : List Entry) where
       else filter (λ (e : Entry). e.caller.participant == who) entries) (ne_eqb entry.caller.participant who other)
 
 no_cuts_in_none : (who : ℕ) → cuts_for [] who ≡ []
-unfolding entries_of
+unfolding entries_of runs_cut
 no_cuts_in_none who = refl
 
 -- the entry is of one of so many participants
@@ -73,7 +74,8 @@ IsOfFirst count entry = entry.caller.participant < count
 
 -- what a history of so many participants cut is what the entries of each cut
 shares : (count : ℕ) (entries : List Entry) → All (IsOfFirst count) entries
-    → IsPermutation (cut_runs entries) (flat_map (cuts_for entries) (range_with_len 0 count))
+    → IsPermutation (runs_cut entries) (flat_map (cuts_for entries) (range_with_len 0 count))
+unfolding runs_cut
 shares count [] are =
     subst (IsPermutation [])
     (sym (flat_map_alike (cuts_for []) (λ who. []) (range_with_len 0 count) no_cuts_in_none ∙ flat_map_none (range_with_len 0 count)))
@@ -91,9 +93,9 @@ shares count (entry ∷ entries) are =
     let joined : IsPermutation (flat_map (λ who. here who ++ rest who) all) (runs ++ flat_map rest all) =
     subst (λ front. IsPermutation (flat_map (λ who. here who ++ rest who) all) (front ++ flat_map rest all)) first
     (flat_map_parts here rest all) in
-    subst (IsPermutation (runs ++ cut_runs entries)) (sym whole)
-    (IsPermutation-trans (runs ++ cut_runs entries) (runs ++ flat_map rest all) (flat_map (λ who. here who ++ rest who) all)
-    (IsPermutation-append_right runs (cut_runs entries) (flat_map rest all)
+    subst (IsPermutation (runs ++ runs_cut entries)) (sym whole)
+    (IsPermutation-trans (runs ++ runs_cut entries) (runs ++ flat_map rest all) (flat_map (λ who. here who ++ rest who) all)
+    (IsPermutation-append_right runs (runs_cut entries) (flat_map rest all)
     (shares count entries (All-tail (IsOfFirst count) entry entries are)))
     (IsPermutation-sym (flat_map (λ who. here who ++ rest who) all) (runs ++ flat_map rest all) joined))
 
@@ -141,22 +143,22 @@ module _ (count : ℕ) (did : ℕ → List Done) (heaps : List HeapView) (theirs
 
   -- a heap's history
   heap_shares : (index number : ℕ) (heap : HeapView) → 0 + index ≡ number → slice_get heaps index ≡ Some heap
-      → IsPermutation (cut_runs heap.history) (flat_map (share number) (range_with_len 0 count))
+      → IsPermutation (runs_cut heap.history) (flat_map (share number) (range_with_len 0 count))
   heap_shares index number heap at here =
       let same : index ≡ number = omega (arith, at) in
-      subst (λ runs. IsPermutation (cut_runs heap.history) runs)
+      subst (λ runs. IsPermutation (runs_cut heap.history) runs)
       (flat_map_alike (cuts_for heap.history) (share number) (range_with_len 0 count)
-      (λ who. ap cut_runs (kept who index heap here) ∙ ap (λ index. share index who) same))
+      (λ who. ap runs_cut (kept who index heap here) ∙ ap (λ index. share index who) same))
       (shares count heap.history
       (all_within count heap.history (λ who beyond. kept who index heap here ∙ of_none who index (theirs.none who beyond))))
 
   -- all histories, and all calls
-  pub cuts_of_all : IsPermutation (flat_map (λ heap. cut_runs heap.history) heaps)
+  pub cuts_of_all : IsPermutation (flat_map (λ heap. runs_cut heap.history) heaps)
       (flat_map (λ who. cuts_in (did who)) (range_with_len 0 count))
   cuts_of_all =
       let all = range_with_len 0 count in
       let indices = range_with_len 0 (length heaps) in
-      IsPermutation-trans (flat_map (λ heap. cut_runs heap.history) heaps) (flat_map (λ index. flat_map (share index) all) indices)
+      IsPermutation-trans (flat_map (λ heap. runs_cut heap.history) heaps) (flat_map (λ index. flat_map (share index) all) indices)
       (flat_map (λ who. cuts_in (did who)) all)
       (heaps_shares heaps 0 heap_shares)
       (IsPermutation-trans (flat_map (λ index. flat_map (share index) all) indices)
@@ -169,13 +171,13 @@ module _ (count : ℕ) (did : ℕ → List Done) (heaps : List HeapView) (theirs
     where
       heaps_shares : (some : List HeapView) (start : ℕ)
           → ((index number : ℕ) (heap : HeapView) → start + index ≡ number → slice_get some index ≡ Some heap
-          → IsPermutation (cut_runs heap.history) (flat_map (share number) (range_with_len 0 count)))
-          → IsPermutation (flat_map (λ heap. cut_runs heap.history) some)
+          → IsPermutation (runs_cut heap.history) (flat_map (share number) (range_with_len 0 count)))
+          → IsPermutation (flat_map (λ heap. runs_cut heap.history) some)
           (flat_map (λ index. flat_map (share index) (range_with_len 0 count)) (range_with_len start (length some)))
       heaps_shares [] start moved = IsPermutation-refl []
       heaps_shares (heap ∷ some) start moved =
-          IsPermutation-append (cut_runs heap.history) (flat_map (share start) (range_with_len 0 count))
-          (flat_map (λ heap. cut_runs heap.history) some)
+          IsPermutation-append (runs_cut heap.history) (flat_map (share start) (range_with_len 0 count))
+          (flat_map (λ heap. runs_cut heap.history) some)
           (flat_map (λ index. flat_map (share index) (range_with_len 0 count)) (range_with_len (start + 1) (length some)))
           (moved 0 start heap (omega arith) refl)
           (heaps_shares some (start + 1) (λ index number heap is here. moved (suc index) number heap (omega (arith, is)) here))

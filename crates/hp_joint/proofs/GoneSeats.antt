@@ -15,7 +15,7 @@ use Rattle.hp_segs.specs.Steps.{after_retire}
 use Rattle.hp_serve.specs.Attaching.{after_attaching}
 use Rattle.hp_proc.specs.Doing.{Done}
 use Rattle.hp_proc.specs.Doing.Done.{Asked, Called, CaughtUp, GaveUp, Looked}
-use Rattle.hp_proc.specs.Histories.{run_cut}
+use Rattle.hp_heap.specs.HistoryLaws.{run_cut}
 use Rattle.hp_serve.specs.Asking.{ask_of}
 use Rattle.hp_serve.specs.declared.pages_asked.PagesAsked.{PagesAsked}
 use Rattle.hp_joint.specs.Seats.{Handles, Mails, Quietly, Seat}

@@ -14,7 +14,7 @@ use Rattle.hp_segs.specs.declared.outcome.Outcome.TheVariants.{Granted}
 use Rattle.hp_proc.specs.Courses.{numbered_in}
 use Rattle.hp_proc.specs.Doing.{Done}
 use Rattle.hp_proc.specs.Doing.Done.{Asked, Called, CaughtUp, GaveUp, Looked}
-use Rattle.hp_proc.specs.Histories.{granted_runs, run_granted}
+use Rattle.hp_segs.specs.GrantedRuns.{added_for, granted_runs}
 use Rattle.hp_serve.specs.declared.pages_asked.PagesAsked.{PagesAsked}
 use Rattle.hp_joint.proofs.GrantedAsks.{AreSettled, IsGrantedBy, granted_by, granted_for, granted_later, grants_rise, same_outcome}
 use Rattle.hp_joint.proofs.GrownTraces.{run_for, runs_for, runs_numbered}
@@ -56,7 +56,7 @@ run_of_ask who index asks number (Looked records) = refl
 run_of_ask who index asks number (CaughtUp to caught) = refl
 
 run_of_record : (index : ℕ) (asks : List AskLog) (generation : ℕ) (entry : LogRecord)
-    → runs_of (option_to_list (granted_record index asks generation entry)) ≡ run_granted index (has_grant asks generation) entry
+    → runs_of (option_to_list (granted_record index asks generation entry)) ≡ added_for index (has_grant asks generation) entry
 run_of_record index asks generation (Add run for) = by_heap (has_grant asks generation && (for == index)) where
   by_heap : (mine : Bool) → runs_of (option_to_list (cond mine (Some (generation, run)) None)) ≡ cond mine (run ∷ []) []
   by_heap true = refl
@@ -79,7 +79,7 @@ records_are index asks generation (entry ∷ log) =
     map-append (λ (pair : ℕ × Run). pair.1) (option_to_list (granted_record index asks generation entry))
     (picked (granted_record index asks) (generation + 1) log)
     ∙ (ap (λ runs. runs ++ runs_of (picked (granted_record index asks) (generation + 1) log)) (run_of_record index asks generation entry)
-    ∙ ap (λ runs. run_granted index (has_grant asks generation) entry ++ runs) (records_are index asks (generation + 1) log))
+    ∙ ap (λ runs. added_for index (has_grant asks generation) entry ++ runs) (records_are index asks (generation + 1) log))
 
 -- what is picked of asks
 record IsAskPicked (who index : ℕ) (asks : List AskLog) (number : ℕ) (done : Done) (pair : ℕ × Run) : Type 0 where

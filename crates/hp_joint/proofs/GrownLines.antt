@@ -10,7 +10,9 @@ use Rattle.hp_segs.specs.declared.outcome.AskLog.{AskLog}
 use Rattle.hp_proc.specs.Courses.{Standing, calls_in}
 use Rattle.hp_proc.specs.Doing.{Done}
 use Rattle.hp_proc.specs.Ends.{history_by, none_made}
-use Rattle.hp_proc.specs.Histories.{entries_for, granted_runs, grown_runs, run_granted}
+use Rattle.hp_heap.specs.HistoryLaws.{runs_grown}
+use Rattle.hp_segs.specs.GrantedRuns.{added_for, granted_runs}
+use Rattle.hp_proc.specs.Histories.{entries_for}
 use Rattle.hp_proc.specs.LinesDone.{Course, IsDone, courses_of, trace_of}
 use Rattle.hp_proc.specs.Seen.{counted_on}
 use Rattle.hp_proc.proofs.Joining.{calls_on}
@@ -28,7 +30,7 @@ granted_append index asks generation [] more =
     ap (λ generation. granted_runs index asks generation more) same
 granted_append index asks generation (entry ∷ log) more =
     let same : generation + 1 + length log ≡ generation + length (entry ∷ log) = omega arith in
-    let one = run_granted index (is_granted asks generation) entry in
+    let one = added_for index (is_granted asks generation) entry in
     ap (λ runs. one ++ runs) (granted_append index asks (generation + 1) log more)
     ∙ (ap (λ n. one ++ (granted_runs index asks (generation + 1) log ++ granted_runs index asks n more)) same
     ∙ sym (append_assoc one (granted_runs index asks (generation + 1) log)
@@ -40,9 +42,9 @@ granted_still : (index : ℕ) (asks others : List AskLog) (all : List LogRecord)
     → granted_runs index (asks ++ others) generation log ≡ granted_runs index asks generation log
 granted_still index asks others all generation [] later within = refl
 granted_still index asks others all generation (entry ∷ log) later within =
-    ap (λ granted. run_granted index granted entry ++ granted_runs index (asks ++ others) (generation + 1) log)
+    ap (λ granted. added_for index granted entry ++ granted_runs index (asks ++ others) (generation + 1) log)
     (granted_stays all [] asks others later generation (omega (arith, within)))
-    ∙ ap (λ runs. run_granted index (is_granted asks generation) entry ++ runs)
+    ∙ ap (λ runs. added_for index (is_granted asks generation) entry ++ runs)
     (granted_still index asks others all (generation + 1) log later (omega (arith, within)))
 
 -- so many calls of a participant's lines
@@ -118,12 +120,12 @@ module _ (log more : List LogRecord) (asks others : List AskLog) (segs : SegsVie
 
   -- so a heap that grew by what was granted for it does so behind a line
   pub grown_goes_on : (workload : Workload) (standing : Standing) (courses : List Course) (course : Course) → course.trace ≡ trace
-      → IsDone workload standing course → grown_runs (history_by index none_made courses) ≡ granted_runs index asks 1 log
-      → grown_runs (history_by index none_made (courses ++ course ∷ [])) ≡ granted_runs index segs.asks 1 segs.log
+      → IsDone workload standing course → runs_grown (history_by index none_made courses) ≡ granted_runs index asks 1 log
+      → runs_grown (history_by index none_made (courses ++ course ∷ [])) ≡ granted_runs index segs.asks 1 segs.log
   grown_goes_on workload standing courses course its_trace done grown =
       let by = course.line.participant in
       let number : ℕ = calls_made none_made by courses + 1 in
-      ap grown_runs (history_append index none_made courses course)
+      ap runs_grown (history_append index none_made courses course)
       ∙ (grown_append (history_by index none_made courses) (entries_for by index number (calls_in course.trace))
       ∙ (ap (λ runs. runs ++ grown_by by index number course.trace) grown
       ∙ (ap (λ runs. granted_runs index asks 1 log ++ runs) (line_grows workload standing course by index number done)
@@ -131,8 +133,8 @@ module _ (log more : List LogRecord) (asks others : List AskLog) (segs : SegsVie
       ∙ sym granted_goes_on))))
 
   -- and where nothing was done
-  pub grown_stays : (courses : List Course) → trace ≡ [] → grown_runs (history_by index none_made courses) ≡ granted_runs index asks 1 log
-      → grown_runs (history_by index none_made courses) ≡ granted_runs index segs.asks 1 segs.log
+  pub grown_stays : (courses : List Course) → trace ≡ [] → runs_grown (history_by index none_made courses) ≡ granted_runs index asks 1 log
+      → runs_grown (history_by index none_made courses) ≡ granted_runs index segs.asks 1 segs.log
   grown_stays courses nothing grown =
       grown
       ∙ (sym (append-nil (granted_runs index asks 1 log))

@@ -8,7 +8,8 @@ use Rattle.hp_script.specs.declared.workload.Workload.{Workload}
 use Rattle.hp_proc.specs.Courses.{OwnCall, Standing, calls_in, numbered_in}
 use Rattle.hp_proc.specs.Doing.{Done}
 use Rattle.hp_proc.specs.Doing.Done.{Asked, Called, CaughtUp, GaveUp, Looked}
-use Rattle.hp_proc.specs.Histories.{entries_for, entry_for, grown_runs, run_grown}
+use Rattle.hp_heap.specs.HistoryLaws.{run_grown, runs_grown}
+use Rattle.hp_proc.specs.Histories.{entries_for, entry_for}
 use Rattle.hp_proc.specs.LinesDone.{Course, IsDone}
 use Rattle.hp_joint.proofs.PaidLines.{line_pays}
 use Rattle.hp_joint.proofs.PaidTraces.{IsPaid, calls, catches_up, ends, gives_up, is_granted, is_refused, looks}
@@ -28,31 +29,36 @@ runs_for index [] = []
 runs_for index (done ∷ trace) = run_for index done ++ runs_for index trace
 
 -- runs of histories one after another
-pub grown_append : (first second : List Entry) → grown_runs (first ++ second) ≡ grown_runs first ++ grown_runs second
+pub grown_append : (first second : List Entry) → runs_grown (first ++ second) ≡ runs_grown first ++ runs_grown second
+unfolding runs_grown
 grown_append [] second = refl
 grown_append (entry ∷ first) second =
     ap (λ runs. run_grown entry.call ++ runs) (grown_append first second)
-    ∙ sym (append_assoc (run_grown entry.call) (grown_runs first) (grown_runs second))
+    ∙ sym (append_assoc (run_grown entry.call) (runs_grown first) (runs_grown second))
 
 -- the runs by which the calls of a trace grew a heap
 abbrev pub grown_by : ℕ → ℕ → ℕ → List Done → List Run
-grown_by who index number trace = grown_runs (entries_for who index number (calls_in trace))
+grown_by who index number trace = runs_grown (entries_for who index number (calls_in trace))
 
 -- a call that is no growth grows nothing
 no_growth : (who index number : ℕ) (own : OwnCall) (more : List OwnCall) → run_grown own.call ≡ [] → (mine : Bool)
-    → grown_runs (cond mine (entry_for who number own ∷ entries_for who index (number + 1) more) (entries_for who index (number + 1) more))
-    ≡ grown_runs (entries_for who index (number + 1) more)
-no_growth who index number own more none true = ap (λ runs. runs ++ grown_runs (entries_for who index (number + 1) more)) none
+    → runs_grown (cond mine (entry_for who number own ∷ entries_for who index (number + 1) more) (entries_for who index (number + 1) more))
+    ≡ runs_grown (entries_for who index (number + 1) more)
+unfolding runs_grown
+no_growth who index number own more none true = ap (λ runs. runs ++ runs_grown (entries_for who index (number + 1) more)) none
 no_growth who index number own more none false = refl
 
 one_growth : (run : Run) (grown search : Entry) (mine : Bool) → grown.call ≡ call.Grow run → run_grown search.call ≡ []
-    → grown_runs (cond mine (grown ∷ cond mine (search ∷ []) []) (cond mine (search ∷ []) [])) ≡ cond mine (run ∷ []) [] ++ []
-one_growth run grown search true grows searches = rw (grows, searches) refl
+    → runs_grown (cond mine (grown ∷ cond mine (search ∷ []) []) (cond mine (search ∷ []) [])) ≡ cond mine (run ∷ []) [] ++ []
+unfolding runs_grown
+one_growth run grown search true grows searches =
+    ap (λ step. run_grown step ++ (run_grown search.call ++ [])) grows ∙ ap (λ runs. run ∷ (runs ++ [])) searches
 one_growth run grown search false grows searches = refl
 
 -- where each granted run comes to its heap, the heap grows by what was granted for it
 pub paid_grows : (given : Answer) (who index number : ℕ) (trace : List Done) → IsPaid given trace
     → grown_by who index number trace ≡ runs_for index trace
+unfolding runs_grown
 paid_grows given who index number _ ends = refl
 paid_grows given who index number _ (calls heap step found trace none paid) =
     no_growth who index number (record { heap = heap; call = step; answer = found }) (calls_in trace) none (heap == index)

@@ -16,7 +16,8 @@ use Rattle.hp_script.specs.declared.workload.Workload.{Workload}
 use Rattle.hp_segs.specs.SegsView.{SegsView}
 use Rattle.hp_proc.specs.Courses.{calls_in}
 use Rattle.hp_proc.specs.Ends.{AreGrown, KeepsCalls, history_by, none_made}
-use Rattle.hp_proc.specs.Histories.{entries_for, grown_runs}
+use Rattle.hp_heap.specs.HistoryLaws.{runs_grown}
+use Rattle.hp_proc.specs.Histories.{entries_for}
 use Rattle.hp_proc.specs.LinesDone.{Course, courses_of, trace_of}
 use Rattle.hp_serve.specs.Party.{Party}
 use Rattle.hp_joint.specs.SoFar.{SoFar, first_hall, first_segs}
@@ -82,7 +83,7 @@ module _ (workload : Workload) (courses : List Course) (parties : List Party) (h
 
     -- the clause `grown`
     pub grown_are : AreGrown heaps so.now.segs
-    grown_are index heap at = ap grown_runs (in_order index heap at) ∙ so.grown index (within_heaps index heap at)
+    grown_are index heap at = ap runs_grown (in_order index heap at) ∙ so.grown index (within_heaps index heap at)
 
     -- no call was of a heap that isn't there
     pub no_calls_beyond : (who index : ℕ) → length heaps ≤ index

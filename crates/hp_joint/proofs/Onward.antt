@@ -13,7 +13,8 @@ use Rattle.hp_segs.specs.SegsView.{SegsView}
 use Rattle.hp_proc.specs.Courses.{Standing}
 use Rattle.hp_proc.specs.Doing.{Done}
 use Rattle.hp_proc.specs.Ends.{history_by, none_made}
-use Rattle.hp_proc.specs.Histories.{granted_runs, grown_runs}
+use Rattle.hp_heap.specs.HistoryLaws.{runs_grown}
+use Rattle.hp_segs.specs.GrantedRuns.{granted_runs}
 use Rattle.hp_proc.specs.LinesDone.{Course, courses_of, opening_standing, standing_after}
 use Rattle.hp_serve.specs.Party.{Party}
 use Rattle.hp_proc.specs.Seen.{AreSeen, seen_by_lines}
@@ -95,7 +96,7 @@ module _ (workload : Workload) (courses : List Course) (parties behind : List Pa
       goes.built (line_is_done workload courses parties behind old new line answer given so goes)
 
   grown : (index : ℕ) → index < MAX_HEAPS
-      → grown_runs (history_by index none_made lines) ≡ granted_runs index now.segs.asks 1 now.segs.log
+      → runs_grown (history_by index none_made lines) ≡ granted_runs index now.segs.asks 1 now.segs.log
   grown index below =
       shown.grown_goes_on workload.participants workload.absent workload.pools.items so.first so.now now so.is_first so.runs by before.it
       last.it did its_run courses index (so.grown index below) workload

@@ -18,6 +18,7 @@ use Rattle.hp_hall.specs.Own.{Own, after_ack, rows_known}
 use Rattle.hp_hall.proofs.Gives.{entries_made-none}
 use Rattle.hp_plain.proofs.Opened.{opened_home, opened_segs, opened_unheld, opened_unused}
 use Rattle.hp_heap.specs.History.{HeapView}
+use Rattle.hp_heap.specs.HistoryLaws.{runs_grown}
 use Rattle.hp_log.specs.declared.log_record.LogRecord.{LogRecord}
 use Rattle.hp_maps.specs.MapsView.{MapsView, chunk_rows, table_in}
 use Rattle.hp_script.specs.declared.workload.Workload.{Workload}
@@ -67,6 +68,10 @@ unused_slots [] segs unused zero = refl
 unused_slots [] segs unused (suc place) = refl
 unused_slots (heap ∷ heaps) segs unused zero = unused zero heap refl
 unused_slots (heap ∷ heaps) segs unused (suc place) = unused_slots heaps segs (λ number. unused (suc number)) place
+
+none_grown : runs_grown [] ≡ []
+unfolding runs_grown
+none_grown = refl
 
 none_armed : (armed : Option Ask) (ask : Ask) → armed ≡ None → armed ≡ Some ask → ⊥
 none_armed armed ask none some = cc
@@ -254,7 +259,7 @@ module _ (workload : Workload) (heaps : List HeapView) (given : IsGiven workload
       done = λ who below. tt;
       in_order = λ index. unused_slots heaps value first_heaps.unused index;
       seen = record { rising = IsNonDecreasingBy-short (λ (n : ℕ). n) [] (omega arith); most = All-nil (λ (n : ℕ). n ≤ 0) };
-      grown = λ index few. refl;
+      grown = λ index few. none_grown;
     }
 
 -- before the first line, in a hall that opens over the heaps of a workload and its opening segment value

@@ -22,7 +22,7 @@ use Rattle.hp_proc.specs.Allocating.{asking, first_flags, growing, searching_aga
 use Rattle.hp_proc.specs.Doing.{Doing, Done, Goes, Leads}
 use Rattle.hp_proc.specs.Doing.Done.{Asked, Called, CaughtUp, GaveUp, Looked}
 use Rattle.hp_proc.specs.Heaps.{NamedHeap, has_pool, page_sizes_for}
-use Rattle.hp_proc.specs.Histories.{run_grown}
+use Rattle.hp_heap.specs.HistoryLaws.{run_grown}
 use Rattle.hp_serve.specs.declared.pages_asked.PagesAsked.{PagesAsked}
 use Rattle.hp_joint.proofs.GrownChoice.{AllowsPage}
 

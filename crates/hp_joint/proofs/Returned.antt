@@ -19,7 +19,7 @@ use Rattle.hp_proc.specs.Doing.{Done}
 use Rattle.hp_proc.specs.Ends.{HaveGoneBack, KeepsCalls}
 use Rattle.hp_segs.specs.Returned.{gone_in, returned_runs}
 use Rattle.hp_segs.proofs.ReturnedBySteps.{IsGoneAlike}
-use Rattle.hp_proc.specs.Histories.{cut_runs}
+use Rattle.hp_heap.specs.HistoryLaws.{runs_cut}
 use Rattle.hp_joint.specs.Seats.{Handles, Mails, Quietly, Seat}
 use Rattle.hp_joint.specs.Together.{IsFirst, Joint, Runs, Steps}
 use Rattle.hp_joint.proofs.CutRuns.{cuts_append, cuts_in, flat_map_indexed}
@@ -198,7 +198,7 @@ pub gone_back : (count absent : ℕ) (pools : List PoolLine) (first now : Joint)
     → ((who : ℕ) (seat : Seat) → slice_get now.seats who ≡ Some seat → did who ≡ seat.trace) → AreTheirs count (length heaps) did
     → KeepsCalls did heaps → HaveGoneBack heaps now.segs
 gone_back count absent pools first now did heaps is runs each theirs kept =
-    let all = flat_map (λ heap. cut_runs heap.history) heaps in
+    let all = flat_map (λ heap. runs_cut heap.history) heaps in
     let same : cuts_by_all now.seats ≡ flat_map (λ who. cuts_in (did who)) (range_with_len 0 count) =
     flat_map_indexed (λ (seat : Seat). cuts_in seat.trace) (λ who. cuts_in (did who)) now.seats 0
     (λ index number seat at there.

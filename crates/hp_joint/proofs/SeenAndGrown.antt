@@ -9,7 +9,8 @@ use Rattle.hp_segs.specs.declared.outcome.AskLog.{AskLog}
 use Rattle.hp_proc.specs.Courses.{Standing, numbered_in}
 use Rattle.hp_proc.specs.Doing.{Done}
 use Rattle.hp_proc.specs.Ends.{history_by, none_made}
-use Rattle.hp_proc.specs.Histories.{granted_runs, grown_runs}
+use Rattle.hp_heap.specs.HistoryLaws.{runs_grown}
+use Rattle.hp_segs.specs.GrantedRuns.{granted_runs}
 use Rattle.hp_proc.specs.LinesDone.{Course, IsDone, courses_of, trace_of}
 use Rattle.hp_proc.specs.Outcomes.{AreAnsweredSo}
 use Rattle.hp_proc.specs.Progress.{IsLineBuilt}
@@ -134,10 +135,10 @@ module _ (count absent : ℕ) (pools : List PoolLine) (first start now : Joint) 
 
     -- each heap grew by what was granted for it
     module _ (courses : List Course) (index : ℕ)
-        (grown : grown_runs (history_by index none_made courses) ≡ granted_runs index start.segs.asks 1 start.segs.log) where
+        (grown : runs_grown (history_by index none_made courses) ≡ granted_runs index start.segs.asks 1 start.segs.log) where
       pub grown_goes_on : (workload : Workload) (standing : Standing) (course : Course) → course.trace ≡ trace
           → IsDone workload standing course
-          → grown_runs (history_by index none_made (courses ++ course ∷ [])) ≡ granted_runs index now.segs.asks 1 now.segs.log
+          → runs_grown (history_by index none_made (courses ++ course ∷ [])) ≡ granted_runs index now.segs.asks 1 now.segs.log
       grown_goes_on workload standing course same done =
           lines.grown_goes_on start.segs.log more start.segs.asks others now.segs log_is asks_are
           (line_later count absent pools first start now is_first to_start who old new trace line) who
@@ -145,7 +146,7 @@ module _ (count absent : ℕ) (pools : List PoolLine) (first start now : Joint) 
           (line_settled count absent pools first start now is_first to_start who old new trace line) index
           workload standing courses course same done grown
 
-      pub grown_stays : trace ≡ [] → grown_runs (history_by index none_made courses) ≡ granted_runs index now.segs.asks 1 now.segs.log
+      pub grown_stays : trace ≡ [] → runs_grown (history_by index none_made courses) ≡ granted_runs index now.segs.asks 1 now.segs.log
       grown_stays nothing =
           lines.grown_stays start.segs.log more start.segs.asks others now.segs log_is asks_are
           (line_later count absent pools first start now is_first to_start who old new trace line) who

@@ -12,7 +12,9 @@ use Rattle.hp_proc.specs.Acting.{AreAsked}
 use Rattle.hp_proc.specs.Courses.{Standing, calls_in}
 use Rattle.hp_proc.specs.Doing.{Done}
 use Rattle.hp_proc.specs.Ends.{history_by, none_made}
-use Rattle.hp_proc.specs.Histories.{entries_for, granted_runs, grown_runs}
+use Rattle.hp_heap.specs.HistoryLaws.{runs_grown}
+use Rattle.hp_segs.specs.GrantedRuns.{granted_runs}
+use Rattle.hp_proc.specs.Histories.{entries_for}
 use Rattle.hp_proc.specs.LinesDone.{AreDone, Course, courses_of, opening_standing}
 use Rattle.hp_serve.specs.Party.{Party}
 use Rattle.hp_proc.specs.Progress.{MayDo, moment_of}
@@ -43,7 +45,7 @@ pub record AreLinesThere (workload : Workload) (courses : List Course) (hall : H
   pub in_order : (index : ℕ) → history_in (slot_at hall index) ≡ history_by index none_made courses
   pub seen : AreSeen (length at.segs.log) (seen_by_lines at.segs.log at.segs.asks none_made courses)
   pub grown : (index : ℕ) → index < MAX_HEAPS
-      → grown_runs (history_by index none_made courses) ≡ granted_runs index at.segs.asks 1 at.segs.log
+      → runs_grown (history_by index none_made courses) ≡ granted_runs index at.segs.asks 1 at.segs.log
 
 module _ (workload : Workload) (courses later : List Course) (parties behind : List Party) (old new : HallView)
     (so : SoFar workload courses parties old) (course : IsCourse old new) (home : AreHome new) (size : length behind ≡ length parties)

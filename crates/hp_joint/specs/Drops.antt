@@ -16,7 +16,7 @@ use Rattle.hp_segs.specs.SegsView.{SegsView}
 use Rattle.hp_segs.specs.declared.outcome.AskLog.{AskLog}
 use Rattle.hp_proc.specs.Courses.{calls_in, numbered_in}
 use Rattle.hp_proc.specs.Doing.{Done}
-use Rattle.hp_proc.specs.Histories.{run_cut}
+use Rattle.hp_heap.specs.HistoryLaws.{run_cut}
 use Rattle.hp_proc.specs.LinesDone.{Course, courses_of, trace_of}
 use Rattle.hp_serve.specs.Party.{Party}
 use Rattle.hp_proc.specs.Seen.{seen_in}

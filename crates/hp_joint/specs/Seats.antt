@@ -31,7 +31,7 @@ use Rattle.hp_serve.specs.Coordinating.{IsAskIn, stepping, with_core}
 use Rattle.hp_proc.specs.Doing.{Done}
 use Rattle.hp_proc.specs.Doing.Done.{Asked, Called, CaughtUp, GaveUp, Looked}
 use Rattle.hp_serve.specs.Frames.{Says}
-use Rattle.hp_proc.specs.Histories.{run_cut}
+use Rattle.hp_heap.specs.HistoryLaws.{run_cut}
 use Rattle.hp_serve.specs.Asking.{ask_of}
 use Rattle.hp_serve.specs.Party.{Party}
 use Rattle.hp_serve.specs.Serving.{CatchesUp, after_catching_up, gives_segments, takes_segments}

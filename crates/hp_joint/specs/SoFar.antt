@@ -16,7 +16,9 @@ use Rattle.hp_proc.specs.Contexts.{Context}
 use Rattle.hp_proc.specs.Courses.{Standing, calls_in}
 use Rattle.hp_proc.specs.Doing.{Done}
 use Rattle.hp_proc.specs.Ends.{IsHeapAt, history_by, none_made}
-use Rattle.hp_proc.specs.Histories.{entries_for, granted_runs, grown_runs}
+use Rattle.hp_heap.specs.HistoryLaws.{runs_grown}
+use Rattle.hp_segs.specs.GrantedRuns.{granted_runs}
+use Rattle.hp_proc.specs.Histories.{entries_for}
 use Rattle.hp_proc.specs.LinesDone.{AreDone, Course, courses_of, opening_standing, standing_after, trace_of}
 use Rattle.hp_proc.specs.ParticipantView.{ParticipantView}
 use Rattle.hp_serve.specs.Party.{Party}
@@ -112,4 +114,4 @@ pub record SoFar (workload : Workload) (courses : List Course) (parties : List P
   pub in_order : (index : ℕ) → history_in (slot_at hall index) ≡ history_by index none_made courses
   pub seen : AreSeen (length now.segs.log) (seen_by_lines now.segs.log now.segs.asks none_made courses)
   pub grown : (index : ℕ) → index < MAX_HEAPS
-      → grown_runs (history_by index none_made courses) ≡ granted_runs index now.segs.asks 1 now.segs.log
+      → runs_grown (history_by index none_made courses) ≡ granted_runs index now.segs.asks 1 now.segs.log

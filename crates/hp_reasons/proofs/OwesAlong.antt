@@ -9,7 +9,7 @@ use Rattle.hp_heap.specs.declared.entry.HeapCall.{HeapCall}
 use Rattle.hp_heap.specs.declared.entry.HeapCall.TheVariants as call
 use Rattle.hp_proc.specs.Doing.{Done}
 use Rattle.hp_proc.specs.Doing.Done.{Called, CaughtUp, Looked}
-use Rattle.hp_proc.specs.Histories.{run_cut}
+use Rattle.hp_heap.specs.HistoryLaws.{run_cut}
 use Rattle.hp_reasons.specs.Lines.{MayDoOwing, Owes, is_cut, owes_behind}
 
 -- nothing was done
