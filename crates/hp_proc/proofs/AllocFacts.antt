@@ -29,11 +29,12 @@ use Rattle.hp_proc.specs.Doing.{Doing, Done, Leads}
 use Rattle.hp_proc.specs.Heaps.{heaps_for, names_socket, socket_heaps, sockets_of}
 use Rattle.hp_proc.specs.Lines.{Facts, allocating, doing_of, if_attached, judged, tag_of}
 use Rattle.hp_proc.specs.ParticipantView.{ParticipantView, after_answer, with_context, with_standing}
-use Rattle.hp_proc.specs.Progress.{Brings, Does, DoesLine, Moment, doer_at, moment_of}
+use Rattle.hp_proc.specs.Progress.{AreOnce, Brings, Does, DoesLine, Moment, doer_at, moment_of}
 use Rattle.hp_proc.specs.declared.own_element.OwnElement.{OwnElement}
 use Rattle.hp_proc.specs.declared.socket_heap.SocketHeap.{SocketHeap}
 use Rattle.hp_proc.proofs.HandTried.{calls_stay, none_done}
 use Rattle.hp_proc.proofs.Joining.{does_same, does_then}
+use Rattle.hp_proc.proofs.OnceHeld.{once_none}
 
 -- the heap of a socket is one of so many
 pub socket_few : (pools : List PoolLine) (place : SocketHeap) → IsSocketHeapOf pools place → place.index < MAX_HEAPS
@@ -43,10 +44,10 @@ socket_few pools place is =
 -- where the elements of its lines lie is noted, which is none of its calls and asks
 pub does_noted : (count : ℕ) (did : List MailStep → Type 0) (doing : Doing) (doer after : ParticipantView) (parts : ℕ → HeapPart) (log : List LogRecord)
     (asks : List AskLog) (elements : List OwnElement) → after ≡ with_standing (record doer.context.standing { elements = elements }) doer → did []
-    → Does count did doing doing (moment_of doer parts log asks) (moment_of after parts log asks)
+    → Does [] count did doing doing (moment_of doer parts log asks) (moment_of after parts log asks)
 unfolding Leads AreAsked
 does_noted count did doing doer after parts log asks elements noted none =
-    subst (λ (after : ParticipantView). Does count did doing doing (moment_of doer parts log asks) (moment_of after parts log asks)) (sym noted) (record {
+    subst (λ (after : ParticipantView). Does [] count did doing doing (moment_of doer parts log asks) (moment_of after parts log asks)) (sym noted) (record {
       trace = [];
       steps = [];
       leads = refl;
@@ -149,11 +150,13 @@ module _ (line : Line) (label : Part) (size : ℕ) (options : Options) (its_act 
         → DoesLine count did line (gives.BadRequest kind) old old
     line_refused kind refused none =
         let tree = judged_tree old.party.socket old.context None (Some kind) attached refused in
-        let does = subst (λ (doing : Doing). Does count did doing (Doing.Ended (gives.BadRequest kind)) old old) (sym tree)
+        let does = subst (λ (doing : Doing). Does [] count did doing (Doing.Ended (gives.BadRequest kind)) old old) (sym tree)
         (does_same count did (Doing.Ended (gives.BadRequest kind)) old none) in
         record {
           facts = facts_for old.party.socket old.context None;
           known = known_facts old.party.socket old.context None (λ accepted. absurd (differs kind (sym refused ∙ accepted)));
+          held = [];
+          once = once_none;
           does = does;
           left = left_none (gives.BadRequest kind) does.trace old.context.standing (λ address same. bad_differs kind address same);
         }
@@ -183,6 +186,8 @@ module _ (line : Line) (label : Part) (size : ℕ) (options : Options) (its_act 
       line_served same other = record {
         facts = facts_for old.party.socket old.context (Some request);
         known = known_facts old.party.socket old.context (Some request) has;
+        held = its_brings.held;
+        once = its_brings.once;
         does = its_brings.does;
         left = same ∙ left_none answer its_brings.does.trace old.context.standing other;
       }
@@ -200,11 +205,11 @@ module _ (line : Line) (label : Part) (size : ℕ) (options : Options) (its_act 
         abbrev doing : Doing
         doing = doing_of line line.act (facts_for old.party.socket old.context (Some request))
 
-        behind : Does count (λ steps. steps ≡ []) (Doing.Ended answer) (Doing.Ended answer) mid after_it
+        behind : Does [] count (λ steps. steps ≡ []) (Doing.Ended answer) (Doing.Ended answer) mid after_it
         behind =
             does_noted count (λ steps. steps ≡ []) (Doing.Ended answer) (doer_at mid) after mid.parts mid.log mid.asks elements noted refl
 
-        whole : Does count did doing (Doing.Ended answer) old after_it
+        whole : Does (its_brings.held ++ []) count did doing (Doing.Ended answer) old after_it
         whole =
             does_then count did (λ steps. steps ≡ []) did doing (Doing.Ended answer) (Doing.Ended answer) old mid after_it (none_done did)
             its_brings.does behind
@@ -221,6 +226,8 @@ module _ (line : Line) (label : Part) (size : ℕ) (options : Options) (its_act 
         line_noted = record {
           facts = facts_for old.party.socket old.context (Some request);
           known = known_facts old.party.socket old.context (Some request) has;
+          held = its_brings.held ++ [];
+          once = subst AreOnce (sym (append-nil its_brings.held)) its_brings.once;
           does = whole;
           left = ap (λ (doer : ParticipantView). doer.context.standing) noted
               ∙ left_one address heap whole.trace mid.context.standing last_is

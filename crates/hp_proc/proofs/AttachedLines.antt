@@ -29,6 +29,7 @@ use Rattle.hp_serve.specs.Serving.{acks_behind, gives_segments, takes_segments}
 use Rattle.hp_proc.specs.declared.own_element.OwnElement.{OwnElement}
 use Rattle.hp_proc.proofs.Joining.{does_same}
 use Rattle.hp_proc.proofs.LineFacts.{IsLineOfOne, facts_for, facts_known}
+use Rattle.hp_proc.proofs.OnceHeld.{once_none}
 
 -- a line that is built and neither attaches nor detaches is one of a participant that is alone
 pub one_built : (who : ℕ) (deed : Act) → IsLineBuilt who deed → deed ≢ act.Attach → deed ≢ act.Detach → IsLineOfOne deed
@@ -191,12 +192,14 @@ module _ (count : ℕ) (did : List MailStep → Type 0) (line : Line) (doer : Pa
   line_already its_act attached none =
       let tree : doing_of line line.act facts ≡ Doing.Ended answer.Already =
       ap (λ (deed : Act). doing_of line deed facts) its_act ∙ ap attaching attached in
-      let does : Does count did (doing_of line line.act facts) (Doing.Ended answer.Already) before before =
-      subst (λ (doing : Doing). Does count did doing (Doing.Ended answer.Already) before before) (sym tree)
+      let does : Does [] count did (doing_of line line.act facts) (Doing.Ended answer.Already) before before =
+      subst (λ (doing : Doing). Does [] count did doing (Doing.Ended answer.Already) before before) (sym tree)
       (does_same count did (Doing.Ended answer.Already) before none) in
       record {
         facts = facts;
         known = known_none doer.party.socket doer.context line act.Attach its_act tt;
+        held = [];
+        once = once_none;
         does = does;
         left = left_by line act.Attach answer.Already does.trace doer.context.standing doer.context.standing its_act
             (ap (λ (elements : List OwnElement). record doer.context.standing { elements = elements })
@@ -211,12 +214,14 @@ module _ (count : ℕ) (did : List MailStep → Type 0) (line : Line) (doer : Pa
       let tree : doing_of line line.act facts ≡ Doing.Ended answer.Detached =
       ap (λ (deed : Act). doing_of line deed facts) its_act
       ∙ ap (λ (attached : Bool). if_attached attached (Doing.Ended answer.Done)) attached in
-      let does : Does count did (doing_of line line.act facts) (Doing.Ended answer.Detached) before before =
-      subst (λ (doing : Doing). Does count did doing (Doing.Ended answer.Detached) before before) (sym tree)
+      let does : Does [] count did (doing_of line line.act facts) (Doing.Ended answer.Detached) before before =
+      subst (λ (doing : Doing). Does [] count did doing (Doing.Ended answer.Detached) before before) (sym tree)
       (does_same count did (Doing.Ended answer.Detached) before none) in
       record {
         facts = facts;
         known = known_none doer.party.socket doer.context line act.Detach its_act tt;
+        held = [];
+        once = once_none;
         does = does;
         left = left_by line act.Detach answer.Detached does.trace doer.context.standing doer.context.standing its_act
             (ap (λ (elements : List OwnElement). record doer.context.standing { elements = elements })
@@ -240,20 +245,20 @@ module _ (count : ℕ) (did : List MailStep → Type 0) (line : Line) (doer : Pa
         → after ≡ with_standing (standing_tried (length taken.log) caught mid.context.standing) mid
         → did
         (takes_segments taken ∷ (acks_behind caught (length taken.log) ++ (gives_segments (after_attaching doer.party.me caught taken) ∷ [])))
-        → Does count did (attaching false) (attached_with (length taken.log) caught) before behind
+        → Does [] count did (attaching false) (attached_with (length taken.log) caught) before behind
     unfolding Leads Goes AreAsked
     does_attach taken caught attaches knew noted made =
         let same = attached_same doer.party mid.party taken.log caught attaches in
         let left : Standing = standing_tried (length taken.log) caught mid.context.standing in
         subst
-        (λ (after : ParticipantView). Does count did (attaching false) (attached_with (length taken.log) caught) before (moment_of after later now heard))
+        (λ (after : ParticipantView). Does [] count did (attaching false) (attached_with (length taken.log) caught) before (moment_of after later now heard))
         (sym noted)
         (record {
           trace = Looked (length taken.log) ∷ CaughtUp (length taken.log) caught ∷ [];
           steps = takes_segments taken ∷ (acks_behind caught (length taken.log) ++ (gives_segments (after_attaching doer.party.me caught taken) ∷ []));
           leads = (length taken.log, refl, (caught, refl, refl));
           made = made;
-          acts = subst (λ (after : ParticipantView). Acts count doer after (Looked (length taken.log) ∷ CaughtUp (length taken.log) caught ∷ [])
+          acts = subst (λ (after : ParticipantView). Acts count None None [] doer after (Looked (length taken.log) ∷ CaughtUp (length taken.log) caught ∷ [])
               (takes_segments taken ∷ (acks_behind caught (length taken.log)
               ++ (gives_segments (after_attaching doer.party.me caught taken) ∷ []))))
               (ap (λ (context : Context). with_standing (standing_tried (length taken.log) caught context.standing)
@@ -273,10 +278,10 @@ module _ (count : ℕ) (did : List MailStep → Type 0) (line : Line) (doer : Pa
     -- it left the roster, and noted that
     does_detach : (doing : Doing) (taken : SegsView) → 0 < doer.party.me
         → after ≡ with_standing (record doer.context.standing { attached = false }) (record doer { party = after_detaching doer.party })
-        → did (takes_segments taken ∷ gives_segments (after_leave doer.party.me taken) ∷ []) → Does count did doing doing before behind
+        → did (takes_segments taken ∷ gives_segments (after_leave doer.party.me taken) ∷ []) → Does [] count did doing doing before behind
     unfolding Leads AreAsked
     does_detach doing taken secondary noted made =
-        subst (λ (after : ParticipantView). Does count did doing doing before (moment_of after later now heard)) (sym noted) (record {
+        subst (λ (after : ParticipantView). Does [] count did doing doing before (moment_of after later now heard)) (sym noted) (record {
           trace = [];
           steps = takes_segments taken ∷ gives_segments (after_leave doer.party.me taken) ∷ [];
           leads = refl;
@@ -310,13 +315,15 @@ module _ (count : ℕ) (did : List MailStep → Type 0) (line : Line) (doer : Pa
         ∙ ap (λ (standing : Standing). with_standing standing mid) (tried_alike doer.party mid.party taken.log caught mid.context.standing attaches) in
         let tree : doing_of line line.act facts ≡ attaching false =
         ap (λ (deed : Act). doing_of line deed facts) its_act ∙ ap attaching out in
-        let whole : Does count did (doing_of line line.act facts) (Doing.Ended given) before behind =
-        subst (λ (rest : Doing). Does count did (doing_of line line.act facts) rest before behind) answered
-        (subst (λ (doing : Doing). Does count did doing (attached_with (length taken.log) caught) before behind) (sym tree)
+        let whole : Does [] count did (doing_of line line.act facts) (Doing.Ended given) before behind =
+        subst (λ (rest : Doing). Does [] count did (doing_of line line.act facts) rest before behind) answered
+        (subst (λ (doing : Doing). Does [] count did doing (attached_with (length taken.log) caught) before behind) (sym tree)
         (does_attach taken caught attaches knew noted made)) in
         record {
           facts = facts;
           known = known_none doer.party.socket doer.context line act.Attach its_act tt;
+          held = [];
+          once = once_none;
           does = whole;
           left = ap (λ (doer : ParticipantView). doer.context.standing) noted
               ∙ ap (λ (context : Context). standing_tried (length taken.log) caught context.standing) knew
@@ -339,12 +346,14 @@ module _ (count : ℕ) (did : List MailStep → Type 0) (line : Line) (doer : Pa
         record { party = party; context = record context { standing = record context.standing { attached = false } } } in
         let left : after ≡ with_standing (record doer.context.standing { attached = false }) (record doer { party = after_detaching doer.party }) =
         noted ∙ ap (λ (party : Party). out party mid.context) mid_is ∙ ap (out (after_detaching doer.party)) knew in
-        let whole : Does count did (doing_of line line.act facts) (Doing.Ended answer.Done) before behind =
-        subst (λ (doing : Doing). Does count did doing (Doing.Ended answer.Done) before behind) (sym tree)
+        let whole : Does [] count did (doing_of line line.act facts) (Doing.Ended answer.Done) before behind =
+        subst (λ (doing : Doing). Does [] count did doing (Doing.Ended answer.Done) before behind) (sym tree)
         (does_detach (Doing.Ended answer.Done) taken secondary left made) in
         record {
           facts = facts;
           known = known_none doer.party.socket doer.context line act.Detach its_act tt;
+          held = [];
+          once = once_none;
           does = whole;
           left = ap (λ (doer : ParticipantView). doer.context.standing) left
               ∙ left_by line act.Detach answer.Done whole.trace doer.context.standing

@@ -15,7 +15,7 @@ use Rattle.hp_proc.specs.Courses.{OwnCall, calls_in, last_heap}
 use Rattle.hp_proc.specs.Doing.{Doing, Done}
 use Rattle.hp_heap.specs.HistoryLaws.{run_cut}
 use Rattle.hp_proc.specs.ParticipantView.{ParticipantView, after_call}
-use Rattle.hp_proc.specs.Progress.{Brings, Does, DoesIn, Moment, Tries, caller_of, in_hand, moment_of}
+use Rattle.hp_proc.specs.Progress.{AreOnce, Brings, Does, DoesIn, Moment, Tries, caller_of, in_hand, moment_of}
 use Rattle.hp_proc.proofs.HandCalls.{call_in}
 use Rattle.hp_proc.proofs.Joining.{calls_on, does_then, then_trace}
 
@@ -34,14 +34,14 @@ no_length [] same = refl
 no_length (x ∷ xs) same = absurd (omega (arith, same))
 
 -- where the count of calls stays, none was made
-pub no_calls : (count : ℕ) (did : List MailStep → Type 0) (doing rest : Doing) (old new : Moment) → (does : Does count did doing rest old new)
-    → new.context.calls ≡ old.context.calls → calls_in does.trace ≡ []
+pub no_calls : {held : List ℕ} (count : ℕ) (did : List MailStep → Type 0) (doing rest : Doing) (old new : Moment)
+    → (does : Does held count did doing rest old new) → new.context.calls ≡ old.context.calls → calls_in does.trace ≡ []
 no_calls count did doing rest old new does same =
     no_length (calls_in does.trace) (omega (arith, ap (λ (context : Context). context.calls) does.counted, same))
 
-module _ (count : ℕ) (here_did there_did did : List MailStep → Type 0) (doing left : Doing) (old mid new : Moment)
+module _ {held more : List ℕ} (count : ℕ) (here_did there_did did : List MailStep → Type 0) (doing left : Doing) (old mid new : Moment)
     (join : (first second : List MailStep) → here_did first → there_did second → did (first ++ second)) where
-  last_then : (rest : Doing) (here : Does count here_did doing left old mid) (there : Does count there_did left rest mid new) (heap : ℕ)
+  last_then : (rest : Doing) (here : Does held count here_did doing left old mid) (there : Does more count there_did left rest mid new) (heap : ℕ)
       → last_heap (calls_in there.trace) ≡ Some heap
       → last_heap (calls_in (does_then count here_did there_did did doing left rest old mid new join here there).trace) ≡ Some heap
   last_then rest here there heap last =
@@ -49,32 +49,35 @@ module _ (count : ℕ) (here_did there_did did : List MailStep → Type 0) (doin
       ∙ ap last_heap (calls_on here.trace there.trace)
       ∙ last_on (calls_in here.trace) (calls_in there.trace) heap last
 
-  -- the last call is one behind what was done before
-  pub in_then : (rest : Doing) (heap : ℕ) → Does count here_did doing left old mid → DoesIn heap count there_did left rest mid new
-      → DoesIn heap count did doing rest old new
-  in_then rest heap here there = record {
-    does = does_then count here_did there_did did doing left rest old mid new join here there.does;
-    last = last_then rest here there.does heap there.last;
-  }
-
-  pub tries_then : (otherwise : Doing) (given : Option Answer) (heap : ℕ) → Does count here_did doing left old mid
-      → Tries heap count there_did left otherwise given mid new → Tries heap count did doing otherwise given old new
+  pub tries_then : (otherwise : Doing) (given : Option Answer) (heap : ℕ) → Does held count here_did doing left old mid
+      → Tries heap more count there_did left otherwise given mid new → Tries heap (held ++ more) count did doing otherwise given old new
   tries_then otherwise given heap here there = record {
     does = does_then count here_did there_did did doing left (unless_answered otherwise given) old mid new join here there.does;
     last = λ address is. last_then (unless_answered otherwise given) here there.does heap (there.last address is);
   }
 
-  pub brings_then : (otherwise : Doing) (answer : Answer) (heap : ℕ) → Does count here_did doing left old mid
-      → Tries heap count there_did left otherwise (Some answer) mid new → Brings heap count did doing answer old new
-  brings_then otherwise answer heap here there = record {
+  pub brings_then : (otherwise : Doing) (answer : Answer) (heap : ℕ) → Does held count here_did doing left old mid
+      → Tries heap more count there_did left otherwise (Some answer) mid new → AreOnce (held ++ more) → Brings heap count did doing answer old new
+  brings_then otherwise answer heap here there once = record {
+    held = held ++ more;
+    once = once;
     does = does_then count here_did there_did did doing left (Doing.Ended answer) old mid new join here there.does;
     last = λ address is. last_then (Doing.Ended answer) here there.does heap (there.last address (ap Some is));
   }
 
+-- the last call is one behind what was done before with the heap in hand
+pub in_then : (count : ℕ) (here_did there_did did : List MailStep → Type 0) (doing left : Doing) (old mid new : Moment)
+    → ((first second : List MailStep) → here_did first → there_did second → did (first ++ second)) → (rest : Doing) (heap : ℕ)
+    → Does [] count here_did doing left old mid → DoesIn heap count there_did left rest mid new → DoesIn heap count did doing rest old new
+in_then count here_did there_did did doing left old mid new join rest heap here there = record {
+  does = does_then count here_did there_did did doing left rest old mid new join here there.does;
+  last = last_then count here_did there_did did doing left old mid new join rest here there.does heap there.last;
+}
+
 -- where nothing is called behind, the calls are those from before
-module _ (count : ℕ) (here_did there_did did : List MailStep → Type 0) (doing left rest : Doing) (old mid new : Moment)
+module _ {held more : List ℕ} (count : ℕ) (here_did there_did did : List MailStep → Type 0) (doing left rest : Doing) (old mid new : Moment)
     (join : (first second : List MailStep) → here_did first → there_did second → did (first ++ second))
-    (here : Does count here_did doing left old mid) (there : Does count there_did left rest mid new)
+    (here : Does held count here_did doing left old mid) (there : Does more count there_did left rest mid new)
     (same : new.context.calls ≡ mid.context.calls) where
   pub calls_stay : calls_in (does_then count here_did there_did did doing left rest old mid new join here there).trace ≡ calls_in here.trace
   calls_stay =
@@ -84,15 +87,15 @@ module _ (count : ℕ) (here_did there_did did : List MailStep → Type 0) (doin
       ∙ append-nil (calls_in here.trace)
 
 -- as when the heap is given back
-module _ (count : ℕ) (here_did there_did did : List MailStep → Type 0) (doing otherwise : Doing) (given : Option Answer) (heap : ℕ)
-    (old mid new : Moment) (join : (first second : List MailStep) → here_did first → there_did second → did (first ++ second))
-    (here : Tries heap count here_did doing otherwise given old mid)
-    (there : Does count there_did (unless_answered otherwise given) (unless_answered otherwise given) mid new)
+module _ {held more : List ℕ} (count : ℕ) (here_did there_did did : List MailStep → Type 0) (doing otherwise : Doing) (given : Option Answer)
+    (heap : ℕ) (old mid new : Moment) (join : (first second : List MailStep) → here_did first → there_did second → did (first ++ second))
+    (here : Tries heap held count here_did doing otherwise given old mid)
+    (there : Does more count there_did (unless_answered otherwise given) (unless_answered otherwise given) mid new)
     (same : new.context.calls ≡ mid.context.calls) where
   abbrev left : Doing
   left = unless_answered otherwise given
 
-  pub tries_passed : Tries heap count did doing otherwise given old new
+  pub tries_passed : Tries heap (held ++ more) count did doing otherwise given old new
   tries_passed = record {
     does = does_then count here_did there_did did doing left left old mid new join here.does there;
     last = λ address is.
@@ -101,11 +104,11 @@ module _ (count : ℕ) (here_did there_did did : List MailStep → Type 0) (doin
 
 -- an answer of the heap's last call, or that it is passed
 pub tries_in : (heap count : ℕ) (did : List MailStep → Type 0) (doing otherwise : Doing) (answer : Answer) (old new : Moment)
-    → DoesIn heap count did doing (Doing.Ended answer) old new → Tries heap count did doing otherwise (Some answer) old new
+    → DoesIn heap count did doing (Doing.Ended answer) old new → Tries heap [] count did doing otherwise (Some answer) old new
 tries_in heap count did doing otherwise answer old new is = record { does = is.does; last = λ address same. is.last }
 
-pub tries_on : (heap count : ℕ) (did : List MailStep → Type 0) (doing otherwise : Doing) (old new : Moment)
-    → Does count did doing otherwise old new → Tries heap count did doing otherwise None old new
+pub tries_on : {held : List ℕ} (heap count : ℕ) (did : List MailStep → Type 0) (doing otherwise : Doing) (old new : Moment)
+    → Does held count did doing otherwise old new → Tries heap held count did doing otherwise None old new
 tries_on heap count did doing otherwise old new is = record { does = is; last = λ address same. absurd (none_is address same) }
   where
     none_is : (address : ℕ) → None ≡ Some (gives.Address address) → ⊥
@@ -121,12 +124,12 @@ module _ (doer after : ParticipantView) (parts : ℕ → HeapPart) (log : List L
     (its : index ≡ heap.plain.index) (count : ℕ) (did : List MailStep → Type 0) (doing : Doing) (then_on : HeapAnswer → Doing) (old : Moment) where
   -- a call of the heap in hand behind what was done before
   pub called_then : run_cut answer ≡ []
-      → Does count did doing (Doing.Calls index call then_on) old (in_hand heap (moment_of doer parts log asks))
+      → Does [] count did doing (Doing.Calls index call then_on) old (in_hand heap (moment_of doer parts log asks))
       → DoesIn index count did doing (then_on answer) old (in_hand next (moment_of after parts log asks))
   called_then whole here =
       subst (λ (index : ℕ). DoesIn index count did doing (then_on answer) old (in_hand next (moment_of after parts log asks))) (sym its)
       (in_then count did (λ steps. steps ≡ []) did doing (Doing.Calls heap.plain.index call then_on) old
       (in_hand heap (moment_of doer parts log asks)) (in_hand next (moment_of after parts log asks)) (none_done did) (then_on answer)
       heap.plain.index
-      (subst (λ (index : ℕ). Does count did doing (Doing.Calls index call then_on) old (in_hand heap (moment_of doer parts log asks))) its here)
+      (subst (λ (index : ℕ). Does [] count did doing (Doing.Calls index call then_on) old (in_hand heap (moment_of doer parts log asks))) its here)
       (call_in doer parts log asks call answer heap next is count (λ steps. steps ≡ []) then_on after counted refl whole))

@@ -1,3 +1,4 @@
+pub mod AddressLies
 pub mod AllocFacts
 pub mod AttachedLines
 pub mod ChosenHeaps
@@ -18,6 +19,7 @@ pub mod LinesInHall
 pub mod Makers
 pub mod Mapped
 pub mod Noted
+pub mod OnceHeld
 pub mod PagesStay
 pub mod Rising
 pub mod SocketHeapLemmas

@@ -1,5 +1,5 @@
 -- What is known when a line begins, where no request of it was accepted so far, and what a line leaves that brings no element.
-use Rattle.std.proofs.Common.{◌≡◌, ◌≢◌, ◌∙◌, ℕ, ◌^◌, ◌<◌, Bool, true, false, cond, not, ◌||◌, ◌==◌, List, [], ◌++◌, append-nil, Option, Some, None, refl, ap, sym, subst, arith}
+use Rattle.std.proofs.Common.{◌≡◌, ◌≢◌, ◌∙◌, ℕ, ◌^◌, ◌<◌, Bool, true, false, cond, not, ◌||◌, ◌==◌, List, [], ◌∷◌, ◌++◌, append-nil, Option, Some, None, refl, ap, sym, subst, arith}
 use Rattle.std.specs.Prelude.{find, nat_le, ⊤}
 use Rattle.std.proofs.lemmas.Bool.{leb-false}
 use Rattle.std.proofs.lemmas.Bool.Decides.{nat_tests}
@@ -23,10 +23,11 @@ use Rattle.hp_proc.specs.Courses.{HasRequest, IsRequestFor, Standing, after_line
 use Rattle.hp_proc.specs.Doing.{Doing, Done}
 use Rattle.hp_proc.specs.Heaps.{has_name, socket_heaps}
 use Rattle.hp_proc.proofs.Joining.{does_same}
+use Rattle.hp_proc.proofs.OnceHeld.{once_none, once_one}
 use Rattle.hp_proc.specs.Freeing.{freeing, if_sized, looking, resize_refusal, resizing_to}
 use Rattle.hp_proc.specs.Lines.{Facts, allocating, doing_of, dumping, if_attached, on_element, tag_of}
 use Rattle.hp_proc.specs.ParticipantView.{with_calls}
-use Rattle.hp_proc.specs.Progress.{Does, DoesLine, Moment}
+use Rattle.hp_proc.specs.Progress.{Does, DoesLine, DoesOnce, Moment}
 
 -- a test that refuses nothing fails, and the next ones refuse nothing
 refusing : (test : Bool) (kind : BadRequest) (rest : Option BadRequest) → cond test (Some kind) rest ≡ None → (test ≡ false) × (rest ≡ None)
@@ -165,15 +166,26 @@ module _ (before after : Context) (same : after ≡ with_calls after.calls befor
 -- a line that brings no element was done, by what was known of it
 pub line_done : (count : ℕ) (did : List MailStep → Type 0) (line : Line) (given : Answer) (old new : Moment) (facts : Facts) (deed : Act)
     → AreFactsOf old.party.socket old.context line facts
-    → Does count did (doing_of line line.act facts) (Doing.Ended given) old new
+    → DoesOnce count did (doing_of line line.act facts) (Doing.Ended given) old new
     → new.context ≡ with_calls new.context.calls old.context → line.act ≡ deed → BringsNone deed
     → DoesLine count did line given old new
-line_done count did line given old new facts deed known does same is none = record {
+line_done count did line given old new facts deed known done same is none = record {
   facts = facts;
   known = known;
-  does = does;
-  left = left_behind old.context new.context same line given does.trace deed is none;
+  held = done.held;
+  once = done.once;
+  does = done.does;
+  left = left_behind old.context new.context same line given done.does.trace deed is none;
 }
+
+-- what was done with no heap, or with one alone
+pub done_once : (count : ℕ) (did : List MailStep → Type 0) (doing rest : Doing) (old new : Moment) → Does [] count did doing rest old new
+    → DoesOnce count did doing rest old new
+done_once count did doing rest old new does = record { held = []; once = once_none; does = does }
+
+pub done_one : (heap count : ℕ) (did : List MailStep → Type 0) (doing rest : Doing) (old new : Moment) → Does (heap ∷ []) count did doing rest old new
+    → DoesOnce count did doing rest old new
+done_one heap count did doing rest old new does = record { held = heap ∷ []; once = once_one heap; does = does }
 
 -- the tree of a line whose participant is not attached
 detached_ends : (line : Line) (deed : Act) → IsLineOfOne deed → (facts : Facts) → facts.attached ≡ false
@@ -199,12 +211,14 @@ detached_done count did none line moment built is =
     let party = moment.party in
     let request = has_request line.act built in
     let facts : Facts = facts_for party.socket moment.context line.act request.0 in
-    let does : Does count did (doing_of line line.act facts) (Doing.Ended answer.Detached) moment moment =
-    subst (λ (doing : Doing). Does count did doing (Doing.Ended answer.Detached) moment moment) (sym (detached_ends line line.act built facts is))
+    let does : Does [] count did (doing_of line line.act facts) (Doing.Ended answer.Detached) moment moment =
+    subst (λ (doing : Doing). Does [] count did doing (Doing.Ended answer.Detached) moment moment) (sym (detached_ends line line.act built facts is))
     (does_same count did (Doing.Ended answer.Detached) moment none) in
     record {
       facts = facts;
       known = facts_known party.socket moment.context line request.0 request.1;
+      held = [];
+      once = once_none;
       does = does;
       left = sym (detached_leaves line line.act built does.trace moment.context.standing);
     }

@@ -1,5 +1,5 @@
 -- The element that the label stands for is looked for where it lies.
-use Rattle.std.proofs.Common.{◌≡◌, ◌∙◌, ℕ, Bool, false, List, Option, Some, None, ap, sym, subst}
+use Rattle.std.proofs.Common.{◌≡◌, ◌∙◌, ℕ, Bool, false, List, map, Option, Some, None, ap, sym, subst}
 use Rattle.std.specs.List.{Contains}
 use Rattle.hp_base.specs.declared.tag.Tag.{Tag}
 use Rattle.hp_script.specs.Labels.{maker_of}
@@ -11,15 +11,17 @@ use Rattle.hp_proc.specs.Doing.{Doing}
 use Rattle.hp_proc.specs.Freeing.{IsSizedWell, act_for, acting, looking}
 use Rattle.hp_proc.specs.Lines.{Facts, on_element, tag_made}
 use Rattle.hp_proc.specs.ParticipantView.{ParticipantView}
-use Rattle.hp_proc.specs.Progress.{Does}
+use Rattle.hp_proc.specs.Progress.{AreOnce, DoesOnce}
 use Rattle.hp_proc.specs.declared.element_act.ElementAct.{ElementAct}
 use Rattle.hp_proc.specs.declared.searched_heap.SearchedHeap.{SearchedHeap}
 use Rattle.hp_serve.proofs.AskedAlong.{if_ok}
 use Rattle.hp_proc.proofs.Joining.{does_same}
+use Rattle.hp_proc.proofs.LineFacts.{done_once}
 use Rattle.hp_proc.proofs.Makers.{made, unmade}
 use Rattle.hp_hall.proofs.HallStates.{did_same}
-use Rattle.hp_proc.specs.LineInHall.{DoesHere, did_in, moment}
+use Rattle.hp_proc.specs.LineInHall.{DoesOnceHere, did_in, moment}
 use Rattle.hp_proc.proofs.Holds.{again_same}
+use Rattle.hp_proc.proofs.OnceHeld.{searched_once}
 use Rattle.hp_proc.proofs.participant.Participant.act_on.Goals as goal
 
 -- the tag, the act and the heaps by which the code looks are those of the line's maker
@@ -53,9 +55,10 @@ returns-in_default-clause-does g c = λ facts known.
     let none : maker_of doer.context.lines c.args.label.now.text ≡ None =
     subst (λ (text : List ℕ). maker_of doer.context.lines text ≡ None) c.as_bytes.ensures.text
     (subst (λ (doer : ParticipantView). maker_of doer.context.lines c.as_bytes.result.now ≡ None) c.self.view_is (sym c.in_default.ensures)) in
-    subst (λ (doing : Doing). Does hall.count (did_in me hall hall) doing (Doing.Ended answer.NoElement) at at)
+    subst (λ (doing : Doing). DoesOnce hall.count (did_in me hall hall) doing (Doing.Ended answer.NoElement) at at)
     (unmade me doer.party.socket doer.context c.args.line.now c.args.label.now facts known c.requires.label goes none)
-    (does_same hall.count (did_in me hall hall) (Doing.Ended answer.NoElement) at (did_same me hall))
+    (done_once hall.count (did_in me hall hall) (Doing.Ended answer.NoElement) (Doing.Ended answer.NoElement) at at
+    (does_same hall.count (did_in me hall hall) (Doing.Ended answer.NoElement) at (did_same me hall)))
 
 pub returns-in_default-clause-idle : goal.returns-in_default-clause-idle
 returns-in_default-clause-idle g c = again_same c.args.self.now c.requires.ready.idle
@@ -75,6 +78,12 @@ look_for-requires-clause-places g c = λ place among.
     subst (λ (doer : ParticipantView). IsPlaceOf doer.context.pools place) c.self.view_is
     (c.in_ok-places.ensures.of_pools place (subst (λ (places : List SearchedHeap). Contains places place) c.deref.ensures.value among))
 
+pub look_for-requires-clause-apart : goal.look_for-requires-clause-apart
+look_for-requires-clause-apart g c =
+    subst (λ (places : List SearchedHeap). AreOnce (map (λ (place : SearchedHeap). place.index) places))
+    (sym (c.deref.ensures.value ∙ c.in_ok-places.ensures.places))
+    (searched_once c.number.result c.self.inside.context (maker_from c.in-Some.maker.now))
+
 pub returns-clause-does : goal.returns-clause-does
 returns-clause-does g c =
     let doer = c.args.self.now in
@@ -93,9 +102,9 @@ returns-clause-does g c =
     (ap (λ (doer : ParticipantView). doer.context) c.self.view_is) c.is_zone-zone.ensures c.act_for-action.ensures c.deref.ensures.value
     c.in_ok-places.ensures.places in
     if_ok _ (λ given. (facts : Facts) → AreFactsOf doer.party.socket doer.context c.args.line.now facts
-    → DoesHere me doer after old new (on_element me facts goes facts.maker) (Doing.Ended given))
+    → DoesOnceHere me doer after old new (on_element me facts goes facts.maker) (Doing.Ended given))
     c.look_for.result
     (λ given does facts known.
-    subst (λ (doing : Doing). DoesHere me doer after old new doing (Doing.Ended given))
+    subst (λ (doing : Doing). DoesOnceHere me doer after old new doing (Doing.Ended given))
     (is ∙ made me doer.party.socket doer.context c.args.line.now c.args.label.now facts known c.requires.label goes maker found) does)
     c.look_for.ensures.does

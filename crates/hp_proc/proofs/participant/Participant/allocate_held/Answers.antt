@@ -1,5 +1,5 @@
 -- The heap is searched, gets pages where that found nothing, and is searched again.
-use Rattle.std.proofs.Common.{◌≡◌, ◌∙◌, ◌∷◌, ℕ, Bool, false, true, None, Some, List, Option, refl, ap, sym, subst, arith}
+use Rattle.std.proofs.Common.{◌≡◌, ◌∙◌, [], ◌∷◌, ℕ, Bool, false, true, None, Some, List, Option, refl, ap, sym, subst, arith}
 use Rattle.hp_base.specs.declared.pool_line.PoolLine.{PoolLine}
 use Rattle.hp_base.specs.declared.request.Request.{Request}
 use Rattle.hp_base.specs.declared.tag.Tag.{Tag}
@@ -13,14 +13,15 @@ use Rattle.hp_proc.specs.Allocating.{asking, behind_asking, trying, unless_found
 use Rattle.hp_proc.specs.Contexts.{named_heap}
 use Rattle.hp_proc.specs.Doing.{Doing}
 use Rattle.hp_proc.specs.Heaps.{NamedHeap, page_sizes_for}
-use Rattle.hp_proc.specs.LineInHall.{HoldsIn, KeepsHeld, DoesHeld, did_in, moment, moment_with}
+use Rattle.hp_proc.specs.LineInHall.{HoldsIn, IsMapped, KeepsHeld, DoesHeld, did_in, moment_with}
 use Rattle.hp_proc.specs.ParticipantView.{ParticipantView, after_call}
-use Rattle.hp_proc.specs.Progress.{AreSettled, DoesIn, Tries, caller_of}
+use Rattle.hp_proc.specs.Progress.{DoesIn, Tries, caller_of}
 use Rattle.hp_proc.specs.declared.socket_heap.SocketHeap.{SocketHeap}
+use Rattle.hp_proc.proofs.AddressLies.{address_lies, lies_none, lies_so}
 use Rattle.hp_proc.proofs.HandCalls.{call_index, call_serves}
 use Rattle.hp_proc.proofs.HandCut.{found_whole}
 use Rattle.hp_proc.proofs.HandTried.{called_then, tries_in, tries_on}
-use Rattle.hp_proc.proofs.Holds.{does_next, holds_on, keeps_called, keeps_then, settled_called}
+use Rattle.hp_proc.proofs.Holds.{does_next, holds_on, keeps_called, keeps_then}
 use Rattle.hp_proc.proofs.Joining.{does_same}
 use Rattle.hp_proc.proofs.PagesStay.{alloc_pages}
 use Rattle.hp_proc.proofs.participant.Participant.allocate_held.Goals as goal
@@ -50,7 +51,7 @@ module _ (doer mid : ParticipantView) (first : HallState) (heap next : HeapView)
       (does_same first.count (did_in me first first) doing (moment_with heap me doer first) (did_same me first))
 
   -- it gave an address
-  found_first : (addr : ℕ) → found ≡ Some addr → Tries place.index first.count (did_in doer.party.me first first) doing otherwise
+  found_first : (addr : ℕ) → found ≡ Some addr → Tries place.index [] first.count (did_in doer.party.me first first) doing otherwise
       (Some (gives.Address addr)) (moment_with heap doer.party.me doer first) (moment_with next doer.party.me mid first)
   found_first addr some =
       let me = doer.party.me in
@@ -76,7 +77,7 @@ module _ (doer mid : ParticipantView) (first : HallState) (heap next : HeapView)
         (behind_asking place.index request tag otherwise granted)) (ap (λ (doer : ParticipantView). doer.context.pools) counted) (asks tag otherwise))
 
     -- none were granted
-    passed : granted ≡ false → Tries place.index first.count (did_in doer.party.me first third) doing otherwise None (moment_with heap doer.party.me doer first)
+    passed : granted ≡ false → Tries place.index [] first.count (did_in doer.party.me first third) doing otherwise None (moment_with heap doer.party.me doer first)
         (moment_with more doer.party.me grown third)
     passed is_not =
         let me = doer.party.me in
@@ -98,7 +99,7 @@ module _ (doer mid : ParticipantView) (first : HallState) (heap next : HeapView)
           (subst (λ (granted : Bool). DoesHeld me doer grown heap more first third doing (behind_asking place.index request tag otherwise granted))
           is_so asked_for)
 
-      found_again : (addr : ℕ) → twice ≡ Some addr → Tries place.index first.count (did_in doer.party.me first third) doing otherwise
+      found_again : (addr : ℕ) → twice ≡ Some addr → Tries place.index [] first.count (did_in doer.party.me first third) doing otherwise
           (Some (gives.Address addr)) (moment_with heap doer.party.me doer first) (moment_with again doer.party.me last third)
       found_again addr some =
           let me = doer.party.me in
@@ -108,7 +109,7 @@ module _ (doer mid : ParticipantView) (first : HallState) (heap next : HeapView)
           (unless_found (Doing.Ended gives.None) (address_answer twice)) (moment_with heap me doer first) (moment_with again me last third)) some
           searched_again)
 
-      found_none : twice ≡ None → Tries place.index first.count (did_in doer.party.me first third) doing otherwise (Some gives.None)
+      found_none : twice ≡ None → Tries place.index [] first.count (did_in doer.party.me first third) doing otherwise (Some gives.None)
           (moment_with heap doer.party.me doer first) (moment_with again doer.party.me last third)
       found_none missing =
           let me = doer.party.me in
@@ -123,7 +124,7 @@ keeps_alloc : (doer after : ParticipantView) (heap next : HeapView) (asked : Req
     → IsCall (caller_of doer) (call.Alloc asked tag) (address_answer found) heap next → after ≡ after_call doer → HoldsIn doer.party.me doer heap a
     → KeepsHeld doer.party.me doer after heap next a a
 keeps_alloc doer after heap next asked tag found step counted holds =
-    keeps_called doer after heap next step counted (alloc_pages _ _ _ _ _ _ step) holds
+    keeps_called doer after heap next step counted (alloc_pages _ _ _ _ _ _ step) refl (found_whole found) holds
 
 pub grow-requires : goal.grow-requires
 grow-requires g c =
@@ -135,7 +136,7 @@ grow-requires g c =
     let counted = c.allocate_in.ensures.counted in
     record {
       holds = holds_on (keeps_alloc doer mid heap next c.with_flags-first.result c.args.tag c.allocate_in.result step counted c.requires.holds)
-          (settled_called doer mid (g.H.Hall.state c.args.hall.now) counted c.requires.holds.settled) c.requires.holds.can.may;
+          c.requires.holds.can.may;
       its = c.requires.its ∙ sym (call_index _ _ _ _ _ step);
       of_socket = call_serves _ _ _ _ _ step ∙ c.requires.of_socket;
       room = record {
@@ -157,7 +158,12 @@ returns-in-Some g c =
           found_first doer mid (g.H.Hall.state c.args.hall.now) heap next c.args.place.now c.args.request.now c.with_flags-first.result c.args.tag
           c.allocate_in.result (c.with_flags-first.ensures ∙ ap (λ (flags : ℕ). with_flags flags c.args.request.now) c.without_hint.ensures) step
           counted c.requires.its heaps c.in-Some.addr c.in-Some.is;
-      settled = settled_called doer mid (g.H.Hall.state c.args.hall.now) counted c.requires.holds.settled;
+      lies = λ given same.
+          lies_so doer.party.me (g.H.Hall.state c.args.hall.now) (gives.Address c.in-Some.addr) given
+          (address_lies doer.party.me doer c.with_flags-first.result c.args.tag c.in-Some.addr c.args.place.now.socket heap next
+          (g.H.Hall.state c.args.hall.now)
+          (subst (λ (found : Option ℕ). IsCall (caller_of doer) (call.Alloc c.with_flags-first.result c.args.tag) (address_answer found) heap next)
+          c.in-Some.is step) c.requires.of_socket c.requires.holds) same;
       clock = λ one. omega arith;
       keeps = keeps_alloc doer mid heap next c.with_flags-first.result c.args.tag c.allocate_in.result step counted c.requires.holds;
       goes_on = g.met.H.Hall.goes_on_same _;
@@ -189,8 +195,7 @@ returns-then-not-branch g c =
           c.allocate_in.result (c.with_flags-first.ensures ∙ ap (λ (flags : ℕ). with_flags flags c.args.request.now) c.without_hint.ensures) step
           counted c.requires.its heaps c.grow.new.self (g.H.Hall.state c.grow.new.hall) c.grow.new.heap c.in_ok-grow.field-0 c.in_default.is
           c.in_ok-grow.ensures.does c.if-not-branch.true;
-      settled = subst (λ (who : ℕ). AreSettled (moment who c.grow.new.self (g.H.Hall.state c.grow.new.hall)))
-          (ap (λ (doer : ParticipantView). doer.party.me) counted) c.in_ok-grow.ensures.settled;
+      lies = λ given none. lies_none doer.party.me (g.H.Hall.state c.grow.new.hall) given none;
       clock = λ one. omega (arith, c.grow.ensures.clock one, ap (λ (doer : ParticipantView). doer.party.deadline) counted);
       keeps = keeps_then (keeps_alloc doer mid heap next c.with_flags-first.result c.args.tag c.allocate_in.result step counted c.requires.holds)
           c.grow.ensures.keeps;
@@ -214,8 +219,7 @@ returns-in-Some-allocate_in g c =
     let first = keeps_alloc doer mid heap next c.with_flags-first.result c.args.tag c.allocate_in.result step counted c.requires.holds in
     let here = keeps_then first c.grow.ensures.keeps in
     let same = here.remains.same.me in
-    let settled = subst (λ (who : ℕ). AreSettled (moment who grown third)) (ap (λ (doer : ParticipantView). doer.party.me) counted) c.in_ok-grow.ensures.settled in
-    let holds = holds_on here settled c.requires.holds.can.may in
+    let holds = holds_on here c.requires.holds.can.may in
     record {
       does = λ heaps.
           found_again doer mid (g.H.Hall.state c.args.hall.now) heap next c.args.place.now c.args.request.now c.with_flags-first.result c.args.tag
@@ -223,7 +227,13 @@ returns-in-Some-allocate_in g c =
           counted c.requires.its heaps grown third c.grow.new.heap c.in_ok-grow.field-0 c.in_default.is c.in_ok-grow.ensures.does last
           c.allocate_in-2.new.heap c.allocate_in-2.result c.allocate_in-2.ensures.step c.allocate_in-2.ensures.counted
           (c.requires.its ∙ sym here.index) c.if-not-branch.false c.in-Some-allocate_in.addr c.in-Some-allocate_in.is;
-      settled = subst (λ (who : ℕ). AreSettled (moment who last third)) same (settled_called grown last third c.allocate_in-2.ensures.counted holds.settled);
+      lies = λ given is.
+          lies_so me third (gives.Address c.in-Some-allocate_in.addr) given
+          (subst (λ (who : ℕ). IsMapped who third (gives.Address c.in-Some-allocate_in.addr)) same
+          (address_lies grown.party.me grown c.args.request.now c.args.tag c.in-Some-allocate_in.addr c.args.place.now.socket c.grow.new.heap
+          c.allocate_in-2.new.heap third
+          (subst (λ (found : Option ℕ). IsCall (caller_of grown) (call.Alloc c.args.request.now c.args.tag) (address_answer found) c.grow.new.heap
+          c.allocate_in-2.new.heap) c.in-Some-allocate_in.is c.allocate_in-2.ensures.step) (here.its_socket ∙ c.requires.of_socket) holds)) is;
       clock = λ one. omega (arith, c.grow.ensures.clock one, ap (λ (doer : ParticipantView). doer.party.deadline) counted);
       keeps = keeps_then here
           (keeps_alloc grown last c.grow.new.heap c.allocate_in-2.new.heap c.args.request.now c.args.tag c.allocate_in-2.result
@@ -245,9 +255,7 @@ returns-in-None g c =
     let counted = c.allocate_in.ensures.counted in
     let first = keeps_alloc doer mid heap next c.with_flags-first.result c.args.tag c.allocate_in.result step counted c.requires.holds in
     let here = keeps_then first c.grow.ensures.keeps in
-    let same = here.remains.same.me in
-    let settled = subst (λ (who : ℕ). AreSettled (moment who grown third)) (ap (λ (doer : ParticipantView). doer.party.me) counted) c.in_ok-grow.ensures.settled in
-    let holds = holds_on here settled c.requires.holds.can.may in
+    let holds = holds_on here c.requires.holds.can.may in
     record {
       does = λ heaps.
           found_none doer mid (g.H.Hall.state c.args.hall.now) heap next c.args.place.now c.args.request.now c.with_flags-first.result c.args.tag
@@ -255,7 +263,7 @@ returns-in-None g c =
           counted c.requires.its heaps grown third c.grow.new.heap c.in_ok-grow.field-0 c.in_default.is c.in_ok-grow.ensures.does last
           c.allocate_in-2.new.heap c.allocate_in-2.result c.allocate_in-2.ensures.step c.allocate_in-2.ensures.counted
           (c.requires.its ∙ sym here.index) c.if-not-branch.false c.in-None.is;
-      settled = subst (λ (who : ℕ). AreSettled (moment who last third)) same (settled_called grown last third c.allocate_in-2.ensures.counted holds.settled);
+      lies = λ given is. lies_so me third gives.None given tt is;
       clock = λ one. omega (arith, c.grow.ensures.clock one, ap (λ (doer : ParticipantView). doer.party.deadline) counted);
       keeps = keeps_then here
           (keeps_alloc grown last c.grow.new.heap c.allocate_in-2.new.heap c.args.request.now c.args.tag c.allocate_in-2.result

@@ -1,5 +1,5 @@
 -- What a dump does is what its facts say: the heap of that name is asked for its statistics.
-use Rattle.std.proofs.Common.{◌≡◌, ◌∙◌, ℕ, ◌<◌, Bool, true, List, [], Option, None, Some, refl, ap, sym, subst, arith}
+use Rattle.std.proofs.Common.{◌≡◌, ◌∙◌, ℕ, ◌<◌, Bool, true, List, [], ◌∷◌, Option, None, Some, refl, ap, sym, subst, arith}
 use Rattle.std.proofs.lemmas.List.Elements.{All-head}
 use Rattle.std.specs.List.{All}
 use Rattle.std.specs.Option.{option_map, option_to_list}
@@ -19,10 +19,10 @@ use Rattle.hp_proc.specs.Heaps.{NamedHeap, has_name, socket_heaps}
 use Rattle.hp_proc.specs.Lines.{Facts, doing_of, dumping, if_attached, with_statistics}
 use Rattle.hp_serve.specs.Party.{IsSameParty}
 use Rattle.hp_proc.specs.ParticipantView.{ParticipantView, after_call, with_calls}
-use Rattle.hp_proc.specs.Progress.{Does, MayDo, caller_of}
+use Rattle.hp_proc.specs.Progress.{Does, DoesOnce, MayDo, caller_of}
 use Rattle.hp_proc.proofs.HandCalls.{call_index, does_call}
 use Rattle.hp_proc.proofs.Joining.{does_same, does_then}
-use Rattle.hp_proc.proofs.LineFacts.{facts_for, facts_known, line_done}
+use Rattle.hp_proc.proofs.LineFacts.{done_once, done_one, facts_for, facts_known, line_done}
 use Rattle.hp_proc.proofs.Mapped.{All-found}
 use Rattle.hp_proc.proofs.PagesStay.{stats_pages}
 use Rattle.hp_proc.proofs.SocketHeapLemmas.{IsListed, all_listed}
@@ -30,8 +30,9 @@ use Rattle.hp_hall.proofs.HallStates.{did_same, did_then, slots_same}
 use Rattle.hp_proc.specs.LineInHall.{HoldsIn, IsIdleIn, did_in, moment, moment_with}
 use Rattle.hp_hall.specs.HallState.{HallState}
 use Rattle.hp_heap.specs.History.{HeapView, IsCall}
+use Rattle.hp_heap.specs.HistoryLaws.{run_cut}
 use Rattle.hp_heap.specs.declared.entry.HeapAnswer.{HeapAnswer}
-use Rattle.hp_proc.proofs.Holds.{again_line, but_kept, does_next, holds_on, idle_put, keeps_called, knew_called, settled_called}
+use Rattle.hp_proc.proofs.Holds.{again_line, but_kept, does_next, holds_on, idle_put, keeps_called, knew_called}
 use Rattle.hp_proc.proofs.participant.Participant.do_dump.Goals as goal
 
 -- the tree of a dump, where its participant is attached
@@ -77,12 +78,11 @@ knew_more before doer after knew counted = knew_called before doer after knew co
 
 -- the heap is in hand behind its call
 held_after : (before doer after : ParticipantView) (heap next : HeapView) (hall : HallState) (given : HeapAnswer) → doer.party.me ≡ before.party.me
-    → HoldsIn before.party.me doer heap hall → IsCall (caller_of doer) call.Stats given heap next → after ≡ after_call doer
+    → HoldsIn before.party.me doer heap hall → IsCall (caller_of doer) call.Stats given heap next → after ≡ after_call doer → run_cut given ≡ []
     → HoldsIn after.party.me after next hall
-held_after before doer after heap next hall given me holds step counted =
+held_after before doer after heap next hall given me holds step counted whole =
     let here : HoldsIn doer.party.me doer heap hall = subst (λ (who : ℕ). HoldsIn who doer heap hall) (sym me) holds in
-    holds_on (keeps_called doer after heap next step counted (stats_pages (caller_of doer) given heap next step) here)
-    (settled_called doer after hall counted here.settled) here.can.may
+    holds_on (keeps_called doer after heap next step counted (stats_pages (caller_of doer) given heap next step) refl whole here) here.can.may
 
 pub returns-in_default-clause-does : goal.returns-in_default-clause-does
 returns-in_default-clause-does g c =
@@ -98,9 +98,10 @@ returns-in_default-clause-does g c =
     let is = subst (λ (doer : ParticipantView). None ≡ option_map (λ (heap : NamedHeap). heap.index) (find (has_name name.text) (socket_heaps doer.context.pools)))
     c.self.view_is c.in_default.ensures in
     line_done hall.count (did_in me hall hall) line answer.NotFound at at facts (act.Dump name) known
-    (subst (λ (doing : Doing). Does hall.count (did_in me hall hall) doing (Doing.Ended answer.NotFound) at at)
+    (subst (λ (doing : Doing). DoesOnce hall.count (did_in me hall hall) doing (Doing.Ended answer.NotFound) at at)
     (sym (dumps_none (find (has_name name.text) facts.named) is) ∙ dumps line name facts c.requires.act c.requires.attached)
-    (does_same hall.count (did_in me hall hall) (Doing.Ended answer.NotFound) at (did_same me hall)))
+    (done_once hall.count (did_in me hall hall) (Doing.Ended answer.NotFound) (Doing.Ended answer.NotFound) at at
+    (does_same hall.count (did_in me hall hall) (Doing.Ended answer.NotFound) at (did_same me hall))))
     refl c.requires.act tt
 
 pub hold-requires-clause-few : goal.hold-requires-clause-few
@@ -115,8 +116,8 @@ pub put-requires : goal.put-requires
 put-requires g c =
     let held = held_after c.args.self.now c.hold.new.self c.stats_in-stats.new.self c.in_ok-heap.heap c.stats_in-stats.new.heap
     (g.H.Hall.state c.hold.new.hall) (gives.Statistics c.stats_in-stats.result) c.hold.ensures.same.me c.in_ok-heap.ensures.holds
-    c.stats_in-stats.ensures.step c.stats_in-stats.ensures.counted in
-    record { serves = held.can.may.serves; in_hand = held.in_hand }
+    c.stats_in-stats.ensures.step c.stats_in-stats.ensures.counted refl in
+    record { serves = held.can.may.serves; in_hand = held.in_hand; settled = held.settled }
 
 pub returns-in_default-clause-idle : goal.returns-in_default-clause-idle
 returns-in_default-clause-idle g c = again_line c.args.self.now.party c.requires.ready.idle
@@ -150,10 +151,10 @@ returns g c =
     let fourth = moment me after new in
     let doing = Doing.Calls heap.plain.index call.Stats with_statistics in
     let ended = Doing.Ended (answer.Statistics stats) in
-    let called : Does old.count (did_in me mid mid) doing ended (moment_with heap me doer mid) (moment_with next me after mid) =
+    let called : Does [] old.count (did_in me mid mid) doing ended (moment_with heap me doer mid) (moment_with next me after mid) =
     does_call doer (mid.part me) (mid.seen me) (mid.heard me) call.Stats (gives.Statistics stats) heap next step old.count (did_in me mid mid)
     with_statistics after counted (did_same me mid) refl in
-    let does : Does old.count (did_in me old new) doing ended first fourth =
+    let does : Does (c.in-Some.index ∷ []) old.count (did_in me old new) doing ended first fourth =
     does_next me first (λ who. moment_with next who after mid) (λ who. moment who after new) after_me count
     (does_then old.count (did_in me old mid) (did_in me mid mid) (did_in me old mid) doing doing ended first (moment_with heap me doer mid)
     (moment_with next me after mid) (λ one other. did_then) (took.did doing) called) (put.does ended) in
@@ -166,14 +167,15 @@ returns g c =
     let knew = knew_more before doer after c.hold.ensures.context counted in
     let same = subst (λ (after : ParticipantView). IsSameParty before.party after.party) (sym counted) c.hold.ensures.same in
     let its = call_index (caller_of doer) call.Stats (gives.Statistics stats) heap next step in
-    let held = held_after before doer after heap next mid (gives.Statistics stats) held_me took.holds step counted in
+    let held = held_after before doer after heap next mid (gives.Statistics stats) held_me took.holds step counted refl in
     record {
       does = line_done old.count (did_in me old new) line (answer.Statistics stats) first fourth facts (act.Dump name) known
-          (subst (λ (doing : Doing). Does old.count (did_in me old new) doing ended first fourth)
+          (subst (λ (doing : Doing). DoesOnce old.count (did_in me old new) doing ended first fourth)
           (ap (λ (index : ℕ). Doing.Calls index call.Stats with_statistics) took.index
-          ∙ dumps_some (find (has_name name.text) facts.named) index is ∙ dumps line name facts c.requires.act c.requires.attached) does)
+          ∙ dumps_some (find (has_name name.text) facts.named) index is ∙ dumps line name facts c.requires.act c.requires.attached)
+          (done_one index old.count (did_in me old new) doing ended first fourth does))
           knew c.requires.act tt;
-      ready = subst (λ (who : ℕ). MayDo (moment who after new)) after_me (put.ready held.settled);
+      ready = subst (λ (who : ℕ). MayDo (moment who after new)) after_me put.ready;
       clock = λ one. omega (arith, c.hold.ensures.clock one, put.others.clock);
       idle = record {
         same = same;

@@ -8,7 +8,7 @@ use Rattle.hp_proc.specs.Courses.{HasRequest}
 use Rattle.hp_proc.specs.Doing.{Doing}
 use Rattle.hp_proc.specs.Freeing.{acting, act_for, freeing, looking}
 use Rattle.hp_proc.specs.Lines.{Facts, doing_of, if_attached, on_element}
-use Rattle.hp_proc.specs.Progress.{Does, DoesLine}
+use Rattle.hp_proc.specs.Progress.{DoesLine, DoesOnce}
 use Rattle.hp_serve.proofs.AskedAlong.{if_ok}
 use Rattle.hp_proc.proofs.LineFacts.{facts_for, facts_known, line_done}
 use Rattle.hp_proc.specs.LineInHall.{did_in, moment}
@@ -38,7 +38,7 @@ returns-clause-does g c =
     (subst (λ (deed : Act). HasRequest deed None) (sym c.requires.act) tt) in
     if_ok _ (λ given. DoesLine old.count (did_in me old new) line given before behind) c.act_on.result
     (λ given does. line_done old.count (did_in me old new) line given before behind facts (act.Free c.args.label.now) known
-    (subst (λ (doing : Doing). Does old.count (did_in me old new) doing (Doing.Ended given) before behind)
+    (subst (λ (doing : Doing). DoesOnce old.count (did_in me old new) doing (Doing.Ended given) before behind)
     (frees line me c.args.label.now facts c.requires.own c.requires.act c.requires.attached) (does facts known))
     c.act_on.ensures.idle.context c.requires.act tt) c.act_on.ensures.does
 

@@ -4,6 +4,7 @@ use Rattle.std.specs.Prelude.{◌^◌}
 use Rattle.hp_base.specs.declared.limits.TheConstants.{MAX_DEADLINE}
 use Rattle.hp_serve.specs.Clocks.{longest_allocation, longest_wait}
 use Rattle.hp_proc.specs.ParticipantView.{ParticipantView}
+use Rattle.hp_serve.proofs.AskedAlong.{if_ok}
 use Rattle.hp_proc.proofs.AttachedLines.{one_built}
 use Rattle.hp_proc.proofs.LineFacts.{detached_done}
 use Rattle.hp_hall.proofs.HallStates.{did_same}
@@ -53,6 +54,7 @@ returns-in-Alloc g c =
     (c.deadline-deadline.ensures.deadline ∙ ap (λ inside. inside.server.deadline) c.self-inside.view_is) c.deadline-deadline.ensures.few in
     record {
       does = is.does;
+      lies = if_ok _ _ c.do_alloc.result (λ given lies label size options its_act. lies) is.lies;
       ready = is.ready;
       clock = λ one. alloc_within _ _ _ few (is.clock one);
       idle = is.idle;

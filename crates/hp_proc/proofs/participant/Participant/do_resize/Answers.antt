@@ -15,10 +15,10 @@ use Rattle.hp_proc.specs.Courses.{HasRequest}
 use Rattle.hp_proc.specs.Doing.{Doing}
 use Rattle.hp_proc.specs.Freeing.{acting, act_for, if_sized, looking, resize_refusal, resizing_to}
 use Rattle.hp_proc.specs.Lines.{Facts, doing_of, if_attached, on_element}
-use Rattle.hp_proc.specs.Progress.{Does, DoesLine}
+use Rattle.hp_proc.specs.Progress.{DoesLine, DoesOnce}
 use Rattle.hp_serve.proofs.AskedAlong.{if_ok}
 use Rattle.hp_proc.proofs.Joining.{does_same}
-use Rattle.hp_proc.proofs.LineFacts.{facts_for, facts_known, line_done}
+use Rattle.hp_proc.proofs.LineFacts.{done_once, facts_for, facts_known, line_done}
 use Rattle.hp_hall.proofs.HallStates.{did_same}
 use Rattle.hp_proc.specs.LineInHall.{did_in, moment}
 use Rattle.hp_proc.proofs.Holds.{again_line}
@@ -84,7 +84,7 @@ returns-in-Ok-clause-does g c =
     (subst (λ (deed : Act). HasRequest deed None) (sym c.requires.act) tt) in
     if_ok _ (λ given. DoesLine old.count (did_in me old new) line given before behind) c.act_on.result
     (λ given does. line_done old.count (did_in me old new) line given before behind facts deed known
-    (subst (λ (doing : Doing). Does old.count (did_in me old new) doing (Doing.Ended given) before behind)
+    (subst (λ (doing : Doing). DoesOnce old.count (did_in me old new) doing (Doing.Ended given) before behind)
     (resizes line me c.args.label.now c.args.size facts c.requires.own c.requires.act c.requires.attached rounded is.0
     (not_refused c.args.size rounded is.0 is.1 is.2)) (does facts known)) c.act_on.ensures.idle.context c.requires.act tt) c.act_on.ensures.does
 
@@ -101,9 +101,10 @@ returns-in-Err-clause-does g c =
     let known = facts_known doer.party.socket doer.context line None
     (subst (λ (deed : Act). HasRequest deed None) (sym c.requires.act) tt) in
     line_done hall.count (did_in me hall hall) line given at at facts deed known
-    (subst (λ (doing : Doing). Does hall.count (did_in me hall hall) doing (Doing.Ended given) at at)
+    (subst (λ (doing : Doing). DoesOnce hall.count (did_in me hall hall) doing (Doing.Ended given) at at)
     (refuses line me c.args.label.now c.args.size facts c.requires.own c.requires.act c.requires.attached c.in-Err.kind c.in-Err.ensures)
-    (does_same hall.count (did_in me hall hall) (Doing.Ended given) at (did_same me hall)))
+    (done_once hall.count (did_in me hall hall) (Doing.Ended given) (Doing.Ended given) at at
+    (does_same hall.count (did_in me hall hall) (Doing.Ended given) at (did_same me hall))))
     refl c.requires.act tt
 
 pub returns-in-Ok-clause-idle : goal.returns-in-Ok-clause-idle

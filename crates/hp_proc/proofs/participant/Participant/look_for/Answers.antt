@@ -1,6 +1,6 @@
 -- Heap after heap is looked into, until one has the element.
-use Rattle.std.proofs.Common.{◌≡◌, ℕ, ◌+◌, ◌<◌, List, ◌∷◌, ◌++◌, length, get_or, drop, Option, None, sym, subst, arith}
-use Rattle.std.proofs.lemmas.List.{drop_more}
+use Rattle.std.proofs.Common.{◌≡◌, ℕ, ◌+◌, ◌<◌, List, [], ◌∷◌, ◌++◌, length, get_or, drop, take, map, Option, None, sym, subst, arith}
+use Rattle.std.proofs.lemmas.List.{drop_all, drop_more}
 use Rattle.std.proofs.lemmas.List.Elements.{Contains-get_or}
 use Rattle.hp_base.specs.declared.tag.Tag.{Tag}
 use Rattle.hp_hall.specs.Mail.{MailStep}
@@ -17,27 +17,32 @@ use Rattle.hp_hall.specs.HallState.{HallState}
 use Rattle.hp_hall.proofs.HallStates.{did_same, did_then}
 use Rattle.hp_proc.specs.LineInHall.{DoesHere, IsIdleIn, did_in, moment}
 use Rattle.hp_proc.proofs.Holds.{again_same, again_then}
+use Rattle.hp_proc.proofs.OnceHeld.{heaps_more, once_taken}
 use Rattle.hp_proc.proofs.participant.Participant.look_for.Goals as goal
 
 -- one heap more was looked into
-looked_on : (count : ℕ) (before here all : List MailStep → Type 0) (tag : Tag) (found : SearchedHeap → ℕ → Doing)
+looked_on : {held : List ℕ} (one count : ℕ) (before here all : List MailStep → Type 0) (tag : Tag) (found : SearchedHeap → ℕ → Doing)
     (places : List SearchedHeap) (index : ℕ) (first mid last : Moment)
     → ((one two : List MailStep) → before one → here two → all (one ++ two))
-    → Does count before (looking tag found places) (looking tag found (drop index places)) first mid
+    → Does held count before (looking tag found places) (looking tag found (drop index places)) first mid
     → (default : SearchedHeap) → index < length places → (given : Option Answer)
     → ((others : List SearchedHeap)
-    → Does count here (looking tag found (get_or places index default ∷ others)) (unless_answered (looking tag found others) given) mid last)
-    → Does count all (looking tag found places) (unless_answered (looking tag found (drop (index + 1) places)) given) first last
-looked_on count before here all tag found places index first mid last join was default within given looks =
+    → Does (one ∷ []) count here (looking tag found (get_or places index default ∷ others)) (unless_answered (looking tag found others) given) mid last)
+    → Does (held ++ one ∷ []) count all (looking tag found places) (unless_answered (looking tag found (drop (index + 1) places)) given) first last
+looked_on one count before here all tag found places index first mid last join was default within given looks =
     does_then count before here all (looking tag found places) (looking tag found (drop index places))
     (unless_answered (looking tag found (drop (index + 1) places)) given) first mid last join was
-    (subst (λ (left : List SearchedHeap). Does count here (looking tag found left)
+    (subst (λ (left : List SearchedHeap). Does (one ∷ []) count here (looking tag found left)
     (unless_answered (looking tag found (drop (index + 1) places)) given) mid last) (sym (drop_more places index default within))
     (looks (drop (index + 1) places)))
 
 -- no place
 abbrev nowhere : SearchedHeap
 nowhere = record { index = 0; serves = None }
+
+-- the heap in which it looks at a place
+abbrev heap_of : SearchedHeap → ℕ
+heap_of place = place.index
 
 pub loop-place-init : goal.loop-place-init
 loop-place-init g c =
@@ -56,20 +61,24 @@ loop-place-init g c =
 -- one heap more
 module _ (doer looked after : ParticipantView) (old mid new : HallState) (tag : Tag) (found : SearchedHeap → ℕ → Doing) (places : List SearchedHeap)
     (index : ℕ) (same : looked.party.me ≡ doer.party.me) (count : mid.count ≡ old.count)
-    (was : DoesHere doer.party.me doer looked old mid (looking tag found places) (looking tag found (drop index places)))
+    (was : DoesHere (map heap_of (take index places)) doer.party.me doer looked old mid (looking tag found places) (looking tag found (drop index places)))
     (within : index < length places) (given : Option Answer)
-    (looks : (others : List SearchedHeap) → DoesHere looked.party.me looked after mid new (looking tag found (get_or places index nowhere ∷ others))
+    (looks : (others : List SearchedHeap) → DoesHere (heap_of (get_or places index nowhere) ∷ []) looked.party.me looked after mid new (looking tag found (get_or places index nowhere ∷ others))
     (unless_answered (looking tag found others) given)) where
-  looked_here : DoesHere doer.party.me doer after old new (looking tag found places) (unless_answered (looking tag found (drop (index + 1) places)) given)
+  looked_here : DoesHere (map heap_of (take (index + 1) places)) doer.party.me doer after old new (looking tag found places)
+      (unless_answered (looking tag found (drop (index + 1) places)) given)
   looked_here =
       let me = doer.party.me in
-      looked_on old.count (did_in me old mid) (did_in me mid new) (did_in me old new) tag found places index (moment me doer old)
+      let one = heap_of (get_or places index nowhere) in
+      subst (λ (held : List ℕ). DoesHere held me doer after old new (looking tag found places)
+      (unless_answered (looking tag found (drop (index + 1) places)) given)) (heaps_more heap_of places index nowhere within)
+      (looked_on one old.count (did_in me old mid) (did_in me mid new) (did_in me old new) tag found places index (moment me doer old)
       (moment me looked mid) (moment me after new) (λ one two. did_then) was nowhere within given
       (λ others.
-      subst (λ (count : ℕ). Does count (did_in me mid new) (looking tag found (get_or places index nowhere ∷ others))
+      subst (λ (count : ℕ). Does (one ∷ []) count (did_in me mid new) (looking tag found (get_or places index nowhere ∷ others))
       (unless_answered (looking tag found others) given) (moment me looked mid) (moment me after new)) count
-      (subst (λ (who : ℕ). DoesHere who looked after mid new (looking tag found (get_or places index nowhere ∷ others))
-      (unless_answered (looking tag found others) given)) same (looks others)))
+      (subst (λ (who : ℕ). DoesHere (one ∷ []) who looked after mid new (looking tag found (get_or places index nowhere ∷ others))
+      (unless_answered (looking tag found others) given)) same (looks others))))
 
 pub look_in-requires-clause-place : goal.look_in-requires-clause-place
 look_in-requires-clause-place g c =
@@ -101,7 +110,8 @@ loop-place-preserved g c =
     let found = acting c.args.action in
     let index = c.loop-place.place-index in
     record {
-      does = subst (λ (given : Option Answer). DoesHere me doer after old new (looking c.args.tag found c.args.places.now)
+      does = subst (λ (given : Option Answer). DoesHere (map heap_of (take (index + 1) c.args.places.now)) me doer after old new
+          (looking c.args.tag found c.args.places.now)
           (unless_answered (looking c.args.tag found (drop (index + 1) c.args.places.now)) given)) c.in_default.is
           (looked_here doer looked after old mid new c.args.tag found c.args.places.now index was.idle.again.same.me
           ((g.met.H.Hall.goes_on_later _ _ was.goes_on).count) was.does c.loop-place-test.true c.in_ok-answer.field-0 one.does);
@@ -136,14 +146,34 @@ returns-in-Some g c =
     let found = acting c.args.action in
     let index = c.loop-place.place-index in
     record {
-      does = subst (λ (given : Option Answer). DoesHere me doer after old new (looking c.args.tag found c.args.places.now)
-          (unless_answered (looking c.args.tag found (drop (index + 1) c.args.places.now)) given)) c.in-Some.is
-          (looked_here doer looked after old mid new c.args.tag found c.args.places.now index was.idle.again.same.me
-          ((g.met.H.Hall.goes_on_later _ _ was.goes_on).count) was.does c.loop-place-test.true c.in_ok-answer.field-0 one.does);
+      does = record {
+        held = map heap_of (take (index + 1) c.args.places.now);
+        once = once_taken heap_of c.args.places.now (index + 1) c.requires.apart;
+        does = subst (λ (given : Option Answer). DoesHere (map heap_of (take (index + 1) c.args.places.now)) me doer after old new
+            (looking c.args.tag found c.args.places.now)
+            (unless_answered (looking c.args.tag found (drop (index + 1) c.args.places.now)) given)) c.in-Some.is
+            (looked_here doer looked after old mid new c.args.tag found c.args.places.now index was.idle.again.same.me
+            ((g.met.H.Hall.goes_on_later _ _ was.goes_on).count) was.does c.loop-place-test.true c.in_ok-answer.field-0 one.does);
+      };
       ready = subst (λ (who : ℕ). MayDo (moment who after new)) was.idle.again.same.me one.ready;
       clock = λ thread. omega (arith, was.clock thread, c.look_in.ensures.clock thread, was.idle.again.same.deadline);
       idle = again_then doer looked after was.idle c.look_in.ensures.idle;
       goes_on = g.met.H.Hall.goes_on_then _ _ _ was.goes_on c.look_in.ensures.goes_on;
+    }
+
+pub returns-clause-does : goal.returns-clause-does
+returns-clause-does g c =
+    let doer = c.args.self.now in
+    let old = g.H.Hall.state c.args.hall.now in
+    let new = g.H.Hall.state c.loop-place.hall in
+    let places = c.args.places.now in
+    let found = acting c.args.action in
+    let held = map heap_of (take c.loop-place.place-index places) in
+    record {
+      held = held;
+      once = once_taken heap_of places c.loop-place.place-index c.requires.apart;
+      does = subst (λ (left : List SearchedHeap). DoesHere held doer.party.me doer c.loop-place.self old new (looking c.args.tag found places)
+          (looking c.args.tag found left)) (drop_all c.loop-place.place-index places c.loop-place-test.false) c.loop-place.invariant.does;
     }
 
 pub returns-clause-clock : goal.returns-clause-clock

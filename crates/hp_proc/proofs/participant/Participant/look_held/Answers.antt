@@ -13,15 +13,16 @@ use Rattle.hp_proc.specs.Doing.{Doing}
 use Rattle.hp_proc.specs.Freeing.{acting, behind_looking, going_on, looking}
 use Rattle.hp_heap.specs.HistoryLaws.{run_cut}
 use Rattle.hp_proc.specs.ParticipantView.{ParticipantView, after_call}
-use Rattle.hp_proc.specs.Progress.{AreSettled, Does, caller_of, in_hand, moment_of}
+use Rattle.hp_proc.specs.Progress.{Does, caller_of, in_hand, moment_of}
 use Rattle.hp_proc.specs.declared.element_act.Left.{Left}
 use Rattle.hp_proc.specs.declared.searched_heap.SearchedHeap.{SearchedHeap}
 use Rattle.hp_proc.proofs.HandCalls.{call_index, call_serves, does_call}
+use Rattle.hp_proc.proofs.HandCut.{found_whole}
 use Rattle.hp_proc.proofs.PagesStay.{find_pages}
 use Rattle.hp_hall.specs.HallState.{OthersStay}
 use Rattle.hp_hall.proofs.HallStates.{did_same, others_same}
-use Rattle.hp_proc.specs.LineInHall.{did_in, moment, moment_with}
-use Rattle.hp_proc.proofs.Holds.{does_next, holds_on, keeps_called, keeps_then, room_called, settled_called}
+use Rattle.hp_proc.specs.LineInHall.{did_in, moment_with}
+use Rattle.hp_proc.proofs.Holds.{does_next, holds_on, keeps_called, keeps_then, room_called}
 use Rattle.hp_proc.proofs.participant.Participant.look_held.Goals as goal
 
 -- the heap was searched, and the line goes on by what that gave
@@ -29,10 +30,10 @@ looked_here : (count : ℕ) (did : List MailStep → Type 0) (doer after : Parti
     (asks : List AskLog) (heap next : HeapView) (place : SearchedHeap) (tag : Tag) (given : HeapAnswer)
     → IsCall (caller_of doer) (call.Find tag) given heap next → after ≡ after_call doer → did [] → run_cut given ≡ []
     → place.index ≡ heap.plain.index → (found : SearchedHeap → ℕ → Doing) (places : List SearchedHeap)
-    → Does count did (looking tag found (place ∷ places)) (going_on (found place) (looking tag found places) given)
+    → Does [] count did (looking tag found (place ∷ places)) (going_on (found place) (looking tag found places) given)
     (in_hand heap (moment_of doer parts log asks)) (in_hand next (moment_of after parts log asks))
 looked_here count did doer after parts log asks heap next place tag given step counted none whole its found places =
-    subst (λ (index : ℕ). Does count did (Doing.Calls index (call.Find tag) (going_on (found place) (looking tag found places)))
+    subst (λ (index : ℕ). Does [] count did (Doing.Calls index (call.Find tag) (going_on (found place) (looking tag found places)))
     (going_on (found place) (looking tag found places) given) (in_hand heap (moment_of doer parts log asks))
     (in_hand next (moment_of after parts log asks))) (sym its)
     (does_call doer parts log asks (call.Find tag) given heap next step count did (going_on (found place) (looking tag found places)) after
@@ -52,13 +53,12 @@ returns-in_err-addr g c =
     let counted = c.find_in.ensures.counted in
     record {
       does = λ places.
-          subst (λ (result : Option Left). Does hall.count (did_in me hall hall) (looking c.args.tag found (place ∷ places))
+          subst (λ (result : Option Left). Does [] hall.count (did_in me hall hall) (looking c.args.tag found (place ∷ places))
           (behind_looking place.index (looking c.args.tag found places) result) (moment_with heap me doer hall) (moment_with next me after hall))
           (sym c.from_residual.ensures)
           (looked_here hall.count (did_in me hall hall) doer after (hall.part me) (hall.seen me) (hall.heard me) heap next place c.args.tag
           gives.Nothing c.in_err-addr.ensures.step counted (did_same me hall) refl c.requires.its found places);
-      settled = settled_called doer after hall counted c.requires.holds.settled;
-      keeps = keeps_called doer after heap next step counted (find_pages _ c.args.tag _ heap next step) c.requires.holds;
+      keeps = keeps_called doer after heap next step counted (find_pages _ c.args.tag _ heap next step) refl (found_whole c.find_in.result) c.requires.holds;
       others = others_same me hall;
       goes_on = g.met.H.Hall.goes_on_same _;
     }
@@ -71,8 +71,7 @@ act_held-requires-clause-holds g c =
     let next = c.find_in.new.heap in
     let step = c.find_in.ensures.step in
     let counted = c.find_in.ensures.counted in
-    holds_on (keeps_called doer mid heap next step counted (find_pages _ c.args.tag _ heap next step) c.requires.holds)
-    (settled_called doer mid (g.H.Hall.state c.args.hall.now) counted c.requires.holds.settled) c.requires.holds.can.may
+    holds_on (keeps_called doer mid heap next step counted (find_pages _ c.args.tag _ heap next step) refl (found_whole c.find_in.result) c.requires.holds) c.requires.holds.can.may
 
 pub act_held-requires-clause-its : goal.act_held-requires-clause-its
 act_held-requires-clause-its g c = c.requires.its ∙ sym (call_index _ _ _ _ _ c.find_in.ensures.step)
@@ -106,8 +105,7 @@ returns g c =
           (looked_here old.count (did_in me old old) doer mid (old.part me) (old.seen me) (old.heard me) heap next c.args.place.now c.args.tag
           (gives.Address c.in_ok-addr.addr) c.in_ok-addr.ensures.step counted (did_same me old) refl c.requires.its (acting c.args.action) places)
           is.does;
-      settled = subst (λ (who : ℕ). AreSettled (moment who after new)) here is.settled;
-      keeps = keeps_then (keeps_called doer mid heap next step counted (find_pages _ c.args.tag _ heap next step) c.requires.holds) is.keeps;
+      keeps = keeps_then (keeps_called doer mid heap next step counted (find_pages _ c.args.tag _ heap next step) refl (found_whole c.find_in.result) c.requires.holds) is.keeps;
       others = subst (λ (who : ℕ). OthersStay who old new) here is.others;
       goes_on = is.goes_on;
     }

@@ -1,5 +1,5 @@
 -- The element is not in the heap, or it was acted on and the coordinator is told where it has to be.
-use Rattle.std.proofs.Common.{sym, ℕ, ◌∷◌, Option, subst, arith}
+use Rattle.std.proofs.Common.{sym, ℕ, [], ◌∷◌, Option, subst, arith}
 use Rattle.hp_proc.specs.Freeing.{acting, behind_looking, looking}
 use Rattle.hp_proc.specs.Progress.{Does, MayDo}
 use Rattle.hp_proc.specs.declared.element_act.Left.{Left}
@@ -15,7 +15,7 @@ returns-in_default-clause-does g c = λ places.
     let new = g.H.Hall.state c.look_there.new.hall in
     let place = c.args.place.now in
     let found = acting c.args.action in
-    subst (λ (left : Option Left). Does old.count (did_in me old new) (looking c.args.tag found (place ∷ places))
+    subst (λ (left : Option Left). Does (place.index ∷ []) old.count (did_in me old new) (looking c.args.tag found (place ∷ places))
     (behind_looking place.index (looking c.args.tag found places) left) (moment me doer old) (moment me c.look_there.new.self new)) c.in_default.is
     (c.in_ok-left.ensures.does places)
 
@@ -53,7 +53,7 @@ returns-clause-does g c = λ places.
     let found = acting c.args.action in
     does_next me (moment me doer old) (λ who. moment who looked mid) (λ who. moment who c.tell.new.self new) c.look_there.ensures.idle.again.same.me
     ((g.met.H.Hall.goes_on_later _ _ c.look_there.ensures.goes_on).count)
-    (subst (λ (left : Option Left). Does old.count (did_in me old mid) (looking c.args.tag found (place ∷ places))
+    (subst (λ (left : Option Left). Does (place.index ∷ []) old.count (did_in me old mid) (looking c.args.tag found (place ∷ places))
     (behind_looking place.index (looking c.args.tag found places) left) (moment me doer old) (moment me looked mid)) c.in-Some.is
     (c.in_ok-left.ensures.does places)) c.in_ok-answer.ensures.does
 

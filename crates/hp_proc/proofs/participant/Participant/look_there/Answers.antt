@@ -43,8 +43,8 @@ pub put-requires : goal.put-requires
 put-requires g c =
     let mid = g.H.Hall.state c.hold.new.hall in
     let may = subst (λ (who : ℕ). MayServe who mid) (sym c.hold.ensures.same.me) c.in_ok-heap.ensures.holds.can.may in
-    let held = holds_on c.look_held-left.ensures.keeps c.look_held-left.ensures.settled may in
-    record { serves = held.can.may.serves; in_hand = held.in_hand }
+    let held = holds_on c.look_held-left.ensures.keeps may in
+    record { serves = held.can.may.serves; in_hand = held.in_hand; settled = held.settled }
 
 pub returns : goal.returns
 returns g c =
@@ -65,7 +65,7 @@ returns g c =
     let put = c.put.ensures in
     let took = c.in_ok-heap.ensures in
     let may = subst (λ (who : ℕ). MayServe who second) (sym here) took.holds.can.may in
-    let held = holds_on is.keeps is.settled may in
+    let held = holds_on is.keeps may in
     let idle =
     idle_put after.party next held.can (but_kept (is.keeps.index ∙ took.index) c.hold.ensures.slots is.keeps.remains.slots) put.tied put.free put.slots
     put.others in
@@ -76,7 +76,7 @@ returns g c =
           does_next me (moment me doer first) (λ who. moment_with next who after third) (λ who. moment who after last) there (is.others.later.count ∙ count)
           (does_next me (moment me doer first) (λ who. moment_with heap who holds second) (λ who. moment_with next who after third) here count
           (took.did doing) (is.does places)) (put.does rest);
-      ready = subst (λ (who : ℕ). MayDo (moment who after last)) there (put.ready held.settled);
+      ready = subst (λ (who : ℕ). MayDo (moment who after last)) there put.ready;
       clock = λ one. omega (arith, c.hold.ensures.clock one, is.others.clock, put.others.clock);
       idle = again_put c.hold.ensures.same c.hold.ensures.context is.keeps idle;
       goes_on = g.met.H.Hall.goes_on_then _ _ _ c.hold.ensures.goes_on (g.met.H.Hall.goes_on_then _ _ _ is.goes_on put.goes_on);

@@ -14,12 +14,13 @@ use Rattle.hp_proc.specs.Heaps.{NamedHeap, heaps_for, socket_heaps}
 use Rattle.hp_proc.specs.Lines.{tag_of}
 use Rattle.hp_serve.specs.Party.{Party}
 use Rattle.hp_proc.specs.ParticipantView.{ParticipantView, after_answer}
-use Rattle.hp_proc.specs.Progress.{Brings, MayDo, moment_of}
+use Rattle.hp_proc.specs.Progress.{AreOnce, Brings, MayDo, moment_of}
 use Rattle.hp_proc.specs.declared.socket_heap.SocketHeap.{SocketHeap}
 use Rattle.hp_proc.proofs.AllocFacts.{line_answered}
+use Rattle.hp_proc.proofs.OnceHeld.{places_once}
 use Rattle.hp_proc.proofs.Rising.{few_places, rises_within}
 use Rattle.hp_hall.specs.HallState.{HallState, IsBusy}
-use Rattle.hp_proc.specs.LineInHall.{HasCalled, IsIdleAgain, did_in, moment}
+use Rattle.hp_proc.specs.LineInHall.{HasCalled, IsIdleAgain, IsMapped, did_in, moment}
 use Rattle.hp_proc.proofs.Holds.{again_line}
 use Rattle.hp_proc.proofs.participant.Participant.serve_line.Goals as goal
 
@@ -111,6 +112,19 @@ returns-clause-does g c =
     (moment doer.party.me mid new) brings c.note_answer.new.self
     (ap (λ (context : Context). context.standing) c.serve_request.ensures.idle.context ∙ ap (λ (who : ParticipantView). who.context.standing) same)
     c.in_ok-note_answer.ensures.noted
+
+pub serve_request-requires-clause-apart : goal.serve_request-requires-clause-apart
+serve_request-requires-clause-apart g c =
+    let start = c.reserve_element.new.self in
+    let options = c.args.options.now in
+    subst (λ (places : List SocketHeap). AreOnce (map (λ (place : SocketHeap). place.index) places)) (sym c.deref.ensures.value)
+    (places_once start.context.pools start.party.socket (option_map (λ name. name.text) options.heap) options.socket
+    c.in_ok-places.places.items c.in_ok-places.ensures.heaps)
+
+pub returns-clause-lies : goal.returns-clause-lies
+returns-clause-lies g c =
+    subst (λ (doer : ParticipantView). IsMapped doer.party.me (g.H.Hall.state c.serve_request.new.hall) c.in_ok-answer.answer)
+    c.reserve_element.ensures c.in_ok-answer.ensures.lies
 
 pub returns-clause-ready : goal.returns-clause-ready
 returns-clause-ready g c =

@@ -1,16 +1,17 @@
 -- One heap more is tried, and it answered the line or was passed.
-use Rattle.std.proofs.Common.{◌≡◌, ◌+◌, ◌<◌, ◌∷◌, ◌==◌, ℕ, List, [], drop, get_or, length, map, Option, Some, None, true, false, refl, ap, sym, subst, arith}
+use Rattle.std.proofs.Common.{◌≡◌, ◌+◌, ◌<◌, ◌∷◌, ◌==◌, ℕ, List, [], ◌++◌, drop, take, get_or, length, map, Option, Some, None, true, false, refl, ap, sym, subst, arith}
 use Rattle.std.proofs.lemmas.List.{drop_all, drop_more}
 use Rattle.std.proofs.lemmas.List.Elements.{Contains-get_or}
 use Rattle.hp_proc.specs.Allocating.{serving, trying}
 use Rattle.hp_serve.specs.Clocks.{longest_growth}
 use Rattle.hp_proc.specs.Contexts.{Context, IsSocketHeapOf, named_heap}
-use Rattle.hp_proc.specs.Progress.{Brings, Does, MayDo, Moment, Tries}
+use Rattle.hp_proc.specs.Progress.{AreOnce, Brings, Does, MayDo, Moment, Tries}
 use Rattle.hp_proc.specs.declared.socket_heap.SocketHeap.{SocketHeap}
 use Rattle.hp_proc.proofs.AllocFacts.{socket_few}
 use Rattle.hp_proc.proofs.HallMoments.{told_alike}
 use Rattle.hp_proc.proofs.HandTried.{brings_then}
 use Rattle.hp_proc.proofs.Joining.{does_same, does_then}
+use Rattle.hp_proc.proofs.OnceHeld.{heaps_more, once_none, once_taken}
 use Rattle.hp_proc.proofs.Rising.{rises_more, rises_within}
 use Rattle.hp_base.specs.declared.pool_line.PoolLine.{PoolLine}
 use Rattle.hp_base.specs.declared.request.Request.{Request}
@@ -22,7 +23,7 @@ use Rattle.std.proofs.lemmas.Bool.{eqb-true, false≢true}
 use Rattle.hp_proc.specs.Doing.{Doing}
 use Rattle.hp_hall.specs.HallState.{IsBusy}
 use Rattle.hp_hall.proofs.HallStates.{did_same, did_then}
-use Rattle.hp_proc.specs.LineInHall.{IsIdleIn, did_in, moment}
+use Rattle.hp_proc.specs.LineInHall.{IsIdleIn, IsMapped, did_in, moment}
 use Rattle.hp_proc.proofs.Holds.{again_same, again_then}
 use Rattle.hp_proc.proofs.participant.Participant.serve_request.Goals as goal
 
@@ -50,6 +51,10 @@ try_heap-requires-clause-ready g c =
 abbrev none_at : SocketHeap
 none_at = record { index = 0; socket = 0 }
 
+-- the heap that it tries at a place
+abbrev heap_of : SocketHeap → ℕ
+heap_of place = place.index
+
 -- where there is a place, the heaps are tried
 served_within : (pools : List PoolLine) (request : Request) (tag : Tag) (places : List SocketHeap) (i : ℕ) → i < length places
     → trying pools request tag (map named_heap places) ≡ serving pools request tag (map named_heap places)
@@ -73,10 +78,11 @@ no_heap_differs : (address : ℕ) → gives.NoHeap ≡ gives.Address address →
 no_heap_differs address equal = cc
 
 -- an answer that is no address is brought from any heap
-brings_none : (heap count : ℕ) (did : List MailStep → Type 0) (doing : Doing) (answer : Answer) (old new : Moment)
-    → ((address : ℕ) → answer ≡ gives.Address address → ⊥) → Does count did doing (Doing.Ended answer) old new
+brings_none : (heap count : ℕ) (did : List MailStep → Type 0) (doing : Doing) (answer : Answer) (old new : Moment) (held : List ℕ)
+    → ((address : ℕ) → answer ≡ gives.Address address → ⊥) → AreOnce held → Does held count did doing (Doing.Ended answer) old new
     → Brings heap count did doing answer old new
-brings_none heap count did doing answer old new other does = record { does = does; last = λ address is. absurd (other address is) }
+brings_none heap count did doing answer old new held other once does =
+    record { held = held; once = once; does = does; last = λ address is. absurd (other address is) }
 
 pub try_heap-requires-clause-place : goal.try_heap-requires-clause-place
 try_heap-requires-clause-place g c =
@@ -101,21 +107,22 @@ loop-place-preserved g c =
     let left = trying pools request tag (map named_heap (item ∷ drop (i + 1) places)) in
     let otherwise = trying pools request tag (map named_heap (drop (i + 1) places)) in
     let before = moment me c.args.self.now first in
-    let here : Does first.count (did_in me first second) doing left before (moment me c.loop-place.self second) =
-    subst (λ (rest : List SocketHeap). Does first.count (did_in me first second) doing
+    let held = map heap_of (take i places) in
+    let here : Does held first.count (did_in me first second) doing left before (moment me c.loop-place.self second) =
+    subst (λ (rest : List SocketHeap). Does held first.count (did_in me first second) doing
     (trying pools request tag (map named_heap rest)) before (moment me c.loop-place.self second))
     (drop_more places i none_at c.loop-place-test.true) was.passed in
-    let tried : Tries item.index first.count (did_in me second third) left otherwise None
+    let tried : Tries item.index (item.index ∷ []) first.count (did_in me second third) left otherwise None
     (moment me c.loop-place.self second) (moment me c.try_heap.new.self third) =
-    subst (λ (context : Context). Tries item.index first.count (did_in me second third)
+    subst (λ (context : Context). Tries item.index (item.index ∷ []) first.count (did_in me second third)
     (trying context.pools request tag (map named_heap (item ∷ drop (i + 1) places)))
     (trying context.pools request tag (map named_heap (drop (i + 1) places))) None
     (moment me c.loop-place.self second) (moment me c.try_heap.new.self third)) was.idle.context
-    (told_alike (λ count did old new. Tries item.index count did
+    (told_alike (λ count did old new. Tries item.index (item.index ∷ []) count did
     (trying c.loop-place.self.context.pools request tag (map named_heap (item ∷ drop (i + 1) places)))
     (trying c.loop-place.self.context.pools request tag (map named_heap (drop (i + 1) places))) None old new) second.count first.count second third c.loop-place.self.party.me me (λ moment. moment) (λ moment. moment) c.loop-place.self
     c.try_heap.new.self was.idle.again.same.me ((g.met.H.Hall.goes_on_later _ _ was.goes_on).count)
-    (subst (λ (given : Option Answer). Tries item.index second.count (did_in c.loop-place.self.party.me second third)
+    (subst (λ (given : Option Answer). Tries item.index (item.index ∷ []) second.count (did_in c.loop-place.self.party.me second third)
     (trying c.loop-place.self.context.pools request tag (map named_heap (item ∷ drop (i + 1) places)))
     (trying c.loop-place.self.context.pools request tag (map named_heap (drop (i + 1) places))) given
     (moment c.loop-place.self.party.me c.loop-place.self second) (moment c.loop-place.self.party.me c.try_heap.new.self third))
@@ -123,9 +130,11 @@ loop-place-preserved g c =
     let one = c.try_heap.ensures in
     let doer = c.try_heap.new.self in
     record {
-      passed = does_then first.count (did_in me first second) (did_in me second third) (did_in me first third) doing
+      passed = subst (λ (held : List ℕ). Does held first.count (did_in me first third) doing otherwise before (moment me doer third))
+          (heaps_more heap_of places i none_at c.loop-place-test.true)
+          (does_then first.count (did_in me first second) (did_in me second third) (did_in me first third) doing
           left otherwise before (moment me c.loop-place.self second) (moment me doer third) (λ one two. did_then) here
-          tried.does;
+          tried.does);
       few = socket_few c.args.self.now.context.pools (get_or c.args.places.now c.loop-place.place-index none_at)
           (c.requires.places (get_or c.args.places.now c.loop-place.place-index none_at)
           (Contains-get_or c.args.places.now c.loop-place.place-index none_at c.loop-place-test.true));
@@ -155,21 +164,22 @@ returns-in-Some-clause-does g c =
     let left = trying pools request tag (map named_heap (item ∷ drop (i + 1) places)) in
     let otherwise = trying pools request tag (map named_heap (drop (i + 1) places)) in
     let before = moment me c.args.self.now first in
-    let here : Does first.count (did_in me first second) doing left before (moment me c.loop-place.self second) =
-    subst (λ (rest : List SocketHeap). Does first.count (did_in me first second) doing
+    let held = map heap_of (take i places) in
+    let here : Does held first.count (did_in me first second) doing left before (moment me c.loop-place.self second) =
+    subst (λ (rest : List SocketHeap). Does held first.count (did_in me first second) doing
     (trying pools request tag (map named_heap rest)) before (moment me c.loop-place.self second))
     (drop_more places i none_at c.loop-place-test.true) was.passed in
-    let tried : Tries item.index first.count (did_in me second third) left otherwise (Some c.in-Some.answer)
+    let tried : Tries item.index (item.index ∷ []) first.count (did_in me second third) left otherwise (Some c.in-Some.answer)
     (moment me c.loop-place.self second) (moment me c.try_heap.new.self third) =
-    subst (λ (context : Context). Tries item.index first.count (did_in me second third)
+    subst (λ (context : Context). Tries item.index (item.index ∷ []) first.count (did_in me second third)
     (trying context.pools request tag (map named_heap (item ∷ drop (i + 1) places)))
     (trying context.pools request tag (map named_heap (drop (i + 1) places))) (Some c.in-Some.answer)
     (moment me c.loop-place.self second) (moment me c.try_heap.new.self third)) was.idle.context
-    (told_alike (λ count did old new. Tries item.index count did
+    (told_alike (λ count did old new. Tries item.index (item.index ∷ []) count did
     (trying c.loop-place.self.context.pools request tag (map named_heap (item ∷ drop (i + 1) places)))
     (trying c.loop-place.self.context.pools request tag (map named_heap (drop (i + 1) places))) (Some c.in-Some.answer) old new) second.count first.count second third c.loop-place.self.party.me me (λ moment. moment) (λ moment. moment) c.loop-place.self
     c.try_heap.new.self was.idle.again.same.me ((g.met.H.Hall.goes_on_later _ _ was.goes_on).count)
-    (subst (λ (given : Option Answer). Tries item.index second.count (did_in c.loop-place.self.party.me second third)
+    (subst (λ (given : Option Answer). Tries item.index (item.index ∷ []) second.count (did_in c.loop-place.self.party.me second third)
     (trying c.loop-place.self.context.pools request tag (map named_heap (item ∷ drop (i + 1) places)))
     (trying c.loop-place.self.context.pools request tag (map named_heap (drop (i + 1) places))) given
     (moment c.loop-place.self.party.me c.loop-place.self second) (moment c.loop-place.self.party.me c.try_heap.new.self third))
@@ -178,7 +188,13 @@ returns-in-Some-clause-does g c =
     (moment me c.try_heap.new.self third)) (served_within pools request tag places i c.loop-place-test.true)
     (brings_then first.count (did_in me first second) (did_in me second third) (did_in me first third) doing left
     before (moment me c.loop-place.self second) (moment me c.try_heap.new.self third) (λ one two. did_then) otherwise
-    c.in-Some.answer item.index here tried)
+    c.in-Some.answer item.index here tried
+    (subst AreOnce (sym (heaps_more heap_of places i none_at c.loop-place-test.true)) (once_taken heap_of places (i + 1) c.requires.apart)))
+
+pub returns-in-Some-clause-lies : goal.returns-in-Some-clause-lies
+returns-in-Some-clause-lies g c =
+    subst (λ (who : ℕ). IsMapped who (g.H.Hall.state c.try_heap.new.hall) c.in-Some.answer) c.loop-place.invariant.idle.again.same.me
+    (c.in_ok-answer.ensures.lies c.in-Some.answer c.in-Some.is)
 
 pub returns-in-Some-clause-few : goal.returns-in-Some-clause-few
 returns-in-Some-clause-few g c = socket_few c.args.self.now.context.pools (get_or c.args.places.now c.loop-place.place-index none_at)
@@ -197,13 +213,14 @@ returns-clause-does g c =
     let hall = g.H.Hall.state c.loop-place.hall in
     let pools = c.args.self.now.context.pools in
     let places = c.args.places.now in
+    let held = map heap_of (take c.loop-place.place-index places) in
     brings_none c.loop-place.last first.count (did_in me first hall)
     (serving pools c.args.request.now c.args.tag (map named_heap places)) gives.None (moment me c.args.self.now first)
-    (moment me c.loop-place.self hall) none_differs
-    (subst (λ (doing : Doing). Does first.count (did_in me first hall) doing (Doing.Ended gives.None)
+    (moment me c.loop-place.self hall) held none_differs (once_taken heap_of places c.loop-place.place-index c.requires.apart)
+    (subst (λ (doing : Doing). Does held first.count (did_in me first hall) doing (Doing.Ended gives.None)
     (moment me c.args.self.now first) (moment me c.loop-place.self hall))
     (served_some pools c.args.request.now c.args.tag places c.if-is_empty.ensures)
-    (subst (λ (rest : List SocketHeap). Does first.count (did_in me first hall)
+    (subst (λ (rest : List SocketHeap). Does held first.count (did_in me first hall)
     (trying pools c.args.request.now c.args.tag (map named_heap places)) (trying pools c.args.request.now c.args.tag (map named_heap rest))
     (moment me c.args.self.now first) (moment me c.loop-place.self hall))
     (drop_all c.loop-place.place-index places c.loop-place-test.false) c.loop-place.invariant.passed))
@@ -221,8 +238,8 @@ returns-then-is_empty-clause-does g c =
     let pools = c.args.self.now.context.pools in
     let at = moment me c.args.self.now first in
     brings_none 0 first.count (did_in me first first)
-    (serving pools c.args.request.now c.args.tag (map named_heap c.args.places.now)) gives.NoHeap at at no_heap_differs
-    (subst (λ (doing : Doing). Does first.count (did_in me first first) doing (Doing.Ended gives.NoHeap) at at)
+    (serving pools c.args.request.now c.args.tag (map named_heap c.args.places.now)) gives.NoHeap at at [] no_heap_differs once_none
+    (subst (λ (doing : Doing). Does [] first.count (did_in me first first) doing (Doing.Ended gives.NoHeap) at at)
     (served_none pools c.args.request.now c.args.tag c.args.places.now c.if-is_empty.ensures)
     (does_same first.count (did_in me first first) (Doing.Ended gives.NoHeap) at (did_same me first)))
 

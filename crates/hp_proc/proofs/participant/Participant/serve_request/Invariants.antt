@@ -1,4 +1,4 @@
-use Rattle.std.proofs.Common.{◌*◌, ◌<◌, ◌≤◌, drop, length, map}
+use Rattle.std.proofs.Common.{◌*◌, ◌<◌, ◌≤◌, drop, length, map, take}
 use Rattle.hp_base.specs.declared.limits.TheConstants.{MAX_HEAPS}
 use Rattle.hp_hall.specs.HallState.{IsBusy}
 use Rattle.hp_proc.specs.Allocating.{trying}
@@ -11,7 +11,7 @@ use Rattle.hp_proc.proofs.participant.Participant.serve_request.Given as goal
 -- the heaps so far were passed
 abbrev pub invariant-loop-place : goal.invariant-loop-place
 invariant-loop-place g l = record {
-  passed : DoesHere l.fn.self.party.me l.fn.self l.self (g.H.Hall.state l.fn.hall) (g.H.Hall.state l.hall)
+  passed : DoesHere (map (λ place. place.index) (take l.place-index l.fn.places)) l.fn.self.party.me l.fn.self l.self (g.H.Hall.state l.fn.hall) (g.H.Hall.state l.hall)
       (trying l.fn.self.context.pools l.fn.request l.fn.tag (map named_heap l.fn.places))
       (trying l.fn.self.context.pools l.fn.request l.fn.tag (map named_heap (drop l.place-index l.fn.places)));
   few : l.last < MAX_HEAPS;

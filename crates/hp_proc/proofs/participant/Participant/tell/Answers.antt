@@ -1,5 +1,5 @@
 -- The answer is the line's, or the coordinator is told first.
-use Rattle.std.proofs.Common.{◌≡◌, ◌∙◌, ℕ, ◌+◌, [], ◌∷◌, ◌++◌, List, refl, ap, sym, append-nil, subst, arith}
+use Rattle.std.proofs.Common.{◌≡◌, ◌∙◌, ℕ, ◌+◌, [], ◌∷◌, ◌++◌, List, None, refl, ap, sym, append-nil, subst, arith}
 use Rattle.hp_base.specs.declared.row.Run.{Run}
 use Rattle.hp_hall.specs.Holding.{HeapPart}
 use Rattle.hp_hall.specs.Mail.{MailStep}
@@ -29,7 +29,7 @@ module _ (count : ℕ) (doer after : ParticipantView) (heap : ℕ) (run : Run) (
   -- a run that was given up was told of
   does_tell : (did : List MailStep → Type 0) (steps : List MailStep) → did steps → DoesNotify count doer.party after.party heap run steps
       → after.party.asked ≡ doer.party.asked + 1
-      → Does count did (Doing.GivesUp heap run (Doing.Ended answer.Done)) (Doing.Ended answer.Done) (moment_of doer parts log asks)
+      → Does [] count did (Doing.GivesUp heap run (Doing.Ended answer.Done)) (Doing.Ended answer.Done) (moment_of doer parts log asks)
       (moment_of after later now heard)
   unfolding Leads Goes AreAsked
   does_tell did steps made notifies asked = record {
@@ -37,7 +37,7 @@ module _ (count : ℕ) (doer after : ParticipantView) (heap : ℕ) (run : Run) (
     steps = steps;
     leads = (refl, refl);
     made = made;
-    acts = subst (λ (after : ParticipantView). Acts count doer after (Done.GaveUp heap run ∷ []) steps) (goes_as doer after known)
+    acts = subst (λ (after : ParticipantView). Acts count None None [] doer after (Done.GaveUp heap run ∷ []) steps) (goes_as doer after known)
         (Acts.notifies_run doer after.party heap run steps notifies);
     entries = λ index. ap (λ (part : HeapPart). part.entries) (alike index) ∙ sym (append-nil (parts index).entries);
     serves = λ index. ap (λ (part : HeapPart). part.serves) (alike index);
@@ -57,7 +57,7 @@ returns-in-Answered g c =
     let hall = g.H.Hall.state c.args.hall.now in
     let at = moment me doer hall in
     record {
-      does = subst (λ (left : Left). Does hall.count (did_in me hall hall) (left_of c.args.heap left) (Doing.Ended c.in-Answered.answer) at at)
+      does = subst (λ (left : Left). Does [] hall.count (did_in me hall hall) (left_of c.args.heap left) (Doing.Ended c.in-Answered.answer) at at)
           (sym c.in-Answered.is) (does_same hall.count (did_in me hall hall) (Doing.Ended c.in-Answered.answer) at (did_same me hall));
       ready = c.requires.ready.ready;
       clock = λ one. omega arith;
@@ -83,7 +83,7 @@ returns-in_ok-notify-in-GaveUp g c =
     let more = stays.waits.later.seen me in
     let others = stays.waits.later.heard me in
     record {
-      does = subst (λ (left : Left). Does old.count (did_in me old new) (left_of c.args.heap left) (Doing.Ended answer.Done) (moment me doer old)
+      does = subst (λ (left : Left). Does [] old.count (did_in me old new) (left_of c.args.heap left) (Doing.Ended answer.Done) (moment me doer old)
           (moment me after new)) (sym c.in-GaveUp.is)
           (does_tell old.count doer after c.args.heap c.in-GaveUp.run' (old.part me) (new.part me) (old.seen me) (new.seen me) more.0 (old.heard me)
           (new.heard me) others.0 stays.waits.parts.part stays.same c.notify.ensures.context more.1 others.1 (did_in me old new) told.did.0 told.did.1 told.did.2 told.asked);

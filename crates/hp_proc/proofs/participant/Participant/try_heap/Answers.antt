@@ -1,17 +1,19 @@
 -- The heap is taken into hand, tried, and given back.
-use Rattle.std.proofs.Common.{◌∙◌, ◌∷◌, ℕ, List, refl, ap, sym, subst, arith}
+use Rattle.std.proofs.Common.{◌≡◌, ◌∙◌, [], ◌∷◌, ℕ, List, Some, refl, ap, sym, subst, arith}
 use Rattle.std.specs.Prelude.{slice_get}
 use Rattle.hp_base.specs.declared.pool_line.PoolLine.{PoolLine}
 use Rattle.hp_hall.specs.HallState.{MayServe}
+use Rattle.hp_script.specs.declared.answer.Answer.{Answer}
 use Rattle.hp_hall.proofs.HallStates.{did_then}
 use Rattle.hp_proc.specs.Allocating.{trying, unless_answered}
 use Rattle.hp_proc.specs.Contexts.{Context, named_heap}
 use Rattle.hp_proc.specs.Heaps.{sockets_of}
-use Rattle.hp_proc.specs.LineInHall.{HoldsIn, did_in, moment, moment_with}
+use Rattle.hp_proc.specs.LineInHall.{HoldsIn, IsMapped, TableStays, did_in, moment, moment_with}
 use Rattle.hp_proc.specs.Progress.{AreSettled, Does, IsInHand, MayDo, Tries, in_hand}
 use Rattle.hp_proc.proofs.AllocFacts.{socket_few}
 use Rattle.hp_serve.proofs.AskedAlong.{if_ok}
-use Rattle.hp_serve.proofs.Carrying.{on_ok_then}
+use Rattle.hp_serve.proofs.Carrying.{on_ok}
+use Rattle.hp_proc.proofs.AddressLies.{lies_still}
 use Rattle.hp_proc.proofs.HallMoments.{told_alike}
 use Rattle.hp_proc.proofs.HandTried.{tries_passed, tries_then}
 use Rattle.hp_proc.proofs.Holds.{again_put, but_kept, can_on, idle_put, knew_same}
@@ -63,6 +65,7 @@ put-requires g c =
       serves = (can_on keeps may).may.serves;
       in_hand = subst (λ (who : ℕ). IsInHand hall.taken (moment who doer hall) c.allocate_held-given.new.heap) (sym keeps.remains.same.me)
           keeps.in_hand;
+      settled = subst (λ (who : ℕ). AreSettled (moment who doer hall)) (sym keeps.remains.same.me) keeps.settled;
     }
 
 pub returns-clause-does : goal.returns-clause-does
@@ -87,18 +90,18 @@ returns-clause-does g c =
     if_ok _ _ c.allocate_held-given.result (λ given tried heaps.
     let doing = trying pools request tag (named_heap place ∷ heaps) in
     let otherwise = trying pools request tag heaps in
-    let tries : Tries place.index first.count (did_in me second third) doing otherwise given (moment_with heap me mid second)
+    let tries : Tries place.index [] first.count (did_in me second third) doing otherwise given (moment_with heap me mid second)
     (moment_with left me new third) =
-    subst (λ (pools : List PoolLine). Tries place.index first.count (did_in me second third)
+    subst (λ (pools : List PoolLine). Tries place.index [] first.count (did_in me second third)
     (trying pools request tag (named_heap place ∷ heaps)) (trying pools request tag heaps) given (moment_with heap me mid second)
     (moment_with left me new third))
     (ap (λ (context : Context). context.pools) c.hold.ensures.context)
-    (told_alike (λ count did before behind. Tries place.index count did (trying mid.context.pools request tag (named_heap place ∷ heaps))
+    (told_alike (λ count did before behind. Tries place.index [] count did (trying mid.context.pools request tag (named_heap place ∷ heaps))
     (trying mid.context.pools request tag heaps) given before behind) second.count first.count second third mid.party.me me (in_hand heap)
     (in_hand left) mid new mine here_count (tried heaps)) in
     let gone = unless_answered otherwise given in
-    let back : Does first.count (did_in me third last) gone gone (moment_with left me new third) (moment me new last) =
-    told_alike (λ count did before behind. Does count did gone gone before behind) third.count first.count third last new.party.me me (in_hand left)
+    let back : Does [] first.count (did_in me third last) gone gone (moment_with left me new third) (moment me new last) =
+    told_alike (λ count did before behind. Does [] count did gone gone before behind) third.count first.count third last new.party.me me (in_hand left)
     (λ moment. moment) new new (c.allocate_held-given.ensures.keeps.remains.same.me ∙ mine) there_count (c.put.ensures.does gone) in
     tries_passed first.count (did_in me first third) (did_in me third last) (did_in me first last) doing otherwise
     given place.index _ _ _ (λ one two. did_then)
@@ -109,14 +112,25 @@ returns-clause-does g c =
 pub returns-clause-ready : goal.returns-clause-ready
 returns-clause-ready g c =
     let new = c.allocate_held-given.new.self in
-    let hall = g.H.Hall.state c.allocate_held-given.new.hall in
     let last = g.H.Hall.state c.put.new.hall in
     let mine = c.allocate_held-given.ensures.keeps.remains.same.me in
-    on_ok_then c.allocate_held-given.result (AreSettled (moment c.hold.new.self.party.me new hall)) (MayDo (moment c.args.self.now.party.me new last))
-    (λ settled.
-    subst (λ (who : ℕ). MayDo (moment who new last)) (mine ∙ c.hold.ensures.same.me)
-    (c.put.ensures.ready (subst (λ (who : ℕ). AreSettled (moment who new hall)) (sym mine) settled)))
-    c.allocate_held-given.ensures.settled
+    on_ok c.allocate_held-given.result (MayDo (moment c.args.self.now.party.me new last))
+    (subst (λ (who : ℕ). MayDo (moment who new last)) (mine ∙ c.hold.ensures.same.me) c.put.ensures.ready)
+
+pub returns-clause-lies : goal.returns-clause-lies
+returns-clause-lies g c =
+    let me = c.args.self.now.party.me in
+    let new = c.allocate_held-given.new.self in
+    let third = g.H.Hall.state c.allocate_held-given.new.hall in
+    let last = g.H.Hall.state c.put.new.hall in
+    let mid = c.hold.new.self.party.me in
+    let mine : mid ≡ me = c.hold.ensures.same.me in
+    let here : new.party.me ≡ me = c.allocate_held-given.ensures.keeps.remains.same.me ∙ mine in
+    if_ok _ (λ given. (answer : Answer) → given ≡ Some answer → IsMapped me last answer) c.allocate_held-given.result
+    (λ given lies answer is.
+    lies_still me third last answer (subst (λ (who : ℕ). TableStays who third last) here c.put.ensures.table)
+    (subst (λ (who : ℕ). IsMapped who third answer) mine (lies answer is)))
+    c.allocate_held-given.ensures.lies
 
 pub returns-clause-clock : goal.returns-clause-clock
 returns-clause-clock g c = λ one.

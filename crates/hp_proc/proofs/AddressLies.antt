@@ -1,0 +1,140 @@
+-- An address that an allocation in the heap in hand gives lies in a page of that heap, and so in a row of its holder's own table.
+use Rattle.std.proofs.Common.{◌≡◌, ◌∙◌, ℕ, ◌+◌, ◌<◌, ◌≤◌, true, List, [], ◌++◌, append-nil, map, Option, Some, None, MatchOption, Contains, nat_lt, nat_le, ◌==◌, count_by, refl, ap, sym, subst, arith}
+use Rattle.std.proofs.lemmas.Bool.{and_from, and_parts, eqb-true, le-leb, leb-true, lt-ltb, ltb-true}
+use Rattle.hp_base.specs.declared.chunk.Chunk.{Chunk}
+use Rattle.hp_base.specs.declared.request.Request.{Request}
+use Rattle.hp_base.specs.declared.row.Row.{Row}
+use Rattle.hp_base.specs.declared.span.Span.{Span}
+use Rattle.hp_base.specs.declared.tag.Tag.{Tag}
+use Rattle.hp_hall.specs.HallState.{HallState}
+use Rattle.hp_hall.specs.Holding.{HasPages, IsHeldWith}
+use Rattle.hp_hall.specs.Own.{Own, rows_known}
+use Rattle.hp_hall.proofs.StandingLists.{found_in}
+use Rattle.hp_heap.specs.Choice.{HasNoChoice}
+use Rattle.hp_heap.specs.History.{HeapView, IsCall}
+use Rattle.hp_heap.specs.Placing.{IsPlacedIn, allocated}
+use Rattle.hp_heap.specs.PlainHeap.{Extent, HasKind, HeapPage, PlainHeap, chunk_extent, end_of, page_extent, segments_of}
+use Rattle.hp_heap.specs.Step.{address_answer, answer_of}
+use Rattle.hp_heap.specs.Tiling.{IsTiled, in_range, in_segment}
+use Rattle.hp_heap.specs.declared.entry.HeapAnswer.{HeapAnswer}
+use Rattle.hp_heap.specs.declared.entry.HeapAnswer.TheVariants as gives
+use Rattle.hp_heap.specs.declared.entry.HeapCall.TheVariants as call
+use Rattle.hp_heap.proofs.AllocLaw.{allocated-is}
+use Rattle.hp_heap.proofs.ChoiceLaw.{eligible-candidate}
+use Rattle.hp_heap.proofs.Members.{Contains-imaged, counted_some, some_counted}
+use Rattle.hp_log.specs.declared.log_record.LogRecord.{LogRecord}
+use Rattle.hp_script.specs.declared.answer.Answer.{Answer}
+use Rattle.hp_script.specs.declared.answer.Answer.TheVariants as answer
+use Rattle.hp_segs.specs.Standing.{Holding}
+use Rattle.hp_segs.specs.declared.row_state.Segment.{Segment}
+use Rattle.hp_proc.specs.LineInHall.{HoldsIn, IsMapped, LiesIn, TableStays}
+use Rattle.hp_proc.specs.ParticipantView.{ParticipantView}
+use Rattle.hp_proc.specs.Progress.{caller_of}
+
+-- an address lies in a page of a heap
+record IsInPage (pages : List HeapPage) (address : ℕ) : Type 0 where
+  page : HeapPage
+  among : Contains pages page
+  from : page.addr ≤ address
+  below : address < page.addr + page.page
+
+-- in the heap of a socket, each address of an element does
+page_with : (heap : PlainHeap) (socket address : ℕ) (range : Span) → IsTiled heap → heap.serves ≡ Some socket → Contains heap.ranges range
+    → range.addr ≤ address → address < end_of range → IsInPage heap.pages address
+page_with heap socket address range tiled serves among from below =
+    let here : in_range address range ≡ true =
+    and_from (nat_le range.addr address) _ (le-leb range.addr address from) (lt-ltb address (range.addr + range.whole) below) in
+    let some : 0 < count_by (in_segment address) (segments_of heap) =
+    omega (arith, some_counted (in_range address) heap.ranges range here among, tiled.tiling.once address) in
+    let found = counted_some (in_segment address) (segments_of heap) some in
+    let none : heap.chunks ≡ [] = subst (λ (serves : Option ℕ). HasKind serves heap.pages heap.chunks) serves tiled.kind in
+    let all : segments_of heap ≡ map page_extent heap.pages =
+    ap (λ (chunks : List Chunk). map page_extent heap.pages ++ map chunk_extent chunks) none ∙ append-nil (map page_extent heap.pages) in
+    let one = Contains-imaged page_extent heap.pages found.0 (subst (λ (extents : List Extent). Contains extents found.0) all found.1.1) in
+    let tests = and_parts (nat_le one.0.addr address) _ (ap (in_segment address) one.2 ∙ found.1.0) in
+    record {
+      page = one.0;
+      among = one.1;
+      from = leb-true one.0.addr address tests.0;
+      below = ltb-true address (one.0.addr + one.0.page) tests.1;
+    }
+
+-- the segment that a page is has its address and its size
+row_with : (pages : List HeapPage) (owned : List Segment) (rows : List Row) (address : ℕ) → HasPages pages owned
+    → ((segment : Segment) → Contains owned segment → Contains rows segment.row) → IsInPage pages address → LiesIn rows address
+row_with pages owned rows address has mapped at =
+    let found = found_in _ owned (has.owns at.page at.among) in
+    let row = found.element.row in
+    let places = and_parts (at.page.slot == row.slot) _ (and_parts (at.page.list == row.list) _ found.passes).1 in
+    let addr = and_parts (at.page.addr == row.addr) _ places.1 in
+    let size = and_parts (at.page.page == row.page) _ addr.1 in
+    let addr_is : at.page.addr ≡ row.addr = eqb-true at.page.addr row.addr addr.0 in
+    let size_is : at.page.page ≡ row.page = eqb-true at.page.page row.page size.0 in
+    record {
+      row = row;
+      among = mapped found.element found.among;
+      from = omega (arith, at.from, addr_is);
+      below = omega (arith, at.below, addr_is, size_is);
+    }
+
+-- the place that an allocation is given lies in an element of the heap
+placed_by : (participant : ℕ) (request : Request) (heap : PlainHeap) (address : ℕ) → IsTiled heap
+    → allocated participant request heap ≡ Some address → IsPlacedIn participant request heap address
+placed_by participant request heap address tiled is =
+    subst (λ (found : Option ℕ). MatchOption found (HasNoChoice participant request heap) (IsPlacedIn participant request heap)) is
+    (allocated-is heap participant request tiled)
+
+allocated_so : (found : Option ℕ) (address : ℕ) → gives.Address address ≡ address_answer found → found ≡ Some address
+allocated_so None address is = absurd (differs is)
+  where
+    differs : gives.Address address ≡ gives.Nothing → ⊥
+    differs equal = cc
+allocated_so (Some other) address is = cc
+
+given_so : (participant : ℕ) (request : Request) (tag : Tag) (heap : PlainHeap) (address : ℕ)
+    → gives.Address address ≡ answer_of participant (call.Alloc request tag) heap → allocated participant request heap ≡ Some address
+unfolding answer_of
+given_so participant request tag heap address is = allocated_so (allocated participant request heap) address is
+
+-- so an allocation's address lies in a page
+address_in_page : (doer : ParticipantView) (request : Request) (tag : Tag) (address socket : ℕ) (heap next : HeapView)
+    → IsCall (caller_of doer) (call.Alloc request tag) (gives.Address address) heap next → IsTiled heap.plain → heap.plain.serves ≡ Some socket
+    → IsInPage heap.plain.pages address
+address_in_page doer request tag address socket heap next step tiled serves =
+    let placed = placed_by doer.party.me request heap.plain address tiled
+    (given_so doer.party.me request tag heap.plain address step.answered) in
+    let room = placed.place.room in
+    page_with heap.plain socket address placed.range tiled serves
+    (eligible-candidate heap.plain doer.party.me request placed.range placed.choice.among).1 (omega (arith, room.behind))
+    (omega (arith, room.before, request.accepted.some))
+
+-- and in a row of its holder's own table, where that is in the roster
+module _ (me : ℕ) (doer : ParticipantView) (request : Request) (tag : Tag) (address socket : ℕ) (heap next : HeapView) (state : HallState)
+    (step : IsCall (caller_of doer) (call.Alloc request tag) (gives.Address address) heap next) (serves : heap.plain.serves ≡ Some socket)
+    (holds : HoldsIn me doer heap state) where
+  pub address_lies : IsMapped me state (answer.Address address)
+  address_lies joined =
+      by_holding (state.part me heap.plain.index).holding refl holds.in_hand.held
+    where
+      by_holding : (holding : Option Holding) → (state.part me heap.plain.index).holding ≡ holding → IsHeldWith heap holding
+          → LiesIn (rows_known (state.seen me) (state.own me)) address
+      by_holding None is held = absurd held
+      by_holding (Some holding) is held =
+          row_with heap.plain.pages holding.owned (rows_known (state.seen me) (state.own me)) address held.pages
+          (λ segment among. holds.mapped joined heap.plain.index holding segment is among)
+          (address_in_page doer request tag address socket heap next step holds.in_hand.sound.tiled serves)
+
+-- what it answers is that
+pub lies_so : (me : ℕ) (state : HallState) (given answer : Answer) → IsMapped me state given → Some given ≡ Some answer → IsMapped me state answer
+lies_so me state given answer lies same = subst (IsMapped me state) cc lies
+
+-- a heap that is passed answers nothing
+pub lies_none : (me : ℕ) (state : HallState) (answer : Answer) → None ≡ Some answer → IsMapped me state answer
+lies_none me state answer same = absurd cc
+
+-- where its own table is known by the same it is so still
+pub lies_still : (me : ℕ) (old new : HallState) (given : Answer) → TableStays me old new → IsMapped me old given → IsMapped me new given
+lies_still me old new (answer.Address address) stays lies joined =
+    subst (λ (log : List LogRecord). LiesIn (rows_known log (new.own me)) address) (sym stays.seen)
+    (subst (λ (own : Own). LiesIn (rows_known (old.seen me) own) address) (sym stays.own) (lies (sym stays.joined ∙ joined)))
+lies_still me old new _ stays lies = lies
