@@ -57,7 +57,7 @@ module _ (who heap : ℕ) (run : Run) (parts : ℕ → HeapPart) (segs : SegsVie
       }
 
       module _ (rows : RetireTakesRows) (now : ℕ → HeapPart)
-          (is : (heap : ℕ) → now heap ≡ part_behind who (after_retire heap run segs) heap (parts heap)) where
+          (is : (other : ℕ) → now other ≡ part_behind who (after_retire heap run segs) other (parts other)) where
         abbrev given : SegsView
         given = after_retire heap run segs
 

@@ -7,7 +7,7 @@ use Rattle.hp_segs.specs.declared.ask.Ask.{Ask}
 use Rattle.hp_serve.specs.Asking.{HasSettledAsks, next_number}
 use Rattle.hp_serve.proofs.AskKnown.{settled_more}
 use Rattle.hp_serve.proofs.Armed.{earlier_settled, may_arm, next_above, none_claimed}
-use Rattle.hp_serve.proofs.AskedAlong.{held_same, held_then}
+use Rattle.hp_serve.proofs.AskedAlong.{held_same, held_then, on_err_any}
 use Rattle.hp_serve.proofs.SegmentSlots.{Took, gave_parts, put_parts, took_has}
 use Rattle.hp_serve.proofs.arming.arm.Goals as goal
 
@@ -163,11 +163,11 @@ returns-in_err-arm_taken-clause-err g c =
     let took = c.take_segments-segs.ensures.took in
     let grown = c.take_segments-segs.ensures.others.later.heard me in
     let gave = c.in_err-arm_taken.ensures.err.gave in
-    subst (HasSettledAsks (new.part me)) gave.asks
+    on_err_any _ _ (subst (HasSettledAsks (new.part me)) gave.asks
     (settled_more c.take_segments-segs.result (old.part me) (new.part me) (old.heard me) grown.0 took.sound (took.asks ∙ grown.1)
     (λ heap. ap (λ (part : HeapPart). part.armed) (gave.part heap)
     ∙ (sym (took.stands.armed heap) ∙ ap (λ (part : HeapPart). part.armed) (took.part heap)))
-    (λ heap. (returns-in_err-arm_taken-clause-held g c heap).holding) c.requires.settled)
+    (λ heap. (returns-in_err-arm_taken-clause-held g c heap).holding) c.requires.settled))
 
 pub returns-in_default-clause-err : goal.returns-in_default-clause-err
 returns-in_default-clause-err g c =
