@@ -56,8 +56,8 @@ open_apart who segs (Some growth) is settled = λ same.
     above_is_unsettled segs growth.ask.from growth.ask.number is.above (settled growth.ask its)
 
 -- an ask whose heap is in hand is settled where its participant knows so
-settled_in_hand : (segs : SegsView) (heard more : List AskLog) (ask : Ask) (held : Option Holding) → IsSound segs → segs.asks ≡ heard ++ more
-    → ((holding : Holding) → held ≡ Some holding → holding ≡ standing_of ask.heap segs) → IsSome held → IsKnownSettled heard held ask
+settled_in_hand : (segs : SegsView) (heard more : List AskLog) (ask : Ask) (held : Option Holding) → IsSound segs
+    → segs.asks ≡ heard ++ more → ((holding : Holding) → held ≡ Some holding → holding ≡ standing_of ask.heap segs) → IsSome held → IsKnownSettled heard held ask
     → IsSettled ask.from ask.number segs
 settled_in_hand segs heard more ask None sound grown has holds known = cc
 settled_in_hand segs heard more ask (Some holding) sound grown has holds known =
@@ -75,7 +75,8 @@ module _ (who : ℕ) (parts now : ℕ → HeapPart) (segs : SegsView) (heard mor
         let mine : (parts earlier.heap).armed ≡ Some earlier =
         ap (λ (part : HeapPart). part.armed) (sym (same earlier.heap)) ∙ (standing.armed earlier.heap ∙ is) in
         let known =
-        subst (λ (part : HeapPart). IsKnownSettled heard part.holding earlier) (sym (same earlier.heap)) (settled earlier.heap earlier mine refl) in
+        subst (λ (part : HeapPart). IsKnownSettled heard part.holding earlier) (sym (same earlier.heap))
+        (settled earlier.heap earlier mine refl) in
         settled_in_hand segs heard more earlier (now earlier.heap).holding sound grown (standing.held earlier.heap) holds known
   ]
 

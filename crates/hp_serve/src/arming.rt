@@ -41,8 +41,8 @@ fn ask_of(me: u8, number: u64, asked: &PagesAsked) -> Ask
     }
 }
 
-// Arms a participant, which has taken the segment value, with a new ask for a heap that it holds, where its earlier one is settled, and gives
-// the value back: as it was, where memory ran out.
+// Arms a participant, which has taken the segment value, with a new ask for a heap that it holds, where its earlier one is settled, and
+// gives the value back: as it was, where memory ran out.
 fn arm_taken<H: Hall>(hall: &mut H, me: u8, segs: Segs, ask: &Ask) -> Result<(), AllocError>
     requires has { HasSegs me segs (H.state hall.old) }
     requires sound { IsSound segs }

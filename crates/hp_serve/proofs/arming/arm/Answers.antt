@@ -38,8 +38,8 @@ arm_taken-requires-clause-may g c =
     let mid = g.H.Hall.state c.take_segments-segs.new.hall in
     let took = c.take_segments-segs.ensures.took in
     let grown = c.take_segments-segs.ensures.others.later.heard me in
-    may_arm me (old.part me) (mid.part me) c.take_segments-segs.result (old.heard me) grown.0 (took.asks ∙ grown.1) took.part took.sound took.stands
-    c.requires.settled c.ask_of-ask.result (ap (λ (ask : Ask). ask.from) c.ask_of-ask.ensures) c.requires.few
+    may_arm me (old.part me) (mid.part me) c.take_segments-segs.result (old.heard me) grown.0 (took.asks ∙ grown.1) took.part took.sound
+    took.stands c.requires.settled c.ask_of-ask.result (ap (λ (ask : Ask). ask.from) c.ask_of-ask.ensures) c.requires.few
 
 pub arm_taken-requires-clause-holds : goal.arm_taken-requires-clause-holds
 arm_taken-requires-clause-holds g c =
@@ -60,8 +60,8 @@ arm_taken-requires-clause-settled g c =
     let mid = g.H.Hall.state c.take_segments-segs.new.hall in
     let took = c.take_segments-segs.ensures.took in
     let grown = c.take_segments-segs.ensures.others.later.heard me in
-    earlier_settled me (old.part me) (mid.part me) c.take_segments-segs.result (old.heard me) grown.0 (took.asks ∙ grown.1) took.part took.sound
-    took.stands c.requires.settled
+    earlier_settled me (old.part me) (mid.part me) c.take_segments-segs.result (old.heard me) grown.0 (took.asks ∙ grown.1) took.part
+    took.sound took.stands c.requires.settled
 
 pub returns-clause-mapped : goal.returns-clause-mapped
 returns-clause-mapped g c = c.in_ok-arm_taken.ensures.ok.gave.mapped
