@@ -1,10 +1,11 @@
 -- A participant asked for pages for the heap in its hand, and the heap took in what was granted.
-use Rattle.std.proofs.Common.{◌≡◌, ◌≢◌, ◌∙◌, ℕ, ◌+◌, ◌≤◌, Bool, true, false, List, [], ◌++◌, Option, Some, None, IfNone, IfSome, refl, ap, sym, subst, arith}
+use Rattle.std.proofs.Common.{◌≡◌, ◌≢◌, ◌∙◌, ℕ, ◌+◌, ◌≤◌, Bool, true, false, List, [], ◌++◌, Option, Some, None, IfNone, IfSome, IsSome, refl, ap, sym, subst, arith}
 use Rattle.hp_base.specs.declared.row.Run.{Run}
 use Rattle.hp_base.specs.declared.tag.Tag.{Tag}
 use Rattle.hp_hall.specs.HallState.{Did, HallState, HasMapped}
 use Rattle.hp_hall.specs.Mail.{MailStep}
 use Rattle.hp_hall.proofs.HallStates.{did_same, did_then}
+use Rattle.hp_heap.specs.Allowed.{IsAllowed}
 use Rattle.hp_heap.specs.History.{HeapView, IsCall}
 use Rattle.hp_heap.specs.declared.entry.HeapAnswer.TheVariants as gives
 use Rattle.hp_heap.specs.declared.entry.HeapCall.TheVariants as call
@@ -18,7 +19,7 @@ use Rattle.hp_serve.specs.Asking.{GrowsHeld, HasSettledAsks, IsAsked, IsHeldAsBe
 use Rattle.hp_serve.specs.AskSteps.{DoesAsk}
 use Rattle.hp_serve.specs.InHall.{RemainsIn}
 use Rattle.hp_serve.specs.declared.pages_asked.PagesAsked.{PagesAsked}
-use Rattle.hp_proc.proofs.HandAsked.{asked_entries, asked_serves, does_ask, hand_asked, hand_grown, none_asked}
+use Rattle.hp_proc.proofs.HandAsked.{asked_entries, asked_serves, can_grow, does_ask, hand_asked, hand_grown, none_asked}
 use Rattle.hp_proc.proofs.HandCalls.{call_index, call_serves, does_call}
 use Rattle.hp_proc.proofs.Holds.{knew_called, knew_same, remains_called}
 use Rattle.hp_proc.proofs.Joining.{does_then}
@@ -54,6 +55,15 @@ module _ (doer after : ParticipantView) (a b : HallState) (heap : HeapView) (ask
     mapped = mapped;
     remains = remains;
   }
+
+  -- what was granted it may take in
+  pub allowed_by : ((index : ℕ) → index ≢ asked.heap → IsHeldAsBefore (a.part me index) (b.part me index)) → (who : ℕ) (run : Option Run)
+      → GrowsHeld asked.heap run (a.part me asked.heap) (b.part me asked.heap) → IsSome heap.plain.serves
+      → IfSome run (λ run. IsAllowed who (call.Grow run) heap.plain)
+  allowed_by others who None grows some = tt
+  allowed_by others who (Some run) grows some =
+      can_grow doer (a.part me) (b.part me) (a.seen me) (b.seen me) (a.heard me) (b.heard me) heap a.taken holds.in_hand asked.heap run its others
+      grows some
 
   module _ (others : (index : ℕ) → index ≢ asked.heap → IsHeldAsBefore (a.part me index) (b.part me index)) (next : HeapView)
       (last : ParticipantView) where

@@ -26,7 +26,8 @@ put-requires-clause-settled g c =
 
 pub returns-in-Ok-clause-did : goal.returns-in-Ok-clause-did
 returns-in-Ok-clause-did g c = λ doing.
-    does_spared c.in_ok-heap.heap c.reserve.new.self c.reserve.ensures.same _ _ _ doing doing _ (c.in_ok-heap.ensures.did doing)
+    does_spared c.in_ok-heap.heap c.reserve.new.self c.reserve.ensures.same
+    (moment c.args.self.now.party.me c.take_heap.new.self (g.H.Hall.state c.take_heap.new.hall)) _ _ doing doing _ (c.in_ok-heap.ensures.did doing)
 
 pub returns-in-Ok-clause-holds : goal.returns-in-Ok-clause-holds
 returns-in-Ok-clause-holds g c =

@@ -1,6 +1,8 @@
 -- The heap goes back with the calls that it got, and the participant is ready for its next one.
 use Rattle.std.proofs.Common.{◌≡◌, ◌∙◌, ℕ, List, [], ◌∷◌, refl, sym, subst}
-use Rattle.hp_hall.specs.HallState.{Did, OthersStay, SlotsStayBut}
+use Rattle.hp_hall.proofs.Gives.{gives_taken}
+use Rattle.hp_hall.specs.Giving.{IsGiveOf}
+use Rattle.hp_hall.specs.HallState.{Did, OthersStay, SlotsStayBut, known_to}
 use Rattle.hp_hall.specs.Holding.{IsGivenAs}
 use Rattle.hp_hall.specs.Mail.{Gives, MailStep}
 use Rattle.hp_hall.specs.declared.kept.Kept.TheVariants.{Heap}
@@ -13,6 +15,25 @@ use Rattle.hp_proc.proofs.HandGiven.{given_entries, given_serves, ready_given}
 use Rattle.hp_serve.proofs.InHalls.{tied_later}
 use Rattle.hp_proc.proofs.Joining.{does_still}
 use Rattle.hp_proc.proofs.participant.Participant.put.Goals as goal
+
+pub give-requires-clause-gives : goal.give-requires-clause-gives
+give-requires-clause-gives g c =
+    let me = c.args.self.now.party.me in
+    let heap = c.args.heap in
+    let old = g.H.Hall.state c.args.hall.now in
+    let hand = c.requires.in_hand in
+    subst (λ (who : ℕ). IsGiveOf (known_to who old) c.index-index.result (Heap heap)) (sym c.number.ensures)
+    (subst (λ (index : ℕ). IsGiveOf (known_to me old) index (Heap heap)) (sym c.index-index.ensures)
+    (gives_taken (known_to me old) heap.plain.index (Heap hand.was) (Heap heap) hand.taken_is
+    (record {
+      index = hand.index;
+      serves = hand.serves;
+      own = hand.own;
+      history = hand.history;
+      numbered = hand.numbered;
+      held = hand.held;
+      settled = c.requires.settled heap.plain.index;
+    })))
 
 pub returns : goal.returns
 returns g c =

@@ -1,0 +1,26 @@
+-- It asked as what serves for it does, and its asks are settled.
+use Rattle.std.proofs.Common.{subst}
+use Rattle.std.specs.Prelude.{IfOk}
+use Rattle.hp_hall.specs.HallState.{HasMapped}
+use Rattle.hp_serve.specs.AskSteps.{AsksIn}
+use Rattle.hp_serve.specs.Asking.{HasSettledAsks}
+use Rattle.hp_proc.specs.ParticipantView.{ParticipantView}
+use Rattle.hp_proc.proofs.participant.Participant.ask.Goals as goal
+
+pub returns-clause-asks : goal.returns-clause-asks
+returns-clause-asks g c =
+    let old = g.H.Hall.state c.args.hall.now in
+    let new = g.H.Hall.state c.ask.new.hall in
+    subst
+    (λ (doer : ParticipantView). IfOk c.ask.result (AsksIn doer.party.me doer.party c.ask.new.self c.args.asked.now old new))
+    c.self.view_is c.ask.ensures.asks
+
+pub returns-clause-settled : goal.returns-clause-settled
+returns-clause-settled g c =
+    let new = g.H.Hall.state c.ask.new.hall in
+    subst (λ (doer : ParticipantView). HasSettledAsks (new.part doer.party.me) (new.heard doer.party.me)) c.self.view_is c.ask.ensures.settled
+
+pub returns-clause-mapped : goal.returns-clause-mapped
+returns-clause-mapped g c =
+    let new = g.H.Hall.state c.ask.new.hall in
+    subst (λ (doer : ParticipantView). HasMapped doer.party.me new) c.self.view_is c.ask.ensures.mapped
