@@ -1,5 +1,5 @@
 -- How a participant asks for pages, and gives pages up: the rule "Asking" of docs/PARTICIPANTS.md.
-use Rattle.std.specs.Prelude.{◌≡◌, ◌≢◌, ℕ, ◌+◌, ◌-◌, ◌^◌, ◌<◌, ◌≤◌, max, min, not, List, [], ◌∷◌, ◌++◌, Contains, Option, Some, None, IsSome, find, filter, ⊤}
+use Rattle.std.specs.Prelude.{◌≡◌, ◌≢◌, ℕ, ◌+◌, ◌-◌, ◌^◌, ◌<◌, max, min, not, List, [], ◌∷◌, ◌++◌, Contains, Option, Some, None, IsSome, find, filter, ⊤}
 use Rattle.hp_base.specs.declared.row.Run.{Run}
 use Rattle.hp_frame.specs.declared.message.Body.{Body}
 use Rattle.hp_frame.specs.declared.message.Body.TheVariants.{Alloc, Free}

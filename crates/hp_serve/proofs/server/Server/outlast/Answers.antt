@@ -1,5 +1,5 @@
 -- One turn more, or the last reading.
-use Rattle.std.proofs.Common.{◌≡◌, ◌∙◌, ℕ, refl, ap, sym, subst, inl, arith}
+use Rattle.std.proofs.Common.{◌≡◌, ℕ, refl, ap, sym, subst, inl, arith}
 use Rattle.hp_serve.specs.Party.{Party, due_in}
 use Rattle.hp_serve.proofs.AskedLemmas.{asked_same, asked_then}
 use Rattle.hp_serve.proofs.InHalls.{in_can, in_may, in_others, in_same, in_then, in_tied}

@@ -2,7 +2,6 @@
 use Rattle.std.proofs.Common.{◌∙◌, ℕ, ◌*◌, ap, sym, subst, arith}
 use Rattle.std.specs.Result.{result_ok}
 use Rattle.hp_serve.specs.Party.{Party}
-use Rattle.hp_serve.specs.Waiting.{LeavesAsked}
 use Rattle.hp_serve.proofs.AskedLemmas.{asked_served_out}
 use Rattle.hp_serve.proofs.InHalls.{in_can, in_may, in_others, in_tied, in_then}
 use Rattle.hp_serve.proofs.Scaled.{own_weight_still}
