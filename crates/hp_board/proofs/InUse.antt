@@ -1,5 +1,5 @@
 -- Rows that are in use: the tables of members have them, and by which numbers they came to be agreed.
-use Rattle.std.proofs.Common.{◌≡◌, ◌⊎◌, inl, inr, ⊎_elim, ◌∙◌, ℕ, ◌≤◌, Bool, true, false, eqb, eqb-true, eq-eqb, List, length, take, Option, Some, None, refl, sym, ap, subst, arith}
+use Rattle.std.proofs.Common.{◌≡◌, ◌⊎◌, inl, inr, ⊎_elim, ◌∙◌, ℕ, ◌≤◌, Bool, true, false, eqb, eqb-true, eq-eqb, List, length, take, Option, Some, None, refl, sym, ap, subst}
 use Rattle.std.specs.Prelude.{Contains}
 use Rattle.std.proofs.Math.Seq.{take-append_seam}
 use Rattle.std.proofs.lemmas.Bool.{false≢true}
@@ -21,12 +21,13 @@ use Rattle.hp_segs.proofs.GrantedRows.{rows_are_granted}
 use Rattle.hp_hall.specs.Own.{rows_known}
 use Rattle.hp_hall.specs.SegsGives.{Giver}
 use Rattle.hp_hall.proofs.StandingLists.{any_contained, found_in}
+use Rattle.hp_hall.proofs.TablesKnown.{row_known}
 use Rattle.hp_board.specs.Agreement.{HasInUse, HasTakenIn}
 use Rattle.hp_board.specs.Left.{IsLeft}
 use Rattle.hp_board.specs.Views.{own_of}
 use Rattle.hp_board.specs.declared.view.Mine.{Mine}
 use Rattle.hp_board.proofs.AgreedSteps.{granted_within}
-use Rattle.hp_board.proofs.TablesKnown.{row_early, row_known}
+use Rattle.hp_board.proofs.TablesKnown.{row_early}
 
 -- who granted a generation
 record IsGrantedBy (asks : List AskLog) (generation : ℕ) : Type 0 where

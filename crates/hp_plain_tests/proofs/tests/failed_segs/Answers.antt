@@ -31,16 +31,17 @@ new-requires-2-clause-pools c =
     (one_pool _ (record { socket = omega arith; page = refl; pages = omega arith; some = omega arith; slots = omega arith }))
 
 -- of Opened rows none is a heap's, whichever are left
-nobodys : (heap : ℕ) (kept : Segment → Bool) (rows : List Row)
-    → filter (λ segment. is_owned_by heap segment.state) (filter kept (map (segment_of Opened) rows)) ≡ []
-nobodys heap kept [] = refl
-nobodys heap kept (row ∷ rows) = by (kept (segment_of Opened row))
-  where
-    by : (keeps : Bool)
-        → filter (λ segment. is_owned_by heap segment.state)
-        (cond keeps (segment_of Opened row ∷ filter kept (map (segment_of Opened) rows)) (filter kept (map (segment_of Opened) rows))) ≡ []
-    by true = nobodys heap kept rows
-    by false = nobodys heap kept rows
+module _ (heap : ℕ) where
+  abbrev owned_among : List Segment → List Segment
+  owned_among segments = filter (λ segment. is_owned_by heap segment.state) segments
+
+  one_more : (keeps : Bool) (row : Row) (rest : List Segment) → owned_among rest ≡ [] → owned_among (cond keeps (segment_of Opened row ∷ rest) rest) ≡ []
+  one_more true row rest none = none
+  one_more false row rest none = none
+
+  nobodys : (kept : Segment → Bool) (rows : List Row) → owned_among (filter kept (map (segment_of Opened) rows)) ≡ []
+  nobodys kept [] = refl
+  nobodys kept (row ∷ rows) = one_more (kept (segment_of Opened row)) row (filter kept (map (segment_of Opened) rows)) (nobodys kept rows)
 
 -- a value of two participants without a record, of which nobody is armed, and nothing was given up
 record IsBare (segs : SegsView) : Type 0 where
