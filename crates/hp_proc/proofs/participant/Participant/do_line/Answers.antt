@@ -1,14 +1,20 @@
 -- Who is not attached is answered so at once.
 use Rattle.std.proofs.Common.{◌≡◌, ◌∙◌, ◌+◌, ◌≤◌, ℕ, ap, sym, subst, arith}
-use Rattle.std.specs.Prelude.{◌^◌}
+use Rattle.std.specs.Prelude.{◌^◌, IfOk, Result, Ok, Err}
 use Rattle.hp_base.specs.declared.limits.TheConstants.{MAX_DEADLINE}
+use Rattle.hp_script.specs.Part.{Part}
+use Rattle.hp_script.specs.declared.answer.Answer.{Answer}
+use Rattle.hp_script.specs.declared.line.Act.{Act}
+use Rattle.hp_script.specs.declared.line.Act.TheVariants as act
+use Rattle.hp_script.specs.declared.options.Options.{Options}
+use Rattle.hp_hall.specs.HallState.{HallState}
 use Rattle.hp_serve.specs.Clocks.{longest_allocation, longest_wait}
 use Rattle.hp_proc.specs.ParticipantView.{ParticipantView}
 use Rattle.hp_serve.proofs.AskedAlong.{if_ok}
 use Rattle.hp_proc.proofs.AttachedLines.{one_built}
 use Rattle.hp_proc.proofs.LineFacts.{detached_done}
 use Rattle.hp_hall.proofs.HallStates.{did_same}
-use Rattle.hp_proc.specs.LineInHall.{did_in, moment}
+use Rattle.hp_proc.specs.LineInHall.{IsMapped, did_in, moment}
 use Rattle.hp_proc.proofs.Holds.{again_line, idle_changed}
 use Rattle.hp_proc.proofs.LinesInHall.{idle_may}
 use Rattle.hp_serve.proofs.SegmentSlots.{may_hold}
@@ -47,6 +53,28 @@ few_of : (doer inside : ParticipantView) (deadline : ℕ) → inside ≡ doer �
 few_of doer inside deadline view is few =
     subst (λ (deadline : ℕ). deadline ≤ MAX_DEADLINE) (is ∙ ap (λ (doer : ParticipantView). doer.party.deadline) view) few
 
+-- a line that is no allocation answers no address
+lies_other : {E : Type 0} (result : Result Answer E) (deed : Act) (me : ℕ) (state : HallState)
+    → ((label : Part) (size : ℕ) (options : Options) → deed ≡ act.Alloc label size options → ⊥)
+    → IfOk result (λ given. (label : Part) (size : ℕ) (options : Options) → deed ≡ act.Alloc label size options → IsMapped me state given)
+lies_other (Ok given) deed me state other = λ label size options its_act. absurd (other label size options its_act)
+lies_other (Err refusal) deed me state other = tt
+
+free_other : (name : Part) (deed : Act) → deed ≡ act.Free name → (label : Part) (size : ℕ) (options : Options)
+    → deed ≡ act.Alloc label size options → ⊥
+free_other name deed is label size options its_act = cc
+
+resize_other : (name : Part) (most : ℕ) (deed : Act) → deed ≡ act.Resize name most → (label : Part) (size : ℕ) (options : Options)
+    → deed ≡ act.Alloc label size options → ⊥
+resize_other name most deed is label size options its_act = cc
+
+dump_other : (name : Part) (deed : Act) → deed ≡ act.Dump name → (label : Part) (size : ℕ) (options : Options)
+    → deed ≡ act.Alloc label size options → ⊥
+dump_other name deed is label size options its_act = cc
+
+attach_other : (deed : Act) → deed ≡ act.Attach → (label : Part) (size : ℕ) (options : Options) → deed ≡ act.Alloc label size options → ⊥
+attach_other deed is label size options its_act = cc
+
 pub returns-in-Alloc : goal.returns-in-Alloc
 returns-in-Alloc g c =
     let is = c.do_alloc.ensures in
@@ -68,6 +96,7 @@ returns-in-Free g c =
     (c.deadline-deadline.ensures.deadline ∙ ap (λ inside. inside.server.deadline) c.self-inside.view_is) c.deadline-deadline.ensures.few in
     record {
       does = is.does;
+      lies = lies_other c.do_free.result c.args.line.now.act c.args.self.now.party.me (g.H.Hall.state c.do_free.new.hall) (free_other _ _ c.in-Free.is);
       ready = is.ready;
       clock = λ one. wait_within _ _ _ few (is.clock one);
       idle = is.idle;
@@ -81,6 +110,8 @@ returns-in-Resize g c =
     (c.deadline-deadline.ensures.deadline ∙ ap (λ inside. inside.server.deadline) c.self-inside.view_is) c.deadline-deadline.ensures.few in
     record {
       does = is.does;
+      lies = lies_other c.do_resize.result c.args.line.now.act c.args.self.now.party.me (g.H.Hall.state c.do_resize.new.hall)
+          (resize_other _ _ _ c.in-Resize.is);
       ready = is.ready;
       clock = λ one. wait_within _ _ _ few (is.clock one);
       idle = is.idle;
