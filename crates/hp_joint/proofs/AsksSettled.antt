@@ -1,5 +1,5 @@
--- Where each ask of a trace has its answer, that with which its participant is armed was granted or refused, and has no number above the closed
--- one; and where it is so with all, no growth is open.
+-- Where each ask of a trace has its answer, that with which its participant is armed was granted or refused, and its number is not above the
+-- closed one; and where it is so with all, no growth is open.
 use Rattle.std.proofs.Common.{◌≡◌, ◌==◌, ◌∙◌, ℕ, ◌+◌, ◌-◌, ◌≤◌, Bool, false, true, not, List, Option, Some, None, IfSome, refl, ap, sym, subst, arith}
 use Rattle.std.specs.Prelude.{slice_get}
 use Rattle.std.specs.List.{find, list_any}

@@ -90,9 +90,10 @@ module _ (workload : Workload) (courses later : List Course) (parties : List Par
     settled : HasSettledAsks (part_in new who) (heard_in new)
     settled heap ask armed heap_is = record {
       answered =
-          subst (λ (asks : List AskLog). list_any (grants_or_refuses ask.from ask.number) asks ≡ true) (sym (asks_shown new next.segs its_segs))
-          (answered_of workload.participants workload.absent workload.pools.items so.first next so.is_first runs who last late asked_there ask
-          (armed_shown new next.segs its_segs who heap ask armed));
+          subst (λ (asks : List AskLog). list_any (grants_or_refuses ask.from ask.number) asks ≡ true)
+          (sym (asks_shown new next.segs its_segs))
+          (answered_of workload.participants workload.absent workload.pools.items so.first next so.is_first runs who last late asked_there
+          ask (armed_shown new next.segs its_segs who heap ask armed));
       claims = λ entry generation among from number granted.
           subst (λ (holding : Option Holding). IsClaimedIn holding entry) (sym (unheld heap)) tt;
     }

@@ -63,7 +63,8 @@ pause_on known me until old new party steps moved world its sequence pauses =
     let there : IsWorldOf begins.behind me party (at_clock now world) =
     subst (λ (plain : HallView). IsWorldOf (record { plain = plain; servers = begins.behind.servers }) me party (at_clock now world)) (sym paused.is)
     (subst (λ (servers : List AloneView).
-    IsWorldOf (record { plain = after_pause me moved (Some pauses.next) now cut.mid.plain; servers = servers }) me party (at_clock now world))
+    IsWorldOf (record { plain = after_pause me moved (Some pauses.next) now cut.mid.plain; servers = servers }) me party
+    (at_clock now world))
     (sym paused.servers) (paused_world me pauses.next now moved cut.mid party world read.its)) in
     record {
       now = now;

@@ -141,8 +141,8 @@ module _ (known : AreServingsKnown) (set : Setting) (me : ℕ) (During : ℕ →
       (omega (arith, before.0), visit_on to mid new party before.1.world visit (apart to before.0 (omega arith)) before.1.its before.1.during)
 
 -- where it makes no step nothing of the world changes
-pub still_on : AreServingsKnown → (me : ℕ) (old new : SoloView) (party : Party) (steps : List MailStep) (world : World) → Sequence me old steps new
-    → steps ≡ [] → IsWorldOf old me party world → IsWorldOf new me party world
+pub still_on : AreServingsKnown → (me : ℕ) (old new : SoloView) (party : Party) (steps : List MailStep) (world : World)
+    → Sequence me old steps new → steps ≡ [] → IsWorldOf old me party world → IsWorldOf new me party world
 still_on known me old new party steps world sequence none its =
     let own = calls_own known.along me old new steps world.shared sequence (subst AreCalls (sym none) tt) its.order its.shared in
     let same : own.along.at ≡ world.shared = subst (λ (steps : List MailStep). MakesAll me steps world.shared own.along.at) none own.along.made in
@@ -226,7 +226,8 @@ module _ (known : AreServingsKnown) (set : Setting) (me : ℕ) (During : ℕ →
       record {
         «to» = record {
           world = world;
-          its = subst (λ (party : Party). IsWorldOf new me party world) (sym are.0) (still_on known me old new party steps world sequence are.1 its);
+          its = subst (λ (party : Party). IsWorldOf new me party world) (sym are.0)
+              (still_on known me old new party steps world sequence are.1 its);
           during = during;
           lighter = omega arith;
         };

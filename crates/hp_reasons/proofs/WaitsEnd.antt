@@ -30,7 +30,8 @@ module _ (known : AreServingsKnown) (set : Setting) (call : Asked) (sent until m
   unfolding AreTurns
   turns_all zero old new party after steps world its at_turn sequence are = record {
     world = world;
-    its = subst (λ (party : Party). IsWorldOf new me party world) (sym are.0) (still_on known me old new party steps world sequence are.1 its);
+    its = subst (λ (party : Party). IsWorldOf new me party world) (sym are.0)
+        (still_on known me old new party steps world sequence are.1 its);
     holds = at_turn;
   }
   turns_all (suc turns) old new party after steps world its at_turn sequence are =
