@@ -217,7 +217,7 @@ module _ (after : ParticipantView) (old new : ℕ → HeapPart) (log later : Lis
               (numbered_next after old log asks (call.Grow run) gives.Done heap next is out hand);
           earlier = hand.earlier ∙ ap (λ (index : ℕ). (old index).entries) (sym index_is) ∙ sym (entries next.plain.index);
           held = subst (λ (holding : Option Holding). IsHeldWith next holding) (sym holds) brought;
-          sound = calls_keep_sound (caller_of after) (call.Grow run) answer heap next hand.sound is;
+          sound = calls_keep_sound (caller_of after) (call.Grow run) gives.Done heap next hand.sound is;
           its_socket = call_serves (caller_of after) (call.Grow run) gives.Done heap next is ∙ hand.its_socket
               ∙ ap (λ (index : ℕ). (old index).serves) (sym index_is) ∙ sym (serves next.plain.index);
           sockets = λ index. serves index ∙ hand.sockets index;

@@ -1,11 +1,17 @@
 -- It asked as what serves for it does, and its asks are settled.
-use Rattle.std.proofs.Common.{subst}
+use Rattle.std.proofs.Common.{subst, sym}
 use Rattle.std.specs.Prelude.{IfOk}
 use Rattle.hp_hall.specs.HallState.{HasMapped}
 use Rattle.hp_serve.specs.AskSteps.{AsksIn}
 use Rattle.hp_serve.specs.Asking.{HasSettledAsks}
 use Rattle.hp_proc.specs.ParticipantView.{ParticipantView}
 use Rattle.hp_proc.proofs.participant.Participant.ask.Goals as goal
+
+pub ask-requires-clause-settled : goal.ask-requires-clause-settled
+ask-requires-clause-settled g c =
+    let old = g.H.Hall.state c.args.hall.now in
+    subst (λ (doer : ParticipantView). HasSettledAsks (old.part doer.party.me) (old.heard doer.party.me)) (sym c.self.view_is)
+    c.requires.settled
 
 pub returns-clause-asks : goal.returns-clause-asks
 returns-clause-asks g c =
