@@ -126,7 +126,9 @@ module _ (me : ℕ) (doer : ParticipantView) (request : Request) (tag : Tag) (ad
 
 -- what it answers is that
 pub lies_so : (me : ℕ) (state : HallState) (given answer : Answer) → IsMapped me state given → Some given ≡ Some answer → IsMapped me state answer
-lies_so me state given answer lies same = subst (IsMapped me state) cc lies
+lies_so me state given answer lies same =
+    let is : given ≡ answer = cc in
+    subst (λ (answer : Answer). IsMapped me state answer) is lies
 
 -- a heap that is passed answers nothing
 pub lies_none : (me : ℕ) (state : HallState) (answer : Answer) → None ≡ Some answer → IsMapped me state answer
@@ -134,7 +136,7 @@ lies_none me state answer same = absurd cc
 
 -- where its own table is known by the same it is so still
 pub lies_still : (me : ℕ) (old new : HallState) (given : Answer) → TableStays me old new → IsMapped me old given → IsMapped me new given
-lies_still me old new (answer.Address address) stays lies joined =
+lies_still me old new (answer.Address address) stays lies = λ joined.
     subst (λ (log : List LogRecord). LiesIn (rows_known log (new.own me)) address) (sym stays.seen)
     (subst (λ (own : Own). LiesIn (rows_known (old.seen me) own) address) (sym stays.own) (lies (sym stays.joined ∙ joined)))
 lies_still me old new _ stays lies = lies

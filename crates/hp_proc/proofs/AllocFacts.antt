@@ -168,10 +168,14 @@ module _ (line : Line) (label : Part) (size : ℕ) (options : Options) (its_act 
         bad_differs kind address equal = cc
 
     module _ (request : Request) (accepted : refusal_of size options.align options.bound ≡ None)
-        (has : HasRequest (act.Alloc label size options) (Some request)) (heap : ℕ) (answer : Answer) (mid : Moment)
+        (has : HasRequest (act.Alloc label size options) (Some request)) (heap : ℕ) (answer : Answer) (doer : ParticipantView)
+        (parts : ℕ → HeapPart) (log : List LogRecord) (asks : List AskLog)
         (brings : Brings heap count did (serving old.context.pools request (tag_of line)
         (heaps_for old.party.socket (socket_heaps old.context.pools) (option_map (λ name. name.text) options.heap) options.socket))
-        answer old mid) where
+        answer old (moment_of doer parts log asks)) where
+      abbrev mid : Moment
+      mid = moment_of doer parts log asks
+
       its_tree : doing_of line line.act (facts_for old.party.socket old.context (Some request))
           ≡ serving old.context.pools request (tag_of line)
           (heaps_for old.party.socket (socket_heaps old.context.pools) (option_map (λ name. name.text) options.heap) options.socket)

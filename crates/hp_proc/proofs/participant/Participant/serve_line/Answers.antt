@@ -109,7 +109,7 @@ returns-clause-does g c =
     line_answered line asks.label asks.size options asks.its_act
     (moment doer.party.me doer old) c.requires.attached
     old.count (did_in doer.party.me old new) request asks.accepted (λ accepted. (request, refl, asks.is)) heap answer
-    (moment doer.party.me mid new) brings c.note_answer.new.self
+    mid (new.part doer.party.me) (new.seen doer.party.me) (new.heard doer.party.me) brings c.note_answer.new.self
     (ap (λ (context : Context). context.standing) c.serve_request.ensures.idle.context ∙ ap (λ (who : ParticipantView). who.context.standing) same)
     c.in_ok-note_answer.ensures.noted
 
