@@ -8,4 +8,5 @@ mod SentLemmas
 mod GatherLemmas
 pub mod PassLaws
 mod WeaveLemmas
+mod WriteLemmas
 mod ProgramLemmas

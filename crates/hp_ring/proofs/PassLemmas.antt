@@ -1,9 +1,10 @@
 -- How passes are made, take, and meet.
 use Rattle.std.proofs.Common.{◌≡◌, ℕ, zero, suc, ◌+◌, true, List, [], ◌∷◌, ◌++◌, map, append_assoc, append-nil, refl, sym, ap, subst, ◌∙◌, arith}
-use Rattle.std.specs.Prelude.{Option, Some, None, IfSome}
+use Rattle.std.specs.Prelude.{Option, Some, None, IfNone, IfSome, Result, Ok, Err, OnErr, OnOk}
 use Rattle.std.specs.List.{range_with_len, Contains}
 use Rattle.std.proofs.lemmas.List.FromFn.{map-range_with_len_more}
 use Rattle.atomic_table.specs.Seated.{TableId}
+use Rattle.crossbeam_queue.specs.Fifo.{Held}
 use Rattle.crossbeam_queue.specs.Passes.{view}
 use Rattle.hp_ring.specs.declared.send_pass.SendPass.TheInside.{Inside}
 use Rattle.hp_ring.specs.declared.view.Sender.{Sender}
@@ -11,7 +12,7 @@ use Rattle.hp_ring.specs.declared.view.View.{View}
 use Rattle.hp_ring.specs.declared.take_pass.TakePass.TheInside.{Inside as TakeInside}
 use Rattle.hp_ring.specs.Bulks.{BulkView, bulk, bulks_of}
 use Rattle.hp_ring.specs.PassInside.{send_view, take_view}
-use Rattle.hp_ring.specs.PassViews.{AreSenders, RingView, SendView, TakeView, new_sender, after_put as put_view, after_take as take_after}
+use Rattle.hp_ring.specs.PassViews.{AreSenders, RingView, SendView, TakeView, WasEmpty, WasFull, new_sender, after_put as put_view, after_take as take_after}
 use Rattle.hp_ring.specs.Views.{HasAllOf, HasTakenTo, Shows, ShowsBoth, after_put, after_take, both_senders, first_view, sender, sender_of, with_sender}
 use Rattle.hp_ring.proofs.OfSender.{bulks_of-append}
 
@@ -82,11 +83,48 @@ put_is a b x words table is bulk_is =
     (λ i. record { ring = table i; who = (sender_of (is i)).who; sent = (sender_of (is i)).sent })
     ∙ ap (λ (y : BulkView). put_view y (send_view a)) bulk_is
 
+-- nothing was put
+pub nothing_put : (a b : Inside) → b.token.table_id ≡ a.token.table_id → view b.token ≡ view a.token → send_view b ≡ send_view a
+nothing_put a b table is = λ i. record { ring = table i; who = (sender_of (is i)).who; sent = (sender_of (is i)).sent }
+
+-- there was no room for it
+pub was_full : (ring : RingView) (a : Inside) (n : ℕ) → n ≡ ring.slots → (view a.token).senders ≡ sender_of (view a.token) ∷ []
+    → Held n (Shows (view a.token)) → WasFull ring (send_view a)
+was_full ring a n slots one held =
+    let shows = held.2 in (
+      held.0,
+      held.1 ∙ slots,
+      record {
+        before = shows.before;
+        in_order = shows.in_order (sender_of (view a.token))
+            (subst (λ (l : List Sender). Contains l (sender_of (view a.token))) (sym one) (first_in (sender_of (view a.token)) []));
+      },
+    )
+
+-- by the two outcomes of a put
+pub on_ok : {T E : Type 0} (r : Result T E) (P Q : Type 0) → (P → Q) → OnOk r P → OnOk r Q
+on_ok (Ok x) P Q so is = so is
+on_ok (Err e) P Q so is = tt
+
+pub on_err : {T E : Type 0} (r : Result T E) (P Q : Type 0) → (P → Q) → OnErr r P → OnErr r Q
+on_err (Ok x) P Q so is = tt
+on_err (Err e) P Q so is = so is
+
 -- a bulk was taken, where there was one
 pub took_is : (a b : TakeInside) (taken : Option BulkView) → b.token.table_id ≡ a.token.table_id
     → IfSome taken (λ x. view b.token ≡ after_take x (view a.token)) → IfSome taken (λ x. take_view b ≡ take_after x (take_view a))
 took_is a b None table is = tt
 took_is a b (Some x) table is = λ i. record { ring = table i; taken = (is i).taken }
+
+-- where there was none, nothing was taken
+pub took_none : (a b : TakeInside) (taken : Option BulkView) → b.token.table_id ≡ a.token.table_id
+    → IfNone taken ((view b.token ≡ view a.token) × Held 0 (Shows (view a.token))) → IfNone taken ((take_view b ≡ take_view a) × WasEmpty (take_view a))
+took_none a b None table had =
+    let same = had.0 in (
+      (λ i. record { ring = table i; taken = (same i).taken }),
+      ([], refl, ((λ (who : ℕ). bulks_of who ((take_view a).taken ++ [])), λ (who : ℕ). refl)),
+    )
+took_none a b (Some x) table had = tt
 
 -- what was taken of a sender, and then what is there of it, is what it has put
 pub met : (s : Sender) (v : View) → v.takes ≡ true → ShowsBoth s v → (bulks : List BulkView) × (bulks_of s.who v.taken ++ bulks_of s.who bulks ≡ s.sent)

@@ -1,8 +1,9 @@
 -- What a sender has put, and a front of it in which its end is.
-use Rattle.std.proofs.Common.{◌≡◌, ◌≢◌, ℕ, zero, suc, ◌+◌, ◌<◌, ◌≤◌, List, [], ◌∷◌, ◌++◌, length, get_or, take, drop, length-append, append-nil, refl, sym, ap, subst, ◌∙◌, arith}
+use Rattle.std.proofs.Common.{◌≡◌, ◌≢◌, ℕ, zero, suc, ◌+◌, ◌<◌, ◌≤◌, List, [], ◌∷◌, ◌++◌, length, min, get_or, take, drop, length-append, append-nil, refl, sym, ap, subst, ◌∙◌, arith}
 use Rattle.std.specs.List.{All, Contains, flat_map}
+use Rattle.std.proofs.Math.Nat.{le-min, min-le_left}
 use Rattle.std.proofs.Math.Seq.{take-add}
-use Rattle.std.proofs.lemmas.List.{length-take-le, nil_from_length, take_all}
+use Rattle.std.proofs.lemmas.List.{nil_from_length, take_all}
 use Rattle.std.proofs.lemmas.List.Concat.{flat_map-append}
 use Rattle.std.proofs.lemmas.List.Elements.{All-append, All-cons, All-head, All-nil, All-tail}
 use Rattle.hp_ring.specs.Bulks.{BulkView, bulk}
@@ -55,9 +56,16 @@ pub record AreSentSoFar (words : List ℕ) (bulks : List BulkView) : Type 0 wher
 pub sent_none : (words : List ℕ) → AreSentSoFar (take 0 words) []
 sent_none words = record { some = All-nil (λ (b : BulkView). b.words ≢ []); joined = refl }
 
--- a front of a list is as many of its elements as it has
-pub front_is : (n : ℕ) (xs front : List ℕ) → n ≤ length xs → front ≡ take n xs → front ≡ take (length front) xs
-front_is n xs front within is = is ∙ ap (λ (m : ℕ). take m xs) (sym (ap length is ∙ length-take-le n xs within))
+-- how many words the next bulk has: all that are left, and 32 at most
+pub next_some : (n left : ℕ) → n ≡ min left 32 → 0 < left → 0 < n
+next_some n left is some = let one = le-min {k = 1} {a = left} {b = 32} (omega (arith, some)) (omega arith) in omega (arith, is, one)
+
+pub next_within : (n left : ℕ) → n ≡ min left 32 → n ≤ left
+next_within n left is = let within = min-le_left left 32 in omega (arith, is, within)
+
+-- the next words are so many of those that are left
+pub next_is : (n at : ℕ) (words rest next : List ℕ) → rest ≡ drop at words → next ≡ take n rest → length next ≡ n → next ≡ take (length next) (drop at words)
+next_is n at words rest next rest_is is long = is ∙ (λ i. take (sym long i) (rest_is i))
 
 -- a bulk of the next words
 pub sent_more : (who at n : ℕ) (words next : List ℕ) (bulks more : List BulkView) → next ≡ take n (drop at words) → 0 < length next

@@ -38,7 +38,7 @@ pub bytes_gathered : (who : ℕ) (words : List ℕ) (sent taken : List BulkView)
     → HasGathered (bulks_of who taken) g → All (λ b. b < 256) words → g.whole ≡ true → g.bytes.items ≡ words
 bytes_gathered who words sent taken g passed gathered below whole =
     gathered.bytes whole
-    ∙ (ap (λ (l : List BulkView). bytes_of (words_of l)) passed.all ∙ (ap bytes_of (words_sent who words sent passed.sent) ∙ bytes_same words below))
+    ∙ (ap (λ (l : List BulkView). bytes_of (words_of l)) passed.all ∙ (ap bytes_of (words_sent who words sent passed.put) ∙ bytes_same words below))
 
 -- A sender and the taker have met, and its end was taken: so all that it has put was.
 passed : (who number : ℕ) (words : List ℕ) (sender : SendView) (taker : TakeView) (g : Gathered) → who ≡ number → sender.who ≡ who → AreSent who words sender.sent
@@ -46,7 +46,7 @@ passed : (who number : ℕ) (words : List ℕ) (sender : SendView) (taker : Take
 passed who number words sender taker g is same sent order gathered ended =
     let end = gathered.ended ended in
     record {
-      sent = sent;
+      put = sent;
       all = all_taken who words sender.sent (bulks_of who taker.taken) (bulks_of who order.0) end.0 sent
           (ap (λ (n : ℕ). bulks_of n taker.taken ++ bulks_of n order.0) (sym same) ∙ order.1)
           (subst (λ (n : ℕ). Contains (bulks_of n taker.taken) end.0) (sym is) end.1) end.2;
@@ -62,15 +62,15 @@ exchanged ring first second first' second' odd even before after fresh one other
   first_same = (one.0, one.1);
   second_same = (other.0, other.1);
   ring_same = taker ∙ (fresh.taker_ring ∙ sym fresh.first_ring);
-  first = passed first.who 0 odd first' after.pass after.first fresh.first_is one.1 one.2 met_first taken.taken.first taken.first_ended;
-  second = passed second.who 1 even second' after.pass after.second fresh.second_is other.1 other.2 met_second taken.taken.second taken.second_ended;
+  first_passed = passed first.who 0 odd first' after.pass after.first fresh.first_is one.1 one.2 met_first taken.taken.first taken.first_ended;
+  second_passed = passed second.who 1 even second' after.pass after.second fresh.second_is other.1 other.2 met_second taken.taken.second taken.second_ended;
   gathered = taken.taken;
 }
 
 -- all that two senders and a taker show of a text that went through a ring
 pub record CameThrough (text : List ℕ) (first second : SendView) (taken : Taken) : Type 0 where
-  pub first : HasPassed first.who (odd_lines text) first.sent taken.pass.taken
-  pub second : HasPassed second.who (even_lines text) second.sent taken.pass.taken
+  pub first_passed : HasPassed first.who (odd_lines text) first.sent taken.pass.taken
+  pub second_passed : HasPassed second.who (even_lines text) second.sent taken.pass.taken
   pub first_is : HasGathered (bulks_of first.who taken.pass.taken) taken.first
   pub second_is : HasGathered (bulks_of second.who taken.pass.taken) taken.second
   pub below : (i : ℕ) → get_or text i 0 < 256
@@ -86,7 +86,7 @@ fresh_passes ring first second taken two are taker first_none second_none = reco
   second_is = ap (λ (p : SendView). p.who) second_at;
   first_new = ap (λ (p : SendView). p.sent) first_at;
   second_new = ap (λ (p : SendView). p.sent) second_at;
-  taken = record {
+  gathered = record {
     first = subst (λ (p : TakeView). HasGathered (bulks_of 0 p.taken) taken.first) (sym taker) first_none;
     second = subst (λ (p : TakeView). HasGathered (bulks_of 1 p.taken) taken.second) (sym taker) second_none;
   };
@@ -106,10 +106,10 @@ pub came_through : (ring : RingView) (text odd even : List ℕ) (first second fi
     → odd ≡ odd_lines text → even ≡ even_lines text → ((i : ℕ) → get_or text i 0 < 256) → HasExchanged first second odd even first' second' after
     → CameThrough text first' second' after
 came_through ring text odd even first second first' second' before after fresh odd_is even_is below made = record {
-  first = subst (λ (who : ℕ). HasPassed who (odd_lines text) first'.sent after.pass.taken) (sym made.first_same.1)
-      (subst (λ (words : List ℕ). HasPassed first.who words first'.sent after.pass.taken) odd_is made.first);
-  second = subst (λ (who : ℕ). HasPassed who (even_lines text) second'.sent after.pass.taken) (sym made.second_same.1)
-      (subst (λ (words : List ℕ). HasPassed second.who words second'.sent after.pass.taken) even_is made.second);
+  first_passed = subst (λ (who : ℕ). HasPassed who (odd_lines text) first'.sent after.pass.taken) (sym made.first_same.1)
+      (subst (λ (words : List ℕ). HasPassed first.who words first'.sent after.pass.taken) odd_is made.first_passed);
+  second_passed = subst (λ (who : ℕ). HasPassed who (even_lines text) second'.sent after.pass.taken) (sym made.second_same.1)
+      (subst (λ (words : List ℕ). HasPassed second.who words second'.sent after.pass.taken) even_is made.second_passed);
   first_is = subst (λ (who : ℕ). HasGathered (bulks_of who after.pass.taken) after.first) (sym (made.first_same.1 ∙ fresh.first_is)) made.gathered.first;
   second_is = subst (λ (who : ℕ). HasGathered (bulks_of who after.pass.taken) after.second) (sym (made.second_same.1 ∙ fresh.second_is)) made.gathered.second;
   below = below;
@@ -119,13 +119,13 @@ module _ (text : List ℕ) (first second : SendView) (taken : Taken) (came : Cam
   both_are : taken.first.whole ≡ true → taken.second.whole ≡ true → taken.first.bytes.items ++ taken.second.bytes.items ≡ woven text
   both_are first_whole second_whole =
       let odd : taken.first.bytes.items ≡ odd_lines text
-      = bytes_gathered first.who (odd_lines text) first.sent taken.pass.taken taken.first came.first came.first_is (lines_below true text came.below) first_whole in
+      = bytes_gathered first.who (odd_lines text) first.sent taken.pass.taken taken.first came.first_passed came.first_is (lines_below true text came.below) first_whole in
       let even : taken.second.bytes.items ≡ even_lines text
-      = bytes_gathered second.who (even_lines text) second.sent taken.pass.taken taken.second came.second came.second_is (lines_below false text came.below) second_whole in
+      = bytes_gathered second.who (even_lines text) second.sent taken.pass.taken taken.second came.second_passed came.second_is (lines_below false text came.below) second_whole in
       λ i. odd i ++ even i
 
   went : WentThrough text first second taken.pass
-  went = record { odd = came.first.sent; even = came.second.sent; first_taken = came.first.all; second_taken = came.second.all }
+  went = record { odd = came.first_passed.put; even = came.second_passed.put; first_taken = came.first_passed.all; second_taken = came.second_passed.all }
 
   pub ends_through : (held held' : Option (List ℕ)) (failed : Type 0) (result : Status) → IsPutOut taken.first taken.second held held' failed result
       → EndsThrough text held held' failed result (first ∷ second ∷ []) taken.pass

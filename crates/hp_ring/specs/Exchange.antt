@@ -16,17 +16,17 @@ pub record AreFresh (ring : RingView) (first second : SendView) (taken : Taken) 
   pub second_is : second.who ≡ 1
   pub first_new : first.sent ≡ []
   pub second_new : second.sent ≡ []
-  pub taken : HasTaken taken
+  pub gathered : HasTaken taken
 
 -- what a sender has put was all taken, and is what was gathered of it where there was memory for that
 pub record HasPassed (who : ℕ) (words : List ℕ) (sent taken : List BulkView) : Type 0 where
-  pub sent : AreSent who words sent
+  pub put : AreSent who words sent
   pub all : bulks_of who taken ≡ sent
 
 pub record HasExchanged (first second : SendView) (odd even : List ℕ) (first' second' : SendView) (taken : Taken) : Type 0 where
   pub first_same : (first'.ring ≡ first.ring) × (first'.who ≡ first.who)
   pub second_same : (second'.ring ≡ second.ring) × (second'.who ≡ second.who)
   pub ring_same : taken.pass.ring ≡ first.ring
-  pub first : HasPassed first.who odd first'.sent taken.pass.taken
-  pub second : HasPassed second.who even second'.sent taken.pass.taken
+  pub first_passed : HasPassed first.who odd first'.sent taken.pass.taken
+  pub second_passed : HasPassed second.who even second'.sent taken.pass.taken
   pub gathered : HasTaken taken

@@ -33,7 +33,29 @@ pub(crate) fn exchange<R: Threads + Wait + Sync>(
 {
     let odd = words.odd.as_slice();
     let even = words.even.as_slice();
-    let (first, (second, taken)) = join(
+    let (first, (second, taken)) = by_three(rt, ring, first, second, taken, odd, even);
+    compared(ring, first, second, taken)
+}
+
+// The first sender, and beside it the second one and the taker.
+fn by_three<R: Threads + Wait + Sync>(
+    rt: &R,
+    ring: &Ring,
+    first: SendPass,
+    second: SendPass,
+    taken: Taken,
+    odd: &[u64],
+    even: &[u64],
+) -> (SendPass, (SendPass, Taken))
+    requires first { (first.ring ≡ ring.now.id) × (first.sent ≡ []) }
+    requires second { (second.ring ≡ ring.now.id) × (second.sent ≡ []) }
+    requires taken { (taken.pass.ring ≡ ring.now.id) × HasTaken taken }
+    ensures first { (result.0.ring ≡ first.ring) × (result.0.who ≡ first.who) × AreSent first.who odd.now result.0.sent }
+    ensures second { (result.1.0.ring ≡ second.ring) × (result.1.0.who ≡ second.who)
+        × AreSent second.who even.now result.1.0.sent }
+    ensures taken { (result.1.1.pass.ring ≡ taken.pass.ring) × HasTakenAll result.1.1 }
+{
+    join(
         rt,
         move || -> SendPass
             requires { (first.ring ≡ ring.now.id) × (first.sent ≡ []) }
@@ -44,8 +66,7 @@ pub(crate) fn exchange<R: Threads + Wait + Sync>(
             ensures { (result.0.ring ≡ second.ring) × (result.0.who ≡ second.who) × AreSent second.who even.entry.now result.0.sent
                 × (result.1.pass.ring ≡ taken.pass.ring) × HasTakenAll result.1 }
         { by_two(rt, ring, second, taken, even) },
-    );
-    compared(ring, first, second, taken)
+    )
 }
 
 // The second sender and the taker.

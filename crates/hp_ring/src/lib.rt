@@ -18,6 +18,7 @@ mod take_pass;
 mod taking;
 mod top_call;
 mod view;
+mod waiting;
 mod weaving;
 
 pub use bulk::{Bulk, MAX_WORDS};

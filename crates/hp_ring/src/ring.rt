@@ -70,10 +70,7 @@ impl Ring {
         ensures put { OnOk result (pass.new ≡ after_put (bulk pass.old.who words.now) pass.old) }
         ensures full { OnErr result ((pass.new ≡ pass.old) × WasFull self.now pass.old) }
     {
-        match put(rt, &self.queue, &mut pass.token, Bulk::new(pass.who, words)) {
-            Ok(()) => Ok(()),
-            Err(_) => Err(Full),
-        }
+        put(rt, &self.queue, &mut pass.token, Bulk::new(pass.who, words))
     }
 
     /// Takes the first bulk, where there is one. After rte_ring_dequeue.

@@ -8,8 +8,8 @@ ghost use Rattle.hp_ring.specs.Weave.{AreSent};
 use crate::bulk::MAX_WORDS;
 use crate::ring::Ring;
 use crate::send_pass::SendPass;
+use crate::waiting::pause;
 use std::sync::Wait;
-use std::thread;
 
 // Puts words in bulks as large as may be, and then one without words.
 pub(crate) fn send<R: Wait>(rt: &R, ring: &Ring, pass: SendPass, words: &[u64]) -> SendPass
@@ -36,10 +36,11 @@ fn put_whole<R: Wait>(rt: &R, ring: &Ring, pass: &mut SendPass, words: &[u64])
     requires few { length words.now ≤ MAX_WORDS }
     ensures { pass.new ≡ after_put (bulk pass.old.who words.now) pass.old }
 {
+    let mut tries = 0;
     for _ in rt.forever() {
         match ring.put(rt, pass, words) {
             Ok(()) => return,
-            Err(_) => thread::yield_now(),
+            Err(_) => pause(&mut tries),
         }
     }
     unreachable!()

@@ -5,12 +5,13 @@ ghost use Rattle.crossbeam_queue.specs.Passes.{IsPassOf, IsSamePass, ruled_capac
 ghost use Rattle.hp_ring.specs.Views.{HasAllOf, Shows, after_put, after_take, sender_of};
 
 use crate::bulk::Bulk;
+use crate::full::Full;
 use crate::roles::{Puts, Queue, Takes, Token};
 use std::sync::Wait;
 use std::thread;
 
 // Puts a bulk after all others, where there is room.
-pub(crate) fn put<R: Wait>(rt: &R, queue: &Queue, token: &mut Token, bulk: Bulk) -> Result<(), Bulk>
+pub(crate) fn put<R: Wait>(rt: &R, queue: &Queue, token: &mut Token, bulk: Bulk) -> Result<(), Full>
     requires queue { IsPassOf queue.now token.old }
     requires one { (view token.old).senders ≡ sender_of (view token.old) ∷ [] }
     requires from { bulk.sender ≡ (sender_of (view token.old)).who }
@@ -19,7 +20,10 @@ pub(crate) fn put<R: Wait>(rt: &R, queue: &Queue, token: &mut Token, bulk: Bulk)
     ensures err { OnErr result ((view token.new ≡ view token.old)
         × Held (ruled_capacity queue.now) (Shows (view token.old))) }
 {
-    queue.push_as::<Puts, R>(rt, token, bulk)
+    match queue.push_as::<Puts, R>(rt, token, bulk) {
+        Ok(()) => Ok(()),
+        Err(_) => Err(Full),
+    }
 }
 
 // Takes the first bulk, where there is one.

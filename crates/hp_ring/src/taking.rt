@@ -6,8 +6,8 @@ use crate::bulk::Bulk;
 use crate::gathering::{Gathered, add};
 use crate::ring::Ring;
 use crate::take_pass::TakePass;
+use crate::waiting::pause;
 use std::sync::Wait;
-use std::thread;
 
 // The taker's pass, and what it has gathered of the first sender and of the second.
 #[derive(Drop)]
@@ -25,17 +25,18 @@ pub(crate) fn take_both<R: Wait>(rt: &R, ring: &Ring, taken: Taken) -> Taken
     ensures taken { HasTakenAll result }
 {
     let mut taken = taken;
+    let mut tries = 0;
     for _ in rt.forever() {
         if taken.first.ended && taken.second.ended {
             return taken;
         }
-        take_next(rt, ring, &mut taken);
+        take_next(rt, ring, &mut taken, &mut tries);
     }
     unreachable!()
 }
 
 // Takes a bulk, where there is one.
-fn take_next<R: Wait>(rt: &R, ring: &Ring, taken: &mut Taken)
+fn take_next<R: Wait>(rt: &R, ring: &Ring, taken: &mut Taken, tries: &mut u8)
     requires ring { taken.old.pass.ring ≡ ring.now.id }
     requires taken { HasTaken taken.old }
     ensures ring { taken.new.pass.ring ≡ taken.old.pass.ring }
@@ -43,7 +44,7 @@ fn take_next<R: Wait>(rt: &R, ring: &Ring, taken: &mut Taken)
 {
     match ring.take(rt, &mut taken.pass) {
         Some(bulk) => gather(taken, &bulk),
-        None => thread::yield_now(),
+        None => pause(tries),
     }
 }
 

@@ -1,5 +1,5 @@
 -- The senders that went are in the view of the token.
-use Rattle.std.proofs.Common.{◌≡◌, ◌×◌, length}
+use Rattle.std.proofs.Common.{◌≡◌, length}
 use Rattle.std.specs.List.{Contains}
 use Rattle.crossbeam_queue.specs.Passes.{IsPassOf, IsSamePass, view}
 use Rattle.hp_ring.specs.PassViews.{SendView}

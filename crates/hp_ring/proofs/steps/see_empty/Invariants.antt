@@ -1,4 +1,4 @@
-use Rattle.std.proofs.Common.{◌≡◌, ◌×◌}
+use Rattle.std.proofs.Common.{◌≡◌}
 use Rattle.crossbeam_queue.specs.Passes.{IsPassOf, view}
 use Rattle.hp_ring.proofs.steps.see_empty.Given as goal
 

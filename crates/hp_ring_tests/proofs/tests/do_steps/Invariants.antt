@@ -1,5 +1,5 @@
 -- The passes stay with their ring and their sender.
-use Rattle.std.proofs.Common.{◌≡◌, ◌×◌}
+use Rattle.std.proofs.Common.{◌≡◌}
 use Rattle.hp_ring_tests.proofs.tests.do_steps.Given as goal
 
 abbrev pub invariant-loop-step : goal.invariant-loop-step
