@@ -94,17 +94,15 @@ fn through<R: Threads + Wait + Sync, K: Sink>(
     ensures passes { AreSenders ring.now result.1.items × (result.2.ring ≡ ring.now.id) }
     ensures faults { CountsFault (K.faults sink.old) (K.faults sink.new) (is_write_fault result.0) }
 {
-    let Ok(
-        Prepared {
-            words,
-            first,
-            second,
-            back,
-        },
-    ) = prepare(alloc, text)
-    else {
+    let Ok(prepared) = prepare(alloc, text) else {
         return (Status::OutOfMemory, senders, taker);
     };
+    let Prepared {
+        words,
+        first,
+        second,
+        back,
+    } = prepared;
     let (one, other) = two(senders);
     let taken = Taken {
         pass: taker,

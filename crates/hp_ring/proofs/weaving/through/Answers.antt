@@ -10,7 +10,7 @@ pub returns-clause-outcome : goal.returns-clause-outcome
 returns-clause-outcome g c =
     let ring = c.args.ring.now in
     let text = c.args.text.now in
-    let before : Taken = record { pass = c.args.taker; first = c.in-Ok.first; second = c.in-Ok.second } in
+    let before : Taken = record { pass = c.args.taker; first = c.in-Ok.prepared.first; second = c.in-Ok.prepared.second } in
     let first : SendView = c.two-one.result.0 in
     let second : SendView = c.two-one.result.1 in
     let first' : SendView = c.exchange-one.result.0 in
@@ -23,6 +23,6 @@ returns-clause-outcome g c =
     c.in-Ok.ensures.gathered.0 c.in-Ok.ensures.gathered.1 in
     subst (λ (l : List SendView). EndsThrough text held held' failed c.put_out-status.result l after.pass) (sym c.both.ensures)
     (ends_through text first' second' after
-    (came_through ring text c.in-Ok.words.odd.items c.in-Ok.words.even.items first second first' second' before after fresh
+    (came_through ring text c.in-Ok.prepared.words.odd.items c.in-Ok.prepared.words.even.items first second first' second' before after fresh
     c.in-Ok.ensures.words.0 c.in-Ok.ensures.words.1 (λ i. omega (arith, c.type_inv.text i)) c.exchange-one.ensures)
     held held' failed c.put_out-status.result c.put_out-status.ensures.outcome)
