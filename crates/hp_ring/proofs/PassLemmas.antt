@@ -12,7 +12,7 @@ use Rattle.hp_ring.specs.declared.view.View.{View}
 use Rattle.hp_ring.specs.declared.take_pass.TakePass.TheInside.{Inside as TakeInside}
 use Rattle.hp_ring.specs.Bulks.{BulkView, bulk, bulks_of}
 use Rattle.hp_ring.specs.PassInside.{send_view, take_view}
-use Rattle.hp_ring.specs.PassViews.{AreSenders, RingView, SendView, TakeView, WasEmpty, WasFull, new_sender, after_put as put_view, after_take as take_after}
+use Rattle.hp_ring.specs.PassViews.{AreSenders, RingView, SendView, WasEmpty, WasFull, new_sender, after_put as put_view, after_take as take_after}
 use Rattle.hp_ring.specs.Views.{HasAllOf, HasTakenTo, Shows, ShowsBoth, after_put, after_take, both_senders, first_view, sender, sender_of, with_sender}
 use Rattle.hp_ring.proofs.OfSender.{bulks_of-append}
 

@@ -1,5 +1,5 @@
 -- What words ask for, and which statuses a text that was read can end with.
-use Rattle.std.proofs.Common.{◌≡◌, ◌≢◌, ℕ, Bool, false, eqb, eq-eqb, ne_eqb, List, [], length, get_or, refl, sym, ◌∙◌}
+use Rattle.std.proofs.Common.{◌≡◌, ◌≢◌, ℕ, false, eqb, eq-eqb, ne_eqb, List, [], length, get_or, refl, sym, ◌∙◌}
 use Rattle.std.specs.Prelude.{Option, None}
 use Rattle.std.proofs.lemmas.Bool.{cond-true, cond-false}
 use Rattle.hp_base.specs.declared.status.Status.{Status}

@@ -1,5 +1,5 @@
 -- Each step of a ring keeps its rule.
-use Rattle.std.proofs.Common.{◌≡◌, ◌≢◌, ℕ, zero, suc, ◌+◌, ◌<◌, ◌≤◌, true, false, true≢false, inl, inr, List, [], ◌∷◌, ◌++◌, cond, eqb, eq-eqb, ne_eqb, length, set, refl, sym, ap, subst, ◌∙◌, arith}
+use Rattle.std.proofs.Common.{◌≡◌, ◌≢◌, ℕ, zero, suc, ◌+◌, ◌≤◌, true, false, true≢false, inl, inr, List, [], ◌∷◌, ◌++◌, cond, eqb, eq-eqb, ne_eqb, length, set, refl, sym, ap, subst, ◌∙◌, arith}
 use Rattle.std.specs.List.{Contains}
 use Rattle.std.proofs.lemmas.List.{append_assoc, append-nil}
 use Rattle.std.proofs.lemmas.List.Elements.{Contains-append_cases}
@@ -7,7 +7,7 @@ use Rattle.std.proofs.lemmas.Bool.{cond-true, cond-false}
 use mathlib.Core.Option.{some}
 use lib.ListN.{get_elem?}
 use Rattle.crossbeam_queue.specs.Fifo.{Pushes, Pops, Forks, Merges, Learns}
-use Rattle.crossbeam_queue.proofs.Lists.{at_set, at_snoc, set_else}
+use Rattle.crossbeam_queue.proofs.Lists.{at_set, set_else}
 use Rattle.hp_ring.specs.Bulks.{BulkView, bulks_of}
 use Rattle.hp_ring.specs.declared.view.Sender.{Sender}
 use Rattle.hp_ring.specs.declared.view.View.{View}

@@ -1,5 +1,5 @@
 -- What came through a ring, and what was written of it.
-use Rattle.std.proofs.Common.{◌≡◌, ℕ, suc, ◌<◌, get_or, length, map, Bool, true, false, List, [], ◌∷◌, ◌++◌, refl, sym, ap, subst, ◌∙◌}
+use Rattle.std.proofs.Common.{◌≡◌, ℕ, suc, ◌<◌, get_or, map, Bool, true, false, List, [], ◌∷◌, ◌++◌, refl, sym, ap, subst, ◌∙◌}
 use Rattle.std.specs.Prelude.{Option}
 use Rattle.std.specs.List.{All, Contains, range_with_len}
 use Rattle.std.proofs.lemmas.List.Elements.{All-append, All-cons, All-nil}
@@ -13,8 +13,8 @@ use Rattle.hp_ring.specs.Bulks.{BulkView, bulks_of}
 use Rattle.hp_ring.specs.Exchange.{AreFresh, HasExchanged, HasPassed}
 use Rattle.hp_ring.specs.Gathering.{HasGathered, bytes_of}
 use Rattle.hp_ring.specs.PassViews.{RingView, SendView, TakeView, WasInOrder, new_sender, new_senders, new_taker}
-use Rattle.hp_ring.specs.Program.{EndsRead, EndsThrough, EndsWeave, HaveWoven, IsPutOut}
-use Rattle.hp_ring.specs.Taking.{HasTaken, HasTakenAll}
+use Rattle.hp_ring.specs.Program.{EndsRead, EndsThrough, EndsWeave, IsPutOut}
+use Rattle.hp_ring.specs.Taking.{HasTakenAll}
 use Rattle.hp_ring.specs.Weave.{AreSent, WentThrough, even_lines, every_other, kept, lines_of, odd_lines, own_after, words_of, woven}
 use Rattle.hp_ring.proofs.GatherLemmas.{bytes_same}
 use Rattle.hp_ring.proofs.LineLemmas.{next_byte}

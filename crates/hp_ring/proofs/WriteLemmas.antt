@@ -1,5 +1,5 @@
 -- Two texts that are written one after the other.
-use Rattle.std.proofs.Common.{◌<◌, ◌+◌, ℕ, List, ◌++◌, length, take, append_assoc, sym, ap, subst, ◌∙◌, inl, inr, arith}
+use Rattle.std.proofs.Common.{◌+◌, ℕ, List, ◌++◌, length, take, append_assoc, sym, ap, subst, ◌∙◌, inl, inr, arith}
 use Rattle.std.specs.Prelude.{Option, Some, None, Result, Ok, Err, OnErr}
 use Rattle.std.specs.Option.{option_map}
 use Rattle.std.proofs.Math.Seq.{take-append-add, take-append_seam}

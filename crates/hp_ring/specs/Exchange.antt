@@ -2,8 +2,7 @@
 use Rattle.std.specs.Prelude.{◌≡◌, ℕ, List, []}
 use Rattle.hp_ring.specs.declared.taking.Taken.{Taken}
 use Rattle.hp_ring.specs.Bulks.{BulkView, bulks_of}
-use Rattle.hp_ring.specs.Gathering.{bytes_of}
-use Rattle.hp_ring.specs.PassViews.{RingView, SendView, TakeView}
+use Rattle.hp_ring.specs.PassViews.{RingView, SendView}
 use Rattle.hp_ring.specs.Taking.{HasTaken}
 use Rattle.hp_ring.specs.Weave.{AreSent}
 

@@ -148,7 +148,16 @@ fn woven(alloc: Global, text: &[u8]) -> Result<Vec<u8>, AllocError> {
 fn sends_a_mebibyte_of_lines_by_one_slot(rt: HostRuntime) -> Result<(), Fail> {
     let text = lines(rt.alloc(), LIMIT)?;
     let wanted = woven(rt.alloc(), text.as_slice())?;
-    assert!(rt; ends(&rt, rt.alloc(), "1", text.as_slice(), Status::Ok, wanted.as_slice())?);
+    assert!(rt;
+        ends(
+            &rt,
+            rt.alloc(),
+            "1",
+            text.as_slice(),
+            Status::Ok,
+            wanted.as_slice()
+        )?
+    );
     Ok(())
 }
 

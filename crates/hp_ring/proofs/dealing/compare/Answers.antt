@@ -1,4 +1,4 @@
-use Rattle.std.proofs.Common.{◌≡◌, ◌∷◌, [], ◌++◌, List, ap, ◌∙◌, arith}
+use Rattle.std.proofs.Common.{◌∷◌, [], ◌++◌, List, ap, ◌∙◌, arith}
 use Rattle.std.specs.List.{Contains}
 use Rattle.crossbeam_queue.specs.Passes.{view}
 use Rattle.hp_ring.specs.declared.view.Sender.{Sender}

@@ -1,7 +1,7 @@
 use Rattle.std.proofs.Common.{ap, ◌∙◌}
 use Rattle.crossbeam_queue.specs.Passes.{view}
 use Rattle.hp_ring.specs.PassViews.{SendView}
-use Rattle.hp_ring.specs.Views.{sender, sender_of, with_sender}
+use Rattle.hp_ring.specs.Views.{sender, with_sender}
 use Rattle.hp_ring.proofs.PassLemmas.{gathered_one}
 use Rattle.hp_ring.proofs.RingSteps.{may_join}
 use Rattle.hp_ring.proofs.dealing.gather_one.Goals as goal

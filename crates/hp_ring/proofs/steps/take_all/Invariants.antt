@@ -1,5 +1,5 @@
 -- What came so far is in the vector.
-use Rattle.std.proofs.Common.{◌≡◌, ◌≤◌, ◌-◌, ◌++◌, vec_capacity, vec_len}
+use Rattle.std.proofs.Common.{◌≤◌, ◌-◌, vec_capacity, vec_len}
 use Rattle.crossbeam_queue.specs.Passes.{IsPassOf, ruled_capacity, view}
 use Rattle.hp_ring.specs.Views.{HasTakenTo}
 use Rattle.hp_ring.proofs.steps.take_all.Given as goal
