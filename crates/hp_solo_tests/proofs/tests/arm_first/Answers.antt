@@ -18,8 +18,8 @@ arm-requires g c =
           (holds_it me old mid c.take.result is.took is.slots is.others);
     }
 
-pub returns-in_Ok : goal.returns-in_Ok
-returns-in_Ok g c =
+pub returns-in-Ok : goal.returns-in-Ok
+returns-in-Ok g c =
     let me = c.args.me in
     let old = g.H.Hall.state c.args.hall.now in
     let mid = g.H.Hall.state c.take.new.self in
@@ -32,8 +32,8 @@ returns-in_Ok g c =
       goes_on = g.met.H.Hall.goes_on_then _ _ _ c.take.ensures.goes_on c.arm.ensures.goes_on;
     }
 
-pub returns-in_Err : goal.returns-in_Err
-returns-in_Err g c =
+pub returns-in-Err : goal.returns-in-Err
+returns-in-Err g c =
     let me = c.args.me in
     let old = g.H.Hall.state c.args.hall.now in
     let mid = g.H.Hall.state c.take.new.self in
