@@ -36,3 +36,4 @@ pub mod Said
 pub mod Draws
 pub mod Generator
 pub mod GeneratedText
+pub mod Generated

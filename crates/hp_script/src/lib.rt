@@ -45,7 +45,7 @@ pub use bad_kind::BadKind;
 pub use generating::generate;
 pub use labels::maker_of;
 pub use later::{built_law, first_later};
-pub use laws::{lines_law, once_law, reading_law, verbs_law};
+pub use laws::{generated_law, lines_law, once_law, reading_law, verbs_law};
 pub use line::{Act, Line};
 pub use maker_index::MakerIndex;
 pub use options::{Options, SocketChoice};
