@@ -98,9 +98,9 @@ verb_word word filled short visible = record { filled = filled; short = short; v
 
 act_are_words : (deed : DrawnAct) → FitsAct deed → AreWords (act_words deed)
 act_are_words (drawn.Alloc label size socket) fits =
-    (verb_word (codes "alloc") (omega arith) (omega arith) refl, label_word label fits.0, size_word size fits.1, socket_word socket fits.2, tt)
-act_are_words (drawn.Free label) fits = (verb_word (codes "free") (omega arith) (omega arith) refl, label_word label fits, tt)
-act_are_words (drawn.Resize label size) fits = (verb_word (codes "resize") (omega arith) (omega arith) refl, label_word label fits.0, size_word size fits.1, tt)
+    (verb_word (codes "alloc") (omega arith) (omega arith) refl, (label_word label fits.0, (size_word size fits.1, (socket_word socket fits.2, tt))))
+act_are_words (drawn.Free label) fits = (verb_word (codes "free") (omega arith) (omega arith) refl, (label_word label fits, tt))
+act_are_words (drawn.Resize label size) fits = (verb_word (codes "resize") (omega arith) (omega arith) refl, (label_word label fits.0, (size_word size fits.1, tt)))
 
 pub line_are_words : (line : DrawnLine) → FitsLine line → IsWord (words_of line).first × AreWords (words_of line).more
 line_are_words line fits = let party = fits.party in (decimal_word line.participant (omega (arith, party)), act_are_words line.act fits.act)
