@@ -66,10 +66,14 @@ all_are_words lines fits =
     let pool = setup_word (codes "pool") (omega arith) (omega arith) refl in
     let size = setup_word (codes "2M") (omega arith) (omega arith) refl in
     let pages = setup_word (codes "1024") (omega arith) (omega arith) refl in (
-      (setup_word (codes "participants") (omega arith) (omega arith) refl, setup_word (codes "4") (omega arith) (omega arith) refl, tt),
-      (pool, setup_word (codes "0") (omega arith) (omega arith) refl, size, pages, tt),
-      (pool, setup_word (codes "1") (omega arith) (omega arith) refl, size, pages, tt),
-      drawn_are_words lines fits,
+      (setup_word (codes "participants") (omega arith) (omega arith) refl, (setup_word (codes "4") (omega arith) (omega arith) refl, tt)),
+      (
+        (pool, (setup_word (codes "0") (omega arith) (omega arith) refl, (size, (pages, tt)))),
+        (
+          (pool, (setup_word (codes "1") (omega arith) (omega arith) refl, (size, (pages, tt)))),
+          drawn_are_words lines fits,
+        ),
+      ),
     )
 
 -- the lines of the text
