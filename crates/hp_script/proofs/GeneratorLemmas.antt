@@ -1,20 +1,16 @@
 -- What holds of the lines that the generator draws, along the labels that are live.
-use Rattle.std.proofs.Common.{◌≡◌, ℕ, zero, suc, ◌+◌, ◌<◌, ◌≤◌, Bool, true, false, ◌||◌, List, [], ◌∷◌, ◌++◌, length, get_or, take, drop, refl, cond, ◌⊎◌, ◌/◌, ◌^◌, inl, inr, arith}
+use Rattle.std.proofs.Common.{◌≡◌, ℕ, zero, suc, ◌+◌, ◌<◌, ◌≤◌, Bool, true, false, ◌||◌, List, [], ◌∷◌, ◌++◌, length, get_or, take, drop, refl, cond, ◌⊎◌, inl, inr, arith}
 use Rattle.std.specs.Prelude.{Option, Some, None, All, ⊤, nat_lt, ◌==◌}
 use Rattle.std.specs.List.{remove, AllByRecursion}
 use Rattle.std.proofs.lemmas.Bool.Decides.{nat_tests}
 use Rattle.std.proofs.lemmas.List.Elements.{All-push, All-append, All-take, All-drop}
-use Rattle.std.proofs.lemmas.Nat.{mod_below}
 use Rattle.hp_script.specs.Draws.{next_state, drawn}
 use Rattle.hp_script.specs.Generator.{Drawing, Turn, drawn_size, drawn_place, allocates, frees, resizes, behind_draw, turn_by, drawn_turn, drawn_line, behind_line, drawn_lines}
 use Rattle.hp_script.specs.declared.drawn_line.DrawnAct.{DrawnAct}
 use Rattle.hp_script.specs.declared.drawn_line.DrawnAct.TheVariants.{Alloc, Free, Resize}
 use Rattle.hp_script.specs.declared.drawn_line.DrawnLine.{DrawnLine}
+use Rattle.hp_script.proofs.DrawLemmas.{drawn_below}
 use Rattle.hp_script.proofs.DrawnLemmas.{FitsAct, FitsLine, label_drawn}
-
-pub drawn_below : (n state : ℕ) → 0 < n → drawn n state < n
-unfolding drawn
-drawn_below n state some = mod_below (next_state state / 2 ^ 33) n some
 
 -- the labels of an act: an allocation's is the number of its line, and another's is live
 abbrev pub IsActOver : (ℕ → Type 0) → ℕ → DrawnAct → Type 0

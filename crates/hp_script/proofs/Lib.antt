@@ -27,6 +27,7 @@ pub mod LawLemmas
 pub mod OnceLemmas
 pub mod DecimalLemmas
 pub mod SpacedLemmas
+pub mod DrawLemmas
 pub mod DrawnLemmas
 pub mod GeneratorLemmas
 pub mod GeneratedLemmas

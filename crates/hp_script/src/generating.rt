@@ -130,6 +130,7 @@ impl Generator {
     }
 
     // Draws a number below n.
+    #[tactic(auto, using(crate::proofs::DrawLemmas::draws, crate::proofs::DrawLemmas::drawn_below))]
     fn draw(&mut self, n: u64) -> u64
         requires { 0 < n }
         ensures value { result ≡ drawn n self.old.state }
@@ -142,7 +143,7 @@ impl Generator {
 }
 
 // The state behind a draw.
-#[tactic(auto, unfolding(crate::specs::Draws::next_state))]
+#[tactic(auto, using(crate::proofs::DrawLemmas::wrapped))]
 fn next_state(state: u64) -> u64
     ensures { result ≡ next_state state }
 {
