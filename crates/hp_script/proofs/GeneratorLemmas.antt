@@ -5,7 +5,7 @@ use Rattle.std.specs.List.{remove, AllByRecursion}
 use Rattle.std.proofs.lemmas.Bool.Decides.{nat_tests}
 use Rattle.std.proofs.lemmas.List.Elements.{All-push, All-append, All-take, All-drop}
 use Rattle.hp_script.specs.Draws.{next_state, drawn}
-use Rattle.hp_script.specs.Generator.{Drawing, Turn, drawn_size, drawn_place, allocates, frees, resizes, behind_draw, turn_by, drawn_turn, drawn_line, behind_line, drawn_lines}
+use Rattle.hp_script.specs.Generator.{Drawing, Turn, drawn_size, drawn_place, allocates, frees, resizes, behind_draw, is_allocating, turn_by, drawn_turn, drawn_line, behind_line, drawn_lines}
 use Rattle.hp_script.specs.declared.drawn_line.DrawnAct.{DrawnAct}
 use Rattle.hp_script.specs.declared.drawn_line.DrawnAct.TheVariants.{Alloc, Free, Resize}
 use Rattle.hp_script.specs.declared.drawn_line.DrawnLine.{DrawnLine}
@@ -35,9 +35,9 @@ module _ (L : ℕ → Type 0) where
   size_below state = let below = drawn_below 65536 state (omega arith) in omega (arith, below)
 
   turn_is : (verb number : ℕ) (from : Drawing) → All L from.live → IsTurn L number (turn_by verb number from)
-  turn_is verb number from all = chosen (nat_lt verb 4 || (length from.live == 0)) (nat_lt verb 7) refl
+  turn_is verb number from all = chosen (is_allocating verb (length from.live)) (nat_lt verb 7) refl
     where
-      chosen : (first second : Bool) → (nat_lt verb 4 || (length from.live == 0)) ≡ first → IsTurn L number (cond first (allocates number from) (cond second (frees from) (resizes from)))
+      chosen : (first second : Bool) → is_allocating verb (length from.live) ≡ first → IsTurn L number (cond first (allocates number from) (cond second (frees from) (resizes from)))
       chosen true second is = record {
         act = (refl, size_below from.state, drawn_below 2 (next_state from.state) (omega arith));
         left = λ made. All-push L from.live number all (made refl);

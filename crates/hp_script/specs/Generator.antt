@@ -1,5 +1,5 @@
 -- The lines that the generator draws, one after another.
-use Rattle.std.specs.Prelude.{ℕ, zero, suc, ◌+◌, ◌||◌, ◌==◌, nat_lt, List, [], ◌∷◌, ◌++◌, length, slice_index, if◌then◌else◌}
+use Rattle.std.specs.Prelude.{ℕ, zero, suc, ◌+◌, Bool, ◌||◌, ◌==◌, nat_lt, List, [], ◌∷◌, ◌++◌, length, slice_index, if◌then◌else◌}
 use Rattle.std.specs.List.{remove}
 use Rattle.hp_script.specs.Draws.{next_state, drawn}
 use Rattle.hp_script.specs.declared.drawn_line.DrawnAct.{DrawnAct}
@@ -11,9 +11,12 @@ pub record Drawing : Type 0 where
   pub state : ℕ
   pub live : List ℕ
 
+abbrev pub standing : ℕ → List ℕ → Drawing
+standing state live = record { state = state; live = live }
+
 -- at the start no label is live
 abbrev pub opening : ℕ → Drawing
-opening start = record { state = start; live = [] }
+opening start = standing start []
 
 -- behind a draw
 abbrev pub behind_draw : Drawing → Drawing
@@ -23,9 +26,6 @@ behind_draw from = record { state = next_state from.state; live = from.live }
 pub record Turn : Type 0 where
   pub act : DrawnAct
   pub left : Drawing
-
-abbrev pub turn : DrawnAct → Drawing → Turn
-turn act left = record { act = act; left = left }
 
 -- a size in bytes
 abbrev pub drawn_size : ℕ → ℕ
@@ -61,9 +61,12 @@ resizes from = record {
 }
 
 -- of eight verbs four allocate, three free and one resizes; where no label is live, each allocates
+abbrev pub is_allocating : ℕ → ℕ → Bool
+is_allocating verb live = nat_lt verb 4 || (live == 0)
+
 abbrev pub turn_by : ℕ → ℕ → Drawing → Turn
 turn_by verb number from =
-    if nat_lt verb 4 || (length from.live == 0) then allocates number from
+    if is_allocating verb (length from.live) then allocates number from
     else (if nat_lt verb 7 then frees from else resizes from)
 
 -- a line draws one of four participants, its verb, and what that asks for

@@ -2,11 +2,11 @@
 
 ghost use Rattle.std.specs.Prelude.{◌≡◌, ◌<◌, IfOk};
 ghost use Rattle.hp_script.specs.Draws.{next_state, drawn};
+ghost use Rattle.hp_script.specs.Generator.{drawn_size, is_allocating};
 ghost use Rattle.hp_script.specs.GeneratedText.{generated_text};
 
 use crate::drawn_line::{DrawnAct, DrawnLine, put_line};
 use std::alloc::{AllocError, Global};
-use std::marker::Model;
 
 /// The lines that each text begins with.
 const SETUP: &[u8] = b"participants 4\npool 0 2M 1024\npool 1 2M 1024\n";
@@ -15,7 +15,10 @@ const SETUP: &[u8] = b"participants 4\npool 0 2M 1024\npool 1 2M 1024\n";
 pub fn generate(alloc: Global, start: u64, lines: u32) -> Result<Vec<u8>, AllocError>
     ensures { IfOk result (λ text. text.items ≡ generated_text start lines) }
 {
-    let mut generator = Generator::new(alloc, start);
+    let mut generator = Generator {
+        state: start,
+        live: Vec::new(alloc),
+    };
     let mut text = Vec::from_slice(alloc, SETUP)?;
     for before in 0..lines {
         let line = generator.line(before + 1)?;
@@ -27,49 +30,35 @@ pub fn generate(alloc: Global, start: u64, lines: u32) -> Result<Vec<u8>, AllocE
 // What stands between two lines.
 #[derive(Drop)]
 struct Generator {
+    // Where the draws stand.
     state: u64,
     // The labels that are live, each by the number of the line that makes it.
     live: Vec<u32>,
 }
 
-impl Model for Generator {
-    ghost use Rattle.hp_script.specs.Generator.{Drawing};
-
-    ghost Value = { Drawing };
-
-    ghost view = { λ a. record { state = a.state; live = a.live.items } };
-}
-
 impl Generator {
-    ghost use Rattle.std.specs.Prelude.{◌≡◌, ◌<◌, length, IfOk};
-    ghost use Rattle.hp_script.specs.Draws.{drawn};
-    ghost use Rattle.hp_script.specs.Generator.{opening, behind_draw, turn, drawn_size, allocates, frees, resizes, turn_by, drawn_line, behind_line};
-
-    fn new(alloc: Global, start: u64) -> Generator
-        ensures { result ≡ opening start }
-    {
-        Generator {
-            state: start,
-            live: Vec::new(alloc),
-        }
-    }
+    ghost use Rattle.std.specs.Prelude.{◌≡◌, ◌<◌, length, IfOk, OnOk};
+    ghost use Rattle.hp_script.specs.Generator.{standing, allocates, frees, resizes, turn_by, drawn_line, behind_line};
 
     // Draws a line.
     fn line(&mut self, number: u32) -> Result<DrawnLine, AllocError>
-        ensures value { IfOk result (λ line. line ≡ drawn_line number self.old) }
-        ensures behind { IfOk result (λ _. self.new ≡ behind_line number self.old) }
+        ensures line { IfOk result (λ line. line ≡ drawn_line number (standing self.old.state self.old.live.items)) }
+        ensures left { OnOk result (standing self.new.state self.new.live.items
+            ≡ behind_line number (standing self.old.state self.old.live.items)) }
     {
-        let participant = self.draw(4);
-        let verb = self.draw(8);
+        let participant = draw(&mut self.state, 4);
+        let verb = draw(&mut self.state, 8);
         let act = self.act(verb, number)?;
         Ok(DrawnLine { participant, act })
     }
 
     // Draws what a verb asks for.
     fn act(&mut self, verb: u64, number: u32) -> Result<DrawnAct, AllocError>
-        ensures { IfOk result (λ act. turn act self.new ≡ turn_by verb number self.old) }
+        ensures act { IfOk result (λ act. act ≡ (turn_by verb number (standing self.old.state self.old.live.items)).act) }
+        ensures left { OnOk result (standing self.new.state self.new.live.items
+            ≡ (turn_by verb number (standing self.old.state self.old.live.items)).left) }
     {
-        if verb < 4 || self.live.is_empty() {
+        if is_allocating(verb, self.live.len()) {
             self.alloc(number)
         } else if verb < 7 {
             Ok(self.free())
@@ -79,10 +68,12 @@ impl Generator {
     }
 
     fn alloc(&mut self, number: u32) -> Result<DrawnAct, AllocError>
-        ensures { IfOk result (λ act. turn act self.new ≡ allocates number self.old) }
+        ensures act { IfOk result (λ act. act ≡ (allocates number (standing self.old.state self.old.live.items)).act) }
+        ensures left { OnOk result (standing self.new.state self.new.live.items
+            ≡ (allocates number (standing self.old.state self.old.live.items)).left) }
     {
-        let size = self.size();
-        let socket = self.draw(2);
+        let size = draw_size(&mut self.state);
+        let socket = draw(&mut self.state, 2);
         self.live.push(number)?;
         Ok(DrawnAct::Alloc {
             label: number,
@@ -91,55 +82,67 @@ impl Generator {
         })
     }
 
+    #[tactic(auto, using(std::proofs::lemmas::List::get_or_read))]
     fn free(&mut self) -> DrawnAct
-        requires { 0 < length self.old.live }
-        ensures { turn result self.new ≡ frees self.old }
+        requires { 0 < length self.old.live.items }
+        ensures act { result ≡ (frees (standing self.old.state self.old.live.items)).act }
+        ensures left { standing self.new.state self.new.live.items
+            ≡ (frees (standing self.old.state self.old.live.items)).left }
     {
-        let place = self.place();
+        let place = draw_place(&mut self.state, self.live.len());
         let label = self.live.remove(place);
         DrawnAct::Free { label }
     }
 
+    #[tactic(auto, using(std::proofs::lemmas::List::get_or_read))]
     fn resize(&mut self) -> DrawnAct
-        requires { 0 < length self.old.live }
-        ensures { turn result self.new ≡ resizes self.old }
+        requires { 0 < length self.old.live.items }
+        ensures act { result ≡ (resizes (standing self.old.state self.old.live.items)).act }
+        ensures left { standing self.new.state self.new.live.items
+            ≡ (resizes (standing self.old.state self.old.live.items)).left }
     {
-        let place = self.place();
+        let place = draw_place(&mut self.state, self.live.len());
         let label = self.live[place];
-        let size = self.size();
+        let size = draw_size(&mut self.state);
         DrawnAct::Resize { label, size }
     }
+}
 
-    // Draws a place among the live labels.
-    fn place(&mut self) -> usize
-        requires { 0 < length self.old.live }
-        ensures value { result ≡ drawn (length self.old.live) self.old.state }
-        ensures within { result < length self.old.live }
-        ensures behind { self.new ≡ behind_draw self.old }
-    {
-        let live = self.live.len() as u64;
-        self.draw(live) as usize
-    }
+// Whether a verb allocates, with so many labels live.
+fn is_allocating(verb: u64, live: usize) -> bool
+    ensures { result ≡ is_allocating verb live }
+{
+    verb < 4 || live == 0
+}
 
-    // Draws a size in bytes.
-    fn size(&mut self) -> u64
-        ensures value { result ≡ drawn_size self.old.state }
-        ensures behind { self.new ≡ behind_draw self.old }
-    {
-        64 + self.draw(65_536)
-    }
+// Draws a place among so many live labels.
+fn draw_place(state: &mut u64, live: usize) -> usize
+    requires { 0 < live }
+    ensures value { result ≡ drawn live state.old }
+    ensures within { result < live }
+    ensures behind { state.new ≡ next_state state.old }
+{
+    draw(state, live as u64) as usize
+}
 
-    // Draws a number below n.
-    #[tactic(auto, using(crate::proofs::DrawLemmas::draws, crate::proofs::DrawLemmas::drawn_below))]
-    fn draw(&mut self, n: u64) -> u64
-        requires { 0 < n }
-        ensures value { result ≡ drawn n self.old.state }
-        ensures below { result < n }
-        ensures behind { self.new ≡ behind_draw self.old }
-    {
-        self.state = next_state(self.state);
-        (self.state >> 33) % n
-    }
+// Draws a size in bytes.
+fn draw_size(state: &mut u64) -> u64
+    ensures value { result ≡ drawn_size state.old }
+    ensures behind { state.new ≡ next_state state.old }
+{
+    64 + draw(state, 65_536)
+}
+
+// Draws a number below n.
+#[tactic(auto, using(crate::proofs::DrawLemmas::draws, crate::proofs::DrawLemmas::drawn_below))]
+fn draw(state: &mut u64, n: u64) -> u64
+    requires { 0 < n }
+    ensures value { result ≡ drawn n state.old }
+    ensures below { result < n }
+    ensures behind { state.new ≡ next_state state.old }
+{
+    *state = next_state(*state);
+    (*state >> 33) % n
 }
 
 // The state behind a draw.
