@@ -1,6 +1,6 @@
 -- The lines that the generator draws: as words, and what is read of each.
-use Rattle.std.proofs.Common.{◌≡◌, ℕ, ◌+◌, ◌^◌, ◌<◌, ◌≤◌, Bool, true, false, ◌&&◌, List, [], ◌∷◌, ◌++◌, length, refl, sym, ap, ◌∙◌, append_assoc, arith}
-use Rattle.std.specs.Prelude.{Option, Some, None, Ok, nat_le, nat_eq, cond, codes}
+use Rattle.std.proofs.Common.{◌≡◌, ℕ, ◌+◌, ◌^◌, ◌<◌, ◌≤◌, Bool, true, false, List, [], ◌∷◌, ◌++◌, length, refl, ap, ◌∙◌, append_assoc, arith}
+use Rattle.std.specs.Prelude.{Option, Some, None, Ok, nat_le, nat_eq, codes}
 use Rattle.std.specs.Fmt.{decimal}
 use Rattle.std.specs.List.{list_all}
 use Rattle.std.specs.Option.{option_map_or}
@@ -9,12 +9,12 @@ use Rattle.std.proofs.lemmas.Bool.Decides.{nat_tests}
 use Rattle.std.proofs.lemmas.Fmt.{decimal_digit, decimal_injective, length-decimal-le}
 use Rattle.std.proofs.lemmas.Slice.Eq.{bytes_eq-Decides}
 use Rattle.hp_script.specs.Part.{Part}
-use Rattle.hp_script.specs.Text.{placed, fields_of}
+use Rattle.hp_script.specs.Text.{placed}
 use Rattle.hp_script.specs.Words.{is_visible, IsWord}
 use Rattle.hp_script.specs.Numbers.{number}
 use Rattle.hp_script.specs.Options.{options_of, with_option, with_socket}
 use Rattle.hp_script.specs.Acts.{is_duplicate, is_unknown, add_act, add_line}
-use Rattle.hp_script.specs.Makers.{Makers, is_maker}
+use Rattle.hp_script.specs.Makers.{Makers, made_by, is_maker}
 use Rattle.hp_script.specs.Shapes.{shape_of, participant_line}
 use Rattle.hp_script.specs.ShapesMemory.{alloc_line, resize_line}
 use Rattle.hp_script.specs.ShapesHeaps.{name_line}
@@ -168,30 +168,38 @@ label_drawn _ = None
 abbrev pub makes_label : List ℕ → DrawnAct → Bool
 makes_label name deed = option_map_or (λ label. bytes_eq (label_text label) name) (label_drawn deed) false
 
-module _ (base : ℕ × ℕ) (at party : ℕ) (small : party < 2 ^ 64) (name : List ℕ) where
-  act_makes : (deed : DrawnAct) → FitsAct deed → is_maker (codes "alloc") name (record { start = at; text = spaced (decimal party) (act_words deed); base = base }) ≡ makes_label name deed
-  act_makes (drawn.Alloc label size socket) fits =
-      rw (fields_spaced base at (decimal party) (act_words (drawn.Alloc label size socket)) (decimal_word party small) (act_are_words (drawn.Alloc label size socket) fits), decimal_first party small) refl
-  act_makes (drawn.Free label) fits =
-      rw (fields_spaced base at (decimal party) (act_words (drawn.Free label)) (decimal_word party small) (act_are_words (drawn.Free label) fits), decimal_first party small) refl
-  act_makes (drawn.Resize label size) fits =
-      rw (fields_spaced base at (decimal party) (act_words (drawn.Resize label size)) (decimal_word party small) (act_are_words (drawn.Resize label size) fits), decimal_first party small) refl
+-- fields make a name with a verb
+abbrev makes_with : List ℕ → List ℕ → List Part → Bool
+makes_with verb name fields = option_map_or (λ made. bytes_eq made name) (made_by verb fields) false
 
-  act_no_zone : (deed : DrawnAct) → FitsAct deed → is_maker (codes "zone") name (record { start = at; text = spaced (decimal party) (act_words deed); base = base }) ≡ false
-  act_no_zone (drawn.Alloc label size socket) fits =
-      rw (fields_spaced base at (decimal party) (act_words (drawn.Alloc label size socket)) (decimal_word party small) (act_are_words (drawn.Alloc label size socket) fits), decimal_first party small) refl
-  act_no_zone (drawn.Free label) fits =
-      rw (fields_spaced base at (decimal party) (act_words (drawn.Free label)) (decimal_word party small) (act_are_words (drawn.Free label) fits), decimal_first party small) refl
-  act_no_zone (drawn.Resize label size) fits =
-      rw (fields_spaced base at (decimal party) (act_words (drawn.Resize label size)) (decimal_word party small) (act_are_words (drawn.Resize label size) fits), decimal_first party small) refl
+module _ (base : ℕ × ℕ) (at party : ℕ) (small : party < 2 ^ 64) (name : List ℕ) where
+  act_makes : (deed : DrawnAct) → makes_with (codes "alloc") name (placed base at (decimal party ∷ act_words deed)) ≡ makes_label name deed
+  act_makes (drawn.Alloc label size socket) = rw (decimal_first party small) refl
+  act_makes (drawn.Free label) = rw (decimal_first party small) refl
+  act_makes (drawn.Resize label size) = rw (decimal_first party small) refl
+
+  act_no_zone : (deed : DrawnAct) → makes_with (codes "zone") name (placed base at (decimal party ∷ act_words deed)) ≡ false
+  act_no_zone (drawn.Alloc label size socket) = rw (decimal_first party small) refl
+  act_no_zone (drawn.Free label) = rw (decimal_first party small) refl
+  act_no_zone (drawn.Resize label size) = rw (decimal_first party small) refl
+
+maker_with : (base : ℕ × ℕ) (at : ℕ) (line : DrawnLine) (verb name : List ℕ) → FitsLine line
+    → is_maker verb name (record { start = at; text = line_bytes (words_of line); base = base }) ≡ makes_with verb name (placed base at (decimal line.participant ∷ act_words line.act))
+maker_with base at line verb name fits =
+    let words = line_are_words line fits in
+    ap (makes_with verb name) (fields_spaced base at (decimal line.participant) (act_words line.act) words.0 words.1)
 
 pub line_makes : (base : ℕ × ℕ) (at : ℕ) (line : DrawnLine) (name : List ℕ) → FitsLine line
     → is_maker (codes "alloc") name (record { start = at; text = line_bytes (words_of line); base = base }) ≡ makes_label name line.act
-line_makes base at line name fits = let party = fits.party in act_makes base at line.participant (omega (arith, party)) name line.act fits.act
+line_makes base at line name fits =
+    let party = fits.party in
+    maker_with base at line (codes "alloc") name fits ∙ act_makes base at line.participant (omega (arith, party)) name line.act
 
 pub line_no_zone : (base : ℕ × ℕ) (at : ℕ) (line : DrawnLine) (name : List ℕ) → FitsLine line
     → is_maker (codes "zone") name (record { start = at; text = line_bytes (words_of line); base = base }) ≡ false
-line_no_zone base at line name fits = let party = fits.party in act_no_zone base at line.participant (omega (arith, party)) name line.act fits.act
+line_no_zone base at line name fits =
+    let party = fits.party in
+    maker_with base at line (codes "zone") name fits ∙ act_no_zone base at line.participant (omega (arith, party)) name line.act
 
 -- two numbers have different labels
 behind_first : (first : ℕ) (one other : List ℕ) → first ∷ one ≡ first ∷ other → one ≡ other

@@ -1,20 +1,18 @@
 -- The text that the generator writes is read as what was drawn.
-use Rattle.std.proofs.Common.{◌≡◌, ℕ, ◌+◌, ◌*◌, ◌<◌, ◌≤◌, Bool, true, false, ◌&&◌, ◌||◌, List, [], ◌∷◌, ◌++◌, length, map, refl, sym, ap, ◌∙◌, cond, inl, inr, append_assoc, length-append, arith}
-use Rattle.std.specs.Prelude.{Option, Some, None, Ok, All, nat_lt, not, is_some, is_none, codes}
+use Rattle.std.proofs.Common.{◌≡◌, ℕ, ◌+◌, ◌*◌, ◌<◌, ◌≤◌, true, false, List, [], ◌∷◌, ◌++◌, length, map, refl, sym, ap, ◌∙◌, inl, inr, append_assoc, length-append, arith}
+use Rattle.std.specs.Prelude.{Some, None, Ok, nat_lt, not, codes}
 use Rattle.std.specs.Fmt.{decimal}
 use Rattle.std.specs.List.{find, flat_map, list_all, AllByRecursion}
-use Rattle.std.specs.Option.{option_map, option_map_or}
-use Rattle.std.specs.Str.{bytes_eq}
+use Rattle.std.specs.Option.{option_map}
 use Rattle.std.proofs.lemmas.Bool.Decides.{nat_tests}
 use Rattle.std.proofs.lemmas.Fmt.{length-decimal-le as digits_below}
 use Rattle.std.proofs.lemmas.List.{append-nil}
 use Rattle.std.proofs.lemmas.List.Elements.{All-nil}
-use denote.Ref.{Bor}
 use Rattle.hp_script.specs.Part.{Part}
 use Rattle.hp_script.specs.Numbers.{number, numeral}
 use Rattle.hp_script.specs.Text.{parts_of, fields_of, lines_in, lines_of}
 use Rattle.hp_script.specs.Words.{is_visible, IsWord, tokens_in}
-use Rattle.hp_script.specs.Makers.{Makers, makers_of, is_maker, first_maker}
+use Rattle.hp_script.specs.Makers.{Makers, makers_of, first_maker}
 use Rattle.hp_script.specs.Acts.{is_duplicate, is_unknown}
 use Rattle.hp_script.specs.Later.{is_built_act, later_line}
 use Rattle.hp_script.specs.Setups.{nothing, set_up, set_participants, add_pool}
@@ -23,7 +21,7 @@ use Rattle.hp_script.specs.ShapesSetup.{participants_line, pool_line}
 use Rattle.hp_script.specs.Verbs.{setup_named}
 use Rattle.hp_script.specs.Reading.{said_step, judged, read_line}
 use Rattle.hp_script.specs.Workloads.{go_on, read_from, reading_at, reading_of}
-use Rattle.hp_script.specs.Generator.{opening, drawn_lines, generated_lines}
+use Rattle.hp_script.specs.Generator.{opening, generated_lines}
 use Rattle.hp_script.specs.GeneratedText.{setup_text, drawn_line_text, drawn_act_text, generated_text}
 use Rattle.hp_script.specs.Generated.{label_text, IsActAsDrawn, AreLinesAsDrawn, generated_pool, generated_reading, IsReadAsDrawn}
 use Rattle.hp_script.specs.declared.drawn_line.DrawnAct.{DrawnAct}
@@ -31,8 +29,7 @@ use Rattle.hp_script.specs.declared.drawn_line.DrawnAct.TheVariants as drawn
 use Rattle.hp_script.specs.declared.drawn_line.DrawnLine.{DrawnLine}
 use Rattle.hp_script.specs.declared.line.Line.{Line}
 use Rattle.hp_script.specs.declared.reader.Reader.{Reader}
-use Rattle.hp_script.proofs.StepLemmas.{with_line}
-use Rattle.hp_script.proofs.SpacedLemmas.{WordLine, line_bytes, AreWordLines, AreWords, word_text, word_parts, lines_words}
+use Rattle.hp_script.proofs.SpacedLemmas.{WordLine, line_bytes, AreWordLines, word_text, word_parts, lines_words}
 use Rattle.hp_script.proofs.DrawnLemmas.{FitsAct, FitsLine, words_of, line_text_words, line_are_words, act_at, said_act, reads_drawn, label_drawn, makes_label, line_makes, line_no_zone, other_label, same_label}
 use Rattle.hp_script.proofs.GeneratorLemmas.{IsActOver, AreNumbered, MakesAt, makes_later, makes_before, AreOver, lines_numbered, lines_fit, lines_over, length-drawn_lines}
 

@@ -1,11 +1,11 @@
 -- What holds of the lines that the generator draws, along the labels that are live.
-use Rattle.std.proofs.Common.{◌≡◌, ℕ, zero, suc, ◌+◌, ◌<◌, ◌≤◌, Bool, true, false, ◌||◌, List, [], ◌∷◌, ◌++◌, length, get_or, take, drop, refl, cond, ◌⊎◌, inl, inr, arith}
-use Rattle.std.specs.Prelude.{Option, Some, None, All, ⊤, nat_lt, ◌==◌}
+use Rattle.std.proofs.Common.{◌≡◌, ℕ, zero, suc, ◌+◌, ◌<◌, ◌≤◌, Bool, true, false, List, [], ◌∷◌, length, get_or, take, drop, refl, cond, ◌⊎◌, inl, inr, arith}
+use Rattle.std.specs.Prelude.{Some, All, ⊤, nat_lt}
 use Rattle.std.specs.List.{remove, AllByRecursion}
 use Rattle.std.proofs.lemmas.Bool.Decides.{nat_tests}
 use Rattle.std.proofs.lemmas.List.Elements.{All-push, All-append, All-take, All-drop}
 use Rattle.hp_script.specs.Draws.{next_state, drawn}
-use Rattle.hp_script.specs.Generator.{Drawing, Turn, drawn_size, drawn_place, allocates, frees, resizes, behind_draw, is_allocating, turn_by, drawn_turn, drawn_line, behind_line, drawn_lines}
+use Rattle.hp_script.specs.Generator.{Drawing, Turn, drawn_size, drawn_place, allocates, frees, resizes, behind_draw, is_allocating, turn_by, drawn_turn, behind_line, drawn_lines}
 use Rattle.hp_script.specs.declared.drawn_line.DrawnAct.{DrawnAct}
 use Rattle.hp_script.specs.declared.drawn_line.DrawnAct.TheVariants.{Alloc, Free, Resize}
 use Rattle.hp_script.specs.declared.drawn_line.DrawnLine.{DrawnLine}

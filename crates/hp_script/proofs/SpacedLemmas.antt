@@ -1,6 +1,6 @@
 -- Lines that are words with one blank between each two: their fields, and the lines of a text of such lines.
-use Rattle.std.proofs.Common.{◌≡◌, ℕ, ◌+◌, ◌-◌, ◌<◌, ◌≤◌, Bool, true, false, ◌&&◌, ◌||◌, List, [], ◌∷◌, ◌++◌, length, get_or, map, refl, sym, ap, ◌∙◌, append_assoc, arith}
-use Rattle.std.specs.Prelude.{All, Ok, not, nat_lt, ◌==◌, cond, filter, slice_index}
+use Rattle.std.proofs.Common.{◌≡◌, ℕ, ◌+◌, ◌-◌, Bool, true, false, ◌&&◌, List, [], ◌∷◌, ◌++◌, length, get_or, refl, sym, ap, ◌∙◌, append_assoc, arith}
+use Rattle.std.specs.Prelude.{All, Ok, nat_lt, ◌==◌, filter}
 use Rattle.std.specs.List.{list_all, list_any, slice_split, flat_map, AllByRecursion}
 use Rattle.std.specs.Str.Lines.{strip_carriage_return}
 use Rattle.std.proofs.lemmas.Bool.Decides.{nat_tests}
@@ -9,7 +9,7 @@ use Rattle.std.proofs.lemmas.List.Elements.{All-from_recursion}
 use Rattle.std.proofs.lemmas.List.Folds.{list_all-append}
 use Rattle.std.proofs.lemmas.List.Splits.{slice_split_at, slice_split_none}
 use Rattle.hp_script.specs.Part.{Part}
-use Rattle.hp_script.specs.Text.{is_separator, is_plain, is_long, is_filled, placed, parts_of, fields_of, without_return, lines_in}
+use Rattle.hp_script.specs.Text.{is_separator, is_plain, is_long, is_filled, placed, parts_of, fields_of, lines_in}
 use Rattle.hp_script.specs.Words.{is_visible, IsWord, tokens_in}
 use Rattle.hp_script.specs.declared.text.Separator.TheVariants.{Newline, Blank}
 use Rattle.hp_script.proofs.LawLemmas.{lines_more}
