@@ -17,4 +17,5 @@ mod ReasonLemmas
 mod LevelLemmas
 pub mod FaultLemmas
 pub mod WantLemmas
+pub mod CheckedLemmas
 mod WorkedFailures

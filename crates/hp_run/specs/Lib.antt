@@ -7,3 +7,5 @@ pub mod Refusals
 pub mod Failures
 pub mod Ending
 pub mod Outcome
+pub mod Checking
+pub mod Summary

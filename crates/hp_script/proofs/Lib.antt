@@ -25,6 +25,13 @@ pub mod BuiltLemmas
 pub mod MadeLemmas
 pub mod LawLemmas
 pub mod OnceLemmas
+pub mod DecimalLemmas
+pub mod SpacedLemmas
+pub mod DrawLemmas
+pub mod DrawnLemmas
+pub mod GeneratorLemmas
+pub mod GeneratedLemmas
+pub mod GeneratingLemmas
 mod AlikeLemmas
 mod MovedOptions
 mod MovedShapes

@@ -33,3 +33,7 @@ pub mod Places
 pub mod ActVerbs
 pub mod Keys
 pub mod Said
+pub mod Draws
+pub mod Generator
+pub mod GeneratedText
+pub mod Generated

@@ -1,6 +1,6 @@
 //! Laws of the language, each the contract of a call that does nothing.
 
-ghost use Rattle.std.specs.Prelude.{◌≡◌, ℕ, ◌+◌, ◌<◌, List, ◌++◌, ◌∷◌, All, true, false, length, Ok, Some};
+ghost use Rattle.std.specs.Prelude.{◌≡◌, ℕ, ◌+◌, ◌*◌, ◌<◌, ◌≤◌, List, ◌++◌, ◌∷◌, All, true, false, length, Ok, Some};
 ghost use Rattle.std.specs.List.{list_any};
 ghost use denote.Ref.{Bor};
 ghost use Rattle.hp_script.specs.Part.{Part};
@@ -12,7 +12,9 @@ ghost use Rattle.hp_script.specs.Setups.{nothing};
 ghost use Rattle.hp_script.specs.Shapes.{is_participant_line, shape_of};
 ghost use Rattle.hp_script.specs.Verbs.{verb_named};
 ghost use Rattle.hp_script.specs.ActVerbs.{verb_of, verb_word};
-ghost use Rattle.hp_script.specs.Workloads.{read_from, read_further};
+ghost use Rattle.hp_script.specs.Workloads.{read_from, read_further, reading_of};
+ghost use Rattle.hp_script.specs.Generated.{IsReadAsDrawn};
+ghost use Rattle.hp_script.specs.GeneratedText.{generated_text};
 ghost use Rattle.hp_script.specs.declared.line.Act.{Act};
 ghost use Rattle.hp_script.specs.declared.reader.Reader.{Reader};
 ghost use Rattle.hp_script.specs.declared.shape.Shape.TheVariants.{Does};
@@ -49,4 +51,11 @@ pub fn verbs_law()
     ensures word { (start : ℕ) (base : ℕ × ℕ) (deed : Act) → verb_named (record { start = start; text = verb_word deed; base = base }) ≡ Some (verb_of deed) }
     ensures read { (first word : Part) (arguments : List Part) (party : ℕ) (deed : Act) → is_participant_line first ≡ true
         → shape_of (first ∷ word ∷ arguments) ≡ Ok (Does party deed) → verb_named word ≡ Some (verb_of deed) }
+{}
+
+/// The text that the generator writes is a workload: up to 20,000 lines are read, from any start, as many as are asked for, and
+/// each as it was drawn. Proved of all starts; the function has no code.
+pub fn generated_law()
+    ensures read { (start lines : ℕ) → lines ≤ 20000 → IsReadAsDrawn start lines (reading_of (generated_text start lines)) }
+    ensures short { (start lines : ℕ) → lines ≤ 20000 → length (generated_text start lines) ≤ 45 + 30 * lines }
 {}

@@ -4,9 +4,11 @@
 mod answer;
 mod bad_kind;
 mod deadline;
+mod drawn_line;
 mod event;
 mod fields_left;
 mod first_lines;
+mod generating;
 mod given;
 mod judge;
 mod labels;
@@ -40,9 +42,10 @@ mod workload;
 
 pub use answer::Answer;
 pub use bad_kind::BadKind;
+pub use generating::generate;
 pub use labels::maker_of;
 pub use later::{built_law, first_later};
-pub use laws::{lines_law, once_law, reading_law, verbs_law};
+pub use laws::{generated_law, lines_law, once_law, reading_law, verbs_law};
 pub use line::{Act, Line};
 pub use maker_index::MakerIndex;
 pub use options::{Options, SocketChoice};

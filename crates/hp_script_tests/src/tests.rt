@@ -4,6 +4,7 @@ use std::alloc::{AllocError, Global};
 use std::test::Fail;
 
 mod facts;
+mod generated;
 mod index;
 mod later;
 mod limits;

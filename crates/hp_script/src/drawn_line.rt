@@ -1,0 +1,67 @@
+//! The lines that the generator draws, and their text.
+
+ghost use Rattle.std.specs.Prelude.{◌≡◌, ◌++◌, codes, OnOk};
+ghost use Rattle.std.specs.Fmt.{decimal};
+ghost use Rattle.hp_script.specs.GeneratedText.{drawn_act_text, drawn_line_text};
+
+use itoa::Buffer;
+use std::alloc::AllocError;
+
+/// What a participant does in a drawn line. Its label is named by the number of the line that makes it.
+#[derive(Clone, Copy)]
+pub enum DrawnAct {
+    Alloc { label: u32, size: u64, socket: u64 },
+    Free { label: u32 },
+    Resize { label: u32, size: u64 },
+}
+
+/// A line that the generator draws.
+#[derive(Clone, Copy)]
+pub struct DrawnLine {
+    pub participant: u64,
+    pub act: DrawnAct,
+}
+
+/// Adds the text of a line.
+pub fn put_line(text: &mut Vec<u8>, line: DrawnLine) -> Result<(), AllocError>
+    ensures { OnOk result (text.new.items ≡ text.old.items ++ drawn_line_text line) }
+{
+    put_number(text, b"", line.participant)?;
+    put_act(text, line.act)?;
+    text.extend_from_slice(b"\n")
+}
+
+// Adds the text of what a participant does.
+fn put_act(text: &mut Vec<u8>, act: DrawnAct) -> Result<(), AllocError>
+    ensures { OnOk result (text.new.items ≡ text.old.items ++ drawn_act_text act) }
+{
+    match act {
+        DrawnAct::Alloc {
+            label,
+            size,
+            socket,
+        } => put_alloc(text, label, size, socket),
+        DrawnAct::Free { label } => put_number(text, b" free l", u64::from(label)),
+        DrawnAct::Resize { label, size } => {
+            put_number(text, b" resize l", u64::from(label))?;
+            put_number(text, b" ", size)
+        }
+    }
+}
+
+fn put_alloc(text: &mut Vec<u8>, label: u32, size: u64, socket: u64) -> Result<(), AllocError>
+    ensures { OnOk result (text.new.items ≡ text.old.items ++ drawn_act_text (DrawnAct.Alloc label size socket)) }
+{
+    put_number(text, b" alloc l", u64::from(label))?;
+    put_number(text, b" ", size)?;
+    put_number(text, b" socket=", socket)
+}
+
+// Adds words, and a number behind them.
+fn put_number(text: &mut Vec<u8>, words: &[u8], n: u64) -> Result<(), AllocError>
+    ensures { OnOk result (text.new.items ≡ text.old.items ++ (words.now ++ decimal n)) }
+{
+    let mut buffer = Buffer::new();
+    text.extend_from_slice(words)?;
+    text.extend_from_slice(buffer.format(n).as_bytes())
+}
