@@ -36,7 +36,7 @@ left_pages : (heap : PlainHeap) (found : Option PageCut) (page : HeapPage) → C
 left_pages heap None page among = among
 left_pages heap (Some cut) page among = (Contains-filter (λ page. not (is_cut_page cut page)) heap.pages page among).1
 
--- a page behind a call was there, or is one of the run by which the call grows the heap
+-- a page after a call was there, or is one of the run by which the call grows the heap
 after_pages : (who : ℕ) (made : HeapCall) (heap : PlainHeap) (page : HeapPage) → Contains (after who made heap).pages page
     → Contains heap.pages page ⊎ IsRunPage (run_grown made) page
 unfolding after after_free after_resize after_grow after_cut after_name after_chunk after_unchunk after_share after_unshare
@@ -68,7 +68,7 @@ of_more runs more page is = record { run = is.run; its_run = Contains-append_rig
 of_first : (runs more : List Run) (page : HeapPage) → IsRunPage runs page → IsRunPage (runs ++ more) page
 of_first runs more page is = record { run = is.run; its_run = Contains-append_left runs more is.run is.its_run; its_page = is.its_page }
 
--- so is a page behind the calls of a history
+-- so is a page after the calls of a history
 pub replayed_pages : (history : List Entry) (heap : PlainHeap) (page : HeapPage) → Contains (replay heap history).pages page
     → Contains heap.pages page ⊎ IsRunPage (runs_grown history) page
 unfolding after_entry runs_grown

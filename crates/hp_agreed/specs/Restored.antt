@@ -79,7 +79,7 @@ abbrev pub rows_by : List OwnerStep → List Segment → List Segment
 rows_by [] rows = rows
 rows_by (step ∷ steps) rows = rows_by steps (rows_after step rows)
 
--- the runs that are given up behind steps, by rising address
+-- the runs that are given up after steps, by rising address
 abbrev pub retiring_after : OwnerStep → List Run → List Run
 retiring_after (ClaimsGrant generation) runs = runs
 retiring_after (GivesUp run) runs = insert_by_address run runs
@@ -113,11 +113,11 @@ pub record IsAsWithout (calls : List SegsCall) (old new : SegsView) : Type 0 whe
   pub slots : (list n : ℕ) → slots_of (rows_in new.segments) list n ≡ slots_of (rows_in old.segments) list n
   pub pages : (pool : ℕ) → pages_left new pool ≡ pages_left old pool
 
--- so it is behind each growth that failed
+-- so it is after each growth that failed
 abbrev pub FailedCoursesRestore : Type 0
 FailedCoursesRestore = (calls : List SegsCall) (old new : SegsView) → IsSound old → IsFailedCourse calls old new → IsAsWithout calls old new
 
--- wherever among calls that lead on from a first value a growth was opened and failed, the value behind it is as the other calls meanwhile
+-- wherever among calls that lead on from a first value a growth was opened and failed, the value after it is as the other calls meanwhile
 -- would have left it
 abbrev pub GrowthsRestore : List SegsCall → SegsView → Type 0
 GrowthsRestore calls first = (before during behind : List SegsCall) (old new : SegsView) → calls ≡ before ++ (during ++ behind)

@@ -1,4 +1,4 @@
--- The answers of a mapper, kept behind one another.
+-- The answers of a mapper, kept one after another.
 use Rattle.std.specs.Prelude.{List, [], ◌∷◌, ◌++◌}
 use Rattle.hp_base.specs.declared.answers.Past.{Past}
 use Rattle.hp_base.specs.declared.answers.Past.TheVariants.{Nothing, Behind}

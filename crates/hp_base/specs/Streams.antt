@@ -44,7 +44,7 @@ got_failed (got.Bytes n) = false
 got_failed got.End = false
 got_failed got.Failed = true
 
--- the first n of the bytes stand behind what the sink held
+-- the first n of the bytes stand after what the sink held
 pub record TakesBytes (old new : Option (List ℕ)) (bytes : List ℕ) (n : ℕ) : Type 0 where
   pub some : 0 < n
   pub within : n ≤ length bytes

@@ -6,7 +6,7 @@ ghost use Rattle.hp_base.specs.Mapping.{is_row};
 
 use crate::row::Row;
 
-/// Adds a row behind all others. Where no place is left, the gaps are closed first.
+/// Adds a row after all others. Where no place is left, the gaps are closed first.
 pub fn push_row(places: &mut Vec<Option<Row>>, row: Row)
     requires room { length (rows_in places.old.items) < vec_capacity places.old }
     ensures rows { rows_in places.new.items ≡ rows_in places.old.items ++ row ∷ [] }

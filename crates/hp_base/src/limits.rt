@@ -1,17 +1,17 @@
 /// The most participants of a run. Own.
 pub const MAX_PARTICIPANTS: u8 = 16;
 
-/// The most heaps, those of sockets and external ones together. Own; after RTE_MAX_HEAPS.
+/// The most heaps, those of sockets and external ones together. After RTE_MAX_HEAPS.
 pub const MAX_HEAPS: usize = 32;
 
 /// The number of sockets: a socket of a pool line or of a participant is below it. Own; external memory has sockets
 /// above.
 pub const MAX_SOCKETS: u32 = 32;
 
-/// The most segment lists, those of pools and of external memory together. Own; after RTE_MAX_MEMSEG_LISTS.
+/// The most segment lists, those of pools and of external memory together. After RTE_MAX_MEMSEG_LISTS.
 pub const MAX_LISTS: usize = 128;
 
-/// The most segments of one list, and the most pages of one pool. Own; after RTE_MAX_MEMSEG_PER_LIST.
+/// The most segments of one list, and the most pages of one pool. After RTE_MAX_MEMSEG_PER_LIST.
 pub const MAX_LIST_SEGMENTS: u64 = 8_192;
 
 /// The most segments of all lists together. Own.

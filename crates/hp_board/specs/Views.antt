@@ -133,7 +133,7 @@ after_look slot word mine = record mine { found = mine.found ++ (slot, word) ∷
 abbrev pub after_acking : ℕ → Mine → Mine
 after_acking number mine = record mine { number = number; unmapped = number; joining = not mine.joined }
 
--- its table has lost what the records behind its number drop, as far as it has seen them
+-- its table has lost what the records after its number drop, as far as it has seen them
 abbrev pub after_unmapping : Mine → Mine
 after_unmapping mine = record mine { unmapped = length mine.log }
 

@@ -36,7 +36,7 @@ same_last [] x y same = cc
 same_last (z ∷ xs) x y same = same_last xs x y (cc)
 
 module _ (denial : ℕ → ℕ → Option (List ℕ × ℕ)) (ask : Ask) (behind : SegsView) (run : Run) where
-  -- the Add of the run stands behind the drops
+  -- the Add of the run stands after the drops
   abbrev HasAdd : Done → Type 0
   HasAdd done = done.segs.log ≡ behind.log ++ Add run ask.heap ∷ []
 

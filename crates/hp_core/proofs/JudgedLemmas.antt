@@ -80,7 +80,7 @@ module _ (core : Core) (segs : SegsView) (now : ℕ) (acks : List ℕ) where
   poll_judges (Mapping round) is = tt
   poll_judges (Waiting round since) is = tt
 
--- the judge is asked of a run that is planned behind the drops for the ask that is started
+-- the judge is asked of a run that is planned after the drops for the ask that is started
 pub judged_of_plans : JudgedOfPlans
 judged_of_plans (Grow ask) core segs = ask_judges (Grow ask) core segs (want.Grow ask) (comes refl)
 judged_of_plans (Shrink from number) core segs = ask_judges (Shrink from number) core segs (want.Shrink from number) (comes refl)

@@ -24,7 +24,7 @@ abbrev pub plan_judged : Ask → SegsView → Result Run PlanRefusal → Option 
 plan_judged ask segs (Ok run) = Some (ask.socket, total_with ask run segs)
 plan_judged ask segs (Err refusal) = None
 
--- of an ask for memory the run is planned behind the drops
+-- of an ask for memory the run is planned after the drops
 abbrev pub grow_judged : Ask → SegsView → Option (ℕ × ℕ)
 grow_judged ask segs = plan_judged ask segs (plan_of ask segs)
 

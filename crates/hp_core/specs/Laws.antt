@@ -50,12 +50,12 @@ pub record IsStarted (ask : Ask) (segs : SegsView) : Type 0 where
   pub fresh : is_closed (Grow ask) segs ≡ false
   pub armed : is_armed ask segs ≡ true
 
--- the plan behind the drops is that run, and no validator denies it
+-- the plan after the drops is that run, and no validator denies it
 pub record IsPlanned (denial : ℕ → ℕ → Option (List ℕ × ℕ)) (ask : Ask) (segs : SegsView) (run : Run) : Type 0 where
   pub plan : plan_of ask segs ≡ Ok run
   pub allowed : denial ask.socket (total_with ask run segs) ≡ None
 
--- behind the drops an Add of a run comes exactly where that run is planned and no validator denies it
+-- after the drops an Add of a run comes exactly where that run is planned and no validator denies it
 abbrev pub AddsExactly : Type 0
 AddsExactly = (denial : ℕ → ℕ → Option (List ℕ × ℕ)) (ask : Ask) (segs : SegsView) (run : Run) → IsStarted ask segs
     → ((started denial (Grow ask) segs).segs.log ≡ (after_drop segs).log ++ Add run ask.heap ∷ []) ↔ IsPlanned denial ask (after_drop segs) run
@@ -73,7 +73,7 @@ DenialsAreJudged = (denial : ℕ → ℕ → Option (List ℕ × ℕ)) (ask : As
     → IsStarted ask segs → (started denial (Grow ask) segs).segs.asks ≡ (after_drop segs).asks ++ entry ∷ []
     → entry.outcome ≡ Refused (Denied validator limit total) → IsJudged denial ask (after_drop segs) validator limit total
 
--- the judge is asked of a run: the one that is planned behind the drops for the ask that the step starts, whose socket and bytes those are
+-- the judge is asked of a run: the one that is planned after the drops for the ask that the step starts, whose socket and bytes those are
 pub record IsJudgedAt (event : CoreEvent) (core : Core) (segs : SegsView) (judged : ℕ × ℕ) : Type 0 where
   pub ask : Ask
   pub run : Run

@@ -18,7 +18,7 @@ use Rattle.hp_core.specs.declared.phase.Phase.{Phase}
 use Rattle.hp_core.specs.declared.phase.Phase.TheVariants.{Idle, Mapping, Waiting}
 use Rattle.hp_core.specs.declared.times.Times.{Times}
 
--- an ask for memory, behind the drops
+-- an ask for memory, after the drops
 pub data IsGrowStart (old new : SegsView) : Type 0 where
   -- it is refused without a growth
   refuses : (ask : Ask) (cause : Cause) → MayClose ask cause old → new ≡ after_close ask cause old → IsGrowStart old new

@@ -65,7 +65,7 @@ abbrev pub planned : (ℕ → ℕ → Option (List ℕ × ℕ)) → Ask → Segs
 planned denial ask segs (Ok run) = judged ask run segs (denial ask.socket (total_with ask run segs))
 planned denial ask segs (Err refusal) = refused ask (cause_of refusal) segs
 
--- an ask for memory with which its participant is armed, behind the drops
+-- an ask for memory with which its participant is armed, after the drops
 abbrev pub grown : (ℕ → ℕ → Option (List ℕ × ℕ)) → Ask → SegsView → Done
 grown denial ask segs = planned denial ask segs (plan_of ask segs)
 

@@ -14,7 +14,7 @@ ghost use Rattle.hp_core.specs.Tied.{MovesTie, NoneIsGone, StepsTie};
 /// Each move of the coordinator takes the plain machine of a sound segment value to itself, through the drops, or through
 /// one growth, which is that of the open growth's ask; and it is by calls that log, at most one of which opens or grants a
 /// growth. A growth that is cancelled as Late has a late member and no noted failure. A started ask gets an Add exactly
-/// where a run is planned behind the drops and no validator denies it; it is refused as Denied only by the validator that
+/// where a run is planned after the drops and no validator denies it; it is refused as Denied only by the validator that
 /// the judge names. The judge is asked of each such run, be it of an ask that comes or of a held one that a poll starts, and of
 /// nothing else. Own.
 pub fn core_law()

@@ -1,4 +1,4 @@
-/// What participant 0 has to do behind a step of the coordinator. After the messages of rte_malloc under Multi-process
+/// What participant 0 has to do after a step of the coordinator. After the messages of rte_malloc under Multi-process
 /// Support.
 #[derive(Clone, Copy, PartialEq, Eq)]
 pub enum Out {

@@ -160,7 +160,7 @@ fn judge_run<J: Judge>(segs: &mut Segs, ask: &Ask, run: &Run, judge: &J) -> Next
     }
 }
 
-// A growth for the ask, behind the drops.
+// A growth for the ask, after the drops.
 fn grow<J: Judge>(segs: &mut Segs, ask: &Ask, judge: &J) -> Next
     requires behind { IsBehind ask.now segs.old }
     requires may_ask { J.may_ask judge.now }

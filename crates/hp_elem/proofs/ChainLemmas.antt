@@ -35,7 +35,7 @@ none_before old new key kept none =
     let not_there : ContainsKey old key → ⊥ = λ there. false≢true (subst (λ (slot : Option Node). IsSome slot) none (kept key there)) in
     (elim (get old key) as P [ None ↦ λ absent lift. refl | (Some node) ↦ λ absent lift. absurd (absent (lift refl)) ]) not_there (λ there. there)
 
--- an element added before another one, or behind all
+-- an element added before another one, or after all
 pub before_is : (front back : Items) (next : Option ℕ) (e : Keyed Span) → next ≡ first_key back None → AreApart (front ++ back) → before next e (front ++ back) ≡ front ++ e ∷ back
 before_is front [] next e is apart =
     ap (λ (o : Option ℕ). before o e (front ++ [])) is ∙ ap (λ (zs : Items). zs ++ e ∷ []) (append-nil front)
@@ -64,7 +64,7 @@ linked_inserted old new first last prev next items e linked between none len pla
     (subst (λ (o : Option ℕ). IsLinked new (end_unless prev first (Some e.key)) (end_unless o last (Some e.key)) (front ++ e ∷ back)) (sym between.first)
     (subst (λ (o : Option ℕ). IsLinked new (end_unless o first (Some e.key)) (end_unless (first_key back None) last (Some e.key)) (front ++ e ∷ back)) (sym between.last) added))
 
--- the place before a key, or behind all
+-- the place before a key, or after all
 pub between_last : (slots : Slab Node) (first last : Option ℕ) (items : Items) (next : Option ℕ) → IsLinked slots first last items → next ≡ None → IsBetween items last next
 between_last slots first last items next linked is = record { front = items; back = []; is = sym (append-nil items); last = linked.ends; first = is }
 

@@ -25,7 +25,7 @@ pub record IsAt (P : Span → Type 0) (key : ℕ) (items : Items) : Type 0 where
   pub same : found.key ≡ key
   pub holds : P found.value
 
--- two elements stand in the list one behind the other, the first of them under the key, and the fact holds of the two
+-- two elements stand in the list one after the other, the first of them under the key, and the fact holds of the two
 pub record AreAt (P : Span → Span → Type 0) (key : ℕ) (items : Items) : Type 0 where
   pub front : Items
   pub found : Keyed Span
@@ -47,7 +47,7 @@ pub record IsBetween (items : Items) (prev next : Option ℕ) : Type 0 where
   pub last : prev ≡ last_key None front
   pub first : next ≡ first_key back None
 
--- the list is cut in two in front of a key, or behind all
+-- the list is cut in two in front of a key, or after all
 pub record IsCutFrom (items : Items) (key : Option ℕ) : Type 0 where
   pub front : Items
   pub back : Items
@@ -111,7 +111,7 @@ after_join key items = edited key with_next_joined items
 abbrev pub after_set : ℕ → SpanState → Items → Items
 after_set key state items = edited key (restated state) items
 
--- a new element in front of the one with a key, or behind all
+-- a new element in front of the one with a key, or after all
 abbrev pub before : Option ℕ → Keyed Span → Items → Items
 before None new items = items ++ new ∷ []
 before (Some key) new items = edited key (λ e es. new ∷ (e ∷ es)) items

@@ -84,7 +84,7 @@ impl Chain {
         &self.slots[key]
     }
 
-    /// Puts one in front of another, or behind all where there is no other.
+    /// Puts one in front of another, or after all where there is no other.
     pub(crate) fn insert(&mut self, span: Span, next: Option<usize>) -> usize
         requires room { length self.old.items < self.old.key_end }
         requires next { HasKey next self.old.items }

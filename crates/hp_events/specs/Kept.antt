@@ -1,4 +1,4 @@
--- Rows that are kept behind one another. No public clause cites this module.
+-- Rows that are kept one after another. No public clause cites this module.
 use Rattle.std.specs.Prelude.{List, [], ◌∷◌, ◌++◌}
 use Rattle.hp_base.specs.declared.row.Row.{Row}
 use Rattle.hp_events.specs.declared.rows_then.Past.{Past}

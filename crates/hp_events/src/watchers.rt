@@ -72,7 +72,7 @@ impl Watchers {
         self.add(alloc, own, table)
     }
 
-    // A watcher of that name comes, behind the others.
+    // A watcher of that name comes, after the others.
     fn add(&mut self, alloc: Global, name: Name, table: &[Row]) -> Result<(), WatchFault>
         requires few { length self.old.listeners < 4 }
         ensures ok { OnOk result (self.new ≡ registered name table.now self.old) }

@@ -1,4 +1,4 @@
--- Parts that are read or written one behind the other.
+-- Parts that are read or written one after the other.
 use Rattle.std.proofs.Common.{◌≡◌, ℕ, ◌+◌, List, ◌++◌, length, take, drop, sym, ap, ◌∙◌, append_assoc, length-append, length-take, length-drop, arith}
 use Rattle.std.proofs.lemmas.List.{take_at, drop_at, drop-drop}
 use Rattle.hp_frame.specs.Parts.{Puts}
@@ -19,7 +19,7 @@ Written-from old at part new end p =
       len = omega (arith, ap length whole, length-append (take at old ++ part) (drop (at + length part) old), front_len, p.end_is, p.room, length-drop (at + length part) old);
     }
 
--- two parts, one behind the other, are one part
+-- two parts, one after the other, are one part
 pub Puts-then : {a : List ℕ} {i : ℕ} {x b : List ℕ} {j : ℕ} {y c : List ℕ} {k : ℕ} → Puts a i x b j → Puts b j y c k → Puts a i (x ++ y) c k
 Puts-then {a} {i} {x} {b} {j} {y} {c} {k} p q =
     let w = Written-from a i x b j p in

@@ -1,4 +1,4 @@
--- A claim puts its grant, and the run, behind those that the heap has claimed.
+-- A claim puts its grant, and the run, after those that the heap has claimed.
 use Rattle.std.proofs.Common.{◌≡◌, ◌≢◌, ◌==◌, ◌∙◌, ℕ, zero, suc, ◌+◌, ◌<◌, ◌≤◌, Bool, true, false, not, ◌&&◌, cond, List, [], ◌∷◌, ◌++◌, filter, map, length, get_or, count_by, Option, Some, None, IsTrue, refl, ap, sym, subst, arith, ◌⊎◌, ⊎_elim, if◌then◌else◌}
 use Rattle.std.specs.Prelude.{Contains, IsSomeAnd}
 use Rattle.std.specs.List.{All}
@@ -180,7 +180,7 @@ module _ (segs : SegsView) (sound : IsSound segs) (last : PendingIsLast segs) (e
           let same : number.0 ≡ generation = omega (arith, low, at_here, at_there, rises) in
           apart i d within (λ is. omega (arith, above, is)) (subst (λ (n : ℕ). granted_by other.outcome ≡ Some n) same number.1)
 
--- the run that the outcome granted comes behind those that the heap had claimed
+-- the run that the outcome granted comes after those that the heap had claimed
 came_by : (log : List LogRecord) (before : List AskLog) (entry : AskLog) (generation : ℕ) (run : Run) → granted_by entry.outcome ≡ Some generation
     → run_of log generation ≡ Some run → runs_granted log (before ++ entry ∷ []) ≡ runs_granted log before ++ run ∷ []
 came_by log before entry generation run granted is =

@@ -126,7 +126,7 @@ module _ (segs : SegsView) (heap : ℕ) (run : Run) (sound : IsSound segs) (owns
 pub retire_leaves_others : RetireLeavesOthers
 retire_leaves_others segs heap run sound owns other apart = others_left segs heap run sound owns other apart
 
--- the run comes behind those that the heap gave up
+-- the run comes after those that the heap gave up
 pub given_up_behind : (heap : ℕ) (run : Run) (retired : List (ℕ × Run))
     → given_up_by heap (retired ++ (heap, run) ∷ []) ≡ given_up_by heap retired ++ run ∷ []
 given_up_behind heap run retired =

@@ -94,12 +94,12 @@ IsTakenAs (Heap heap) old new =
     IsPartTaken (old heap.plain.index) (new heap.plain.index) × AreApart heap.plain.index old new
 IsTakenAs (Segments segs) old new = (heap : ℕ) → new heap ≡ old heap
 
--- a part behind a give of the segment value: what that has for a heap that is held, and the ask with which the giver is armed
+-- a part after a give of the segment value: what that has for a heap that is held, and the ask with which the giver is armed
 abbrev pub part_behind : ℕ → SegsView → ℕ → HeapPart → HeapPart
 part_behind who segs heap part =
     record part { holding = option_map (λ holding. standing_of heap segs) part.holding; armed = armed_ask segs who }
 
--- a part behind a give of that heap: its entries are those of the heap, and it is held no longer
+-- a part after a give of that heap: its entries are those of the heap, and it is held no longer
 abbrev pub part_ended : ℕ → HeapView → HeapPart → HeapPart
 part_ended who heap part = record part { entries = entries_of who heap.history; holding = None }
 

@@ -89,7 +89,7 @@ ClaimLeavesOthers = (segs : SegsView) (heap from number generation : ℕ) (entry
     → grant_of segs.asks from number ≡ Some generation → Contains segs.asks entry → IsGrantFor heap generation entry
     → (other : ℕ) → other ≢ heap → standing_of other (after_claim from number segs) ≡ standing_of other segs
 
--- a claim puts the outcome of its grant, and the run, behind those that the heap had claimed, and leaves what the heap gave up
+-- a claim puts the outcome of its grant, and the run, after those that the heap had claimed, and leaves what the heap gave up
 pub record PutsClaim (entry : AskLog) (run : Run) (old new : Holding) : Type 0 where
   pub claimed : new.claimed ≡ old.claimed ++ entry ∷ []
   pub came : new.came ≡ old.came ++ run ∷ []
@@ -120,7 +120,7 @@ abbrev pub RetireLeavesOthers : Type 0
 RetireLeavesOthers = (segs : SegsView) (heap : ℕ) (run : Run) → IsSound segs → OwnsRun heap run segs
     → (other : ℕ) → other ≢ heap → standing_of other (after_retire heap run segs) ≡ standing_of other segs
 
--- and takes the run's rows, and no grant, from what it has for that heap, and puts the run behind those that the heap gave up before
+-- and takes the run's rows, and no grant, from what it has for that heap, and puts the run after those that the heap gave up before
 abbrev pub RetireTakesRows : Type 0
 RetireTakesRows = (segs : SegsView) (heap : ℕ) (run : Run) → IsSound segs → OwnsRun heap run segs
     → standing_of heap (after_retire heap run segs) ≡ record (standing_of heap segs) {

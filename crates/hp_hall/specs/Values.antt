@@ -70,7 +70,7 @@ abbrev pub HasMember : ℕ → Bool → Kept → Type 0
 HasMember who joined (Heap heap) = ⊤
 HasMember who joined (Segments segs) = is_member segs.roster who ≡ joined
 
--- whether a participant is in the roster behind a give of its own
+-- whether a participant is in the roster after a give of its own
 abbrev pub joined_behind : ℕ → Kept → Bool → Bool
 joined_behind who (Heap heap) joined = joined
 joined_behind who (Segments segs) joined = is_member segs.roster who

@@ -80,7 +80,7 @@ pub trait Hall {
         ensures weight { (state self.new).weight ≤ (state self.old).weight }
         ensures goes_on { goes_on self.old self.new };
 
-    /// Tells that the table has lost all that the records behind the participant's number drop, as far as it has seen them. Own.
+    /// Tells that the table has lost all that the records after the participant's number drop, as far as it has seen them. Own.
     fn partial(&mut self, me: u8)
         requires serves { (state self.old).serves me }
         ensures own { HasComeTo me (after_partial (length ((state self.old).seen me)) ((state self.old).own me))

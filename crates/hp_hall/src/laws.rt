@@ -22,8 +22,8 @@ pub fn arming_law()
     ensures rest { RestCanBeClaimed }
 {}
 
-/// A claim and what is given up change what the segment value has for one heap: a claim puts its grant and run behind those that the heap
-/// has claimed, and a run that is given up comes behind those that the heap gave up. And the heap has the pages of its segments still, where
+/// A claim and what is given up change what the segment value has for one heap: a claim puts its grant and run after those that the heap
+/// has claimed, and a run that is given up comes after those that the heap gave up. And the heap has the pages of its segments still, where
 /// it takes in the run that is claimed, as it may, and where it cuts the run that is given up. Own.
 pub fn holding_law()
     ensures claim_others { ClaimLeavesOthers }

@@ -7,7 +7,7 @@ pub enum Note {
     Loaded { participant: u8, number: u64 },
     /// It acknowledged so many records.
     Acked { number: u64 },
-    /// It told that its table has lost what the records behind its number drop, as far as it has seen them.
+    /// It told that its table has lost what the records after its number drop, as far as it has seen them.
     Unmapped,
     /// It let those above it serve, or those below, and something moved, or nothing; `None` where one of them stopped.
     Yielded { above: bool, moved: Option<bool> },

@@ -17,7 +17,7 @@ pub enum Slot {
 }
 
 impl Slot {
-    /// Its number among the slots: the index of its heap, or behind all heaps.
+    /// Its number among the slots: the index of its heap, or after all heaps.
     pub fn number(self) -> usize
         requires slot { IsSlot self }
         ensures { result ≡ slot_number self }

@@ -143,7 +143,7 @@ module _ (cs : List Chunk) (x : Chunk) (rising : AreRisingFrom 0 cs) (few : (lis
   pub same_tests : AllByRecursion (λ (c : Chunk). is_chunk_at x.addr x.len c ≡ eqb c.list x.list) cs
   same_tests = AllByRecursion-each (λ (c : Chunk). is_chunk_at x.addr x.len c ≡ eqb c.list x.list) cs same_test
 
--- the place that a search gives, or that behind all
+-- the place that a search gives, or that after all
 pub place_or_end : (p : Chunk → Bool) (cs : List Chunk) → unwrap_or (position p cs) (length cs) ≡ position_or_len p cs
 place_or_end p cs = elim (cases_lt (position_or_len p cs) (length cs)) [
   | inl within ↦ rw (lt-ltb (position_or_len p cs) (length cs) within) refl

@@ -103,7 +103,7 @@ next_pages run next j (suc m) behind =
     ap (λ page. page ∷ map (run_page next) (range_with_len (j + 1) m)) (next_page run next j behind)
     ∙ ap (λ zs. run_page run (run.count + j) ∷ zs) (next_pages run next (j + 1) m behind ∙ ap (λ (i : ℕ). map (run_page run) (range_with_len i m)) (let same : run.count + (j + 1) ≡ run.count + j + 1 = omega arith in same))
 
--- the pages of two runs, one behind the other, are those of both as one
+-- the pages of two runs, one after the other, are those of both as one
 pages_with : (run next : Run) → IsNextRun run next → run_pages run ++ run_pages next ≡ run_pages (run_with run next)
 unfolding run_pages
 pages_with run next behind =

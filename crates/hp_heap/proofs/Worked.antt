@@ -257,7 +257,7 @@ module _ (accepted_1024 : IsAccepted 1024 64 0) (accepted_bounded : IsAccepted 1
   unfolding after after_grow after_insertion with_stretch after_alloc chosen eligible precedes is_fitting_page is_hint is_attached place_of class_number placed pieces_of insertions_of after_free busy_at after_resize
   rest_of_192_resized = refl
 
-  -- of three pages the second stays where 64 bytes would be left behind the cut
+  -- of three pages the second stays where 64 bytes would be left after the cut
   abbrev free_up_to_64 : PlainHeap
   free_up_to_64 = heap_after (grown 3) (alloc_page 2 ∷ [])
 

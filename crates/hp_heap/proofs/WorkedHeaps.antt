@@ -93,7 +93,7 @@ module _ (accepted_1024 : IsAccepted 1024 64 0) (accepted_pages : IsAccepted 419
   unfolding after after_grow after_insertion with_stretch after_alloc chosen eligible precedes is_fitting_page is_hint is_attached place_of class_number placed pieces_of insertions_of after_free busy_at after_cut cut_at range_at run_pages
   both_rests = refl
 
-  -- a page that comes behind a free element is one with it, whatever call brought that one
+  -- a page that comes after a free element is one with it, whatever call brought that one
   joined_growth : PlainHeap
   joined_growth = heap_after opened (
       call.Grow (run_from 0 1 0x100000000) ∷ call.Alloc (request 64 (2 ^ 20) 0 accepted_megabyte) (tag_of 2) ∷ call.Grow (run_from 1 1 0x100200000) ∷ call.Alloc (request 2000000 64 0 accepted_two_million) (tag_of 3) ∷ [])

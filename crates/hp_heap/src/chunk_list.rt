@@ -76,7 +76,7 @@ pub fn without_mark(participant: u8, marks: u16) -> u16
     }
 }
 
-// The place of the first chunk that begins above an address, or that behind all.
+// The place of the first chunk that begins above an address, or that after all.
 fn place_above(chunks: &[Chunk], addr: u64) -> usize
     ensures { result ≡ position_or_len (λ chunk. nat_lt addr chunk.addr) chunks.now }
 {
@@ -84,7 +84,7 @@ fn place_above(chunks: &[Chunk], addr: u64) -> usize
     place.unwrap_or(chunks.len())
 }
 
-// The place of the chunk of a segment list, or that behind all.
+// The place of the chunk of a segment list, or that after all.
 fn place_of(chunks: &[Chunk], list: u32) -> usize
     ensures { result ≡ position_or_len (is_of list) chunks.now }
 {

@@ -16,7 +16,7 @@ pub fn socket_name(socket: u32) -> Name
     Name::new(&text[..len]).unwrap()
 }
 
-// Puts two texts at the front of a buffer, one behind the other, and gives their length.
+// Puts two texts at the front of a buffer, one after the other, and gives their length.
 fn put_both(text: &mut [u8], first: &[u8], second: &[u8]) -> usize
     requires { length first.now + length second.now ≤ length text.old }
     ensures len { result ≡ length first.now + length second.now }

@@ -157,7 +157,7 @@ fn tells_its_statistics_and_its_calls(rt: HostRuntime) -> Result<(), Fail> {
     play(one_page(rt.alloc()), TOLD)
 }
 
-// Two more pages come behind a free one: the element is one with all three.
+// Two more pages come after a free one: the element is one with all three.
 #[test]
 fn joins_a_run_with_the_free_element_below_it(rt: HostRuntime) -> Result<(), Fail> {
     let steps = [See(Counts(0, 1, 3 * PAGE)), See(FreeAt(BASE, 3 * PAGE, 3))];

@@ -32,7 +32,7 @@ module _ (log : List LogRecord) (asks : List AskLog) (who : ℕ) where
   numbers_rise before after (CaughtUp to caught ∷ trace) is = numbers_rise before after trace is
 
   module _ (turn : AreInTurn asks) where
-    -- each ask of a trace behind that number is answered
+    -- each ask of a trace after that number is answered
     abbrev Answers : ℕ → List Done → Type 0
     Answers before trace =
         (place : ℕ) (asked : PagesAsked) (run : Option Run) → slice_get (numbered_in trace) place ≡ Some (Asked asked run)

@@ -75,7 +75,7 @@ module _ (count : ℕ) where
     leaves_it = λ enrolled out was. handles_left did sound enrolled out was;
   }
 
--- who tried once at most behind a step did so before it
+-- who tried once at most after a step did so before it
 before_step : (old from to : Seat) → tries_in from.trace ≤ tries_in to.trace → TriesOnce old to → TriesOnce old from
 before_step old from to grows tries =
     record { once = omega (arith, grows, tries.once); out = λ more. tries.out (omega (arith, grows, more)) }

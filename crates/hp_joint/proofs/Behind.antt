@@ -1,4 +1,4 @@
--- Records and outcomes only come behind the others, whatever participants do in a run.
+-- Records and outcomes only come after the others, whatever participants do in a run.
 use Rattle.std.proofs.Common.{◌≡◌, ◌∙◌, ℕ, ◌≤◌, List, [], ◌∷◌, ◌++◌, length, map, replicate, Option, refl, ap, sym, arith, append-nil, append_assoc, length-append}
 use Rattle.hp_base.specs.declared.caught.Caught.{Caught}
 use Rattle.hp_base.specs.declared.caught.Caught.TheVariants as caught
@@ -23,7 +23,7 @@ use Rattle.hp_joint.specs.Together.{Joint, Runs, Steps}
 use Rattle.hp_joint.proofs.CallCases.{agree_holds, cancel_holds, claim_holds, withdraw_holds}
 use Rattle.hp_joint.proofs.Following.{catching_by}
 
--- records and outcomes came behind the others
+-- records and outcomes came after the others
 pub record IsBehind (old new : SegsView) : Type 0 where
   pub more : List LogRecord
   pub log : new.log ≡ old.log ++ more

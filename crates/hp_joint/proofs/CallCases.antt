@@ -1,4 +1,4 @@
--- What holds of a segment value behind a call, where it holds in each case that the call may come to.
+-- What holds of a segment value after a call, where it holds in each case that the call may come to.
 use Rattle.std.proofs.Common.{◌≡◌, ℕ, Bool, true, false, List, subst, sym, Option, Some, None, IfSome, refl, if◌then◌else◌}
 use Rattle.std.proofs.lemmas.Bool.{cond_both}
 use Rattle.hp_base.specs.declared.caught.Caught.{Caught}

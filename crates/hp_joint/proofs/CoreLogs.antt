@@ -23,7 +23,7 @@ use Rattle.hp_joint.proofs.CallCases.{agree_holds, cancel_holds}
 abbrev pub with_drops : SegsView → List LogRecord
 with_drops segs = segs.log ++ map (λ run. Drop run) segs.retiring
 
--- the outcome is of an ask that was taken, of one with which its participant is armed, or of a notice that was taken, behind the drops
+-- the outcome is of an ask that was taken, of one with which its participant is armed, or of a notice that was taken, after the drops
 pub data IsLogged (Q : Asked → Type 0) (old new : SegsView) (entry : AskLog) : Type 0 where
   stale : (one : Asked) → Q one → entry.from ≡ asker one → entry.number ≡ number_of one → is_stale entry.outcome ≡ true
       → IsLogged Q old new entry
@@ -38,7 +38,7 @@ pub data HasLogged (Q : Asked → Type 0) (old new : SegsView) : Type 0 where
   stays : new.asks ≡ old.asks → HasLogged Q old new
   adds : (entry : AskLog) → new.asks ≡ old.asks ++ entry ∷ [] → IsLogged Q old new entry → HasLogged Q old new
 
--- records came behind the others; and the Retiring runs stay, or each was dropped
+-- records came after the others; and the Retiring runs stay, or each was dropped
 pub data LogMoves (old new : SegsView) : Type 0 where
   keeps : (more : List LogRecord) → new.log ≡ old.log ++ more → new.retiring ≡ old.retiring → LogMoves old new
   drops : (more : List LogRecord) → new.log ≡ with_drops old ++ more → new.retiring ≡ [] → LogMoves old new
@@ -80,7 +80,7 @@ module _ (Q : Asked → Type 0) (segs : SegsView) where
         refl (stale one its refl refl refl);
   }
 
-  -- behind the drops an ask is refused, or a notice is answered
+  -- after the drops an ask is refused, or a notice is answered
   close_logs : (ask : Ask) (cause : Cause) → armed_ask segs ask.from ≡ Some ask → closed_number segs.asks ask.from < ask.number
       → IsLoggedBy Q segs (after_close ask cause (after_drop segs))
   close_logs ask cause armed fresh = record {

@@ -1,4 +1,4 @@
--- As records and outcomes come behind, what had gone between two lines has gone, and the lines behind see it still; one line more sees it too.
+-- As records and outcomes come behind, what had gone between two lines has gone, and the later lines see it still; one line more sees it too.
 use Rattle.std.proofs.Common.{◌≡◌, ◌≢◌, ◌∙◌, ◌==◌, ℕ, zero, suc, ◌+◌, ◌≤◌, Bool, true, false, not, List, [], ◌∷◌, ◌++◌, append-nil, cond, drop, length, take, Some, inl, inr, refl, ap, sym, subst, arith}
 use Rattle.std.specs.List.{All, flat_map, range_with_len, slice_get}
 use Rattle.std.specs.List.Sorted.{IsPermutation}
@@ -96,7 +96,7 @@ module _ (count : ℕ) (log more : List LogRecord) (asks others : List AskLog) (
   module _ (courses before behind : List Course) (are : before ++ behind ≡ courses)
       (answered : (who : ℕ) → AreAnsweredSo log asks who (trace_of (courses_of who courses)))
       (was : HasGoneBetween count log asks before behind) where
-    -- what the lines behind show stays
+    -- what the later lines show stays
     behind_stays : (who : ℕ) → seen_in (log ++ more) (asks ++ others) who (numbers_made who before + 1) (trace_of (courses_of who behind))
         ≡ seen_in log asks who (numbers_made who before + 1) (trace_of (courses_of who behind))
     behind_stays who =
@@ -169,7 +169,7 @@ module _ (count : ℕ) (log more : List LogRecord) (asks others : List AskLog) (
     drops_stay lines =
         between_stays courses (take lines courses) (drop lines courses) (take-append-drop lines courses) answered (was lines)
 
-    -- behind one line more, where all that was given up has gone
+    -- after one line more, where all that was given up has gone
     pub drops_more : (course : Course) → Rises (length log) (length (log ++ more)) (seen_in (log ++ more) (asks ++ others)
         course.line.participant (numbers_made course.line.participant courses + 1) course.trace)
         → IsPermutation (cut_by_lines count (courses ++ course ∷ [])) (returned_runs (asks ++ others) false 1 (log ++ more))

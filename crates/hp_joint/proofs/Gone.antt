@@ -48,7 +48,7 @@ long_drops : (runs : List Run) → length (map (λ run. Drop run) runs) ≡ leng
 long_drops [] = refl
 long_drops (run ∷ runs) = ap suc (long_drops runs)
 
--- behind the drops what was Retiring has gone
+-- after the drops what was Retiring has gone
 pub going_dropped : (segs : SegsView) (run : Run) → IsGoing segs run → HasGone (with_drops segs) (length (with_drops segs)) run
 going_dropped segs run (inl among) =
     let long : length (with_drops segs) ≡ length segs.log + length (map (λ run. Drop run) segs.retiring) =
@@ -78,7 +78,7 @@ going_later old new run (keeps more log retiring) (inr gone) = inr (gone_behind 
 going_later old new run (drops more log retiring) going =
     inr (gone_behind (with_drops old) more new.log run log (going_dropped old run going))
 
--- records come behind the others
+-- records come after the others
 pub record Grew (old new : List LogRecord) : Type 0 where
   pub more : List LogRecord
   pub is : new ≡ old ++ more

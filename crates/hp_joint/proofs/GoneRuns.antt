@@ -86,7 +86,7 @@ handles_gone seats count who _ _ _ _ (Handles.detaches seat segs secondary) ther
 
 -- EACH STEP, AND A RUN
 
--- whoever gives up what it has cut behind a step did so before it
+-- whoever gives up what it has cut after a step did so before it
 step_cut : {count : ℕ} {old new : Joint} → Steps count old new → AreCutFirst new.seats → AreCutFirst old.seats
 step_cut (Steps.quietly at who old new there did) cut =
     let does = quietly_going at.segs did in

@@ -19,7 +19,7 @@ use Rattle.hp_serve.specs.Asking.{Gives, ask_of}
 use Rattle.hp_serve.specs.declared.pages_asked.PagesAsked.{PagesAsked}
 use Rattle.hp_joint.proofs.GrantTurns.{among_read, generations_rise, grant_is, only}
 
--- what is known of the segment value behind a line of a participant that had taken so many numbers before, when there were so many
+-- what is known of the segment value after a line of a participant that had taken so many numbers before, when there were so many
 -- records: it is sound, its outcomes come in turn, each ask of the line has its outcome, what is granted of these are later records, and
 -- later records are granted to these alone
 pub record AreSettled (who before start : ℕ) (segs : SegsView) (trace : List Done) : Type 0 where

@@ -220,7 +220,7 @@ grown_has_choice participant run request heap tiled can place allows none =
         (ap (is_fitting_page request.flags) page ∙ fits) among)
     by_flags all element page among (inr hint) = inr (hint, among)
 
--- so the search for such a request behind a growth is answered an address
+-- so the search for such a request after a growth is answered an address
 pub grown_answers : (participant : ℕ) (run : Run) (request : Request) (tag : Tag) (heap : PlainHeap) → IsTiled heap → CanGrow run heap
     → IsSome (place_of run.addr (run.addr + run_bytes run) request) → AllowsPage request.flags run.page
     → (address : ℕ) × (answer_of participant (call.Alloc request tag) (after participant (call.Grow run) heap) ≡ gives.Address address)

@@ -118,7 +118,7 @@ module _ (log more : List LogRecord) (asks others : List AskLog) (segs : SegsVie
       ∙ ap (λ runs. granted_runs index asks 1 log ++ runs)
       (sym (asks_are_records who before log more segs is_log trace settled index))))))
 
-  -- so a heap that grew by what was granted for it does so behind a line
+  -- so a heap that grew by what was granted for it does so after a line
   pub grown_goes_on : (workload : Workload) (standing : Standing) (courses : List Course) (course : Course) → course.trace ≡ trace
       → IsDone workload standing course → runs_grown (history_by index none_made courses) ≡ granted_runs index asks 1 log
       → runs_grown (history_by index none_made (courses ++ course ∷ [])) ≡ granted_runs index segs.asks 1 segs.log

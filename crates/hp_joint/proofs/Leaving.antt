@@ -29,7 +29,7 @@ pub data IsRefusedOnce (old new : SegsView) : Type 0 where
   leaves : new.asks ≡ old.asks → IsRefusedOnce old new
   refuses : (entry : AskLog) → is_grant_or_refusal entry.outcome ≡ true → new.asks ≡ old.asks ++ entry ∷ [] → IsRefusedOnce old new
 
--- a withdrawal leaves the armed asks and the Retiring runs, and records come behind the others
+-- a withdrawal leaves the armed asks and the Retiring runs, and records come after the others
 pub record IsWithdrawn (old new : SegsView) : Type 0 where
   pub armed : new.armed ≡ old.armed
   pub log : LogMoves old new

@@ -1,4 +1,4 @@
--- What each participant knows behind a line, and what the line left: its entries in histories, and that it was done.
+-- What each participant knows after a line, and what the line left: its entries in histories, and that it was done.
 use Rattle.std.proofs.Common.{◌≡◌, ◌≢◌, ◌∙◌, ℕ, ◌+◌, ◌<◌, eqb, List, [], ◌∷◌, ◌++◌, append-nil, length, Some, refl, ap, sym, subst, arith, ⊎_elim}
 use Rattle.std.specs.Prelude.{slice_get}
 use Rattle.std.specs.List.{All, AllByRecursion}
@@ -176,7 +176,7 @@ module _ (workload : Workload) (courses : List Course) (parties behind : List Pa
       subst (AreDone workload (opening_standing workload other)) (sym (other_courses other courses one beside)) (so.done other below))
       (cases_eq other by)
 
-  -- its entries come behind all others
+  -- its entries come after all others
   pub line_history : (index : ℕ) → history_in (slot_at new index)
       ≡ history_in (slot_at old index) ++ entries_for by index (length (calls_in (trace_for by courses)) + 1) (calls_in did)
   line_history index =

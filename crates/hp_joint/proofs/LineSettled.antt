@@ -1,4 +1,4 @@
--- What is known behind a line, out of the run of it: its participant alone asked, no growth was open before or is open now, and each ask of
+-- What is known after a line, out of the run of it: its participant alone asked, no growth was open before or is open now, and each ask of
 -- its traces has its outcome.
 use Rattle.std.proofs.Common.{◌≡◌, ◌≢◌, ◌∙◌, ℕ, ◌+◌, ◌-◌, ◌<◌, ◌≤◌, false, List, [], ◌∷◌, ◌++◌, length, Option, Some, None, Contains, inl, inr, refl, ap, sym, subst, arith}
 use Rattle.std.specs.List.{slice_get}
@@ -117,7 +117,7 @@ module _ (count absent : ℕ) (pools : List PoolLine) (first start now : Joint) 
         ∙ (get_behind start.segs.asks line_behind.others read.0 place refl ∙ read.1) in
         ((line_stands.since place entry (omega arith) here).granted generation granted).later
 
-    -- its asks are those behind the others
+    -- its asks are those after the others
     numbers_are : numbered_in new.trace ≡ numbered_in old.trace ++ numbered_in trace
     numbers_are = ap numbered_in line.trace_is ∙ numbered_both old.trace trace
 
@@ -156,7 +156,7 @@ module _ (count absent : ℕ) (pools : List PoolLine) (first start now : Joint) 
               ∙ (ap (λ numbered. slice_get numbered (entry.number - 1)) (sym numbers_are) ∙ its.its),
         )
 
-    -- what is known behind the line
+    -- what is known after the line
     pub line_settled : AreSettled who before_line records now.segs trace
     line_settled = record {
       sound = now_sound;

@@ -1,4 +1,4 @@
--- Along a run of all participants records only come behind the others.
+-- Along a run of all participants records only come after the others.
 use Rattle.std.specs.Prelude.{⊤}
 use Rattle.std.proofs.Common.{◌≡◌, ◌∙◌, ℕ, List, [], ◌∷◌, ◌++◌, map, Option, Some, None, IfSome, refl, ap, sym, append-nil, append_assoc}
 use Rattle.std.proofs.lemmas.List.Elements.{All-cons, All-nil}
@@ -23,7 +23,7 @@ use Rattle.hp_joint.proofs.Leaving.{claim_leaves, withdraw_leaves}
 use Rattle.hp_joint.proofs.SegsAlong.{armed_along}
 use Rattle.hp_joint.proofs.Walked.{runs_then}
 
--- records came behind the others
+-- records came after the others
 pub record HasRecords (old new : List LogRecord) : Type 0 where
   pub more : List LogRecord
   pub is : new ≡ old ++ more

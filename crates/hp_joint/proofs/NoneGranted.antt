@@ -133,7 +133,7 @@ pub record AreLegal (entries : List Entry) : Type 0 where
   pub later : List Entry
   pub legal : IsLegal (opening_heap opened serves) (earlier ++ (entries ++ later))
 
--- a search behind a growth for its request finds an address, in a legal history
+-- a search after a growth for its request finds an address, in a legal history
 grown_found : (opened : ℕ) (serves : Option ℕ) (front rest : List Entry) (grow search : Entry) (run : Run) (request : Request) (tag : Tag)
     → grow.call ≡ call.Grow run → search.call ≡ call.Alloc request tag → grow.caller.participant ≡ search.caller.participant
     → IsLegal (opening_heap opened serves) (front ++ grow ∷ search ∷ rest)
@@ -169,7 +169,7 @@ module _ (who calls : ℕ) (trace : List Done)
       (entry_for who (number + 1) (record { heap = asked.heap; call = call.Alloc asked.request tag; answer = found })) []
       (eq-eqb asked.heap asked.heap refl)
 
-  -- a search for the request of an ask behind the growth that it was granted finds an address
+  -- a search for the request of an ask after the growth that it was granted finds an address
   search_finds : (front : List Done) (asked : PagesAsked) (run : Run) (tag : Tag) (grown found : HeapAnswer)
       → trace ≡ front ++ granted_trace asked run tag grown found → AllowsPage asked.request.flags asked.page → IsAddress found
   search_finds front asked run tag grown found are allows =

@@ -1,4 +1,4 @@
--- What took the numbers of each participant, an ask or a notice, and that more of them only come behind the others.
+-- What took the numbers of each participant, an ask or a notice, and that more of them only come after the others.
 use Rattle.std.proofs.Common.{◌≡◌, ◌≢◌, ◌∙◌, ℕ, List, [], ◌∷◌, ◌++◌, Option, Some, None, refl, sym, ap, subst, append-nil, ⊎_elim}
 use Rattle.std.specs.Prelude.{slice_get, slice_set}
 use Rattle.std.proofs.lemmas.Bool.{cases_eq}
@@ -27,7 +27,7 @@ numbered_both (GaveUp heap run ∷ trace) more = ap (λ numbered. GaveUp heap ru
 numbered_both (Looked records ∷ trace) more = numbered_both trace more
 numbered_both (CaughtUp to caught ∷ trace) more = numbered_both trace more
 
--- more came behind the others
+-- more came after the others
 pub record HasMore (old new : List Done) : Type 0 where
   pub more : List Done
   pub is : new ≡ old ++ more

@@ -147,7 +147,7 @@ module _ (workload : Workload) (courses : List Course) (parties behind : List Pa
       (standing_after (opening_standing workload by) (courses_of by courses)) one refl refl (so.seats by before.it before.there).trace
       goes.built (line_is_done workload courses parties behind old new line answer given so goes) gone)
 
--- behind a line all stands as before it
+-- after a line all stands as before it
 pub so_far_line : GoesOnByLine
 so_far_line workload courses parties behind old new line answer given so goes = (
   on_by_line workload courses parties behind old new line answer given so goes,

@@ -101,7 +101,7 @@ unfolding Leads
 last_given last given leads = cc
 
 module _ (asked : PagesAsked) (tag : Tag) (run : Run) (given : Answer) (allows : AllowsPage asked.request.flags asked.page) where
-  -- the search behind a growth
+  -- the search after a growth
   search_pays : (grown found : HeapAnswer) (trace : List Done)
       → Leads (unless_found (Doing.Ended answer.None) found) trace (Doing.Ended given)
       → IsPaid given

@@ -1,4 +1,4 @@
--- Paths of a participant one behind the other, and what is left of it behind one that adds nothing to its trace.
+-- Paths of a participant one after the other, and what is left of it behind one that adds nothing to its trace.
 use Rattle.std.proofs.Common.{◌≡◌, ◌∙◌, ℕ, List, [], ◌∷◌, ◌++◌, map, refl, sym, ap, subst}
 use Rattle.std.proofs.lemmas.List.{append-nil, append_assoc}
 use Rattle.hp_base.specs.declared.caught.Caught.{Caught}

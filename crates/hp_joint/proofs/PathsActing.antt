@@ -48,7 +48,7 @@ module _ (count who : ℕ) where
         acted.standing acted.path;
   }
 
-  -- one behind the other
+  -- one after the other
   acted_on : (doer mid after : ParticipantView) (more rest : List Done) (first last : List MailStep) (seat : Seat)
       (here : ActedAs count who doer mid more first seat) → ActedAs count who mid after rest last here.behind
       → ActedAs count who doer after (more ++ rest) (first ++ last) seat

@@ -55,7 +55,7 @@ module _ (count who : ℕ) where
     path = serves.path;
   }
 
-  -- one behind the other
+  -- one after the other
   pub acted_then : (party mid after : Party) (more rest : List Done) (first last : List MailStep) (seat : Seat)
       (here : Acted count who party mid more first seat) → Acted count who mid after rest last here.behind
       → Acted count who party after (more ++ rest) (first ++ last) seat

@@ -12,7 +12,7 @@ use Rattle.hp_joint.proofs.Paths.{Comes, ServesFrom, comes_by, serves_here, serv
 use Rattle.hp_joint.proofs.PathsServing.{serving_path}
 
 module _ (count who : ℕ) where
-  -- one behind the other
+  -- one after the other
   serves_both : (party mid after : Party) (first last steps : List MailStep) → steps ≡ first ++ last → party.me ≡ who
       → ServesFrom count who party mid first → (mid.me ≡ who → ServesFrom count who mid after last) → ServesFrom count who party after steps
   serves_both party mid after first last steps did me here next seat =

@@ -68,7 +68,7 @@ module _ (deadline : ℕ) (may_fail : ℕ → Option (List FailingCall)) (who : 
       record { me = was.me; its_deadline = was.its_deadline; its_may_fail = was.its_may_fail; waits = was.waits }
   mails_steady (Mails.speaks seat to frame body action posted nothing says) was = was
 
-  -- the coordinator behind a step waits as long
+  -- the coordinator after a step waits as long
   waits_on : (event : CoreEvent) (core : Core) (segs : SegsView) → core.deadline ≡ deadline
       → WaitsFor deadline (Some (stepping event core segs).core)
   waits_on event core segs same one is =

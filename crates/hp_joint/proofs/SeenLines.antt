@@ -34,7 +34,7 @@ another who course courses beside = ap (λ own. cond own (course ∷ courses_of 
 abbrev took : (ℕ → ℕ) → ℕ → List Course → ℕ
 took made who courses = made who + length (numbered_in (trace_of (courses_of who courses)))
 
--- what counts for the lines behind the first one
+-- what counts for the later lines the first one
 module _ (made : ℕ → ℕ) (course : Course) (courses : List Course) where
   abbrev whose : ℕ
   whose = course.line.participant

@@ -75,7 +75,7 @@ module _ (who before base start : ℕ) (segs : SegsView) (none : IsUngrantedAdd 
   first_since : start ≤ first_of segs.pools segs.log segs.asks entry heap
   first_since = first_by (has_failed segs.log segs.asks heap entry.at) entry.outcome refl refl
 
--- behind a line of a participant that had made so many asks and notices, with so many outcomes and records then
+-- after a line of a participant that had made so many asks and notices, with so many outcomes and records then
 module _ (who before base start : ℕ) (segs : SegsView) (sound : IsSound segs) (alone : segs.growth ≡ None)
     (stands : StandsApart who before base start segs) (turn : AreInTurn segs.asks)
     (none : IsUngrantedAdd segs.log segs.asks start → ⊥)

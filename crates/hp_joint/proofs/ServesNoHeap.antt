@@ -20,7 +20,7 @@ use Rattle.hp_serve.specs.Serving.{IsFollowed, IsHeeded, IsMemberServed, IsTold,
 use Rattle.hp_solo.specs.Served.{ServesOn}
 use Rattle.hp_joint.proofs.HeapGivers.{GiveNoHeap, IsNoGive}
 
--- steps one behind the other
+-- steps one after the other
 pub none_both : (first last : List MailStep) → GiveNoHeap first → GiveNoHeap last → GiveNoHeap (first ++ last)
 none_both [] last here there = there
 none_both (step ∷ first) last here there = (here.0, none_both first last here.1 there)

@@ -75,7 +75,7 @@ failed_add log asks heap at is =
       ungranted = not-true (is_granted asks at) more.1;
     }
 
--- what an outcome shows last is as many records as stand before it, or one more behind a growth that failed
+-- what an outcome shows last is as many records as stand before it, or one more after a growth that failed
 data IsLastShown (log : List LogRecord) (asks : List AskLog) (entry : AskLog) (last : ℕ) : Type 0 where
   at_once : last ≡ entry.at → IsLastShown log asks entry last
   behind_drop : last ≡ entry.at + 1 → IsUngrantedAdd log asks entry.at → IsLastShown log asks entry last

@@ -63,7 +63,7 @@ module _ (count deadline : ℕ) (may_fail : ℕ → Option (List FailingCall)) (
   abbrev LeavesAfter : Stepped → Type 0
   LeavesAfter after = Changes count deadline may_fail segs after.segs
 
-  -- what comes behind the drops
+  -- what comes after the drops
   behind_drops : (last : SegsView) → Changes count deadline may_fail (after_drop segs) last → Changes count deadline may_fail segs last
   behind_drops last more = goes_on segs (after_drop segs) last (drops count deadline may_fail segs) more
 

@@ -38,7 +38,7 @@ abbrev pub AreElsewhere : List AskLog → ℕ → Type 0
 AreElsewhere asks generation =
     (place : ℕ) (x : AskLog) → slice_get asks place ≡ Some x → is_grant_or_refusal x.outcome ≡ true → x.at ≡ generation → ⊥
 
--- what stands at a place with one more behind the others
+-- what stands at a place with one more after the others
 pub pushed_at : {X : Type 0} (xs : List X) (x y : X) (place : ℕ) → slice_get (xs ++ x ∷ []) place ≡ Some y
     → (slice_get xs place ≡ Some y) ⊎ ((place ≡ length xs) × (x ≡ y))
 pushed_at [] x y zero here = inr (refl, same_Some x y here)

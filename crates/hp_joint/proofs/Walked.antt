@@ -174,7 +174,7 @@ module _ (count : ℕ) (lasts : List Seat) where
       rests at values keeps good sized leads (rest_all at leads (length at.seats) (omega arith))
   none_left at values homes sized keeps good (IsUnderWay.held who there holding others) = absurd (nobody_holds at who holding)
 
-  -- behind one step the way goes on
+  -- after one step the way goes on
   arrives_on : (who : ℕ) (step : MailStep) (steps : List (ℕ × MailStep)) (at : Joint) (boxes : List (List Frame)) (values later : List Kept)
       (homes : List Bool) (here : IsBehind count lasts who step steps at values homes) → Arrives here.new boxes later
       → Arrives at boxes later

@@ -36,7 +36,7 @@ abbrev pub numbers_made : ℕ → List Course → ℕ
 numbers_made who courses = length (numbered_in (trace_of (courses_of who courses)))
 
 -- between lines there was a number of records: by then all that the lines before had given up had gone, each run by one Drop of its own, and
--- whatever the lines behind see of the log holds these records
+-- whatever the later lines see of the log holds these records
 pub record HasGoneBetween (count : ℕ) (log : List LogRecord) (asks : List AskLog) (before behind : List Course) : Type 0 where
   pub records : ℕ
   pub most : records ≤ length log
@@ -52,7 +52,7 @@ DropsComeFirst count log asks courses = (lines : ℕ) → HasGoneBetween count l
 abbrev pub DropsOpen : Type 0
 DropsOpen = (count : ℕ) (log : List LogRecord) (asks : List AskLog) → DropsComeFirst count log asks []
 
--- and behind each line more that leaves nothing Retiring
+-- and after each line more that leaves nothing Retiring
 abbrev pub DropsGoOnByLine : Type 0
 DropsGoOnByLine = (workload : Workload) (courses : List Course) (parties behind : List Party) (old new : HallView) (line : Line)
     (answer : Answer) (was now : SegsView) → IsGiven workload → SoFar workload courses parties old

@@ -26,7 +26,7 @@ with_seat who seat at = record { seats = slice_set at.seats who seat; segs = at.
 abbrev pub with_segs : SegsView → Joint → Joint
 with_segs segs at = record { seats = at.seats; segs = segs; boxes = at.boxes }
 
--- the mailboxes are those behind a step that a participant made
+-- the mailboxes are those after a step that a participant made
 abbrev pub behind_step : ℕ → MailStep → Joint → Joint
 behind_step who step at = record { seats = at.seats; segs = at.segs; boxes = after_step who step at.boxes }
 

@@ -32,7 +32,7 @@ pub fn refusal_law()
 {}
 
 /// Between any two lines of such a run there was a number of records by which all that the lines before had given up had gone, and which
-/// whatever the lines behind see of the log holds: so it is before the first line, behind each line that leaves nothing Retiring, and where
+/// whatever the later lines see of the log holds: so it is before the first line, after each line that leaves nothing Retiring, and where
 /// all serve on. Own.
 pub fn drops_law()
     ensures opens { DropsOpen }

@@ -21,7 +21,7 @@ length_rows_below run generation zero = refl
 length_rows_below run generation (suc n) =
     omega (arith, length-append (rows_below run generation n) (row_of run generation n ∷ []), length_rows_below run generation n)
 
--- one row more stands behind the others
+-- one row more stands after the others
 pub rows_below_more : (run : Run) (generation n : ℕ)
     → rows_below run generation (n + 1) ≡ rows_below run generation n ++ row_of run generation n ∷ []
 rows_below_more run generation n = rw add-one refl

@@ -6,7 +6,7 @@ use Rattle.hp_base.specs.declared.row.Run.{Run}
 use Rattle.hp_log.specs.Log.{IsWellFormed, run_in, table_at}
 use Rattle.hp_log.specs.declared.log_record.LogRecord.{LogRecord}
 
--- where a list lies: so many slots, each a page long, one behind the other from its base on
+-- where a list lies: so many slots, each a page long, one after the other from its base on
 pub record ListPlace : Type 0 where
   pub base : ℕ
   pub page : ℕ

@@ -49,7 +49,7 @@ chunk_apart_after maps chunk rows caught.Done can apart is_rows = subst AreApart
 chunk_apart_after maps chunk rows (caught.Refused row call) can apart is_rows = subst AreApart (sym is_rows) apart
 chunk_apart_after maps chunk rows (caught.Elsewhere row call got) can apart is_rows = subst AreApart (sym is_rows) apart
 
--- they may be mapped behind the others
+-- they may be mapped after the others
 pub chunk_can_map : (maps : MapsView) (chunk : Chunk) (run : Run) (now : List Row) (start : ℕ) (held : List Held) (capacity calls : ℕ)
     → CanAttach maps chunk → AreApart maps.rows → run ≡ run_of_chunk chunk → now ≡ maps.rows ++ undropped [] (rows_of run 0)
     → start ≡ length maps.rows → held ≡ owned maps.rows → maps.capacity ≤ capacity → calls ≡ calls_of maps → length now < 2 ^ 63

@@ -25,7 +25,7 @@ filter_agree p q (x ∷ xs) all =
     ap (λ b. cond b (x ∷ filter p xs) (filter p xs)) (All-head (λ x. p x ≡ q x) x xs all)
     ∙ ap (λ rest. cond (q x) (x ∷ rest) rest) (filter_agree p q xs (All-tail (λ x. p x ≡ q x) x xs all))
 
--- two filters, one behind the other, keep what passes both
+-- two filters, one after the other, keep what passes both
 pub filter_twice : {X : Type 0} (p q : X → Bool) (xs : List X) → filter p (filter q xs) ≡ filter (λ x. q x && p x) xs
 filter_twice p q [] = refl
 filter_twice p q (x ∷ xs) =

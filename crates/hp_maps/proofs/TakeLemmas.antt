@@ -38,7 +38,7 @@ row_within run generation k mappable some within =
 pub new_within : (n : ℕ) (records : List LogRecord) → All (λ entry. IsMappableRun (run_in entry)) records → All IsWithin (new_rows n records)
 new_within n records all = all_new_rows IsWithin IsMappableRun row_within n records all
 
--- the new rows may be mapped behind those that stay
+-- the new rows may be mapped after those that stay
 pub take_in_can : (rows now : List Row) (n start : ℕ) (records : List LogRecord) (held : List Held) (capacity memory calls room : ℕ)
     → CanTakeIn rows n records room memory calls → capacity ≡ room → start ≡ length (kept records rows)
     → now ≡ kept records rows ++ new_rows n records → held ≡ owned (kept records rows) → length now < 2 ^ 63

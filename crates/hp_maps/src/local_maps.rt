@@ -130,7 +130,7 @@ impl<M: Mapper> LocalMaps<M> {
         self.rows.as_slice().iter().any(|other| is_row(row, other))
     }
 
-    /// Catches up with the log: unmaps the rows that the records behind its number up to `to` drop, and then maps the rows
+    /// Catches up with the log: unmaps the rows that the records after its number up to `to` drop, and then maps the rows
     /// that they bring, by rising address within each record, in the order of the log. What goes is told before it is
     /// unmapped, and what comes once all of it is mapped. Where the mapper refuses a row, or maps it elsewhere, what came is
     /// unmapped again. After the synchronisation of memory maps in Multi-process Support.

@@ -78,7 +78,7 @@ impl RowList {
         self.next
     }
 
-    /// Adds a row behind all others, where there is memory for it.
+    /// Adds a row after all others, where there is memory for it.
     pub fn push(&mut self, row: Row)
         requires room { length self.old.items < self.old.memory }
         ensures items { self.new.items ≡ self.old.items ++ row ∷ [] }

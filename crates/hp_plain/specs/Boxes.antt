@@ -22,7 +22,7 @@ copies Twice = 2
 copies (Lost line) = 0
 copies Full = 0
 
--- a mailbox after a message: its frame comes behind all others
+-- a mailbox after a message: its frame comes after all others
 abbrev pub box_after : Frame → Posted → List Frame → List Frame
 box_after frame posted box = box ++ replicate (copies posted) frame
 

@@ -15,7 +15,7 @@ use Rattle.hp_segs.specs.Standing.{IsArmed}
 use Rattle.hp_hall.specs.Mail.{MailStep, Posts, Fetches, Takes, Gives, Notes}
 use Rattle.hp_hall.specs.Values.{IsSoundKept}
 
--- a heap behind a give: it opened as before, and has entries of the giver alone behind those that it had
+-- a heap after a give: it opened as before, and has entries of the giver alone after those that it had
 pub record IsHeapGivenBy (who : ℕ) (taken given : HeapView) : Type 0 where
   pub index : given.plain.index ≡ taken.plain.index
   pub serves : given.plain.serves ≡ taken.plain.serves
@@ -23,7 +23,7 @@ pub record IsHeapGivenBy (who : ℕ) (taken given : HeapView) : Type 0 where
   pub history : given.history ≡ taken.history ++ own
   pub only : AllByRecursion (λ entry. entry.caller.participant ≡ who) own
 
--- a segment value behind a give: it moved by its own calls, its external memory stayed, and of the others the armed asks and who is in the
+-- a segment value after a give: it moved by its own calls, its external memory stayed, and of the others the armed asks and who is in the
 -- roster; and the open growth and the kept asks stayed those of the armed
 pub record AreSegsGivenBy (who : ℕ) (taken given : SegsView) : Type 0 where
   pub moved : IsMoved taken given
@@ -53,7 +53,7 @@ ShowsValues who (Takes number kept) values = slice_get values number ≡ Some ke
 ShowsValues who (Gives number kept) values = GivesInto who number kept values
 ShowsValues who (Notes note) values = ⊤
 
--- the values behind a step: a give alone changes one
+-- the values after a step: a give alone changes one
 abbrev pub values_after : MailStep → List Kept → List Kept
 values_after (Posts to frame action posted) values = values
 values_after (Fetches frame) values = values

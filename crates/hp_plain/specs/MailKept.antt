@@ -1,4 +1,4 @@
--- What was done in a hall, kept behind one another. No public clause cites this module.
+-- What was done in a hall, kept one after another. No public clause cites this module.
 use Rattle.std.specs.Prelude.{ℕ, List, [], ◌∷◌, ◌++◌}
 use Rattle.hp_plain.specs.declared.mail_log.MailPast.{MailPast}
 use Rattle.hp_plain.specs.declared.mail_log.MailPast.TheVariants.{Nothing, Post, Fetch, Take, Give, Other}

@@ -192,7 +192,7 @@ module _ (after : ParticipantView) (old new : ℕ → HeapPart) (log later : Lis
     pages =
         subst (λ (plain : PlainHeap). HasPages plain.pages grows.behind.owned) (sym is.heap) (grows.grows.pages heap.plain (sym its) had.pages)
 
-    -- the run comes behind those that came before, by its history and by what it has claimed
+    -- the run comes after those that came before, by its history and by what it has claimed
     brought : HasHolding next grows.behind
     brought =
         let adds = calls_add_runs (caller_of after) (call.Grow run) gives.Done heap next is in

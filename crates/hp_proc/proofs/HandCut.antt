@@ -49,7 +49,7 @@ cut_from_held addr index run heap (Some owned) same held cut = (
   record { whole = heap.plain; address = addr; its_index = sym same; pages = held.pages; cut = cut; left_is = refl },
 )
 
--- once it is given up the heap has what its holding names: the pages of its own segments, and the run behind those that it gave up before
+-- once it is given up the heap has what its holding names: the pages of its own segments, and the run after those that it gave up before
 pub held_behind_cut : (caller : Caller) (addr index : ℕ) (run : Run) (old new : HeapView) (before behind : HeapPart) → index ≡ old.plain.index
     → IsHeldWith old before.holding → IsRunCut addr old.plain run → IsCall caller (call.Cut addr) (gives.Pages run) old new
     → GivesUp index run before behind → IsHeldWith new behind.holding

@@ -121,7 +121,7 @@ sums_more f g at more from (suc count) same here above below =
 
 module _ (who : ℕ) (heap : HeapView) (old new : ℕ → HeapPart) (here : new heap.plain.index ≡ part_ended who heap (old heap.plain.index))
     (apart : AreApart heap.plain.index old new) where
-  -- behind a give its entries are those of the heap that was in hand, and all else but that it holds it stays
+  -- after a give its entries are those of the heap that was in hand, and all else but that it holds it stays
   pub given_entries : (index : ℕ) → (new index).entries ≡ (with_hand who heap old index).entries
   given_entries index = ⊎_elim
       (λ its.

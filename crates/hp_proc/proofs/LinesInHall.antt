@@ -27,7 +27,7 @@ idle_still {me} slots later tied idle = record {
 pub idle_in : {me : ℕ} {old new : Party} {a b : HallState} → StaysIn me old new a b → IsIdleIn me old a → IsIdleIn me new b
 idle_in here idle = idle_still here.waits.slots here.waits.later here.tied idle
 
--- it holds that slot at most, behind a call that leaves the others
+-- it holds that slot at most, after a call that leaves the others
 pub free_but : {me slot : ℕ} {party : Party} {a b : HallState} → SlotsStayBut slot a b → IsIdleIn me party a → AreFreeBut slot b
 free_but slots idle = record {
   taken = λ number apart. slots.taken number apart ∙ idle.free number;

@@ -27,7 +27,7 @@ claimed : (segs : SegsView) (grant : Option ℕ) → HasOutcomes segs (claimed_g
 claimed segs None = record { log = refl; growth = refl; roster = refl; asks = refl; retiring = refl }
 claimed segs (Some generation) = record { log = refl; growth = refl; roster = refl; asks = refl; retiring = refl }
 
--- so it is behind a claim
+-- so it is after a claim
 pub claims : (from number : ℕ) (segs : SegsView) → HasOutcomes segs (after_claim from number segs)
 claims from number segs = claimed segs (grant_of segs.asks from number)
 

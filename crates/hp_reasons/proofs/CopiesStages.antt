@@ -58,7 +58,7 @@ module _ (set : Setting) (call : Asked) (sent : ℕ) (world : World) (primary : 
   its_core phase holds coordinator =
       ap (λ (p : Party). p.core) (same_Some primary coordinator.primary (sym there ∙ coordinator.there)) ∙ coordinator.is.there
 
-  -- the world behind the step
+  -- the world after the step
   abbrev behind : SegsView → Core → World
   behind segs core = world_set segs world.shared.boxes world.mail (with_core core primary) world
 
@@ -152,7 +152,7 @@ module _ (set : Setting) (call : Asked) (sent : ℕ) (world : World) (primary : 
         (along_behind staled core (like_stale world.shared.segs (asker call) (number_of call))) call doubled.told;
   }
 
-  -- so it comes to the stage that stands behind the step
+  -- so it comes to the stage that stands after the step
   comes_by : (segs : SegsView) (core : Core) (shared : Shared) (after : Party) → IsTaken segs core world.shared shared primary after
       → IsLike world.shared.segs segs → Stage set call sent true (behind segs core) → ComesTo set call sent true world 0 shared after
   comes_by segs core shared after taken like stage =

@@ -260,7 +260,7 @@ module _ (set : Setting) (me : ℕ) (old new : SoloView) (party after : Party) (
   attach_gone (caught.Refused row call) = owing.gone
   attach_gone (caught.Elsewhere row call got) = owing.gone
 
-  -- the steps behind the take
+  -- the steps after the take
   abbrev tries : Caught → SegsView → List MailStep
   tries ended segs = acks_behind ended (length segs.log) ++ (gives_segments (after_attaching me ended segs) ∷ [])
 

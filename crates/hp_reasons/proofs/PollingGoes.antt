@@ -21,7 +21,7 @@ use Rattle.hp_reasons.proofs.CopiesStages.{doubles_same}
 use Rattle.hp_reasons.proofs.Said.{get_set, set_found}
 use Rattle.hp_reasons.proofs.Told.{IsHeardOn, told_on}
 
--- the world behind such a step
+-- the world after such a step
 abbrev pub goes : World → Party → Core → SegsView → World
 goes world primary next segs = world_with (with_segs segs world.shared) world.mail 0 (with_core next primary) world
 

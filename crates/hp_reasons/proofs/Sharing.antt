@@ -29,7 +29,7 @@ cut_at who (step ∷ first) rest old new makes =
     let behind = cut_at who first rest makes.0 new makes.2 in
     record { mid = behind.mid; begins = (makes.0, makes.1, behind.begins); ends = behind.ends }
 
--- steps one behind the other
+-- steps one after the other
 pub made_then : (who : ℕ) (first rest : List MailStep) (old mid new : Shared) → MakesAll who first old mid → MakesAll who rest mid new
     → MakesAll who (first ++ rest) old new
 made_then who [] rest old mid new begins ends = subst (λ (at : Shared). MakesAll who rest at new) begins ends

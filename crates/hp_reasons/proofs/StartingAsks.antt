@@ -55,7 +55,7 @@ opened_for ask run segs =
     (eq-eqb (length segs.log + 1) (length (segs.log ++ Add run ask.heap ∷ [])) (omega (arith, length-append segs.log (Add run ask.heap ∷ []))))
     (and_from (ask.from == ask.from) (ask.number == ask.number) (eq-eqb ask.from ask.from refl) (eq-eqb ask.number ask.number refl))
 
--- there are no fewer records behind the drops
+-- there are no fewer records after the drops
 drops_longer : (segs : SegsView) → length segs.log ≤ length (dropped segs).log
 drops_longer segs = omega (arith, length-append segs.log (map (λ run. Drop run) segs.retiring))
 

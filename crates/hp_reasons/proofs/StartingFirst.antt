@@ -51,7 +51,7 @@ module _ (core : Core) (segs : SegsView) (call : Asked) (rests : core.phase ≡ 
       (if closed then idle (after_stale (asker call) (number_of call) (with_room segs)) Nothing
       else started_by nobody_denies (with_room segs) call)) fresh)
 
--- the value behind the drops
+-- the value after the drops
 abbrev pub dropped : SegsView → SegsView
 dropped segs = after_drop (with_room segs)
 

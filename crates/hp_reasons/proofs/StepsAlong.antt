@@ -39,7 +39,7 @@ IsStill (Notes (Paused moved until)) = ⊥
 abbrev pub AreStill : List MailStep → Type 0
 AreStill steps = AllByRecursion IsStill steps
 
--- steps one behind the other
+-- steps one after the other
 pub still_both : (first last : List MailStep) → AreStill first → AreStill last → AreStill (first ++ last)
 still_both [] last here there = there
 still_both (step ∷ first) last here there = (here.0, still_both first last here.1 there)

@@ -23,7 +23,7 @@ module _ (a b c : Way) (x y : List ℕ) (first : HasAdded a b x) where
   pages_joined : first.sent ++ (b.page ++ y) ≡ a.page ++ (x ++ y)
   pages_joined = sym (append_assoc first.sent b.page y) ∙ ap (λ t. t ++ y) first.page ∙ append_assoc a.page x y
 
-  -- two texts were added, one behind the other
+  -- two texts were added, one after the other
   pub then_added : HasAdded b c y → HasAdded a c (x ++ y)
   then_added second = record {
     sent = first.sent ++ second.sent;

@@ -37,7 +37,7 @@ pub fn render<K: Sink>(alloc: Global, ended: &Ended<'_>, sink: &mut K) -> Result
     requires answers { length ended.now.answers.items ≡ length ended.now.workload.lines.items }
     ensures ok { OnOk result (Holds (K.held sink.old) (K.held sink.new) (report ended.now)) }
 
-    // After a fault a front of the report stands behind what the sink held.
+    // After a fault a front of the report stands after what the sink held.
     ensures err { OnErr result (HoldsFront (K.held sink.old) (K.held sink.new) (report ended.now)) }
 
     // The sink's count of faults rises where the sink failed, and only there.
@@ -49,7 +49,7 @@ pub fn render<K: Sink>(alloc: Global, ended: &Ended<'_>, sink: &mut K) -> Result
     hand_on(sink, &mut page)
 }
 
-// The parts of the report, one behind the other.
+// The parts of the report, one after the other.
 fn write_parts<'a, K: Sink>(
     alloc: Global,
     sink: &mut K,

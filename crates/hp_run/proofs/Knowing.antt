@@ -1,4 +1,4 @@
--- What each participant knows of its lines: before the first one, and behind one line more.
+-- What each participant knows of its lines: before the first one, and after one line more.
 use Rattle.std.proofs.Common.{◌≡◌, ◌≢◌, ◌∙◌, ℕ, ◌+◌, ◌<◌, ◌≤◌, ◌++◌, ⊎_elim, Bool, List, [], ◌∷◌, length, set, Option, Some, None, sym, ap, subst, arith}
 use Rattle.std.specs.List.{slice_get}
 use Rattle.std.proofs.lemmas.Bool.{cases_eq, cases_lt}

@@ -101,7 +101,7 @@ lines_before lines index line rising within is = λ i d below.
 
 module _ (workload : Workload) (courses : List Course) (parties : List Party) (hall : HallView)
     (so_far : SoFar workload courses parties hall) where
-  -- behind the lines so far the next one may be done
+  -- after the lines so far the next one may be done
   pub next_line : (who : ℕ) (index : ℕ) (line : Line) → IsRunnable workload
       → map (λ (course : Course). course.line) courses ≡ take index workload.lines.items
       → index < length workload.lines.items → line ≡ get_or workload.lines.items index line

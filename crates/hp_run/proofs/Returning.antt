@@ -58,7 +58,7 @@ module _ (who : ℕ) (after : Party) (parties : List Party) (first away back las
       going)
       (cases_eq other who)
 
-  -- the participants behind the line
+  -- the participants after the line
   pub behind : (behind : List Party) × AreParties last.servers behind
   behind = filled_places last.servers filled
 

@@ -12,7 +12,7 @@ use Rattle.hp_script.specs.Made.{Notes}
 use Rattle.hp_script.specs.Known.{line_known}
 use Rattle.hp_script.specs.declared.first_lines.FirstLines.{FirstLines}
 
--- a line is noted, and the lines behind it are left
+-- a line is noted, and the lines after it are left
 pub noted_more : (verb : List ℕ) (line : Part) (lines : List Part) (number : ℕ) (old new all : List ℕ → Option ℕ)
     → ((name : List ℕ) → option_or (old name) (first_maker verb (line ∷ lines) number name) ≡ all name) → Notes verb line number old new
     → (name : List ℕ) → option_or (new name) (first_maker verb lines (number + 1) name) ≡ all name

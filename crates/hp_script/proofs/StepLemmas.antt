@@ -24,7 +24,7 @@ use Rattle.hp_script.specs.declared.shape.Shape.TheVariants.{Setup, Does, Awaits
 use Rattle.hp_script.specs.declared.reader.Reader.{Reader}
 use Rattle.hp_script.proofs.TokensLemmas.{tokens_fields}
 
--- what holds behind a step that goes on
+-- what holds after a step that goes on
 pub through : {A B : Type 0} (step : Result A BadKind) (next : A → Result B BadKind) (P : B → Type 0)
     → ((x : A) → step ≡ Ok x → IfOk (next x) P) → IfOk (step >>= next) P
 through (Ok x) next P holds = holds x refl
@@ -36,7 +36,7 @@ pub passed : {B : Type 0} (test : Bool) (kind : BadKind) (next : Unit {0} → Re
 passed true kind next P holds = tt
 passed false kind next P holds = holds refl
 
--- what holds behind a step that asks for what is there
+-- what holds after a step that asks for what is there
 pub present : {A B : Type 0} (o : Option A) (kind : BadKind) (next : A → Result B BadKind) (P : B → Type 0)
     → ((x : A) → o ≡ Some x → IfOk (next x) P) → IfOk (ok_or o kind >>= next) P
 present (Some x) kind next P holds = holds x refl

@@ -59,7 +59,7 @@ abbrev pub StandsBehind : ℕ → List Line → Act → Type 0
 StandsBehind participants before (act.Await other lines) = (other < participants) × (lines ≤ lines_by other before)
 StandsBehind participants before _ = ⊤
 
--- each of the lines that await stands behind the lines that it awaits
+-- each of the lines that await stands after the lines that it awaits
 abbrev pub AwaitBehind : ℕ → List Line → List Line → Type 0
 AwaitBehind participants before [] = ⊤
 AwaitBehind participants before (line ∷ lines) = StandsBehind participants before line.act × AwaitBehind participants (before ++ line ∷ []) lines

@@ -22,7 +22,7 @@ opening start = standing start []
 abbrev pub behind_draw : Drawing → Drawing
 behind_draw from = record { state = next_state from.state; live = from.live }
 
--- what a participant does in a line, and what stands behind that line
+-- what a participant does in a line, and what stands after that line
 pub record Turn : Type 0 where
   pub act : DrawnAct
   pub left : Drawing
@@ -76,7 +76,7 @@ drawn_turn number from = turn_by (drawn 8 (next_state from.state)) number (behin
 abbrev pub drawn_line : ℕ → Drawing → DrawnLine
 drawn_line number from = record { participant = drawn 4 from.state; act = (drawn_turn number from).act }
 
--- what stands behind a line
+-- what stands after a line
 abbrev pub behind_line : ℕ → Drawing → Drawing
 behind_line number from = (drawn_turn number from).left
 

@@ -16,7 +16,7 @@ use Rattle.hp_segs.specs.declared.row_state.RowState.TheVariants.{Opened, Agreed
 use Rattle.hp_segs.specs.declared.row_state.Segment.{Segment}
 use Rattle.hp_log.proofs.Counts.{count_cons}
 
--- an outcome behind the others
+-- an outcome after the others
 abbrev pub logged_more : AsksView → AskLog → AsksView
 logged_more asks entry = record asks { entries = asks.entries ++ entry ∷ []; room = asks.room - 1 }
 

@@ -1,4 +1,4 @@
--- The lists of pools: one behind the other, each on its pages, and all of them low.
+-- The lists of pools: one after the other, each on its pages, and all of them low.
 use Rattle.std.proofs.Common.{◌≡◌, subst, ℕ, zero, suc, ◌+◌, ◌*◌, ◌%◌, ◌^◌, ◌<◌, ◌≤◌, List, [], ◌∷◌, Some, arith}
 use Rattle.std.specs.List.{All, slice_get}
 use Rattle.std.proofs.lemmas.Option.{slice_get_within}

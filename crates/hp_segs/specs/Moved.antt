@@ -120,7 +120,7 @@ is_range_call (ClaimRange list addr len page socket) = true
 is_range_call (ReleaseRange list) = true
 is_range_call _ = false
 
--- the pools stay, and records and outcomes come behind the others alone
+-- the pools stay, and records and outcomes come after the others alone
 pub record Appends (old new : SegsView) : Type 0 where
   pub pools : new.pools ≡ old.pools
   pub records : List LogRecord

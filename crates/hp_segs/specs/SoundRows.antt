@@ -45,7 +45,7 @@ abbrev pub has_stamp : Option Growth → Row → Bool
 has_stamp None row = false
 has_stamp (Some growth) row = row.generation == growth.generation
 
--- the growth is of a participant's ask; the last record is its Add; its rows stand behind all others and are the Opened ones; and
+-- the growth is of a participant's ask; the last record is its Add; its rows stand after all others and are the Opened ones; and
 -- beside the others its run is the first one of the pages asked, in a pool that has them, and has a place for the request
 pub record IsGrowth (pools : List PoolLine) (log : List LogRecord) (segments : List Segment) (growth : Growth) : Type 0 where
   pub participant : growth.ask.from < 16

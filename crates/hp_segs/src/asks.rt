@@ -124,7 +124,7 @@ fn close(closed: &mut [u64; 16], entry: &AskLog)
     }
 }
 
-// The entry comes behind the others.
+// The entry comes after the others.
 fn append(entries: &mut Vec<AskLog>, entry: AskLog)
     requires { length entries.old.items < vec_capacity entries.old }
     ensures items { entries.new.items ≡ entries.old.items ++ entry ∷ [] }
@@ -198,7 +198,7 @@ impl Asks {
         self.closed[from as usize]
     }
 
-    // Logs an outcome behind the others.
+    // Logs an outcome after the others.
     pub(crate) fn push(&mut self, entry: AskLog)
         requires participant { entry.from < 16 }
         requires room { 0 < self.old.room }

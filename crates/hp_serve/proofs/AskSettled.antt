@@ -27,7 +27,7 @@ use Rattle.hp_serve.specs.Asking.{BringsPages, Gives, IsAwaiting, MayCome, Settl
 use Rattle.hp_serve.proofs.AskKnown.{known_by, only_answer, refused_known}
 use Rattle.hp_serve.proofs.AskOutcomes.{can_claim, grant_for, grant_is, is_among, keeps_the_ask}
 
--- a part behind a give is as it was, where the value has the same for its heap and its participant is armed with the same ask
+-- a part after a give is as it was, where the value has the same for its heap and its participant is armed with the same ask
 pub part_alike : (who heap : ℕ) (segs : SegsView) (part : HeapPart)
     → option_map (λ holding. standing_of heap segs) part.holding ≡ part.holding
     → armed_ask segs who ≡ part.armed → part_behind who segs heap part ≡ part

@@ -82,7 +82,7 @@ abbrev pub BringsPages : ℕ → Run → Holding → Holding → Type 0
 BringsPages index run old new = (heap : PlainHeap) → heap.index ≡ index → HasPages heap.pages old.owned
     → HasPages (after_grow run heap).pages new.owned
 
--- a run that was granted comes to a heap: it may, and brings its pages; of the heap's runs it comes behind those that came before, and what
+-- a run that was granted comes to a heap: it may, and brings its pages; of the heap's runs it comes after those that came before, and what
 -- the heap gave up stays
 pub record BringsRun (index : ℕ) (run : Run) (old new : Holding) : Type 0 where
   pub may : MayCome index run old
@@ -143,7 +143,7 @@ pub record IsCutFrom (index : ℕ) (run : Run) (holding : Holding) (left : Plain
   pub cut : IsRunCut address whole run
   pub left_is : left ≡ after_cut address whole
 
--- what is left of a holding once a run is given up: its own segments are without the run's rows, and the run comes behind those that were
+-- what is left of a holding once a run is given up: its own segments are without the run's rows, and the run comes after those that were
 -- given up before
 abbrev pub without_run : Run → Holding → Holding
 without_run run holding = record holding {

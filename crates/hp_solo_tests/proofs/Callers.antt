@@ -41,7 +41,7 @@ can_hold hall party may = record {
   home = may.home;
 }
 
--- it may wait behind a call that leaves it all
+-- it may wait after a call that leaves it all
 pub waits_stay : (old new : SoloView) (party : Party) {who : ℕ} → who ≡ party.me → IsSoloCourse old new
     → Stays who (solo_state old) (solo_state new) → MayWait old party → MayWait new party
 waits_stay old new party {who} number course stays may =

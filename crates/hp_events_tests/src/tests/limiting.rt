@@ -117,7 +117,7 @@ fn play<F: Fn(u32, u64, u64) -> bool + Copy + Drop>(
     None
 }
 
-// A limit is no denial at its own total, nor for another socket; the first that denies is named, whatever stands behind it.
+// A limit is no denial at its own total, nor for another socket; the first that denies is named, whatever stands after it.
 #[test]
 fn validators_deny_above_their_limits(rt: HostRuntime) -> Result<(), Fail> {
     let steps = [

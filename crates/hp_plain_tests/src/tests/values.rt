@@ -171,7 +171,7 @@ pub fn join_first(hall: &mut PlainHall) -> bool
     true
 }
 
-/// A participant tells that its table has lost what the records behind its number drop.
+/// A participant tells that its table has lost what the records after its number drop.
 pub fn partial(hall: &mut PlainHall, me: u8)
     requires me { me < length hall.old.owns }
     requires home { AreHome hall.old }

@@ -130,7 +130,7 @@ fn later(alloc: Global, text: &str) -> Result<Option<u32>, ParseFault> {
     Ok(first_later(&workload))
 }
 
-// The same of parts of a text, one behind the other.
+// The same of parts of a text, one after the other.
 fn later_of(alloc: Global, parts: &[&str]) -> Result<Option<u32>, ParseFault> {
     let mut text = String::new(alloc);
     add_each(&mut text, parts)?;
@@ -161,7 +161,7 @@ fn built_lines_alone_have_no_later_one(rt: HostRuntime) -> Result<(), Fail> {
     are_built(rt.alloc(), ALL_BUILT)
 }
 
-// Each of these lines is the first one that is not built, behind those that are and in front of others.
+// Each of these lines is the first one that is not built, after those that are and in front of others.
 fn are_later(alloc: Global, lines: &[&str]) -> Result<(), Fail> {
     for at in 0..lines.len() {
         let parts = [SETUP, CALLS, lines[at], "\n", FURTHER, "0 zone z 1"];

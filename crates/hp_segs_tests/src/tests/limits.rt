@@ -35,7 +35,7 @@ fn take_each(segs: &mut Segs, wants: Wants, first: u64, count: u64) -> Result<()
     Ok(())
 }
 
-// What both sockets have, one behind the other, by growths of so many bytes.
+// What both sockets have, one after the other, by growths of so many bytes.
 fn take_all(alloc: Global, size: u64, count: u64) -> Result<Segs, Fail> {
     let mut segs = largest(alloc)?;
     let first = Wants { size, ..FEW_BYTES };

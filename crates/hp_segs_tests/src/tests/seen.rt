@@ -51,7 +51,7 @@ pub enum End {
     Freed(u64),
     Stale(u64),
     NoList,
-    // There were so many pages, or free slots behind one another, where it needed so many.
+    // There were so many pages, or free slots one after another, where it needed so many.
     TooFew(u64, u64),
     ListFull(u64, u64),
     // The run at that address, of so many bytes, has no place for it.

@@ -1,4 +1,4 @@
--- The row stands behind all others.
+-- The row stands after all others.
 use Rattle.std.proofs.Common.{◌≡◌, ◌∷◌, ◌++◌, ◌∙◌, [], Some, ap, rules}
 use Rattle.hp_base.specs.HeldRows.{rows_in}
 use Rattle.hp_base.proofs.HeldRowLemmas.{rows_behind}

@@ -1,4 +1,4 @@
--- The row stands behind the others.
+-- The row stands after the others.
 use Rattle.std.proofs.Common.{◌≡◌, ◌++◌, ◌∷◌, ◌∙◌, [], ap, arith, rules}
 use Rattle.hp_maps.specs.RowsView.{RowsView}
 use Rattle.hp_maps.proofs.GapLemmas.{added_behind}
