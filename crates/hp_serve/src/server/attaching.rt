@@ -17,10 +17,11 @@ use hp_base::{Caught, Mapper};
 use hp_hall::Hall;
 
 impl<'p, M: Mapper> Server<'p, M> {
-    /// A secondary takes the segment value, takes in the whole log, acknowledges it, comes into the roster and gives the value back. Where
-    /// a mapping fails its table is emptied, and the roster is as it was. After rte_eal_init of a secondary process.
+    /// A secondary that is out takes the segment value, takes in the whole log, acknowledges it, comes into the roster and gives the value
+    /// back. Where a mapping fails its table is emptied, and the roster is as it was. After rte_eal_init of a secondary process.
     pub fn attach<H: Hall>(&mut self, hall: &mut H) -> Caught
         requires secondary { 0 < self.old.me }
+        requires out { self.old.joined ≡ false }
         requires may { MayHold self.old.me (H.state hall.old) }
         requires tied { IsTiedIn self.old.me self.old (H.state hall.old) }
         requires calls { calls_of self.old.maps ≤ 2 ^ 63 }
@@ -29,7 +30,7 @@ impl<'p, M: Mapper> Server<'p, M> {
             ++ (gives_segments (after_attaching self.old.me result segs) ∷ []))) (H.state hall.old) (H.state hall.new) }
         ensures tied { IsTiedIn self.old.me self.new (H.state hall.new) }
         ensures failed { is_done result ≡ false → (H.state hall.new).own self.old.me ≡ (H.state hall.old).own self.old.me }
-        ensures roster { (H.state hall.new).joined self.old.me ≡ ((H.state hall.old).joined self.old.me || is_done result) }
+        ensures roster { (H.state hall.new).joined self.old.me ≡ is_done result }
         ensures stays { StaysButRoster self.old.me (H.state hall.old) (H.state hall.new) }
         ensures goes_on { H.goes_on hall.old hall.new }
     {
