@@ -1,5 +1,5 @@
 -- An address that an allocation in the heap in hand gives lies in a page of that heap, and so in a row of its holder's own table.
-use Rattle.std.proofs.Common.{◌≡◌, ◌∙◌, ℕ, ◌+◌, ◌<◌, ◌≤◌, true, List, [], ◌++◌, append-nil, map, Option, Some, None, MatchOption, Contains, nat_lt, nat_le, ◌==◌, count_by, refl, ap, sym, subst, arith}
+use Rattle.std.proofs.Common.{◌≡◌, ◌∙◌, ℕ, ◌+◌, ◌<◌, ◌≤◌, true, List, [], ◌++◌, append-nil, map, Option, Some, None, MatchOption, Contains, nat_le, ◌==◌, count_by, refl, ap, sym, subst, arith}
 use Rattle.std.proofs.lemmas.Bool.{and_from, and_parts, eqb-true, le-leb, leb-true, lt-ltb, ltb-true}
 use Rattle.hp_base.specs.declared.chunk.Chunk.{Chunk}
 use Rattle.hp_base.specs.declared.request.Request.{Request}
@@ -16,7 +16,6 @@ use Rattle.hp_heap.specs.Placing.{IsPlacedIn, allocated}
 use Rattle.hp_heap.specs.PlainHeap.{Extent, HasKind, HeapPage, PlainHeap, chunk_extent, end_of, page_extent, segments_of}
 use Rattle.hp_heap.specs.Step.{address_answer, answer_of}
 use Rattle.hp_heap.specs.Tiling.{IsTiled, in_range, in_segment}
-use Rattle.hp_heap.specs.declared.entry.HeapAnswer.{HeapAnswer}
 use Rattle.hp_heap.specs.declared.entry.HeapAnswer.TheVariants as gives
 use Rattle.hp_heap.specs.declared.entry.HeapCall.TheVariants as call
 use Rattle.hp_heap.proofs.AllocLaw.{allocated-is}

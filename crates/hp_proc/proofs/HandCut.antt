@@ -19,7 +19,7 @@ use Rattle.hp_heap.specs.declared.entry.HeapCall.TheVariants as call
 use Rattle.hp_heap.specs.declared.freeing.FreeFault.{FreeFault}
 use Rattle.hp_heap.specs.declared.freeing.FreeFault.TheVariants as fault
 use Rattle.hp_serve.specs.Asking.{GivesUp, IsCutFrom, without_run}
-use Rattle.hp_heap.specs.HistoryLaws.{run_cut, runs_cut, runs_grown}
+use Rattle.hp_heap.specs.HistoryLaws.{run_cut, runs_grown}
 use Rattle.hp_proc.proofs.HandMoved.{IsSamePart}
 
 left_whole : (heap : PlainHeap) (found : Option PageCut) → gives.Nothing ≡ run_answer (option_map run_of found) → after_cut_of found heap ≡ heap

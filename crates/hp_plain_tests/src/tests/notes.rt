@@ -49,8 +49,8 @@ pub fn rest(hall: &mut PlainHall, deadline: u64) -> bool
     true
 }
 
-/// Participant 1, which is in the roster, acknowledges the first record, looks up what it has acknowledged and what the primary has, lets those above it serve, which
-/// moves nothing, and reads the clock.
+/// Participant 1, which is in the roster, acknowledges the first record, looks up what it has acknowledged and what the primary has, lets
+/// those above it serve, which moves nothing, and reads the clock.
 pub fn note_each(hall: &mut PlainHall) -> (u64, u64, u64)
     requires two { length hall.old.owns ≡ 2 }
     requires nothing_yet { (own_at hall.old 1).number ≡ 0 }

@@ -1,5 +1,5 @@
 -- One heap more is tried, and it answered the line or was passed.
-use Rattle.std.proofs.Common.{◌≡◌, ◌+◌, ◌<◌, ◌∷◌, ◌==◌, ℕ, List, [], ◌++◌, drop, take, get_or, length, map, Option, Some, None, true, false, refl, ap, sym, subst, arith}
+use Rattle.std.proofs.Common.{◌≡◌, ◌+◌, ◌<◌, ◌∷◌, ◌==◌, ℕ, List, [], drop, take, get_or, length, map, Option, Some, None, true, false, refl, ap, sym, subst, arith}
 use Rattle.std.proofs.lemmas.List.{drop_all, drop_more}
 use Rattle.std.proofs.lemmas.List.Elements.{Contains-get_or}
 use Rattle.hp_proc.specs.Allocating.{serving, trying}
