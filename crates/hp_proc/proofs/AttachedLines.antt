@@ -64,6 +64,13 @@ joined_by deed records (Elsewhere row call got) given before after attach is joi
     subst (λ (deed : Act). after ≡ attached_after deed given before) (sym attach)
     (subst (λ (given : Answer). after ≡ attached_after act.Attach given before) (sym given_is) (joined ∙ or-false before))
 
+-- and so it is noted
+pub tried_joined : (records : ℕ) (caught : Caught) (standing : Standing) (joined : Bool) → standing.attached ≡ false → joined ≡ is_done caught
+    → joined ≡ (standing_tried records caught standing).attached
+tried_joined records Done standing joined out is = is
+tried_joined records (Refused row call) standing joined out is = is ∙ sym out
+tried_joined records (Elsewhere row call got) standing joined out is = is ∙ sym out
+
 -- who was attached is in the roster as before
 pub joined_still : (deed : Act) (given : Answer) (before : Bool) → deed ≡ act.Attach → given ≡ answer.Already
     → before ≡ attached_after deed given before
