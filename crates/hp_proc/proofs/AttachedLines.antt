@@ -5,7 +5,8 @@ use Rattle.hp_base.specs.Mapping.{is_done}
 use Rattle.hp_base.specs.declared.caught.Caught.{Caught}
 use Rattle.hp_base.specs.declared.caught.Caught.TheVariants.{Done, Refused, Elsewhere}
 use Rattle.hp_hall.specs.Holding.{HeapPart}
-use Rattle.hp_hall.specs.Mail.{MailStep}
+use Rattle.hp_hall.specs.Mail.{MailStep, Notes}
+use Rattle.hp_hall.specs.declared.note.Note.TheVariants.{Emptied}
 use Rattle.hp_log.specs.declared.log_record.LogRecord.{LogRecord}
 use Rattle.hp_script.specs.declared.answer.Answer.{Answer}
 use Rattle.hp_script.specs.declared.answer.Answer.TheVariants as answer
@@ -285,12 +286,12 @@ module _ (count : ℕ) (did : List MailStep → Type 0) (line : Line) (doer : Pa
     -- it left the roster, and noted that
     does_detach : (doing : Doing) (taken : SegsView) → 0 < doer.party.me
         → after ≡ with_standing (record doer.context.standing { attached = false }) (record doer { party = after_detaching doer.party })
-        → did (takes_segments taken ∷ gives_segments (after_leave doer.party.me taken) ∷ []) → Does [] count did doing doing before behind
+        → did (takes_segments taken ∷ Notes Emptied ∷ gives_segments (after_leave doer.party.me taken) ∷ []) → Does [] count did doing doing before behind
     unfolding Leads AreAsked
     does_detach doing taken secondary noted made =
         subst (λ (after : ParticipantView). Does [] count did doing doing before (moment_of after later now heard)) (sym noted) (record {
           trace = [];
-          steps = takes_segments taken ∷ gives_segments (after_leave doer.party.me taken) ∷ [];
+          steps = takes_segments taken ∷ Notes Emptied ∷ gives_segments (after_leave doer.party.me taken) ∷ [];
           leads = refl;
           made = made;
           acts = Acts.detaches doer taken secondary;
@@ -341,7 +342,7 @@ module _ (count : ℕ) (did : List MailStep → Type 0) (line : Line) (doer : Pa
 
     -- it left the roster, and noted that
     pub line_left : line.act ≡ act.Detach → doer.context.standing.attached ≡ true → (taken : SegsView) → 0 < doer.party.me
-        → did (takes_segments taken ∷ gives_segments (after_leave doer.party.me taken) ∷ []) → mid.party ≡ after_detaching doer.party
+        → did (takes_segments taken ∷ Notes Emptied ∷ gives_segments (after_leave doer.party.me taken) ∷ []) → mid.party ≡ after_detaching doer.party
         → mid.context ≡ doer.context → after ≡ with_standing (record mid.context.standing { attached = false }) mid
         → DoesLine count did line answer.Done before behind
     unfolding doing_of

@@ -4,7 +4,8 @@ ghost use Rattle.std.specs.Prelude.{List, Some, IfOk, IsSome, Ok, OnErr, OnOk};
 ghost use Rattle.std.specs.Result.{result_ok};
 ghost use Rattle.hp_base.specs.Mapping.{is_done};
 ghost use Rattle.hp_hall.specs.HallState.{Did, HasMapped, IsBusy};
-ghost use Rattle.hp_hall.specs.Mail.{MailStep};
+ghost use Rattle.hp_hall.specs.Mail.{MailStep, Notes};
+ghost use Rattle.hp_hall.specs.declared.note.Note.{Note};
 ghost use Rattle.hp_heap.specs.PlainHeap.{PlainHeap};
 ghost use Rattle.hp_maps.specs.MapsView.{calls_of};
 ghost use Rattle.hp_segs.specs.LaterSteps.{after_leave};
@@ -164,7 +165,7 @@ impl<'p, M: Mapper> Participant<'p, M> {
         requires may { MayHold self.old.party.me (H.state hall.old) }
         requires tied { IsTiedIn self.old.party.me self.old.party (H.state hall.old) }
         ensures party { self.new ≡ record self.old { party = after_detaching self.old.party } }
-        ensures did { (segs : SegsView) × Did self.old.party.me (takes_segments segs
+        ensures did { (segs : SegsView) × Did self.old.party.me (takes_segments segs ∷ Notes Note.Emptied
             ∷ gives_segments (after_leave self.old.party.me segs) ∷ []) (H.state hall.old) (H.state hall.new) }
         ensures tied { IsTiedIn self.old.party.me self.new.party (H.state hall.new) }
         ensures roster { (H.state hall.new).joined self.old.party.me ≡ false }
