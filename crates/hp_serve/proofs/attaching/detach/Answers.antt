@@ -28,11 +28,10 @@ tell_empty-requires g c =
     record { serves = took_serves took; unmapped = ap (λ (maps : MapsView). maps.rows) c.empty.ensures }
 
 pub returns-clause-did : goal.returns-clause-did
-returns-clause-did g c =
-    (
-      c.take_segments-segs.result,
-      did_then c.take_segments-segs.ensures.took.did (did_then c.tell_empty.ensures.did c.give_left.ensures.back.gave.did),
-    )
+returns-clause-did g c = (
+  c.take_segments-segs.result,
+  did_then c.take_segments-segs.ensures.took.did (did_then c.tell_empty.ensures.did c.give_left.ensures.back.gave.did),
+)
 
 pub returns-clause-tied : goal.returns-clause-tied
 returns-clause-tied g c =
