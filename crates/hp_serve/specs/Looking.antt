@@ -1,14 +1,13 @@
 -- What an asker's look in the segment value finds.
-use Rattle.std.specs.Prelude.{◌≡◌, ℕ, true, false, List, [], ◌∷◌, Some}
+use Rattle.std.specs.Prelude.{◌≡◌, ℕ, true, List, [], ◌∷◌, ⊤}
 use Rattle.std.specs.List.{list_any}
 use Rattle.hp_hall.specs.Holding.{HeapPart}
 use Rattle.hp_hall.specs.Mail.{MailStep}
 use Rattle.hp_log.specs.declared.log_record.LogRecord.{LogRecord}
-use Rattle.hp_segs.specs.SegsView.{SegsView, grants_or_refuses, is_grant_or_refusal, outcome_of}
+use Rattle.hp_segs.specs.SegsView.{SegsView, grants_or_refuses}
 use Rattle.hp_segs.specs.Steps.{after_claim}
 use Rattle.hp_segs.specs.declared.ask.Ask.{Ask}
 use Rattle.hp_segs.specs.declared.outcome.AskLog.{AskLog}
-use Rattle.hp_segs.specs.declared.outcome.Outcome.{Outcome}
 use Rattle.hp_serve.specs.Asking.{Settles}
 use Rattle.hp_serve.specs.Serving.{gives_segments, takes_segments}
 use Rattle.hp_serve.specs.declared.settling.Found.{Found}
@@ -24,12 +23,10 @@ abbrev pub after_look : Ask → Found → SegsView → SegsView
 after_look ask (Settled run) segs = after_claim ask.from ask.number segs
 after_look ask Open segs = segs
 
--- what finds an ask settled found a grant or a refusal of it in the segment value; and what finds it open found that its first outcome but a
--- stale one, where it has one, is neither
+-- what finds an ask settled found a grant or a refusal of it in the segment value
 abbrev pub IsFoundIn : Ask → SegsView → Found → Type 0
 IsFoundIn ask segs (Settled run) = list_any (grants_or_refuses ask.from ask.number) segs.asks ≡ true
-IsFoundIn ask segs Open =
-    (outcome : Outcome) → outcome_of segs.asks ask.from ask.number ≡ Some outcome → is_grant_or_refusal outcome ≡ false
+IsFoundIn ask segs Open = ⊤
 
 -- the steps of a look
 pub record IsLookAt (ask : Ask) (steps : List MailStep) (answer : Found) : Type 0 where

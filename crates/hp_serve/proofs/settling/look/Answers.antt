@@ -141,7 +141,7 @@ pub returns-in-Some-Stale-clause-did : goal.returns-in-Some-Stale-clause-did
 returns-in-Some-Stale-clause-did g c = (
   _,
   did_then c.take_segments-segs.ensures.took.did c.put_back-in-Some-Stale.ensures.back.back.gave.did,
-  record { taken = c.take_segments-segs.result; found = λ outcome stands. c.in-Some-Stale.is; are = refl },
+  record { taken = c.take_segments-segs.result; found = tt; are = refl },
 )
 
 pub returns-in-Some-Stale-clause-goes_on : goal.returns-in-Some-Stale-clause-goes_on
