@@ -1,5 +1,5 @@
 -- An ask that is seen through whoever stops is one as it is where nobody does, where nobody did.
-use Rattle.std.proofs.Common.{◌≡◌, ◌||◌, ℕ, Bool, true, false, List, Option, Some}
+use Rattle.std.proofs.Common.{◌≡◌, ℕ, Bool, true, false, List, Option, Some}
 use Rattle.hp_base.specs.declared.row.Run.{Run}
 use Rattle.hp_hall.specs.Mail.{MailStep}
 use Rattle.hp_segs.specs.declared.ask.Ask.{Ask}

@@ -1,5 +1,5 @@
 -- Both are tied when the hall opens, and still once participant 1 is armed.
-use Rattle.std.proofs.Common.{◌≡◌, ◌∙◌, ◌<◌, length, subst, sym, ap, arith}
+use Rattle.std.proofs.Common.{◌≡◌, ◌∙◌, subst, sym, ap, arith}
 use Rattle.hp_base.specs.declared.limits.TheConstants.{MAX_HEAPS}
 use Rattle.hp_plain.specs.HallView.{joined_in, own_at}
 use Rattle.hp_serve.proofs.MemberLemmas.{at_each}
