@@ -20,7 +20,8 @@ use Rattle.hp_segs.specs.declared.row_state.Segment.{Segment}
 use Rattle.hp_segs.proofs.GrantedRows.{rows_are_granted}
 use Rattle.hp_hall.specs.Own.{rows_known}
 use Rattle.hp_hall.specs.SegsGives.{Giver}
-use Rattle.hp_hall.proofs.StandingLists.{any_contained, found_in}
+use Rattle.hp_hall.proofs.OwnedKnown.{IsGrantedBy, granted_entry}
+use Rattle.hp_hall.proofs.StandingLists.{any_contained}
 use Rattle.hp_hall.proofs.TablesKnown.{row_known}
 use Rattle.hp_board.specs.Agreement.{HasInUse, HasTakenIn}
 use Rattle.hp_board.specs.Left.{IsLeft}
@@ -29,28 +30,11 @@ use Rattle.hp_board.specs.declared.view.Mine.{Mine}
 use Rattle.hp_board.proofs.AgreedSteps.{granted_within}
 use Rattle.hp_board.proofs.TablesKnown.{row_early}
 
--- who granted a generation
-record IsGrantedBy (asks : List AskLog) (generation : ℕ) : Type 0 where
-  pub entry : AskLog
-  pub there : Contains asks entry
-  pub granted : granted_by entry.outcome ≡ Some generation
-
-of_outcome : (outcome : Outcome) (generation : ℕ) → is_grant_of generation outcome ≡ true → granted_by outcome ≡ Some generation
-of_outcome (Granted stamp) generation is = ap (λ (n : ℕ). Some n) (eqb-true stamp generation is)
-of_outcome (Refused cause) generation is = absurd (cc)
-of_outcome (Stale done) generation is = absurd (cc)
-of_outcome (Freed stamp) generation is = absurd (cc)
-
 grants_so : (outcome : Outcome) (generation : ℕ) → granted_by outcome ≡ Some generation → is_grant_of generation outcome ≡ true
 grants_so (Granted stamp) generation is = let same : stamp ≡ generation = cc in eq-eqb stamp generation same
 grants_so (Refused cause) generation is = absurd (cc)
 grants_so (Stale done) generation is = absurd (cc)
 grants_so (Freed stamp) generation is = absurd (cc)
-
-granted_entry : (asks : List AskLog) (generation : ℕ) → is_granted asks generation ≡ true → IsGrantedBy asks generation
-granted_entry asks generation is =
-    let found = found_in (grants generation) asks is in
-    record { entry = found.element; there = found.among; granted = of_outcome found.element.outcome generation found.passes }
 
 -- the record of a row that is in use was granted
 in_use_granted : (segs : SegsView) (row : Row) → IsSound segs → HasInUse segs row → IsGrantedBy segs.asks row.generation

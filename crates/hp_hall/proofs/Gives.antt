@@ -50,6 +50,8 @@ segs_same knows segs = record {
       for_held = λ ask is. inl is;
       settled = λ ask is. inl is;
       of_armed = λ armed. armed;
+      answers = λ armed entry ask has kept.
+          absurd (has_nothing entry (subst (λ (l : List AskLog). Contains l entry) (nothing_behind segs.asks) has));
     };
   });
 }

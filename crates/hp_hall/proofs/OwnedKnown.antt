@@ -22,18 +22,18 @@ use Rattle.hp_hall.proofs.StandingLists.{contains_passes, contains_unkept, found
 use Rattle.hp_hall.proofs.TablesKnown.{row_known}
 
 -- who granted a generation
-record IsGrantedBy (asks : List AskLog) (generation : ℕ) : Type 0 where
-  entry : AskLog
-  there : Contains asks entry
-  granted : granted_by entry.outcome ≡ Some generation
+pub record IsGrantedBy (asks : List AskLog) (generation : ℕ) : Type 0 where
+  pub entry : AskLog
+  pub there : Contains asks entry
+  pub granted : granted_by entry.outcome ≡ Some generation
 
-of_outcome : (outcome : Outcome) (generation : ℕ) → is_grant_of generation outcome ≡ true → granted_by outcome ≡ Some generation
+pub of_outcome : (outcome : Outcome) (generation : ℕ) → is_grant_of generation outcome ≡ true → granted_by outcome ≡ Some generation
 of_outcome (Granted stamp) generation is = ap (λ (n : ℕ). Some n) (eqb-true stamp generation is)
 of_outcome (Refused cause) generation is = absurd (cc)
 of_outcome (Stale done) generation is = absurd (cc)
 of_outcome (Freed stamp) generation is = absurd (cc)
 
-granted_entry : (asks : List AskLog) (generation : ℕ) → is_granted asks generation ≡ true → IsGrantedBy asks generation
+pub granted_entry : (asks : List AskLog) (generation : ℕ) → is_granted asks generation ≡ true → IsGrantedBy asks generation
 granted_entry asks generation is =
     let found = found_in (grants generation) asks is in
     record { entry = found.element; there = found.among; granted = of_outcome found.element.outcome generation found.passes }

@@ -1,6 +1,6 @@
 -- What a participant knows of the ask with which it is armed, and what a give of the segment value owes for asks: the rule "Asks" of
 -- docs/PARTICIPANTS.md.
-use Rattle.std.specs.Prelude.{◌≡◌, ◌≢◌, ◌⊎◌, ℕ, true, List, Contains, Option, Some, None, ⊤}
+use Rattle.std.specs.Prelude.{◌≡◌, ◌≢◌, ◌⊎◌, ℕ, true, List, Contains, Option, Some, None, drop, length, ⊤}
 use Rattle.std.specs.List.{list_any}
 use Rattle.hp_segs.specs.LaterSteps.{armed_ask}
 use Rattle.hp_segs.specs.SegsView.{SegsView, granted_by, grants_or_refuses}
@@ -25,11 +25,17 @@ pub record IsKnownSettled (heard : List AskLog) (holding : Option Holding) (ask 
   pub answered : list_any (grants_or_refuses ask.from ask.number) heard ≡ true
   pub claims : ClaimsGrants heard holding ask
 
+-- each outcome that came in beside its ask is of the ask with which its participant was armed
+abbrev pub AnswersOfArmed : SegsView → SegsView → Type 0
+AnswersOfArmed taken given = (entry : AskLog) (ask : Ask) → Contains (drop (length taken.asks) given.asks) entry → entry.ask ≡ Some ask
+    → armed_ask taken entry.from ≡ Some ask
+
 -- asks in a value that is given by the log: nobody but the giver is armed anew; the giver is armed with the ask of before, or else with one
--- for a heap that it holds; its ask of before is still the one with which it is armed, or else is settled; and the open growth and the kept
--- asks stay those of the armed
+-- for a heap that it holds; its ask of before is still the one with which it is armed, or else is settled; the open growth and the kept
+-- asks stay those of the armed; and so was each growth that was opened and has failed since
 pub record Arms (who : ℕ) (Holds : ℕ → Type 0) (taken given : SegsView) : Type 0 where
   pub others : (other : ℕ) → other ≢ who → armed_ask given other ≡ armed_ask taken other
   pub for_held : (ask : Ask) → armed_ask given who ≡ Some ask → (armed_ask taken who ≡ Some ask) ⊎ Holds ask.heap
   pub settled : (ask : Ask) → armed_ask taken who ≡ Some ask → (armed_ask given who ≡ Some ask) ⊎ IsSettled ask.from ask.number given
   pub of_armed : IsArmed taken → IsArmed given
+  pub answers : IsArmed taken → AnswersOfArmed taken given

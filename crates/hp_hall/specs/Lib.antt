@@ -7,6 +7,7 @@ pub mod Values
 pub mod SegsGives
 pub mod Giving
 pub mod Own
+pub mod TakenIn
 pub mod Mail
 pub mod Weights
 pub mod HallState

@@ -12,7 +12,7 @@ ghost use Rattle.hp_hall.specs.Weights.{fetched_weight, frame_weight};
 use crate::busy::Busy;
 use crate::kept::Kept;
 use crate::slot::Slot;
-use hp_base::Action;
+use hp_base::{Action, Row};
 use hp_frame::Frame;
 use hp_mail::Posted;
 
@@ -69,8 +69,8 @@ pub trait Hall {
         ensures weight { (state self.new).weight ≤ (state self.old).weight }
         ensures goes_on { goes_on self.old self.new };
 
-    /// Acknowledges records: the participant's table has taken in so many. It is in the roster, or has the segment value in hand to
-    /// come in. Own.
+    /// Acknowledges records: the participant's table has taken in so many. It is in the roster, or the segment value is out, so that it
+    /// may come in. Own.
     fn ack(&mut self, me: u8, number: u64)
         requires serves { (state self.old).serves me }
         requires may { ((state self.old).joined me ≡ true) ⊎ IsSome ((state self.old).taken MAX_HEAPS) }
@@ -85,6 +85,15 @@ pub trait Hall {
         requires serves { (state self.old).serves me }
         ensures own { HasComeTo me (after_partial (length ((state self.old).seen me)) ((state self.old).own me))
             (Notes Note.Unmapped ∷ []) (state self.old) (state self.new) }
+        ensures weight { (state self.new).weight ≤ (state self.old).weight }
+        ensures goes_on { goes_on self.old self.new };
+
+    /// Tells that the participant's table has no row: these are its rows. Own.
+    fn emptied(&mut self, me: u8, rows: &[Row])
+        requires serves { (state self.old).serves me }
+        requires none { rows.now ≡ [] }
+        ensures did { Did me (Notes Note.Emptied ∷ []) (state self.old) (state self.new) }
+        ensures stays { Stays me (state self.old) (state self.new) }
         ensures weight { (state self.new).weight ≤ (state self.old).weight }
         ensures goes_on { goes_on self.old self.new };
 

@@ -9,6 +9,8 @@ pub enum Note {
     Acked { number: u64 },
     /// It told that its table has lost what the records after its number drop, as far as it has seen them.
     Unmapped,
+    /// It told that its table has no row.
+    Emptied,
     /// It let those above it serve, or those below, and something moved, or nothing; `None` where one of them stopped.
     Yielded { above: bool, moved: Option<bool> },
     /// It ended a turn in which something moved, or nothing, to wait until a deadline, or for none.

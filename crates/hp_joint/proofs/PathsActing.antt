@@ -2,7 +2,8 @@
 use Rattle.std.proofs.Common.{◌≡◌, ◌≢◌, ◌∙◌, ℕ, ◌<◌, ◌≤◌, false, List, [], ◌∷◌, ◌++◌, Option, append-nil, append_assoc, length, refl, ap, sym, subst, arith}
 use Rattle.hp_base.specs.declared.caught.Caught.{Caught}
 use Rattle.hp_base.specs.declared.row.Run.{Run}
-use Rattle.hp_hall.specs.Mail.{MailStep}
+use Rattle.hp_hall.specs.Mail.{MailStep, Notes}
+use Rattle.hp_hall.specs.declared.note.Note.TheVariants.{Emptied}
 use Rattle.hp_heap.specs.declared.entry.HeapAnswer.TheVariants as gives
 use Rattle.hp_heap.specs.declared.entry.HeapCall.TheVariants as call
 use Rattle.hp_segs.specs.LaterSteps.{after_leave}
@@ -19,7 +20,7 @@ use Rattle.hp_proc.specs.declared.own_element.OwnElement.{OwnElement}
 use Rattle.hp_serve.specs.Serving.{acks_behind, gives_segments, takes_segments}
 use Rattle.hp_joint.specs.Seats.{Handles, Path, Quietly, Seat, leaving}
 use Rattle.hp_joint.proofs.Paths.{Comes, comes_at, held_notes, noted_of, path_by, path_handle, path_quiet, path_then, serves_same}
-use Rattle.hp_joint.proofs.PathsAsking.{Acted, acted_by, ask_path, exchanged, longest, notice_path}
+use Rattle.hp_joint.proofs.PathsAsking.{Acted, acted_by, ask_path, longest, notice_path}
 use Rattle.hp_joint.proofs.PathsWaiting.{turn_path}
 
 -- a participant sits there with what its lines left
@@ -125,7 +126,7 @@ module _ (count who : ℕ) where
   detaches_acted : (doer : ParticipantView) (taken : SegsView) → doer.party.me ≡ who → 0 < doer.party.me → (seat : Seat)
       → ActedAs count who doer
       (with_standing (record doer.context.standing { attached = false }) (with_party (after_detaching doer.party) doer)) []
-      (takes_segments taken ∷ gives_segments (after_leave doer.party.me taken) ∷ []) seat
+      (takes_segments taken ∷ Notes Emptied ∷ gives_segments (after_leave doer.party.me taken) ∷ []) seat
   detaches_acted doer taken me above seat =
       let out : ParticipantView =
       with_standing (record doer.context.standing { attached = false }) (with_party (after_detaching doer.party) doer) in
@@ -135,9 +136,9 @@ module _ (count who : ℕ) where
         deadline = refl;
         trace = sym (append-nil seat.trace);
         path = path_by count who (seated_as doer seat) (seated_as out seat) _ _
-            (exchanged taken (after_leave doer.party.me taken) (after_leave who taken) [] (ap (λ (n : ℕ). after_leave n taken) me))
-            (path_handle count who (seated_as doer seat) (seated_as out seat) taken (after_leave who taken)
-            (Handles.detaches (seated_as doer seat) taken (no_primary doer.party me above)));
+            (ap (λ (n : ℕ). takes_segments taken ∷ Notes Emptied ∷ gives_segments (after_leave n taken) ∷ []) me)
+            (Path.handles (seated_as doer seat) (seated_as out seat) (seated_as out seat) taken (after_leave who taken) (Emptied ∷ []) []
+            (Handles.detaches (seated_as doer seat) taken (no_primary doer.party me above)) (Path.ends (seated_as out seat)));
       }
 
   acting_path : (hand last : Option ℕ) (held : List ℕ) (doer after : ParticipantView) (trace : List Done) (steps : List MailStep)

@@ -27,7 +27,7 @@ use Rattle.hp_hall.specs.SegsGives.{IsRosterGive}
 use Rattle.hp_plain.specs.HallSteps.{home_slot, with_slot}
 use Rattle.hp_plain.specs.HallView.{HallView, IsHall, SlotView, segs_in, segs_of, slot_at}
 use Rattle.hp_plain.specs.Keeping.{AreAgreed, AreSegsGivenBy, IsGivenBy}
-use Rattle.hp_plain.specs.TakenIn.{AreTakenIn}
+use Rattle.hp_hall.specs.TakenIn.{AreTakenIn}
 use Rattle.hp_hall.specs.Values.{Fits}
 use Rattle.hp_hall.proofs.Beside.{Beside, Logged, Shared, beside, log_calls_beside, logged, owner_calls_shared, roster_calls_logged, shared}
 use Rattle.hp_hall.proofs.Formed.{armed_given, asks_given}

@@ -28,7 +28,7 @@ use Rattle.hp_hall.proofs.GivenAsks.{ArmsForHeld, armed_by_give, pending_given, 
 use Rattle.hp_hall.proofs.KnownAsks.{known_is_settled}
 use Rattle.hp_plain.specs.HallSteps.{heap_slot, home_slot, out_slot, with_own}
 use Rattle.hp_plain.specs.HallView.{HallView, IsAskHeld, IsHall, IsHeapAtHome, SlotView, heard_in, is_held_by, own_at, part_in, part_of, segs_in, segs_of, slot_at}
-use Rattle.hp_plain.specs.TakenIn.{AreTakenIn, IsOwnOf}
+use Rattle.hp_hall.specs.TakenIn.{AreTakenIn, IsOwnOf}
 use Rattle.hp_plain.proofs.Agreeing.{taken_in_by}
 use Rattle.hp_plain.proofs.Given.{known}
 use Rattle.hp_plain.proofs.Held.{asks_there, held_holding, held_once, holding_held, home_unheld, segs_unheld}

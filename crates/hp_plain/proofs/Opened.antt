@@ -18,7 +18,7 @@ use Rattle.hp_hall.specs.Own.{Own, after_ack}
 use Rattle.hp_segs.specs.PendingRuns.{ArePending}
 use Rattle.hp_segs.specs.Standing.{standing_of}
 use Rattle.hp_segs.specs.declared.outcome.AskLog.{AskLog}
-use Rattle.hp_plain.specs.TakenIn.{IsOwnOf}
+use Rattle.hp_hall.specs.TakenIn.{IsOwnOf}
 use Rattle.hp_plain.specs.Moved.{AreSlotsOf, IsFirstHeap, IsLastSegs}
 use Rattle.hp_plain.specs.Opening.{AreHome, AreInOrder, AreUnused, MayOpenWith}
 use Rattle.hp_hall.specs.Values.{Fits, history_of}

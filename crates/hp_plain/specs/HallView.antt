@@ -21,7 +21,7 @@ use Rattle.hp_segs.specs.Standing.{IsArmed, standing_of}
 use Rattle.hp_hall.specs.Mail.{MailStep, steps_of}
 use Rattle.hp_hall.specs.Own.{Own, after_ack}
 use Rattle.hp_hall.specs.Values.{Fits, asks_of, history_of, log_of}
-use Rattle.hp_plain.specs.TakenIn.{AreTakenIn, IsOwnOf}
+use Rattle.hp_hall.specs.TakenIn.{AreTakenIn, IsOwnOf}
 
 -- a slot: its value, and who holds that, where it is out; while it is out, the value is the one that was taken
 pub record SlotView : Type 0 where

@@ -10,7 +10,7 @@ use Rattle.hp_segs.specs.SegsView.{SegsView, is_member}
 use Rattle.hp_hall.specs.declared.kept.Kept.{Kept}
 use Rattle.hp_hall.specs.declared.kept.Kept.TheVariants.{Heap, Segments}
 use Rattle.hp_plain.specs.HallView.{HallView, own_at, segs_in, slot_at}
-use Rattle.hp_plain.specs.TakenIn.{AreTakenIn}
+use Rattle.hp_hall.specs.TakenIn.{AreTakenIn}
 use Rattle.hp_segs.specs.Standing.{IsArmed}
 use Rattle.hp_hall.specs.Mail.{MailStep, Posts, Fetches, Takes, Gives, Notes}
 use Rattle.hp_hall.specs.Values.{IsSoundKept}

@@ -1,5 +1,4 @@
 pub mod Boxes
-pub mod TakenIn
 pub mod HallView
 pub mod Keeping
 pub mod InTurn

@@ -1,5 +1,5 @@
 -- An address that an allocation in the heap in hand gives lies in a page of that heap, and so in a row of its holder's own table.
-use Rattle.std.proofs.Common.{◌≡◌, ◌∙◌, ℕ, ◌+◌, ◌<◌, ◌≤◌, true, List, [], ◌++◌, append-nil, map, Option, Some, None, MatchOption, Contains, nat_le, ◌==◌, count_by, refl, ap, sym, subst, arith}
+use Rattle.std.proofs.Common.{◌≡◌, ◌∙◌, ℕ, Bool, ◌+◌, ◌<◌, ◌≤◌, true, List, [], ◌++◌, append-nil, map, Option, Some, None, MatchOption, Contains, nat_le, ◌==◌, count_by, refl, ap, sym, subst, arith}
 use Rattle.std.proofs.lemmas.Bool.{and_from, and_parts, eqb-true, le-leb, leb-true, lt-ltb, ltb-true}
 use Rattle.hp_base.specs.declared.chunk.Chunk.{Chunk}
 use Rattle.hp_base.specs.declared.request.Request.{Request}
@@ -9,7 +9,7 @@ use Rattle.hp_base.specs.declared.tag.Tag.{Tag}
 use Rattle.hp_hall.specs.HallState.{HallState}
 use Rattle.hp_hall.specs.Holding.{HasPages, IsHeldWith}
 use Rattle.hp_hall.specs.Own.{Own, rows_known}
-use Rattle.hp_hall.proofs.StandingLists.{found_in}
+use Rattle.hp_hall.proofs.StandingLists.{contains_unkept, found_in}
 use Rattle.hp_heap.specs.Choice.{HasNoChoice}
 use Rattle.hp_heap.specs.History.{HeapView, IsCall}
 use Rattle.hp_heap.specs.Placing.{IsPlacedIn, allocated}
@@ -22,11 +22,15 @@ use Rattle.hp_heap.proofs.AllocLaw.{allocated-is}
 use Rattle.hp_heap.proofs.ChoiceLaw.{eligible-candidate}
 use Rattle.hp_heap.proofs.Members.{Contains-imaged, counted_some, some_counted}
 use Rattle.hp_log.specs.declared.log_record.LogRecord.{LogRecord}
+use Rattle.hp_maps.specs.MapsView.{is_of_log, table_in}
 use Rattle.hp_script.specs.declared.answer.Answer.{Answer}
 use Rattle.hp_script.specs.declared.answer.Answer.TheVariants as answer
 use Rattle.hp_segs.specs.Standing.{Holding}
 use Rattle.hp_segs.specs.declared.row_state.Segment.{Segment}
-use Rattle.hp_proc.specs.LineInHall.{HoldsIn, IsMapped, LiesIn, TableStays}
+use Rattle.hp_proc.specs.LineInHall.{HoldsIn, IsKnownMapped, IsMapped, LiesIn, TableStays}
+use Rattle.hp_serve.specs.InHall.{IsTiedIn}
+use Rattle.hp_serve.specs.Party.{Party}
+use Rattle.hp_serve.specs.Tied.{part_of}
 use Rattle.hp_proc.specs.ParticipantView.{ParticipantView}
 use Rattle.hp_proc.specs.Progress.{caller_of}
 
@@ -111,7 +115,7 @@ address_in_page doer request tag address socket heap next step tiled serves =
 module _ (me : ℕ) (doer : ParticipantView) (request : Request) (tag : Tag) (address socket : ℕ) (heap next : HeapView) (state : HallState)
     (step : IsCall (caller_of doer) (call.Alloc request tag) (gives.Address address) heap next) (serves : heap.plain.serves ≡ Some socket)
     (holds : HoldsIn me doer heap state) where
-  pub address_lies : IsMapped me state (answer.Address address)
+  pub address_lies : IsKnownMapped me state (answer.Address address)
   address_lies joined =
       by_holding (state.part me heap.plain.index).holding refl holds.in_hand.held
     where
@@ -124,18 +128,34 @@ module _ (me : ℕ) (doer : ParticipantView) (request : Request) (tag : Tag) (ad
           (address_in_page doer request tag address socket heap next step holds.in_hand.sound.tiled serves)
 
 -- what it answers is that
-pub lies_so : (me : ℕ) (state : HallState) (given answer : Answer) → IsMapped me state given → Some given ≡ Some answer → IsMapped me state answer
+pub lies_so : (me : ℕ) (state : HallState) (given answer : Answer) → IsKnownMapped me state given → Some given ≡ Some answer → IsKnownMapped me state answer
 lies_so me state given answer lies same =
     let is : given ≡ answer = cc in
-    subst (λ (answer : Answer). IsMapped me state answer) is lies
+    subst (λ (answer : Answer). IsKnownMapped me state answer) is lies
 
 -- a heap that is passed answers nothing
-pub lies_none : (me : ℕ) (state : HallState) (answer : Answer) → None ≡ Some answer → IsMapped me state answer
+pub lies_none : (me : ℕ) (state : HallState) (answer : Answer) → None ≡ Some answer → IsKnownMapped me state answer
 lies_none me state answer same = absurd cc
 
 -- where its own table is known by the same it is so still
-pub lies_still : (me : ℕ) (old new : HallState) (given : Answer) → TableStays me old new → IsMapped me old given → IsMapped me new given
+pub lies_still : (me : ℕ) (old new : HallState) (given : Answer) → TableStays me old new → IsKnownMapped me old given → IsKnownMapped me new given
 lies_still me old new (answer.Address address) stays lies = λ joined.
     subst (λ (log : List LogRecord). LiesIn (rows_known log (new.own me)) address) (sym stays.seen)
     (subst (λ (own : Own). LiesIn (rows_known (old.seen me) own) address) (sym stays.own) (lies (sym stays.joined ∙ joined)))
 lies_still me old new _ stays lies = lies
+
+-- who is in the roster has the row in its own table
+pub lies_in_table : (me : ℕ) (party : Party) (state : HallState) (given : Answer) → IsTiedIn me party state → state.joined me ≡ true
+    → IsKnownMapped me state given → IsMapped party given
+lies_in_table me party state (answer.Address address) tied joined lies =
+    let known = lies joined in
+    let has : table_in party.maps.rows ≡ rows_known (state.seen me) (state.own me) =
+    tied.table.table.rows
+    ∙ ap (λ (joined : Bool). rows_known (state.seen me) (part_of joined (state.own me))) (sym tied.same ∙ joined) in
+    record {
+      row = known.row;
+      among = contains_unkept is_of_log party.maps.rows known.row (subst (λ (rows : List Row). Contains rows known.row) (sym has) known.among);
+      from = known.from;
+      below = known.below;
+    }
+lies_in_table me party state _ tied joined lies = tt

@@ -5,7 +5,8 @@ use Rattle.hp_base.specs.Mapping.{is_done}
 use Rattle.hp_base.specs.declared.caught.Caught.{Caught}
 use Rattle.hp_base.specs.declared.caught.Caught.TheVariants.{Done, Refused, Elsewhere}
 use Rattle.hp_hall.specs.Holding.{HeapPart}
-use Rattle.hp_hall.specs.Mail.{MailStep}
+use Rattle.hp_hall.specs.Mail.{MailStep, Notes}
+use Rattle.hp_hall.specs.declared.note.Note.TheVariants.{Emptied}
 use Rattle.hp_log.specs.declared.log_record.LogRecord.{LogRecord}
 use Rattle.hp_script.specs.declared.answer.Answer.{Answer}
 use Rattle.hp_script.specs.declared.answer.Answer.TheVariants as answer
@@ -63,6 +64,13 @@ joined_by deed records (Elsewhere row call got) given before after attach is joi
     let given_is : given ≡ answer.Refused call = cc in
     subst (λ (deed : Act). after ≡ attached_after deed given before) (sym attach)
     (subst (λ (given : Answer). after ≡ attached_after act.Attach given before) (sym given_is) (joined ∙ or-false before))
+
+-- and so it is noted
+pub tried_joined : (records : ℕ) (caught : Caught) (standing : Standing) (joined : Bool) → standing.attached ≡ false → joined ≡ is_done caught
+    → joined ≡ (standing_tried records caught standing).attached
+tried_joined records Done standing joined out is = is
+tried_joined records (Refused row call) standing joined out is = is ∙ sym out
+tried_joined records (Elsewhere row call got) standing joined out is = is ∙ sym out
 
 -- who was attached is in the roster as before
 pub joined_still : (deed : Act) (given : Answer) (before : Bool) → deed ≡ act.Attach → given ≡ answer.Already
@@ -278,12 +286,12 @@ module _ (count : ℕ) (did : List MailStep → Type 0) (line : Line) (doer : Pa
     -- it left the roster, and noted that
     does_detach : (doing : Doing) (taken : SegsView) → 0 < doer.party.me
         → after ≡ with_standing (record doer.context.standing { attached = false }) (record doer { party = after_detaching doer.party })
-        → did (takes_segments taken ∷ gives_segments (after_leave doer.party.me taken) ∷ []) → Does [] count did doing doing before behind
+        → did (takes_segments taken ∷ Notes Emptied ∷ gives_segments (after_leave doer.party.me taken) ∷ []) → Does [] count did doing doing before behind
     unfolding Leads AreAsked
     does_detach doing taken secondary noted made =
         subst (λ (after : ParticipantView). Does [] count did doing doing before (moment_of after later now heard)) (sym noted) (record {
           trace = [];
-          steps = takes_segments taken ∷ gives_segments (after_leave doer.party.me taken) ∷ [];
+          steps = takes_segments taken ∷ Notes Emptied ∷ gives_segments (after_leave doer.party.me taken) ∷ [];
           leads = refl;
           made = made;
           acts = Acts.detaches doer taken secondary;
@@ -334,7 +342,7 @@ module _ (count : ℕ) (did : List MailStep → Type 0) (line : Line) (doer : Pa
 
     -- it left the roster, and noted that
     pub line_left : line.act ≡ act.Detach → doer.context.standing.attached ≡ true → (taken : SegsView) → 0 < doer.party.me
-        → did (takes_segments taken ∷ gives_segments (after_leave doer.party.me taken) ∷ []) → mid.party ≡ after_detaching doer.party
+        → did (takes_segments taken ∷ Notes Emptied ∷ gives_segments (after_leave doer.party.me taken) ∷ []) → mid.party ≡ after_detaching doer.party
         → mid.context ≡ doer.context → after ≡ with_standing (record mid.context.standing { attached = false }) mid
         → DoesLine count did line answer.Done before behind
     unfolding doing_of

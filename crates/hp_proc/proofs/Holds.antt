@@ -1,5 +1,5 @@
 -- A participant with a heap in hand, over what calls leave.
-use Rattle.std.proofs.Common.{◌≡◌, ◌+◌, ◌++◌, ◌∙◌, ℕ, List, [], refl, sym, ap, subst, arith}
+use Rattle.std.proofs.Common.{◌≡◌, ◌+◌, ◌++◌, ◌∙◌, ℕ, Bool, List, [], refl, sym, ap, subst, arith}
 use Rattle.hp_hall.specs.HallState.{HallState, HasMapped, MayServe, OthersStay, SlotsStay, SlotsStayBut}
 use Rattle.hp_hall.proofs.HallStates.{did_then, later_same, may_still, others_same, slots_same}
 use Rattle.hp_heap.specs.History.{HeapView, IsCall}
@@ -16,17 +16,20 @@ use Rattle.hp_proc.specs.LineInHall.{
   HasRoom,
   HoldsIn,
   IsFreeAt,
-  IsIdleAgain,
   IsIdleIn,
+  IsReadyAgain,
+  IsReadyIn,
   KeepsHeld,
+  TableStays,
   did_in,
   moment,
 }
 use Rattle.hp_serve.specs.InHall.{CanServe, IsTiedIn, RemainsIn, StaysIn}
 use Rattle.hp_serve.specs.Party.{IsSameParty, Party}
 use Rattle.hp_proc.specs.ParticipantView.{ParticipantView, after_call, with_calls, with_standing}
-use Rattle.hp_proc.specs.Progress.{AreSettled, Does, IsInHand, Moment, caller_of}
+use Rattle.hp_proc.specs.Progress.{AreSettled, Does, IsInHand, MayDo, Moment, caller_of}
 use Rattle.hp_proc.proofs.HandCalls.{call_index, call_serves, hand_stays}
+use Rattle.hp_proc.proofs.HandGiven.{ready_still}
 use Rattle.hp_proc.proofs.LinesInHall.{idle_again, idle_in, idle_still}
 use Rattle.hp_serve.proofs.Carrying.{same_party, same_then}
 use Rattle.hp_serve.proofs.InHalls.{remains_then}
@@ -100,6 +103,11 @@ keeps_after {first} {mid} {last} {one} {two} {three} {a} {b} {c} here knew heap 
       remains = remains_then here there.remains;
     }
 
+-- what is known after calls says as before whether it is attached
+still_attached : (first last : Context) {joined : Bool} → joined ≡ first.standing.attached → last ≡ with_calls last.calls first
+    → joined ≡ last.standing.attached
+still_attached first last attached knew = attached ∙ sym (ap (λ (context : Context). context.standing.attached) knew)
+
 -- it may go on with the heap in its hand
 pub can_on : {first last : ParticipantView} {before behind : HeapView} {a b : HallState}
     → KeepsHeld first.party.me first last before behind a b → MayServe first.party.me a → CanServe last.party.me last.party b
@@ -111,11 +119,13 @@ can_on {first} {last} {before} {behind} {a} {b} keeps may =
     subst (λ (who : ℕ). CanServe who last.party b) (sym keeps.remains.same.me) here
 
 pub holds_on : {first last : ParticipantView} {before behind : HeapView} {a b : HallState}
-    → KeepsHeld first.party.me first last before behind a b → MayServe first.party.me a → HoldsIn last.party.me last behind b
-holds_on {first} {last} {before} {behind} {a} {b} keeps may = record {
-  can = can_on keeps may;
+    → KeepsHeld first.party.me first last before behind a b → HoldsIn first.party.me first before a → HoldsIn last.party.me last behind b
+holds_on {first} {last} {before} {behind} {a} {b} keeps holds = record {
+  can = can_on keeps holds.can.may;
   in_hand = subst (λ (who : ℕ). IsInHand b.taken (moment who last b) behind) (sym keeps.remains.same.me) keeps.in_hand;
   settled = subst (λ (who : ℕ). AreSettled (moment who last b)) (sym keeps.remains.same.me) keeps.settled;
+  attached = subst (λ (who : ℕ). b.joined who ≡ last.context.standing.attached) (sym keeps.remains.same.me)
+      (keeps.remains.joined ∙ still_attached first.context last.context holds.attached keeps.context);
   mapped = subst (λ (who : ℕ). HasMapped who b) (sym keeps.remains.same.me) keeps.mapped;
 }
 
@@ -125,7 +135,7 @@ pub again_then : (first mid last : ParticipantView) {a b : HallState} → HasCal
 again_then first mid last {a} {b} here next = record {
   again = record {
     same = same_then first.party mid.party last.party here.again.same next.again.same;
-    idle = subst (λ (who : ℕ). IsIdleIn who last.party b) here.again.same.me next.again.idle;
+    ready = subst (λ (who : ℕ). IsReadyIn who last b) here.again.same.me next.again.ready;
   };
   context = knew_then first.context mid.context last.context here.context next.context;
 }
@@ -179,15 +189,25 @@ does_next {held} {more} me {inside} first mid last {doing} {rest} {end} {a} {b} 
     (subst (λ (who : ℕ). Does more b.count (did_in who b c) rest end (mid who) (last who)) here next))
 
 -- a line that did nothing, and one that waited alone
-pub again_same : (doer : ParticipantView) {a : HallState} → IsIdleIn doer.party.me doer.party a → HasCalled doer.party.me doer doer a
-again_same doer idle = record { again = record { same = same_party doer.party; idle = idle }; context = refl }
+pub again_same : (doer : ParticipantView) {a : HallState} → IsReadyIn doer.party.me doer a → HasCalled doer.party.me doer doer a
+again_same doer ready = record { again = record { same = same_party doer.party; ready = ready }; context = refl }
 
 pub again_by : {me : ℕ} (old new : ParticipantView) {a b : HallState} → StaysIn me old.party new.party a b → new.context ≡ old.context
-    → IsIdleIn me old.party a → HasCalled me old new b
-again_by old new stays knew idle = record {
-  again = record { same = stays.same; idle = idle_in stays idle };
-  context = knew_same old.context new.context knew;
-}
+    → IsReadyIn me old a → HasCalled me old new b
+again_by {me} old new {a} {b} stays knew ready =
+    let others = stays.waits.later.heard me in
+    record {
+      again = record {
+        same = stays.same;
+        ready = record {
+          idle = idle_in stays ready.idle;
+          ready = ready_still old new (a.part me) (b.part me) (a.seen me) (b.seen me) (a.heard me) (b.heard me) others.0 stays.same knew
+              stays.waits.parts.part others.1 ready.ready;
+          attached = stays.waits.parts.joined ∙ (ready.attached ∙ sym (ap (λ (context : Context). context.standing.attached) knew));
+        };
+      };
+      context = knew_same old.context new.context knew;
+    }
 
 -- the other slots are free while a heap is in hand
 pub but_kept : {slot index : ℕ} {a b : HallState} → index ≡ slot → AreFreeBut slot a → SlotsStay a b → AreFreeBut index b
@@ -212,38 +232,58 @@ idle_put party heap {a} {b} can free tied at slots others =
     } in
     idle_again (others.later.serves party.me may.serves) (omega (arith, declared, count)) (tied can.tied) but at
 
--- so it is behind what it did with the heap that it took
+-- so it is ready again
+pub ready_put : (doer : ParticipantView) (heap : HeapView) {a b : HallState} → HoldsIn doer.party.me doer heap a → AreFreeBut heap.plain.index a
+    → (IsTiedIn doer.party.me doer.party a → IsTiedIn doer.party.me doer.party b) → MayDo (moment doer.party.me doer b)
+    → TableStays doer.party.me a b → IsFreeAt heap.plain.index b → SlotsStayBut heap.plain.index a b → OthersStay doer.party.me a b
+    → IsReadyIn doer.party.me doer b
+ready_put doer heap holds free tied ready table at slots others = record {
+  idle = idle_put doer.party heap holds.can free tied at slots others;
+  ready = ready;
+  attached = table.joined ∙ holds.attached;
+}
+
+-- behind what it did with the heap that it took
 pub again_put : {first mid last : ParticipantView} {one two : HeapView} {a b : HallState} {c : HallState} → IsSameParty first.party mid.party
-    → mid.context ≡ first.context → KeepsHeld mid.party.me mid last one two a b → IsIdleIn last.party.me last.party c
+    → mid.context ≡ first.context → KeepsHeld mid.party.me mid last one two a b → IsReadyIn last.party.me last c
     → HasCalled first.party.me first last c
-again_put {first} {mid} {last} {one} {two} {a} {b} {c} same knew keeps idle = record {
+again_put {first} {mid} {last} {one} {two} {a} {b} {c} same knew keeps ready = record {
   again = record {
     same = same_then first.party mid.party last.party same keeps.remains.same;
-    idle = subst (λ (who : ℕ). IsIdleIn who last.party c) (keeps.remains.same.me ∙ same.me) idle;
+    ready = subst (λ (who : ℕ). IsReadyIn who last c) (keeps.remains.same.me ∙ same.me) ready;
   };
   context = knew_after first.context mid.context last.context knew keeps.context;
 }
 
 -- so it is to a whole line, behind which it knows other things
-pub again_line : (party : Party) {a : HallState} → IsIdleIn party.me party a → IsIdleAgain party.me party party a
-again_line party idle = record { same = same_party party; idle = idle }
+pub again_line : (doer : ParticipantView) {a : HallState} → IsReadyIn doer.party.me doer a → IsReadyAgain doer.party.me doer doer a
+again_line doer ready = record { same = same_party doer.party; ready = ready }
 
 -- it attached or detached
-pub changes_same : (party : Party) {a : HallState} → IsTiedIn party.me party a → ChangesRoster party.me party party a a
-changes_same party {a} tied = record {
-  same = same_party party;
+pub changes_same : (doer : ParticipantView) {a : HallState} → IsTiedIn doer.party.me doer.party a
+    → a.joined doer.party.me ≡ doer.context.standing.attached → ChangesRoster doer.party.me doer doer a a
+changes_same doer {a} tied attached = record {
+  same = same_party doer.party;
   tied = tied;
+  attached = attached;
   slots = slots_same a;
-  others = others_same party.me a;
+  others = others_same doer.party.me a;
 }
 
 pub changes_noted : (doer mid : ParticipantView) (standing : Standing) {after : ParticipantView} {a b : HallState}
-    → IsSameParty doer.party mid.party → after ≡ with_standing standing mid → IsTiedIn doer.party.me mid.party b → SlotsStay a b
-    → OthersStay doer.party.me a b → ChangesRoster doer.party.me doer.party after.party a b
-changes_noted doer mid standing {after} {a} {b} same noted tied slots others =
-    subst (λ (after : ParticipantView). ChangesRoster doer.party.me doer.party after.party a b) (sym noted)
-    (record { same = same; tied = tied; slots = slots; others = others })
+    → IsSameParty doer.party mid.party → after ≡ with_standing standing mid → IsTiedIn doer.party.me mid.party b
+    → b.joined doer.party.me ≡ standing.attached → SlotsStay a b → OthersStay doer.party.me a b → ChangesRoster doer.party.me doer after a b
+changes_noted doer mid standing {after} {a} {b} same noted tied attached slots others =
+    subst (λ (after : ParticipantView). ChangesRoster doer.party.me doer after a b) (sym noted)
+    (record { same = same; tied = tied; attached = attached; slots = slots; others = others })
 
-pub idle_changed : {me : ℕ} {old new : Party} {a b : HallState} → ChangesRoster me old new a b → IsIdleIn me old a
-    → IsIdleAgain me old new b
-idle_changed changes idle = record { same = changes.same; idle = idle_still changes.slots changes.others.later changes.tied idle }
+pub ready_changed : {me : ℕ} {old new : ParticipantView} {a b : HallState} → ChangesRoster me old new a b → IsReadyIn me old a
+    → MayDo (moment me new b) → IsReadyAgain me old new b
+ready_changed changes ready may = record {
+  same = changes.same;
+  ready = record {
+    idle = idle_still changes.slots changes.others.later changes.tied ready.idle;
+    ready = may;
+    attached = changes.attached;
+  };
+}

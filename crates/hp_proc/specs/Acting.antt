@@ -2,8 +2,9 @@
 use Rattle.std.specs.Prelude.{◌≡◌, ℕ, ◌+◌, ◌<◌, Bool, false, List, [], ◌∷◌, ◌++◌, length, Option, Some, None}
 use Rattle.hp_base.specs.declared.caught.Caught.{Caught}
 use Rattle.hp_base.specs.declared.row.Run.{Run}
-use Rattle.hp_hall.specs.Mail.{MailStep, Gives, Takes}
+use Rattle.hp_hall.specs.Mail.{MailStep, Gives, Notes, Takes}
 use Rattle.hp_hall.specs.declared.kept.Kept.TheVariants.{Heap}
+use Rattle.hp_hall.specs.declared.note.Note.TheVariants.{Emptied}
 use Rattle.hp_heap.specs.History.{HeapView}
 use Rattle.hp_heap.specs.HistoryLaws.{run_cut}
 use Rattle.hp_heap.specs.declared.entry.HeapAnswer.{HeapAnswer}
@@ -60,11 +61,11 @@ pub data Acts (count : ℕ) : Option ℕ → Option ℕ → List ℕ → Partici
       → Acts count None None [] doer (with_standing (standing_tried (length taken.log) caught doer.context.standing) (with_party after doer))
       (Looked (length taken.log) ∷ CaughtUp (length taken.log) caught ∷ [])
       (takes_segments taken ∷ (acks_behind caught (length taken.log) ++ (gives_segments (after_attaching doer.party.me caught taken) ∷ [])))
-  -- it detached, which no primary does, and noted that
+  -- it detached, which no primary does, and noted that: it told that its table is empty before it gave the segment value back
   detaches : (doer : ParticipantView) (taken : SegsView) → 0 < doer.party.me
       → Acts count None None [] doer
       (with_standing (record doer.context.standing { attached = false }) (with_party (after_detaching doer.party) doer)) []
-      (takes_segments taken ∷ gives_segments (after_leave doer.party.me taken) ∷ [])
+      (takes_segments taken ∷ Notes Emptied ∷ gives_segments (after_leave doer.party.me taken) ∷ [])
   -- it noted where the elements of its lines lie
   notes_left : (doer : ParticipantView) (elements : List OwnElement)
       → Acts count None None [] doer (with_standing (record doer.context.standing { elements = elements }) doer) [] []

@@ -49,19 +49,20 @@ pub record IsIdleIn (me : ℕ) (party : Party) (state : HallState) : Type 0 wher
   pub home : (number : ℕ) → number ≤ MAX_HEAPS → state.may_take number
   pub tied : IsTiedIn me party state
 
--- so it is, and may do its line
+-- so it is, and may do its line; it is in the roster where its lines left it attached
 pub record IsReadyIn (me : ℕ) (doer : ParticipantView) (state : HallState) : Type 0 where
   pub idle : IsIdleIn me doer.party state
   pub ready : MayDo (moment me doer state)
+  pub attached : state.joined me ≡ doer.context.standing.attached
 
--- it is as it was, and so is the hall to it
-pub record IsIdleAgain (me : ℕ) (old new : Party) (state : HallState) : Type 0 where
-  pub same : IsSameParty old new
-  pub idle : IsIdleIn me new state
+-- it is the same one, and ready again: it holds no heap and no slot, and its asks are settled, whatever became of its line
+pub record IsReadyAgain (me : ℕ) (old new : ParticipantView) (state : HallState) : Type 0 where
+  pub same : IsSameParty old.party new.party
+  pub ready : IsReadyIn me new state
 
 -- so it is, and what it knows is as it was but for the number of its calls
 pub record HasCalled (me : ℕ) (old new : ParticipantView) (state : HallState) : Type 0 where
-  pub again : IsIdleAgain me old.party new.party state
+  pub again : IsReadyAgain me old new state
   pub context : new.context ≡ with_calls new.context.calls old.context
 
 -- it holds no slot but that one at most, and may take each other
@@ -74,19 +75,22 @@ pub record IsFreeAt (slot : ℕ) (state : HallState) : Type 0 where
   pub taken : state.taken slot ≡ None
   pub home : state.may_take slot
 
--- it attached or detached: it is the same one, its table is tied, the slots stay, and nobody else did anything
-pub record ChangesRoster (me : ℕ) (old new : Party) (from to : HallState) : Type 0 where
-  pub same : IsSameParty old new
-  pub tied : IsTiedIn me new to
+-- it attached or detached: it is the same one, its table is tied, it is in the roster where it notes that it is attached, the slots stay, and
+-- nobody else did anything
+pub record ChangesRoster (me : ℕ) (old new : ParticipantView) (from to : HallState) : Type 0 where
+  pub same : IsSameParty old.party new.party
+  pub tied : IsTiedIn me new.party to
+  pub attached : to.joined me ≡ new.context.standing.attached
   pub slots : SlotsStay from to
   pub others : OthersStay me from to
 
--- it has a heap in hand, and may do something with it: it can serve, its asks are settled, and where it is in the roster its own table has the
--- heap's pages
+-- it has a heap in hand, and may do something with it: it can serve, its asks are settled, it is in the roster where its lines left it
+-- attached, and where it is its own table has the heap's pages
 pub record HoldsIn (me : ℕ) (doer : ParticipantView) (heap : HeapView) (state : HallState) : Type 0 where
   pub can : CanServe me doer.party state
   pub in_hand : IsInHand state.taken (moment me doer state) heap
   pub settled : AreSettled (moment me doer state)
+  pub attached : state.joined me ≡ doer.context.standing.attached
   pub mapped : HasMapped me state
 
 -- a heap in hand has room for so many calls, and so have the numbers of its holder's calls
@@ -118,7 +122,12 @@ pub record LiesIn (rows : List Row) (address : ℕ) : Type 0 where
   pub from : row.addr ≤ address
   pub below : address < row.addr + row.page
 
--- an address that it answers lies in a row of its own table, where it is in the roster
-abbrev pub IsMapped : ℕ → HallState → Answer → Type 0
-IsMapped me state (Address address) = state.joined me ≡ true → LiesIn (rows_known (state.seen me) (state.own me)) address
-IsMapped me state _ = ⊤
+-- where it is in the roster, an address that it answers lies in a row that the hall knows its table to have
+abbrev pub IsKnownMapped : ℕ → HallState → Answer → Type 0
+IsKnownMapped me state (Address address) = state.joined me ≡ true → LiesIn (rows_known (state.seen me) (state.own me)) address
+IsKnownMapped me state _ = ⊤
+
+-- an address that it answers lies in a row of its own table
+abbrev pub IsMapped : Party → Answer → Type 0
+IsMapped party (Address address) = LiesIn party.maps.rows address
+IsMapped party _ = ⊤

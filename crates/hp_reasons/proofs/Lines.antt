@@ -6,7 +6,8 @@ use Rattle.std.proofs.lemmas.Bool.{cases_Bool}
 use Rattle.std.proofs.lemmas.List.Folds.{list_any-append}
 use Rattle.std.proofs.lemmas.Option.{slice_get_within}
 use Rattle.hp_base.specs.declared.caught.Caught.{Caught}
-use Rattle.hp_hall.specs.Mail.{MailStep}
+use Rattle.hp_hall.specs.Mail.{MailStep, Notes}
+use Rattle.hp_hall.specs.declared.note.Note.TheVariants.{Emptied}
 use Rattle.hp_log.proofs.Counts.{any_counts, count_append}
 use Rattle.hp_log.specs.declared.log_record.LogRecord.{LogRecord}
 use Rattle.hp_maps.specs.MapsView.{MapsView, calls_of}
@@ -220,12 +221,13 @@ module _ (quietly : AreWaitsQuiet) (set : Setting) (me : ℕ) (is_set : IsSettin
       (owing.quiet.base.places me doer.party its.own).me own.along.made)
       (out_before doer.party _ _ refl once) (tried_so doer.party mid taken.log ended tries))
   walks _ _ _ doer after trace steps (Acts.detaches _ taken secondary) old new world its owes left owing early sequence once pays =
-      let own = own_calls old new doer.party world steps its sequence (tt, (tt, tt)) in
+      let own = own_calls old new doer.party world steps its sequence (tt, (tt, (tt, tt))) in
       left_as left owes new after.party (owes_still owes left pays)
       (leaves set me old new doer.party after.party world its owes owing own.servers own.along.order
       (record { me = refl; deadline = refl; plan = refl; core = refl; asked = refl; sent = refl; calls = omega arith }) own.along.at
       own.along.shared (has_place old doer.party world its owing.quiet) taken
-      (subst (λ (who : ℕ). MakesAll me (takes_segments taken ∷ gives_segments (after_leave who taken) ∷ []) world.shared own.along.at)
+      (subst
+      (λ (who : ℕ). MakesAll me (takes_segments taken ∷ Notes Emptied ∷ gives_segments (after_leave who taken) ∷ []) world.shared own.along.at)
       (owing.quiet.base.places me doer.party its.own).me own.along.made) refl)
   walks _ _ _ doer after trace steps (Acts.notes_left _ elements) old new world its owes left owing early sequence once pays =
       knows_more old new doer.party after.party world [] its owes left owing (owes_still owes left pays) sequence tt (λ own. own.along.made)

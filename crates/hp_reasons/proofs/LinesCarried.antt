@@ -7,7 +7,7 @@ use Rattle.hp_base.specs.declared.caught.Caught.TheVariants as caught
 use Rattle.hp_plain.specs.HallSteps.{after_pause, with_note}
 use Rattle.hp_hall.specs.Mail.{Fetches, Gives, MailStep, Notes, Posts, Takes}
 use Rattle.hp_hall.specs.declared.note.Note.{Note}
-use Rattle.hp_hall.specs.declared.note.Note.TheVariants.{Acked, Loaded, Paused, Read, Unmapped, Yielded}
+use Rattle.hp_hall.specs.declared.note.Note.TheVariants.{Acked, Emptied, Loaded, Paused, Read, Unmapped, Yielded}
 use Rattle.hp_proc.specs.Acting.{Acts}
 use Rattle.hp_serve.specs.Attaching.{after_attaching}
 use Rattle.hp_proc.specs.Doing.{Done}
@@ -102,6 +102,7 @@ note_timed (Read now) call = tt
 note_timed (Loaded participant number) call = tt
 note_timed (Acked number) call = tt
 note_timed Unmapped call = tt
+note_timed Emptied call = tt
 note_timed (Yielded above moved) call = absurd call
 note_timed (Paused moved until) call = absurd call
 
@@ -130,7 +131,7 @@ along_timed count = record {
   takes_heap = λ heap. (tt, tt);
   gives_heap = λ heap. (tt, tt);
   holds = λ taken given roster. (tt, (tt, tt));
-  leaves = λ who taken its. (tt, (tt, tt));
+  leaves = λ who taken its. (tt, (tt, (tt, tt)));
   attaches = λ who taken ended may. (
     tt,
     timed_both (acks_behind ended (length taken.log)) (gives_segments (after_attaching who ended taken) ∷ [])

@@ -9,7 +9,8 @@ use Rattle.hp_base.specs.declared.caught.Caught.{Caught}
 use Rattle.hp_base.specs.declared.caught.Caught.TheVariants as caught
 use Rattle.hp_base.specs.declared.row.Run.{Run}
 use Rattle.hp_segs.specs.Standing.{IsArmed}
-use Rattle.hp_hall.specs.Mail.{MailStep}
+use Rattle.hp_hall.specs.Mail.{MailStep, Notes}
+use Rattle.hp_hall.specs.declared.note.Note.TheVariants.{Emptied}
 use Rattle.hp_log.specs.declared.log_record.LogRecord.{LogRecord}
 use Rattle.hp_maps.specs.MapsView.{MapsView, calls_of}
 use Rattle.hp_segs.specs.LaterSteps.{after_leave}
@@ -170,13 +171,15 @@ module _ (set : Setting) (me : ℕ) (old new : SoloView) (party after : Party) (
 
   -- it left the roster
   pub leaves : (at : Shared) → IsSharedIn new.plain at → me < 16 → (taken : SegsView)
-      → MakesAll me (takes_segments taken ∷ gives_segments (after_leave me taken) ∷ []) world.shared at → after.joined ≡ false
+      → MakesAll me (takes_segments taken ∷ Notes Emptied ∷ gives_segments (after_leave me taken) ∷ []) world.shared at
+      → after.joined ≡ false
       → Leads owes
   leaves at shared few taken made out =
       let place = quiet.base.places me party its.own in
       let segs = after_leave me world.shared.segs in
-      let began = took me taken (gives_segments (after_leave me taken) ∷ []) world.shared at made in
-      let given = gave me (after_leave me taken) [] world.shared at began.1 in
+      let began = took me taken (Notes Emptied ∷ gives_segments (after_leave me taken) ∷ []) world.shared at made in
+      let more = subst (λ (mid : Shared). MakesAll me (gives_segments (after_leave me taken) ∷ []) mid at) began.1.1 began.1.2 in
+      let given = gave me (after_leave me taken) [] world.shared at more in
       let is : at ≡ with_segs segs world.shared =
       given.rest ∙ ap (λ (segs : SegsView). with_segs (after_leave me segs) world.shared) began.0 in
       let has_place : me < length world.shared.segs.roster = omega (arith, few, quiet.base.sound.places.roster_places) in

@@ -10,7 +10,7 @@ use Rattle.hp_frame.specs.declared.frame.Frame.{Frame}
 use Rattle.hp_hall.specs.Mail.{Gives, MailStep, Notes, Posts, Takes}
 use Rattle.hp_hall.specs.declared.kept.Kept.TheVariants.{Heap}
 use Rattle.hp_hall.specs.declared.note.Note.{Note}
-use Rattle.hp_hall.specs.declared.note.Note.TheVariants.{Acked, Loaded, Paused, Read, Unmapped, Yielded}
+use Rattle.hp_hall.specs.declared.note.Note.TheVariants.{Acked, Emptied, Loaded, Paused, Read, Unmapped, Yielded}
 use Rattle.hp_mail.specs.declared.posted.Posted.{Posted}
 use Rattle.hp_heap.specs.History.{HeapView}
 use Rattle.hp_segs.specs.LaterSteps.{after_leave, after_withdraw, grows_for, withdrawn_growth, withdrawn_unless}
@@ -81,6 +81,7 @@ IsNoteUntil (Read now) = ⊤
 IsNoteUntil (Loaded participant number) = ⊤
 IsNoteUntil (Acked number) = ⊤
 IsNoteUntil Unmapped = ⊤
+IsNoteUntil Emptied = ⊤
 IsNoteUntil (Yielded above moved) = ⊤
 IsNoteUntil (Paused moved None) = ⊥
 IsNoteUntil (Paused moved (Some until)) = ⊤
@@ -95,7 +96,7 @@ pub record HoldsOfSteps (count : ℕ) (Is : ℕ → Type 0) (May : Type 0) (Q : 
   pub takes_heap : (heap : HeapView) → Q (Takes heap.plain.index (Heap heap) ∷ [])
   pub gives_heap : (heap : HeapView) → Q (Gives heap.plain.index (Heap heap) ∷ [])
   pub holds : (taken given : SegsView) → given.roster ≡ taken.roster → Q (takes_segments taken ∷ gives_segments given ∷ [])
-  pub leaves : (who : ℕ) (taken : SegsView) → Is who → Q (takes_segments taken ∷ gives_segments (after_leave who taken) ∷ [])
+  pub leaves : (who : ℕ) (taken : SegsView) → Is who → Q (takes_segments taken ∷ Notes Emptied ∷ gives_segments (after_leave who taken) ∷ [])
   pub attaches : (who : ℕ) (taken : SegsView) (ended : Caught) → May
       → Q (takes_segments taken ∷ (acks_behind ended (length taken.log) ++ (gives_segments (after_attaching who ended taken) ∷ [])))
   pub serves : (party after : Party) (steps : List MailStep) (moved : Bool) → Is party.me → IsServed count party after steps (Some moved)

@@ -17,7 +17,7 @@ use Rattle.hp_hall.specs.Values.{Fits}
 use Rattle.hp_hall.specs.declared.kept.Kept.{Kept}
 use Rattle.hp_hall.specs.declared.kept.Kept.TheVariants.{Heap, Segments}
 use Rattle.hp_hall.specs.declared.note.Note.{Note}
-use Rattle.hp_hall.specs.declared.note.Note.TheVariants.{Acked, Loaded, Paused, Read, Unmapped, Yielded}
+use Rattle.hp_hall.specs.declared.note.Note.TheVariants.{Acked, Emptied, Loaded, Paused, Read, Unmapped, Yielded}
 use Rattle.hp_plain.proofs.Slotted.{value_at}
 use Rattle.hp_solo.specs.Sequence.{IsCall, IsCallNote}
 use Rattle.hp_reasons.specs.Shared.{IsSharedIn, Shared}
@@ -107,6 +107,7 @@ note_still (Read now) call = tt
 note_still (Loaded participant number) call = tt
 note_still (Acked number) call = tt
 note_still Unmapped call = tt
+note_still Emptied call = tt
 note_still (Yielded above moved) call = absurd call
 note_still (Paused moved until) call = absurd call
 

@@ -17,7 +17,7 @@ use Rattle.hp_hall.specs.Values.{Fits}
 use Rattle.hp_hall.specs.declared.kept.Kept.{Kept}
 use Rattle.hp_hall.specs.declared.kept.Kept.TheVariants.{Heap, Segments}
 use Rattle.hp_hall.specs.declared.note.Note.{Note}
-use Rattle.hp_hall.specs.declared.note.Note.TheVariants.{Acked, Loaded, Paused, Read, Unmapped, Yielded}
+use Rattle.hp_hall.specs.declared.note.Note.TheVariants.{Acked, Emptied, Loaded, Paused, Read, Unmapped, Yielded}
 use Rattle.hp_mail.specs.declared.posted.Posted.{Posted}
 use Rattle.hp_plain.proofs.Slotted.{slice_get-set_other, slice_get-set_same}
 use Rattle.hp_reasons.specs.Shared.{Makes, MakesAll, Shared, fetched_by, posted_to, with_boxes, with_number, with_segs}
@@ -32,6 +32,7 @@ IsStill (Notes (Read now)) = ⊤
 IsStill (Notes (Loaded participant number)) = ⊤
 IsStill (Notes (Acked number)) = ⊤
 IsStill (Notes Unmapped) = ⊤
+IsStill (Notes Emptied) = ⊤
 IsStill (Notes (Yielded above moved)) = ⊤
 IsStill (Notes (Paused moved until)) = ⊥
 
@@ -219,6 +220,7 @@ module _ (who : ℕ) (boxes : List (List Frame)) (values : List Kept) (meters : 
     };
   }
   note_along Unmapped next still noted = record { at = old; made = refl; shown = shown_still next noted.clock noted.numbers }
+  note_along Emptied next still noted = record { at = old; made = refl; shown = shown_still next noted.clock noted.numbers }
   note_along (Yielded above moved) next still noted =
       record { at = old; made = refl; shown = shown_still next noted.clock noted.numbers }
   note_along (Paused moved until) next still noted = absurd still

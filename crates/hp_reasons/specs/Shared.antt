@@ -9,7 +9,7 @@ use Rattle.hp_segs.specs.Standing.{IsArmed}
 use Rattle.hp_hall.specs.Mail.{Fetches, Gives, MailStep, Notes, Posts, Takes}
 use Rattle.hp_plain.specs.Boxes.{box_of, posted_as, box_after}
 use Rattle.hp_hall.specs.declared.kept.Kept.TheVariants.{Heap, Segments}
-use Rattle.hp_hall.specs.declared.note.Note.TheVariants.{Acked, Loaded, Paused, Read, Unmapped, Yielded}
+use Rattle.hp_hall.specs.declared.note.Note.TheVariants.{Acked, Emptied, Loaded, Paused, Read, Unmapped, Yielded}
 use Rattle.hp_segs.specs.SegsView.{SegsView}
 use Rattle.hp_segs.specs.Sound.{IsSound}
 
@@ -58,6 +58,7 @@ Makes who (Notes (Read now)) old new = (now ≡ old.clock) × (new ≡ old)
 Makes who (Notes (Loaded participant number)) old new = (slice_get old.numbers participant ≡ Some number) × (new ≡ old)
 Makes who (Notes (Acked number)) old new = (slice_index_or old.numbers who 0 ≤ number) × (new ≡ with_number who number old)
 Makes who (Notes Unmapped) old new = new ≡ old
+Makes who (Notes Emptied) old new = new ≡ old
 Makes who (Notes (Yielded above moved)) old new = new ≡ old
 Makes who (Notes (Paused moved until)) old new = new ≡ old
 

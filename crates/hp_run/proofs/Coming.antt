@@ -7,7 +7,9 @@ use Rattle.std.proofs.lemmas.List.{length-replicate}
 use Rattle.std.proofs.lemmas.Nat.Bits.{bit_at_lowest}
 use Rattle.std.proofs.lemmas.Option.{slice_get-map, slice_get_past, slice_get_within}
 use Rattle.hp_base.specs.Mapping.{FailingCall}
-use Rattle.hp_plain.specs.HallView.{HallView, own_at}
+use Rattle.hp_base.specs.declared.limits.TheConstants.{MAX_HEAPS}
+use Rattle.hp_plain.specs.HallView.{HallView, is_joined, joined_in, own_at}
+use Rattle.hp_plain.proofs.Opened.{opened_segs}
 use Rattle.hp_hall.specs.Own.{Own, after_ack}
 use Rattle.hp_log.specs.declared.log_record.LogRecord.{LogRecord}
 use Rattle.hp_maps.specs.MapsView.{MapsView, chunk_rows, table_in}
@@ -20,7 +22,8 @@ use Rattle.hp_solo.specs.Solo.{IsTiedAt, AloneView, SoloView, nobody, server_at,
 use Rattle.hp_solo.proofs.SoloWaits.{tied_first}
 use Rattle.hp_joint.specs.Drops.{DropsOpen}
 use Rattle.hp_joint.specs.EndLaws.{IsFirstParty, IsGiven, OpensSoFar}
-use Rattle.hp_joint.specs.SoFar.{SoFar}
+use Rattle.hp_joint.specs.SoFar.{SoFar, first_segs}
+use Rattle.hp_joint.proofs.FirstSegs.{member_first}
 use Rattle.hp_reasons.specs.Threads.{OneThread}
 use Rattle.hp_run.specs.Opening.{HaveCome, IsFirstHall, IsPartyOver, IsPlannedParty}
 use Rattle.hp_run.specs.Running.{CanGoOn, IsRunnable, KnowSoFar, place_of}
@@ -172,10 +175,21 @@ module _ (workload : Workload) (who : ℕ) (may_fail : Option (List FailingCall)
               });
         }
 
-    pub tied_planned : (hall : SoloView) → IsFirstHall workload hall → IsTiedAt hall.plain party.me party
-    tied_planned hall first =
+    -- it is in the roster of a first hall where it is present
+    joined_planned : IsGiven workload → who < workload.participants → (hall : SoloView) → IsFirstHall workload hall
+        → joined_in hall.plain who ≡ party.joined
+    joined_planned given declared hall first =
+        ap (λ (plain : HallView). joined_in plain who) first.plain
+        ∙ (ap (is_joined who) (opened_segs first.heaps (first_segs workload) MAX_HEAPS first.first.in_order.count)
+        ∙ (member_first workload.participants workload.absent who (omega (arith, declared, given.few))
+        ∙ sym (ap (λ (party : Party). party.joined) planned.is)))
+
+    pub tied_planned : IsGiven workload → who < workload.participants → (hall : SoloView) → IsFirstHall workload hall
+        → IsTiedAt hall.plain party.me party
+    tied_planned given declared hall first =
         tied_first hall.plain who party
-        (ap (λ (plain : HallView). own_at plain who) first.plain ∙ all_alike nothing_yet workload.participants who) number_planned tied_new
+        (ap (λ (plain : HallView). own_at plain who) first.plain ∙ all_alike nothing_yet workload.participants who)
+        (joined_planned given declared hall first) number_planned tied_new
 
     pub count_first : (hall : SoloView) → IsFirstHall workload hall → length hall.plain.owns ≡ workload.participants
     count_first hall first =

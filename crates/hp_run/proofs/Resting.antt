@@ -43,7 +43,7 @@ module _ (workload : Workload) (lines : List Line) (answers : List Answer) (old 
       place_at new.servers behind.0 behind.1 who ∙ ap (option_map place_of) at in
       let so = served_so old new was.parties who (place_at old.servers was.parties was.are who) later party after there place in
       let tied : IsTiedAt new.plain who after = sound.tied who after (ap party_in place) in
-      record { served = so.0; same = so.1; tied = tied.tied }
+      record { served = so.0; same = so.1; tied = tied.tied.table }
 
   as_before : length behind.0 ≡ length was.parties
   as_before =

@@ -77,7 +77,7 @@ module _ (who : ℕ) (after : Party) (parties : List Party) (first away back las
       record {
         served = so.0;
         same = so.1;
-        tied = subst (λ (hall : HallView). IsTied (seen_in hall) (own_at hall other) now.joined now.maps) is.came_plain tied.tied;
+        tied = subst (λ (hall : HallView). IsTied (seen_in hall) (own_at hall other) now.joined now.maps) is.came_plain tied.tied.table;
       }
 
   pub as_before : length behind.0 ≡ length first.plain.owns

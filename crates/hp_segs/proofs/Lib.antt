@@ -1,4 +1,5 @@
 pub mod AddLemmas
+pub mod Answered
 pub mod CausedLemmas
 pub mod ClaimLemmas
 pub mod CloseLemmas

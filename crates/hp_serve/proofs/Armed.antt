@@ -187,6 +187,7 @@ arm_gives knows ask segs keeps sound may own above holds settled = record {
       for_held = λ other is. inr (is_held knows ask other segs sound may own holds is);
       settled = λ earlier is. inr (settled_still ask segs earlier.from earlier.number (settled earlier is));
       of_armed = λ armed. keeps segs ask sound armed may above;
+      answers = λ armed entry other among kept. absurd (none_more segs.asks entry among);
     };
   });
 }

@@ -1,5 +1,5 @@
 -- What was done for an ask, and for a notice, from its parts.
-use Rattle.std.proofs.Common.{◌≡◌, ◌∙◌, ℕ, ◌+◌, true, List, [], ◌∷◌, ◌++◌, Option, Some, refl, ap, sym, subst}
+use Rattle.std.proofs.Common.{◌≡◌, ◌∙◌, ℕ, ◌+◌, Bool, true, List, [], ◌∷◌, ◌++◌, Option, Some, refl, ap, sym, subst}
 use Rattle.std.specs.Prelude.{min}
 use Rattle.hp_base.specs.Plans.{action_of}
 use Rattle.hp_base.specs.declared.limits.TheConstants.{MAX_READING}
@@ -12,7 +12,7 @@ use Rattle.hp_mail.specs.declared.posted.Posted.{Posted}
 use Rattle.hp_segs.specs.LaterSteps.{after_arm}
 use Rattle.hp_segs.specs.SegsView.{SegsView}
 use Rattle.hp_segs.specs.declared.ask.Ask.{Ask}
-use Rattle.hp_serve.specs.AskSteps.{DoesAsk, DoesNotify, IsAwaitedBy, IsSentAs, waits_until}
+use Rattle.hp_serve.specs.AskSteps.{DoesAskOn, DoesNotify, IsAwaitedOn, IsSentAs, waits_until}
 use Rattle.hp_serve.specs.Asking.{alloc_body, ask_of, free_body, next_number}
 use Rattle.hp_serve.specs.Frames.{Says}
 use Rattle.hp_serve.specs.Party.{Party, after_alloc, after_free, one_more}
@@ -43,20 +43,20 @@ sent_as party after asked ask since now taken frame posted ask_is number after_i
     (record { taken = taken; now = now; frame = frame; posted = posted; number = number; read = read; says = says; are = refl })
 
 pub does_ask : (count : ℕ) (party mid after : Party) (asked : PagesAsked) (ask : Ask) (since now : ℕ) (taken : SegsView) (frame : Frame)
-    (posted : Posted) (rest : List MailStep) (run : Option Run) → ask ≡ ask_of party.me ask.number asked
+    (posted : Posted) (rest : List MailStep) (run : Option Run) (stopped : Bool) → ask ≡ ask_of party.me ask.number asked
     → ask.number ≡ next_number party.asked taken.asks party.me → since ≡ min now MAX_READING → after.asked ≡ ask.number
-    → mid ≡ after_alloc ask.number party → Says frame (alloc_body ask) → IsAwaitedBy count mid after ask since rest run
-    → DoesAsk count party after asked (sends party ask taken now frame posted ++ rest) run
-does_ask count party mid after asked ask since now taken frame posted rest run ask_is number read after_is mid_is says awaited =
+    → mid ≡ after_alloc ask.number party → Says frame (alloc_body ask) → IsAwaitedOn count mid after ask since rest run stopped
+    → DoesAskOn count party after asked (sends party ask taken now frame posted ++ rest) run stopped
+does_ask count party mid after asked ask since now taken frame posted rest run stopped ask_is number read after_is mid_is says awaited =
     let named : ask ≡ ask_of party.me after.asked asked = ask_is ∙ ap (λ number. ask_of party.me number asked) (sym after_is) in
     record {
       since = since;
       sending = sends party ask taken now frame posted;
       rest = rest;
       sent = sent_as party after asked ask since now taken frame posted ask_is number after_is read says;
-      awaited = subst (λ ask. IsAwaitedBy count (after_alloc after.asked party) after ask since rest run) named
-          (subst (λ number. IsAwaitedBy count (after_alloc number party) after ask since rest run) (sym after_is)
-          (subst (λ mid. IsAwaitedBy count mid after ask since rest run) mid_is awaited));
+      awaited = subst (λ ask. IsAwaitedOn count (after_alloc after.asked party) after ask since rest run stopped) named
+          (subst (λ number. IsAwaitedOn count (after_alloc number party) after ask since rest run stopped) (sym after_is)
+          (subst (λ mid. IsAwaitedOn count mid after ask since rest run stopped) mid_is awaited));
       are = refl;
     }
 

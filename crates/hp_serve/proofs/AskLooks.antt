@@ -8,7 +8,7 @@ use Rattle.hp_heap.proofs.Members.{find_some}
 use Rattle.hp_hall.specs.Holding.{HeapPart}
 use Rattle.hp_log.specs.declared.log_record.LogRecord.{LogRecord}
 use Rattle.hp_segs.specs.LaterSteps.{closing_by}
-use Rattle.hp_segs.specs.SegsView.{SegsView, grant_of, grant_or_refusal_of, granted_by, grants_or_refuses, is_grant_or_refusal, is_outcome_for, is_stale, outcome_of}
+use Rattle.hp_segs.specs.SegsView.{SegsView, grant_of, grant_or_refusal_of, granted_by, grants_or_refuses, is_grant_or_refusal, is_outcome_for, is_stale}
 use Rattle.hp_segs.specs.declared.ask.Ask.{Ask}
 use Rattle.hp_segs.specs.declared.fault.Closing.TheVariants as closing
 use Rattle.hp_segs.specs.declared.outcome.AskLog.{AskLog}
@@ -47,26 +47,24 @@ pub grant_or_refusal_stands : (asks : List AskLog) (from number : ℕ) (outcome 
     → Stands asks from number outcome
 grant_or_refusal_stands asks from number outcome is = stands_by asks from number outcome (find (grants_or_refuses from number) asks) refl is
 
--- where a test is narrower than another, and the first element that passes the other one passes it, that is the first that does
-find_by : {X : Type 0} (p q : X → Bool) (x y : X) (xs : List X) (passes narrow : Bool) → p x ≡ passes → q x ≡ narrow
-    → (narrow ≡ true → passes ≡ true) → (find p xs ≡ Some y → find q xs ≡ Some y) → q y ≡ true
-    → cond passes (Some x) (find p xs) ≡ Some y → cond narrow (Some x) (find q xs) ≡ Some y
-find_by p q x y xs true true p_is q_is narrower rest last found = found
-find_by p q x y xs true false p_is q_is narrower rest last found =
-    let same : x ≡ y = cc in
-    let wrong : true ≡ false = sym last ∙ (ap q (sym same) ∙ q_is) in
-    cc
-find_by p q x y xs false true p_is q_is narrower rest last found =
-    let wrong : false ≡ true = narrower refl in
-    cc
-find_by p q x y xs false false p_is q_is narrower rest last found = rest found
+none_by : {X : Type 0} (p : X → Bool) (y : X) (ys : List X) (first : Bool) → (find p ys ≡ None → list_any p ys ≡ false)
+    → cond first (Some y) (find p ys) ≡ None → (first || list_any p ys) ≡ false
+none_by p y ys true rest none = cc
+none_by p y ys false rest none = rest none
 
-find_narrower : {X : Type 0} (p q : X → Bool) → ((x : X) → q x ≡ true → p x ≡ true) → (xs : List X) (y : X) → find p xs ≡ Some y
-    → q y ≡ true
-    → find q xs ≡ Some y
-find_narrower p q narrower [] y found last = cc
-find_narrower p q narrower (x ∷ xs) y found last =
-    find_by p q x y xs (p x) (q x) refl refl (narrower x) (λ rest. find_narrower p q narrower xs y rest last) last found
+none_of_found : {X : Type 0} (p : X → Bool) (xs : List X) → find p xs ≡ None → list_any p xs ≡ false
+none_of_found p [] none = refl
+none_of_found p (y ∷ ys) none = none_by p y ys (p y) (none_of_found p ys) none
+
+none_there : (found : Option AskLog) → option_map (λ (entry : AskLog). entry.outcome) found ≡ None → found ≡ None
+none_there None is = refl
+none_there (Some entry) is = cc
+
+-- and where none is looked up none stands
+pub none_stands : (asks : List AskLog) (from number : ℕ) → grant_or_refusal_of asks from number ≡ None
+    → list_any (grants_or_refuses from number) asks ≡ false
+none_stands asks from number none =
+    none_of_found (grants_or_refuses from number) asks (none_there (find (grants_or_refuses from number) asks) none)
 
 fresh_by : (outcome : Outcome) → is_grant_or_refusal outcome ≡ true → not (is_stale outcome) ≡ true
 fresh_by (Granted generation) is = refl
@@ -74,38 +72,12 @@ fresh_by (Refused cause) is = refl
 fresh_by (Stale done) is = cc
 fresh_by (Freed generation) is = cc
 
+-- a grant or a refusal is an outcome but a stale one
 pub narrower : (from number : ℕ) (entry : AskLog) → grants_or_refuses from number entry ≡ true → is_outcome_for from number entry ≡ true
 narrower from number entry is =
     let both = and_parts (entry.from == from) _ is in
     let rest = and_parts (entry.number == number) _ both.1 in
     and_from (entry.from == from) _ both.0 (and_from (entry.number == number) _ rest.0 (fresh_by entry.outcome rest.1))
-
-settles_it : (from number : ℕ) (entry : AskLog) → is_outcome_for from number entry ≡ true → is_grant_or_refusal entry.outcome ≡ true
-    → grants_or_refuses from number entry ≡ true
-settles_it from number entry is settles =
-    let both = and_parts (entry.from == from) _ is in
-    let rest = and_parts (entry.number == number) _ both.1 in
-    and_from (entry.from == from) _ both.0 (and_from (entry.number == number) _ rest.0 settles)
-
-outcome_by : (asks : List AskLog) (from number : ℕ) (outcome : Outcome) (found : Option AskLog)
-    → find (is_outcome_for from number) asks ≡ found
-    → option_map (λ (entry : AskLog). entry.outcome) found ≡ Some outcome → is_grant_or_refusal outcome ≡ true
-    → Stands asks from number outcome
-outcome_by asks from number outcome None found is settles = cc
-outcome_by asks from number outcome (Some entry) found is settles =
-    let its : entry.outcome ≡ outcome = cc in
-    record {
-      entry = entry;
-      found = find_narrower (is_outcome_for from number) (grants_or_refuses from number) (narrower from number) asks entry found
-          (settles_it from number entry (find_some (is_outcome_for from number) asks entry found).0 (ap is_grant_or_refusal its ∙ settles));
-      is = its;
-    }
-
--- where the first outcome but a stale one is a grant or a refusal, it stands
-pub outcome_stands : (asks : List AskLog) (from number : ℕ) (outcome : Outcome) → outcome_of asks from number ≡ Some outcome
-    → is_grant_or_refusal outcome ≡ true → Stands asks from number outcome
-outcome_stands asks from number outcome is settles =
-    outcome_by asks from number outcome (find (is_outcome_for from number) asks) refl is settles
 
 -- what stands is a grant or a refusal
 pub stands_settles : (asks : List AskLog) (from number : ℕ) (outcome : Outcome) → Stands asks from number outcome

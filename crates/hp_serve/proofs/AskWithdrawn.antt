@@ -156,6 +156,20 @@ not_granted segs given from number last entry generation among granted =
       | inr nowhere ↦ Contains-none entry nowhere
     ]
 
+-- and is beside the ask with which its participant was armed
+of_own : (segs given : SegsView) (from number : ℕ) (last : IsRefusedLast segs given from number) (entry : AskLog) (ask : Ask)
+    → Contains (drop (length segs.asks) given.asks) entry → entry.ask ≡ Some ask → armed_ask segs entry.from ≡ Some ask
+of_own segs given from number last entry ask among kept =
+    let rest : drop (length segs.asks) given.asks ≡ last.entry ∷ [] =
+    ap (drop (length segs.asks)) last.asks ∙ drop_at segs.asks (last.entry ∷ []) (length segs.asks) refl in
+    let there = subst (λ asks. Contains asks entry) rest among in
+    elim (Contains-cases last.entry entry [] there) [
+      | inl same ↦
+          subst (λ (entry : AskLog). entry.ask ≡ Some ask → armed_ask segs entry.from ≡ Some ask) same
+          (λ is. ap (armed_ask segs) last.who ∙ (sym last.kept ∙ is)) kept
+      | inr nowhere ↦ absurd (Contains-none entry nowhere)
+    ]
+
 -- the value with the ask taken back may be given back
 pub withdraw_gives : (knows : Knows) (segs : SegsView) (from number since now : ℕ) → WithdrawKeeps → IsSound segs
     → MayWithdraw from number segs
@@ -178,6 +192,7 @@ withdraw_gives knows segs from number since now keeps sound may none =
           for_held = λ ask is. inl (sym (ap (λ armed. slice_index_or armed knows.who None) last.armed) ∙ is);
           settled = λ ask is. inl (ap (λ armed. slice_index_or armed knows.who None) last.armed ∙ is);
           of_armed = λ armed. keeps segs from number since now sound armed may;
+          answers = λ armed entry ask among kept. of_own segs given from number last entry ask among kept;
         };
       });
     }

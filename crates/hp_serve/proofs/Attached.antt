@@ -117,3 +117,11 @@ attached_roster who (Elsewhere row call got) segs within = or_false (is_member s
 -- who leaves it is out
 pub left_roster : (who : ℕ) (segs : SegsView) → who < length segs.roster → is_member (after_leave who segs).roster who ≡ false
 left_roster who segs within = get_or-set_same segs.roster who false false within
+
+-- who was out is in the roster where it has a table
+pub came_in : (was joined now done : Bool) → was ≡ joined → joined ≡ false → now ≡ (was || done) → now ≡ done
+came_in was joined now done same out is = is ∙ ap (λ (was : Bool). was || done) (same ∙ out)
+
+-- and who had a table has one, whatever became of its catching up
+pub has_still : (joined done now : Bool) → joined ≡ true → now ≡ (joined || done) → now ≡ joined
+has_still joined done now there is = is ∙ ap (λ (joined : Bool). joined || done) there ∙ sym there

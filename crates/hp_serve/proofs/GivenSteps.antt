@@ -72,9 +72,9 @@ leaves_standing taken given sound moved armed_are grows answers =
 
 -- what a step with room leaves may be given back for the value that was taken
 step_is_given : (knows : Knows) (event : CoreEvent) (taken given : SegsView) → IsSound taken → IsMovedBy is_log_call 1 taken given
-    → StepGives event (with_room taken) given → LeavesStanding taken given → IsTrueOf knows.noted (length taken.log) event
-    → GivesSegments knows taken given
-step_is_given knows event taken given sound moved gives leaves known =
+    → StepGives event (with_room taken) given → LeavesStanding taken given → (HasArmedGrowth taken → AnswersArmed taken given)
+    → IsTrueOf knows.noted (length taken.log) event → GivesSegments knows taken given
+step_is_given knows event taken given sound moved gives leaves answers known =
     let appends = moves_append is_log_call 1 taken given moved in
     record {
       more = appends.records;
@@ -93,6 +93,7 @@ step_is_given knows event taken given sound moved gives leaves known =
           for_held = λ ask armed. inl (sym (leaves.armed knows.who) ∙ armed);
           settled = λ ask armed. inl (leaves.armed knows.who ∙ armed);
           of_armed = leaves.sound;
+          answers = λ armed. answers armed.growth;
         };
       });
     }
@@ -102,6 +103,7 @@ record IsLeftBy (event : CoreEvent) (taken given : SegsView) : Type 0 where
   moved : IsMovedBy is_log_call 1 taken given
   gives : StepGives event (with_room taken) given
   leaves : LeavesStanding taken given
+  answers : HasArmedGrowth taken → AnswersArmed taken given
 
 left_by_step : (event : CoreEvent) (core : Core) (taken given : SegsView) → IsSound taken → IsMovedBy is_log_call 1 (with_room taken) given
     → given ≡ (stepped nobody_denies event core (with_room taken)).segs → IsLeftBy event taken given
@@ -110,12 +112,14 @@ left_by_step event core taken given sound moved is =
     let sound_too : IsSound roomy = calls_keep (Reserve (length taken.retiring + 3)) taken sound tt in
     let moves : IsMovedBy is_log_call 1 taken given = moves_compose is_log_call 0 1 taken roomy given (room_moves taken) moved in
     let gives = subst (StepGives event roomy) (sym is) (steps_give nobody_denies event core roomy sound_too) in
+    let answers : HasArmedGrowth taken → AnswersArmed taken given =
+    λ old. subst (AnswersArmed roomy) (sym is) (steps_answer_armed nobody_denies event core roomy old) in
     record {
       moved = moves;
       gives = gives;
       leaves = leaves_standing taken given sound moves gives.armed
-          (λ old. subst HasArmedGrowth (sym is) (steps_leave_armed nobody_denies event core roomy old))
-          (λ old. subst (AnswersArmed roomy) (sym is) (steps_answer_armed nobody_denies event core roomy old));
+          (λ old. subst HasArmedGrowth (sym is) (steps_leave_armed nobody_denies event core roomy old)) answers;
+      answers = answers;
     }
 
 -- so it is with what a step left
@@ -131,7 +135,7 @@ pub given_by_step : (knows : Knows) (event : CoreEvent) (core after : Core) (tak
     → IsTrueOf knows.noted (length taken.log) event → GivesSegments knows taken given
 given_by_step knows event core after taken roomy given out has_room sound moved is known =
     let left = left_by event core after taken roomy given out has_room sound moved is in
-    step_is_given knows event taken given sound left.moved left.gives left.leaves known
+    step_is_given knows event taken given sound left.moved left.gives left.leaves left.answers known
 
 pub step_leaves : (event : CoreEvent) (core after : Core) (taken roomy given : SegsView) (out : Out) → roomy ≡ with_room taken
     → IsSound taken → IsMovedBy is_log_call 1 roomy given → IsStepped after given out (stepped nobody_denies event core roomy)

@@ -10,11 +10,15 @@ use Rattle.hp_serve.specs.Tied.{IsTied}
 use Rattle.hp_serve.proofs.Carrying.{same_party, same_then}
 use Rattle.hp_serve.proofs.Handed.{tied_still}
 
--- its table stays tied while its own part does
-pub tied_later : (me : ℕ) (party : Party) {a b : HallState} → IsLater a b → b.own me ≡ a.own me → IsTiedIn me party a → IsTiedIn me party b
-tied_later me party {a} {b} later own tied =
+-- its table stays tied while its own part does, and whether it is in the roster
+pub tied_later : (me : ℕ) (party : Party) {a b : HallState} → IsLater a b → b.joined me ≡ a.joined me → b.own me ≡ a.own me
+    → IsTiedIn me party a → IsTiedIn me party b
+tied_later me party {a} {b} later joined own tied =
     let seen = later.seen me in
-    tied_still (a.seen me) (b.seen me) seen.0 (a.own me) (b.own me) party.joined party.maps seen.1 own tied
+    record {
+      table = tied_still (a.seen me) (b.seen me) seen.0 (a.own me) (b.own me) party.joined party.maps seen.1 own tied.table;
+      same = joined ∙ tied.same;
+    }
 
 pub in_same : (me : ℕ) (party : Party) (a : HallState) → IsTiedIn me party a → StaysIn me party party a a
 in_same me party a tied = record { same = same_party party; tied = tied; waits = waits_same me a }
@@ -53,14 +57,14 @@ in_can here can = record { may = in_may here can.may; tied = in_tied here }
 pub in_stays : (me : ℕ) (party : Party) {a b : HallState} → Stays me a b → IsTiedIn me party a → StaysIn me party party a b
 in_stays me party {a} {b} stays tied = record {
   same = same_party party;
-  tied = tied_later me party stays.others.later stays.mine.own tied;
+  tied = tied_later me party stays.others.later stays.mine.parts.joined stays.mine.own tied;
   waits = waits_by stays;
 }
 
 pub can_still : {me : ℕ} {party : Party} {a b : HallState} → Stays me a b → CanServe me party a → CanServe me party b
 can_still {me} {party} stays can = record {
   may = may_still stays.slots stays.others.later can.may;
-  tied = tied_later me party stays.others.later stays.mine.own can.tied;
+  tied = tied_later me party stays.others.later stays.mine.parts.joined stays.mine.own can.tied;
 }
 
 -- others served for it, or it paused
@@ -70,13 +74,13 @@ in_others party {inside} {a} {b} here slots mine later tied =
     let stay : MineStay party.me a b = subst (λ (who : ℕ). MineStay who a b) here mine in
     record {
       same = same_party party;
-      tied = tied_later party.me party later stay.own tied;
+      tied = tied_later party.me party later stay.parts.joined stay.own tied;
       waits = record { slots = slots; parts = stay.parts; later = later };
     }
 
 pub in_waits : (party : Party) {a b : HallState} → Waits party.me a b → b.own party.me ≡ a.own party.me → IsTiedIn party.me party a
     → StaysIn party.me party party a b
-in_waits party waits own tied = record { same = same_party party; tied = tied_later party.me party waits.later own tied; waits = waits }
+in_waits party waits own tied = record { same = same_party party; tied = tied_later party.me party waits.later waits.parts.joined own tied; waits = waits }
 
 -- while nobody else does anything
 pub alone_same : (me : ℕ) (party : Party) (a : HallState) → IsTiedIn me party a → StaysAlone me party party a a
@@ -141,10 +145,12 @@ alone_of {me} {old} {inside} {new} is same tied slots parts others = record {
 pub alone_with : {me : ℕ} {old inside new : Party} {a b : HallState} → inside ≡ old → IsSameParty inside new → new.joined ≡ inside.joined
     → new.maps ≡ inside.maps → Stays me a b → IsTiedIn me old a → StaysAlone me old new a b
 alone_with {me} {old} {inside} {new} {a} {b} is same joined maps stays tied =
-    let later = tied_later me old stays.others.later stays.mine.own tied in
-    let held : IsTied (b.seen me) (b.own me) inside.joined inside.maps =
-    subst (λ (party : Party). IsTiedIn me party b) (sym is) later in
+    let later = tied_later me old stays.others.later stays.mine.parts.joined stays.mine.own tied in
+    let held : IsTiedIn me inside b = subst (λ (party : Party). IsTiedIn me party b) (sym is) later in
     let table : IsTied (b.seen me) (b.own me) inside.joined new.maps =
-    subst (λ (maps : MapsView). IsTied (b.seen me) (b.own me) inside.joined maps) (sym maps) held in
-    alone_of is same (subst (λ (joined : Bool). IsTied (b.seen me) (b.own me) joined new.maps) (sym joined) table) stays.slots stays.mine.parts
-    stays.others
+    subst (λ (maps : MapsView). IsTied (b.seen me) (b.own me) inside.joined maps) (sym maps) held.table in
+    alone_of is same
+    (record {
+      table = subst (λ (joined : Bool). IsTied (b.seen me) (b.own me) joined new.maps) (sym joined) table;
+      same = held.same ∙ sym joined;
+    }) stays.slots stays.mine.parts stays.others

@@ -7,6 +7,7 @@ pub mod AskSettled
 pub mod AskWithdrawn
 pub mod AskedAlong
 pub mod AskedLemmas
+pub mod AskedOn
 pub mod Attached
 pub mod Carrying
 pub mod GivenSteps

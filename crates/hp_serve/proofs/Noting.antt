@@ -65,6 +65,10 @@ noted_gives knows taken given is of_armed = record {
       for_held = λ ask armed. inl (sym (ap (λ armed. slice_index_or armed knows.who None) is.armed) ∙ armed);
       settled = λ ask armed. inl (ap (λ armed. slice_index_or armed knows.who None) is.armed ∙ armed);
       of_armed = of_armed;
+      answers =
+          λ armed entry ask there kept.
+          absurd (none_there entry (drop (length taken.asks) given.asks)
+          (drop_all (length taken.asks) given.asks (omega (arith, ap (λ (asks : List AskLog). length asks) is.asks))) there);
     };
   });
 }

@@ -128,7 +128,7 @@ freed_stays took frees own = record {
 pub remains_parts : (me : ℕ) (party : Party) {a b : HallState} → StaysButParts me a b → IsTiedIn me party a → RemainsIn me party party a b
 remains_parts me party stays tied = record {
   same = same_party party;
-  tied = tied_later me party stays.others.later stays.own tied;
+  tied = tied_later me party stays.others.later stays.joined stays.own tied;
   slots = stays.slots;
   joined = stays.joined;
   later = stays.others.later;

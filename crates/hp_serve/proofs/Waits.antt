@@ -9,7 +9,7 @@ use Rattle.hp_hall.specs.declared.note.Note.TheVariants.{Read, Yielded}
 use Rattle.hp_serve.specs.Coordinating.{IsServed}
 use Rattle.hp_serve.specs.Falling.{held_sum, if_moved, least_weight, own_weight, served_of}
 use Rattle.hp_serve.specs.Party.{Party, due_in}
-use Rattle.hp_serve.specs.Waiting.{AreServings, AreTurns, HaveServed, IsServedOut, IsSoonerOf, IsTurned, IsWaited, PausesFor, WaitsOn, is_over}
+use Rattle.hp_serve.specs.Waiting.{AreServings, AreTurns, AreTurnsOn, HaveServed, IsServedOut, IsSoonerOf, IsTurned, IsTurnedOn, IsWaited, PausesFor, WaitsOn, is_over}
 use Rattle.hp_serve.proofs.Scaled.{own_weight_lower}
 
 -- SERVINGS AND TURNS JOIN
@@ -41,6 +41,17 @@ pub turns_more : (count until : ℕ) (heeds : Bool) (n : ℕ) (party mid after :
     → AreTurns count until heeds (suc n) party after (first ++ (Notes (Read now) ∷ last))
 unfolding AreTurns
 turns_more count until heeds n party mid after first last now moved are waits one = (mid, first, last, now, moved, are, waits, one, refl)
+
+pub no_turns_on : (count until : ℕ) (heeds : Bool) (party : Party) → AreTurnsOn count until heeds 0 party party []
+unfolding AreTurnsOn
+no_turns_on count until heeds party = (refl, refl)
+
+-- so it is with turns that come to their end whoever stops
+pub turns_on_more : (count until : ℕ) (heeds : Bool) (n : ℕ) (party mid after : Party) (first last : List MailStep) (now : ℕ)
+    → AreTurnsOn count until heeds n party mid first → WaitsOn heeds mid until now → IsTurnedOn count until mid after last
+    → AreTurnsOn count until heeds (suc n) party after (first ++ (Notes (Read now) ∷ last))
+unfolding AreTurnsOn
+turns_on_more count until heeds n party mid after first last now are waits one = (mid, first, last, now, are, waits, one, refl)
 
 -- ALL SERVE
 

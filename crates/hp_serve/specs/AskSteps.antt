@@ -1,5 +1,5 @@
 -- What a participant does that asks for pages, or tells that it gave some up, step by step: the rule "Asking" of docs/PARTICIPANTS.md.
-use Rattle.std.specs.Prelude.{◌≡◌, ℕ, ◌+◌, ◌-◌, ◌*◌, ◌^◌, min, true, false, List, [], ◌∷◌, ◌++◌, Option, Some}
+use Rattle.std.specs.Prelude.{◌≡◌, ℕ, ◌+◌, ◌-◌, ◌*◌, ◌^◌, min, Bool, true, false, ◌||◌, List, [], ◌∷◌, ◌++◌, Option, Some}
 use Rattle.hp_base.specs.Plans.{action_of}
 use Rattle.hp_base.specs.declared.limits.TheConstants.{MAX_READING}
 use Rattle.hp_base.specs.declared.plan_entry.MsgKind.TheVariants as message
@@ -17,7 +17,7 @@ use Rattle.hp_serve.specs.Frames.{Says}
 use Rattle.hp_serve.specs.Looking.{IsLookAt}
 use Rattle.hp_serve.specs.Party.{Party, after_alloc, after_free, one_more}
 use Rattle.hp_serve.specs.Serving.{gives_segments, takes_segments}
-use Rattle.hp_serve.specs.Waiting.{IsWaited}
+use Rattle.hp_serve.specs.Waiting.{IsWaited, IsWaitedOut}
 use Rattle.hp_serve.specs.declared.answered.Answered.{Answered}
 use Rattle.hp_serve.specs.declared.pages_asked.PagesAsked.{PagesAsked}
 use Rattle.hp_serve.specs.declared.settling.Found.TheVariants.{Settled, Open}
@@ -67,11 +67,38 @@ pub record DoesAsk (count : ℕ) (party after : Party) (asked : PagesAsked) (ste
   pub awaited : IsAwaitedBy count (after_alloc after.asked party) after (ask_of party.me after.asked asked) since rest run
   pub are : steps ≡ sending ++ rest
 
--- a participant asked for pages in a hall: by the next number, and has its answer; what was granted came to the heap, which it holds; and
--- where nobody stopped meanwhile it made such steps
+-- so it settles its ask late, awaits its answer and asks where somebody may stop meanwhile: it sees each wait through, so that what is taken
+-- back has a reading that has reached its deadline there too
+pub record IsSettledOn (count : ℕ) (party after : Party) (ask : Ask) (since : ℕ) (steps : List MailStep) (stopped : Bool) : Type 0 where
+  pub waited : List MailStep
+  pub taken : SegsView
+  pub now : ℕ
+  pub waits : IsWaitedOut count (waits_until since party.deadline) false party after waited now stopped
+  pub are : steps ≡ waited ++ (takes_segments taken ∷ gives_segments (after_settling ask since now taken) ∷ [])
+
+pub data IsAwaitedOn (count : ℕ) (party after : Party) (ask : Ask) (since : ℕ) (steps : List MailStep) (run : Option Run) (stopped : Bool)
+    : Type 0 where
+  finds : (now : ℕ) (waited looked : List MailStep)
+      → IsWaitedOut count (waits_until since party.deadline) true party after waited now stopped → IsLookAt ask looked (Settled run)
+      → steps ≡ waited ++ looked → IsAwaitedOn count party after ask since steps run stopped
+  settles : (mid : Party) (now : ℕ) (waited looked late : List MailStep) (first second : Bool)
+      → IsWaitedOut count (waits_until since party.deadline) true party mid waited now first → IsLookAt ask looked Open
+      → IsSettledOn count mid after ask since late second → steps ≡ waited ++ (looked ++ late) → stopped ≡ (first || second)
+      → IsAwaitedOn count party after ask since steps run stopped
+
+pub record DoesAskOn (count : ℕ) (party after : Party) (asked : PagesAsked) (steps : List MailStep) (run : Option Run) (stopped : Bool)
+    : Type 0 where
+  pub since : ℕ
+  pub sending : List MailStep
+  pub rest : List MailStep
+  pub sent : IsSentAs party (ask_of party.me after.asked asked) since sending
+  pub awaited : IsAwaitedOn count (after_alloc after.asked party) after (ask_of party.me after.asked asked) since rest run stopped
+  pub are : steps ≡ sending ++ rest
+
+-- a participant asked for pages in a hall, by such steps, whoever stopped meanwhile: by the next number, and has its answer; and what was
+-- granted came to the heap, which it holds
 pub record AsksIn (me : ℕ) (old new : Party) (asked : PagesAsked) (from to : HallState) (answered : Answered) : Type 0 where
-  pub did : answered.stopped ≡ false
-      → (steps : List MailStep) × Did me steps from to × DoesAsk from.count old new asked steps answered.run
+  pub did : (steps : List MailStep) × Did me steps from to × DoesAskOn from.count old new asked steps answered.run answered.stopped
   pub answer : IsAsked (to.seen me) (to.heard me) me old.asked new.asked asked answered.run
   pub grows : GrowsHeld asked.heap answered.run (from.part me asked.heap) (to.part me asked.heap)
 

@@ -3,11 +3,11 @@ use Rattle.std.specs.Prelude.{◌≡◌, ℕ, ◌+◌}
 use Rattle.hp_hall.specs.HallState.{HallState, IsLater, MayServe, OthersStay, SlotsStay, Waits}
 use Rattle.hp_serve.specs.Falling.{own_weight}
 use Rattle.hp_serve.specs.Party.{IsSameParty, Party}
-use Rattle.hp_serve.specs.Tied.{IsTied}
+use Rattle.hp_serve.specs.Tied.{IsTiedAs}
 
--- its table is what the hall knows of it
+-- its table is what the hall knows of it, and it has one where it is in the roster
 abbrev pub IsTiedIn : ℕ → Party → HallState → Type 0
-IsTiedIn me party state = IsTied (state.seen me) (state.own me) party.joined party.maps
+IsTiedIn me party state = IsTiedAs (state.seen me) (state.own me) (state.joined me) party.joined party.maps
 
 -- the number that falls, the participant's own part of it among it
 abbrev pub left_to_do : ℕ → (ℕ → ℕ → ℕ) → Party → HallState → ℕ

@@ -1,5 +1,5 @@
 -- What an asker's look in the segment value finds.
-use Rattle.std.specs.Prelude.{◌≡◌, ℕ, true, List, [], ◌∷◌, ⊤}
+use Rattle.std.specs.Prelude.{◌≡◌, ℕ, true, false, List, [], ◌∷◌}
 use Rattle.std.specs.List.{list_any}
 use Rattle.hp_hall.specs.Holding.{HeapPart}
 use Rattle.hp_hall.specs.Mail.{MailStep}
@@ -23,10 +23,10 @@ abbrev pub after_look : Ask → Found → SegsView → SegsView
 after_look ask (Settled run) segs = after_claim ask.from ask.number segs
 after_look ask Open segs = segs
 
--- what finds an ask settled found a grant or a refusal of it in the segment value
+-- what finds an ask settled found a grant or a refusal of it in the segment value, and what finds it open found neither
 abbrev pub IsFoundIn : Ask → SegsView → Found → Type 0
 IsFoundIn ask segs (Settled run) = list_any (grants_or_refuses ask.from ask.number) segs.asks ≡ true
-IsFoundIn ask segs Open = ⊤
+IsFoundIn ask segs Open = list_any (grants_or_refuses ask.from ask.number) segs.asks ≡ false
 
 -- the steps of a look
 pub record IsLookAt (ask : Ask) (steps : List MailStep) (answer : Found) : Type 0 where

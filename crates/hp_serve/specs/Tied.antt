@@ -30,6 +30,11 @@ pub record IsTied (log : List LogRecord) (own : Own) (joined : Bool) (maps : Map
   pub within : own.number ≤ length log
   pub table : HasTable log (part_of joined own) maps
 
+-- so it is, and the participant has a table where it is in the roster
+pub record IsTiedAs (log : List LogRecord) (own : Own) (member joined : Bool) (maps : MapsView) : Type 0 where
+  pub table : IsTied log own joined maps
+  pub same : member ≡ joined
+
 -- a participant's own part once it has caught up with so many records, or failed to
 abbrev pub own_after : Caught → ℕ → Own → Own
 own_after Done records own = after_ack records

@@ -95,6 +95,47 @@ pub data IsWaited (count until : ℕ) (heeds : Bool) (party after : Party) (step
       → WaitsOn heeds mid until now → IsTurned count until mid after last None → steps ≡ first ++ (Notes (Read now) ∷ last)
       → ended ≡ None → IsWaited count until heeds party after steps ended
 
+-- all serve in a turn, whoever stops: those below it first, then the participant itself, then those above
+pub record HaveServedOn (count : ℕ) (party after : Party) (steps : List MailStep) : Type 0 where
+  pub below : Option Bool
+  pub mine : Option Bool
+  pub above : Option Bool
+  pub own : List MailStep
+  pub served : IsServedOut count party after own mine
+  pub are : steps ≡ Notes (Yielded false below) ∷ (own ++ Notes (Yielded true above) ∷ [])
+
+-- such a turn of its wait until a deadline comes to its end whoever stops, with a pause until the sooner deadline
+pub record IsTurnedOn (count until : ℕ) (party after : Party) (steps : List MailStep) : Type 0 where
+  pub moved : Bool
+  pub served : List MailStep
+  pub paused : List MailStep
+  pub all : HaveServedOn count party after served
+  pub pause : PausesAt until (due_in after.core) moved paused
+  pub are : steps ≡ served ++ paused
+
+-- what so many such turns make of it, each of which began at a reading at which its wait had not ended
+unfoldable pub AreTurnsOn : ℕ → ℕ → Bool → ℕ → Party → Party → List MailStep → Type 0
+AreTurnsOn count until heeds zero party after steps = (after ≡ party) × (steps ≡ [])
+AreTurnsOn count until heeds (suc n) party after steps =
+    (mid : Party) × (before : List MailStep) × (last : List MailStep) × (now : ℕ) × AreTurnsOn count until heeds n party mid before
+    × WaitsOn heeds mid until now × IsTurnedOn count until mid after last × (steps ≡ before ++ (Notes (Read now) ∷ last))
+
+-- it outlasts the rest of a wait by such turns, to the reading at which that ended
+pub record IsOutlasted (count until : ℕ) (heeds : Bool) (party after : Party) (steps : List MailStep) (ended : ℕ) : Type 0 where
+  pub turns : ℕ
+  pub first : List MailStep
+  pub are_turns : AreTurnsOn count until heeds turns party after first
+  pub waited : HasWaited heeds after until ended
+  pub are : steps ≡ first ++ (Notes (Read ended) ∷ [])
+
+-- it sees a wait until a deadline through, to the reading at which that ended: where somebody stopped, it outlasts the rest
+pub data IsWaitedOut (count until : ℕ) (heeds : Bool) (party after : Party) (steps : List MailStep) (ended : ℕ) (stopped : Bool) : Type 0 where
+  whole : IsWaited count until heeds party after steps (Some ended) → stopped ≡ false
+      → IsWaitedOut count until heeds party after steps ended stopped
+  outlasts : (mid : Party) (first rest : List MailStep) → IsWaited count until heeds party mid first None
+      → IsOutlasted count until heeds mid after rest ended → steps ≡ first ++ rest → stopped ≡ true
+      → IsWaitedOut count until heeds party after steps ended stopped
+
 -- a reading of the clock: every deadline behind it is still to come
 abbrev pub IsReading : (ℕ → Type 0) → ℕ → Type 0
 IsReading IsToCome reading = (deadline : ℕ) → reading < deadline → IsToCome deadline

@@ -8,7 +8,9 @@ ghost use Rattle.hp_segs.specs.SegsView.{SegsView};
 ghost use Rattle.hp_serve.specs.Attaching.{after_attaching, emptied, table_left};
 ghost use Rattle.hp_serve.specs.Serving.{CatchesUp, acks_behind, gives_segments, takes_segments};
 ghost use Rattle.hp_serve.specs.Tied.{IsTied};
-ghost use Rattle.hp_hall.specs.HallState.{Did};
+ghost use Rattle.hp_hall.specs.HallState.{Did, Stays};
+ghost use Rattle.hp_hall.specs.Mail.{Notes};
+ghost use Rattle.hp_hall.specs.declared.note.Note.{Note};
 ghost use Rattle.hp_serve.specs.SegmentSlot.{GivesBack, HasSegs, MayHold, StaysButOwn, StaysButRoster};
 
 use crate::calls::{give_segments, put_back, take_segments};
@@ -26,6 +28,18 @@ fn empty<M: Mapper>(maps: &mut LocalMaps<M>)
     // As few rows are told of as a slice has.
     let _rows = maps.rows();
     maps.unmap_all(&mut Silent);
+}
+
+// Tells the hall that its table has no row, once it has none.
+fn tell_empty<H: Hall, M: Mapper>(hall: &mut H, me: u8, table: &LocalMaps<M>)
+    requires serves { (H.state hall.old).serves me }
+    requires unmapped { table.now.rows ≡ [] }
+    ensures did { Did me (Notes Note.Emptied ∷ []) (H.state hall.old) (H.state hall.new) }
+    ensures stays { Stays me (H.state hall.old) (H.state hall.new) }
+    ensures weight { (H.state hall.new).weight ≤ (H.state hall.old).weight }
+    ensures goes_on { H.goes_on hall.old hall.new }
+{
+    hall.emptied(me, table.rows());
 }
 
 // Takes the whole log in and acknowledges it. Where a mapping failed the table is emptied, and what was acknowledged stays.
@@ -81,9 +95,8 @@ fn give_joined<H: Hall>(hall: &mut H, me: u8, segs: Segs)
     give_segments(hall, me, given);
 }
 
-// Leaves the roster, where it is in it, and gives the segment value back: once nothing is mapped in its table.
-fn give_left<H: Hall, M: Mapper>(hall: &mut H, me: u8, segs: Segs, _table: &LocalMaps<M>)
-    requires unmapped { _table.now.rows ≡ [] }
+// Leaves the roster, where it is in it, and gives the segment value back.
+fn give_left<H: Hall>(hall: &mut H, me: u8, segs: Segs)
     requires has { HasSegs me segs (H.state hall.old) }
     requires few { me < MAX_PARTICIPANTS }
     requires secondary { 0 < me }
@@ -145,8 +158,8 @@ pub(crate) fn attach<H: Hall, M: Mapper>(
     caught
 }
 
-/// A secondary that is attached takes the segment value, unmaps its whole table, leaves the roster and gives the value back. How many
-/// records it has acknowledged stays. `joined` says whether it had a table before.
+/// A secondary that is attached takes the segment value, unmaps its whole table and tells so, leaves the roster and gives the value back.
+/// How many records it has acknowledged stays. `joined` says whether it had a table before.
 pub(crate) fn detach<H: Hall, M: Mapper>(
     hall: &mut H,
     me: u8,
@@ -158,8 +171,8 @@ pub(crate) fn detach<H: Hall, M: Mapper>(
     requires secondary { 0 < me }
     requires tied { IsTied ((H.state hall.old).seen me) ((H.state hall.old).own me) joined table.old }
     ensures maps { table.new ≡ emptied table.old }
-    ensures did { (segs : SegsView) × Did me (takes_segments segs ∷ gives_segments (after_leave me segs) ∷ []) (H.state hall.old)
-        (H.state hall.new) }
+    ensures did { (segs : SegsView) × Did me (takes_segments segs ∷ Notes Note.Emptied ∷ gives_segments (after_leave me segs) ∷ [])
+        (H.state hall.old) (H.state hall.new) }
     ensures tied { IsTied ((H.state hall.new).seen me) ((H.state hall.new).own me) false table.new }
     ensures own { (H.state hall.new).own me ≡ (H.state hall.old).own me }
     ensures roster { (H.state hall.new).joined me ≡ false }
@@ -168,5 +181,6 @@ pub(crate) fn detach<H: Hall, M: Mapper>(
 {
     let segs = take_segments(hall, me);
     empty(table);
-    give_left(hall, me, segs, table);
+    tell_empty(hall, me, table);
+    give_left(hall, me, segs);
 }

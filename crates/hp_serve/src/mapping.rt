@@ -11,7 +11,7 @@ ghost use Rattle.hp_segs.specs.Sound.{IsSound};
 ghost use Rattle.hp_serve.specs.Coordinating.{IsHanded, IsMapped};
 ghost use Rattle.hp_serve.specs.Party.{Party, with_table};
 ghost use Rattle.hp_serve.specs.Serving.{CatchesUp, tells_behind};
-ghost use Rattle.hp_serve.specs.Tied.{IsTied};
+ghost use Rattle.hp_serve.specs.Tied.{IsTied, IsTiedAs};
 ghost use Rattle.hp_hall.specs.HallState.{Did, MayServe};
 ghost use Rattle.hp_serve.specs.SegmentSlot.{FreesSegs, HasSegs, StaysButOwn};
 
@@ -67,11 +67,11 @@ pub(crate) fn map_self<H: Hall, M: Mapper>(
     joined: &mut bool,
 ) -> Result<Out, AllocError>
     requires may { MayServe 0 (H.state hall.old) }
-    requires tied { IsTied ((H.state hall.old).seen 0) ((H.state hall.old).own 0) joined.old maps.old }
+    requires tied { IsTiedAs ((H.state hall.old).seen 0) ((H.state hall.old).own 0) ((H.state hall.old).joined 0) joined.old maps.old }
     ensures mapped { (steps : List MailStep) × Did 0 steps (H.state hall.old) (H.state hall.new)
         × ((party : Party) → IsMapped (with_table core.old maps.old joined.old party) (with_table core.new maps.new
         joined.new party) steps (result_ok result)) }
-    ensures tied { IsTied ((H.state hall.new).seen 0) ((H.state hall.new).own 0) joined.new maps.new }
+    ensures tied { IsTiedAs ((H.state hall.new).seen 0) ((H.state hall.new).own 0) ((H.state hall.new).joined 0) joined.new maps.new }
     ensures stays { StaysButOwn 0 (H.state hall.old) (H.state hall.new) }
     ensures goes_on { H.goes_on hall.old hall.new }
 {

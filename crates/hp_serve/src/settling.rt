@@ -23,7 +23,7 @@ use hp_segs::{Ask, Closing, Outcome, Segs};
 pub(crate) enum Found {
     /// The ask is settled: a run was granted, which is claimed now, or none.
     Settled { run: Option<Run> },
-    /// No grant and no refusal is the ask's outcome so far.
+    /// Neither a grant nor a refusal of the ask stands so far.
     Open,
 }
 
@@ -59,7 +59,7 @@ pub(crate) fn look<H: Hall>(hall: &mut H, ask: &Ask) -> Found
     ensures goes_on { H.goes_on hall.old hall.new }
 {
     let segs = take_segments(hall, ask.from);
-    match segs.outcome(ask.from, ask.number) {
+    match segs.grant_or_refusal(ask.from, ask.number) {
         Some(Outcome::Granted { .. }) => {
             let run = claim_taken(hall, ask, segs);
             Found::Settled { run: Some(run) }
@@ -68,7 +68,8 @@ pub(crate) fn look<H: Hall>(hall: &mut H, ask: &Ask) -> Found
             put_back(hall, ask.from, segs);
             Found::Settled { run: None }
         }
-        Some(Outcome::Stale { .. } | Outcome::Freed { .. }) | None => {
+        Some(Outcome::Stale { .. } | Outcome::Freed { .. }) => unreachable!(),
+        None => {
             put_back(hall, ask.from, segs);
             Found::Open
         }

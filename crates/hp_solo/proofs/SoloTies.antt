@@ -6,7 +6,7 @@ use Rattle.std.proofs.lemmas.Bool.{cases_eq}
 use Rattle.std.proofs.lemmas.Option.{same_Some, slice_get_within}
 use Rattle.hp_plain.proofs.Slotted.{slice_get-set_other, slice_get-set_same}
 use Rattle.hp_plain.specs.Course.{IsCourse, course_same, course_seen, course_then, done_same, done_then}
-use Rattle.hp_plain.specs.HallView.{HallView, HasDone, SlotView, IsHome, own_at, seen_in, taken_from}
+use Rattle.hp_plain.specs.HallView.{HallView, HasDone, SlotView, IsHome, joined_in, own_at, seen_in, taken_from}
 use Rattle.hp_hall.specs.Mail.{MailStep}
 use Rattle.hp_hall.specs.Own.{Own}
 use Rattle.hp_maps.specs.MapsView.{MapsView}
@@ -17,7 +17,7 @@ use Rattle.hp_serve.proofs.MemberLemmas.{at_each}
 use Rattle.hp_serve.proofs.Tying.{tied_along}
 use Rattle.hp_solo.specs.Served.{HasServed, HasServedAs, HasServedAt}
 use Rattle.hp_solo.specs.Served.ServesOn.{serves}
-use Rattle.hp_solo.specs.Solo.{AreLater, AreTied, IsLaterAt, IsLaterParty, IsPartyServed, IsServedAs, IsServing, IsTiedAt, IsTiedIn, AloneView, party_at, party_in, server_at}
+use Rattle.hp_solo.specs.Solo.{AreLater, AreTied, IsLaterAt, IsLaterParty, IsPartyServed, IsServedAs, IsServing, IsTiedAt, IsTiedFor, IsTiedIn, AloneView, party_at, party_in, server_at}
 use Rattle.hp_solo.specs.SoloCourse.{same_then, server_stays}
 
 -- a table is tied along the course of a hall
@@ -26,13 +26,16 @@ tied_later : (old new : HallView) (own : Own) (joined : Bool) (maps : MapsView) 
 tied_later old new own joined maps course tied =
     let seen = course_seen old new course in tied_along (seen_in old) (seen_in new) seen.0 own joined maps seen.1 tied
 
--- who is tied stays so where its own part stays
-pub tied_on : (old new : HallView) (who : ℕ) (party : Party) → IsCourse old new → own_at new who ≡ own_at old who → IsTiedAt old who party
-    → IsTiedAt new who party
-tied_on old new who party course same at = record {
+-- who is tied stays so where its own part stays, and whether it is in the roster
+pub tied_on : (old new : HallView) (who : ℕ) (party : Party) → IsCourse old new → own_at new who ≡ own_at old who
+    → joined_in new who ≡ joined_in old who → IsTiedAt old who party → IsTiedAt new who party
+tied_on old new who party course own joined at = record {
   number = at.number;
-  tied = subst (λ (own : Own). IsTied (seen_in new) own party.joined party.maps) (sym same)
-      (tied_later old new (own_at old who) party.joined party.maps course at.tied);
+  tied = record {
+    table = subst (λ (own : Own). IsTied (seen_in new) own party.joined party.maps) (sym own)
+        (tied_later old new (own_at old who) party.joined party.maps course at.tied.table);
+    same = joined ∙ at.tied.same;
+  };
 }
 
 -- what is there was not taken
@@ -79,7 +82,7 @@ serving_narrow apart fewer old new narrow is = record {
 }
 
 -- one participant that serves: nothing yet, and on from serving to serving
-pub party_served_same : (hall : HallView) (party : Party) → IsTied (seen_in hall) (own_at hall party.me) party.joined party.maps
+pub party_served_same : (hall : HallView) (party : Party) → IsTiedFor hall party.me party
     → IsPartyServed hall hall party party
 party_served_same hall party tied = record {
   serving = serving_same (λ who. who ≢ party.me) hall;
@@ -97,7 +100,7 @@ party_served_then a b c first second third here next = record {
   serving = serving_then (λ who. who ≢ first.me) a b c here.serving
       (serving_narrow (λ who. who ≢ second.me) (λ who. who ≢ first.me) b c (λ who apart same. apart (same ∙ here.same.me)) next.serving);
   same = same_then first second third here.same next.same;
-  tied = subst (λ (me : ℕ). IsTied (seen_in c) (own_at c me) third.joined third.maps) here.same.me next.tied;
+  tied = subst (λ (me : ℕ). IsTiedFor c me third) here.same.me next.tied;
 }
 
 -- one serving more
@@ -145,7 +148,7 @@ served_tied old new number (Some party) (Some after) now numbered served is =
     let me = numbered party refl in
     subst (IsTiedAt new number) (same_Some after now is) (record {
       number = served.same.me ∙ me;
-      tied = subst (λ (who : ℕ). IsTied (seen_in new) (own_at new who) after.joined after.maps) me served.tied;
+      tied = subst (λ (who : ℕ). IsTiedFor new who after) me served.tied;
     })
 
 pub served_later : (old new : HallView) (party after : Option Party) → IsServedAs old new party after → IsLaterParty party after
@@ -173,7 +176,7 @@ module _ (old new : HallView) (servers : List AloneView) (number : ℕ) (server 
       subst (λ (n : ℕ). IsTiedAt new n party) (sym same)
       (served_tied old new number server.party after.party party numbered served (sym (ap party_in here) ∙ ap (party_at (set servers number after)) (sym same) ∙ is)))
       (λ (apart : who ≢ number).
-      tied_on old new who party apart_from.course (apart_from.own who apart)
+      tied_on old new who party apart_from.course (apart_from.own who apart) (apart_from.joined who)
       (tied who party (sym (ap party_in (slice_get-set_other servers number who after apart)) ∙ is)))
       (cases_eq who number)
 
@@ -202,7 +205,7 @@ tied_some : (hall : HallView) (servers : List AloneView) (number : ℕ) (party :
 tied_some hall servers number None is below tied = tt
 tied_some hall servers number (Some party) is below tied =
     let at = tied number party is in
-    (omega (arith, at.number, below), subst (λ (who : ℕ). IsTied (seen_in hall) (own_at hall who) party.joined party.maps) (sym at.number) at.tied)
+    (omega (arith, at.number, below), subst (λ (who : ℕ). IsTiedFor hall who party) (sym at.number) at.tied)
 
 pub tied_in : (hall : HallView) (servers : List AloneView) (number : ℕ) (server : AloneView) → slice_get servers number ≡ Some server
     → number < length hall.owns → AreTied hall servers → IsTiedIn hall server.party

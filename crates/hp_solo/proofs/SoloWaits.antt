@@ -1,22 +1,25 @@
 -- One that does a line in a hall of one thread may wait when it goes, and still after a call or a serving.
 use Rattle.std.proofs.Common.{◌≡◌, ◌<◌, ℕ, List, length, refl, sym, subst}
 use Rattle.hp_base.specs.declared.limits.TheConstants.{MAX_HEAPS}
-use Rattle.hp_plain.specs.HallView.{HallView, IsHome, own_at, seen_in, slot_at}
+use Rattle.hp_plain.specs.HallView.{HallView, IsHome, joined_in, own_at, seen_in, slot_at}
 use Rattle.hp_hall.specs.Own.{Own}
 use Rattle.hp_log.specs.declared.log_record.LogRecord.{LogRecord}
 use Rattle.hp_serve.specs.Party.{Party}
 use Rattle.hp_serve.specs.Tied.{IsTied, nothing_yet}
-use Rattle.hp_solo.specs.Solo.{IsAway, IsTiedAt, MayWait, SoloView, server_at}
+use Rattle.hp_solo.specs.Solo.{IsAway, IsTiedAt, IsTiedFor, MayWait, SoloView, server_at}
 use Rattle.hp_solo.specs.SoloCourse.{IsSoloCourse, solo_serves}
 use Rattle.hp_solo.proofs.SoloTies.{tied_on}
 
--- one that has taken in nothing is tied to a hall that knows so
-pub tied_first : (hall : HallView) (who : ℕ) (party : Party) → own_at hall who ≡ nothing_yet → party.me ≡ who
-    → ((log : List LogRecord) → IsTied log nothing_yet party.joined party.maps) → IsTiedAt hall party.me party
-tied_first hall who party own number tied = record {
+-- one that has taken in nothing is tied to a hall that knows so, and has it in its roster where it has a table
+pub tied_first : (hall : HallView) (who : ℕ) (party : Party) → own_at hall who ≡ nothing_yet → joined_in hall who ≡ party.joined
+    → party.me ≡ who → ((log : List LogRecord) → IsTied log nothing_yet party.joined party.maps) → IsTiedAt hall party.me party
+tied_first hall who party own joined number tied = record {
   number = refl;
-  tied = subst (λ (n : ℕ). IsTied (seen_in hall) (own_at hall n) party.joined party.maps) (sym number)
-      (subst (λ (own : Own). IsTied (seen_in hall) own party.joined party.maps) (sym own) (tied (seen_in hall)));
+  tied = subst (λ (n : ℕ). IsTiedFor hall n party) (sym number)
+      (record {
+        table = subst (λ (own : Own). IsTied (seen_in hall) own party.joined party.maps) (sym own) (tied (seen_in hall));
+        same = joined;
+      });
 }
 
 -- when it has gone
@@ -26,20 +29,21 @@ waits_first hall me party declared away home at = record {
   declared = subst (λ (n : ℕ). n < length hall.plain.owns) (sym at.number) declared;
   away = subst (λ (n : ℕ). IsAway (server_at hall.servers n)) (sym at.number) away;
   home = home;
-  tied = subst (λ (n : ℕ). IsTied (seen_in hall.plain) (own_at hall.plain n) party.joined party.maps) (sym at.number) at.tied;
+  tied = subst (λ (n : ℕ). IsTiedFor hall.plain n party) (sym at.number) at.tied;
 }
 
 -- after a serving of its own
 pub waits_after : (old new : SoloView) (party after : Party) → after.me ≡ party.me → IsSoloCourse old new
-    → IsHome (slot_at new.plain MAX_HEAPS) → IsTied (seen_in new.plain) (own_at new.plain party.me) after.joined after.maps
+    → IsHome (slot_at new.plain MAX_HEAPS) → IsTiedFor new.plain party.me after
     → MayWait old party → MayWait new after
 waits_after old new party after me course home tied may =
     waits_first new party.me after (subst (λ (n : ℕ). party.me < n) (sym course.plain.count) may.declared)
     (solo_serves old new party.me course may.away) home (record { number = me; tied = tied })
 
--- after a call that leaves its own part, and the segment value in its slot
+-- after a call that leaves its own part, whether it is in the roster, and the segment value in its slot
 pub waits_on : (old new : SoloView) (party : Party) → IsSoloCourse old new → own_at new.plain party.me ≡ own_at old.plain party.me
-    → IsHome (slot_at new.plain MAX_HEAPS) → MayWait old party → MayWait new party
-waits_on old new party course own home may =
-    let tied = tied_on old.plain new.plain party.me party course.plain own (record { number = refl; tied = may.tied }) in
+    → joined_in new.plain party.me ≡ joined_in old.plain party.me → IsHome (slot_at new.plain MAX_HEAPS) → MayWait old party
+    → MayWait new party
+waits_on old new party course own joined home may =
+    let tied = tied_on old.plain new.plain party.me party course.plain own joined (record { number = refl; tied = may.tied }) in
     waits_after old new party party refl course home tied.tied may

@@ -5,7 +5,7 @@ use Rattle.hp_plain.specs.HallSteps.{after_pause, with_note}
 use Rattle.hp_plain.specs.HallView.{HallView, HasDone}
 use Rattle.hp_hall.specs.Mail.{MailStep, Fetches, Gives, Notes, Posts, Takes}
 use Rattle.hp_hall.specs.declared.note.Note.{Note}
-use Rattle.hp_hall.specs.declared.note.Note.TheVariants.{Acked, Loaded, Paused, Read, Unmapped, Yielded}
+use Rattle.hp_hall.specs.declared.note.Note.TheVariants.{Acked, Emptied, Loaded, Paused, Read, Unmapped, Yielded}
 use Rattle.hp_serve.specs.Coordinating.{IsServed}
 use Rattle.hp_serve.specs.Party.{Party}
 use Rattle.hp_solo.specs.Solo.{IsAway, IsBeside, IsNextDue, IsQuiet, AloneView, SoloView, has_stopped, party_at, server_at}
@@ -55,6 +55,7 @@ IsCallNote (Read now) = ⊤
 IsCallNote (Loaded participant number) = ⊤
 IsCallNote (Acked number) = ⊤
 IsCallNote Unmapped = ⊤
+IsCallNote Emptied = ⊤
 IsCallNote (Yielded above moved) = ⊥
 IsCallNote (Paused moved until) = ⊥
 

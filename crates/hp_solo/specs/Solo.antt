@@ -10,7 +10,7 @@ use Rattle.hp_hall.specs.Weights.{boxes_weight, pending_at}
 use Rattle.hp_hall.specs.declared.note.Note.TheVariants.{Read}
 use Rattle.hp_serve.specs.Falling.{own_weight}
 use Rattle.hp_serve.specs.Party.{IsSameParty, Party, due_in}
-use Rattle.hp_serve.specs.Tied.{IsTied}
+use Rattle.hp_serve.specs.Tied.{IsTiedAs}
 use Rattle.hp_solo.specs.Served.{HasServedAt}
 
 -- who serves while others do their lines: a participant, which is away while its own line is done, and whether it has met a refusal of
@@ -48,10 +48,14 @@ abbrev pub IsAway : Option AloneView → Type 0
 IsAway None = ⊥
 IsAway (Some server) = server.party ≡ None
 
+-- a participant's table is tied to what the hall knows of that number
+abbrev pub IsTiedFor : HallView → ℕ → Party → Type 0
+IsTiedFor hall who party = IsTiedAs (seen_in hall) (own_at hall who) (joined_in hall who) party.joined party.maps
+
 -- a participant has that number, and its table is tied to what the hall knows of it
 pub record IsTiedAt (hall : HallView) (who : ℕ) (party : Party) : Type 0 where
   pub number : party.me ≡ who
-  pub tied : IsTied (seen_in hall) (own_at hall who) party.joined party.maps
+  pub tied : IsTiedFor hall who party
 
 -- each that is there to serve is tied
 abbrev pub AreTied : HallView → List AloneView → Type 0
@@ -67,7 +71,7 @@ pub record MayWait (hall : SoloView) (party : Party) : Type 0 where
   pub declared : party.me < length hall.plain.owns
   pub away : IsAway (server_at hall.servers party.me)
   pub home : IsHome (slot_at hall.plain MAX_HEAPS)
-  pub tied : IsTied (seen_in hall.plain) (own_at hall.plain party.me) party.joined party.maps
+  pub tied : IsTiedFor hall.plain party.me party
 
 -- what a participant's round and held asks weigh
 abbrev pub party_weight : (ℕ → ℕ) → Option Party → ℕ
@@ -121,13 +125,13 @@ pub record IsServing (apart : ℕ → Type 0) (old new : HallView) : Type 0 wher
 -- a participant that is there may serve: it is one of the hall's, and its table is tied to what the hall knows of it
 abbrev pub IsTiedIn : HallView → Option Party → Type 0
 IsTiedIn hall None = ⊤
-IsTiedIn hall (Some party) = (party.me < length hall.owns) × IsTied (seen_in hall) (own_at hall party.me) party.joined party.maps
+IsTiedIn hall (Some party) = (party.me < length hall.owns) × IsTiedFor hall party.me party
 
 -- what serving makes of one participant
 pub record IsPartyServed (old new : HallView) (party after : Party) : Type 0 where
   pub serving : IsServing (λ who. who ≢ party.me) old new
   pub same : IsSameParty party after
-  pub tied : IsTied (seen_in new) (own_at new party.me) after.joined after.maps
+  pub tied : IsTiedFor new party.me after
 
 -- what serving makes of one that is there, and nothing of one that is away
 abbrev pub IsServedAs : HallView → HallView → Option Party → Option Party → Type 0

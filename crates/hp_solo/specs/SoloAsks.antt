@@ -1,8 +1,8 @@
 -- How one that does a line in a hall of one thread comes to ask for pages for heap 0, and to give them up: what has to hold before each
 -- of its calls. The rules "Holding" and "Asking" of docs/PARTICIPANTS.md.
-use Rattle.std.specs.Prelude.{◌≡◌, ℕ, length, Some, None, IsSome, []}
+use Rattle.std.specs.Prelude.{◌≡◌, ℕ, ◌<◌, true, length, Some, None, IsSome, []}
 use Rattle.hp_base.specs.declared.row.Run.{Run}
-use Rattle.hp_plain.specs.HallView.{HallView, IsHome, heard_in, own_at, part_in, slot_at}
+use Rattle.hp_plain.specs.HallView.{HallView, IsHome, heard_in, joined_in, own_at, part_in, slot_at}
 use Rattle.hp_hall.specs.Holding.{HasPages, HeapPart}
 use Rattle.hp_segs.specs.Standing.{Holding}
 use Rattle.hp_plain.specs.Opening.{AreHome}
@@ -12,12 +12,13 @@ use Rattle.hp_serve.specs.Party.{Party}
 use Rattle.hp_serve.specs.Tied.{nothing_yet}
 use Rattle.hp_solo.specs.Solo.{MayWait, SoloView}
 
--- a hall of two as it opens where nobody was armed: all values are there, nobody has acknowledged a record, and heap 0 takes the pages of a
--- socket
+-- a hall of two as it opens where nobody was armed: all values are there, nobody has acknowledged a record, both are in the roster, and heap
+-- 0 takes the pages of a socket
 pub record IsOpening (hall : HallView) : Type 0 where
   pub two : length hall.owns ≡ 2
   pub home : AreHome hall
   pub nothing_yet : (who : ℕ) → own_at hall who ≡ nothing_yet
+  pub joined : (who : ℕ) → who < 2 → joined_in hall who ≡ true
   pub unarmed : (who heap : ℕ) → (part_in hall who heap).armed ≡ None
   pub serves : (who : ℕ) → IsSome (part_in hall who 0).serves
 

@@ -2,12 +2,11 @@
 ghost use Rattle.std.specs.Prelude.{◌≡◌, ◌+◌, ◌<◌, ◌≤◌, List, false, None, Ok, Some, true, IfOk, IsSome, is_none, length, replicate};
 ghost use Rattle.std.specs.Result.{result_ok};
 ghost use Rattle.hp_base.specs.declared.limits.TheConstants.{MAX_HEAPS};
-ghost use Rattle.hp_plain.specs.HallView.{HasDone, IsHome, own_at, seen_in, slot_at};
+ghost use Rattle.hp_plain.specs.HallView.{HasDone, IsHome, slot_at};
 ghost use Rattle.hp_hall.specs.Mail.{MailStep};
 ghost use Rattle.hp_hall.specs.Weights.{boxes_weight, pending_at};
 ghost use Rattle.hp_serve.specs.Coordinating.{IsServed};
 ghost use Rattle.hp_serve.specs.Falling.{if_moved, served_of};
-ghost use Rattle.hp_serve.specs.Tied.{IsTied};
 ghost use Rattle.hp_solo.specs.Ending.{LeavesThere};
 ghost use Rattle.hp_solo.specs.Sequence.{IsVisited, IsVisitedAs};
 ghost use Rattle.hp_solo.specs.Served.{HasServed, HasServedAs, KeepsServing, KeepsServingAs};
@@ -19,6 +18,7 @@ ghost use Rattle.hp_solo.specs.Solo.{
   IsPartyServed,
   IsResting,
   IsServedAs,
+  IsTiedFor,
   IsTiedIn,
   LooksLast,
   due_at,
@@ -170,7 +170,7 @@ fn serve_out<M: Mapper>(
 ) -> Result<bool, AllocError>
     requires me { participant.old.me < length hall.old.owns }
     requires there { IsHome (slot_at hall.old MAX_HEAPS) }
-    requires tied { IsTied (seen_in hall.old) (own_at hall.old participant.old.me) participant.old.joined participant.old.maps }
+    requires tied { IsTiedFor hall.old participant.old.me participant.old }
     ensures served { IsPartyServed hall.old hall.new participant.old participant.new }
     ensures keeps { KeepsServing (length hall.old.owns) participant.old.me hall.old hall.new participant.old }
     ensures serves { IfOk result (λ moved. HasServed (length hall.old.owns) participant.old.me hall.old hall.new participant.old participant.new) }
@@ -199,7 +199,7 @@ fn serve_once<M: Mapper>(
 ) -> Result<bool, AllocError>
     requires me { participant.old.me < length hall.old.owns }
     requires there { IsHome (slot_at hall.old MAX_HEAPS) }
-    requires tied { IsTied (seen_in hall.old) (own_at hall.old participant.old.me) participant.old.joined participant.old.maps }
+    requires tied { IsTiedFor hall.old participant.old.me participant.old }
     ensures served { IsPartyServed hall.old hall.new participant.old participant.new }
     ensures weight { boxes_weight hall.new.boxes + party_weight (pending_at hall.new.clock) (Some participant.new) + served_of result
         ≤ boxes_weight hall.old.boxes + party_weight (pending_at hall.old.clock) (Some participant.old) }

@@ -51,12 +51,14 @@ module _ (me : ℕ) (old mid : HallState) (kept : Kept) (took : HasTaken me 0 ke
   -- what is left once it was armed, or memory ran out
   pub record IsArmedThen (new : HallState) : Type 0 where
     pub slots : SlotsStayBut 0 old new
+    pub joined : new.joined me ≡ old.joined me
     pub own : new.own me ≡ old.own me
     pub others : OthersStay me old new
 
   pub armed_then : (new : HallState) → StaysButParts me mid new → IsArmedThen new
   armed_then new stays = record {
     slots = but_then kept_slots (slots_but stays.slots);
+    joined = stays.joined ∙ took.joined;
     own = stays.own ∙ took.own;
     others = others_then kept_others stays.others;
   }

@@ -46,12 +46,14 @@ pub waits_stay : (old new : SoloView) (party : Party) {who : ℕ} → who ≡ pa
     → Stays who (solo_state old) (solo_state new) → MayWait old party → MayWait new party
 waits_stay old new party {who} number course stays may =
     waits_on old new party course (subst (λ (n : ℕ). own_at new.plain n ≡ own_at old.plain n) number stays.mine.own)
+    (subst (λ (n : ℕ). joined_in new.plain n ≡ joined_in old.plain n) number stays.mine.parts.joined)
     (stays.slots.home MAX_HEAPS may.home) may
 
 pub waits_idle : (old new : SoloView) (party : Party) {who : ℕ} {note : Note} → who ≡ party.me → IsSoloCourse old new
     → Idles who note (solo_state old) (solo_state new) → MayWait old party → MayWait new party
 waits_idle old new party {who} number course idles may =
     waits_on old new party course (subst (λ (n : ℕ). own_at new.plain n ≡ own_at old.plain n) number idles.mine.own)
+    (subst (λ (n : ℕ). joined_in new.plain n ≡ joined_in old.plain n) number idles.mine.parts.joined)
     (idles.slots.home MAX_HEAPS may.home) may
 
 -- and may begin to ask still
@@ -123,3 +125,8 @@ stage_served old new party after course alone =
 -- every own part stays
 pub stage_owns : (old new : HallView) {who : ℕ} → Stays who (plain_state old) (plain_state new) → (other : ℕ) → own_at new other ≡ own_at old other
 stage_owns old new {who} stays = at_each (λ n. own_at new n ≡ own_at old n) who stays.mine.own stays.others.own
+
+-- and whether anybody is in the roster
+pub stage_joins : (old new : HallView) {who : ℕ} → Stays who (plain_state old) (plain_state new) → (other : ℕ)
+    → joined_in new other ≡ joined_in old other
+stage_joins old new {who} stays = at_each (λ n. joined_in new n ≡ joined_in old n) who stays.mine.parts.joined stays.others.joined

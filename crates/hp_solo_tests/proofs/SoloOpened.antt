@@ -1,10 +1,13 @@
 -- A hall of two in one thread as tests open it, and one that comes to ask for pages for heap 0 there, and to give them up.
-use Rattle.std.proofs.Common.{◌≡◌, ◌≢◌, ◌∙◌, ℕ, ◌<◌, List, [], ◌∷◌, length, replicate, Option, Some, None, refl, sym, ap, subst, ⊎_elim, arith, IfSome, IsSome}
+use Rattle.std.proofs.Common.{◌≡◌, ◌≢◌, ◌∙◌, ◌==◌, ◌&&◌, ℕ, ◌<◌, Bool, true, false, List, [], ◌∷◌, length, replicate, Option, Some, None, refl, sym, ap, subst, ⊎_elim, arith, IfSome, IsSome}
 use Rattle.std.specs.Prelude.{MatchOption}
 use Rattle.std.specs.List.{slice_get}
 use Rattle.std.specs.Option.{option_and_then}
-use Rattle.std.proofs.lemmas.Bool.{cases_eq}
+use Rattle.std.specs.Int.{bit_at}
+use Rattle.std.proofs.lemmas.Bool.{cases_eq, lt-ltb}
 use Rattle.std.proofs.lemmas.List.{length-replicate}
+use Rattle.std.proofs.lemmas.List.FromFn.{get_or-map-range_with_len}
+use Rattle.std.proofs.lemmas.Nat.Bits.{bit_at-zero}
 use Rattle.hp_base.specs.declared.limits.TheConstants.{MAX_HEAPS}
 use Rattle.hp_base.specs.declared.row.Run.{Run}
 use Rattle.hp_heap.specs.Growing.{after_grow}
@@ -17,11 +20,12 @@ use Rattle.hp_heap.specs.PlainHeap.{PlainHeap}
 use Rattle.hp_heap.specs.Cut.{after_cut}
 use Rattle.hp_heap.proofs.GrowLaw.{no_chunks}
 use Rattle.hp_segs.specs.LaterSteps.{armed_ask}
-use Rattle.hp_segs.specs.SegsView.{SegsView}
+use Rattle.hp_segs.specs.Opening.{is_present, opening_roster}
+use Rattle.hp_segs.specs.SegsView.{SegsView, is_member}
 use Rattle.hp_segs.specs.declared.ask.Ask.{Ask}
 use Rattle.hp_segs.specs.declared.outcome.AskLog.{AskLog}
 use Rattle.hp_plain.specs.HallSteps.{opening_hall, slots_of}
-use Rattle.hp_plain.specs.HallView.{HallView, heard_in, own_at, part_in, serves_in}
+use Rattle.hp_plain.specs.HallView.{HallView, heard_in, is_joined, joined_in, own_at, part_in, serves_in}
 use Rattle.hp_hall.specs.Holding.{HasPages, HeapPart, IsAsPart, IsHeldWith, IsPartTaken, IsTakenAs, StandsFor}
 use Rattle.hp_segs.specs.Standing.{Holding}
 use Rattle.hp_plain.specs.Opening.{AreHome}
@@ -42,13 +46,24 @@ first_serves : (heaps : List HeapView) (segs : SegsView) → 0 < length heaps
 first_serves [] segs some serves = absurd (omega arith)
 first_serves (heap ∷ heaps) segs some serves = serves heap refl
 
--- a hall opens over a segment value of which nobody is armed, and heaps, the first of which is a socket's
+-- of two of whom nobody is absent both are in the roster at first
+present_two : (who : ℕ) → who < 2 → is_member (opening_roster 2 0) who ≡ true
+present_two who below =
+    get_or-map-range_with_len (is_present 2 0) 0 16 who who false (omega (arith, below)) (omega arith)
+    ∙ (ap (λ (declared : Bool). declared && (bit_at 0 who == 0)) (lt-ltb who 2 below) ∙ ap (λ (bit : ℕ). bit == 0) (bit_at-zero who))
+
+-- a hall opens over a segment value of which nobody is armed and both are in the roster, and heaps, the first of which is a socket's
 pub opens : (heaps : List HeapView) (segs : SegsView) (hall : HallView) → hall ≡ opening_hall 2 heaps segs → length heaps ≡ MAX_HEAPS
-    → segs.armed ≡ replicate 16 None → ((heap : HeapView) → slice_get heaps 0 ≡ Some heap → IsSome heap.plain.serves) → IsOpening hall
-opens heaps segs hall opened count armed serves = record {
+    → segs.armed ≡ replicate 16 None → segs.roster ≡ opening_roster 2 0
+    → ((heap : HeapView) → slice_get heaps 0 ≡ Some heap → IsSome heap.plain.serves) → IsOpening hall
+opens heaps segs hall opened count armed roster serves = record {
   two = ap (λ (h : HallView). length h.owns) opened ∙ length-replicate 2 (after_ack 0);
   home = subst AreHome (sym opened) (opened_home 2 heaps segs count);
   nothing_yet = λ who. ap (λ (h : HallView). own_at h who) opened ∙ all_alike nothing_yet 2 who;
+  joined = λ who below.
+      ap (λ (h : HallView). joined_in h who) opened
+      ∙ (ap (is_joined who) (opened_segs heaps segs MAX_HEAPS count)
+      ∙ (ap (λ (roster : List Bool). is_member roster who) roster ∙ present_two who below));
   unarmed = λ who heap.
       ap (λ (h : HallView). (part_in h who heap).armed) opened
       ∙ ap (option_and_then (λ (s : SegsView). armed_ask s who)) (opened_segs heaps segs MAX_HEAPS count) ∙ unarmed_new segs who armed;

@@ -1,5 +1,5 @@
 //! Two participants in a hall of plain values, by hand: what each serving does, what it leaves in the log, and in which tables.
-ghost use Rattle.std.specs.Prelude.{◌≡◌, ◌<◌, ℕ, List, [], ◌∷◌, None, Some, IfOk, IsSome, slice_get};
+ghost use Rattle.std.specs.Prelude.{◌≡◌, ◌<◌, ℕ, List, [], ◌∷◌, None, Some, IfOk, IsSome, slice_get, true};
 ghost use Rattle.hp_base.specs.declared.limits.TheConstants.{MAX_PARTICIPANTS};
 ghost use Rattle.hp_hall.specs.HallState.{OthersStay, SlotsStayBut};
 ghost use Rattle.hp_plain.specs.Opening.{AreInOrder, AreUnused};
@@ -101,6 +101,7 @@ pub(crate) fn arm_first<H: Hall>(hall: &mut H, me: u8, asked: &PagesAsked) -> Re
     requires unarmed { (heap : ℕ) → ((H.state hall.old).part me heap).armed ≡ None }
     requires first { asked.now.heap ≡ 0 }
     ensures slots { SlotsStayBut 0 (H.state hall.old) (H.state hall.new) }
+    ensures joined { (H.state hall.new).joined me ≡ (H.state hall.old).joined me }
     ensures own { (H.state hall.new).own me ≡ (H.state hall.old).own me }
     ensures others { OthersStay me (H.state hall.old) (H.state hall.new) }
     ensures goes_on { H.goes_on hall.old hall.new }
@@ -151,6 +152,7 @@ pub(crate) fn member<'p>(
 ) -> Result<Server<'p, MemMapper>, AllocError>
     requires declared { me < MAX_PARTICIPANTS }
     ensures number { IfOk result (λ party. party.me ≡ me) }
+    ensures joined { IfOk result (λ party. party.joined ≡ true) }
     ensures tied { IfOk result (λ party. (log : List LogRecord) → IsTied log nothing_yet party.joined party.maps) }
 {
     let rows = MAX_SEGMENTS as usize;

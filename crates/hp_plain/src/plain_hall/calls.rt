@@ -1,5 +1,5 @@
 use super::PlainHall;
-use hp_base::Action;
+use hp_base::{Action, Row};
 use hp_frame::Frame;
 use hp_hall::{Busy, Hall, Kept, Slot};
 use hp_mail::Posted;
@@ -46,6 +46,10 @@ impl Hall for PlainHall {
 
     fn partial(&mut self, me: u8) {
         self.partial_at(me);
+    }
+
+    fn emptied(&mut self, me: u8, _rows: &[Row]) {
+        self.emptied_at(me);
     }
 
     fn load_ack(&mut self, me: u8, participant: u8) -> u64 {

@@ -42,6 +42,13 @@ impl PlainHall {
         number
     }
 
+    // A participant tells that its table has no row, and it is noted.
+    pub(crate) fn emptied_at(&mut self, me: u8)
+        ensures { self.new ≡ with_note me Note.Emptied self.old }
+    {
+        self.note(me, Note::Emptied);
+    }
+
     /// Notes that a participant let those below it serve, or those above, and whether something moved; `None` where one of them
     /// stopped. Own.
     pub fn note_yield(&mut self, me: u8, above: bool, moved: Option<bool>)

@@ -12,10 +12,10 @@ ghost use Rattle.hp_serve.specs.Clocks.{RisesWithin, longest_allocation, longest
 ghost use Rattle.hp_proc.specs.Contexts.{IsNextLine, IsSocketHeapOf, named_heap};
 ghost use Rattle.hp_proc.specs.Heaps.{NamedHeap, heaps_for, socket_heaps};
 ghost use Rattle.hp_proc.specs.ParticipantView.{after_answer};
-ghost use Rattle.hp_proc.specs.Progress.{AreOnce, Brings, IsAllocation, MayDo, Tries};
+ghost use Rattle.hp_proc.specs.Progress.{AreOnce, Brings, IsAllocation, Tries};
 ghost use Rattle.hp_proc.specs.declared.socket_heap.SocketHeap.{SocketHeap};
 ghost use Rattle.hp_hall.specs.HallState.{IsBusy};
-ghost use Rattle.hp_proc.specs.LineInHall.{DoesLineHere, HasCalled, HasRoom, HoldsIn, IsIdleAgain, IsMapped, IsReadyIn, KeepsHeld, did_in, moment, moment_with};
+ghost use Rattle.hp_proc.specs.LineInHall.{DoesLineHere, HasCalled, HasRoom, HoldsIn, IsKnownMapped, IsMapped, IsReadyAgain, IsReadyIn, KeepsHeld, did_in, moment, moment_with};
 
 use super::Participant;
 use crate::page_sizes::without_hint;
@@ -64,7 +64,7 @@ impl<'p, M: Mapper> Participant<'p, M> {
             (moment_with heap.old self.old.party.me self.old (H.state hall.old))
             (moment_with heap.new self.old.party.me self.new (H.state hall.new))) }
         ensures lies { IfOk result (λ given. (answer : Answer) → given ≡ Some answer
-            → IsMapped self.old.party.me (H.state hall.new) answer) }
+            → IsKnownMapped self.old.party.me (H.state hall.new) answer) }
         ensures clock { RisesWithin H.pending (λ hall. IsBusy (H.state hall)) (longest_growth self.old.party.deadline)
             (H.state hall.old).clock (H.state hall.new).clock }
         ensures keeps { KeepsHeld self.old.party.me self.old self.new heap.old heap.new (H.state hall.old) (H.state hall.new) }
@@ -100,11 +100,10 @@ impl<'p, M: Mapper> Participant<'p, M> {
             ∷ heaps)) (trying self.old.context.pools request.now tag heaps) given
             (moment self.old.party.me self.old (H.state hall.old)) (moment self.old.party.me self.new (H.state hall.new))) }
         ensures lies { IfOk result (λ given. (answer : Answer) → given ≡ Some answer
-            → IsMapped self.old.party.me (H.state hall.new) answer) }
-        ensures ready { OnOk result (MayDo (moment self.old.party.me self.new (H.state hall.new))) }
+            → IsKnownMapped self.old.party.me (H.state hall.new) answer) }
         ensures clock { RisesWithin H.pending (λ hall. IsBusy (H.state hall)) (longest_growth self.old.party.deadline)
             (H.state hall.old).clock (H.state hall.new).clock }
-        ensures idle { HasCalled self.old.party.me self.old self.new (H.state hall.new) }
+        ensures ready { HasCalled self.old.party.me self.old self.new (H.state hall.new) }
         ensures goes_on { H.goes_on hall.old hall.new }
     {
         let mut heap = self.hold(hall, place.index, CALLS)?;
@@ -128,12 +127,11 @@ impl<'p, M: Mapper> Participant<'p, M> {
             (did_in self.old.party.me (H.state hall.old)
             (H.state hall.new)) (serving self.old.context.pools request.now tag (map named_heap places.now)) given.0
             (moment self.old.party.me self.old (H.state hall.old)) (moment self.old.party.me self.new (H.state hall.new))) }
-        ensures lies { IfOk result (λ given. IsMapped self.old.party.me (H.state hall.new) given.0) }
+        ensures lies { IfOk result (λ given. IsKnownMapped self.old.party.me (H.state hall.new) given.0) }
         ensures few { IfOk result (λ given. given.1 < MAX_HEAPS) }
-        ensures ready { OnOk result (MayDo (moment self.old.party.me self.new (H.state hall.new))) }
         ensures clock { RisesWithin H.pending (λ hall. IsBusy
             (H.state hall)) (length places.now * longest_growth self.old.party.deadline) (H.state hall.old).clock (H.state hall.new).clock }
-        ensures idle { HasCalled self.old.party.me self.old self.new (H.state hall.new) }
+        ensures ready { HasCalled self.old.party.me self.old self.new (H.state hall.new) }
         ensures goes_on { H.goes_on hall.old hall.new }
     {
         if places.is_empty() {
@@ -193,11 +191,10 @@ impl<'p, M: Mapper> Participant<'p, M> {
         requires ready { IsReadyIn self.old.party.me self.old (H.state hall.old) }
         ensures does { IfOk result (λ given. DoesLineHere self.old.party.me self.old self.new (H.state hall.old)
             (H.state hall.new) line.now given) }
-        ensures lies { IfOk result (λ given. IsMapped self.old.party.me (H.state hall.new) given) }
-        ensures ready { OnOk result (MayDo (moment self.old.party.me self.new (H.state hall.new))) }
+        ensures lies { IfOk result (λ given. IsMapped self.new.party given) }
         ensures clock { RisesWithin H.pending (λ hall. IsBusy (H.state hall)) (longest_allocation self.old.party.deadline)
             (H.state hall.old).clock (H.state hall.new).clock }
-        ensures idle { IsIdleAgain self.old.party.me self.old.party self.new.party (H.state hall.new) }
+        ensures ready { IsReadyAgain self.old.party.me self.old self.new (H.state hall.new) }
         ensures goes_on { H.goes_on hall.old hall.new }
     {
         self.reserve_element()?;
@@ -227,11 +224,10 @@ impl<'p, M: Mapper> Participant<'p, M> {
         requires ready { IsReadyIn self.old.party.me self.old (H.state hall.old) }
         ensures does { IfOk result (λ given. DoesLineHere self.old.party.me self.old self.new (H.state hall.old)
             (H.state hall.new) line.now given) }
-        ensures lies { IfOk result (λ given. IsMapped self.old.party.me (H.state hall.new) given) }
-        ensures ready { OnOk result (MayDo (moment self.old.party.me self.new (H.state hall.new))) }
+        ensures lies { IfOk result (λ given. IsMapped self.new.party given) }
         ensures clock { RisesWithin H.pending (λ hall. IsBusy (H.state hall)) (longest_allocation self.old.party.deadline)
             (H.state hall.old).clock (H.state hall.new).clock }
-        ensures idle { IsIdleAgain self.old.party.me self.old.party self.new.party (H.state hall.new) }
+        ensures ready { IsReadyAgain self.old.party.me self.old self.new (H.state hall.new) }
         ensures goes_on { H.goes_on hall.old hall.new }
     {
         match Request::new(size, options.align, options.bound, options.flags) {

@@ -57,6 +57,7 @@ impl<'p, M: Mapper> Participant<'p, M> {
         requires secondary { 0 < self.old.party.me }
         requires may { MayHold self.old.party.me (H.state hall.old) }
         requires tied { IsTiedIn self.old.party.me self.old.party (H.state hall.old) }
+        requires attached { (H.state hall.old).joined self.old.party.me ≡ self.old.context.standing.attached }
         ensures does { IfOk result (λ given. DoesLineHere self.old.party.me self.old self.new (H.state hall.old)
             (H.state hall.new) line.now given) }
         ensures ready { MayDo (moment self.old.party.me self.old (H.state hall.old))
@@ -71,7 +72,7 @@ impl<'p, M: Mapper> Participant<'p, M> {
         // It is in the roster as the line leaves it attached.
         ensures roster { IfOk result (λ given. (H.state hall.new).joined self.old.party.me
             ≡ attached_after line.now.act given ((H.state hall.old).joined self.old.party.me)) }
-        ensures changes { ChangesRoster self.old.party.me self.old.party self.new.party (H.state hall.old) (H.state hall.new) }
+        ensures changes { ChangesRoster self.old.party.me self.old self.new (H.state hall.old) (H.state hall.new) }
         ensures goes_on { H.goes_on hall.old hall.new }
     {
         if self.context.attached {
@@ -91,12 +92,13 @@ impl<'p, M: Mapper> Participant<'p, M> {
         requires secondary { 0 < self.old.party.me }
         requires may { MayHold self.old.party.me (H.state hall.old) }
         requires tied { IsTiedIn self.old.party.me self.old.party (H.state hall.old) }
+        requires attached { (H.state hall.old).joined self.old.party.me ≡ self.old.context.standing.attached }
         ensures does { DoesLineHere self.old.party.me self.old self.new (H.state hall.old) (H.state hall.new) line.now result }
         ensures roster { (H.state hall.new).joined self.old.party.me
             ≡ attached_after line.now.act result ((H.state hall.old).joined self.old.party.me) }
         ensures ready { MayDo (moment self.old.party.me self.old (H.state hall.old))
             → MayDo (moment self.old.party.me self.new (H.state hall.new)) }
-        ensures changes { ChangesRoster self.old.party.me self.old.party self.new.party (H.state hall.old) (H.state hall.new) }
+        ensures changes { ChangesRoster self.old.party.me self.old self.new (H.state hall.old) (H.state hall.new) }
         ensures goes_on { H.goes_on hall.old hall.new }
     {
         if !self.context.attached {

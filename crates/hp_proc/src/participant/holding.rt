@@ -7,7 +7,7 @@ ghost use Rattle.hp_proc.specs.Doing.{Doing};
 ghost use Rattle.hp_serve.specs.Party.{IsSameParty};
 ghost use Rattle.hp_proc.specs.Progress.{AreSettled, Does, IsInHand, MayDo, in_hand};
 ghost use Rattle.hp_hall.specs.HallState.{IsBusy, OthersStay, SlotsStayBut};
-ghost use Rattle.hp_proc.specs.LineInHall.{AreFreeBut, HasRoom, HoldsIn, IsFreeAt, IsIdleIn, IsReadyIn, TableStays, did_in, moment, moment_with};
+ghost use Rattle.hp_proc.specs.LineInHall.{AreFreeBut, HasRoom, HoldsIn, IsFreeAt, IsReadyIn, TableStays, did_in, moment, moment_with};
 ghost use Rattle.hp_serve.specs.InHall.{IsTiedIn};
 
 use super::Participant;
@@ -29,7 +29,7 @@ impl<'p, M: Mapper> Participant<'p, M> {
         ensures same { IsSameParty self.old.party self.new.party }
         ensures context { self.new.context ≡ self.old.context }
         ensures slots { AreFreeBut index (H.state hall.new) }
-        ensures err { OnErr result (IsIdleIn self.old.party.me self.new.party (H.state hall.new)) }
+        ensures err { OnErr result (IsReadyIn self.old.party.me self.new (H.state hall.new)) }
         ensures clock { RisesWithin H.pending (λ hall. IsBusy (H.state hall)) 0 (H.state hall.old).clock (H.state hall.new).clock }
         ensures goes_on { H.goes_on hall.old hall.new }
     {
@@ -81,7 +81,7 @@ impl<'p, M: Mapper> Participant<'p, M> {
         ensures same { IsSameParty self.old.party self.new.party }
         ensures context { self.new.context ≡ self.old.context }
         ensures slots { AreFreeBut index (H.state hall.new) }
-        ensures err { OnErr result (IsIdleIn self.old.party.me self.new.party (H.state hall.new)) }
+        ensures err { OnErr result (IsReadyIn self.old.party.me self.new (H.state hall.new)) }
         ensures clock { RisesWithin H.pending (λ hall. IsBusy (H.state hall)) 0 (H.state hall.old).clock (H.state hall.new).clock }
         ensures goes_on { H.goes_on hall.old hall.new }
     {

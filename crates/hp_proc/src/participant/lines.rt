@@ -1,5 +1,5 @@
 //! The lines that a participant does.
-ghost use Rattle.std.specs.Prelude.{◌≡◌, ℕ, ◌^◌, ◌<◌, ◌≤◌, Some, None, IfOk, OnOk, MatchResult, true};
+ghost use Rattle.std.specs.Prelude.{◌≡◌, ℕ, ◌^◌, ◌<◌, ◌≤◌, Some, None, IfOk, MatchResult, true};
 ghost use Rattle.hp_base.specs.Requests.{rounded_size};
 ghost use Rattle.hp_base.specs.declared.request.BadRequest.TheVariants as bad;
 ghost use Rattle.hp_script.specs.Part.{Part};
@@ -8,9 +8,9 @@ ghost use Rattle.hp_script.specs.declared.options.Options.{Options};
 ghost use Rattle.hp_serve.specs.Clocks.{RisesWithin, longest_wait};
 ghost use Rattle.hp_proc.specs.Contexts.{IsNextLine};
 ghost use Rattle.hp_proc.specs.Freeing.{resize_refusal};
-ghost use Rattle.hp_proc.specs.Progress.{IsLineBuilt, MayDo};
+ghost use Rattle.hp_proc.specs.Progress.{IsLineBuilt};
 ghost use Rattle.hp_hall.specs.HallState.{IsBusy};
-ghost use Rattle.hp_proc.specs.LineInHall.{DoesLineHere, IsIdleAgain, IsMapped, IsReadyIn, moment};
+ghost use Rattle.hp_proc.specs.LineInHall.{DoesLineHere, IsMapped, IsReadyAgain, IsReadyIn};
 
 use super::Participant;
 use hp_base::{BadRequest, Mapper, round64};
@@ -58,10 +58,9 @@ impl<'p, M: Mapper> Participant<'p, M> {
         requires ready { IsReadyIn self.old.party.me self.old (H.state hall.old) }
         ensures does { IfOk result (λ given. DoesLineHere self.old.party.me self.old self.new (H.state hall.old)
             (H.state hall.new) line.now given) }
-        ensures ready { OnOk result (MayDo (moment self.old.party.me self.new (H.state hall.new))) }
         ensures clock { RisesWithin H.pending (λ hall. IsBusy (H.state hall)) (longest_wait self.old.party.deadline)
             (H.state hall.old).clock (H.state hall.new).clock }
-        ensures idle { IsIdleAgain self.old.party.me self.old.party self.new.party (H.state hall.new) }
+        ensures ready { IsReadyAgain self.old.party.me self.old self.new (H.state hall.new) }
         ensures goes_on { H.goes_on hall.old hall.new }
     {
         self.act_on(hall, line, label, None)
@@ -81,10 +80,9 @@ impl<'p, M: Mapper> Participant<'p, M> {
         requires ready { IsReadyIn self.old.party.me self.old (H.state hall.old) }
         ensures does { IfOk result (λ given. DoesLineHere self.old.party.me self.old self.new (H.state hall.old)
             (H.state hall.new) line.now given) }
-        ensures ready { OnOk result (MayDo (moment self.old.party.me self.new (H.state hall.new))) }
         ensures clock { RisesWithin H.pending (λ hall. IsBusy (H.state hall)) (longest_wait self.old.party.deadline)
             (H.state hall.old).clock (H.state hall.new).clock }
-        ensures idle { IsIdleAgain self.old.party.me self.old.party self.new.party (H.state hall.new) }
+        ensures ready { IsReadyAgain self.old.party.me self.old self.new (H.state hall.new) }
         ensures goes_on { H.goes_on hall.old hall.new }
     {
         match rounded(size) {
@@ -106,9 +104,8 @@ impl<'p, M: Mapper> Participant<'p, M> {
         requires ready { IsReadyIn self.old.party.me self.old (H.state hall.old) }
         ensures does { IfOk result (λ given. DoesLineHere self.old.party.me self.old self.new (H.state hall.old)
             (H.state hall.new) line.now given) }
-        ensures ready { OnOk result (MayDo (moment self.old.party.me self.new (H.state hall.new))) }
         ensures clock { RisesWithin H.pending (λ hall. IsBusy (H.state hall)) 0 (H.state hall.old).clock (H.state hall.new).clock }
-        ensures idle { IsIdleAgain self.old.party.me self.old.party self.new.party (H.state hall.new) }
+        ensures ready { IsReadyAgain self.old.party.me self.old self.new (H.state hall.new) }
         ensures goes_on { H.goes_on hall.old hall.new }
     {
         let Some(index) = self.context.index_named(name) else {
@@ -139,10 +136,11 @@ impl<'p, M: Mapper> Participant<'p, M> {
 
         // An address that an allocation answers lies in a page that the participant has mapped.
         ensures lies { IfOk result (λ given. (label : Part) (size : ℕ) (options : Options) → line.now.act ≡ act.Alloc label size options
-            → IsMapped self.old.party.me (H.state hall.new) given) }
-        ensures ready { OnOk result (MayDo (moment self.old.party.me self.new (H.state hall.new))) }
+            → IsMapped self.new.party given) }
         ensures clock { RisesWithin H.pending (λ hall. IsBusy (H.state hall)) (2 ^ 40) (H.state hall.old).clock (H.state hall.new).clock }
-        ensures idle { IsIdleAgain self.old.party.me self.old.party self.new.party (H.state hall.new) }
+
+        // Whatever becomes of the line, it holds no heap and no slot then, and its asks are settled.
+        ensures ready { IsReadyAgain self.old.party.me self.old self.new (H.state hall.new) }
         ensures goes_on { H.goes_on hall.old hall.new }
     {
         match &line.act {

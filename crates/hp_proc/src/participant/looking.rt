@@ -1,5 +1,5 @@
 //! A line looks for its element in heaps, and acts on it where it is there.
-ghost use Rattle.std.specs.Prelude.{◌≡◌, ◌<◌, [], ◌∷◌, List, Some, None, IfOk, OnOk, Contains, false, map};
+ghost use Rattle.std.specs.Prelude.{◌≡◌, ◌<◌, [], ◌∷◌, List, Some, None, IfOk, Contains, false, map};
 ghost use Rattle.hp_base.specs.declared.tag.Tag.{Tag};
 ghost use Rattle.hp_script.specs.Acts.{label_used};
 ghost use Rattle.hp_proc.specs.Allocating.{unless_answered};
@@ -8,10 +8,10 @@ ghost use Rattle.hp_proc.specs.Contexts.{AreFactsOf, IsPlaceOf};
 ghost use Rattle.hp_proc.specs.Doing.{Doing};
 ghost use Rattle.hp_proc.specs.Freeing.{IsSizedWell, act_for, acting, behind_looking, left_of, looking};
 ghost use Rattle.hp_proc.specs.Lines.{Facts, on_element};
-ghost use Rattle.hp_proc.specs.Progress.{AreOnce, MayDo};
+ghost use Rattle.hp_proc.specs.Progress.{AreOnce};
 ghost use Rattle.hp_proc.specs.declared.searched_heap.SearchedHeap.{SearchedHeap};
 ghost use Rattle.hp_hall.specs.HallState.{IsBusy, OthersStay};
-ghost use Rattle.hp_proc.specs.LineInHall.{DoesHeld, DoesHere, DoesOnceHere, HasCalled, HasRoom, HoldsIn, IsReadyIn, KeepsHeld, moment};
+ghost use Rattle.hp_proc.specs.LineInHall.{DoesHeld, DoesHere, DoesOnceHere, HasCalled, HasRoom, HoldsIn, IsReadyIn, KeepsHeld};
 
 use super::Participant;
 use crate::element_act::{ElementAct, Left};
@@ -62,10 +62,9 @@ impl<'p, M: Mapper> Participant<'p, M> {
         requires ready { IsReadyIn self.old.party.me self.old (H.state hall.old) }
         ensures does { IfOk result (λ given. DoesHere [] self.old.party.me self.old self.new (H.state hall.old)
             (H.state hall.new) (left_of heap left) (Doing.Ended given)) }
-        ensures ready { OnOk result (MayDo (moment self.old.party.me self.new (H.state hall.new))) }
         ensures clock { RisesWithin H.pending (λ hall. IsBusy (H.state hall)) (longest_wait self.old.party.deadline)
             (H.state hall.old).clock (H.state hall.new).clock }
-        ensures idle { HasCalled self.old.party.me self.old self.new (H.state hall.new) }
+        ensures ready { HasCalled self.old.party.me self.old self.new (H.state hall.new) }
         ensures goes_on { H.goes_on hall.old hall.new }
     {
         match left {
@@ -93,9 +92,8 @@ impl<'p, M: Mapper> Participant<'p, M> {
             → DoesHere (place.now.index ∷ []) self.old.party.me self.old self.new (H.state hall.old)
             (H.state hall.new) (looking tag (acting action) (place.now
             ∷ places)) (behind_looking place.now.index (looking tag (acting action) places) left)) }
-        ensures ready { OnOk result (MayDo (moment self.old.party.me self.new (H.state hall.new))) }
         ensures clock { RisesWithin H.pending (λ hall. IsBusy (H.state hall)) 0 (H.state hall.old).clock (H.state hall.new).clock }
-        ensures idle { HasCalled self.old.party.me self.old self.new (H.state hall.new) }
+        ensures ready { HasCalled self.old.party.me self.old self.new (H.state hall.new) }
         ensures goes_on { H.goes_on hall.old hall.new }
     {
         let mut heap = self.hold(hall, place.index, CALLS)?;
@@ -119,12 +117,11 @@ impl<'p, M: Mapper> Participant<'p, M> {
             → DoesHere (place.now.index ∷ []) self.old.party.me self.old self.new (H.state hall.old)
             (H.state hall.new) (looking tag (acting action) (place.now
             ∷ places)) (unless_answered (looking tag (acting action) places) given)) }
-        ensures ready { OnOk result (MayDo (moment self.old.party.me self.new (H.state hall.new))) }
         ensures clock { RisesWithin H.pending (λ hall. IsBusy (H.state hall)) (longest_wait self.old.party.deadline)
             (H.state hall.old).clock (H.state hall.new).clock }
         ensures passed { IfOk result (λ given. given ≡ None → RisesWithin H.pending (λ hall. IsBusy (H.state hall)) 0
             (H.state hall.old).clock (H.state hall.new).clock) }
-        ensures idle { HasCalled self.old.party.me self.old self.new (H.state hall.new) }
+        ensures ready { HasCalled self.old.party.me self.old self.new (H.state hall.new) }
         ensures goes_on { H.goes_on hall.old hall.new }
     {
         let Some(left) = self.look_there(hall, place, tag, action)? else {
@@ -148,10 +145,9 @@ impl<'p, M: Mapper> Participant<'p, M> {
         requires ready { IsReadyIn self.old.party.me self.old (H.state hall.old) }
         ensures does { IfOk result (λ given. DoesOnceHere self.old.party.me self.old self.new (H.state hall.old)
             (H.state hall.new) (looking tag (acting action) places.now) (Doing.Ended given)) }
-        ensures ready { OnOk result (MayDo (moment self.old.party.me self.new (H.state hall.new))) }
         ensures clock { RisesWithin H.pending (λ hall. IsBusy (H.state hall)) (longest_wait self.old.party.deadline)
             (H.state hall.old).clock (H.state hall.new).clock }
-        ensures idle { HasCalled self.old.party.me self.old self.new (H.state hall.new) }
+        ensures ready { HasCalled self.old.party.me self.old self.new (H.state hall.new) }
         ensures goes_on { H.goes_on hall.old hall.new }
     {
         for place in places {
@@ -177,10 +173,9 @@ impl<'p, M: Mapper> Participant<'p, M> {
             → DoesOnceHere self.old.party.me self.old self.new (H.state hall.old)
             (H.state hall.new) (on_element self.old.party.me facts
             (λ tag. looking tag (acting (act_for tag.zone size))) facts.maker) (Doing.Ended given)) }
-        ensures ready { OnOk result (MayDo (moment self.old.party.me self.new (H.state hall.new))) }
         ensures clock { RisesWithin H.pending (λ hall. IsBusy (H.state hall)) (longest_wait self.old.party.deadline)
             (H.state hall.old).clock (H.state hall.new).clock }
-        ensures idle { HasCalled self.old.party.me self.old self.new (H.state hall.new) }
+        ensures ready { HasCalled self.old.party.me self.old self.new (H.state hall.new) }
         ensures goes_on { H.goes_on hall.old hall.new }
     {
         let Some(maker) = self.context.maker_of(label.as_bytes()) else {

@@ -1,10 +1,11 @@
 //! What a participant does between the steps of its lines: what serves for it does that, and what it knows stays.
-ghost use Rattle.std.specs.Prelude.{◌≡◌, ◌≢◌, ◌^◌, ℕ, ◌+◌, ◌-◌, ◌*◌, ◌<◌, ◌≤◌, ◌∷◌, ◌++◌, ◌||◌, [], false, length};
+ghost use Rattle.std.specs.Prelude.{◌≡◌, ◌≢◌, ◌^◌, ℕ, ◌+◌, ◌-◌, ◌*◌, ◌<◌, ◌≤◌, ◌∷◌, ◌++◌, [], false, length};
 ghost use Rattle.std.specs.Prelude.{List, Some, IfOk, IsSome, Ok, OnErr, OnOk};
 ghost use Rattle.std.specs.Result.{result_ok};
 ghost use Rattle.hp_base.specs.Mapping.{is_done};
 ghost use Rattle.hp_hall.specs.HallState.{Did, HasMapped, IsBusy};
-ghost use Rattle.hp_hall.specs.Mail.{MailStep};
+ghost use Rattle.hp_hall.specs.Mail.{MailStep, Notes};
+ghost use Rattle.hp_hall.specs.declared.note.Note.{Note};
 ghost use Rattle.hp_heap.specs.PlainHeap.{PlainHeap};
 ghost use Rattle.hp_maps.specs.MapsView.{calls_of};
 ghost use Rattle.hp_segs.specs.LaterSteps.{after_leave};
@@ -137,9 +138,10 @@ impl<'p, M: Mapper> Participant<'p, M> {
         self.server.notify(hall, heap, run)
     }
 
-    // Catches up with the whole log and comes into the roster, or has no table.
+    // One that is out catches up with the whole log and comes into the roster, or has no table.
     pub(crate) fn attach<H: Hall>(&mut self, hall: &mut H) -> Caught
         requires secondary { 0 < self.old.party.me }
+        requires out { self.old.party.joined ≡ false }
         requires may { MayHold self.old.party.me (H.state hall.old) }
         requires tied { IsTiedIn self.old.party.me self.old.party (H.state hall.old) }
         requires calls { calls_of self.old.party.maps ≤ 2 ^ 63 }
@@ -149,8 +151,7 @@ impl<'p, M: Mapper> Participant<'p, M> {
         ensures tied { IsTiedIn self.old.party.me self.new.party (H.state hall.new) }
         ensures failed { is_done result ≡ false
             → (H.state hall.new).own self.old.party.me ≡ (H.state hall.old).own self.old.party.me }
-        ensures roster { (H.state hall.new).joined self.old.party.me
-            ≡ ((H.state hall.old).joined self.old.party.me || is_done result) }
+        ensures roster { (H.state hall.new).joined self.old.party.me ≡ is_done result }
         ensures context { self.new.context ≡ self.old.context }
         ensures stays { StaysButRoster self.old.party.me (H.state hall.old) (H.state hall.new) }
         ensures goes_on { H.goes_on hall.old hall.new }
@@ -164,7 +165,7 @@ impl<'p, M: Mapper> Participant<'p, M> {
         requires may { MayHold self.old.party.me (H.state hall.old) }
         requires tied { IsTiedIn self.old.party.me self.old.party (H.state hall.old) }
         ensures party { self.new ≡ record self.old { party = after_detaching self.old.party } }
-        ensures did { (segs : SegsView) × Did self.old.party.me (takes_segments segs
+        ensures did { (segs : SegsView) × Did self.old.party.me (takes_segments segs ∷ Notes Note.Emptied
             ∷ gives_segments (after_leave self.old.party.me segs) ∷ []) (H.state hall.old) (H.state hall.new) }
         ensures tied { IsTiedIn self.old.party.me self.new.party (H.state hall.new) }
         ensures roster { (H.state hall.new).joined self.old.party.me ≡ false }

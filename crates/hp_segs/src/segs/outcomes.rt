@@ -1,7 +1,7 @@
 //! Outcomes that are logged without a growth, and what was logged.
-ghost use Rattle.std.specs.Prelude.{◌≡◌, ◌<◌};
+ghost use Rattle.std.specs.Prelude.{◌≡◌, ◌<◌, IfSome, true};
 ghost use Rattle.hp_segs.specs.Calls.{MayClose, MayLogFreed, MayLogStale};
-ghost use Rattle.hp_segs.specs.SegsView.{closed_number, outcome_of};
+ghost use Rattle.hp_segs.specs.SegsView.{closed_number, grant_or_refusal_of, is_grant_or_refusal, outcome_of};
 ghost use Rattle.hp_segs.specs.Steps.{after_close, after_freed};
 ghost use Rattle.hp_segs.specs.LaterSteps.{after_stale};
 
@@ -64,6 +64,14 @@ impl Segs {
         ensures { result ≡ outcome_of self.now.asks from number }
     {
         self.asks.outcome(from, number)
+    }
+
+    /// The first grant or refusal that is logged for an ask. It is `None` exactly where there is none. Own.
+    pub fn grant_or_refusal(&self, from: u8, number: u64) -> Option<Outcome>
+        ensures first { result ≡ grant_or_refusal_of self.now.asks from number }
+        ensures settles { IfSome result (λ outcome. is_grant_or_refusal outcome ≡ true) }
+    {
+        self.asks.grant_or_refusal(from, number)
     }
 
     /// The closed number of a participant: its greatest number with an outcome other than Stale, and 0 before that. Own.

@@ -1,5 +1,5 @@
 //! How a participant asks for pages.
-ghost use Rattle.std.specs.Prelude.{◌≡◌, ◌≢◌, ℕ, ◌^◌, ◌<◌, ◌≤◌, ◌⊎◌, ◌||◌, min, List, [], ◌∷◌, false, true, IfOk, IsSome, OnErr};
+ghost use Rattle.std.specs.Prelude.{◌≡◌, ◌≢◌, ℕ, ◌^◌, ◌<◌, ◌≤◌, ◌⊎◌, ◌||◌, min, List, [], ◌∷◌, true, IfOk, IsSome, OnErr};
 ghost use Rattle.hp_base.specs.Plans.{action_of};
 ghost use Rattle.hp_base.specs.declared.limits.TheConstants.{MAX_PARTICIPANTS, MAX_READING};
 ghost use Rattle.hp_base.specs.declared.plan_entry.MsgKind.{MsgKind};
@@ -8,7 +8,7 @@ ghost use Rattle.hp_hall.specs.Mail.{MailStep, Notes, Posts};
 ghost use Rattle.hp_hall.specs.declared.note.Note.{Note};
 ghost use Rattle.hp_mail.specs.declared.posted.Posted.{Posted};
 ghost use Rattle.hp_serve.specs.Asking.{IsAwaiting, IsHeldAsBefore, HasSettledAsks, Settles, alloc_body};
-ghost use Rattle.hp_serve.specs.AskSteps.{AsksIn, IsAwaitedBy, IsSettledLate, waits_until};
+ghost use Rattle.hp_serve.specs.AskSteps.{AsksIn, IsAwaitedOn, IsSettledOn, waits_until};
 ghost use Rattle.hp_serve.specs.Clocks.{RisesWithin, longest_wait};
 ghost use Rattle.hp_serve.specs.Frames.{Says};
 ghost use Rattle.hp_serve.specs.Party.{after_alloc, one_more};
@@ -82,8 +82,8 @@ impl<'p, M: Mapper> Server<'p, M> {
         requires awaits { IsAwaiting ask.now ((H.state hall.old).part self.old.me) }
         ensures settles { Settles ((H.state hall.new).seen self.old.me) ((H.state hall.new).heard self.old.me) ask.now
             ((H.state hall.old).part self.old.me) ((H.state hall.new).part self.old.me) result.run }
-        ensures did { result.stopped ≡ false → (steps : List MailStep) × Did self.old.me steps (H.state hall.old) (H.state hall.new)
-            × IsSettledLate (H.state hall.old).count self.old self.new ask.now since steps }
+        ensures did { (steps : List MailStep) × Did self.old.me steps (H.state hall.old) (H.state hall.new)
+            × IsSettledOn (H.state hall.old).count self.old self.new ask.now since steps result.stopped }
         ensures asked { self.new.asked ≡ self.old.asked }
         ensures clock { ((H.state hall.new).clock ≡ (H.state hall.old).clock) ⊎ ((H.state hall.new).clock
             ≤ waits_until since self.old.deadline) }
@@ -109,8 +109,8 @@ impl<'p, M: Mapper> Server<'p, M> {
         requires awaits { IsAwaiting ask.now ((H.state hall.old).part self.old.me) }
         ensures settles { Settles ((H.state hall.new).seen self.old.me) ((H.state hall.new).heard self.old.me) ask.now
             ((H.state hall.old).part self.old.me) ((H.state hall.new).part self.old.me) result.run }
-        ensures did { result.stopped ≡ false → (steps : List MailStep) × Did self.old.me steps (H.state hall.old) (H.state hall.new)
-            × IsAwaitedBy (H.state hall.old).count self.old self.new ask.now since steps result.run }
+        ensures did { (steps : List MailStep) × Did self.old.me steps (H.state hall.old) (H.state hall.new)
+            × IsAwaitedOn (H.state hall.old).count self.old self.new ask.now since steps result.run result.stopped }
         ensures asked { self.new.asked ≡ self.old.asked }
         ensures clock { ((H.state hall.new).clock ≡ (H.state hall.old).clock) ⊎ ((H.state hall.new).clock
             ≤ waits_until since self.old.deadline) }

@@ -1,12 +1,12 @@
 //! How a participant waits that has to see its wait through, whoever stops meanwhile.
-ghost use Rattle.std.specs.Prelude.{◌≡◌, ◌+◌, ◌*◌, ◌<◌, ◌≤◌, ◌⊎◌, List, Some, false};
+ghost use Rattle.std.specs.Prelude.{◌≡◌, ◌+◌, ◌*◌, ◌<◌, ◌≤◌, ◌⊎◌, List};
 ghost use Rattle.hp_hall.specs.HallState.{Did};
 ghost use Rattle.hp_hall.specs.Mail.{MailStep};
 ghost use Rattle.hp_hall.specs.Weights.{moved_of};
 ghost use Rattle.hp_serve.specs.Falling.{if_moved, served_of};
 ghost use Rattle.hp_serve.specs.InHall.{CanServe, StaysIn, left_to_do};
 ghost use Rattle.hp_serve.specs.Party.{due_in};
-ghost use Rattle.hp_serve.specs.Waiting.{IsWaited, LeavesAsked, PausesFor};
+ghost use Rattle.hp_serve.specs.Waiting.{HaveServedOn, IsOutlasted, IsTurnedOn, IsWaitedOut, LeavesAsked, PausesFor};
 
 use super::Server;
 use super::waiting::has_moved;
@@ -39,6 +39,8 @@ impl<'p, M: Mapper> Server<'p, M> {
     // A turn without its pause, in which all serve, whoever stops. Returned is whether something moved.
     fn serve_on<H: Waiting>(&mut self, hall: &mut H) -> bool
         requires can { CanServe self.old.me self.old (H.state hall.old) }
+        ensures served { (steps : List MailStep) × Did self.old.me steps (H.state hall.old) (H.state hall.new)
+            × HaveServedOn (H.state hall.old).count self.old self.new steps }
         ensures weight { left_to_do H.scale H.pending self.new (H.state hall.new) + H.scale * if_moved result
             ≤ left_to_do H.scale H.pending self.old (H.state hall.old) }
         ensures clock { (H.state hall.new).clock ≡ (H.state hall.old).clock }
@@ -57,6 +59,8 @@ impl<'p, M: Mapper> Server<'p, M> {
     fn turn_on<H: Waiting>(&mut self, hall: &mut H, until: u64)
         requires can { CanServe self.old.me self.old (H.state hall.old) }
         requires before { H.pending (H.state hall.old).clock until ≡ H.scale }
+        ensures turned { (steps : List MailStep) × Did self.old.me steps (H.state hall.old) (H.state hall.new)
+            × IsTurnedOn (H.state hall.old).count until self.old self.new steps }
         ensures falls { left_to_do H.scale H.pending self.new (H.state hall.new) + H.pending (H.state hall.new).clock until
             < left_to_do H.scale H.pending self.old (H.state hall.old) + H.pending (H.state hall.old).clock until }
         ensures paused { PausesFor (λ deadline. H.pending (H.state hall.old).clock deadline
@@ -73,7 +77,8 @@ impl<'p, M: Mapper> Server<'p, M> {
     // the last reading.
     fn outlast<H: Waiting>(&mut self, hall: &mut H, until: u64, heeds: bool) -> u64
         requires can { CanServe self.old.me self.old (H.state hall.old) }
-        ensures waited { heeds ≡ false → until ≤ result }
+        ensures turned { (steps : List MailStep) × Did self.old.me steps (H.state hall.old) (H.state hall.new)
+            × IsOutlasted (H.state hall.old).count until heeds self.old self.new steps result }
         ensures clock { ((H.state hall.new).clock ≡ (H.state hall.old).clock) ⊎ ((H.state hall.new).clock ≤ until) }
         ensures asks { LeavesAsked self.old self.new }
         ensures stays { StaysIn self.old.me self.old self.new (H.state hall.old) (H.state hall.new) }
@@ -92,11 +97,8 @@ impl<'p, M: Mapper> Server<'p, M> {
     // Waits as `wait` does, and for as long where somebody stops: it serves on, and so do the others.
     pub(crate) fn wait_out<H: Waiting>(&mut self, hall: &mut H, until: u64, heeds: bool) -> Waited
         requires can { CanServe self.old.me self.old (H.state hall.old) }
-
-        // Where nobody stopped it is such a wait.
-        ensures turned { result.stopped ≡ false → (steps : List MailStep) × Did self.old.me steps (H.state hall.old) (H.state hall.new)
-            × IsWaited (H.state hall.old).count until heeds self.old self.new steps (Some result.reading) }
-        ensures waited { heeds ≡ false → until ≤ result.reading }
+        ensures turned { (steps : List MailStep) × Did self.old.me steps (H.state hall.old) (H.state hall.new)
+            × IsWaitedOut (H.state hall.old).count until heeds self.old self.new steps result.reading result.stopped }
         ensures clock { ((H.state hall.new).clock ≡ (H.state hall.old).clock) ⊎ ((H.state hall.new).clock ≤ until) }
         ensures asks { LeavesAsked self.old self.new }
         ensures stays { StaysIn self.old.me self.old self.new (H.state hall.old) (H.state hall.new) }

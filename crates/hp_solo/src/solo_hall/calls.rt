@@ -1,5 +1,5 @@
 use super::SoloHall;
-use hp_base::{Action, Mapper};
+use hp_base::{Action, Mapper, Row};
 use hp_frame::Frame;
 use hp_hall::{Busy, Hall, Kept, Posted, Slot};
 
@@ -39,6 +39,10 @@ impl<'p, M: Mapper> Hall for SoloHall<'p, M> {
 
     fn partial(&mut self, me: u8) {
         self.plain.partial(me);
+    }
+
+    fn emptied(&mut self, me: u8, rows: &[Row]) {
+        self.plain.emptied(me, rows);
     }
 
     fn load_ack(&mut self, me: u8, participant: u8) -> u64 {

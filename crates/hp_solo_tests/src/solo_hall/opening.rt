@@ -1,7 +1,7 @@
 //! Halls of two participants, who are both there.
-ghost use Rattle.std.specs.Prelude.{◌≡◌, ◌<◌, ℕ, IfOk, OnOk, length};
+ghost use Rattle.std.specs.Prelude.{◌≡◌, ◌<◌, ℕ, IfOk, OnOk, length, true};
 ghost use Rattle.hp_base.specs.declared.limits.TheConstants.{MAX_HEAPS};
-ghost use Rattle.hp_plain.specs.HallView.{IsHome, own_at, slot_at};
+ghost use Rattle.hp_plain.specs.HallView.{IsHome, joined_in, own_at, slot_at};
 ghost use Rattle.hp_serve.specs.Tied.{nothing_yet};
 ghost use Rattle.hp_solo.specs.SoloAsks.{IsOpening, MayBeginToAsk};
 
@@ -20,6 +20,7 @@ fn come<'p>(
     requires me { me < 2 }
     requires two { length hall.old.plain.owns ≡ 2 }
     requires nothing_yet { own_at hall.old.plain me ≡ nothing_yet }
+    requires joined { joined_in hall.old.plain me ≡ true }
     ensures { OnOk result (hall.new.plain ≡ hall.old.plain) }
 {
     let participant = member(alloc, me, plan)?;

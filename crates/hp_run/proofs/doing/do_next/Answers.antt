@@ -5,7 +5,7 @@ use Rattle.std.proofs.lemmas.List.{length-map, length-take-le, take_more}
 use Rattle.std.proofs.lemmas.Option.{same_Some, slice_get_within}
 use Rattle.hp_hall.specs.HallState.{Did, HallState, IsBusy}
 use Rattle.hp_hall.specs.Weights.{pending_at}
-use Rattle.hp_plain.specs.HallView.{HallView, heard_in, own_at, part_in, seen_in}
+use Rattle.hp_plain.specs.HallView.{HallView, heard_in, joined_in, part_in, seen_in}
 use Rattle.hp_script.specs.declared.answer.Answer.{Answer}
 use Rattle.hp_script.specs.declared.line.Line.{Line}
 use Rattle.hp_serve.specs.Clocks.{IsOneClock}
@@ -15,11 +15,10 @@ use Rattle.hp_proc.specs.LineInHall.{IsReadyIn}
 use Rattle.hp_proc.specs.LinesDone.{Course}
 use Rattle.hp_proc.specs.ParticipantView.{ParticipantView}
 use Rattle.hp_proc.specs.Progress.{DoesLine, IsLineBuilt, MayDo, Moment, moment_of}
-use Rattle.hp_serve.specs.Tied.{IsTied}
 use Rattle.hp_serve.proofs.Rising.{one_clock}
-use Rattle.hp_solo.specs.Solo.{IsAway, SoloView, server_at}
+use Rattle.hp_solo.specs.Solo.{IsAway, IsTiedFor, SoloView, server_at}
 use Rattle.hp_solo.specs.SoloState.{solo_state}
-use Rattle.hp_joint.specs.SoFar.{SoFar, context_of, doer_of}
+use Rattle.hp_joint.specs.SoFar.{SoFar, context_of, doer_of, standing_of}
 use Rattle.hp_run.specs.Running.{CanGoOn}
 use Rattle.hp_run.proofs.Coming.{given_by}
 use Rattle.hp_run.proofs.NextLine.{all_count, all_there, line_can, line_declared, next_line, nothing_out}
@@ -136,10 +135,12 @@ do_line-answer-requires-clause-ready g c =
         declared = omega (arith, number, declared, all_count workload was.courses was.parties plain so_far);
         free = nothing_out workload was.courses was.parties plain so_far;
         home = all_there workload was.courses was.parties plain so_far;
-        tied = subst (λ (me : ℕ). IsTied (seen_in plain) (own_at plain me) party.joined party.maps) (sym number) its.tied;
+        tied = subst (λ (me : ℕ). IsTiedFor plain me party) (sym number) c.in-Some.ensures.tied.tied;
       };
       ready = subst (λ (me : ℕ). MayDo (moment_of (doer_of workload line.participant was.courses party) (part_in plain me) (seen_in plain) (heard_in plain)))
           (sym number) its.ready;
+      attached = subst (λ (me : ℕ). joined_in plain me ≡ (standing_of workload line.participant was.courses).attached) (sym number)
+          (c.in-Some.ensures.tied.tied.same ∙ its.joined);
     })
 
 pub back-requires-clause-declared : goal.back-requires-clause-declared
@@ -152,7 +153,7 @@ back-requires-clause-declared g c =
     omega (
       arith,
       ap (λ (party : Party). party.me) c.into_parts-server.ensures.server,
-      did.idle.same.me,
+      did.ready.same.me,
       ap (λ (doer : ParticipantView). doer.party.me) c.new-participant.ensures,
       c.in-Some.ensures.tied.number,
       declared,
@@ -193,10 +194,10 @@ returns g c =
       built = line_can workload place line c.requires.runnable c.requires.within c.index-line.ensures;
       me = number;
       does = line_made did.does;
-      ready = did.ready;
-      tied = always.idle.idle.tied;
-      same = always.idle.same;
-      home = always.idle.idle.home;
+      ready = always.ready.ready.ready;
+      tied = always.ready.ready.idle.tied.table;
+      same = always.ready.same;
+      home = always.ready.ready.idle.home;
     } in
     let comes : IsBackFrom line.participant after.party was.parties first away back last =
     subst (λ (party : Party). IsBackFrom line.participant party was.parties first away back last) parts.ensures.server
@@ -207,7 +208,7 @@ returns g c =
       gone_plain = c.away.ensures.plain;
       course = always.goes_on;
       rises = always.clock solo_clock;
-      me = ap (λ (party : Party). party.me) parts.ensures.server ∙ always.idle.same.me ∙ number;
+      me = ap (λ (party : Party). party.me) parts.ensures.server ∙ always.ready.same.me ∙ number;
       here = c.back.ensures.party;
       came = c.back.ensures.place;
       came_others = c.back.ensures.others;

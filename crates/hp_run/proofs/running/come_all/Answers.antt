@@ -4,14 +4,14 @@ use Rattle.std.specs.Option.{option_map}
 use Rattle.std.proofs.lemmas.Option.{slice_get-map}
 use Rattle.hp_solo.specs.Solo.{server_at, with_party}
 use Rattle.hp_run.specs.Opening.{IsPartyOver}
-use Rattle.hp_run.proofs.Coming.{HaveComeBelow, all_come, first_left, first_stays, number_planned, one_comes, one_less, tied_planned}
+use Rattle.hp_run.proofs.Coming.{HaveComeBelow, all_come, first_left, first_stays, given_by, number_planned, one_comes, one_less, tied_planned}
 use Rattle.hp_run.proofs.running.come_all.Goals as goal
 
 pub back-requires-clause-tied : goal.back-requires-clause-tied
 back-requires-clause-tied g c =
     let workload = c.args.workload.now in
     tied_planned workload c.loop-who.who (g.M.Mapper.may_fail c.remove-mapper.result) c.in_ok-participant.participant
-    c.in_ok-participant.ensures c.loop-who.hall
+    c.in_ok-participant.ensures (given_by workload c.requires.runnable) c.loop-who-test.true c.loop-who.hall
     (first_stays workload c.args.hall.now c.loop-who.hall c.requires.empty.0 c.loop-who.invariant.plain)
 
 pub loop-who-preserved : goal.loop-who-preserved

@@ -1,11 +1,11 @@
 -- The value is taken and given back, and an emptied table is tied, however many records were acknowledged.
 use Rattle.std.proofs.Common.{◌∙◌, false, ap, sym, subst, arith}
-use Rattle.hp_hall.proofs.HallStates.{did_then, others_then}
+use Rattle.hp_hall.proofs.HallStates.{but_then, did_then, others_then, slots_but}
 use Rattle.hp_maps.specs.MapsView.{MapsView}
 use Rattle.hp_serve.specs.Attaching.{emptied}
 use Rattle.hp_serve.specs.Tied.{IsTied}
 use Rattle.hp_serve.proofs.Attached.{emptied_tied, left_roster}
-use Rattle.hp_serve.proofs.SegmentSlots.{Took, closed, took_has}
+use Rattle.hp_serve.proofs.SegmentSlots.{Took, closed, has_still, took_has, took_serves}
 use Rattle.hp_serve.proofs.Tying.{tied_since}
 use Rattle.hp_serve.proofs.attaching.detach.Goals as goal
 
@@ -17,14 +17,21 @@ give_left-requires-clause-has g c =
     let is = c.take_segments-segs.ensures in
     let took : Took c.args.me c.take_segments-segs.result (g.H.Hall.state c.args.hall.now) (g.H.Hall.state c.take_segments-segs.new.hall) =
     record { may = c.requires.may; took = is.took; slots = is.slots; others = is.others; weight = is.weight } in
-    took_has took
+    let told = c.tell_empty.ensures.stays in
+    has_still told.slots told.mine.parts told.others (took_has took)
 
-pub give_left-requires-clause-unmapped : goal.give_left-requires-clause-unmapped
-give_left-requires-clause-unmapped g c = ap (λ (maps : MapsView). maps.rows) c.empty.ensures
+pub tell_empty-requires : goal.tell_empty-requires
+tell_empty-requires g c =
+    let is = c.take_segments-segs.ensures in
+    let took : Took c.args.me c.take_segments-segs.result (g.H.Hall.state c.args.hall.now) (g.H.Hall.state c.take_segments-segs.new.hall) =
+    record { may = c.requires.may; took = is.took; slots = is.slots; others = is.others; weight = is.weight } in
+    record { serves = took_serves took; unmapped = ap (λ (maps : MapsView). maps.rows) c.empty.ensures }
 
 pub returns-clause-did : goal.returns-clause-did
-returns-clause-did g c =
-    (c.take_segments-segs.result, did_then c.take_segments-segs.ensures.took.did c.give_left.ensures.back.gave.did)
+returns-clause-did g c = (
+  c.take_segments-segs.result,
+  did_then c.take_segments-segs.ensures.took.did (did_then c.tell_empty.ensures.did c.give_left.ensures.back.gave.did),
+)
 
 pub returns-clause-tied : goal.returns-clause-tied
 returns-clause-tied g c =
@@ -37,11 +44,12 @@ returns-clause-tied g c =
     let tied = c.requires.tied in
     subst (λ (maps : MapsView). IsTied (new.seen me) (new.own me) false maps) (sym c.empty.ensures)
     (tied_since (old.seen me) (new.seen me) seen.0 (old.own me) (new.own me) false (emptied maps)
-    (c.give_left.ensures.log ∙ (is.took.log ∙ seen.1)) (c.give_left.ensures.back.gave.own ∙ is.took.own)
+    (c.give_left.ensures.log ∙ (is.took.log ∙ seen.1)) (c.give_left.ensures.back.gave.own ∙ (c.tell_empty.ensures.stays.mine.own ∙ is.took.own))
     (emptied_tied (old.seen me) (old.own me) maps tied.within tied.table.room))
 
 pub returns-clause-own : goal.returns-clause-own
-returns-clause-own g c = c.give_left.ensures.back.gave.own ∙ c.take_segments-segs.ensures.took.own
+returns-clause-own g c =
+    c.give_left.ensures.back.gave.own ∙ (c.tell_empty.ensures.stays.mine.own ∙ c.take_segments-segs.ensures.took.own)
 
 pub returns-clause-roster : goal.returns-clause-roster
 returns-clause-roster g c =
@@ -51,15 +59,19 @@ returns-clause-roster g c =
 pub returns-clause-stays : goal.returns-clause-stays
 returns-clause-stays g c =
     let is = c.take_segments-segs.ensures in
+    let told = c.tell_empty.ensures in
     let given = c.give_left.ensures in
     let first = is.weight in
-    let second = given.back.weight in
+    let second = told.weight in
+    let third = given.back.weight in
     record {
-      slots = closed c.requires.may is.slots given.back.slots given.back.gave.taken given.back.gave.home;
-      part = λ heap. given.part heap ∙ is.took.part heap;
-      others = others_then is.others given.back.others;
-      weight = omega (arith, first, second);
+      slots = closed c.requires.may (but_then is.slots (slots_but told.stays.slots)) given.back.slots given.back.gave.taken given.back.gave.home;
+      part = λ heap. given.part heap ∙ (told.stays.mine.parts.part heap ∙ is.took.part heap);
+      others = others_then is.others (others_then told.stays.others given.back.others);
+      weight = omega (arith, first, second, third);
     }
 
 pub returns-clause-goes_on : goal.returns-clause-goes_on
-returns-clause-goes_on g c = g.met.H.Hall.goes_on_then _ _ _ c.take_segments-segs.ensures.goes_on c.give_left.ensures.goes_on
+returns-clause-goes_on g c =
+    g.met.H.Hall.goes_on_then _ _ _ c.take_segments-segs.ensures.goes_on
+    (g.met.H.Hall.goes_on_then _ _ _ c.tell_empty.ensures.goes_on c.give_left.ensures.goes_on)

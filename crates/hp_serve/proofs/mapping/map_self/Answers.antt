@@ -1,9 +1,11 @@
 -- Participant 0 has caught up, or its mapper has made too many calls.
-use Rattle.std.proofs.Common.{◌∙◌, [], ◌∷◌, ◌++◌, length, arith}
+use Rattle.std.proofs.Common.{◌∙◌, [], ◌∷◌, ◌++◌, length, sym, arith}
+use Rattle.hp_base.specs.Mapping.{is_done}
 use Rattle.hp_hall.specs.Mail.{Notes}
 use Rattle.hp_hall.specs.declared.note.Note.TheVariants.{Loaded, Read}
 use Rattle.hp_hall.proofs.HallStates.{did_then}
 use Rattle.hp_serve.specs.Serving.{tells_behind, gives_segments, takes_segments}
+use Rattle.hp_serve.proofs.Attached.{has_still}
 use Rattle.hp_serve.proofs.Handed.{mapped_by, tied_still, worn_by}
 use Rattle.hp_serve.proofs.SegmentSlots.{Took, freed_own, may_hold, put_own, put_stays, took_has}
 use Rattle.hp_serve.proofs.mapping.map_self.Goals as goal
@@ -35,7 +37,11 @@ returns-then-is_worn-clause-tied g c =
     record { may = may_hold c.requires.may; took = is.took; slots = is.slots; others = is.others; weight = is.weight } in
     let stays = put_stays took c.put_back.ensures.back in
     let seen = stays.others.later.seen 0 in
-    tied_still (old.seen 0) (new.seen 0) seen.0 (old.own 0) (new.own 0) c.args.joined.now c.args.maps.now seen.1 stays.mine.own c.requires.tied
+    record {
+      table = tied_still (old.seen 0) (new.seen 0) seen.0 (old.own 0) (new.own 0) c.args.joined.now c.args.maps.now seen.1 stays.mine.own
+          c.requires.tied.table;
+      same = stays.mine.parts.joined ∙ c.requires.tied.same;
+    }
 
 pub returns-then-is_worn-clause-stays : goal.returns-then-is_worn-clause-stays
 returns-then-is_worn-clause-stays g c =
@@ -64,7 +70,7 @@ catch_and_hand-requires g c =
       sound = is.took.sound;
       log = is.took.log;
       tied = tied_still (old.seen 0) c.take_segments-segs.result.log seen.0 (old.own 0) (mid.own 0) c.args.joined.now c.args.maps.now
-          (is.took.log ∙ seen.1) is.took.own c.requires.tied;
+          (is.took.log ∙ seen.1) is.took.own c.requires.tied.table;
       calls = c.is_worn.ensures.fresh c.if-is_worn.false;
     }
 
@@ -79,6 +85,21 @@ returns-clause-mapped g c =
       λ party. mapped_by party c.args.core.now c.catch_and_hand.new.core c.args.maps.now c.catch_and_hand.new.maps c.args.joined.now
           c.catch_and_hand.new.joined segs handed.0 handed.1 handed.2 handed.3 _ handed.6 handed.5 handed.7,
     )
+
+-- participant 0 is in the roster, and so it had a table
+pub returns-clause-tied : goal.returns-clause-tied
+returns-clause-tied g c =
+    let is = c.take_segments-segs.ensures in
+    let took : Took 0 c.take_segments-segs.result (g.H.Hall.state c.args.hall.now) (g.H.Hall.state c.take_segments-segs.new.hall) =
+    record { may = may_hold c.requires.may; took = is.took; slots = is.slots; others = is.others; weight = is.weight } in
+    let stays = freed_own took c.catch_and_hand.ensures.back c.catch_and_hand.ensures.weight in
+    let handed = c.catch_and_hand.ensures.handed in
+    let there = sym c.requires.tied.same ∙ (sym is.took.roster ∙ is.took.sound.places.primary) in
+    record {
+      table = c.catch_and_hand.ensures.tied;
+      same = stays.parts.joined
+          ∙ (c.requires.tied.same ∙ sym (has_still c.args.joined.now (is_done handed.0) c.catch_and_hand.new.joined there handed.6));
+    }
 
 pub returns-clause-stays : goal.returns-clause-stays
 returns-clause-stays g c =

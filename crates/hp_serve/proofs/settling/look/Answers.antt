@@ -7,7 +7,7 @@ use Rattle.hp_hall.proofs.StandingGrowths.{claimed_can_grow}
 use Rattle.hp_hall.proofs.HallStates.{did_then}
 use Rattle.hp_segs.specs.SegsView.{grants_or_refuses, is_member}
 use Rattle.hp_serve.specs.Serving.{gives_segments, takes_segments}
-use Rattle.hp_serve.proofs.AskLooks.{any_of_found, grants_none, outcome_stands, settles_at}
+use Rattle.hp_serve.proofs.AskLooks.{any_of_found, grant_or_refusal_stands, grants_none, none_stands, settles_at}
 use Rattle.hp_serve.proofs.AskOutcomes.{can_claim}
 use Rattle.hp_serve.proofs.AskSettled.{claim_asks, claim_log, claim_roster, claim_settles, claims_nothing, refusal_settles, unheld_stay}
 use Rattle.hp_serve.proofs.AskedAlong.{awaits_along, settles_along}
@@ -34,8 +34,8 @@ put_back-requires g c =
     record { may = c.requires.may; took = is.took; slots = is.slots; others = is.others; weight = is.weight } in
     record { has = took_has took }
 
-pub put_back-requires-in-Some-Stale : goal.put_back-requires-in-Some-Stale
-put_back-requires-in-Some-Stale g c =
+pub put_back-requires-in-None : goal.put_back-requires-in-None
+put_back-requires-in-None g c =
     let is = c.take_segments-segs.ensures in
     let took : Took c.args.ask.now.from c.take_segments-segs.result (g.H.Hall.state c.args.hall.now) (g.H.Hall.state c.take_segments-segs.new.hall) =
     record { may = c.requires.may; took = is.took; slots = is.slots; others = is.others; weight = is.weight } in
@@ -50,7 +50,7 @@ claim_taken-run-requires-clause-granted g c =
     awaits_along ask ((g.H.Hall.state c.args.hall.now).part ask.from) mid c.take_segments-segs.ensures.took.part
     c.requires.awaits in
     let stands =
-    outcome_stands segs.asks ask.from ask.number _ (sym c.in-Some-Granted.ensures ∙ ap Some c.in-Some-Granted.field-0-is) refl in
+    grant_or_refusal_stands segs.asks ask.from ask.number _ (sym c.in-Some-Granted.ensures.first ∙ ap Some c.in-Some-Granted.field-0-is) in
     can_claim ask mid segs c.take_segments-segs.ensures.took.sound c.take_segments-segs.ensures.took.stands awaits stands.entry stands.found _
     stands.is
 
@@ -63,7 +63,7 @@ claim_taken-run-requires-clause-held g c =
     awaits_along ask ((g.H.Hall.state c.args.hall.now).part ask.from) mid c.take_segments-segs.ensures.took.part
     c.requires.awaits in
     let stands =
-    outcome_stands segs.asks ask.from ask.number _ (sym c.in-Some-Granted.ensures ∙ ap Some c.in-Some-Granted.field-0-is) refl in
+    grant_or_refusal_stands segs.asks ask.from ask.number _ (sym c.in-Some-Granted.ensures.first ∙ ap Some c.in-Some-Granted.field-0-is) in
     unheld_stay ask mid segs c.take_segments-segs.ensures.took.sound c.take_segments-segs.ensures.took.stands awaits stands.entry stands.found _
     stands.is
     claim_leaves_others
@@ -78,7 +78,7 @@ returns-in-Some-Granted-clause-found g c =
     let same : (heap : ℕ) → mid heap ≡ old heap = c.take_segments-segs.ensures.took.part in
     let awaits = awaits_along ask old mid same c.requires.awaits in
     let stands =
-    outcome_stands segs.asks ask.from ask.number _ (sym c.in-Some-Granted.ensures ∙ ap Some c.in-Some-Granted.field-0-is) refl in
+    grant_or_refusal_stands segs.asks ask.from ask.number _ (sym c.in-Some-Granted.ensures.first ∙ ap Some c.in-Some-Granted.field-0-is) in
     settles_along _ _ ask old mid new _ same
     (settles_at segs.log _ segs.asks _ ask mid new _
     (sym c.claim_taken-run.ensures.back.gave.log ∙ claim_log ask.from ask.number segs)
@@ -93,7 +93,7 @@ returns-in-Some-Granted-clause-did g c =
     let ask = c.args.ask.now in
     let segs = c.take_segments-segs.result in
     let stands =
-    outcome_stands segs.asks ask.from ask.number _ (sym c.in-Some-Granted.ensures ∙ ap Some c.in-Some-Granted.field-0-is) refl in (
+    grant_or_refusal_stands segs.asks ask.from ask.number _ (sym c.in-Some-Granted.ensures.first ∙ ap Some c.in-Some-Granted.field-0-is) in (
       _,
       did_then c.take_segments-segs.ensures.took.did c.claim_taken-run.ensures.back.gave.did,
       record {
@@ -113,7 +113,7 @@ returns-in-Some-Refused-clause-found g c =
     let same : (heap : ℕ) → mid heap ≡ old heap = c.take_segments-segs.ensures.took.part in
     let awaits = awaits_along ask old mid same c.requires.awaits in
     let stands =
-    outcome_stands segs.asks ask.from ask.number _ (sym c.in-Some-Refused.ensures ∙ ap Some c.in-Some-Refused.field-0-is) refl in
+    grant_or_refusal_stands segs.asks ask.from ask.number _ (sym c.in-Some-Refused.ensures.first ∙ ap Some c.in-Some-Refused.field-0-is) in
     settles_along _ _ ask old mid new None same
     (settles_at segs.log _ segs.asks _ ask mid new None (sym c.put_back.ensures.back.back.gave.log)
     (sym c.put_back.ensures.back.back.gave.asks)
@@ -126,7 +126,7 @@ returns-in-Some-Refused-clause-did g c =
     let ask = c.args.ask.now in
     let segs = c.take_segments-segs.result in
     let stands =
-    outcome_stands segs.asks ask.from ask.number _ (sym c.in-Some-Refused.ensures ∙ ap Some c.in-Some-Refused.field-0-is) refl in (
+    grant_or_refusal_stands segs.asks ask.from ask.number _ (sym c.in-Some-Refused.ensures.first ∙ ap Some c.in-Some-Refused.field-0-is) in (
       _,
       did_then c.take_segments-segs.ensures.took.did c.put_back.ensures.back.back.gave.did,
       record {
@@ -137,16 +137,16 @@ returns-in-Some-Refused-clause-did g c =
       },
     )
 
-pub returns-in-Some-Stale-clause-did : goal.returns-in-Some-Stale-clause-did
-returns-in-Some-Stale-clause-did g c = (
+pub returns-in-None-clause-did : goal.returns-in-None-clause-did
+returns-in-None-clause-did g c = (
   _,
-  did_then c.take_segments-segs.ensures.took.did c.put_back-in-Some-Stale.ensures.back.back.gave.did,
-  record { taken = c.take_segments-segs.result; found = tt; are = refl },
+  did_then c.take_segments-segs.ensures.took.did c.put_back-in-None.ensures.back.back.gave.did,
+  record { taken = c.take_segments-segs.result; found = none_stands c.take_segments-segs.result.asks c.args.ask.now.from c.args.ask.now.number (sym c.in-None.ensures.first); are = refl },
 )
 
-pub returns-in-Some-Stale-clause-goes_on : goal.returns-in-Some-Stale-clause-goes_on
-returns-in-Some-Stale-clause-goes_on g c =
-    g.met.H.Hall.goes_on_then _ _ _ c.take_segments-segs.ensures.goes_on c.put_back-in-Some-Stale.ensures.goes_on
+pub returns-in-None-clause-goes_on : goal.returns-in-None-clause-goes_on
+returns-in-None-clause-goes_on g c =
+    g.met.H.Hall.goes_on_then _ _ _ c.take_segments-segs.ensures.goes_on c.put_back-in-None.ensures.goes_on
 
 pub returns-in-Some-Granted-clause-stays : goal.returns-in-Some-Granted-clause-stays
 returns-in-Some-Granted-clause-stays g c =
@@ -172,13 +172,13 @@ pub returns-in-Some-Refused-clause-goes_on : goal.returns-in-Some-Refused-clause
 returns-in-Some-Refused-clause-goes_on g c =
     g.met.H.Hall.goes_on_then _ _ _ c.take_segments-segs.ensures.goes_on c.put_back.ensures.goes_on
 
-pub returns-in-Some-Stale-clause-found : goal.returns-in-Some-Stale-clause-found
-returns-in-Some-Stale-clause-found g c = λ heap.
-    c.put_back-in-Some-Stale.ensures.back.parts.part heap ∙ c.take_segments-segs.ensures.took.part heap
+pub returns-in-None-clause-found : goal.returns-in-None-clause-found
+returns-in-None-clause-found g c = λ heap.
+    c.put_back-in-None.ensures.back.parts.part heap ∙ c.take_segments-segs.ensures.took.part heap
 
-pub returns-in-Some-Stale-clause-stays : goal.returns-in-Some-Stale-clause-stays
-returns-in-Some-Stale-clause-stays g c =
+pub returns-in-None-clause-stays : goal.returns-in-None-clause-stays
+returns-in-None-clause-stays g c =
     let is = c.take_segments-segs.ensures in
     let took : Took c.args.ask.now.from c.take_segments-segs.result (g.H.Hall.state c.args.hall.now) (g.H.Hall.state c.take_segments-segs.new.hall) =
     record { may = c.requires.may; took = is.took; slots = is.slots; others = is.others; weight = is.weight } in
-    put_parts took c.put_back-in-Some-Stale.ensures.back
+    put_parts took c.put_back-in-None.ensures.back

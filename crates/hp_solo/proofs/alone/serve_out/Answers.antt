@@ -2,12 +2,11 @@ use Rattle.std.proofs.Common.{◌≡◌, ℕ, Bool, true, false, Result, Ok, Err
 use Rattle.std.specs.Result.{result_ok}
 use Rattle.hp_base.specs.declared.limits.TheConstants.{MAX_HEAPS}
 use Rattle.hp_plain.specs.Course.{done_same}
-use Rattle.hp_plain.specs.HallView.{HallView, HasDone, own_at, seen_in}
+use Rattle.hp_plain.specs.HallView.{HallView, HasDone}
 use Rattle.hp_serve.specs.Falling.{served_of}
 use Rattle.hp_serve.specs.Party.{Party}
-use Rattle.hp_serve.specs.Tied.{IsTied}
 use Rattle.hp_solo.specs.Served.ServesOn.{rests}
-use Rattle.hp_solo.specs.Solo.{FindsNothing, looks_in_vain}
+use Rattle.hp_solo.specs.Solo.{FindsNothing, IsTiedFor, looks_in_vain}
 use Rattle.hp_solo.proofs.Keeping.{keeps_on}
 use Rattle.hp_solo.proofs.SoloLooks.{last_behind}
 use Rattle.hp_solo.proofs.SoloTies.{party_served_same, party_served_then, served_more_by}
@@ -43,7 +42,7 @@ serve_once-requires g c =
     record {
       me = omega (arith, is.same.me, is.serving.course.count, c.requires.me);
       there = is.serving.home MAX_HEAPS c.requires.there;
-      tied = subst (λ (me : ℕ). IsTied (seen_in hall) (own_at hall me) after.joined after.maps) (sym is.same.me) is.tied;
+      tied = subst (λ (me : ℕ). IsTiedFor hall me after) (sym is.same.me) is.tied;
     }
 
 pub returns-in_err-more-clause-served : goal.returns-in_err-more-clause-served

@@ -27,6 +27,7 @@ returns-in-Ok g c =
     let then = armed_then me old mid c.take.result is.took is.slots is.others (g.H.Hall.state c.arm.new.hall) c.arm.ensures.stays in
     record {
       slots = then.slots;
+      joined = then.joined;
       own = then.own;
       others = then.others;
       goes_on = g.met.H.Hall.goes_on_then _ _ _ c.take.ensures.goes_on c.arm.ensures.goes_on;
@@ -41,6 +42,7 @@ returns-in-Err g c =
     let then = armed_then me old mid c.take.result is.took is.slots is.others (g.H.Hall.state c.arm.new.hall) c.arm.ensures.stays in
     record {
       slots = then.slots;
+      joined = then.joined;
       own = then.own;
       others = then.others;
       goes_on = g.met.H.Hall.goes_on_then _ _ _ c.take.ensures.goes_on c.arm.ensures.goes_on;

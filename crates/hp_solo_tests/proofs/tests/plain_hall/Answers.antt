@@ -13,5 +13,5 @@ pub returns : goal.returns
 returns c =
     record {
       opening = opens c.in_ok-heaps.heaps.items c.in_ok-segs.segs c.in_ok-hall.hall c.in_ok-hall.ensures.hall c.in_ok-heaps.ensures.order.count
-          (ap (λ (s : SegsView). s.armed) c.in_ok-segs.ensures) c.in_ok-heaps.ensures.serves;
+          (ap (λ (s : SegsView). s.armed) c.in_ok-segs.ensures) (ap (λ (s : SegsView). s.roster) c.in_ok-segs.ensures) c.in_ok-heaps.ensures.serves;
     }

@@ -60,11 +60,11 @@ returns-in_default-clause-does g c = λ facts known.
     (done_once hall.count (did_in me hall hall) (Doing.Ended answer.NoElement) (Doing.Ended answer.NoElement) at at
     (does_same hall.count (did_in me hall hall) (Doing.Ended answer.NoElement) at (did_same me hall)))
 
-pub returns-in_default-clause-idle : goal.returns-in_default-clause-idle
-returns-in_default-clause-idle g c = again_same c.args.self.now c.requires.ready.idle
+pub returns-in_default-clause-ready : goal.returns-in_default-clause-ready
+returns-in_default-clause-ready g c = again_same c.args.self.now c.requires.ready
 
-pub returns-in_err-places-clause-idle : goal.returns-in_err-places-clause-idle
-returns-in_err-places-clause-idle g c = again_same c.args.self.now c.requires.ready.idle
+pub returns-in_err-places-clause-ready : goal.returns-in_err-places-clause-ready
+returns-in_err-places-clause-ready g c = again_same c.args.self.now c.requires.ready
 
 pub returns-in_err-places-clause-goes_on : goal.returns-in_err-places-clause-goes_on
 returns-in_err-places-clause-goes_on g c = g.met.H.Hall.goes_on_same _

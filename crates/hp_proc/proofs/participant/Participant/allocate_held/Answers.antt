@@ -13,7 +13,7 @@ use Rattle.hp_proc.specs.Allocating.{asking, behind_asking, trying, unless_found
 use Rattle.hp_proc.specs.Contexts.{named_heap}
 use Rattle.hp_proc.specs.Doing.{Doing}
 use Rattle.hp_proc.specs.Heaps.{NamedHeap, page_sizes_for}
-use Rattle.hp_proc.specs.LineInHall.{HoldsIn, IsMapped, KeepsHeld, DoesHeld, did_in, moment_with}
+use Rattle.hp_proc.specs.LineInHall.{HoldsIn, IsKnownMapped, KeepsHeld, DoesHeld, did_in, moment_with}
 use Rattle.hp_proc.specs.ParticipantView.{ParticipantView, after_call}
 use Rattle.hp_proc.specs.Progress.{DoesIn, Tries, caller_of}
 use Rattle.hp_proc.specs.declared.socket_heap.SocketHeap.{SocketHeap}
@@ -136,7 +136,7 @@ grow-requires g c =
     let counted = c.allocate_in.ensures.counted in
     record {
       holds = holds_on (keeps_alloc doer mid heap next c.with_flags-first.result c.args.tag c.allocate_in.result step counted c.requires.holds)
-          c.requires.holds.can.may;
+          c.requires.holds;
       its = c.requires.its ∙ sym (call_index _ _ _ _ _ step);
       of_socket = call_serves _ _ _ _ _ step ∙ c.requires.of_socket;
       room = record {
@@ -219,7 +219,7 @@ returns-in-Some-allocate_in g c =
     let first = keeps_alloc doer mid heap next c.with_flags-first.result c.args.tag c.allocate_in.result step counted c.requires.holds in
     let here = keeps_then first c.grow.ensures.keeps in
     let same = here.remains.same.me in
-    let holds = holds_on here c.requires.holds.can.may in
+    let holds = holds_on here c.requires.holds in
     record {
       does = λ heaps.
           found_again doer mid (g.H.Hall.state c.args.hall.now) heap next c.args.place.now c.args.request.now c.with_flags-first.result c.args.tag
@@ -229,7 +229,7 @@ returns-in-Some-allocate_in g c =
           (c.requires.its ∙ sym here.index) c.if-not-branch.false c.in-Some-allocate_in.addr c.in-Some-allocate_in.is;
       lies = λ given is.
           lies_so me third (gives.Address c.in-Some-allocate_in.addr) given
-          (subst (λ (who : ℕ). IsMapped who third (gives.Address c.in-Some-allocate_in.addr)) same
+          (subst (λ (who : ℕ). IsKnownMapped who third (gives.Address c.in-Some-allocate_in.addr)) same
           (address_lies grown.party.me grown c.args.request.now c.args.tag c.in-Some-allocate_in.addr c.args.place.now.socket c.grow.new.heap
           c.allocate_in-2.new.heap third
           (subst (λ (found : Option ℕ). IsCall (caller_of grown) (call.Alloc c.args.request.now c.args.tag) (address_answer found) c.grow.new.heap
@@ -255,7 +255,7 @@ returns-in-None g c =
     let counted = c.allocate_in.ensures.counted in
     let first = keeps_alloc doer mid heap next c.with_flags-first.result c.args.tag c.allocate_in.result step counted c.requires.holds in
     let here = keeps_then first c.grow.ensures.keeps in
-    let holds = holds_on here c.requires.holds.can.may in
+    let holds = holds_on here c.requires.holds in
     record {
       does = λ heaps.
           found_none doer mid (g.H.Hall.state c.args.hall.now) heap next c.args.place.now c.args.request.now c.with_flags-first.result c.args.tag

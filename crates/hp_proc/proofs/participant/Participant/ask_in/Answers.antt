@@ -1,6 +1,7 @@
 -- The ask is one step of its line, and where a run comes its growth is the next, whoever stopped meanwhile.
 use Rattle.std.proofs.Common.{◌+◌, ◌<◌, ℕ, subst, sym}
 use Rattle.std.specs.Prelude.{◌^◌, IsSome}
+use Rattle.hp_serve.proofs.AskedOn.{asked_whole}
 use Rattle.hp_proc.specs.Contexts.{Context}
 use Rattle.hp_proc.proofs.HandAsked.{held_some}
 use Rattle.hp_proc.proofs.HandGrown.{allowed_by, calls_by, does_grown, grew_by, keeps_asked, keeps_grown, passed_by, spare_by}
@@ -82,7 +83,7 @@ pub returns-clause-does : goal.returns-clause-does
 returns-clause-does g c = λ tag otherwise.
     let is = c.ask.ensures in
     let asks = c.in_ok-answered.ensures.asks in
-    let did = asks.did c.if-answered.false in
+    let did = asks.did in
     let run = c.in_ok-answered.answered.run in
     let next = c.grow_by-granted.new.heap in
     let last = c.grow_by-granted.new.self in
@@ -90,7 +91,9 @@ returns-clause-does g c = λ tag otherwise.
     does_grown c.args.self.now c.ask.new.self (g.H.Hall.state c.args.hall.now) (g.H.Hall.state c.ask.new.hall) c.args.heap.now
     c.args.asked.now c.requires.holds c.requires.its is.context is.remains is.settled is.mapped is.others next last tag otherwise did.0 did.1
     run granted asks.grows
-    (grew_by run granted c.args.heap.now next c.ask.new.self last c.grow_by-granted.ensures.none c.grow_by-granted.ensures.some) did.2 asks.answer
+    (grew_by run granted c.args.heap.now next c.ask.new.self last c.grow_by-granted.ensures.none c.grow_by-granted.ensures.some)
+    (asked_whole (g.H.Hall.state c.args.hall.now).count c.args.self.now.party c.ask.new.self.party c.args.asked.now did.0 run
+    c.in_ok-answered.answered.stopped c.if-answered.false did.2) asks.answer
 
 pub returns-clause-keeps : goal.returns-clause-keeps
 returns-clause-keeps g c =

@@ -30,5 +30,5 @@ serve_line-requires-clause-asks g c = record {
   };
 }
 
-pub returns-in-Err-clause-idle : goal.returns-in-Err-clause-idle
-returns-in-Err-clause-idle g c = again_line c.args.self.now.party c.requires.ready.idle
+pub returns-in-Err-clause-ready : goal.returns-in-Err-clause-ready
+returns-in-Err-clause-ready g c = again_line c.args.self.now c.requires.ready

@@ -1,9 +1,11 @@
 -- One that is attached already does nothing; else it has caught up, or tried to, and notes what that left.
-use Rattle.std.proofs.Common.{◌∙◌, ap, refl, sym}
+use Rattle.std.proofs.Common.{◌∙◌, ◌||◌, Bool, ap, refl, sym}
+use Rattle.hp_base.specs.Mapping.{is_done}
 use Rattle.hp_script.specs.declared.answer.Answer.TheVariants as answer
+use Rattle.hp_proc.specs.Contexts.{Context}
 use Rattle.hp_proc.specs.Courses.{standing_tried}
 use Rattle.hp_proc.specs.ParticipantView.{ParticipantView}
-use Rattle.hp_proc.proofs.AttachedLines.{attached_same, joined_by, joined_still, line_already, line_tried, ready_noted, refused_failed}
+use Rattle.hp_proc.proofs.AttachedLines.{attached_same, joined_by, joined_still, line_already, line_tried, ready_noted, refused_failed, tried_joined}
 use Rattle.hp_proc.proofs.HandGiven.{ready_still}
 use Rattle.hp_hall.proofs.HallStates.{did_same}
 use Rattle.hp_proc.specs.LineInHall.{did_in}
@@ -19,6 +21,14 @@ returns-then-self-clause-does g c =
     (hall.heard me) c.requires.act
     (ap (λ (doer : ParticipantView). doer.context.standing.attached) (sym c.self.view_is)
     ∙ ap (λ inside. inside.context.standing.attached) (sym c.self-inside.view_is) ∙ c.if-self.true) (did_same me hall)
+
+-- who is not attached is out, and has no table
+pub attach-caught-requires-clause-out : goal.attach-caught-requires-clause-out
+attach-caught-requires-clause-out g c =
+    sym c.requires.tied.same
+    ∙ (c.requires.attached
+    ∙ ap (λ (doer : ParticipantView). doer.context.standing.attached) (sym c.self.view_is)
+    ∙ ap (λ inside. inside.context.standing.attached) (sym c.self-inside.view_is) ∙ c.if-self.false)
 
 pub returns-clause-does : goal.returns-clause-does
 returns-clause-does g c =
@@ -56,10 +66,10 @@ returns-clause-failed g c = λ call refused.
     (refused_failed c.attach-caught.new.self.party.maps.number c.attach-caught.result c.note_attached.result call c.note_attached.ensures.given refused)
 
 pub returns-then-self-clause-changes : goal.returns-then-self-clause-changes
-returns-then-self-clause-changes g c = changes_same c.args.self.now.party c.requires.tied
+returns-then-self-clause-changes g c = changes_same c.args.self.now c.requires.tied c.requires.attached
 
 pub returns-then-is_worn-clause-changes : goal.returns-then-is_worn-clause-changes
-returns-then-is_worn-clause-changes g c = changes_same c.args.self.now.party c.requires.tied
+returns-then-is_worn-clause-changes g c = changes_same c.args.self.now c.requires.tied c.requires.attached
 
 pub returns-clause-changes : goal.returns-clause-changes
 returns-clause-changes g c =
@@ -67,14 +77,23 @@ returns-clause-changes g c =
     let mid = c.attach-caught.new.self in
     let is = c.attach-caught.ensures in
     changes_noted doer mid (standing_tried mid.party.maps.number c.attach-caught.result mid.context.standing)
-    (attached_same doer.party mid.party is.did.0.log c.attach-caught.result is.did.1) c.note_attached.ensures.noted is.tied is.stays.slots is.stays.others
+    (attached_same doer.party mid.party is.did.0.log c.attach-caught.result is.did.1) c.note_attached.ensures.noted is.tied
+    (tried_joined mid.party.maps.number c.attach-caught.result mid.context.standing ((g.H.Hall.state c.attach-caught.new.hall).joined doer.party.me)
+    (ap (λ (context : Context). context.standing.attached) is.context
+    ∙ ap (λ (doer : ParticipantView). doer.context.standing.attached) (sym c.self.view_is)
+    ∙ ap (λ inside. inside.context.standing.attached) (sym c.self-inside.view_is) ∙ c.if-self.false) is.roster)
+    is.stays.slots is.stays.others
 
 pub returns-clause-roster : goal.returns-clause-roster
 returns-clause-roster g c =
     let me = c.args.self.now.party.me in
+    let out =
+    c.requires.attached
+    ∙ ap (λ (doer : ParticipantView). doer.context.standing.attached) (sym c.self.view_is)
+    ∙ ap (λ inside. inside.context.standing.attached) (sym c.self-inside.view_is) ∙ c.if-self.false in
     joined_by c.args.line.now.act c.attach-caught.new.self.party.maps.number c.attach-caught.result c.note_attached.result
     ((g.H.Hall.state c.args.hall.now).joined me) ((g.H.Hall.state c.attach-caught.new.hall).joined me) c.requires.act c.note_attached.ensures.given
-    c.attach-caught.ensures.roster
+    (c.attach-caught.ensures.roster ∙ sym (ap (λ (before : Bool). before || is_done c.attach-caught.result) out))
 
 pub returns-then-self-clause-roster : goal.returns-then-self-clause-roster
 returns-then-self-clause-roster g c =

@@ -51,7 +51,7 @@ returns-clause-ready g c = λ ready.
     (ap (λ (doer : ParticipantView). doer.context) is.party) is.stays.part others.1 ready)
 
 pub returns-then-not-self-clause-changes : goal.returns-then-not-self-clause-changes
-returns-then-not-self-clause-changes g c = changes_same c.args.self.now.party c.requires.tied
+returns-then-not-self-clause-changes g c = changes_same c.args.self.now c.requires.tied c.requires.attached
 
 pub returns-clause-changes : goal.returns-clause-changes
 returns-clause-changes g c =
@@ -59,7 +59,7 @@ returns-clause-changes g c =
     let mid = c.detach.new.self in
     let is = c.detach.ensures in
     changes_noted doer mid (record mid.context.standing { attached = false }) (detached_same doer.party mid.party (ap (λ (doer : ParticipantView). doer.party) is.party)) c.note_detached.ensures.noted is.tied
-    is.stays.slots is.stays.others
+    is.roster is.stays.slots is.stays.others
 
 pub returns-clause-roster : goal.returns-clause-roster
 returns-clause-roster g c =

@@ -19,7 +19,7 @@ use Rattle.hp_proc.specs.Heaps.{NamedHeap, has_name, socket_heaps}
 use Rattle.hp_proc.specs.Lines.{Facts, doing_of, dumping, if_attached, with_statistics}
 use Rattle.hp_serve.specs.Party.{IsSameParty}
 use Rattle.hp_proc.specs.ParticipantView.{ParticipantView, after_call, with_calls}
-use Rattle.hp_proc.specs.Progress.{Does, DoesOnce, MayDo, caller_of}
+use Rattle.hp_proc.specs.Progress.{Does, DoesOnce, caller_of}
 use Rattle.hp_proc.proofs.HandCalls.{call_index, does_call}
 use Rattle.hp_proc.proofs.Joining.{does_same, does_then}
 use Rattle.hp_proc.proofs.LineFacts.{done_once, done_one, facts_for, facts_known, line_done}
@@ -27,12 +27,12 @@ use Rattle.hp_proc.proofs.Mapped.{All-found}
 use Rattle.hp_proc.proofs.PagesStay.{stats_pages}
 use Rattle.hp_proc.proofs.SocketHeapLemmas.{IsListed, all_listed}
 use Rattle.hp_hall.proofs.HallStates.{did_same, did_then, slots_same}
-use Rattle.hp_proc.specs.LineInHall.{HoldsIn, IsIdleIn, did_in, moment, moment_with}
+use Rattle.hp_proc.specs.LineInHall.{HoldsIn, IsReadyIn, did_in, moment, moment_with}
 use Rattle.hp_hall.specs.HallState.{HallState}
 use Rattle.hp_heap.specs.History.{HeapView, IsCall}
 use Rattle.hp_heap.specs.HistoryLaws.{run_cut}
 use Rattle.hp_heap.specs.declared.entry.HeapAnswer.{HeapAnswer}
-use Rattle.hp_proc.proofs.Holds.{again_line, but_kept, does_next, holds_on, idle_put, keeps_called, knew_called}
+use Rattle.hp_proc.proofs.Holds.{again_line, but_kept, does_next, holds_on, keeps_called, knew_called, ready_put}
 use Rattle.hp_proc.proofs.participant.Participant.do_dump.Goals as goal
 
 -- the tree of a dump, where its participant is attached
@@ -82,7 +82,7 @@ held_after : (before doer after : ParticipantView) (heap next : HeapView) (hall 
     → HoldsIn after.party.me after next hall
 held_after before doer after heap next hall given me holds step counted whole =
     let here : HoldsIn doer.party.me doer heap hall = subst (λ (who : ℕ). HoldsIn who doer heap hall) (sym me) holds in
-    holds_on (keeps_called doer after heap next step counted (stats_pages (caller_of doer) given heap next step) refl whole here) here.can.may
+    holds_on (keeps_called doer after heap next step counted (stats_pages (caller_of doer) given heap next step) refl whole here) here
 
 pub returns-in_default-clause-does : goal.returns-in_default-clause-does
 returns-in_default-clause-does g c =
@@ -119,12 +119,11 @@ put-requires g c =
     c.stats_in-stats.ensures.step c.stats_in-stats.ensures.counted refl in
     record { serves = held.can.may.serves; in_hand = held.in_hand; settled = held.settled }
 
-pub returns-in_default-clause-idle : goal.returns-in_default-clause-idle
-returns-in_default-clause-idle g c = again_line c.args.self.now.party c.requires.ready.idle
+pub returns-in_default-clause-ready : goal.returns-in_default-clause-ready
+returns-in_default-clause-ready g c = again_line c.args.self.now c.requires.ready
 
-pub returns-in_err-heap-clause-idle : goal.returns-in_err-heap-clause-idle
-returns-in_err-heap-clause-idle g c =
-    record { same = c.hold.ensures.same; idle = c.in_err-heap.ensures.err }
+pub returns-in_err-heap-clause-ready : goal.returns-in_err-heap-clause-ready
+returns-in_err-heap-clause-ready g c = record { same = c.hold.ensures.same; ready = c.in_err-heap.ensures.err }
 
 pub returns : goal.returns
 returns g c =
@@ -175,12 +174,12 @@ returns g c =
           ∙ dumps_some (find (has_name name.text) facts.named) index is ∙ dumps line name facts c.requires.act c.requires.attached)
           (done_one index old.count (did_in me old new) doing ended first fourth does))
           knew c.requires.act tt;
-      ready = subst (λ (who : ℕ). MayDo (moment who after new)) after_me put.ready;
       clock = λ one. omega (arith, c.hold.ensures.clock one, put.others.clock);
-      idle = record {
+      ready = record {
         same = same;
-        idle = subst (λ (who : ℕ). IsIdleIn who after.party new) after_me
-            (idle_put after.party next held.can (but_kept (its ∙ took.index) c.hold.ensures.slots (slots_same mid)) put.tied put.free put.slots put.others);
+        ready = subst (λ (who : ℕ). IsReadyIn who after new) after_me
+            (ready_put after next held (but_kept (its ∙ took.index) c.hold.ensures.slots (slots_same mid)) put.tied put.ready put.table put.free
+            put.slots put.others);
       };
       goes_on = g.met.H.Hall.goes_on_then _ _ _ c.hold.ensures.goes_on put.goes_on;
     }

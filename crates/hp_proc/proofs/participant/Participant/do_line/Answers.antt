@@ -7,7 +7,7 @@ use Rattle.hp_script.specs.declared.answer.Answer.{Answer}
 use Rattle.hp_script.specs.declared.line.Act.{Act}
 use Rattle.hp_script.specs.declared.line.Act.TheVariants as act
 use Rattle.hp_script.specs.declared.options.Options.{Options}
-use Rattle.hp_hall.specs.HallState.{HallState}
+use Rattle.hp_serve.specs.Party.{Party}
 use Rattle.hp_serve.specs.Clocks.{longest_allocation, longest_wait}
 use Rattle.hp_proc.specs.ParticipantView.{ParticipantView}
 use Rattle.hp_serve.proofs.AskedAlong.{if_ok}
@@ -15,7 +15,7 @@ use Rattle.hp_proc.proofs.AttachedLines.{one_built}
 use Rattle.hp_proc.proofs.LineFacts.{detached_done}
 use Rattle.hp_hall.proofs.HallStates.{did_same}
 use Rattle.hp_proc.specs.LineInHall.{IsMapped, did_in, moment}
-use Rattle.hp_proc.proofs.Holds.{again_line, idle_changed}
+use Rattle.hp_proc.proofs.Holds.{again_line, ready_changed}
 use Rattle.hp_proc.proofs.LinesInHall.{idle_may}
 use Rattle.hp_serve.proofs.SegmentSlots.{may_hold}
 use Rattle.hp_proc.proofs.participant.Participant.do_line.Goals as goal
@@ -31,8 +31,8 @@ returns-then-not-self-clause-does g c =
     (ap (λ (doer : ParticipantView). doer.context.standing.attached) (sym c.self.view_is)
     ∙ ap (λ inside. inside.context.standing.attached) (sym c.self-inside.view_is) ∙ c.if-not-self.true)
 
-pub returns-then-not-self-clause-idle : goal.returns-then-not-self-clause-idle
-returns-then-not-self-clause-idle g c = again_line c.args.self.now.party c.requires.ready.idle
+pub returns-then-not-self-clause-ready : goal.returns-then-not-self-clause-ready
+returns-then-not-self-clause-ready g c = again_line c.args.self.now c.requires.ready
 
 pub do_attach-requires-clause-may : goal.do_attach-requires-clause-may
 do_attach-requires-clause-may g c = may_hold (idle_may c.requires.ready.idle)
@@ -54,11 +54,11 @@ few_of doer inside deadline view is few =
     subst (λ (deadline : ℕ). deadline ≤ MAX_DEADLINE) (is ∙ ap (λ (doer : ParticipantView). doer.party.deadline) view) few
 
 -- a line that is no allocation answers no address
-lies_other : {E : Type 0} (result : Result Answer E) (deed : Act) (me : ℕ) (state : HallState)
+lies_other : {E : Type 0} (result : Result Answer E) (deed : Act) (party : Party)
     → ((label : Part) (size : ℕ) (options : Options) → deed ≡ act.Alloc label size options → ⊥)
-    → IfOk result (λ given. (label : Part) (size : ℕ) (options : Options) → deed ≡ act.Alloc label size options → IsMapped me state given)
-lies_other (Ok given) deed me state other = λ label size options its_act. absurd (other label size options its_act)
-lies_other (Err refusal) deed me state other = tt
+    → IfOk result (λ given. (label : Part) (size : ℕ) (options : Options) → deed ≡ act.Alloc label size options → IsMapped party given)
+lies_other (Ok given) deed party other = λ label size options its_act. absurd (other label size options its_act)
+lies_other (Err refusal) deed party other = tt
 
 free_other : (name : Part) (deed : Act) → deed ≡ act.Free name → (label : Part) (size : ℕ) (options : Options)
     → deed ≡ act.Alloc label size options → ⊥
@@ -83,9 +83,8 @@ returns-in-Alloc g c =
     record {
       does = is.does;
       lies = if_ok _ _ c.do_alloc.result (λ given lies label size options its_act. lies) is.lies;
-      ready = is.ready;
       clock = λ one. alloc_within _ _ _ few (is.clock one);
-      idle = is.idle;
+      ready = is.ready;
       goes_on = is.goes_on;
     }
 
@@ -96,10 +95,9 @@ returns-in-Free g c =
     (c.deadline-deadline.ensures.deadline ∙ ap (λ inside. inside.server.deadline) c.self-inside.view_is) c.deadline-deadline.ensures.few in
     record {
       does = is.does;
-      lies = lies_other c.do_free.result c.args.line.now.act c.args.self.now.party.me (g.H.Hall.state c.do_free.new.hall) (free_other _ _ c.in-Free.is);
-      ready = is.ready;
+      lies = lies_other c.do_free.result c.args.line.now.act c.do_free.new.self.party (free_other _ _ c.in-Free.is);
       clock = λ one. wait_within _ _ _ few (is.clock one);
-      idle = is.idle;
+      ready = is.ready;
       goes_on = is.goes_on;
     }
 
@@ -110,16 +108,15 @@ returns-in-Resize g c =
     (c.deadline-deadline.ensures.deadline ∙ ap (λ inside. inside.server.deadline) c.self-inside.view_is) c.deadline-deadline.ensures.few in
     record {
       does = is.does;
-      lies = lies_other c.do_resize.result c.args.line.now.act c.args.self.now.party.me (g.H.Hall.state c.do_resize.new.hall)
+      lies = lies_other c.do_resize.result c.args.line.now.act c.do_resize.new.self.party
           (resize_other _ _ _ c.in-Resize.is);
-      ready = is.ready;
       clock = λ one. wait_within _ _ _ few (is.clock one);
-      idle = is.idle;
+      ready = is.ready;
       goes_on = is.goes_on;
     }
 
-pub returns-in-Attach-clause-idle : goal.returns-in-Attach-clause-idle
-returns-in-Attach-clause-idle g c = idle_changed c.do_attach.ensures.changes c.requires.ready.idle
+pub returns-in-Attach-clause-ready : goal.returns-in-Attach-clause-ready
+returns-in-Attach-clause-ready g c = ready_changed c.do_attach.ensures.changes c.requires.ready (c.do_attach.ensures.ready c.requires.ready.ready)
 
-pub returns-in-Detach-clause-idle : goal.returns-in-Detach-clause-idle
-returns-in-Detach-clause-idle g c = idle_changed c.do_detach.ensures.changes c.requires.ready.idle
+pub returns-in-Detach-clause-ready : goal.returns-in-Detach-clause-ready
+returns-in-Detach-clause-ready g c = ready_changed c.do_detach.ensures.changes c.requires.ready (c.do_detach.ensures.ready c.requires.ready.ready)

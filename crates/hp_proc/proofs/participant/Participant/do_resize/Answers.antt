@@ -86,7 +86,7 @@ returns-in-Ok-clause-does g c =
     (λ given does. line_done old.count (did_in me old new) line given before behind facts deed known
     (subst (λ (doing : Doing). DoesOnce old.count (did_in me old new) doing (Doing.Ended given) before behind)
     (resizes line me c.args.label.now c.args.size facts c.requires.own c.requires.act c.requires.attached rounded is.0
-    (not_refused c.args.size rounded is.0 is.1 is.2)) (does facts known)) c.act_on.ensures.idle.context c.requires.act tt) c.act_on.ensures.does
+    (not_refused c.args.size rounded is.0 is.1 is.2)) (does facts known)) c.act_on.ensures.ready.context c.requires.act tt) c.act_on.ensures.does
 
 pub returns-in-Err-clause-does : goal.returns-in-Err-clause-does
 returns-in-Err-clause-does g c =
@@ -107,8 +107,8 @@ returns-in-Err-clause-does g c =
     (does_same hall.count (did_in me hall hall) (Doing.Ended given) at (did_same me hall))))
     refl c.requires.act tt
 
-pub returns-in-Ok-clause-idle : goal.returns-in-Ok-clause-idle
-returns-in-Ok-clause-idle g c = c.act_on.ensures.idle.again
+pub returns-in-Ok-clause-ready : goal.returns-in-Ok-clause-ready
+returns-in-Ok-clause-ready g c = c.act_on.ensures.ready.again
 
-pub returns-in-Err-clause-idle : goal.returns-in-Err-clause-idle
-returns-in-Err-clause-idle g c = again_line c.args.self.now.party c.requires.ready.idle
+pub returns-in-Err-clause-ready : goal.returns-in-Err-clause-ready
+returns-in-Err-clause-ready g c = again_line c.args.self.now c.requires.ready

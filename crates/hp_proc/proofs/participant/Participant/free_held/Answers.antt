@@ -50,7 +50,7 @@ cut_held-requires g c =
     record {
       holds = holds_on
           (keeps_called doer mid heap next step counted (free_pages _ _ false _ heap next step) refl (freed_whole _) c.requires.holds)
-          c.requires.holds.can.may;
+          c.requires.holds;
       its = c.requires.its ∙ sym (call_index _ _ _ _ _ step);
       of_socket = c.requires.of_socket ∙ sym (call_serves _ _ _ _ _ step);
       room = room_called 1 doer mid heap next step.spare counted c.requires.room;

@@ -126,7 +126,7 @@ loop-page-preserved g c =
           c.if-branch.false (c.in_ok-ask_in.ensures.does tag next) in
           does_more (g.H.Hall.state first) (g.H.Hall.state second) (g.H.Hall.state third) c.loop-page.self.party.me me (in_hand c.loop-page.heap) (in_hand c.ask_in.new.heap) c.loop-page.self c.ask_in.new.self before (asking index socket request tag otherwise items) (asking index socket request tag otherwise (get_or items c.loop-page.page-index 0 ∷ drop (c.loop-page.page-index + 1) items)) (behind_asking index request tag next false) was.remains.same.me
           ((g.met.H.Hall.goes_on_later first second was.goes_on).count) here there;
-      holds = holds_on one.keeps was.holds.can.may;
+      holds = holds_on one.keeps was.holds;
       heap = passed.0 ∙ was.heap;
       context = passed.1 ∙ was.context;
       remains = record {

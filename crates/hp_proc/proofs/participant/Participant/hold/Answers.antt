@@ -1,11 +1,10 @@
 -- The heap that was taken has room, or goes back.
 use Rattle.std.proofs.Common.{◌∙◌, ℕ, ap, sym, subst, arith}
 use Rattle.hp_heap.specs.PlainHeap.{PlainHeap}
-use Rattle.hp_proc.specs.LineInHall.{AreFreeBut, IsFreeAt, moment}
-use Rattle.hp_serve.specs.InHall.{IsTiedIn}
+use Rattle.hp_proc.specs.LineInHall.{AreFreeBut, HoldsIn, IsReadyIn, moment}
 use Rattle.hp_proc.specs.Progress.{AreSettled, IsInHand}
 use Rattle.hp_proc.proofs.HandCalls.{does_spared, hand_spared}
-use Rattle.hp_proc.proofs.LinesInHall.{idle_again}
+use Rattle.hp_proc.proofs.Holds.{ready_put}
 use Rattle.hp_proc.proofs.participant.Participant.hold.Goals as goal
 
 pub put-requires-clause-serves : goal.put-requires-clause-serves
@@ -36,6 +35,7 @@ returns-in-Ok-clause-holds g c =
       can = held.can;
       in_hand = hand_spared c.in_ok-heap.heap c.reserve.new.self c.reserve.ensures.same _ (g.H.Hall.state c.take_heap.new.hall).taken held.in_hand;
       settled = held.settled;
+      attached = held.attached;
       mapped = held.mapped;
     }
 
@@ -51,24 +51,24 @@ returns-in-Err-clause-slots g c =
 
 pub returns-in-Err-clause-err : goal.returns-in-Err-clause-err
 returns-in-Err-clause-err g c =
-    let me = c.args.self.now.party.me in
+    let same = c.take_heap.ensures.same.me in
     let index = ap (λ (heap : PlainHeap). heap.index) c.reserve.ensures.same.plain ∙ c.in_ok-heap.ensures.index in
-    let was = c.take_heap.ensures.slots in
-    let put = c.put.ensures.slots in
     let mid = g.H.Hall.state c.take_heap.new.hall in
     let new = g.H.Hall.state c.put.new.hall in
     let doer = c.take_heap.new.self in
-    let can = c.in_ok-heap.ensures.holds.can in
-    let later = c.put.ensures.others.later in
-    let declared = can.may.declared in
-    let count = later.count in
-    let free : AreFreeBut c.args.index new = record {
-      taken = λ number apart. put.taken number (λ same. apart (same ∙ index)) ∙ was.taken number apart;
-      home = λ number few apart. put.home number (λ same. apart (same ∙ index)) (was.home number few apart);
+    let heap = c.reserve.new.self in
+    let took = c.in_ok-heap.ensures.holds in
+    let put = c.put.ensures in
+    let holds : HoldsIn c.args.self.now.party.me doer heap mid = record {
+      can = took.can;
+      in_hand = hand_spared c.in_ok-heap.heap heap c.reserve.ensures.same _ mid.taken took.in_hand;
+      settled = took.settled;
+      attached = took.attached;
+      mapped = took.mapped;
     } in
-    idle_again (later.serves me can.may.serves) (omega (arith, declared, count))
-    (subst (λ (who : ℕ). IsTiedIn who doer.party mid → IsTiedIn who doer.party new) c.take_heap.ensures.same.me c.put.ensures.tied can.tied) free
-    (subst (λ (index : ℕ). IsFreeAt index new) index c.put.ensures.free)
+    subst (λ (who : ℕ). IsReadyIn who doer new) same
+    (ready_put doer heap (subst (λ (who : ℕ). HoldsIn who doer heap mid) (sym same) holds)
+    (subst (λ (index : ℕ). AreFreeBut index mid) (sym index) c.take_heap.ensures.slots) put.tied put.ready put.table put.free put.slots put.others)
 
 pub returns-in-Err-clause-goes_on : goal.returns-in-Err-clause-goes_on
 returns-in-Err-clause-goes_on g c = g.met.H.Hall.goes_on_then _ _ _ c.take_heap.ensures.goes_on c.put.ensures.goes_on

@@ -10,12 +10,12 @@ use Rattle.hp_proc.specs.Doing.{Doing}
 use Rattle.hp_proc.specs.Freeing.{acting, looking}
 use Rattle.hp_proc.specs.Contexts.{Context, IsPlaceOf}
 use Rattle.hp_proc.specs.ParticipantView.{ParticipantView}
-use Rattle.hp_proc.specs.Progress.{Does, MayDo, Moment}
+use Rattle.hp_proc.specs.Progress.{Does, Moment}
 use Rattle.hp_proc.specs.declared.searched_heap.SearchedHeap.{SearchedHeap}
 use Rattle.hp_proc.proofs.Joining.{does_same, does_then}
 use Rattle.hp_hall.specs.HallState.{HallState}
 use Rattle.hp_hall.proofs.HallStates.{did_same, did_then}
-use Rattle.hp_proc.specs.LineInHall.{DoesHere, IsIdleIn, did_in, moment}
+use Rattle.hp_proc.specs.LineInHall.{DoesHere, IsReadyIn, did_in, moment}
 use Rattle.hp_proc.proofs.Holds.{again_same, again_then}
 use Rattle.hp_proc.proofs.OnceHeld.{heaps_more, once_taken}
 use Rattle.hp_proc.proofs.participant.Participant.look_for.Goals as goal
@@ -52,8 +52,7 @@ loop-place-init g c =
     record {
       does = does_same hall.count (did_in me hall hall) (looking c.args.tag (acting c.args.action) c.args.places.now) (moment me doer hall)
           (did_same me hall);
-      ready = c.requires.ready.ready;
-      idle = again_same doer c.requires.ready.idle;
+      called = again_same doer c.requires.ready;
       goes_on = g.met.H.Hall.goes_on_same _;
       clock = λ one. omega arith;
     }
@@ -83,7 +82,7 @@ module _ (doer looked after : ParticipantView) (old mid new : HallState) (tag : 
 pub look_in-requires-clause-place : goal.look_in-requires-clause-place
 look_in-requires-clause-place g c =
     let place = get_or c.args.places.now c.loop-place.place-index nowhere in
-    subst (λ (context : Context). IsPlaceOf context.pools place) (sym c.loop-place.invariant.idle.context)
+    subst (λ (context : Context). IsPlaceOf context.pools place) (sym c.loop-place.invariant.called.context)
     (c.requires.places place (Contains-get_or c.args.places.now c.loop-place.place-index nowhere c.loop-place-test.true))
 
 pub look_in-requires-clause-ready : goal.look_in-requires-clause-ready
@@ -91,10 +90,7 @@ look_in-requires-clause-ready g c =
     let was = c.loop-place.invariant in
     let looked = c.loop-place.self in
     let mid = g.H.Hall.state c.loop-place.hall in
-    record {
-      idle = subst (λ (who : ℕ). IsIdleIn who looked.party mid) (sym was.idle.again.same.me) was.idle.again.idle;
-      ready = subst (λ (who : ℕ). MayDo (moment who looked mid)) (sym was.idle.again.same.me) was.ready;
-    }
+    subst (λ (who : ℕ). IsReadyIn who looked mid) (sym was.called.again.same.me) was.called.again.ready
 
 pub loop-place-preserved : goal.loop-place-preserved
 loop-place-preserved g c =
@@ -113,10 +109,9 @@ loop-place-preserved g c =
       does = subst (λ (given : Option Answer). DoesHere (map heap_of (take (index + 1) c.args.places.now)) me doer after old new
           (looking c.args.tag found c.args.places.now)
           (unless_answered (looking c.args.tag found (drop (index + 1) c.args.places.now)) given)) c.in_default.is
-          (looked_here doer looked after old mid new c.args.tag found c.args.places.now index was.idle.again.same.me
+          (looked_here doer looked after old mid new c.args.tag found c.args.places.now index was.called.again.same.me
           ((g.met.H.Hall.goes_on_later _ _ was.goes_on).count) was.does c.loop-place-test.true c.in_ok-answer.field-0 one.does);
-      ready = subst (λ (who : ℕ). MayDo (moment who after new)) was.idle.again.same.me one.ready;
-      idle = again_then doer looked after was.idle c.look_in.ensures.idle;
+      called = again_then doer looked after was.called c.look_in.ensures.ready;
       goes_on = g.met.H.Hall.goes_on_then _ _ _ was.goes_on c.look_in.ensures.goes_on;
       clock = λ thread. omega (arith, was.clock thread, one.passed c.in_default.is thread);
     }
@@ -124,10 +119,10 @@ loop-place-preserved g c =
 pub returns-in_err-answer-clause-clock : goal.returns-in_err-answer-clause-clock
 returns-in_err-answer-clause-clock g c = λ one.
     let was = c.loop-place.invariant in
-    omega (arith, was.clock one, c.look_in.ensures.clock one, was.idle.again.same.deadline)
+    omega (arith, was.clock one, c.look_in.ensures.clock one, was.called.again.same.deadline)
 
-pub returns-in_err-answer-clause-idle : goal.returns-in_err-answer-clause-idle
-returns-in_err-answer-clause-idle g c = again_then c.args.self.now c.loop-place.self c.look_in.new.self c.loop-place.invariant.idle c.look_in.ensures.idle
+pub returns-in_err-answer-clause-ready : goal.returns-in_err-answer-clause-ready
+returns-in_err-answer-clause-ready g c = again_then c.args.self.now c.loop-place.self c.look_in.new.self c.loop-place.invariant.called c.look_in.ensures.ready
 
 pub returns-in_err-answer-clause-goes_on : goal.returns-in_err-answer-clause-goes_on
 returns-in_err-answer-clause-goes_on g c = g.met.H.Hall.goes_on_then _ _ _ c.loop-place.invariant.goes_on c.look_in.ensures.goes_on
@@ -152,12 +147,11 @@ returns-in-Some g c =
         does = subst (λ (given : Option Answer). DoesHere (map heap_of (take (index + 1) c.args.places.now)) me doer after old new
             (looking c.args.tag found c.args.places.now)
             (unless_answered (looking c.args.tag found (drop (index + 1) c.args.places.now)) given)) c.in-Some.is
-            (looked_here doer looked after old mid new c.args.tag found c.args.places.now index was.idle.again.same.me
+            (looked_here doer looked after old mid new c.args.tag found c.args.places.now index was.called.again.same.me
             ((g.met.H.Hall.goes_on_later _ _ was.goes_on).count) was.does c.loop-place-test.true c.in_ok-answer.field-0 one.does);
       };
-      ready = subst (λ (who : ℕ). MayDo (moment who after new)) was.idle.again.same.me one.ready;
-      clock = λ thread. omega (arith, was.clock thread, c.look_in.ensures.clock thread, was.idle.again.same.deadline);
-      idle = again_then doer looked after was.idle c.look_in.ensures.idle;
+      clock = λ thread. omega (arith, was.clock thread, c.look_in.ensures.clock thread, was.called.again.same.deadline);
+      ready = again_then doer looked after was.called c.look_in.ensures.ready;
       goes_on = g.met.H.Hall.goes_on_then _ _ _ was.goes_on c.look_in.ensures.goes_on;
     }
 

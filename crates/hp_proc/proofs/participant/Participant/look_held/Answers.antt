@@ -71,7 +71,7 @@ act_held-requires-clause-holds g c =
     let next = c.find_in.new.heap in
     let step = c.find_in.ensures.step in
     let counted = c.find_in.ensures.counted in
-    holds_on (keeps_called doer mid heap next step counted (find_pages _ c.args.tag _ heap next step) refl (found_whole c.find_in.result) c.requires.holds) c.requires.holds.can.may
+    holds_on (keeps_called doer mid heap next step counted (find_pages _ c.args.tag _ heap next step) refl (found_whole c.find_in.result) c.requires.holds) c.requires.holds
 
 pub act_held-requires-clause-its : goal.act_held-requires-clause-its
 act_held-requires-clause-its g c = c.requires.its ∙ sym (call_index _ _ _ _ _ c.find_in.ensures.step)

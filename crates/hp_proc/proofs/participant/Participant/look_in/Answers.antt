@@ -1,9 +1,9 @@
 -- The element is not in the heap, or it was acted on and the coordinator is told where it has to be.
 use Rattle.std.proofs.Common.{sym, ℕ, [], ◌∷◌, Option, subst, arith}
 use Rattle.hp_proc.specs.Freeing.{acting, behind_looking, looking}
-use Rattle.hp_proc.specs.Progress.{Does, MayDo}
+use Rattle.hp_proc.specs.Progress.{Does}
 use Rattle.hp_proc.specs.declared.element_act.Left.{Left}
-use Rattle.hp_proc.specs.LineInHall.{IsIdleIn, did_in, moment}
+use Rattle.hp_proc.specs.LineInHall.{IsReadyIn, did_in, moment}
 use Rattle.hp_proc.proofs.Holds.{again_then, does_next}
 use Rattle.hp_proc.proofs.participant.Participant.look_in.Goals as goal
 
@@ -21,22 +21,17 @@ returns-in_default-clause-does g c = λ places.
 
 pub tell-requires : goal.tell-requires
 tell-requires g c =
-    let me = c.look_there.ensures.idle.again.same.me in
+    let me = c.look_there.ensures.ready.again.same.me in
     let looked = c.look_there.new.self in
     let mid = g.H.Hall.state c.look_there.new.hall in
-    record {
-      ready = record {
-        idle = subst (λ (who : ℕ). IsIdleIn who looked.party mid) (sym me) c.look_there.ensures.idle.again.idle;
-        ready = subst (λ (who : ℕ). MayDo (moment who looked mid)) (sym me) c.in_ok-left.ensures.ready;
-      };
-    }
+    record { ready = subst (λ (who : ℕ). IsReadyIn who looked mid) (sym me) c.look_there.ensures.ready.again.ready }
 
 pub returns-in_err-answer-clause-clock : goal.returns-in_err-answer-clause-clock
 returns-in_err-answer-clause-clock g c = λ one.
-    omega (arith, c.look_there.ensures.clock one, c.tell.ensures.clock one, c.look_there.ensures.idle.again.same.deadline)
+    omega (arith, c.look_there.ensures.clock one, c.tell.ensures.clock one, c.look_there.ensures.ready.again.same.deadline)
 
-pub returns-in_err-answer-clause-idle : goal.returns-in_err-answer-clause-idle
-returns-in_err-answer-clause-idle g c = again_then c.args.self.now c.look_there.new.self c.tell.new.self c.look_there.ensures.idle c.tell.ensures.idle
+pub returns-in_err-answer-clause-ready : goal.returns-in_err-answer-clause-ready
+returns-in_err-answer-clause-ready g c = again_then c.args.self.now c.look_there.new.self c.tell.new.self c.look_there.ensures.ready c.tell.ensures.ready
 
 pub returns-in_err-answer-clause-goes_on : goal.returns-in_err-answer-clause-goes_on
 returns-in_err-answer-clause-goes_on g c = g.met.H.Hall.goes_on_then _ _ _ c.look_there.ensures.goes_on c.tell.ensures.goes_on
@@ -51,23 +46,18 @@ returns-clause-does g c = λ places.
     let looked = c.look_there.new.self in
     let place = c.args.place.now in
     let found = acting c.args.action in
-    does_next me (moment me doer old) (λ who. moment who looked mid) (λ who. moment who c.tell.new.self new) c.look_there.ensures.idle.again.same.me
+    does_next me (moment me doer old) (λ who. moment who looked mid) (λ who. moment who c.tell.new.self new) c.look_there.ensures.ready.again.same.me
     ((g.met.H.Hall.goes_on_later _ _ c.look_there.ensures.goes_on).count)
     (subst (λ (left : Option Left). Does (place.index ∷ []) old.count (did_in me old mid) (looking c.args.tag found (place ∷ places))
     (behind_looking place.index (looking c.args.tag found places) left) (moment me doer old) (moment me looked mid)) c.in-Some.is
     (c.in_ok-left.ensures.does places)) c.in_ok-answer.ensures.does
 
-pub returns-clause-ready : goal.returns-clause-ready
-returns-clause-ready g c =
-    subst (λ (who : ℕ). MayDo (moment who c.tell.new.self (g.H.Hall.state c.tell.new.hall))) c.look_there.ensures.idle.again.same.me
-    c.in_ok-answer.ensures.ready
-
 pub returns-clause-clock : goal.returns-clause-clock
 returns-clause-clock g c = λ one.
-    omega (arith, c.look_there.ensures.clock one, c.tell.ensures.clock one, c.look_there.ensures.idle.again.same.deadline)
+    omega (arith, c.look_there.ensures.clock one, c.tell.ensures.clock one, c.look_there.ensures.ready.again.same.deadline)
 
-pub returns-clause-idle : goal.returns-clause-idle
-returns-clause-idle g c = again_then c.args.self.now c.look_there.new.self c.tell.new.self c.look_there.ensures.idle c.tell.ensures.idle
+pub returns-clause-ready : goal.returns-clause-ready
+returns-clause-ready g c = again_then c.args.self.now c.look_there.new.self c.tell.new.self c.look_there.ensures.ready c.tell.ensures.ready
 
 pub returns-clause-goes_on : goal.returns-clause-goes_on
 returns-clause-goes_on g c = g.met.H.Hall.goes_on_then _ _ _ c.look_there.ensures.goes_on c.tell.ensures.goes_on

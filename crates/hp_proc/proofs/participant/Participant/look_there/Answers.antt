@@ -11,11 +11,10 @@ use Rattle.hp_proc.specs.Doing.{Doing}
 use Rattle.hp_proc.specs.Freeing.{acting, behind_looking, looking}
 use Rattle.hp_proc.specs.Heaps.{sockets_of}
 use Rattle.hp_proc.specs.ParticipantView.{ParticipantView}
-use Rattle.hp_proc.specs.Progress.{IsInHand, MayDo, moment_of}
+use Rattle.hp_proc.specs.Progress.{IsInHand, moment_of}
 use Rattle.hp_proc.specs.declared.searched_heap.SearchedHeap.{SearchedHeap}
-use Rattle.hp_hall.specs.HallState.{MayServe}
 use Rattle.hp_proc.specs.LineInHall.{HoldsIn, moment, moment_with}
-use Rattle.hp_proc.proofs.Holds.{again_put, but_kept, does_next, holds_on, idle_put, knew_same}
+use Rattle.hp_proc.proofs.Holds.{again_put, but_kept, does_next, holds_on, knew_same, ready_put}
 use Rattle.hp_proc.proofs.participant.Participant.look_there.Goals as goal
 
 -- a place that was taken is that of the heap in hand
@@ -42,8 +41,8 @@ look_held-left-requires-clause-of_socket g c =
 pub put-requires : goal.put-requires
 put-requires g c =
     let mid = g.H.Hall.state c.hold.new.hall in
-    let may = subst (λ (who : ℕ). MayServe who mid) (sym c.hold.ensures.same.me) c.in_ok-heap.ensures.holds.can.may in
-    let held = holds_on c.look_held-left.ensures.keeps may in
+    let holds = subst (λ (who : ℕ). HoldsIn who c.hold.new.self c.in_ok-heap.heap mid) (sym c.hold.ensures.same.me) c.in_ok-heap.ensures.holds in
+    let held = holds_on c.look_held-left.ensures.keeps holds in
     record { serves = held.can.may.serves; in_hand = held.in_hand; settled = held.settled }
 
 pub returns : goal.returns
@@ -64,11 +63,10 @@ returns g c =
     let there : after.party.me ≡ me = is.keeps.remains.same.me ∙ here in
     let put = c.put.ensures in
     let took = c.in_ok-heap.ensures in
-    let may = subst (λ (who : ℕ). MayServe who second) (sym here) took.holds.can.may in
-    let held = holds_on is.keeps may in
-    let idle =
-    idle_put after.party next held.can (but_kept (is.keeps.index ∙ took.index) c.hold.ensures.slots is.keeps.remains.slots) put.tied put.free put.slots
-    put.others in
+    let held = holds_on is.keeps (subst (λ (who : ℕ). HoldsIn who holds heap second) (sym here) took.holds) in
+    let ready =
+    ready_put after next held (but_kept (is.keeps.index ∙ took.index) c.hold.ensures.slots is.keeps.remains.slots) put.tied put.ready put.table
+    put.free put.slots put.others in
     record {
       does = λ places.
           let doing : Doing = looking c.args.tag (acting c.args.action) (c.args.place.now ∷ places) in
@@ -76,14 +74,13 @@ returns g c =
           does_next me (moment me doer first) (λ who. moment_with next who after third) (λ who. moment who after last) there (is.others.later.count ∙ count)
           (does_next me (moment me doer first) (λ who. moment_with heap who holds second) (λ who. moment_with next who after third) here count
           (took.did doing) (is.does places)) (put.does rest);
-      ready = subst (λ (who : ℕ). MayDo (moment who after last)) there put.ready;
       clock = λ one. omega (arith, c.hold.ensures.clock one, is.others.clock, put.others.clock);
-      idle = again_put c.hold.ensures.same c.hold.ensures.context is.keeps idle;
+      ready = again_put c.hold.ensures.same c.hold.ensures.context is.keeps ready;
       goes_on = g.met.H.Hall.goes_on_then _ _ _ c.hold.ensures.goes_on (g.met.H.Hall.goes_on_then _ _ _ is.goes_on put.goes_on);
     }
 
-pub returns-in_err-heap-clause-idle : goal.returns-in_err-heap-clause-idle
-returns-in_err-heap-clause-idle g c = record {
-  again = record { same = c.hold.ensures.same; idle = c.in_err-heap.ensures.err };
+pub returns-in_err-heap-clause-ready : goal.returns-in_err-heap-clause-ready
+returns-in_err-heap-clause-ready g c = record {
+  again = record { same = c.hold.ensures.same; ready = c.in_err-heap.ensures.err };
   context = knew_same c.args.self.now.context c.hold.new.self.context c.hold.ensures.context;
 }

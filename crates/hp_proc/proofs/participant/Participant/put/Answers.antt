@@ -48,6 +48,7 @@ returns g c =
     let given = subst (λ (who : ℕ). IsGivenAs who (Heap heap) (old.part who) (new.part who)) mine is.gave.part in
     let others = subst (λ (who : ℕ). OthersStay who old new) mine is.others in
     let own = subst (λ (who : ℕ). new.own who ≡ old.own who) mine is.gave.own in
+    let joined = subst (λ (who : ℕ). new.joined who ≡ old.joined who) mine is.gave.joined in
     let seen = others.later.seen me in
     let heard = others.later.heard me in
     let did =
@@ -62,9 +63,9 @@ returns g c =
           (same_party doer.party) refl refl seen.0 seen.1 heard.0 heard.1;
       ready = ready_given me heap (old.part me) (new.part me) given.0 given.1 old.taken doer (old.seen me) (new.seen me) (old.heard me)
           (new.heard me) heard.0 refl c.requires.in_hand heard.1 c.requires.settled;
-      tied = λ tied. tied_later me doer.party others.later own tied;
+      tied = λ tied. tied_later me doer.party others.later joined own tied;
       table = record {
-        joined = subst (λ (who : ℕ). new.joined who ≡ old.joined who) mine is.gave.joined;
+        joined = joined;
         seen = subst (λ (who : ℕ). new.seen who ≡ old.seen who) mine is.gave.sees;
         own = own;
       };

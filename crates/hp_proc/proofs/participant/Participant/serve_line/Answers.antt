@@ -2,82 +2,95 @@
 use Rattle.std.proofs.Common.{◌≡◌, ◌∙◌, ◌*◌, ℕ, List, length, map, refl, ap, sym, subst}
 use Rattle.std.specs.Option.{option_map}
 use Rattle.hp_base.specs.declared.limits.TheConstants.{MAX_HEAPS}
-use Rattle.hp_hall.specs.Holding.{HeapPart}
-use Rattle.hp_log.specs.declared.log_record.LogRecord.{LogRecord}
 use Rattle.hp_script.specs.declared.answer.Answer.{Answer}
 use Rattle.hp_script.specs.declared.answer.Answer.TheVariants as gives
-use Rattle.hp_segs.specs.declared.outcome.AskLog.{AskLog}
 use Rattle.hp_proc.specs.Allocating.{serving}
 use Rattle.hp_serve.specs.Clocks.{RisesWithin, longest_growth}
 use Rattle.hp_proc.specs.Contexts.{Context, named_heap}
 use Rattle.hp_proc.specs.Heaps.{NamedHeap, heaps_for, socket_heaps}
 use Rattle.hp_proc.specs.Lines.{tag_of}
-use Rattle.hp_serve.specs.Party.{Party}
+use Rattle.hp_serve.specs.Party.{IsSameParty, Party}
 use Rattle.hp_proc.specs.ParticipantView.{ParticipantView, after_answer}
-use Rattle.hp_proc.specs.Progress.{AreOnce, Brings, MayDo, moment_of}
+use Rattle.hp_proc.specs.Progress.{AreOnce, Brings}
 use Rattle.hp_proc.specs.declared.socket_heap.SocketHeap.{SocketHeap}
+use Rattle.hp_proc.proofs.AddressLies.{lies_in_table}
 use Rattle.hp_proc.proofs.AllocFacts.{line_answered}
 use Rattle.hp_proc.proofs.OnceHeld.{places_once}
 use Rattle.hp_proc.proofs.Rising.{few_places, rises_within}
 use Rattle.hp_hall.specs.HallState.{HallState, IsBusy}
-use Rattle.hp_proc.specs.LineInHall.{HasCalled, IsIdleAgain, IsMapped, did_in, moment}
+use Rattle.hp_proc.specs.LineInHall.{HasCalled, IsKnownMapped, IsMapped, IsReadyAgain, IsReadyIn, did_in, moment}
 use Rattle.hp_proc.proofs.Holds.{again_line}
 use Rattle.hp_proc.proofs.participant.Participant.serve_line.Goals as goal
 
--- what its line left changes nothing of what it may do
-ready_answered : (line heap : ℕ) (answer : Answer) (doer : ParticipantView) (parts : ℕ → HeapPart) (log : List LogRecord) (asks : List AskLog)
-    → MayDo (moment_of doer parts log asks) → MayDo (moment_of (after_answer line heap answer doer) parts log asks)
-ready_answered line heap (gives.Address address) doer parts log asks ready =
-    record { sockets = ready.sockets; unheld = ready.unheld; settled = ready.settled; counted = ready.counted }
-ready_answered line heap _ doer parts log asks ready = ready
+-- what its line left changes nothing of what it may do, nor of who it is, of its table and its slots
+ready_answered : (line heap : ℕ) (answer : Answer) (me : ℕ) (mid : ParticipantView) {a : HallState} → IsReadyIn me mid a
+    → IsReadyIn me (after_answer line heap answer mid) a
+ready_answered line heap (gives.Address address) me mid ready = record {
+  idle = ready.idle;
+  ready = record {
+    sockets = ready.ready.sockets;
+    unheld = ready.ready.unheld;
+    settled = ready.ready.settled;
+    counted = ready.ready.counted;
+  };
+  attached = ready.attached;
+}
+ready_answered line heap _ me mid ready = ready
 
--- nor of who it is and of its table and its slots
-again_answered : (line heap : ℕ) (answer : Answer) (me : ℕ) (party : Party) (mid : ParticipantView) {a : HallState}
-    → IsIdleAgain me party mid.party a → IsIdleAgain me party (after_answer line heap answer mid).party a
-again_answered line heap (gives.Address address) me party mid again = again
-again_answered line heap _ me party mid again = again
+same_answered : (line heap : ℕ) (answer : Answer) (party : Party) (mid : ParticipantView) → IsSameParty party mid.party
+    → IsSameParty party (after_answer line heap answer mid).party
+same_answered line heap (gives.Address address) party mid same = same
+same_answered line heap _ party mid same = same
 
--- it holds no slot behind the request
+mapped_answered : (line heap : ℕ) (answer given : Answer) (mid : ParticipantView) → IsMapped mid.party given
+    → IsMapped (after_answer line heap answer mid).party given
+mapped_answered line heap (gives.Address address) given mid mapped = mapped
+mapped_answered line heap _ given mid mapped = mapped
+
+-- it is ready again behind the request
 called_from : (doer start mid : ParticipantView) {a : HallState} → start ≡ doer → HasCalled start.party.me start mid a
     → HasCalled doer.party.me doer mid a
 called_from doer start mid {a} same called = subst (λ (doer : ParticipantView). HasCalled doer.party.me doer mid a) same called
 
-pub returns-in_err-reserve_element-clause-idle : goal.returns-in_err-reserve_element-clause-idle
-returns-in_err-reserve_element-clause-idle g c =
+pub returns-in_err-reserve_element-clause-ready : goal.returns-in_err-reserve_element-clause-ready
+returns-in_err-reserve_element-clause-ready g c =
     let doer = c.args.self.now in
-    subst (λ (after : ParticipantView). IsIdleAgain doer.party.me doer.party after.party (g.H.Hall.state c.args.hall.now))
-    (sym c.reserve_element.ensures) (again_line doer.party c.requires.ready.idle)
+    subst (λ (after : ParticipantView). IsReadyAgain doer.party.me doer after (g.H.Hall.state c.args.hall.now))
+    (sym c.reserve_element.ensures) (again_line doer c.requires.ready)
 
-pub returns-in_err-places-clause-idle : goal.returns-in_err-places-clause-idle
-returns-in_err-places-clause-idle g c =
+pub returns-in_err-places-clause-ready : goal.returns-in_err-places-clause-ready
+returns-in_err-places-clause-ready g c =
     let doer = c.args.self.now in
-    subst (λ (after : ParticipantView). IsIdleAgain doer.party.me doer.party after.party (g.H.Hall.state c.args.hall.now))
-    (sym c.reserve_element.ensures) (again_line doer.party c.requires.ready.idle)
+    subst (λ (after : ParticipantView). IsReadyAgain doer.party.me doer after (g.H.Hall.state c.args.hall.now))
+    (sym c.reserve_element.ensures) (again_line doer c.requires.ready)
 
-pub returns-in_err-answer-clause-idle : goal.returns-in_err-answer-clause-idle
-returns-in_err-answer-clause-idle g c =
+pub returns-in_err-answer-clause-ready : goal.returns-in_err-answer-clause-ready
+returns-in_err-answer-clause-ready g c =
     let doer = c.args.self.now in
     let mid = c.serve_request.new.self in
-    let called = called_from doer c.reserve_element.new.self mid c.reserve_element.ensures c.serve_request.ensures.idle in
+    let called = called_from doer c.reserve_element.new.self mid c.reserve_element.ensures c.serve_request.ensures.ready in
     called.again
 
-pub returns-in_err-note_answer-clause-idle : goal.returns-in_err-note_answer-clause-idle
-returns-in_err-note_answer-clause-idle g c =
+pub returns-in_err-note_answer-clause-ready : goal.returns-in_err-note_answer-clause-ready
+returns-in_err-note_answer-clause-ready g c =
     let doer = c.args.self.now in
     let mid = c.serve_request.new.self in
-    let called = called_from doer c.reserve_element.new.self mid c.reserve_element.ensures c.serve_request.ensures.idle in
-    subst (λ (after : ParticipantView). IsIdleAgain doer.party.me doer.party after.party (g.H.Hall.state c.serve_request.new.hall))
+    let called = called_from doer c.reserve_element.new.self mid c.reserve_element.ensures c.serve_request.ensures.ready in
+    subst (λ (after : ParticipantView). IsReadyAgain doer.party.me doer after (g.H.Hall.state c.serve_request.new.hall))
     (sym c.in_err-note_answer.ensures.err) called.again
 
-pub returns-clause-idle : goal.returns-clause-idle
-returns-clause-idle g c =
+pub returns-clause-ready : goal.returns-clause-ready
+returns-clause-ready g c =
     let doer = c.args.self.now in
     let mid = c.serve_request.new.self in
     let line = c.args.line.now.line in
-    let called = called_from doer c.reserve_element.new.self mid c.reserve_element.ensures c.serve_request.ensures.idle in
-    subst (λ (after : ParticipantView). IsIdleAgain doer.party.me doer.party after.party (g.H.Hall.state c.serve_request.new.hall))
+    let called = called_from doer c.reserve_element.new.self mid c.reserve_element.ensures c.serve_request.ensures.ready in
+    subst (λ (after : ParticipantView). IsReadyAgain doer.party.me doer after (g.H.Hall.state c.serve_request.new.hall))
     (sym c.in_ok-note_answer.ensures.noted)
-    (again_answered line c.in_ok-answer.heap c.in_ok-answer.answer doer.party.me doer.party mid called.again)
+    (record {
+      same = same_answered line c.in_ok-answer.heap c.in_ok-answer.answer doer.party mid called.again.same;
+      ready = ready_answered line c.in_ok-answer.heap c.in_ok-answer.answer doer.party.me mid called.again.ready;
+    })
 
 pub returns-clause-does : goal.returns-clause-does
 returns-clause-does g c =
@@ -110,7 +123,7 @@ returns-clause-does g c =
     (moment doer.party.me doer old) c.requires.attached
     old.count (did_in doer.party.me old new) request asks.accepted (λ accepted. (request, refl, asks.is)) heap answer
     mid (new.part doer.party.me) (new.seen doer.party.me) (new.heard doer.party.me) brings c.note_answer.new.self
-    (ap (λ (context : Context). context.standing) c.serve_request.ensures.idle.context ∙ ap (λ (who : ParticipantView). who.context.standing) same)
+    (ap (λ (context : Context). context.standing) c.serve_request.ensures.ready.context ∙ ap (λ (who : ParticipantView). who.context.standing) same)
     c.in_ok-note_answer.ensures.noted
 
 pub serve_request-requires-clause-apart : goal.serve_request-requires-clause-apart
@@ -121,24 +134,21 @@ serve_request-requires-clause-apart g c =
     (places_once start.context.pools start.party.socket (option_map (λ name. name.text) options.heap) options.socket
     c.in_ok-places.places.items c.in_ok-places.ensures.heaps)
 
+-- who is attached is in the roster, and so the row is one of its own table
 pub returns-clause-lies : goal.returns-clause-lies
 returns-clause-lies g c =
-    subst (λ (doer : ParticipantView). IsMapped doer.party.me (g.H.Hall.state c.serve_request.new.hall) c.in_ok-answer.answer)
-    c.reserve_element.ensures c.in_ok-answer.ensures.lies
-
-pub returns-clause-ready : goal.returns-clause-ready
-returns-clause-ready g c =
+    let doer = c.args.self.now in
     let mid = c.serve_request.new.self in
-    let new = g.H.Hall.state c.serve_request.new.hall in
-    let line = c.args.line.now in
-    let who = c.args.self.now.party.me in
-    let ready = subst
-    (λ (doer : ParticipantView). MayDo (moment doer.party.me mid new))
-    c.reserve_element.ensures c.in_ok-answer.ensures.ready in
-    subst (λ (after : ParticipantView). MayDo (moment who after new))
-    (sym c.in_ok-note_answer.ensures.noted)
-    (ready_answered line.line c.in_ok-answer.heap c.in_ok-answer.answer mid (new.part who) (new.seen who)
-    (new.heard who) ready)
+    let hall = g.H.Hall.state c.serve_request.new.hall in
+    let answer = c.in_ok-answer.answer in
+    let called = called_from doer c.reserve_element.new.self mid c.reserve_element.ensures c.serve_request.ensures.ready in
+    let ready = called.again.ready in
+    let known = subst (λ (doer : ParticipantView). IsKnownMapped doer.party.me hall answer) c.reserve_element.ensures c.in_ok-answer.ensures.lies in
+    let joined =
+    ready.attached ∙ (ap (λ (context : Context). context.standing.attached) called.context ∙ c.requires.attached) in
+    subst (λ (after : ParticipantView). IsMapped after.party answer) (sym c.in_ok-note_answer.ensures.noted)
+    (mapped_answered c.args.line.now.line c.in_ok-answer.heap answer answer mid
+    (lies_in_table doer.party.me mid.party hall answer ready.idle.tied joined known))
 
 -- BY HOW MUCH IT CARRIES THE CLOCK
 

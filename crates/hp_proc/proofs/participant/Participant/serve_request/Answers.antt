@@ -5,7 +5,7 @@ use Rattle.std.proofs.lemmas.List.Elements.{Contains-get_or}
 use Rattle.hp_proc.specs.Allocating.{serving, trying}
 use Rattle.hp_serve.specs.Clocks.{longest_growth}
 use Rattle.hp_proc.specs.Contexts.{Context, IsSocketHeapOf, named_heap}
-use Rattle.hp_proc.specs.Progress.{AreOnce, Brings, Does, MayDo, Moment, Tries}
+use Rattle.hp_proc.specs.Progress.{AreOnce, Brings, Does, Moment, Tries}
 use Rattle.hp_proc.specs.declared.socket_heap.SocketHeap.{SocketHeap}
 use Rattle.hp_proc.proofs.AllocFacts.{socket_few}
 use Rattle.hp_proc.proofs.HallMoments.{told_alike}
@@ -23,7 +23,7 @@ use Rattle.std.proofs.lemmas.Bool.{eqb-true, false≢true}
 use Rattle.hp_proc.specs.Doing.{Doing}
 use Rattle.hp_hall.specs.HallState.{IsBusy}
 use Rattle.hp_hall.proofs.HallStates.{did_same, did_then}
-use Rattle.hp_proc.specs.LineInHall.{IsIdleIn, IsMapped, did_in, moment}
+use Rattle.hp_proc.specs.LineInHall.{IsKnownMapped, IsReadyIn, did_in, moment}
 use Rattle.hp_proc.proofs.Holds.{again_same, again_then}
 use Rattle.hp_proc.proofs.participant.Participant.serve_request.Goals as goal
 
@@ -31,8 +31,7 @@ pub loop-place-init : goal.loop-place-init
 loop-place-init g c = record {
   passed = does_same _ _ _ _ (did_same _ _);
   few = omega arith;
-  ready = c.requires.ready.ready;
-  idle = again_same c.args.self.now c.requires.ready.idle;
+  called = again_same c.args.self.now c.requires.ready;
   goes_on = g.met.H.Hall.goes_on_same _;
   along = omega arith;
   clock = λ one. omega arith;
@@ -43,10 +42,7 @@ try_heap-requires-clause-ready g c =
     let was = c.loop-place.invariant in
     let doer = c.loop-place.self in
     let mid = g.H.Hall.state c.loop-place.hall in
-    record {
-      idle = subst (λ (who : ℕ). IsIdleIn who doer.party mid) (sym was.idle.again.same.me) was.idle.again.idle;
-      ready = subst (λ (who : ℕ). MayDo (moment who doer mid)) (sym was.idle.again.same.me) was.ready;
-    }
+    subst (λ (who : ℕ). IsReadyIn who doer mid) (sym was.called.again.same.me) was.called.again.ready
 
 abbrev none_at : SocketHeap
 none_at = record { index = 0; socket = 0 }
@@ -87,7 +83,7 @@ brings_none heap count did doing answer old new held other once does =
 pub try_heap-requires-clause-place : goal.try_heap-requires-clause-place
 try_heap-requires-clause-place g c =
     let item = get_or c.args.places.now c.loop-place.place-index none_at in
-    subst (λ (context : Context). IsSocketHeapOf context.pools item) (sym c.loop-place.invariant.idle.context)
+    subst (λ (context : Context). IsSocketHeapOf context.pools item) (sym c.loop-place.invariant.called.context)
     (c.requires.places item (Contains-get_or c.args.places.now c.loop-place.place-index none_at c.loop-place-test.true))
 
 pub loop-place-preserved : goal.loop-place-preserved
@@ -117,11 +113,11 @@ loop-place-preserved g c =
     subst (λ (context : Context). Tries item.index (item.index ∷ []) first.count (did_in me second third)
     (trying context.pools request tag (map named_heap (item ∷ drop (i + 1) places)))
     (trying context.pools request tag (map named_heap (drop (i + 1) places))) None
-    (moment me c.loop-place.self second) (moment me c.try_heap.new.self third)) was.idle.context
+    (moment me c.loop-place.self second) (moment me c.try_heap.new.self third)) was.called.context
     (told_alike (λ count did old new. Tries item.index (item.index ∷ []) count did
     (trying c.loop-place.self.context.pools request tag (map named_heap (item ∷ drop (i + 1) places)))
     (trying c.loop-place.self.context.pools request tag (map named_heap (drop (i + 1) places))) None old new) second.count first.count second third c.loop-place.self.party.me me (λ moment. moment) (λ moment. moment) c.loop-place.self
-    c.try_heap.new.self was.idle.again.same.me ((g.met.H.Hall.goes_on_later _ _ was.goes_on).count)
+    c.try_heap.new.self was.called.again.same.me ((g.met.H.Hall.goes_on_later _ _ was.goes_on).count)
     (subst (λ (given : Option Answer). Tries item.index (item.index ∷ []) second.count (did_in c.loop-place.self.party.me second third)
     (trying c.loop-place.self.context.pools request tag (map named_heap (item ∷ drop (i + 1) places)))
     (trying c.loop-place.self.context.pools request tag (map named_heap (drop (i + 1) places))) given
@@ -138,13 +134,12 @@ loop-place-preserved g c =
       few = socket_few c.args.self.now.context.pools (get_or c.args.places.now c.loop-place.place-index none_at)
           (c.requires.places (get_or c.args.places.now c.loop-place.place-index none_at)
           (Contains-get_or c.args.places.now c.loop-place.place-index none_at c.loop-place-test.true));
-      ready = subst (λ (who : ℕ). MayDo (moment who doer third)) was.idle.again.same.me c.in_ok-answer.ensures.ready;
-      idle = again_then c.args.self.now c.loop-place.self doer was.idle one.idle;
+      called = again_then c.args.self.now c.loop-place.self doer was.called one.ready;
       goes_on = g.met.H.Hall.goes_on_then _ _ _ was.goes_on one.goes_on;
       along = omega (arith, c.loop-place-test.true);
       clock = rises_more g.H.Hall.pending (λ hall. IsBusy (g.H.Hall.state hall)) i (longest_growth c.args.self.now.party.deadline)
           (longest_growth c.loop-place.self.party.deadline) first.clock second.clock third.clock
-          (ap longest_growth was.idle.again.same.deadline) was.clock one.clock;
+          (ap longest_growth was.called.again.same.deadline) was.clock one.clock;
     }
 
 pub returns-in-Some-clause-does : goal.returns-in-Some-clause-does
@@ -174,11 +169,11 @@ returns-in-Some-clause-does g c =
     subst (λ (context : Context). Tries item.index (item.index ∷ []) first.count (did_in me second third)
     (trying context.pools request tag (map named_heap (item ∷ drop (i + 1) places)))
     (trying context.pools request tag (map named_heap (drop (i + 1) places))) (Some c.in-Some.answer)
-    (moment me c.loop-place.self second) (moment me c.try_heap.new.self third)) was.idle.context
+    (moment me c.loop-place.self second) (moment me c.try_heap.new.self third)) was.called.context
     (told_alike (λ count did old new. Tries item.index (item.index ∷ []) count did
     (trying c.loop-place.self.context.pools request tag (map named_heap (item ∷ drop (i + 1) places)))
     (trying c.loop-place.self.context.pools request tag (map named_heap (drop (i + 1) places))) (Some c.in-Some.answer) old new) second.count first.count second third c.loop-place.self.party.me me (λ moment. moment) (λ moment. moment) c.loop-place.self
-    c.try_heap.new.self was.idle.again.same.me ((g.met.H.Hall.goes_on_later _ _ was.goes_on).count)
+    c.try_heap.new.self was.called.again.same.me ((g.met.H.Hall.goes_on_later _ _ was.goes_on).count)
     (subst (λ (given : Option Answer). Tries item.index (item.index ∷ []) second.count (did_in c.loop-place.self.party.me second third)
     (trying c.loop-place.self.context.pools request tag (map named_heap (item ∷ drop (i + 1) places)))
     (trying c.loop-place.self.context.pools request tag (map named_heap (drop (i + 1) places))) given
@@ -193,18 +188,13 @@ returns-in-Some-clause-does g c =
 
 pub returns-in-Some-clause-lies : goal.returns-in-Some-clause-lies
 returns-in-Some-clause-lies g c =
-    subst (λ (who : ℕ). IsMapped who (g.H.Hall.state c.try_heap.new.hall) c.in-Some.answer) c.loop-place.invariant.idle.again.same.me
+    subst (λ (who : ℕ). IsKnownMapped who (g.H.Hall.state c.try_heap.new.hall) c.in-Some.answer) c.loop-place.invariant.called.again.same.me
     (c.in_ok-answer.ensures.lies c.in-Some.answer c.in-Some.is)
 
 pub returns-in-Some-clause-few : goal.returns-in-Some-clause-few
 returns-in-Some-clause-few g c = socket_few c.args.self.now.context.pools (get_or c.args.places.now c.loop-place.place-index none_at)
     (c.requires.places (get_or c.args.places.now c.loop-place.place-index none_at)
     (Contains-get_or c.args.places.now c.loop-place.place-index none_at c.loop-place-test.true))
-
-pub returns-in-Some-clause-ready : goal.returns-in-Some-clause-ready
-returns-in-Some-clause-ready g c =
-    subst (λ (who : ℕ). MayDo (moment who c.try_heap.new.self (g.H.Hall.state c.try_heap.new.hall))) c.loop-place.invariant.idle.again.same.me
-    c.in_ok-answer.ensures.ready
 
 pub returns-clause-does : goal.returns-clause-does
 returns-clause-does g c =
@@ -243,16 +233,16 @@ returns-then-is_empty-clause-does g c =
     (served_none pools c.args.request.now c.args.tag c.args.places.now c.if-is_empty.ensures)
     (does_same first.count (did_in me first first) (Doing.Ended gives.NoHeap) at (did_same me first)))
 
--- IT HOLDS NO SLOT AGAIN
+-- IT IS READY AGAIN
 
-pub returns-then-is_empty-clause-idle : goal.returns-then-is_empty-clause-idle
-returns-then-is_empty-clause-idle g c = again_same c.args.self.now c.requires.ready.idle
+pub returns-then-is_empty-clause-ready : goal.returns-then-is_empty-clause-ready
+returns-then-is_empty-clause-ready g c = again_same c.args.self.now c.requires.ready
 
-pub returns-in_err-answer-clause-idle : goal.returns-in_err-answer-clause-idle
-returns-in_err-answer-clause-idle g c = again_then c.args.self.now c.loop-place.self c.try_heap.new.self c.loop-place.invariant.idle c.try_heap.ensures.idle
+pub returns-in_err-answer-clause-ready : goal.returns-in_err-answer-clause-ready
+returns-in_err-answer-clause-ready g c = again_then c.args.self.now c.loop-place.self c.try_heap.new.self c.loop-place.invariant.called c.try_heap.ensures.ready
 
-pub returns-in-Some-clause-idle : goal.returns-in-Some-clause-idle
-returns-in-Some-clause-idle g c = again_then c.args.self.now c.loop-place.self c.try_heap.new.self c.loop-place.invariant.idle c.try_heap.ensures.idle
+pub returns-in-Some-clause-ready : goal.returns-in-Some-clause-ready
+returns-in-Some-clause-ready g c = again_then c.args.self.now c.loop-place.self c.try_heap.new.self c.loop-place.invariant.called c.try_heap.ensures.ready
 
 -- BY HOW MUCH IT CARRIES THE CLOCK
 
@@ -266,7 +256,7 @@ returns-in_err-answer-clause-clock g c =
     rises_within g.H.Hall.pending (λ hall. IsBusy (g.H.Hall.state hall)) (index + 1) (length c.args.places.now) (longest_growth doer.party.deadline) old new
     (omega (arith, c.loop-place-test.true))
     (rises_more g.H.Hall.pending (λ hall. IsBusy (g.H.Hall.state hall)) index (longest_growth doer.party.deadline) (longest_growth c.loop-place.self.party.deadline) old
-    (g.H.Hall.state c.loop-place.hall).clock new (ap longest_growth was.idle.again.same.deadline) was.clock c.try_heap.ensures.clock)
+    (g.H.Hall.state c.loop-place.hall).clock new (ap longest_growth was.called.again.same.deadline) was.clock c.try_heap.ensures.clock)
 
 pub returns-in-Some-clause-clock : goal.returns-in-Some-clause-clock
 returns-in-Some-clause-clock g c =
@@ -278,7 +268,7 @@ returns-in-Some-clause-clock g c =
     rises_within g.H.Hall.pending (λ hall. IsBusy (g.H.Hall.state hall)) (index + 1) (length c.args.places.now) (longest_growth doer.party.deadline) old new
     (omega (arith, c.loop-place-test.true))
     (rises_more g.H.Hall.pending (λ hall. IsBusy (g.H.Hall.state hall)) index (longest_growth doer.party.deadline) (longest_growth c.loop-place.self.party.deadline) old
-    (g.H.Hall.state c.loop-place.hall).clock new (ap longest_growth was.idle.again.same.deadline) was.clock c.try_heap.ensures.clock)
+    (g.H.Hall.state c.loop-place.hall).clock new (ap longest_growth was.called.again.same.deadline) was.clock c.try_heap.ensures.clock)
 
 pub returns-clause-clock : goal.returns-clause-clock
 returns-clause-clock g c =

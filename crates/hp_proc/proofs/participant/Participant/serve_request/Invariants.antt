@@ -4,8 +4,7 @@ use Rattle.hp_hall.specs.HallState.{IsBusy}
 use Rattle.hp_proc.specs.Allocating.{trying}
 use Rattle.hp_serve.specs.Clocks.{RisesWithin, longest_growth}
 use Rattle.hp_proc.specs.Contexts.{named_heap}
-use Rattle.hp_proc.specs.LineInHall.{DoesHere, HasCalled, moment}
-use Rattle.hp_proc.specs.Progress.{MayDo}
+use Rattle.hp_proc.specs.LineInHall.{DoesHere, HasCalled}
 use Rattle.hp_proc.proofs.participant.Participant.serve_request.Given as goal
 
 -- the heaps so far were passed
@@ -15,8 +14,7 @@ invariant-loop-place g l = record {
       (trying l.fn.self.context.pools l.fn.request l.fn.tag (map named_heap l.fn.places))
       (trying l.fn.self.context.pools l.fn.request l.fn.tag (map named_heap (drop l.place-index l.fn.places)));
   few : l.last < MAX_HEAPS;
-  ready : MayDo (moment l.fn.self.party.me l.self (g.H.Hall.state l.hall));
-  idle : HasCalled l.fn.self.party.me l.fn.self l.self (g.H.Hall.state l.hall);
+  called : HasCalled l.fn.self.party.me l.fn.self l.self (g.H.Hall.state l.hall);
   goes_on : g.H.Hall.goes_on l.fn.hall l.hall;
   along : l.place-index ≤ length l.fn.places;
   clock : RisesWithin g.H.Hall.pending (λ hall. IsBusy (g.H.Hall.state hall)) (l.place-index * longest_growth l.fn.self.party.deadline)

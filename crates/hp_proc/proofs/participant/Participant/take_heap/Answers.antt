@@ -8,12 +8,14 @@ use Rattle.hp_hall.specs.declared.kept.Kept.{Kept}
 use Rattle.hp_hall.specs.declared.kept.Kept.TheVariants.{Heap}
 use Rattle.hp_hall.proofs.HallStates.{did_same, did_then, later_then}
 use Rattle.hp_proc.specs.Acting.{Acts}
+use Rattle.hp_proc.specs.Contexts.{Context}
 use Rattle.hp_proc.specs.LineInHall.{moment}
 use Rattle.hp_proc.specs.Progress.{Does, in_hand, with_hand}
 use Rattle.hp_serve.proofs.AskedAlong.{on_err_any}
 use Rattle.hp_serve.proofs.Carrying.{same_party}
 use Rattle.hp_proc.proofs.HandCalls.{hand_serves}
 use Rattle.hp_proc.proofs.HandGiven.{ready_still, settled_taken, take_shows, taken_in_hand, took_armed, took_hand, took_serves, waits_more}
+use Rattle.hp_proc.proofs.Holds.{again_by}
 use Rattle.hp_proc.proofs.LinesInHall.{free_but, idle_can, idle_in, idle_may, may_but}
 use Rattle.hp_serve.proofs.InHalls.{in_can, in_did, in_may, in_others, in_same, in_then, in_tied, tied_later}
 use Rattle.hp_proc.proofs.Joining.{does_still}
@@ -65,6 +67,7 @@ returns-in-Ok g c =
     let before = was.stays.waits.later.heard me in
     let last = is.others.later.heard me in
     let idle = idle_in was.stays c.requires.ready.idle in
+    let joined = subst (λ (who : ℕ). new.joined who ≡ mid.joined who) mine took.joined in
     let step =
     subst (λ (kept : Kept). Did me (Takes heap.plain.index kept ∷ []) mid new) c.into_heap.ensures
     (subst (λ (index : ℕ). Did me (Takes index kept ∷ []) mid new) (sym shown.index)
@@ -95,13 +98,17 @@ returns-in-Ok g c =
       holds = record {
         can = record {
           may = may_but (omega (arith, c.requires.few)) is.others.later is.slots idle;
-          tied = tied_later me c.taking.self.party is.others.later (subst (λ (who : ℕ). new.own who ≡ mid.own who) mine took.own) was.stays.tied;
+          tied = tied_later me c.taking.self.party is.others.later joined (subst (λ (who : ℕ). new.own who ≡ mid.own who) mine took.own)
+              was.stays.tied;
         };
         in_hand = taken_in_hand heap (mid.part me) (new.part me) shown.here shown.apart new.taken doer c.taking.self (mid.seen me) (new.seen me)
             (mid.heard me) (new.heard me) was.stays.same was.context ready out shown.few shown.has shown.stands shown.sound;
         settled = settled_taken (mid.part me) (new.part me) (mid.heard me) (new.heard me) last.0 last.1
             (took_armed heap (mid.part me) (new.part me) shown.here shown.apart) ready.settled heap.plain.index shown.claimed
             (λ other away. ap (λ (part : HeapPart). part.holding) (shown.apart other away) ∙ ready.unheld other);
+        attached = joined
+            ∙ (was.stays.waits.parts.joined
+            ∙ (c.requires.ready.attached ∙ sym (ap (λ (context : Context). context.standing.attached) was.context)));
         mapped = subst (λ (who : ℕ). HasMapped who new) mine took.mapped;
       };
       index = shown.index;
@@ -174,13 +181,14 @@ returns-in_err-turn-in-Err g c =
     let here = c.number.ensures in
     let all =
     in_then (in_then was.stays (in_others c.taking.self.party here tried.held.slots tried.held.mine tried.others.later (in_tied was.stays))) is.stays in
-    let idle = idle_in all c.requires.ready.idle in
+    let ready = (again_by c.args.self.now c.turn.new.self all (is.context ∙ was.context) c.requires.ready).again.ready in
+    let idle = ready.idle in
     record {
       did = search rules;
       holds = search rules;
       index = search rules;
       slots = record { taken = λ number apart. idle.free number; home = λ number few apart. idle.home number few };
-      err = on_err_any c.from_residual.result _ idle;
+      err = on_err_any c.from_residual.result _ ready;
       same = all.same;
       context = is.context ∙ was.context;
       clock = λ one. absurd (one.free c.try_take.new.self (c.args.index, _, tried.held.found));

@@ -14,7 +14,6 @@ use Rattle.hp_serve.specs.Party.{IsSameParty}
 use Rattle.hp_proc.specs.ParticipantView.{ParticipantView}
 use Rattle.hp_proc.specs.declared.element_act.Left.{Left}
 use Rattle.hp_proc.specs.Progress.{Does, moment_of}
-use Rattle.hp_proc.proofs.HandGiven.{ready_still}
 use Rattle.hp_proc.proofs.Joining.{context_still, does_same, goes_as}
 use Rattle.hp_hall.proofs.HallStates.{did_same}
 use Rattle.hp_proc.specs.LineInHall.{did_in, moment}
@@ -59,17 +58,17 @@ returns-in-Answered g c =
     record {
       does = subst (λ (left : Left). Does [] hall.count (did_in me hall hall) (left_of c.args.heap left) (Doing.Ended c.in-Answered.answer) at at)
           (sym c.in-Answered.is) (does_same hall.count (did_in me hall hall) (Doing.Ended c.in-Answered.answer) at (did_same me hall));
-      ready = c.requires.ready.ready;
       clock = λ one. omega arith;
-      idle = again_same doer c.requires.ready.idle;
+      ready = again_same doer c.requires.ready;
       goes_on = g.met.H.Hall.goes_on_same _;
     }
 
 pub notify-requires : goal.notify-requires
 notify-requires g c = record { can = idle_can c.requires.ready.idle }
 
-pub returns-in_err-notify-in-GaveUp-clause-idle : goal.returns-in_err-notify-in-GaveUp-clause-idle
-returns-in_err-notify-in-GaveUp-clause-idle g c = again_by c.args.self.now c.notify.new.self c.notify.ensures.stays c.notify.ensures.context c.requires.ready.idle
+pub returns-in_err-notify-in-GaveUp-clause-ready : goal.returns-in_err-notify-in-GaveUp-clause-ready
+returns-in_err-notify-in-GaveUp-clause-ready g c =
+    again_by c.args.self.now c.notify.new.self c.notify.ensures.stays c.notify.ensures.context c.requires.ready
 
 pub returns-in_ok-notify-in-GaveUp : goal.returns-in_ok-notify-in-GaveUp
 returns-in_ok-notify-in-GaveUp g c =
@@ -87,9 +86,7 @@ returns-in_ok-notify-in-GaveUp g c =
           (moment me after new)) (sym c.in-GaveUp.is)
           (does_tell old.count doer after c.args.heap c.in-GaveUp.run' (old.part me) (new.part me) (old.seen me) (new.seen me) more.0 (old.heard me)
           (new.heard me) others.0 stays.waits.parts.part stays.same c.notify.ensures.context more.1 others.1 (did_in me old new) told.did.0 told.did.1 told.did.2 told.asked);
-      ready = ready_still doer after (old.part me) (new.part me) (old.seen me) (new.seen me) (old.heard me) (new.heard me) others.0 stays.same c.notify.ensures.context
-          stays.waits.parts.part others.1 c.requires.ready.ready;
       clock = c.notify.ensures.clock;
-      idle = again_by doer after stays c.notify.ensures.context c.requires.ready.idle;
+      ready = again_by doer after stays c.notify.ensures.context c.requires.ready;
       goes_on = c.notify.ensures.goes_on;
     }

@@ -8,15 +8,14 @@ use Rattle.hp_hall.proofs.HallStates.{did_then}
 use Rattle.hp_proc.specs.Allocating.{trying, unless_answered}
 use Rattle.hp_proc.specs.Contexts.{Context, named_heap}
 use Rattle.hp_proc.specs.Heaps.{sockets_of}
-use Rattle.hp_proc.specs.LineInHall.{HoldsIn, IsMapped, TableStays, did_in, moment, moment_with}
-use Rattle.hp_proc.specs.Progress.{AreSettled, Does, IsInHand, MayDo, Tries, in_hand}
+use Rattle.hp_proc.specs.LineInHall.{HoldsIn, IsKnownMapped, TableStays, did_in, moment, moment_with}
+use Rattle.hp_proc.specs.Progress.{AreSettled, Does, IsInHand, Tries, in_hand}
 use Rattle.hp_proc.proofs.AllocFacts.{socket_few}
 use Rattle.hp_serve.proofs.AskedAlong.{if_ok}
-use Rattle.hp_serve.proofs.Carrying.{on_ok}
 use Rattle.hp_proc.proofs.AddressLies.{lies_still}
 use Rattle.hp_proc.proofs.HallMoments.{told_alike}
 use Rattle.hp_proc.proofs.HandTried.{tries_passed, tries_then}
-use Rattle.hp_proc.proofs.Holds.{again_put, but_kept, can_on, idle_put, knew_same}
+use Rattle.hp_proc.proofs.Holds.{again_put, but_kept, can_on, holds_on, knew_same, ready_put}
 use Rattle.hp_proc.proofs.participant.Participant.try_heap.Goals as goal
 
 pub hold-requires-clause-few : goal.hold-requires-clause-few
@@ -24,9 +23,9 @@ hold-requires-clause-few g c = socket_few c.args.self.now.context.pools c.args.p
 
 -- WITHOUT MEMORY FOR ITS CALLS
 
-pub returns-in_err-heap-clause-idle : goal.returns-in_err-heap-clause-idle
-returns-in_err-heap-clause-idle g c = record {
-  again = record { same = c.hold.ensures.same; idle = c.in_err-heap.ensures.err };
+pub returns-in_err-heap-clause-ready : goal.returns-in_err-heap-clause-ready
+returns-in_err-heap-clause-ready g c = record {
+  again = record { same = c.hold.ensures.same; ready = c.in_err-heap.ensures.err };
   context = knew_same c.args.self.now.context c.hold.new.self.context c.hold.ensures.context;
 }
 
@@ -109,14 +108,6 @@ returns-clause-does g c =
     _ _ _ (λ one two. did_then) otherwise given place.index (c.in_ok-heap.ensures.did doing) tries)
     back refl) c.allocate_held-given.ensures.does
 
-pub returns-clause-ready : goal.returns-clause-ready
-returns-clause-ready g c =
-    let new = c.allocate_held-given.new.self in
-    let last = g.H.Hall.state c.put.new.hall in
-    let mine = c.allocate_held-given.ensures.keeps.remains.same.me in
-    on_ok c.allocate_held-given.result (MayDo (moment c.args.self.now.party.me new last))
-    (subst (λ (who : ℕ). MayDo (moment who new last)) (mine ∙ c.hold.ensures.same.me) c.put.ensures.ready)
-
 pub returns-clause-lies : goal.returns-clause-lies
 returns-clause-lies g c =
     let me = c.args.self.now.party.me in
@@ -126,26 +117,26 @@ returns-clause-lies g c =
     let mid = c.hold.new.self.party.me in
     let mine : mid ≡ me = c.hold.ensures.same.me in
     let here : new.party.me ≡ me = c.allocate_held-given.ensures.keeps.remains.same.me ∙ mine in
-    if_ok _ (λ given. (answer : Answer) → given ≡ Some answer → IsMapped me last answer) c.allocate_held-given.result
+    if_ok _ (λ given. (answer : Answer) → given ≡ Some answer → IsKnownMapped me last answer) c.allocate_held-given.result
     (λ given lies answer is.
     lies_still me third last answer (subst (λ (who : ℕ). TableStays who third last) here c.put.ensures.table)
-    (subst (λ (who : ℕ). IsMapped who third answer) mine (lies answer is)))
+    (subst (λ (who : ℕ). IsKnownMapped who third answer) mine (lies answer is)))
     c.allocate_held-given.ensures.lies
 
 pub returns-clause-clock : goal.returns-clause-clock
 returns-clause-clock g c = λ one.
     omega (arith, c.hold.ensures.clock one, c.allocate_held-given.ensures.clock one, c.put.ensures.others.clock, c.hold.ensures.same.deadline)
 
-pub returns-clause-idle : goal.returns-clause-idle
-returns-clause-idle g c =
+pub returns-clause-ready : goal.returns-clause-ready
+returns-clause-ready g c =
     let second = g.H.Hall.state c.hold.new.hall in
     let keeps = c.allocate_held-given.ensures.keeps in
     let put = c.put.ensures in
     let took = c.in_ok-heap.ensures in
-    let may = subst (λ (who : ℕ). MayServe who second) (sym c.hold.ensures.same.me) took.holds.can.may in
+    let holds = subst (λ (who : ℕ). HoldsIn who c.hold.new.self c.in_ok-heap.heap second) (sym c.hold.ensures.same.me) took.holds in
     again_put c.hold.ensures.same c.hold.ensures.context keeps
-    (idle_put c.allocate_held-given.new.self.party c.allocate_held-given.new.heap (can_on keeps may)
-    (but_kept (keeps.index ∙ took.index) c.hold.ensures.slots keeps.remains.slots) put.tied put.free put.slots put.others)
+    (ready_put c.allocate_held-given.new.self c.allocate_held-given.new.heap (holds_on keeps holds)
+    (but_kept (keeps.index ∙ took.index) c.hold.ensures.slots keeps.remains.slots) put.tied put.ready put.table put.free put.slots put.others)
 
 pub returns-clause-goes_on : goal.returns-clause-goes_on
 returns-clause-goes_on g c =

@@ -5,7 +5,7 @@ use Rattle.hp_hall.specs.Holding.{HeapPart}
 use Rattle.hp_segs.specs.LaterSteps.{after_arm}
 use Rattle.hp_segs.specs.declared.ask.Ask.{Ask}
 use Rattle.hp_serve.specs.Asking.{GrowsHeld, HasSettledAsks, IsAwaiting, IsHeldAsBefore, Settles, ask_of, next_number}
-use Rattle.hp_serve.specs.AskSteps.{IsAwaitedBy, waits_until}
+use Rattle.hp_serve.specs.AskSteps.{IsAwaitedOn, waits_until}
 use Rattle.hp_serve.specs.Serving.{gives_segments, takes_segments}
 use Rattle.hp_serve.proofs.AskDone.{does_ask}
 use Rattle.hp_serve.proofs.AskedAlong.{awaits_along, grows_from, held_same, held_then, is_asked, settled_by}
@@ -38,7 +38,7 @@ send-since-requires-clause-tied g c =
     let mine = ap (λ (party : Party). party.me) c.self.view_is in
     let armed_so : StaysButParts c.args.self.now.me (g.H.Hall.state c.args.hall.now) (g.H.Hall.state c.arm.new.hall) =
     subst (λ (who : ℕ). StaysButParts who (g.H.Hall.state c.args.hall.now) (g.H.Hall.state c.arm.new.hall)) mine c.arm.ensures.stays in
-    tied_later c.args.self.now.me c.args.self.now armed_so.others.later armed_so.own c.requires.can.tied
+    tied_later c.args.self.now.me c.args.self.now armed_so.others.later armed_so.joined armed_so.own c.requires.can.tied
 
 pub await_answer-answered-requires-clause-can : goal.await_answer-answered-requires-clause-can
 await_answer-answered-requires-clause-can g c =
@@ -170,8 +170,10 @@ returns-clause-asks g c =
     let new = g.H.Hall.state c.await_answer-answered.new.hall in
     let after = c.await_answer-answered.new.self in
     let run = c.await_answer-answered.result.run in
+    let stopped = c.await_answer-answered.result.stopped in
     let sent = c.send-since.ensures.did in
     let armed = c.in_ok-ask.ensures.did in
+    let awaited = c.await_answer-answered.ensures.did in
     let who = ap (λ (party : Party). party.me) c.send-since.ensures.sent in
     let mine = ap (λ (party : Party). party.me) c.self.view_is in
     let its_number = c.await_answer-answered.ensures.asked ∙ ap (λ (party : Party). party.asked) c.send-since.ensures.sent in
@@ -191,21 +193,19 @@ returns-clause-asks g c =
     let settles =
     subst (λ who. Settles (new.seen who) (new.heard who) ask (mid.part who) (new.part who) run) who c.await_answer-answered.ensures.settles in
     record {
-      did = λ unstopped.
-          let awaited = c.await_answer-answered.ensures.did unstopped in (
-            _,
-            did_then
-                (did_then
-                (subst (λ who. Did who (takes_segments armed.0 ∷ gives_segments (after_arm ask armed.0) ∷ []) old (g.H.Hall.state c.arm.new.hall)) mine
-                armed.2)
-                sent.5)
-                (subst (λ who. Did who awaited.0 mid new) who awaited.1),
-            does_ask old.count party c.send-since.new.self after asked ask c.send-since.result sent.0 armed.0 sent.1 sent.2 awaited.0
-                run ask_is
-                (subst (λ (party : Party). ask.number ≡ next_number party.asked armed.0.asks party.me) c.self.view_is armed.1)
-                sent.3 its_number c.send-since.ensures.sent sent.4
-                (subst (λ count. IsAwaitedBy count c.send-since.new.self after ask c.send-since.result awaited.0 run) count awaited.2),
-          );
+      did = (
+        _,
+        did_then
+            (did_then
+            (subst (λ who. Did who (takes_segments armed.0 ∷ gives_segments (after_arm ask armed.0) ∷ []) old (g.H.Hall.state c.arm.new.hall)) mine
+            armed.2)
+            sent.5)
+            (subst (λ who. Did who awaited.0 mid new) who awaited.1),
+        does_ask old.count party c.send-since.new.self after asked ask c.send-since.result sent.0 armed.0 sent.1 sent.2 awaited.0 run stopped
+            ask_is (subst (λ (party : Party). ask.number ≡ next_number party.asked armed.0.asks party.me) c.self.view_is armed.1)
+            sent.3 its_number c.send-since.ensures.sent sent.4
+            (subst (λ count. IsAwaitedOn count c.send-since.new.self after ask c.send-since.result awaited.0 run stopped) count awaited.2),
+      );
       answer = is_asked (new.seen me) (new.heard me) ((g.H.Hall.state c.arm.new.hall).heard me) grown.0 me party.asked after.asked asked ask
           (mid.part me) (new.part me) run ask_is its_number number grown.1 settles;
       grows = subst (λ (heap : ℕ). GrowsHeld heap run (old.part me heap) (new.part me heap)) its_heap

@@ -1,9 +1,9 @@
 -- It awaits its answer as it did before the wait and before a look that found nothing, and its table is tied along the look.
-use Rattle.std.proofs.Common.{◌≡◌, ◌∙◌, ◌≤◌, ◌⊎◌, ℕ, true, Some, refl, sym, subst}
-use Rattle.hp_serve.specs.AskSteps.{IsAwaitedBy, IsSettledLate, waits_until}
+use Rattle.std.proofs.Common.{◌≡◌, ◌∙◌, ◌≤◌, ◌⊎◌, ℕ, true, refl, sym, subst}
+use Rattle.hp_serve.specs.AskSteps.{IsAwaitedOn, IsSettledOn, waits_until}
 use Rattle.hp_serve.specs.Asking.{IsAwaiting, Settles}
-use Rattle.hp_serve.specs.Waiting.{IsWaited}
-use Rattle.hp_serve.proofs.AskedAlong.{awaits_along, settles_along, stops_neither}
+use Rattle.hp_serve.specs.Waiting.{IsWaitedOut}
+use Rattle.hp_serve.proofs.AskedAlong.{awaits_along, settles_along}
 use Rattle.hp_serve.proofs.Rising.{waits_on}
 use Rattle.hp_serve.proofs.Waits.{clock_still}
 use Rattle.hp_hall.specs.HallState.{Did, HasMapped}
@@ -128,39 +128,40 @@ returns-in-Open-clause-goes_on g c =
     g.met.H.Hall.goes_on_then _ _ _ c.wait_out-waited.ensures.goes_on
     (g.met.H.Hall.goes_on_then _ _ _ c.look.ensures.goes_on c.settle_late-late.ensures.goes_on)
 
--- WHAT IT DID WHERE NOBODY STOPPED
+-- WHAT IT DID
 
 pub returns-in-Settled-clause-did : goal.returns-in-Settled-clause-did
-returns-in-Settled-clause-did g c = λ unstopped.
-    let waited = c.wait_out-waited.ensures.turned unstopped in
+returns-in-Settled-clause-did g c =
+    let waited = c.wait_out-waited.ensures.turned in
     let looked = c.in-Settled.ensures.did in (
       _,
       did_then waited.1
           (subst (λ who. Did who looked.0 (g.H.Hall.state c.wait_out-waited.new.hall) (g.H.Hall.state c.look.new.hall)) c.requires.own looked.1),
-      IsAwaitedBy.finds c.wait_out-waited.result.reading waited.0 looked.0
-          (subst (λ until. IsWaited (g.H.Hall.state c.args.hall.now).count until true c.args.self.now c.wait_out-waited.new.self waited.0
-          (Some c.wait_out-waited.result.reading)) c.waits_until-until.ensures waited.2) looked.2 refl,
+      IsAwaitedOn.finds c.wait_out-waited.result.reading waited.0 looked.0
+          (subst (λ until. IsWaitedOut (g.H.Hall.state c.args.hall.now).count until true c.args.self.now c.wait_out-waited.new.self waited.0
+          c.wait_out-waited.result.reading c.wait_out-waited.result.stopped) c.waits_until-until.ensures waited.2) looked.2 refl,
     )
 
 pub returns-in-Open-clause-did : goal.returns-in-Open-clause-did
-returns-in-Open-clause-did g c = λ unstopped.
+returns-in-Open-clause-did g c =
     let ask = c.args.ask.now in
     let old = g.H.Hall.state c.args.hall.now in
     let new = g.H.Hall.state c.settle_late-late.new.hall in
-    let neither = stops_neither c.wait_out-waited.result.stopped c.settle_late-late.result.stopped c.either.result c.either.ensures unstopped in
-    let waited = c.wait_out-waited.ensures.turned neither.0 in
+    let waited = c.wait_out-waited.ensures.turned in
     let looked = c.in-Open.ensures.did in
-    let late = c.settle_late-late.ensures.did neither.1 in
+    let late = c.settle_late-late.ensures.did in
     let count = c.look.ensures.stays.others.later.count ∙ (g.met.H.Hall.goes_on_later _ _ c.wait_out-waited.ensures.goes_on).count in (
       _,
       did_then waited.1
           (did_then (subst (λ who. Did who looked.0 (g.H.Hall.state c.wait_out-waited.new.hall) (g.H.Hall.state c.look.new.hall)) c.requires.own
           looked.1)
           (subst (λ who. Did who late.0 (g.H.Hall.state c.look.new.hall) new) c.wait_out-waited.ensures.stays.same.me late.1)),
-      IsAwaitedBy.settles c.wait_out-waited.new.self c.wait_out-waited.result.reading waited.0 looked.0 late.0
-          (subst (λ until. IsWaited old.count until true c.args.self.now c.wait_out-waited.new.self waited.0
-          (Some c.wait_out-waited.result.reading)) c.waits_until-until.ensures waited.2) looked.2
-          (subst (λ count. IsSettledLate count c.wait_out-waited.new.self c.settle_late-late.new.self ask c.args.since late.0) count late.2) refl,
+      IsAwaitedOn.settles c.wait_out-waited.new.self c.wait_out-waited.result.reading waited.0 looked.0 late.0
+          c.wait_out-waited.result.stopped c.settle_late-late.result.stopped
+          (subst (λ until. IsWaitedOut old.count until true c.args.self.now c.wait_out-waited.new.self waited.0
+          c.wait_out-waited.result.reading c.wait_out-waited.result.stopped) c.waits_until-until.ensures waited.2) looked.2
+          (subst (λ count. IsSettledOn count c.wait_out-waited.new.self c.settle_late-late.new.self ask c.args.since late.0
+          c.settle_late-late.result.stopped) count late.2) refl c.either.ensures,
     )
 
 -- BY HOW MUCH IT CARRIES THE CLOCK

@@ -1,5 +1,6 @@
 -- The value is taken and given back: as it was, or by one that obeys.
 use Rattle.std.proofs.Common.{◌≡◌, ◌∙◌, ◌++◌, ℕ, arith, true, false, [], ◌∷◌, length, refl, sym, ap, subst}
+use Rattle.hp_base.specs.Mapping.{is_done}
 use Rattle.hp_base.specs.Plans.{action_of}
 use Rattle.hp_base.specs.declared.plan_entry.MsgKind.TheVariants.{Reply}
 use Rattle.hp_core.specs.Following.{after_catching}
@@ -13,6 +14,8 @@ use Rattle.hp_segs.specs.SegsView.{is_member}
 use Rattle.hp_hall.specs.HallState.{Did, OthersStay, PartsStay, Stays}
 use Rattle.hp_hall.proofs.HallStates.{did_then, others_then, parts_then}
 use Rattle.hp_serve.specs.SegmentSlot.{MayHold}
+use Rattle.hp_serve.specs.InHall.{IsTiedIn}
+use Rattle.hp_serve.proofs.Attached.{has_still}
 use Rattle.hp_serve.proofs.InHalls.{alone_by, alone_of}
 use Rattle.hp_serve.proofs.SegmentSlots.{Took, closed, may_hold, put_stays, took_has, took_parts}
 use Rattle.hp_serve.proofs.server.Server.follow_sync.Goals as goal
@@ -89,7 +92,7 @@ obey-caught-requires-clause-may g c =
       tied = subst (λ (party : Party). IsTied log (mid.own party.me) party.joined party.maps) (sym c.self.view_is)
           (tied_since (old.seen who) log seen.0 (old.own who) (mid.own who) c.args.self.now.joined c.args.self.now.maps
           (subst (λ (who : ℕ). log ≡ mid.seen who) me is.took.log ∙ seen.1) (subst (λ (who : ℕ). mid.own who ≡ old.own who) me is.took.own)
-          c.requires.can.tied);
+          c.requires.can.tied.table);
       calls = c.is_worn.ensures.fresh c.if-is_worn.false;
     }
 
@@ -158,12 +161,19 @@ returns-clause-alone g c =
     let old = g.H.Hall.state c.args.hall.now in
     let new = g.H.Hall.state c.obey-caught.new.hall in
     let back = c.obey-caught.ensures.back in
+    let parts = subst (λ (who : ℕ). PartsStay who old new) me (parts_then (took_parts took) back.parts) in
+    let was = subst (λ (party : Party). IsTiedIn party.me party old) (sym c.self.view_is) c.requires.can.tied in
+    let there = sym was.same ∙ (sym is.took.roster ∙ (sym c.is_member.ensures ∙ c.if-not-is_member.false)) in
+    let has = has_still c.self.inside.joined (is_done c.obey-caught.result) c.has_table-self-inside.result there c.has_table-self-inside.ensures in
     alone_of c.self.view_is (record { me = refl; socket = refl; plan = refl; deadline = refl })
-    (subst (λ (who : ℕ). IsTied (new.seen who) (new.own who) c.has_table-self-inside.result c.obey-caught.new.maps) me
-    (subst (λ joined. IsTied (new.seen c.self.inside.me) (new.own c.self.inside.me) joined c.obey-caught.new.maps)
-    (sym c.has_table-self-inside.ensures) c.obey-caught.ensures.tied))
+    (record {
+      table = subst (λ (who : ℕ). IsTied (new.seen who) (new.own who) c.has_table-self-inside.result c.obey-caught.new.maps) me
+          (subst (λ joined. IsTied (new.seen c.self.inside.me) (new.own c.self.inside.me) joined c.obey-caught.new.maps)
+          (sym c.has_table-self-inside.ensures) c.obey-caught.ensures.tied);
+      same = parts.joined ∙ (c.requires.can.tied.same ∙ (sym (ap (λ (party : Party). party.joined) c.self.view_is) ∙ sym has));
+    })
     (closed took.may is.slots back.slots back.taken back.home)
-    (subst (λ (who : ℕ). PartsStay who old new) me (parts_then (took_parts took) back.parts))
+    parts
     (subst (λ (who : ℕ). OthersStay who old new) me (others_then is.others back.others))
 
 pub returns-then-not-is_member-clause-goes_on : goal.returns-then-not-is_member-clause-goes_on

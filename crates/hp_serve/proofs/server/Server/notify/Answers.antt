@@ -35,7 +35,7 @@ wait-requires g c =
     subst (λ (who : ℕ). Stays who (g.H.Hall.state c.send_notice.new.hall) late) (ap (λ (party : Party). party.me) c.self-2.view_is ∙ who)
     c.now-since.ensures.stays in
     let stays = stays_then c.send_notice.ensures.stays read in
-    let tied = tied_later me c.send_notice.new.self read.others.later read.mine.own c.send_notice.ensures.tied in
+    let tied = tied_later me c.send_notice.new.self read.others.later read.mine.parts.joined read.mine.own c.send_notice.ensures.tied in
     record {
       can = subst (λ (who : ℕ). CanServe who c.send_notice.new.self late) (sym who)
           (record { may = may_still stays.slots stays.others.later c.requires.can.may; tied = tied });
@@ -52,7 +52,7 @@ returns-clause-stays g c =
     subst (λ (who : ℕ). Stays who (g.H.Hall.state c.send_notice.new.hall) late) (ap (λ (party : Party). party.me) c.self-2.view_is ∙ who)
     c.now-since.ensures.stays in
     let stays = stays_then c.send_notice.ensures.stays read in
-    let tied = tied_later me c.send_notice.new.self read.others.later read.mine.own c.send_notice.ensures.tied in
+    let tied = tied_later me c.send_notice.new.self read.others.later read.mine.parts.joined read.mine.own c.send_notice.ensures.tied in
     let sent : StaysIn me party c.send_notice.new.self old late = record {
       same = subst (IsSameParty party) (sym c.send_notice.ensures.sent) (record { me = refl; socket = refl; plan = refl; deadline = refl });
       tied = tied;
@@ -77,7 +77,7 @@ returns-in_err-_reading-clause-stays g c =
     subst (λ (who : ℕ). Stays who (g.H.Hall.state c.send_notice.new.hall) late) (ap (λ (party : Party). party.me) c.self-2.view_is ∙ who)
     c.now-since.ensures.stays in
     let stays = stays_then c.send_notice.ensures.stays read in
-    let tied = tied_later me c.send_notice.new.self read.others.later read.mine.own c.send_notice.ensures.tied in
+    let tied = tied_later me c.send_notice.new.self read.others.later read.mine.parts.joined read.mine.own c.send_notice.ensures.tied in
     let sent : StaysIn me party c.send_notice.new.self old late = record {
       same = subst (IsSameParty party) (sym c.send_notice.ensures.sent) (record { me = refl; socket = refl; plan = refl; deadline = refl });
       tied = tied;

@@ -1,10 +1,14 @@
-use Rattle.std.proofs.Common.{◌≡◌, ◌+◌, ◌≤◌, ◌⊎◌}
+use Rattle.std.proofs.Common.{◌≡◌, ◌+◌, ◌≤◌, ◌⊎◌, ℕ, List}
+use Rattle.hp_hall.specs.HallState.{Did}
+use Rattle.hp_hall.specs.Mail.{MailStep}
 use Rattle.hp_serve.specs.InHall.{StaysIn, left_to_do}
-use Rattle.hp_serve.specs.Waiting.{LeavesAsked}
+use Rattle.hp_serve.specs.Waiting.{AreTurnsOn, LeavesAsked}
 use Rattle.hp_serve.proofs.server.Server.outlast.Given as goal
 
 abbrev pub invariant-waiting : goal.invariant-waiting
 invariant-waiting g l = record {
+  turned : (turns : ℕ) × (steps : List MailStep) × Did l.fn.self.me steps (g.H.Hall.state l.fn.hall) (g.H.Hall.state l.hall)
+      × AreTurnsOn (g.H.Hall.state l.fn.hall).count l.until l.heeds turns l.fn.self l.self steps;
   clock : ((g.H.Hall.state l.hall).clock ≡ (g.H.Hall.state l.fn.hall).clock) ⊎ ((g.H.Hall.state l.hall).clock ≤ l.until);
   asks : LeavesAsked l.fn.self l.self;
   stays : StaysIn l.fn.self.me l.fn.self l.self (g.H.Hall.state l.fn.hall) (g.H.Hall.state l.hall);

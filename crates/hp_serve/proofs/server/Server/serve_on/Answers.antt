@@ -1,7 +1,12 @@
 -- Those below serve, then the participant, then those above, whoever stops.
-use Rattle.std.proofs.Common.{◌∙◌, ℕ, ◌*◌, ap, sym, subst, arith}
+use Rattle.std.proofs.Common.{◌∙◌, ℕ, ◌*◌, true, false, [], ◌∷◌, refl, ap, sym, subst, arith}
 use Rattle.std.specs.Result.{result_ok}
+use Rattle.hp_hall.specs.HallState.{Did}
+use Rattle.hp_hall.specs.Mail.{Notes}
+use Rattle.hp_hall.specs.declared.note.Note.TheVariants.{Yielded}
+use Rattle.hp_hall.proofs.HallStates.{did_then}
 use Rattle.hp_serve.specs.Party.{Party}
+use Rattle.hp_serve.specs.Waiting.{IsServedOut}
 use Rattle.hp_serve.proofs.AskedLemmas.{asked_served_out}
 use Rattle.hp_serve.proofs.InHalls.{in_can, in_may, in_others, in_tied, in_then}
 use Rattle.hp_serve.proofs.Scaled.{own_weight_still}
@@ -55,6 +60,20 @@ returns g c =
     let second = ap (λ (n : ℕ). g.H.Hall.scale * n) c.own_moved-own.ensures in
     let third = ap (λ (n : ℕ). g.H.Hall.scale * n) c.others_moved-above.ensures in
     record {
+      served = (
+        _,
+        did_then (did_then (subst (λ (who : ℕ). Did who (Notes (Yielded false (result_ok c.others.result)) ∷ []) old mid) here c.others.ensures.idles.did) one.1)
+            (subst (λ (who : ℕ). Did who (Notes (Yielded true (result_ok c.others-2.result)) ∷ []) late new) here c.others-2.ensures.idles.did),
+        record {
+          below = result_ok c.others.result;
+          mine = result_ok c.serve_some.result;
+          above = result_ok c.others-2.result;
+          own = one.0;
+          served = subst (λ (count : ℕ). IsServedOut count c.args.self.now c.serve_some.new.self one.0 (result_ok c.serve_some.result))
+              c.others.ensures.idles.later.count one.2;
+          are = refl;
+        },
+      );
       weight = omega (arith, lighter, served, lighter_still, own, own_still, paid, first, second, third);
       clock = c.others-2.ensures.clock ∙ c.serve_some.ensures.alone.others.clock ∙ c.others.ensures.clock;
       asks = asked_served_out mid.count c.args.self.now c.serve_some.new.self one.0 (result_ok c.serve_some.result) one.2;

@@ -1,8 +1,8 @@
 -- It awaits its answer as it did before the wait, its table is tied along the settling, and the steps follow one another.
-use Rattle.std.proofs.Common.{◌≡◌, ◌≤◌, ◌⊎◌, ℕ, false, [], ◌∷◌, Some, refl, sym, subst}
+use Rattle.std.proofs.Common.{◌≡◌, ◌≤◌, ◌⊎◌, ℕ, false, [], ◌∷◌, refl, sym, subst}
 use Rattle.hp_serve.specs.Asking.{IsAwaiting, Settles, after_settling}
 use Rattle.hp_serve.specs.Serving.{gives_segments, takes_segments}
-use Rattle.hp_serve.specs.Waiting.{IsWaited}
+use Rattle.hp_serve.specs.Waiting.{IsWaitedOut}
 use Rattle.hp_serve.proofs.AskedAlong.{awaits_along, settles_along}
 use Rattle.hp_serve.proofs.Waits.{clock_still}
 use Rattle.hp_hall.specs.HallState.{Did, HasMapped}
@@ -60,9 +60,9 @@ returns-clause-mapped g c =
     subst (λ (who : ℕ). HasMapped who (g.H.Hall.state c.settle-run.new.hall)) c.requires.own c.settle-run.ensures.mapped
 
 pub returns-clause-did : goal.returns-clause-did
-returns-clause-did g c = λ unstopped.
+returns-clause-did g c =
     let ask = c.args.ask.now in
-    let waited = c.wait_out-waited.ensures.turned unstopped in
+    let waited = c.wait_out-waited.ensures.turned in
     let settled = c.settle-run.ensures.did in (
       _,
       did_then waited.1
@@ -72,8 +72,8 @@ returns-clause-did g c = λ unstopped.
         waited = waited.0;
         taken = settled.0;
         now = c.wait_out-waited.result.reading;
-        waits = subst (λ until. IsWaited (g.H.Hall.state c.args.hall.now).count until false c.args.self.now c.wait_out-waited.new.self waited.0
-            (Some c.wait_out-waited.result.reading)) c.waits_until-until.ensures waited.2;
+        waits = subst (λ until. IsWaitedOut (g.H.Hall.state c.args.hall.now).count until false c.args.self.now c.wait_out-waited.new.self waited.0
+            c.wait_out-waited.result.reading c.wait_out-waited.result.stopped) c.waits_until-until.ensures waited.2;
         are = refl;
       },
     )

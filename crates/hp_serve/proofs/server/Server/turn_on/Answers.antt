@@ -1,7 +1,8 @@
 -- All serve, and the turn ends with a pause.
-use Rattle.std.proofs.Common.{◌≡◌, ◌∙◌, ℕ, ap, arith}
+use Rattle.std.proofs.Common.{◌≡◌, ◌∙◌, ℕ, ◌++◌, refl, ap, arith}
+use Rattle.hp_hall.proofs.HallStates.{did_then}
 use Rattle.hp_serve.specs.Party.{due_in}
-use Rattle.hp_serve.proofs.InHalls.{in_may, in_then, in_tied, in_waits}
+use Rattle.hp_serve.proofs.InHalls.{in_did, in_may, in_then, in_tied, in_waits}
 use Rattle.hp_serve.proofs.Waits.{pause_since, paid}
 use Rattle.hp_serve.proofs.server.Server.turn_on.Goals as goal
 
@@ -21,7 +22,21 @@ returns g c =
     let paused = c.end_turn.ensures.falls in
     let uses = paid g.H.Hall.scale c.serve_on-moved.result in
     let so_far = c.serve_on-moved.ensures.stays in
+    let one = c.serve_on-moved.ensures.served in
+    let pause = c.end_turn.ensures.did in
     record {
+      turned = (
+        one.0 ++ pause.0,
+        did_then one.1 (in_did so_far pause.1),
+        record {
+          moved = c.serve_on-moved.result;
+          served = one.0;
+          paused = pause.0;
+          all = one.2;
+          pause = pause.2;
+          are = refl;
+        },
+      );
       falls = omega (arith, served, until, paused, uses);
       paused = pause_since (λ at deadline. g.H.Hall.pending at deadline ≡ g.H.Hall.scale) c.args.until (due_in c.serve_on-moved.new.self.core)
           (g.H.Hall.state c.args.hall.now).clock (g.H.Hall.state c.serve_on-moved.new.hall).clock (g.H.Hall.state c.end_turn.new.hall).clock

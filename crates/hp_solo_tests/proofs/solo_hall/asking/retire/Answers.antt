@@ -10,6 +10,6 @@ pub returns : goal.returns
 returns c =
     let stays = c.retire.ensures.stays in
     record {
-      may = waits_on c.args.hall.now c.retire.new.hall c.args.party.now c.retire.ensures.goes_on stays.own
+      may = waits_on c.args.hall.now c.retire.new.hall c.args.party.now c.retire.ensures.goes_on stays.own stays.joined
           (stays.slots.home MAX_HEAPS c.requires.may.home) c.requires.may;
     }

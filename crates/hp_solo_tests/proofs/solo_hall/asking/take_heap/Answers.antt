@@ -1,7 +1,7 @@
 -- What was taken is heap 0, and the slot of the segment value is as it was.
 use Rattle.std.proofs.Common.{◌≡◌, ℕ, sym, subst}
 use Rattle.hp_base.specs.declared.limits.TheConstants.{MAX_HEAPS}
-use Rattle.hp_plain.specs.HallView.{heard_in, own_at}
+use Rattle.hp_plain.specs.HallView.{heard_in, joined_in, own_at}
 use Rattle.hp_hall.specs.declared.kept.Kept.TheVariants.{Heap}
 use Rattle.hp_solo.specs.Solo.{IsAway, server_at}
 use Rattle.hp_solo_tests.proofs.SoloOpened.{IsTakenFirst, heap_of_first, in_hand, may_ask, settled_first}
@@ -29,6 +29,7 @@ returns-clause-may c =
     may_ask hall party c.into_heap.result.plain
     (waits_on c.args.hall.now hall party c.take.ensures.goes_on
     (subst (λ (n : ℕ). own_at hall.plain n ≡ own_at c.args.hall.now.plain n) c.number.ensures c.take.ensures.took.own)
+    (subst (λ (n : ℕ). joined_in hall.plain n ≡ joined_in c.args.hall.now.plain n) c.number.ensures c.take.ensures.took.joined)
     (c.take.ensures.slots.home MAX_HEAPS (λ (same : MAX_HEAPS ≡ 0). cc) c.requires.may.home) c.requires.may)
     (in_hand c.args.hall.now.plain hall.plain party.me c.into_heap.result is c.requires.begins)
     (settled_first c.args.hall.now.plain hall.plain party.me c.into_heap.result is c.requires.begins (heard_in hall.plain))

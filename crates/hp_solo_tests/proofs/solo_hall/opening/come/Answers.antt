@@ -1,8 +1,10 @@
 -- Who comes has taken in nothing.
+use Rattle.std.proofs.Common.{◌∙◌, sym}
 use Rattle.hp_solo.proofs.SoloWaits.{tied_first}
 use Rattle.hp_solo_tests.proofs.solo_hall.opening.come.Goals as goal
 
 pub back-requires-clause-tied : goal.back-requires-clause-tied
 back-requires-clause-tied c =
-    tied_first c.args.hall.now.plain c.args.me c.in_ok-participant.participant c.requires.nothing_yet c.in_ok-participant.ensures.number
+    tied_first c.args.hall.now.plain c.args.me c.in_ok-participant.participant c.requires.nothing_yet
+    (c.requires.joined ∙ sym c.in_ok-participant.ensures.joined) c.in_ok-participant.ensures.number
     c.in_ok-participant.ensures.tied

@@ -1,6 +1,6 @@
 use Rattle.std.proofs.Common.{◌≡◌, ℕ, None, sym, subst, arith}
 use Rattle.hp_base.specs.declared.limits.TheConstants.{MAX_HEAPS}
-use Rattle.hp_plain.specs.HallView.{own_at, part_in}
+use Rattle.hp_plain.specs.HallView.{joined_in, own_at, part_in}
 use Rattle.hp_serve.specs.SegmentSlot.{MayHold}
 use Rattle.hp_solo.specs.SoloState.{solo_state}
 use Rattle.hp_solo.proofs.SoloWaits.{waits_on}
@@ -27,5 +27,6 @@ returns c =
     record {
       may = waits_on hall new c.args.party.now c.arm_first.ensures.goes_on
           (subst (λ (n : ℕ). own_at new.plain n ≡ own_at hall.plain n) c.number.ensures c.arm_first.ensures.own)
+          (subst (λ (n : ℕ). joined_in new.plain n ≡ joined_in hall.plain n) c.number.ensures c.arm_first.ensures.joined)
           (c.arm_first.ensures.slots.home MAX_HEAPS (λ (same : MAX_HEAPS ≡ 0). cc) c.requires.may.home) c.requires.may;
     }

@@ -14,7 +14,7 @@ use Rattle.hp_solo.proofs.solo_hall.calls.SoloHallHall.partial.Goals as goal
 pub invariant_of-self : goal.invariant_of-self
 invariant_of-self g c =
     holds_after c.args.self.now c.self.inside.plain c.self.inside.servers.items c.self.view_is c.args.me c.requires.serves c.self.invariant
-    c.partial.new.self c.partial.ensures.goes_on c.partial.ensures.own.others.own
+    c.partial.new.self c.partial.ensures.goes_on c.partial.ensures.own.others.own c.partial.ensures.own.others.joined
 
 pub returns : goal.returns
 returns g c =

@@ -6,11 +6,11 @@ use Rattle.hp_solo_tests.proofs.tests.stage.Stage.serve_primary.Goals as goal
 
 pub serve-requires : goal.serve-requires
 serve-requires c =
-    let is = c.self.invariant in
+    let is = c.self.invariant.0 in
     record { can = stage_can c.self.inside.hall 0 c.self.inside.primary is.0 (omega arith) is.1 is.2 }
 
 pub invariant_of-self : goal.invariant_of-self
 invariant_of-self c =
-    staged_primary c.self.inside.hall c.serve.new.hall c.self.inside.primary c.serve.new.self c.self.inside.secondary.party
+    staged_primary c.self.inside.hall c.serve.new.hall c.self.inside.primary c.serve.new.self c.self.inside.secondary
     (stage_served c.self.inside.hall c.serve.new.hall c.self.inside.primary c.serve.new.self c.serve.ensures.goes_on c.serve.ensures.alone)
     c.self.invariant

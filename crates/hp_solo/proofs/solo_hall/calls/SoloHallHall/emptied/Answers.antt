@@ -1,0 +1,33 @@
+use Rattle.std.proofs.Common.{[], ◌∷◌, ◌≤◌, sym, subst}
+use Rattle.hp_hall.specs.HallState.{Did, Stays}
+use Rattle.hp_hall.specs.Mail.{Notes}
+use Rattle.hp_hall.specs.declared.note.Note.TheVariants.{Emptied}
+use Rattle.hp_solo.specs.Solo.{SoloView, solo_weight}
+use Rattle.hp_solo.specs.SoloCourse.{IsSoloCourse}
+use Rattle.hp_solo.specs.SoloState.{solo_state}
+use Rattle.hp_solo.proofs.SoloCalls.{goes_on_by, holds_after}
+use Rattle.hp_solo.proofs.SoloStates.{did_over, stays_over, weight_same}
+use Rattle.hp_solo.proofs.solo_hall.calls.SoloHallHall.emptied.Goals as goal
+
+pub invariant_of-self : goal.invariant_of-self
+invariant_of-self g c =
+    holds_after c.args.self.now c.self.inside.plain c.self.inside.servers.items c.self.view_is c.args.me c.requires.serves c.self.invariant
+    c.emptied.new.self c.emptied.ensures.goes_on c.emptied.ensures.stays.others.own
+
+pub returns : goal.returns
+returns g c =
+    let value = c.args.self.now in
+    let old = c.self.inside.plain in
+    let new = c.emptied.new.self in
+    let servers = c.self.inside.servers.items in
+    let me = c.args.me in
+    let is = c.emptied.ensures in
+    let after : SoloView = record { plain = new; servers = servers } in
+    let goes = goes_on_by value old servers c.self.view_is me c.requires.serves new (Notes Emptied) tt is.goes_on is.did is.stays.others in
+    let here = subst (λ (hall : SoloView). IsSoloCourse hall after) (sym c.self.view_is) goes in
+    record {
+      did = subst (λ (hall : SoloView). Did me (Notes Emptied ∷ []) (solo_state hall) (solo_state after)) c.self.view_is (did_over me old new servers (Notes Emptied ∷ []) is.did);
+      stays = subst (λ (hall : SoloView). Stays me (solo_state hall) (solo_state after)) c.self.view_is (stays_over me old new servers here is.stays);
+      weight = subst (λ (hall : SoloView). solo_weight after ≤ solo_weight hall) c.self.view_is (weight_same me old new servers is.stays.others.clock is.weight);
+      goes_on = goes;
+    }
