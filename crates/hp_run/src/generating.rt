@@ -5,7 +5,7 @@ ghost use Rattle.hp_base.specs.declared.limits.TheConstants.{MAX_PARTICIPANTS};
 ghost use Rattle.hp_base.specs.Streams.{CountsFault, HasRisen};
 ghost use Rattle.hp_run.specs.declared.reading.TheConstants.{LIMIT};
 ghost use Rattle.hp_run.specs.Faults.{is_write_fault};
-ghost use Rattle.hp_run.specs.Making.{IsGenerated, IsMade, IsSummaryFor};
+ghost use Rattle.hp_run.specs.Making.{IsGenerated, IsMade, IsSummaryFor, IsSummaryOf};
 ghost use Rattle.hp_run.specs.Mappers.{IsUnused};
 ghost use Rattle.hp_run.specs.Refusals.{refusal_of};
 ghost use Rattle.hp_script.specs.GeneratedText.{generated_text};
