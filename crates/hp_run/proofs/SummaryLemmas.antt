@@ -7,22 +7,24 @@ use Rattle.hp_run.specs.Summary.{count_done}
 use Rattle.hp_run.specs.declared.deed.Deed.{Deed}
 
 -- none of no lines, and of no answers
-pub none_left : (deed : Deed) (lines : List Line) (answers : List Answer) (place : ℕ) → length lines ≤ place → count_done deed (drop place lines) (drop place answers) ≡ 0
-none_left deed [] answers zero past = refl
-none_left deed [] answers (suc place) past = refl
-none_left deed (line ∷ lines) answers zero past = absurd (omega (arith, past))
-none_left deed (line ∷ lines) [] (suc place) past = none_left deed lines [] place (omega (arith, past))
-none_left deed (line ∷ lines) (answer ∷ answers) (suc place) past = none_left deed lines answers place (omega (arith, past))
-
 without_answers : (deed : Deed) (lines : List Line) → count_done deed lines [] ≡ 0
 without_answers deed [] = refl
 without_answers deed (line ∷ lines) = refl
 
-pub none_answered : (deed : Deed) (lines : List Line) (answers : List Answer) (place : ℕ) → length answers ≤ place → count_done deed (drop place lines) (drop place answers) ≡ 0
+pub none_left : (deed : Deed) (lines : List Line) (answers : List Answer) (place : ℕ) → length lines ≤ place
+    → count_done deed (drop place lines) (drop place answers) ≡ 0
+none_left deed [] answers zero past = refl
+none_left deed [] answers (suc place) past = refl
+none_left deed (line ∷ lines) answers zero past = absurd (omega (arith, past))
+none_left deed (line ∷ lines) [] (suc place) past = without_answers deed (drop place lines)
+none_left deed (line ∷ lines) (answer ∷ answers) (suc place) past = none_left deed lines answers place (omega (arith, past))
+
+pub none_answered : (deed : Deed) (lines : List Line) (answers : List Answer) (place : ℕ) → length answers ≤ place
+    → count_done deed (drop place lines) (drop place answers) ≡ 0
 none_answered deed lines [] zero past = without_answers deed lines
+none_answered deed lines [] (suc place) past = without_answers deed (drop (suc place) lines)
 none_answered deed lines (answer ∷ answers) zero past = absurd (omega (arith, past))
-none_answered deed [] answers (suc place) past = refl
-none_answered deed (line ∷ lines) [] (suc place) past = none_answered deed lines [] place (omega (arith, past))
+none_answered deed [] (answer ∷ answers) (suc place) past = refl
 none_answered deed (line ∷ lines) (answer ∷ answers) (suc place) past = none_answered deed lines answers place (omega (arith, past))
 
 -- one more line

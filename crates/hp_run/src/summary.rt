@@ -68,8 +68,10 @@ impl fmt::Display for Summary {
             pool1,
             free,
         } = *self;
-        write!(f, "lines {lines}\nallocs {allocs}\nfrees {frees}\nresized {resized}\n")?;
-        write!(f, "records {records}\npool0 {pool0}\npool1 {pool1}\nfree {free}\n")
+        write!(
+            f,
+            "lines {lines}\nallocs {allocs}\nfrees {frees}\nresized {resized}\nrecords {records}\npool0 {pool0}\npool1 {pool1}\nfree {free}\n"
+        )
     }
 }
 

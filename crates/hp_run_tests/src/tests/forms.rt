@@ -49,7 +49,7 @@ fn generates_from_the_last_start(rt: HostRuntime) -> Result<(), Fail> {
     let text = str::from_utf8(sink.bytes())?;
     let (status, _source, sink) = ran(rt.alloc(), &["check"], text, &NO_CALL, &NO_CALL)?;
     assert!(rt; status == Status::Ok);
-    assert!(rt; sink.bytes() == b"ok 20000\n");
+    assert!(rt; sink.bytes() == b"ok 20000\n".as_slice());
     Ok(())
 }
 
@@ -101,6 +101,6 @@ fn ends_where_a_form_fails(rt: HostRuntime) -> Result<(), Fail> {
     assert!(rt; sink.bytes().len() == 0);
     let (status, _source, sink) = ran(rt.alloc(), &["check"], "pool 0 2M 4\n0 alloc a", &NO_CALL, &NO_CALL)?;
     assert!(rt; status == Status::BadWorkload);
-    assert!(rt; sink.bytes() == b"refused line 2 Fields\n");
+    assert!(rt; sink.bytes() == b"refused line 2 Fields\n".as_slice());
     Ok(())
 }

@@ -5,6 +5,6 @@ use Rattle.hp_run.proofs.summary.count_of.Given as goal
 -- what is counted, and what is left to count
 abbrev pub invariant-loop-place : goal.invariant-loop-place
 invariant-loop-place l = record {
-  few : l.count ≤ l.place-index;
-  on : l.count + count_done l.deed (drop l.place-index l.lines) (drop l.place-index l.answers) ≡ count_done l.deed l.lines l.answers;
+  few : l.count ≤ l.place;
+  on : l.count + count_done l.deed (drop l.place l.lines) (drop l.place l.answers) ≡ count_done l.deed l.lines l.answers;
 }
