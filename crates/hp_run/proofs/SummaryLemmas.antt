@@ -1,5 +1,6 @@
 -- What is counted of lines and answers, as far as a loop has come.
-use Rattle.std.proofs.Common.{◌≡◌, ℕ, ◌+◌, ◌<◌, ◌≤◌, zero, suc, true, false, Bool, cond, List, [], ◌∷◌, length, drop, get_or, refl, ap, ◌∙◌, sym, arith}
+use Rattle.std.proofs.Common.{◌≡◌, ℕ, ◌+◌, inl, inr, min, ◌<◌, ◌≤◌, zero, suc, true, false, Bool, cond, List, [], ◌∷◌, length, drop, get_or, refl, ap, ◌∙◌, sym, arith}
+use Rattle.std.proofs.lemmas.Bool.{cases_lt}
 use Rattle.hp_script.specs.declared.answer.Answer.{Answer}
 use Rattle.hp_script.specs.declared.line.Line.{Line}
 use Rattle.hp_run.specs.Deeds.{is_done}
@@ -37,3 +38,11 @@ one_more deed (first ∷ lines) [] place line answer within answered = absurd (o
 one_more deed (first ∷ lines) (given ∷ answers) zero line answer within answered = refl
 one_more deed (first ∷ lines) (given ∷ answers) (suc place) line answer within answered =
     one_more deed lines answers place line answer (omega (arith, within)) (omega (arith, answered))
+
+-- none behind the shorter of both
+pub none_behind : (deed : Deed) (lines : List Line) (answers : List Answer) (place : ℕ) → min (length lines) (length answers) ≤ place
+    → count_done deed (drop place lines) (drop place answers) ≡ 0
+none_behind deed lines answers place past = elim (cases_lt place (length lines)) [
+  | inl before ↦ none_answered deed lines answers place (grind (arith, past, before))
+  | inr after ↦ none_left deed lines answers place after
+]

@@ -7,10 +7,12 @@ use Rattle.hp_heap.specs.Statistics.{statistics_of}
 use Rattle.hp_report.specs.declared.ended.Ended.{Ended}
 use Rattle.hp_script.specs.declared.answer.Answer.{Answer}
 use Rattle.hp_script.specs.declared.line.Line.{Line}
-use Rattle.hp_segs.specs.SegsView.{pages_left}
+use Rattle.hp_segs.specs.SegsView.{SegsView, pages_left}
 use Rattle.hp_run.specs.Deeds.{is_done}
 use Rattle.hp_run.specs.declared.deed.Deed.{Deed}
 use Rattle.hp_run.specs.declared.deed.Deed.TheVariants.{Allocated, Freed, Resized}
+use Rattle.hp_run.specs.declared.summary.Counts.{Counts}
+use Rattle.hp_run.specs.declared.summary.Rest.{Rest}
 use Rattle.hp_run.specs.declared.summary.Summary.{Summary}
 
 -- how many lines have done it
@@ -22,26 +24,44 @@ count_done deed _ _ = 0
 abbrev pub free_bytes : List HeapView → ℕ
 free_bytes heaps = sum_by (λ heap. (statistics_of heap.plain).free) heaps
 
--- the summary of what a run left: its lines, those that did what they asked for, the records of the log, the pages left in the first two
--- pools, and the free bytes
-abbrev pub numbers_of : Ended → Summary
-numbers_of ended = record {
-  lines = length ended.workload.lines.items;
-  allocs = count_done Allocated ended.workload.lines.items ended.answers.items;
-  frees = count_done Freed ended.workload.lines.items ended.answers.items;
-  resized = count_done Resized ended.workload.lines.items ended.answers.items;
-  records = length ended.segs.log;
-  pool0 = pages_left ended.segs 0;
-  pool1 = pages_left ended.segs 1;
-  free = free_bytes ended.heaps.items;
+-- how many lines a run had, and how many did what they asked for
+abbrev pub counts_of : List Line → List Answer → Counts
+counts_of lines answers = record {
+  lines = length lines;
+  allocs = count_done Allocated lines answers;
+  frees = count_done Freed lines answers;
+  resized = count_done Resized lines answers;
 }
 
--- its text: a line for each, of a word, a blank and a number
+-- what is left: the records of the log, the pages in the first two pools, and the free bytes
+abbrev pub rest_of : List HeapView → SegsView → Rest
+rest_of heaps segs = record {
+  records = length segs.log;
+  pool0 = pages_left segs 0;
+  pool1 = pages_left segs 1;
+  free = free_bytes heaps;
+}
+
+-- the summary of what a run left
+abbrev pub numbers_of : Ended → Summary
+numbers_of ended = record {
+  counts = counts_of ended.workload.lines.items ended.answers.items;
+  rest = rest_of ended.heaps.items ended.segs;
+}
+
+-- its text: a line for each number, of a word, a blank and the number
+abbrev pub counts_text : Counts → List ℕ
+counts_text counts =
+    codes "lines " ++ decimal counts.lines ++ codes "\nallocs " ++ decimal counts.allocs ++ codes "\nfrees " ++ decimal counts.frees
+    ++ codes "\nresized " ++ decimal counts.resized ++ codes "\n"
+
+abbrev pub rest_text : Rest → List ℕ
+rest_text rest =
+    codes "records " ++ decimal rest.records ++ codes "\npool0 " ++ decimal rest.pool0 ++ codes "\npool1 " ++ decimal rest.pool1
+    ++ codes "\nfree " ++ decimal rest.free ++ codes "\n"
+
 abbrev pub numbers_text : Summary → List ℕ
-numbers_text summary =
-    codes "lines " ++ decimal summary.lines ++ codes "\nallocs " ++ decimal summary.allocs ++ codes "\nfrees " ++ decimal summary.frees
-    ++ codes "\nresized " ++ decimal summary.resized ++ codes "\nrecords " ++ decimal summary.records ++ codes "\npool0 " ++ decimal summary.pool0
-    ++ codes "\npool1 " ++ decimal summary.pool1 ++ codes "\nfree " ++ decimal summary.free ++ codes "\n"
+numbers_text summary = counts_text summary.counts ++ rest_text summary.rest
 
 abbrev pub summary_text : Ended → List ℕ
 summary_text ended = numbers_text (numbers_of ended)

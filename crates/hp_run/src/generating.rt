@@ -19,8 +19,7 @@ use hp_report::Ended;
 use hp_script::{generate, generated_law};
 use std::alloc::Global;
 
-/// Writes the text of a workload of so many participant lines, drawn from a start: what `top` does for the words `generate <start> <lines>`.
-/// Own.
+/// Writes the text of a workload of so many participant lines, drawn from a start: what `top` does for `generate <start> <lines>`. Own.
 pub fn generate_text<K: Sink>(alloc: Global, start: u64, lines: u32, sink: &mut K) -> Status
     // The text was written, or a front of it before the sink failed, or nothing where memory ran out.
     ensures outcome { IsMade (IsGenerated start lines) (K.held sink.old) (K.held sink.new)
@@ -37,7 +36,7 @@ pub fn generate_text<K: Sink>(alloc: Global, start: u64, lines: u32, sink: &mut 
 }
 
 /// Makes that workload, of 1 to 20,000 participant lines, runs it in one thread, and writes a summary of what the run left: what `top` does
-/// for the words `generate <start> <lines> summary`. Each participant's table is over the mapper that has its place among these. Own.
+/// for `generate <start> <lines> summary`. Each participant's table is over the mapper that has its place among these. Own.
 pub fn generate_summary<K: Sink, M: Mapper>(
     alloc: Global,
     start: u64,

@@ -1,6 +1,6 @@
 //! The summary of a run.
 ghost use Rattle.std.specs.Prelude.{◌≡◌};
-ghost use Rattle.hp_run.specs.Summary.{count_done, free_bytes, numbers_of};
+ghost use Rattle.hp_run.specs.Summary.{count_done, counts_of, free_bytes, numbers_of, rest_of};
 ghost use Rattle.hp_segs.specs.SegsView.{pages_left};
 
 use crate::deed::Deed;
@@ -10,9 +10,18 @@ use hp_script::{Answer, Line};
 use hp_segs::Segs;
 use std::fmt;
 
-/// What a run came to, in eight numbers. Own.
+/// What a run came to. Own.
 #[derive(Clone, Copy)]
 pub struct Summary {
+    /// What its lines have done.
+    pub counts: Counts,
+    /// What it left.
+    pub rest: Rest,
+}
+
+/// How many lines a run had, and how many did what they asked for. Own.
+#[derive(Clone, Copy)]
+pub struct Counts {
     /// Its participant lines.
     pub lines: usize,
     /// How many allocations found memory.
@@ -21,10 +30,16 @@ pub struct Summary {
     pub frees: usize,
     /// How many elements were resized.
     pub resized: usize,
+}
+
+/// What a run left. Own.
+#[derive(Clone, Copy)]
+pub struct Rest {
     /// The records of the log.
     pub records: usize,
-    /// The pages left in the first pool, and in the second.
+    /// The pages left in the first pool.
     pub pool0: u64,
+    /// The pages left in the second pool.
     pub pool1: u64,
     /// The free bytes of all heaps.
     pub free: u128,
@@ -35,17 +50,37 @@ impl Summary {
     pub fn of(ended: &Ended<'_>) -> Summary
         ensures { result ≡ numbers_of ended.now }
     {
-        let lines = ended.workload.lines.as_slice();
-        let answers = ended.answers.as_slice();
         Summary {
+            counts: Counts::of(ended.workload.lines.as_slice(), ended.answers.as_slice()),
+            rest: Rest::of(ended.heaps.as_slice(), &ended.segs),
+        }
+    }
+}
+
+impl Counts {
+    // Those of lines and their answers.
+    fn of(lines: &[Line<'_>], answers: &[Answer]) -> Counts
+        ensures { result ≡ counts_of lines.now answers.now }
+    {
+        Counts {
             lines: lines.len(),
             allocs: count_of(Deed::Allocated, lines, answers),
             frees: count_of(Deed::Freed, lines, answers),
             resized: count_of(Deed::Resized, lines, answers),
-            records: ended.segs.records().len(),
-            pool0: left_in(&ended.segs, 0),
-            pool1: left_in(&ended.segs, 1),
-            free: free_bytes(&ended.heaps),
+        }
+    }
+}
+
+impl Rest {
+    // That in heaps and segments.
+    fn of(heaps: &[Heap], segs: &Segs) -> Rest
+        ensures { result ≡ rest_of heaps.now segs.now }
+    {
+        Rest {
+            records: segs.records().len(),
+            pool0: left_in(segs, 0),
+            pool1: left_in(segs, 1),
+            free: free_bytes(heaps),
         }
     }
 }
@@ -58,20 +93,43 @@ impl fmt::Display for Summary {
     ghost output = { λ summary. Some (numbers_text summary) };
 
     fn fmt<W: fmt::Write>(&self, f: &mut fmt::Formatter<W>) -> fmt::Result {
-        let Summary {
+        write!(f, "{}{}", self.counts, self.rest)
+    }
+}
+
+/// Its first four lines.
+impl fmt::Display for Counts {
+    ghost use Rattle.std.specs.Prelude.{Some};
+    ghost use Rattle.hp_run.specs.Summary.{counts_text};
+
+    ghost output = { λ counts. Some (counts_text counts) };
+
+    fn fmt<W: fmt::Write>(&self, f: &mut fmt::Formatter<W>) -> fmt::Result {
+        let Counts {
             lines,
             allocs,
             frees,
             resized,
+        } = *self;
+        write!(f, "lines {lines}\nallocs {allocs}\nfrees {frees}\nresized {resized}\n")
+    }
+}
+
+/// Its last four lines.
+impl fmt::Display for Rest {
+    ghost use Rattle.std.specs.Prelude.{Some};
+    ghost use Rattle.hp_run.specs.Summary.{rest_text};
+
+    ghost output = { λ rest. Some (rest_text rest) };
+
+    fn fmt<W: fmt::Write>(&self, f: &mut fmt::Formatter<W>) -> fmt::Result {
+        let Rest {
             records,
             pool0,
             pool1,
             free,
         } = *self;
-        write!(
-            f,
-            "lines {lines}\nallocs {allocs}\nfrees {frees}\nresized {resized}\nrecords {records}\npool0 {pool0}\npool1 {pool1}\nfree {free}\n"
-        )
+        write!(f, "records {records}\npool0 {pool0}\npool1 {pool1}\nfree {free}\n")
     }
 }
 
