@@ -1,7 +1,11 @@
+ghost use Rattle.std.specs.Prelude.{ℕ, List};
+ghost use Rattle.hp_segs.specs.Standing.{Holding};
+ghost use Rattle.hp_board.specs.Moves.{Move};
+
 use crate::opening::Opening;
 use hp_hall::Kept;
 use hp_heap::Entry;
-use hp_segs::{AskLog, LogRecord};
+use hp_segs::{Ask, AskLog, LogRecord};
 use std::collections::LinkedList;
 
 /// What a participant knows of a board. It is seen by contracts alone, and no value of it is made. Own.
@@ -32,6 +36,12 @@ pub struct Mine {
     pub joining: bool,
     /// The numbers of others that it has loaded, each with its participant, the one loaded last in front.
     pub noted: LinkedList<(u8, u64)>,
+    /// The ask with which it armed itself last.
+    pub armed: Option<Ask>,
+    /// What the segment value has for each heap that it holds, with the heap's slot.
+    pub ghost holdings: { List (ℕ × Holding) },
+    /// What it took and gave, in its order over all slots.
+    pub ghost moves: { List Move },
 }
 
 // What a seat of the table knows: one participant's part where it runs, every participant's while the board is new or
