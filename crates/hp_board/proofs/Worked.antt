@@ -14,6 +14,7 @@ use Rattle.hp_hall.specs.Giving.{IsNumbered}
 use Rattle.hp_board.specs.KeptValues.{entries_added}
 use Rattle.hp_hall.specs.Values.{history_of}
 use Rattle.hp_board.specs.Locks.{held_by}
+use Rattle.hp_board.specs.Ownership.{no_holding}
 use Rattle.hp_hall.specs.Slots.{slot_number}
 use Rattle.hp_board.specs.Views.{value_of, values_of, without, newcomer, after_take, after_give, after_look, made_in, seen_of}
 use Rattle.hp_board.specs.Parts.{parts_from}
@@ -28,7 +29,7 @@ abbrev fresh : Mine
 fresh = newcomer (record { participants = 3; serves = []; segs = record { marker = record {}; value = segments.opening [] 3 0 } }) 2
 
 abbrev holding : Mine
-holding = after_take 7 (heap 7 []) (after_take 4 (heap 4 []) fresh)
+holding = after_take 7 (heap 7 []) no_holding (after_take 4 (heap 4 []) no_holding fresh)
 
 -- it has found the word of slot 9 held by participant 0, and given slot 4 back with two entries
 abbrev later : Mine

@@ -8,7 +8,7 @@ use Rattle.hp_hall.specs.declared.kept.Kept.{Kept}
 use Rattle.hp_hall.specs.declared.kept.Kept.TheVariants.{Heap, Segments}
 use Rattle.hp_board.specs.KeptValues.{IsKeptAt}
 use Rattle.hp_board.specs.Knowing.{HasMappedHeld, heap_part}
-use Rattle.hp_board.specs.Views.{BeginsWith, after_take, made_in, seen_of, value_of}
+use Rattle.hp_board.specs.Views.{BeginsWith, FindsMore, after_take, made_in, seen_of, value_of}
 use Rattle.hp_board.specs.declared.view.Mine.{Mine}
 
 -- a segment value has a log and outcomes that begin with what a participant had seen of them
@@ -20,6 +20,11 @@ GoesOnFrom mine (Segments segs) = BeginsWith segs.log mine.log × BeginsWith seg
 pub record HasTakenOut (slot : ℕ) (kept : Kept) (mine after : Mine) : Type 0 where
   pub holding : Holding
   pub view : after ≡ after_take slot kept holding mine
+
+-- so it is with one that has found words held first
+pub record HasTakenLater (slot : ℕ) (kept : Kept) (mine after : Mine) : Type 0 where
+  pub holding : Holding
+  pub view : FindsMore (after_take slot kept holding mine) after
 
 -- What a participant learns of a value that it takes: it is the slot's, has of this participant the entries that it made there and no others,
 -- and begins with what it had seen; a segment value has the participant in its roster as that knows; and it did not hold the slot. A heap

@@ -47,7 +47,7 @@ impl Board {
         requires slot { IsSlot slot }
         requires gives { IsGiveOf (knows_of seat.old.mine) (slot_number slot) kept }
         ensures given { seat.new.mine ≡ after_give (slot_number slot) kept seat.old.mine }
-        ensures own { entries_of seat.new.mine.who (history_of kept) ≡ made_in (slot_number slot) seat.new.mine }
+        ensures own { entries_of seat.old.mine.who (history_of kept) ≡ made_in (slot_number slot) seat.new.mine }
 
         // Rows become agreed only by numbers of all members that this seat has loaded.
         ensures agreed { AgreesFrom seat.old.mine (value_of (slot_number slot) seat.old.mine.held) kept }
