@@ -44,7 +44,7 @@ module _ (opening : Opening) (kept : ℕ → Kept) (mine : ℕ → Mine) (heaps 
     more = ap (λ o. entries_added o given) holds ∙ new.added
 
     -- the entries of the giver, and those of all others, after the give
-    own_here : entries_of part.who (history_of given) ≡ values_of slot (part.made ++ under slot (entries_added (value_of slot part.held) given))
+    pub own_here : entries_of part.who (history_of given) ≡ values_of slot (part.made ++ under slot (entries_added (value_of slot part.held) given))
     own_here =
         ap (entries_of part.who) new.history
         ∙ entries_of-append part.who (history_of taken) new.own

@@ -2,6 +2,7 @@ pub mod SlotNumbers
 mod Worked
 pub mod Pairs
 pub mod Updates
+pub mod Counted
 pub mod Histories
 pub mod Turning
 pub mod SeatLemmas
@@ -24,6 +25,13 @@ pub mod Loads
 pub mod TablesKnown
 pub mod InUse
 pub mod SegsSteps
+pub mod Holders
+pub mod OwnerSteps
+pub mod OwnedSteps
+pub mod GivenTaken
+pub mod MoveSteps
+pub mod MoveChains
+pub mod Learned
 pub mod BoardSteps
 pub mod Openings
 pub mod TablesLeft

@@ -32,10 +32,10 @@ module _ (opening : Opening) (words : List ℕ) (kept : ℕ → Kept) (mine : �
   told_part : IsTold opening.participants words part.who part
   told_part = subst (IsTold opening.participants words part.who) (sym known) (old.told part.who declared)
 
-  lag_part : IsLagging old.segs part.who part
+  pub lag_part : IsLagging old.segs part.who part
   lag_part = subst (IsLagging old.segs part.who) (sym known) (old.lagging part.who declared)
 
-  agreed_part : HasTakenIn old.segs part.who part
+  pub agreed_part : HasTakenIn old.segs part.who part
   agreed_part = subst (HasTakenIn old.segs part.who) (sym known) (old.agreed part.who declared)
 
   -- words change, and one view; the segment value stays

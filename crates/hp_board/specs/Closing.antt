@@ -21,7 +21,7 @@ use Rattle.hp_hall.specs.declared.slot.TheConstants.{SLOTS}
 use Rattle.hp_board.specs.Agreement.{HasInUse, HasTakenIn, IsDeclaredRoster}
 use Rattle.hp_board.specs.BoardView.{BoardView}
 use Rattle.hp_board.specs.KeptValues.{IsHeapAt}
-use Rattle.hp_board.specs.Moves.{Move}
+use Rattle.hp_board.specs.declared.view.Move.{Move}
 use Rattle.hp_board.specs.MovesKept.{Chain, Hold, IsFirstAt, Replays, all_free, holds_in}
 use Rattle.hp_board.specs.Ownership.{no_holding}
 use Rattle.hp_board.specs.SeatView.{SeatView}

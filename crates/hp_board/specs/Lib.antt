@@ -1,5 +1,4 @@
 pub mod KeptValues
-pub mod Moves
 pub mod Views
 pub mod Knowing
 pub mod Parts

@@ -6,17 +6,19 @@ use Rattle.hp_board.specs.Steps.{Sat}
 use Rattle.hp_board.specs.Turns.{turned_by}
 use Rattle.hp_board.specs.Parts.{part_of, one_part}
 use Rattle.hp_board.specs.Views.{value_of, after_give}
+use Rattle.hp_board.proofs.GivenTaken.{gives_taken}
 use Rattle.hp_board.proofs.SeatLemmas.{held_place, given_front, seat_given}
 use Rattle.hp_board.proofs.board.Board.unlock.Goals as goal
 
 pub place_of-before-requires : goal.place_of-before-requires
 place_of-before-requires c =
     let number : ℕ = c.number-number.result in
-    let holds : value_of number (part_of c.seat.inside.token.me.0).held ≡ Some c.requires.gives.taken =
+    let gives = gives_taken c.args.seat.now.mine (slot_number c.args.slot) c.args.kept c.requires.gives in
+    let holds : value_of number (part_of c.seat.inside.token.me.0).held ≡ Some gives.taken =
     ap (λ (n : ℕ). value_of n (part_of c.seat.inside.token.me.0).held) c.number-number.ensures
     ∙ ap (λ (v : SeatView). value_of (slot_number c.args.slot) v.mine.held) c.seat.view_is
-    ∙ c.requires.gives.holds in
-    subst (λ (l : List ℕ). Contains l number) (sym c.deref.ensures.value) (held_place c.seat.inside number c.requires.gives.taken c.seat.invariant holds)
+    ∙ gives.holds in
+    subst (λ (l : List ℕ). Contains l number) (sym c.deref.ensures.value) (held_place c.seat.inside number gives.taken c.seat.invariant holds)
 
 pub unlock_word-requires-clause-front : goal.unlock_word-requires-clause-front
 unlock_word-requires-clause-front c =
