@@ -30,7 +30,7 @@ use Rattle.hp_board.proofs.AgreedSteps.{granted_within}
 use Rattle.hp_board.proofs.TablesKnown.{row_early}
 
 -- who granted a generation
-record IsGrantedBy (asks : List AskLog) (generation : ℕ) : Type 0 where
+pub record IsGrantedBy (asks : List AskLog) (generation : ℕ) : Type 0 where
   pub entry : AskLog
   pub there : Contains asks entry
   pub granted : granted_by entry.outcome ≡ Some generation
@@ -47,7 +47,7 @@ grants_so (Refused cause) generation is = absurd (cc)
 grants_so (Stale done) generation is = absurd (cc)
 grants_so (Freed stamp) generation is = absurd (cc)
 
-granted_entry : (asks : List AskLog) (generation : ℕ) → is_granted asks generation ≡ true → IsGrantedBy asks generation
+pub granted_entry : (asks : List AskLog) (generation : ℕ) → is_granted asks generation ≡ true → IsGrantedBy asks generation
 granted_entry asks generation is =
     let found = found_in (grants generation) asks is in
     record { entry = found.element; there = found.among; granted = of_outcome found.element.outcome generation found.passes }

@@ -33,6 +33,8 @@ pub mod MoveSteps
 pub mod MoveChains
 pub mod Learned
 pub mod BoardSteps
+pub mod OwnedLeft
+pub mod OpeningOwned
 pub mod Openings
 pub mod TablesLeft
 pub mod Restored

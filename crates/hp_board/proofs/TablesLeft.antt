@@ -45,6 +45,7 @@ module _ (segs : SegsView) (mine : Mine) (sound : IsSound segs) (lag : IsLagging
     behind = lag.behind;
     within = let long = front_length segs.log mine.log lag.log in omega (arith, lag.within, long);
     joined = lag.joined;
+    taken = taken;
     table = table_is;
     rows = λ is row has.
         subst (λ (l : List Row). Contains l row) (sym (table_is is)) (in_use_known segs mine.who mine row sound (lag.joined ∙ is) taken has);
