@@ -27,10 +27,10 @@ use Rattle.hp_board.proofs.SegsSteps.{agreed_part, lag_part, segs_ack, segs_give
 use Rattle.hp_board.specs.Steps.{Acks, Gave, HasLoaded, Loads, Sat, Tries, Unmaps}
 use Rattle.hp_board.specs.Views.{value_of, made_in, seen_of, BeginsWith, after_take, after_give, after_acking, after_load, after_look, after_unmapping, holds_segments, noted_of}
 use Rattle.hp_board.specs.Parts.{part_of, one_part, first_part, other_parts, both_parts, spent_view}
-use Rattle.hp_board.specs.Handed.{GoesOnFrom, HasTakenOut, IsHanded, IsHeldWord}
+use Rattle.hp_board.specs.Handed.{GoesOnFrom, IsHanded, IsHeldWord}
 use Rattle.hp_board.specs.Agreement.{AgreesFrom}
 use Rattle.hp_hall.specs.Giving.{GivesFor, IsGiveOf, giver_of}
-use Rattle.hp_hall.specs.Holding.{HasHolding, StandsFor}
+use Rattle.hp_hall.specs.Holding.{StandsFor}
 use Rattle.hp_hall.specs.Values.{HasClaimed, HasMember}
 use Rattle.hp_segs.specs.SegsView.{SegsView}
 use Rattle.hp_segs.specs.SettledAsks.{IsSettled}
@@ -41,7 +41,7 @@ use Rattle.hp_board.specs.Knowing.{HasMappedHeld, heap_part, holds_heap, knows_o
 use Rattle.hp_board.specs.Lag.{IsLagging}
 use Rattle.hp_board.specs.declared.view.Move.TheVariants as moved_by
 use Rattle.hp_board.specs.MovesKept.{AreMoved}
-use Rattle.hp_board.specs.Ownership.{AreOwned, IsOwnedIn, IsOwner}
+use Rattle.hp_board.specs.Ownership.{IsOwnedIn, IsOwner}
 use Rattle.hp_board.proofs.AgreedSteps.{agreed_rises}
 use Rattle.hp_board.proofs.GivenTaken.{GivesTaken, gives_taken}
 use Rattle.hp_board.proofs.Holders.{holds_no, holds_yes}
@@ -304,11 +304,11 @@ module _ (opening : Opening) (s : BoardState) (board : IsBoard opening s) (id sl
       }
 
   -- its entries of the giver are those that this one made there
-  own_given : (given : Kept) (may : GivesTaken part slot given) → entries_of part.who (history_of given) ≡ made_in slot (after_give slot given part)
-  own_given given may =
+  own_given : (given : Kept) → GivesTaken part slot given → IsSoundKept given → entries_of part.who (history_of given) ≡ made_in slot (after_give slot given part)
+  own_given given may sound =
       own_here opening board.kept board.mine board.heaps part seat.known slot inside seat.declared may.taken given may.holds
       (kept_taken opening.participants s.words s.homes board.kept board.mine board.locked board.words slot inside part seat.known seat.declared may.taken may.holds)
-      (gives_calls part may.taken given placed may.gives)
+      (gives_calls part may.taken given placed may.gives) sound
 
   -- and the table of a member has the pages of the heaps that it still holds
   mapped_given : (given : Kept) → GivesTaken part slot given → IsSoundKept given → length s.homes ≡ SLOTS → HasMappedHeld (after_give slot given part)
@@ -500,7 +500,7 @@ gave opening slots id view slot given more said count inside one gives_it sound 
             record {
               given = ap (λ (x : Kept). (one_part (after_give slot x part), more)) same;
               agreed = subst (AgreesFrom part (value_of slot part.held)) same (agrees_slot opening s board id slot inside part at given may sound);
-              own = subst (λ (x : Kept). entries_of part.who (history_of x) ≡ made_in slot (after_give slot x part)) same (own_given opening s board id slot inside part at given may);
+              own = subst (λ (x : Kept). entries_of part.who (history_of x) ≡ made_in slot (after_give slot x part)) same (own_given opening s board id slot inside part at given may sound);
               mapped = subst (λ (x : Kept). HasMappedHeld (after_give slot x part)) same (mapped_given opening s board id slot inside part at given may sound (wide ∙ count));
             };
       },

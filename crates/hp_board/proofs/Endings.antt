@@ -27,7 +27,7 @@ use Rattle.hp_hall.specs.Holding.{HasHolding}
 use Rattle.hp_board.specs.Closing.{IsArmedAsKnown, IsFreeSeat, IsAmong, IsLeftIn, IsNotedUpTo, AreHeaps, AreLeftSegs, AreOwnedAtLast, HaveMoved, KeepCallsOf, KeepsTableOf}
 use Rattle.hp_board.specs.MovesKept.{AreAlike, AreMoved, Replays, all_free, holds_in, slots_by}
 use Rattle.hp_board.specs.Ownership.{AreOwned, IsOwnedIn}
-use Rattle.hp_board.proofs.MoveChains.{chained, pending_no}
+use Rattle.hp_board.proofs.MoveChains.{chained, pending_free}
 use Rattle.hp_board.proofs.MoveSteps.{replay-alike}
 use Rattle.hp_board.proofs.OwnedLeft.{all_settled, granted_are, none_open}
 use Rattle.hp_board.specs.Lag.{IsLagging}
@@ -255,7 +255,7 @@ module _ (o : Opening) (view : View) (items : List (Option Kept)) (told : IsTold
           chain = has.chain;
           own = λ seat there.
               has.own seat.mine.who
-              ∙ (ap (λ pending. holds_in slot pending (values_of seat.mine.who told.moved.moves)) (pending_no slot (all_free told.moved.first) seat.mine.who (λ wrong. omega (arith, wrong)))
+              ∙ (ap (λ pending. holds_in slot pending (values_of seat.mine.who told.moved.moves)) (pending_free slot told.moved.first seat.mine.who)
               ∙ ap (holds_in slot None) (own_moves seat.mine (among seat there)));
         };
     own = λ seat there. own_moves seat.mine (among seat there);

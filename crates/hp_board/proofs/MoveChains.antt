@@ -7,7 +7,7 @@ use Rattle.hp_hall.specs.declared.kept.Kept.{Kept}
 use Rattle.hp_hall.specs.declared.slot.TheConstants.{SLOTS}
 use Rattle.hp_board.specs.declared.view.Move.{Move}
 use Rattle.hp_board.specs.declared.view.Move.TheVariants.{Took, Gave}
-use Rattle.hp_board.specs.MovesKept.{Chain, Hold, Replays, Slotted, hold_of, holds_in, slots_after}
+use Rattle.hp_board.specs.MovesKept.{Chain, Hold, Replays, Slotted, all_free, hold_of, holds_in, slots_after}
 use Rattle.hp_board.specs.Views.{values_of}
 
 -- what a participant has taken out of the slot and not given back
@@ -17,8 +17,12 @@ pending slot slots who = cond (eqb (slots.word slot) (who + 1)) (Some (slots.val
 pending_yes : (slot : ℕ) (slots : Slotted) (who : ℕ) → slots.word slot ≡ who + 1 → pending slot slots who ≡ Some (slots.value slot)
 pending_yes slot slots who is = cond-true (eqb (slots.word slot) (who + 1)) (Some (slots.value slot)) None (eq-eqb (slots.word slot) (who + 1) is)
 
-pub pending_no : (slot : ℕ) (slots : Slotted) (who : ℕ) → slots.word slot ≢ who + 1 → pending slot slots who ≡ None
+pending_no : (slot : ℕ) (slots : Slotted) (who : ℕ) → slots.word slot ≢ who + 1 → pending slot slots who ≡ None
 pending_no slot slots who is = cond-false (eqb (slots.word slot) (who + 1)) (Some (slots.value slot)) None (ne_eqb (slots.word slot) (who + 1) is)
+
+-- where the slot is free nobody has it
+pub pending_free : (slot : ℕ) (values : ℕ → Kept) (who : ℕ) → pending slot (all_free values) who ≡ None
+pending_free slot values who = cond-false (eqb 0 (who + 1)) (Some (values slot)) None (ne_eqb 0 (who + 1) (λ wrong. omega (arith, wrong)))
 
 own-first : {A : Type 0} (who : ℕ) (x : A) (xs : List (ℕ × A)) → values_of who ((who, x) ∷ xs) ≡ x ∷ values_of who xs
 own-first who x xs = cond-true (eqb who who) (x ∷ values_of who xs) (values_of who xs) (eq-eqb who who refl)
@@ -104,9 +108,10 @@ module _ (slot : ℕ) (inside : slot < SLOTS) (last : Slotted) where
 
   pub chained : (moves : List (ℕ × Move)) (slots : Slotted) → Replays slots moves last → HasHolds slot slots last moves
   chained [] slots same = record { holds = []; chain = same.value slot inside; own = λ who. refl }
-  chained ((who, Took other value) ∷ moves) slots (move, replay) =
+  chained ((who, Took other value) ∷ moves) slots replay =
+      let move = replay.0 in
       let next = slots_after who (Took other value) slots in
-      let has = chained moves next replay in
+      let has = chained moves next replay.1 in
       dite (ℕ_discrete slot other)
       (λ is.
       taken_move slots next who (Took other value) value moves (ap slots.word is ∙ move.1)
@@ -115,9 +120,10 @@ module _ (slot : ℕ) (inside : slot < SLOTS) (last : Slotted) where
       (λ apart.
       else_move slots next who (Took other value) moves refl (cond-false (eqb slot other) (who + 1) (slots.word slot) (ne_eqb slot other apart))
       (λ p ms. cond-false (eqb other slot) (holds_in slot (Some value) ms) (holds_in slot p ms) (ne_eqb other slot (λ same. apart (sym same)))) has)
-  chained ((who, Gave other value) ∷ moves) slots (move, replay) =
+  chained ((who, Gave other value) ∷ moves) slots replay =
+      let move = replay.0 in
       let next = slots_after who (Gave other value) slots in
-      let has = chained moves next replay in
+      let has = chained moves next replay.1 in
       dite (ℕ_discrete slot other)
       (λ is.
       given_move slots next who (Gave other value) value moves (ap slots.word is ∙ move.1)

@@ -91,17 +91,17 @@ module _ (segs : SegsView) (sound : segments.IsSound segs) (log : segs.log ≡ [
         length-map segs.retired (λ (given : ℕ × Run). given.1),
       ))
 
+  abbrev held : ℕ → List Segment → List AskLog → List Run → Holding
+  held heap owned claimed retired = record { owned = owned; claimed = claimed; came = runs_granted segs.log claimed; retired = retired }
+
   -- it has nothing for any heap
   pub bare_standing : (heap : ℕ) → standing_of heap segs ≡ no_holding
   bare_standing heap =
       let owned : owned_by heap segs ≡ [] = ap (λ (l : List Segment). owned_by heap (record segs { segments = l })) no_segments in
       let claimed : claimed_by heap segs ≡ [] = ap (λ (l : List AskLog). claimed_by heap (record segs { asks = l })) asks in
       let retired : given_up_by heap segs.retired ≡ [] = ap (given_up_by heap) no_retired in
-      ap (λ (l : List Segment). held l (claimed_by heap segs) (given_up_by heap segs.retired)) owned
-      ∙ (ap (λ (l : List AskLog). held [] l (given_up_by heap segs.retired)) claimed ∙ ap (λ (l : List Run). held [] [] l) retired)
-    where
-      abbrev held : List Segment → List AskLog → List Run → Holding
-      held owned claimed retired = record { owned = owned; claimed = claimed; came = runs_granted segs.log claimed; retired = retired }
+      ap (λ (l : List Segment). held heap l (claimed_by heap segs) (given_up_by heap segs.retired)) owned
+      ∙ (ap (λ (l : List AskLog). held heap [] l (given_up_by heap segs.retired)) claimed ∙ ap (λ (l : List Run). held heap [] [] l) retired)
 
   -- no outcome is logged
   none_logged : (entry : AskLog) → Contains segs.asks entry → ⊥

@@ -7,6 +7,7 @@ use Rattle.hp_log.specs.declared.log_record.LogRecord.{LogRecord}
 use Rattle.hp_segs.specs.GrantedRuns.{added_for, claimed_runs, granted_runs, runs_added}
 use Rattle.hp_segs.specs.GrowthLaws.{IsOfArmed}
 use Rattle.hp_segs.specs.LaterSteps.{armed_ask}
+use Rattle.hp_segs.specs.PendingRuns.{IsPending}
 use Rattle.hp_segs.specs.SegsView.{SegsView, granted_by, is_unclaimed}
 use Rattle.hp_segs.specs.SettledAsks.{IsSettled}
 use Rattle.hp_segs.specs.Sound.{IsSound}
@@ -73,7 +74,7 @@ module _ (participants : ℕ) (words : List ℕ) (kept : ℕ → Kept) (mine : �
       by true is =
           let by_entry : IsGrantedBy owned.segs.asks generation = granted_entry owned.segs.asks generation granted in
           let kept_ask = keeps_ask owned.segs by_entry.entry generation sound by_entry.there by_entry.granted in
-          let waits = record { logged = by_entry.there; its_ask = kept_ask.1; granted = by_entry.granted; unclaimed = is } in
+          let waits : IsPending owned.segs kept_ask.0 generation by_entry.entry = record { logged = by_entry.there; its_ask = kept_ask.1; granted = by_entry.granted; unclaimed = is } in
           absurd (pending_unsettled owned.segs kept_ask.0 generation by_entry.entry sound waits
           (all_settled kept_ask.0.from kept_ask.0 (owned.pending.of_armed by_entry.entry kept_ask.0 generation waits)))
 

@@ -31,7 +31,7 @@ use Rattle.hp_board.specs.declared.opening.Opening.{Opening}
 use Rattle.hp_board.specs.declared.view.Mine.{Mine}
 use Rattle.hp_board.proofs.Holders.{holds_beyond, holds_word, known_no, known_yes}
 use Rattle.hp_board.proofs.LockSteps.{held_means, held_no}
-use Rattle.hp_board.proofs.OwnerSteps.{owner_give, owner_give_heap, owner_other, owner_same, owner_take}
+use Rattle.hp_board.proofs.OwnerSteps.{held_known, owner_give, owner_give_heap, owner_other, owner_same, owner_take}
 use Rattle.hp_board.proofs.Updates.{with_at, with_at-here, with_at-else, each, each_word}
 
 -- a heap held with what is known has what the segment value has for it
@@ -153,7 +153,7 @@ module _ (opening : Opening) (words : List ℕ) (kept : ℕ → Kept) (mine : �
               ⊎_elim (λ settled. inl (settled_given (knows_of part) old.segs given sound sound' old.armed form ask.from ask.number settled))
               (λ holds. inr (word_of may holds)) (owner.asking ask (sym owner.armed ∙ was)))
               (λ arms.
-              let holds = Rattle.hp_board.proofs.OwnerSteps.held_known old.segs part.who part owner_part ask.heap arms.1 in
+              let holds = held_known old.segs part.who part owner_part ask.heap arms.1 in
               inr (word_of may (ap (λ (m : Mine). holds_heap ask.heap m) (ap mine arms.0 ∙ sym known) ∙ holds)))
               (armed_by_give (knows_of part) old.segs given form who ask is)
 

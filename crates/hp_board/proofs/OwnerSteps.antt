@@ -41,31 +41,34 @@ module _ (segs : SegsView) (who : ℕ) (mine : Mine) (owner : IsOwner segs who m
   owner_same new armed holdings held =
       owner_by segs who mine new owner armed (λ heap. ap (value_of heap) holdings) (λ heap. holds_alike heap mine new (ap (value_of heap) held))
 
-  taken_heap : (slot : ℕ) (heap : HeapView) → slot < MAX_HEAPS → IsOwner segs who (after_take slot (Heap heap) (standing_of slot segs) mine)
-  taken_heap slot heap below = record {
-    armed = owner.armed;
-    known = λ k.
-        dite (ℕ_discrete k slot)
-        (λ same.
-        subst (λ (j : ℕ). value_of j ((slot, standing_of slot segs) ∷ mine.holdings) ≡ holding_by (holds_heap j new) j segs) (sym same)
-        (value_of-here slot (standing_of slot segs) mine.holdings ∙ sym (known_yes (holds_heap slot new) slot segs holds_it)))
-        (λ apart.
-        value_of-else slot k (standing_of slot segs) mine.holdings apart ∙ (owner.known k ∙ ap (λ (b : Bool). holding_by b k segs) (sym (others k apart))));
-    asking = λ ask is. ⊎_elim (λ settled. inl settled) (λ held. inr (still ask.heap held)) (owner.asking ask is);
-  }
-    where
-      abbrev new : Mine
-      new = after_take slot (Heap heap) (standing_of slot segs) mine
+  module _ (slot : ℕ) (heap : HeapView) (below : slot < MAX_HEAPS) where
+    -- who has taken a heap, of which the segment value has this
+    abbrev taker : Mine
+    taker = after_take slot (Heap heap) (standing_of slot segs) mine
 
-      holds_it : holds_heap slot new ≡ true
-      holds_it = holds_yes slot new (Heap heap) below (value_of-here slot (Heap heap) mine.held)
+    taker_holds : holds_heap slot taker ≡ true
+    taker_holds = holds_yes slot taker (Heap heap) below (value_of-here slot (Heap heap) mine.held)
 
-      others : (k : ℕ) → k ≢ slot → holds_heap k new ≡ holds_heap k mine
-      others k apart = holds_alike k mine new (value_of-else slot k (Heap heap) mine.held apart)
+    taker_others : (k : ℕ) → k ≢ slot → holds_heap k taker ≡ holds_heap k mine
+    taker_others k apart = holds_alike k mine taker (value_of-else slot k (Heap heap) mine.held apart)
 
-      still : (k : ℕ) → holds_heap k mine ≡ true → holds_heap k new ≡ true
-      still k held =
-          dite (ℕ_discrete k slot) (λ same. subst (λ (j : ℕ). holds_heap j new ≡ true) (sym same) holds_it) (λ apart. others k apart ∙ held)
+    taker_still : (k : ℕ) → holds_heap k mine ≡ true → holds_heap k taker ≡ true
+    taker_still k held =
+        dite (ℕ_discrete k slot) (λ same. subst (λ (j : ℕ). holds_heap j taker ≡ true) (sym same) taker_holds) (λ apart. taker_others k apart ∙ held)
+
+    taken_heap : IsOwner segs who taker
+    taken_heap = record {
+      armed = owner.armed;
+      known = λ k.
+          dite (ℕ_discrete k slot)
+          (λ same.
+          subst (λ (j : ℕ). value_of j ((slot, standing_of slot segs) ∷ mine.holdings) ≡ holding_by (holds_heap j taker) j segs) (sym same)
+          (value_of-here slot (standing_of slot segs) mine.holdings ∙ sym (known_yes (holds_heap slot taker) slot segs taker_holds)))
+          (λ apart.
+          value_of-else slot k (standing_of slot segs) mine.holdings apart
+          ∙ (owner.known k ∙ ap (λ (b : Bool). holding_by b k segs) (sym (taker_others k apart))));
+      asking = λ ask is. ⊎_elim (λ settled. inl settled) (λ held. inr (taker_still ask.heap held)) (owner.asking ask is);
+    }
 
   -- a slot is taken, of which the segment value has this
   pub owner_take : (opening : Opening) (slot : ℕ) (kept : Kept) → IsKeptAt opening slot kept → IsOwner segs who (after_take slot kept (standing_of slot segs) mine)
@@ -78,29 +81,30 @@ module _ (segs : SegsView) (who : ℕ) (mine : Mine) (owner : IsOwner segs who m
       holds_beyond heap (after_take slot (Segments other) (standing_of slot segs) mine) high ∙ sym (holds_beyond heap mine high))
       (λ apart. holds_alike heap mine (after_take slot (Segments other) (standing_of slot segs) mine) (value_of-else slot heap (Segments other) mine.held apart)))
 
-  -- a heap is given: the giver's ask for it, where it is armed with one, is settled
-  pub owner_give_heap : (slot : ℕ) (heap : HeapView) → ((ask : Ask) → mine.armed ≡ Some ask → ask.heap ≡ slot → IsSettled ask.from ask.number segs)
-      → IsOwner segs who (after_give slot (Heap heap) mine)
-  owner_give_heap slot heap settled = record {
-    armed = owner.armed;
-    known = λ k.
-        dite (ℕ_discrete k slot)
-        (λ same.
-        subst (λ (j : ℕ). value_of j (without slot mine.holdings) ≡ holding_by (holds_heap j new) j segs) (sym same)
-        (value_of-without slot mine.holdings ∙ sym (known_no (holds_heap slot new) slot segs (holds_no slot new (value_of-without slot mine.held)))))
-        (λ apart.
-        value_of-without_else slot k mine.holdings apart ∙ (owner.known k ∙ ap (λ (b : Bool). holding_by b k segs) (sym (others k apart))));
-    asking = λ ask is.
-        dite (ℕ_discrete ask.heap slot)
-        (λ same. inl (settled ask is same))
-        (λ apart. ⊎_elim (λ was. inl was) (λ held. inr (others ask.heap apart ∙ held)) (owner.asking ask is));
-  }
-    where
-      abbrev new : Mine
-      new = after_give slot (Heap heap) mine
+  module _ (slot : ℕ) (heap : HeapView) where
+    -- who has given a heap
+    abbrev left : Mine
+    left = after_give slot (Heap heap) mine
 
-      others : (k : ℕ) → k ≢ slot → holds_heap k new ≡ holds_heap k mine
-      others k apart = holds_alike k mine new (value_of-without_else slot k mine.held apart)
+    left_others : (k : ℕ) → k ≢ slot → holds_heap k left ≡ holds_heap k mine
+    left_others k apart = holds_alike k mine left (value_of-without_else slot k mine.held apart)
+
+    -- its ask for the heap, where it is armed with one, is settled
+    pub owner_give_heap : ((ask : Ask) → mine.armed ≡ Some ask → ask.heap ≡ slot → IsSettled ask.from ask.number segs) → IsOwner segs who left
+    owner_give_heap settled = record {
+      armed = owner.armed;
+      known = λ k.
+          dite (ℕ_discrete k slot)
+          (λ same.
+          subst (λ (j : ℕ). value_of j (without slot mine.holdings) ≡ holding_by (holds_heap j left) j segs) (sym same)
+          (value_of-without slot mine.holdings ∙ sym (known_no (holds_heap slot left) slot segs (holds_no slot left (value_of-without slot mine.held)))))
+          (λ apart.
+          value_of-without_else slot k mine.holdings apart ∙ (owner.known k ∙ ap (λ (b : Bool). holding_by b k segs) (sym (left_others k apart))));
+      asking = λ ask is.
+          dite (ℕ_discrete ask.heap slot)
+          (λ same. inl (settled ask is same))
+          (λ apart. ⊎_elim (λ was. inl was) (λ held. inr (left_others ask.heap apart ∙ held)) (owner.asking ask is));
+    }
 
   -- what it knows of a heap in hand, and that of no other heap it knows anything
   pub held_known : (heap : ℕ) → IsSome (value_of heap mine.holdings) → holds_heap heap mine ≡ true
@@ -113,33 +117,34 @@ module _ (segs : SegsView) (who : ℕ) (mine : Mine) (owner : IsOwner segs who m
 -- the segment value is given
 module _ (taken given : SegsView) (part : Mine) (sound : IsSound taken) (sound' : IsSound given) (armed : IsArmed taken)
     (form : GivesForm (knows_of part) taken given) where
-  -- by the participant itself, at whose hand the slot was
-  pub owner_give : (slot : ℕ) → MAX_HEAPS ≤ slot → IsOwner taken part.who part → IsOwner given part.who (after_give slot (Segments given) part)
-  owner_give slot high owner = record {
-    armed = refl;
-    known = λ k.
-        holdings_told k given part.holdings
-        ∙ (ap (option_map (λ holding. standing_of k given)) (owner.known k)
-        ∙ (holding_told (holds_heap k part) k taken given ∙ ap (λ (b : Bool). holding_by b k given) (sym (same k))));
-    asking = λ ask is.
-        ⊎_elim
-        (λ was.
-        ⊎_elim (λ settled. inl (settled_given (knows_of part) taken given sound sound' armed form ask.from ask.number settled))
-        (λ held. inr (same ask.heap ∙ held)) (owner.asking ask (sym owner.armed ∙ was)))
-        (λ arms. inr (same ask.heap ∙ held_known taken part.who part owner ask.heap arms.1))
-        (armed_by_give (knows_of part) taken given form part.who ask is);
-  }
-    where
-      abbrev new : Mine
-      new = after_give slot (Segments given) part
+  module _ (slot : ℕ) (high : MAX_HEAPS ≤ slot) where
+    -- by the participant itself
+    abbrev giver : Mine
+    giver = after_give slot (Segments given) part
 
-      same : (k : ℕ) → holds_heap k new ≡ holds_heap k part
-      same k =
-          dite (ℕ_discrete k slot)
-          (λ is.
-          let above : MAX_HEAPS ≤ k = omega (arith, is, high) in
-          holds_beyond k new above ∙ sym (holds_beyond k part above))
-          (λ apart. holds_alike k part new (value_of-without_else slot k part.held apart))
+    giver_holds : (k : ℕ) → holds_heap k giver ≡ holds_heap k part
+    giver_holds k =
+        dite (ℕ_discrete k slot)
+        (λ is.
+        let above : MAX_HEAPS ≤ k = omega (arith, is, high) in
+        holds_beyond k giver above ∙ sym (holds_beyond k part above))
+        (λ apart. holds_alike k part giver (value_of-without_else slot k part.held apart))
+
+    pub owner_give : IsOwner taken part.who part → IsOwner given part.who giver
+    owner_give owner = record {
+      armed = refl;
+      known = λ k.
+          holdings_told k given part.holdings
+          ∙ (ap (option_map (λ holding. standing_of k given)) (owner.known k)
+          ∙ (holding_told (holds_heap k part) k taken given ∙ ap (λ (b : Bool). holding_by b k given) (sym (giver_holds k))));
+      asking = λ ask is.
+          ⊎_elim
+          (λ was.
+          ⊎_elim (λ settled. inl (settled_given (knows_of part) taken given sound sound' armed form ask.from ask.number settled))
+          (λ held. inr (giver_holds ask.heap ∙ held)) (owner.asking ask (sym owner.armed ∙ was)))
+          (λ arms. inr (giver_holds ask.heap ∙ held_known taken part.who part owner ask.heap arms.1))
+          (armed_by_give (knows_of part) taken given form part.who ask is);
+    }
 
   -- by another: of the heaps that it holds the giver knows nothing
   pub owner_other : (who : ℕ) (mine : Mine) → who ≢ part.who → ((heap : ℕ) → holds_heap heap mine ≡ true → value_of heap part.holdings ≡ None)
