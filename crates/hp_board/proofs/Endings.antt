@@ -1,6 +1,8 @@
 -- A board whose every participant has come back and holds nothing has every value at home.
-use Rattle.std.proofs.Common.{◌≡◌, ◌≢◌, ℕ, ◌-◌, ◌<◌, ◌≤◌, List, [], get_or, Option, Some, None, refl, sym, ap, subst, ◌∙◌, arith}
-use Rattle.std.specs.List.{Contains, All, slice_get}
+use Rattle.std.proofs.Common.{◌≡◌, ◌≢◌, ℕ, ◌-◌, ◌<◌, ◌≤◌, List, [], map, get_or, Option, Some, None, refl, sym, ap, subst, ◌∙◌, arith}
+use Rattle.std.specs.List.{Contains, All, flat_map, range_with_len, slice_get}
+use Rattle.std.specs.List.Sorted.{IsPermutation}
+use Rattle.std.proofs.lemmas.List.Sorted.{IsPermutation-trans}
 use Rattle.std.proofs.lemmas.Option.{slice_get-get_or, slice_get_within}
 use Rattle.std.proofs.lemmas.List.Elements.{All-contains}
 use mathlib.Core.Logic.{dite}
@@ -22,13 +24,17 @@ use Rattle.hp_board.specs.BoardRule.{IsBoard}
 use Rattle.hp_board.specs.BoardView.{BoardView}
 use Rattle.hp_board.specs.Agreement.{HasTakenIn, IsDeclaredRoster}
 use Rattle.hp_segs.specs.LaterSteps.{armed_ask}
-use Rattle.hp_segs.specs.Standing.{standing_of}
+use Rattle.hp_base.specs.declared.row.Run.{Run}
+use Rattle.hp_heap.specs.HistoryLaws.{runs_cut}
+use Rattle.hp_segs.specs.Returned.{gone_in}
+use Rattle.hp_segs.specs.Standing.{Holding, given_up_by, standing_of}
 use Rattle.hp_hall.specs.Holding.{HasHolding}
 use Rattle.hp_board.specs.Closing.{IsArmedAsKnown, IsFreeSeat, IsAmong, IsLeftIn, IsNotedUpTo, AreHeaps, AreLeftSegs, AreOwnedAtLast, HaveMoved, KeepCallsOf, KeepsTableOf}
 use Rattle.hp_board.specs.MovesKept.{AreAlike, AreMoved, Replays, all_free, holds_in, slots_by}
 use Rattle.hp_board.specs.Ownership.{AreOwned, IsOwnedIn}
 use Rattle.hp_board.proofs.MoveChains.{chained, pending_free}
 use Rattle.hp_board.proofs.MoveSteps.{replay-alike}
+use Rattle.hp_board.proofs.GivenUpRuns.{all_given, given_below, pieces_placed}
 use Rattle.hp_board.proofs.OwnedLeft.{all_settled, granted_are, none_open}
 use Rattle.hp_board.specs.Lag.{IsLagging}
 use Rattle.hp_board.specs.Words.{ack_word}
@@ -198,12 +204,28 @@ module _ (o : Opening) (view : View) (items : List (Option Kept)) (told : IsTold
       let is = is_kept slot heap there in
       subst (IsOwnedIn told.owned.segs slot) is.1 (told.owned.home slot is.0 (told.home slot is.0))
 
+  -- the runs that were cut are those that were given up
+  cut_is : flat_map (λ (heap : HeapView). runs_cut heap.history) heaps ≡ flat_map (λ (slot : ℕ). given_up_by slot told.owned.segs.retired) (range_with_len 0 MAX_HEAPS)
+  cut_is =
+      pieces_placed (λ (heap : HeapView). runs_cut heap.history) (λ (slot : ℕ). given_up_by slot told.owned.segs.retired) 0 heaps
+      (λ place heap there. (heap_has place heap there).cut ∙ ap (λ (slot : ℕ). given_up_by slot told.owned.segs.retired) (omega arith))
+      ∙ ap (λ (n : ℕ). flat_map (λ (slot : ℕ). given_up_by slot told.owned.segs.retired) (range_with_len 0 n)) from.count
+
+  gone_are : IsPermutation (flat_map (λ (heap : HeapView). runs_cut heap.history) heaps) (gone_in told.owned.segs)
+  gone_are =
+      let retired = told.owned.segs.retired in
+      let pieces : List Run = flat_map (λ (slot : ℕ). given_up_by slot retired) (range_with_len 0 MAX_HEAPS) in
+      subst (λ (l : List Run). IsPermutation l (gone_in told.owned.segs)) (sym cut_is)
+      (IsPermutation-trans pieces (map (λ (given : ℕ × Run). given.1) retired) (gone_in told.owned.segs)
+      (all_given MAX_HEAPS retired (given_below MAX_HEAPS retired (λ heap high. ap (λ (h : Holding). h.retired) (told.owned.none heap high)))) owned_sound.returned)
+
   pub owned_are : AreOwnedAtLast heaps segs
   owned_are =
       subst (AreOwnedAtLast heaps) owned_is (record {
         has = heap_has;
         granted = λ slot heap there.
             (heap_has slot heap there).grown ∙ granted_are o.participants told.words told.kept told.mine told.owned told.free owned_sound slot;
+        gone = gone_are;
         growth = none_open o.participants told.words told.kept told.mine told.owned told.free owned_sound;
         settled = all_settled o.participants told.words told.kept told.mine told.owned told.free owned_sound;
         none = told.owned.none;

@@ -34,6 +34,7 @@ pub mod MoveChains
 pub mod Learned
 pub mod BoardSteps
 pub mod OwnedLeft
+pub mod GivenUpRuns
 pub mod OpeningOwned
 pub mod Openings
 pub mod TablesLeft

@@ -1,12 +1,14 @@
 -- What a closed board hands out: the rule "Opening and closing" of docs/BOARD.md.
 use Rattle.std.specs.Prelude.{◌≡◌, ℕ, ◌<◌, ◌≤◌, true, false, List, [], Some, None, Contains, length}
-use Rattle.std.specs.List.{slice_get}
+use Rattle.std.specs.List.{flat_map, slice_get}
+use Rattle.std.specs.List.Sorted.{IsPermutation}
 use Rattle.hp_base.specs.declared.limits.TheConstants.{MAX_HEAPS}
 use Rattle.hp_base.specs.declared.row.Row.{Row}
 use Rattle.hp_heap.specs.History.{HeapView, entries_of}
-use Rattle.hp_heap.specs.HistoryLaws.{runs_grown}
+use Rattle.hp_heap.specs.HistoryLaws.{runs_cut, runs_grown}
 use Rattle.hp_segs.specs.GrantedRuns.{granted_runs}
 use Rattle.hp_segs.specs.LaterSteps.{armed_ask}
+use Rattle.hp_segs.specs.Returned.{gone_in}
 use Rattle.hp_segs.specs.SegsView.{SegsView, is_member}
 use Rattle.hp_segs.specs.SettledAsks.{IsSettled}
 use Rattle.hp_segs.specs.Sound.{IsSound}
@@ -77,11 +79,13 @@ pub record KeepsTableOf (segs : SegsView) (mine : Mine) : Type 0 where
   pub out : mine.joined ≡ false → table_of mine ≡ []
 
 -- Each heap has what the segment value has for it: the pages of its own segments, and by its history the runs that it has claimed and given
--- up, each in order. Each run that was granted is claimed, no growth is open, and each ask with which somebody is armed is settled. For what
--- is no heap of the board the segment value has nothing.
+-- up, each in order. Each run that was granted is claimed: a heap's growths are those that were granted for it. Each run that was cut has one
+-- Drop of its own or is Retiring, and every other Drop is that of a growth that failed. No growth is open, and each ask with which somebody is
+-- armed is settled. For what is no heap of the board the segment value has nothing.
 pub record AreOwnedAtLast (heaps : List HeapView) (segs : SegsView) : Type 0 where
   pub has : (slot : ℕ) (heap : HeapView) → slice_get heaps slot ≡ Some heap → HasHolding heap (standing_of slot segs)
   pub granted : (slot : ℕ) (heap : HeapView) → slice_get heaps slot ≡ Some heap → runs_grown heap.history ≡ granted_runs slot segs.asks 1 segs.log
+  pub gone : IsPermutation (flat_map (λ heap. runs_cut heap.history) heaps) (gone_in segs)
   pub growth : segs.growth ≡ None
   pub settled : (who : ℕ) (ask : Ask) → armed_ask segs who ≡ Some ask → IsSettled ask.from ask.number segs
   pub none : (heap : ℕ) → MAX_HEAPS ≤ heap → standing_of heap segs ≡ no_holding
