@@ -92,9 +92,9 @@ pub record IsTold (o : Opening) (view : View) (items : List (Option Kept)) : Typ
   pub kept : ℕ → Kept
   pub mine : ℕ → Mine
   pub words : List ℕ
-  pub home : (slot : ℕ) → slot < SLOTS → get_or words slot 0 ≡ 0
+  pub freed : (slot : ℕ) → slot < SLOTS → get_or words slot 0 ≡ 0
   pub part_is : (part : Mine) → Contains view.parts part → (part.who < o.participants) × (part ≡ mine part.who)
-  pub free : (who : ℕ) → who < o.participants → (mine who).held ≡ []
+  pub unheld : (who : ℕ) → who < o.participants → (mine who).held ≡ []
   pub owned : AreOwned o.participants words kept mine
   pub moved : AreMoved o words kept mine
   pub values : (slot : ℕ) → slot < SLOTS → get_elem? items slot ≡ some (Some (kept slot))
@@ -115,9 +115,9 @@ ends o id view words items all (s, (board, at), words_are, long, each) = record 
   kept = board.kept;
   mine = board.mine;
   words = s.words;
-  home = λ slot within. free o s board id view at all slot within;
+  freed = λ slot within. free o s board id view at all slot within;
   part_is = λ part has. part_known o s board id view at part has;
-  free = λ who may.
+  unheld = λ who may.
       let (part, has, is, empty) = all.each who may in
       let known = part_known o s board id view at part has in
       ap (λ (w : ℕ). (board.mine w).held) (sym is) ∙ (ap (λ (m : Mine). m.held) (sym known.1) ∙ empty);
@@ -202,7 +202,7 @@ module _ (o : Opening) (view : View) (items : List (Option Kept)) (told : IsTold
   heap_has : (slot : ℕ) (heap : HeapView) → slice_get heaps slot ≡ Some heap → HasHolding heap (standing_of slot told.owned.segs)
   heap_has slot heap there =
       let is = is_kept slot heap there in
-      subst (IsOwnedIn told.owned.segs slot) is.1 (told.owned.home slot is.0 (told.home slot is.0))
+      subst (IsOwnedIn told.owned.segs slot) is.1 (told.owned.home slot is.0 (told.freed slot is.0))
 
   -- the runs that were cut are those that were given up
   cut_is : flat_map (λ (heap : HeapView). runs_cut heap.history) heaps ≡ flat_map (λ (slot : ℕ). given_up_by slot told.owned.segs.retired) (range_with_len 0 MAX_HEAPS)
@@ -224,10 +224,10 @@ module _ (o : Opening) (view : View) (items : List (Option Kept)) (told : IsTold
       subst (AreOwnedAtLast heaps) owned_is (record {
         has = heap_has;
         granted = λ slot heap there.
-            (heap_has slot heap there).grown ∙ granted_are o.participants told.words told.kept told.mine told.owned told.free owned_sound slot;
+            (heap_has slot heap there).grown ∙ granted_are o.participants told.words told.kept told.mine told.owned told.unheld owned_sound slot;
         gone = gone_are;
-        growth = none_open o.participants told.words told.kept told.mine told.owned told.free owned_sound;
-        settled = all_settled o.participants told.words told.kept told.mine told.owned told.free owned_sound;
+        growth = none_open o.participants told.words told.kept told.mine told.owned told.unheld owned_sound;
+        settled = all_settled o.participants told.words told.kept told.mine told.owned told.unheld owned_sound;
         none = told.owned.none;
       })
 
@@ -257,7 +257,7 @@ module _ (o : Opening) (view : View) (items : List (Option Kept)) (told : IsTold
       told.moved.own part.who its.0 ∙ ap (λ (m : Mine). m.moves) (sym its.1)
 
   all_home : AreAlike (slots_by told.kept told.words) (all_free told.kept)
-  all_home = record { value = λ slot within. refl; word = λ slot within. sym (told.home slot within) }
+  all_home = record { value = λ slot within. refl; word = λ slot within. sym (told.freed slot within) }
 
   whole : Replays (all_free told.moved.first) told.moved.moves (all_free told.kept)
   whole = replay-alike (all_free told.moved.first) (slots_by told.kept told.words) (all_free told.kept) told.moved.moves told.moved.replay all_home

@@ -1,5 +1,5 @@
 -- Calls of a heap between taking it and giving it back, and values that go back as they were taken: what may be given.
-use Rattle.std.proofs.Common.{◌≡◌, ℕ, ◌+◌, List, [], ◌∷◌, ◌++◌, length, drop, Option, Some, None, refl, sym, ap, subst, ◌∙◌, arith}
+use Rattle.std.proofs.Common.{◌≡◌, ℕ, ◌+◌, List, [], ◌∷◌, ◌++◌, length, drop, Option, Some, None, sym, ap, subst, ◌∙◌, arith}
 use Rattle.std.specs.List.{Contains}
 use Rattle.std.proofs.Math.Seq.{drop-length}
 use Rattle.std.proofs.lemmas.List.{append_assoc, append-nil}
@@ -9,8 +9,7 @@ use Rattle.hp_heap.specs.declared.entry.HeapAnswer.{HeapAnswer}
 use Rattle.hp_heap.specs.PlainHeap.{PlainHeap}
 use Rattle.hp_heap.specs.History.{HeapView, IsCall, SameButSpare}
 use Rattle.hp_heap.proofs.HistoryLaw.{IsSameHeap, after-same}
-use Rattle.hp_hall.specs.declared.kept.Kept.{Kept}
-use Rattle.hp_hall.specs.declared.kept.Kept.TheVariants.{Heap, Segments}
+use Rattle.hp_hall.specs.declared.kept.Kept.TheVariants.{Heap}
 use Rattle.hp_board.specs.declared.view.Mine.{Mine}
 use Rattle.hp_hall.specs.SegsGives.{AgreesBy}
 use Rattle.hp_segs.specs.SegsView.{SegsView}

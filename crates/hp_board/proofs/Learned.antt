@@ -1,8 +1,7 @@
 -- What a taker learns of ownership, and that the table of a member has the pages of the heaps that it holds.
-use Rattle.std.proofs.Common.{◌≡◌, ◌∙◌, ⊎_elim, inl, inr, ℕ, ◌<◌, ◌≤◌, true, false, List, Option, Some, None, refl, sym, ap, subst, arith, unwrap_or}
+use Rattle.std.proofs.Common.{◌≡◌, ◌∙◌, ⊎_elim, inl, inr, ℕ, true, List, Option, Some, None, sym, ap, subst, unwrap_or}
 use Rattle.std.specs.Prelude.{Contains, slice_get}
-use Rattle.std.specs.Option.{IsSome, is_some}
-use Rattle.std.proofs.lemmas.Bool.{false≢true}
+use Rattle.std.specs.Option.{is_some}
 use Rattle.std.proofs.lemmas.List.Elements.{Contains-append_left}
 use Rattle.hp_heap.specs.History.{HeapView}
 use Rattle.hp_base.specs.declared.row.Row.{Row}
@@ -14,9 +13,8 @@ use Rattle.hp_segs.specs.Sound.{IsSound}
 use Rattle.hp_segs.specs.Standing.{Holding, IsArmed, owned_by, standing_of}
 use Rattle.hp_segs.specs.declared.ask.Ask.{Ask}
 use Rattle.hp_segs.specs.declared.outcome.AskLog.{AskLog}
-use Rattle.hp_segs.specs.declared.row_state.Segment.{Segment}
 use Rattle.hp_hall.specs.Asks.{ClaimsGrants}
-use Rattle.hp_hall.specs.Holding.{HasHolding, HeapPart, IsAsPart, IsClaimedFor, IsHeldWith, AreStanding}
+use Rattle.hp_hall.specs.Holding.{HasHolding, IsAsPart, IsClaimedFor, IsHeldWith, AreStanding}
 use Rattle.hp_hall.proofs.GivenAsks.{asker_is}
 use Rattle.hp_hall.proofs.KnownAsks.{settled_is_claimed}
 use Rattle.hp_hall.proofs.OwnedKnown.{owned_known}
@@ -24,8 +22,8 @@ use Rattle.hp_board.specs.Agreement.{HasTakenIn}
 use Rattle.hp_board.specs.KeptValues.{IsHeapAt}
 use Rattle.hp_board.specs.Knowing.{HasMappedHeld, heap_part, holds_heap}
 use Rattle.hp_board.specs.Lag.{IsLagging}
-use Rattle.hp_board.specs.Ownership.{IsOwner, holding_by}
-use Rattle.hp_board.specs.Views.{BeginsWith, own_of, table_of, value_of}
+use Rattle.hp_board.specs.Ownership.{IsOwner}
+use Rattle.hp_board.specs.Views.{BeginsWith, own_of, value_of}
 use Rattle.hp_board.specs.declared.opening.Opening.{Opening}
 use Rattle.hp_board.specs.declared.view.Mine.{Mine}
 use Rattle.hp_board.proofs.Holders.{known_if, known_yes}

@@ -1,7 +1,6 @@
 -- What a segment value without a record has for heaps: nothing; and that heaps without an entry have that.
-use Rattle.std.proofs.Common.{◌≡◌, ◌∙◌, ℕ, zero, suc, ◌+◌, ◌<◌, ◌≤◌, true, false, Bool, List, [], ◌∷◌, ◌++◌, map, length, get_or, Option, Some, None, refl, sym, ap, subst, arith}
+use Rattle.std.proofs.Common.{◌≡◌, ◌∙◌, ℕ, ◌+◌, false, List, [], ◌∷◌, ◌++◌, map, length, Option, Some, None, refl, sym, ap, subst, arith}
 use Rattle.std.specs.List.{All, Contains}
-use Rattle.std.specs.List.Sorted.{IsPermutation}
 use Rattle.std.proofs.lemmas.List.{length-append, length-map, nil_from_length}
 use Rattle.std.proofs.lemmas.List.Elements.{All-head}
 use Rattle.std.proofs.lemmas.List.Sorted.{length_permutation}
@@ -14,13 +13,12 @@ use Rattle.hp_heap.specs.declared.entry.Entry.{Entry}
 use Rattle.hp_log.specs.Log.{table_of}
 use Rattle.hp_log.specs.Rows.{IsUsedRun}
 use Rattle.hp_log.specs.declared.log_record.LogRecord.{LogRecord}
-use Rattle.hp_segs.specs.LaterSteps.{armed_ask}
 use Rattle.hp_segs.specs.PendingRuns.{ArePending}
 use Rattle.hp_segs.specs.Returned.{returned_runs}
-use Rattle.hp_segs.specs.SegsView.{SegsView, granted_by}
+use Rattle.hp_segs.specs.SegsView.{SegsView}
 use Rattle.hp_segs.specs.Sound as segments
 use Rattle.hp_segs.specs.SoundRows.{growth_run}
-use Rattle.hp_segs.specs.Standing.{Holding, IsArmed, claimed_by, given_up_by, is_claimed_for, owned_by, run_granted, runs_granted, standing_of}
+use Rattle.hp_segs.specs.Standing.{Holding, IsArmed, claimed_by, given_up_by, owned_by, runs_granted, standing_of}
 use Rattle.hp_segs.specs.Table.{IsListRun}
 use Rattle.hp_segs.specs.Lists.{lists_of}
 use Rattle.hp_segs.specs.declared.growth.Growth.{Growth}
@@ -59,7 +57,8 @@ module _ (segs : SegsView) (sound : segments.IsSound segs) (log : segs.log ≡ [
       let some = (All-head (IsListRun (lists_of segs.pools)) run runs listed).some in
       let first = (All-head (IsUsedRun (map (λ (segment : Segment). segment.row) segs.segments)) run runs used).used 0 some in
       let none = subst (λ (rows : List Row). Rattle.hp_log.specs.Rows.rows_at rows run.list (run.first + 0) ≡ 1) no_rows first in
-      absurd (omega (arith, none))
+      let wrong : ◌≡◌ {A = ℕ} 0 1 = none in
+      absurd (omega (arith, wrong))
 
   no_open : growth_run segs.growth ++ segs.retiring ≡ []
   no_open = no_held (growth_run segs.growth ++ segs.retiring) sound.rows.held.listed sound.rows.held.used
@@ -69,7 +68,9 @@ module _ (segs : SegsView) (sound : segments.IsSound segs) (log : segs.log ≡ [
 
   growth_by : (growth : Option Growth) → length (growth_run growth) ≡ 0 → growth ≡ None
   growth_by None none = refl
-  growth_by (Some growth) none = absurd (omega (arith, none))
+  growth_by (Some growth) none =
+      let wrong : ◌≡◌ {A = ℕ} 1 0 = none in
+      absurd (omega (arith, wrong))
 
   no_growth : segs.growth ≡ None
   no_growth = growth_by segs.growth (omega (arith, length-append (growth_run segs.growth) segs.retiring, ap length no_open))

@@ -1,27 +1,24 @@
 -- What a closed board says of ownership: each ask is settled, no growth is open, and each run that was granted is claimed.
-use Rattle.std.proofs.Common.{◌≡◌, ◌∙◌, ⊎_elim, ℕ, ◌+◌, ◌<◌, ◌≤◌, Bool, true, false, not, ◌&&◌, List, [], ◌∷◌, ◌++◌, Option, Some, None, refl, sym, ap, arith}
-use Rattle.std.specs.Prelude.{Contains}
+use Rattle.std.proofs.Common.{◌≡◌, ◌∙◌, ⊎_elim, ℕ, ◌+◌, ◌<◌, ◌≤◌, Bool, true, false, not, ◌&&◌, List, [], ◌∷◌, ◌++◌, Option, Some, None, refl, sym, ap}
 use Rattle.std.proofs.lemmas.Bool.{cases_lt, false≢true}
 use Rattle.hp_base.specs.declared.row.Run.{Run}
 use Rattle.hp_log.specs.declared.log_record.LogRecord.{LogRecord}
-use Rattle.hp_segs.specs.GrantedRuns.{added_for, claimed_runs, granted_runs, runs_added}
+use Rattle.hp_segs.specs.GrantedRuns.{added_for, granted_runs, runs_added}
 use Rattle.hp_segs.specs.GrowthLaws.{IsOfArmed}
 use Rattle.hp_segs.specs.LaterSteps.{armed_ask}
 use Rattle.hp_segs.specs.PendingRuns.{IsPending}
-use Rattle.hp_segs.specs.SegsView.{SegsView, granted_by, is_unclaimed}
+use Rattle.hp_segs.specs.SegsView.{is_unclaimed}
 use Rattle.hp_segs.specs.SettledAsks.{IsSettled}
 use Rattle.hp_segs.specs.Sound.{IsSound}
-use Rattle.hp_segs.specs.SoundAsks.{grants, is_grant_of, is_granted}
+use Rattle.hp_segs.specs.SoundAsks.{is_granted}
 use Rattle.hp_segs.specs.Standing.{standing_of}
 use Rattle.hp_segs.specs.declared.ask.Ask.{Ask}
 use Rattle.hp_segs.specs.declared.growth.Growth.{Growth}
-use Rattle.hp_segs.specs.declared.outcome.AskLog.{AskLog}
 use Rattle.hp_segs.proofs.ClaimedOrder.{claimed_in_order}
 use Rattle.hp_segs.proofs.SettledLaws.{above_is_unsettled}
 use Rattle.hp_hall.proofs.AskFacts.{keeps_ask, pending_unsettled}
 use Rattle.hp_hall.proofs.LogAsks.{armed_growth}
 use Rattle.hp_hall.specs.declared.kept.Kept.{Kept}
-use Rattle.hp_board.specs.Knowing.{holds_heap}
 use Rattle.hp_board.specs.Ownership.{AreOwned}
 use Rattle.hp_board.specs.Views.{value_of}
 use Rattle.hp_board.specs.declared.view.Mine.{Mine}

@@ -1,9 +1,7 @@
 -- Ownership is kept by each kind of step.
-use Rattle.std.proofs.Common.{◌≡◌, ◌≢◌, ◌∙◌, ◌⊎◌, inl, inr, ⊎_elim, ℕ, ◌+◌, ◌<◌, ◌≤◌, Bool, true, false, eqb, eq-eqb, eqb-true, ltb, ◌&&◌, List, ◌++◌, length, get_or, set, Option, Some, None, refl, sym, ap, subst, arith, get_or-set_other}
-use Rattle.std.proofs.lemmas.Bool.{and_from, and_parts, cases_lt, false≢true, lt-ltb}
-use mathlib.Core.Logic.{dite}
+use Rattle.std.proofs.Common.{◌≡◌, ◌≢◌, ◌∙◌, ◌⊎◌, inl, inr, ⊎_elim, ℕ, ◌+◌, ◌<◌, ◌≤◌, Bool, true, false, eqb, eq-eqb, eqb-true, List, length, get_or, set, Option, Some, None, refl, sym, ap, subst, arith, get_or-set_other}
+use Rattle.std.proofs.lemmas.Bool.{cases_lt}
 use mathlib.Core.Option as maybe
-use native.Mathlib.Decide.{ℕ_discrete}
 use Rattle.hp_base.specs.declared.limits.TheConstants.{MAX_HEAPS}
 use Rattle.hp_heap.specs.History.{HeapView}
 use Rattle.hp_segs.specs.LaterSteps.{armed_ask}
@@ -12,7 +10,6 @@ use Rattle.hp_segs.specs.SettledAsks.{IsSettled}
 use Rattle.hp_segs.specs.Sound.{IsSound}
 use Rattle.hp_segs.specs.Standing.{Holding, standing_of}
 use Rattle.hp_segs.specs.declared.ask.Ask.{Ask}
-use Rattle.hp_segs.specs.declared.outcome.AskLog.{AskLog}
 use Rattle.hp_hall.specs.Asks.{IsKnownSettled}
 use Rattle.hp_hall.specs.Giving.{GivesFor, GivesForm, GivesHeap}
 use Rattle.hp_hall.specs.Holding.{HasHolding, IsHeldWith}
@@ -23,14 +20,13 @@ use Rattle.hp_hall.proofs.Formed.{armed_given, asks_given, standing_given}
 use Rattle.hp_hall.proofs.GivenAsks.{armed_by_give, pending_given, settled_given}
 use Rattle.hp_hall.proofs.KnownAsks.{known_is_settled}
 use Rattle.hp_board.specs.KeptValues.{IsKeptAt}
-use Rattle.hp_board.specs.Knowing.{heap_part, holds_heap, knows_of}
+use Rattle.hp_board.specs.Knowing.{holds_heap, knows_of}
 use Rattle.hp_board.specs.Locks.{AreLocked}
-use Rattle.hp_board.specs.Ownership.{AreOwned, IsOwnedIn, IsOwner, holding_by, no_holding}
+use Rattle.hp_board.specs.Ownership.{AreOwned, IsOwnedIn, IsOwner, holding_by}
 use Rattle.hp_board.specs.Views.{BeginsWith, after_give, after_take, value_of}
 use Rattle.hp_board.specs.declared.opening.Opening.{Opening}
 use Rattle.hp_board.specs.declared.view.Mine.{Mine}
 use Rattle.hp_board.proofs.Holders.{holds_beyond, holds_word, known_no, known_yes}
-use Rattle.hp_board.proofs.LockSteps.{held_means, held_no}
 use Rattle.hp_board.proofs.OwnerSteps.{held_known, owner_give, owner_give_heap, owner_other, owner_same, owner_take}
 use Rattle.hp_board.proofs.Updates.{with_at, with_at-here, with_at-else, each, each_word}
 

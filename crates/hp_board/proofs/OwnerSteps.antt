@@ -1,29 +1,28 @@
 -- What a participant owns is kept by each kind of step: of the one who makes it, and of the others.
-use Rattle.std.proofs.Common.{◌≡◌, ◌≢◌, ◌∙◌, ◌⊎◌, inl, inr, ⊎_elim, ℕ, ◌<◌, ◌≤◌, Bool, true, false, List, ◌∷◌, map, Option, Some, None, refl, sym, ap, subst, arith}
+use Rattle.std.proofs.Common.{◌≡◌, ◌≢◌, ◌∙◌, ◌⊎◌, inl, inr, ⊎_elim, ℕ, ◌<◌, ◌≤◌, Bool, true, false, ◌∷◌, Some, None, refl, sym, ap, subst, arith}
 use Rattle.std.specs.Option.{IsSome, is_some, option_map}
 use Rattle.std.proofs.lemmas.Bool.{false≢true}
 use mathlib.Core.Logic.{dite}
 use native.Mathlib.Decide.{ℕ_discrete}
 use Rattle.hp_base.specs.declared.limits.TheConstants.{MAX_HEAPS}
 use Rattle.hp_heap.specs.History.{HeapView}
-use Rattle.hp_segs.specs.LaterSteps.{armed_ask}
 use Rattle.hp_segs.specs.SegsView.{SegsView}
 use Rattle.hp_segs.specs.SettledAsks.{IsSettled}
 use Rattle.hp_segs.specs.Sound.{IsSound}
-use Rattle.hp_segs.specs.Standing.{Holding, IsArmed, standing_of}
+use Rattle.hp_segs.specs.Standing.{IsArmed, standing_of}
 use Rattle.hp_segs.specs.declared.ask.Ask.{Ask}
 use Rattle.hp_hall.specs.Giving.{GivesForm}
 use Rattle.hp_hall.specs.declared.kept.Kept.{Kept}
 use Rattle.hp_hall.specs.declared.kept.Kept.TheVariants.{Heap, Segments}
 use Rattle.hp_hall.proofs.Formed.{asks_given, standing_given}
-use Rattle.hp_hall.proofs.GivenAsks.{ArmsForHeld, armed_by_give, settled_given}
+use Rattle.hp_hall.proofs.GivenAsks.{armed_by_give, settled_given}
 use Rattle.hp_board.specs.KeptValues.{IsKeptAt}
 use Rattle.hp_board.specs.Knowing.{holds_heap, knows_of}
 use Rattle.hp_board.specs.Ownership.{IsOwner, holding_by}
 use Rattle.hp_board.specs.Views.{after_give, after_take, value_of, without}
 use Rattle.hp_board.specs.declared.opening.Opening.{Opening}
 use Rattle.hp_board.specs.declared.view.Mine.{Mine}
-use Rattle.hp_board.proofs.Holders.{holding_alike, holding_told, holdings_told, holds_alike, holds_beyond, holds_no, holds_yes, known_if, known_no, known_yes}
+use Rattle.hp_board.proofs.Holders.{holding_alike, holding_told, holdings_told, holds_alike, holds_beyond, holds_no, holds_yes, known_no, known_yes}
 use Rattle.hp_board.proofs.Pairs.{value_of-here, value_of-else, value_of-without, value_of-without_else}
 
 -- a participant that holds what another view holds, knows of it what that does, and is armed alike, is an owner alike
