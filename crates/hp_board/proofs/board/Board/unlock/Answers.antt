@@ -3,6 +3,7 @@ use Rattle.atomic_table.specs.Table.{rest}
 use Rattle.hp_board.specs.SeatView.{SeatView}
 use Rattle.hp_hall.specs.Slots.{slot_number}
 use Rattle.hp_board.specs.Steps.{Sat}
+use Rattle.hp_board.specs.Knowing.{HasMappedHeld}
 use Rattle.hp_board.specs.Turns.{turned_by}
 use Rattle.hp_board.specs.Parts.{part_of, one_part}
 use Rattle.hp_board.specs.Views.{value_of, after_give}
@@ -42,3 +43,8 @@ invariant_of-seat c =
     ∙ ap (λ (m : Sat). (m.0, turned_by times m.1)) c.unlock_word.ensures.given
     ∙ ap (λ (m : Sat). (one_part (after_give number c.args.kept (part_of m.0)), turned_by times (rest m.1))) c.turn.ensures.me)
     c.remove.ensures.items c.remove.ensures.capacity
+
+pub returns-clause-mapped : goal.returns-clause-mapped
+returns-clause-mapped c =
+    subst HasMappedHeld (sym (ap (λ (m : Sat). part_of m.0) c.turn-2.ensures.me ∙ ap (λ (m : Sat). part_of m.0) c.unlock_word.ensures.given))
+    c.unlock_word.ensures.mapped
