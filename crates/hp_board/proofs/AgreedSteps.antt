@@ -1,10 +1,10 @@
 -- Agreement is kept by each form of a give, of the giver and of the others.
-use Rattle.std.proofs.Common.{◌≡◌, ◌≢◌, ◌⊎◌, inl, inr, ⊎_elim, ◌∙◌, ℕ, ◌+◌, ◌-◌, ◌<◌, ◌≤◌, Bool, true, eqb, eq-eqb, List, [], length, get_or, Option, Some, None, slice_index, refl, sym, ap, subst, arith}
+use Rattle.std.proofs.Common.{◌≡◌, ◌≢◌, ⊎_elim, ◌∙◌, ℕ, ◌<◌, ◌≤◌, eqb, eq-eqb, List, length, Some, slice_index, refl, sym, arith}
 use Rattle.std.specs.List.{All, Contains}
 use Rattle.std.proofs.lemmas.Bool.{cond-true}
 use Rattle.std.proofs.lemmas.List.Elements.{All-contains}
 use Rattle.hp_log.specs.declared.log_record.LogRecord.{LogRecord}
-use Rattle.hp_segs.specs.SegsView.{SegsView, granted_by, is_member}
+use Rattle.hp_segs.specs.SegsView.{SegsView, granted_by}
 use Rattle.hp_segs.specs.Sound.{IsSound}
 use Rattle.hp_segs.specs.SoundAsks.{IsGranted}
 use Rattle.hp_segs.specs.declared.outcome.AskLog.{AskLog}

@@ -25,7 +25,7 @@ use Rattle.hp_board.specs.Words.{ack_word}
 use Rattle.hp_board.proofs.Histories.{gives_calls, given_at}
 use Rattle.hp_board.proofs.SegsSteps.{agreed_part, lag_part, segs_ack, segs_give, segs_load, segs_look, segs_partial, segs_take}
 use Rattle.hp_board.specs.Steps.{Acks, Gave, HasLoaded, Loads, Sat, Tries, Unmaps}
-use Rattle.hp_board.specs.Views.{value_of, made_in, seen_of, BeginsWith, after_take, after_give, after_acking, after_load, after_look, after_unmapping, holds_segments, noted_of}
+use Rattle.hp_board.specs.Views.{value_of, made_in, seen_of, BeginsWith, after_take, after_give, after_acking, after_load, after_look, after_unmapping, holds_segments}
 use Rattle.hp_board.specs.Parts.{part_of, one_part, first_part, other_parts, both_parts, spent_view}
 use Rattle.hp_board.specs.Handed.{GoesOnFrom, IsHanded, IsHeldWord}
 use Rattle.hp_board.specs.Agreement.{AgreesFrom}

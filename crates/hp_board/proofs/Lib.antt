@@ -32,6 +32,7 @@ pub mod GivenTaken
 pub mod MoveSteps
 pub mod MoveChains
 pub mod Learned
+pub mod SeatParts
 pub mod BoardSteps
 pub mod OwnedLeft
 pub mod GivenUpRuns

@@ -1,5 +1,5 @@
 -- A new board meets its rule.
-use Rattle.std.proofs.Common.{◌≡◌, ℕ, zero, suc, ◌+◌, ◌<◌, ◌≤◌, inl, ⊎_elim, Bool, true, false, cond, eqb, List, [], ◌∷◌, ◌++◌, map, length, get_or, replicate, Option, Some, None, refl, sym, ap, subst, ◌∙◌, arith}
+use Rattle.std.proofs.Common.{◌≡◌, ℕ, zero, suc, ◌+◌, ◌<◌, ◌≤◌, ⊎_elim, Bool, true, false, cond, eqb, List, [], ◌∷◌, map, length, get_or, replicate, Option, Some, None, refl, sym, ap, subst, ◌∙◌, arith}
 use Rattle.std.specs.List.{Contains, All, slice_get, range_with_len}
 use Rattle.std.proofs.lemmas.List.{length-map, get_or-map}
 use Rattle.std.proofs.lemmas.List.Elements.{All-nil}
@@ -26,7 +26,7 @@ use Rattle.hp_segs.specs.declared.outcome.AskLog.{AskLog}
 use Rattle.hp_board.specs.declared.words.TheConstants.{WORDS}
 use Rattle.hp_board.specs.KeptValues.{IsKeptAt}
 use Rattle.hp_board.specs.Words.{ack_word}
-use Rattle.hp_board.specs.Moved.{slot_of, slots_of}
+use Rattle.hp_board.specs.Moved.{slots_of}
 use Rattle.hp_board.specs.MovesKept.{OpensWith}
 use Rattle.hp_board.specs.Ownership.{IsOwnedIn}
 use Rattle.std.proofs.lemmas.Bool.{cases_lt}

@@ -1,9 +1,8 @@
 -- The definitions at known values: a participant that takes two slots and gives one back, with two entries.
-use Rattle.std.proofs.Common.{◌≡◌, ℕ, List, [], ◌∷◌, Option, Some, None, refl}
+use Rattle.std.proofs.Common.{◌≡◌, ℕ, List, [], ◌∷◌, Some, None, refl}
 use Rattle.hp_heap.specs.declared.entry.Entry.{Entry}
 use Rattle.hp_heap.specs.declared.entry.HeapCall.TheVariants as call
 use Rattle.hp_heap.specs.declared.entry.HeapAnswer.TheVariants as answer
-use Rattle.hp_heap.specs.History.{HeapView}
 use Rattle.hp_heap.specs.PlainHeap.{opening_heap}
 use Rattle.hp_segs.specs.Opening as segments
 use Rattle.hp_hall.specs.declared.kept.Kept.{Kept}
@@ -11,13 +10,10 @@ use Rattle.hp_hall.specs.declared.kept.Kept.TheVariants.{Heap}
 use Rattle.hp_hall.specs.declared.slot.Slot.TheVariants as slot
 use Rattle.hp_board.specs.declared.view.Mine.{Mine}
 use Rattle.hp_hall.specs.Giving.{IsNumbered}
-use Rattle.hp_board.specs.KeptValues.{entries_added}
-use Rattle.hp_hall.specs.Values.{history_of}
 use Rattle.hp_board.specs.Locks.{held_by}
 use Rattle.hp_board.specs.Ownership.{no_holding}
 use Rattle.hp_hall.specs.Slots.{slot_number}
-use Rattle.hp_board.specs.Views.{value_of, values_of, without, newcomer, after_take, after_give, after_look, made_in, seen_of}
-use Rattle.hp_board.specs.Parts.{parts_from}
+use Rattle.hp_board.specs.Views.{value_of, newcomer, after_take, after_give, after_look, made_in, seen_of}
 
 abbrev entry : ℕ → Entry
 entry number = record { caller = record { participant = 2; number = number }; call = call.Stats; answer = answer.Done }
