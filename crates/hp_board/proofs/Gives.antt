@@ -6,7 +6,7 @@ use Rattle.std.proofs.lemmas.List.{append_assoc, append-nil}
 use Rattle.hp_base.specs.declared.tag.Caller.{Caller}
 use Rattle.hp_heap.specs.declared.entry.HeapCall.{HeapCall}
 use Rattle.hp_heap.specs.declared.entry.HeapAnswer.{HeapAnswer}
-use Rattle.hp_heap.specs.PlainHeap.{PlainHeap}
+use Rattle.hp_heap.specs.PlainHeap.{HeapPage, PlainHeap}
 use Rattle.hp_heap.specs.History.{HeapView, IsCall, SameButSpare}
 use Rattle.hp_heap.proofs.HistoryLaw.{IsSameHeap, after-same}
 use Rattle.hp_hall.specs.declared.kept.Kept.TheVariants.{Heap}
@@ -89,11 +89,17 @@ gives_heap mine slot taken given holds adds held settled =
       settled = settled;
     })
 
--- a heap as it was taken has what it had then
-pub held_same : (taken given : HeapView) (holding : Option Holding) → SameButSpare taken given → IsHeldWith taken holding → IsHeldWith given holding
-held_same taken given None same held = absurd held
-held_same taken given (Some holding) same held = record {
-  pages = subst (λ (p : PlainHeap). HasPages p.pages holding.owned) (sym same.plain) held.pages;
-  grown = ap runs_grown same.history ∙ held.grown;
-  cut = ap runs_cut same.history ∙ held.cut;
+-- a heap whose pages stay, and to which no run came and from which none was cut, has what it had when it was taken
+pub held_stays : (taken given : HeapView) (holding : Option Holding) → given.plain.pages ≡ taken.plain.pages → runs_grown given.history ≡ runs_grown taken.history
+    → runs_cut given.history ≡ runs_cut taken.history → IsHeldWith taken holding → IsHeldWith given holding
+held_stays taken given None pages grown cut held = absurd held
+held_stays taken given (Some holding) pages grown cut held = record {
+  pages = subst (λ (l : List HeapPage). HasPages l holding.owned) (sym pages) held.pages;
+  grown = grown ∙ held.grown;
+  cut = cut ∙ held.cut;
 }
+
+-- so has one as it was taken
+pub held_same : (taken given : HeapView) (holding : Option Holding) → SameButSpare taken given → IsHeldWith taken holding → IsHeldWith given holding
+held_same taken given holding same held =
+    held_stays taken given holding (ap (λ (p : PlainHeap). p.pages) same.plain) (ap runs_grown same.history) (ap runs_cut same.history) held
