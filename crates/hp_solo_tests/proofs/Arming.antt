@@ -28,16 +28,16 @@ holds_first who parts (Segments segs) fits stands = absurd (omega (arith, fits))
 none_armed : (o : Option Ask) (ask : Ask) → o ≡ None → o ≡ Some ask → ⊥
 none_armed o ask none some = cc
 
-module _ (me : ℕ) (old mid : HallState) (kept : Kept) (took : HasTaken me 0 kept old mid) (slots : SlotsStayBut 0 old mid)
-    (others : OthersStay me old mid) where
+module _ (me : ℕ) (old mid : HallState) (kept : Kept) (took : HasTaken me 0 kept old mid) (kept_slots : SlotsStayBut 0 old mid)
+    (kept_others : OthersStay me old mid) where
   apart : MAX_HEAPS ≢ 0
   apart = λ (same : MAX_HEAPS ≡ 0). cc
 
   pub may_arm : MayHold me old → MayHold me mid
   may_arm may = record {
-    serves = others.later.serves me may.serves;
-    free = slots.taken MAX_HEAPS apart ∙ may.free;
-    home = slots.home MAX_HEAPS apart may.home;
+    serves = kept_others.later.serves me may.serves;
+    free = kept_slots.taken MAX_HEAPS apart ∙ may.free;
+    home = kept_slots.home MAX_HEAPS apart may.home;
   }
 
   pub holds_it : IsSome (mid.part me 0).holding
@@ -56,7 +56,7 @@ module _ (me : ℕ) (old mid : HallState) (kept : Kept) (took : HasTaken me 0 ke
 
   pub armed_then : (new : HallState) → StaysButParts me mid new → IsArmedThen new
   armed_then new stays = record {
-    slots = but_then slots (slots_but stays.slots);
+    slots = but_then kept_slots (slots_but stays.slots);
     own = stays.own ∙ took.own;
-    others = others_then others stays.others;
+    others = others_then kept_others stays.others;
   }

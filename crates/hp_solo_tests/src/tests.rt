@@ -105,9 +105,12 @@ pub(crate) fn arm_first<H: Hall>(hall: &mut H, me: u8, asked: &PagesAsked) -> Re
     ensures others { OthersStay me (H.state hall.old) (H.state hall.new) }
     ensures goes_on { H.goes_on hall.old hall.new }
 {
-    let _heap = hall.take(me, Slot::Heap(0));
-    let _ask = arm(hall, me, 0, asked)?;
-    Ok(())
+    // Nobody needs the heap here: its slot stays out.
+    let _ = hall.take(me, Slot::Heap(0));
+    match arm(hall, me, 0, asked) {
+        Ok(_) => Ok(()),
+        Err(AllocError) => Err(AllocError),
+    }
 }
 
 // That the first message of a kind that concerns participant 1 is lost.

@@ -4,8 +4,8 @@ use Rattle.std.specs.Prelude.{IsSome}
 use Rattle.hp_solo_tests.proofs.Arming.{armed_then, holds_it, may_arm, none_open}
 use Rattle.hp_solo_tests.proofs.tests.arm_first.Goals as goal
 
-pub arm-_ask-requires : goal.arm-_ask-requires
-arm-_ask-requires g c =
+pub arm-requires : goal.arm-requires
+arm-requires g c =
     let me = c.args.me in
     let old = g.H.Hall.state c.args.hall.now in
     let mid = g.H.Hall.state c.take.new.self in
@@ -16,4 +16,32 @@ arm-_ask-requires g c =
       settled = none_open me old mid c.take.result is.took is.slots is.others c.requires.unarmed;
       holds = subst (λ (heap : ℕ). IsSome (mid.part me heap).holding) (sym c.requires.first)
           (holds_it me old mid c.take.result is.took is.slots is.others);
+    }
+
+pub returns-in-Ok : goal.returns-in-Ok
+returns-in-Ok g c =
+    let me = c.args.me in
+    let old = g.H.Hall.state c.args.hall.now in
+    let mid = g.H.Hall.state c.take.new.self in
+    let is = c.take.ensures in
+    let then = armed_then me old mid c.take.result is.took is.slots is.others (g.H.Hall.state c.arm.new.hall) c.arm.ensures.stays in
+    record {
+      slots = then.slots;
+      own = then.own;
+      others = then.others;
+      goes_on = g.met.H.Hall.goes_on_then _ _ _ c.take.ensures.goes_on c.arm.ensures.goes_on;
+    }
+
+pub returns-in-Err : goal.returns-in-Err
+returns-in-Err g c =
+    let me = c.args.me in
+    let old = g.H.Hall.state c.args.hall.now in
+    let mid = g.H.Hall.state c.take.new.self in
+    let is = c.take.ensures in
+    let then = armed_then me old mid c.take.result is.took is.slots is.others (g.H.Hall.state c.arm.new.hall) c.arm.ensures.stays in
+    record {
+      slots = then.slots;
+      own = then.own;
+      others = then.others;
+      goes_on = g.met.H.Hall.goes_on_then _ _ _ c.take.ensures.goes_on c.arm.ensures.goes_on;
     }

@@ -1,0 +1,12 @@
+pub mod Bulks
+pub mod Views
+pub mod RingRule
+pub mod Asked
+pub mod PassViews
+pub mod PassInside
+pub mod RingInside
+pub mod Weave
+pub mod Gathering
+pub mod Taking
+pub mod Exchange
+pub mod Program
