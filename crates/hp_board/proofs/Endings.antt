@@ -275,10 +275,8 @@ module _ (o : Opening) (view : View) (items : List (Option Kept)) (told : IsTold
         record {
           holds = has.holds;
           chain = has.chain;
-          own = λ seat there.
-              has.own seat.mine.who
-              ∙ (ap (λ pending. holds_in slot pending (values_of seat.mine.who told.moved.moves)) (pending_free slot told.moved.first seat.mine.who)
-              ∙ ap (holds_in slot None) (own_moves seat.mine (among seat there)));
+          own = λ who.
+              has.own who ∙ ap (λ pending. holds_in slot pending (values_of who told.moved.moves)) (pending_free slot told.moved.first who);
         };
     own = λ seat there. own_moves seat.mine (among seat there);
     strange = told.moved.strange;

@@ -79,9 +79,9 @@ pub record KeepsTableOf (segs : SegsView) (mine : Mine) : Type 0 where
   pub out : mine.joined ≡ false → table_of mine ≡ []
 
 -- Each heap has what the segment value has for it: the pages of its own segments, and by its history the runs that it has claimed and given
--- up, each in order. Each run that was granted is claimed: a heap's growths are those that were granted for it. Each run that was cut has one
--- Drop of its own or is Retiring, and every other Drop is that of a growth that failed. No growth is open, and each ask with which somebody is
--- armed is settled. For what is no heap of the board the segment value has nothing.
+-- up, each in order. Each run that was granted is claimed: a heap's growths are those that were granted for it. Each run that was cut has
+-- one Drop of its own or is Retiring, and every other Drop is that of a growth that failed. No growth is open, and each ask with which
+-- somebody is armed is settled. For what is no heap of the board the segment value has nothing.
 pub record AreOwnedAtLast (heaps : List HeapView) (segs : SegsView) : Type 0 where
   pub has : (slot : ℕ) (heap : HeapView) → slice_get heaps slot ≡ Some heap → HasHolding heap (standing_of slot segs)
   pub granted : (slot : ℕ) (heap : HeapView) → slice_get heaps slot ≡ Some heap → runs_grown heap.history ≡ granted_runs slot segs.asks 1 segs.log
@@ -99,12 +99,12 @@ abbrev pub IsLeftIn : List HeapView → SegsView → ℕ → Kept → Type 0
 IsLeftIn heaps segs slot (Heap heap) = slice_get heaps slot ≡ Some heap
 IsLeftIn heaps segs slot (Segments other) = other ≡ segs
 
--- who held a slot, one after another: each took what the one before it gave, from the first value to the last; and of each participant these
--- are the holds that it made
-pub record HaveHeld (seats : List SeatView) (slot : ℕ) (first last : Kept) : Type 0 where
+-- who held a slot, one after another: each took what the one before it gave, from the first value to the last; and of each participant
+-- these are the holds that its moves make
+pub record HaveHeld (moves : List (ℕ × Move)) (slot : ℕ) (first last : Kept) : Type 0 where
   pub holds : List (ℕ × Hold)
   pub chain : Chain first holds last
-  pub own : (seat : SeatView) → Contains seats seat → values_of seat.mine.who holds ≡ holds_in slot None seat.mine.moves
+  pub own : (who : ℕ) → values_of who holds ≡ holds_in slot None (values_of who moves)
 
 -- All slots came from those of the opening to what is handed out by moves in one order, which for each slot are a chain of holds; of each
 -- participant these are the moves that it made, and nobody else made any.
@@ -115,7 +115,7 @@ pub record HaveMoved (opening : Opening) (seats : List SeatView) (heaps : List H
   pub opened : (slot : ℕ) → slot < SLOTS → IsFirstAt opening slot (first slot)
   pub left : (slot : ℕ) → slot < SLOTS → IsLeftIn heaps segs slot (last slot)
   pub replay : Replays (all_free first) moves (all_free last)
-  pub chain : (slot : ℕ) → slot < SLOTS → HaveHeld seats slot (first slot) (last slot)
+  pub chain : (slot : ℕ) → slot < SLOTS → HaveHeld moves slot (first slot) (last slot)
   pub own : (seat : SeatView) → Contains seats seat → values_of seat.mine.who moves ≡ seat.mine.moves
   pub strange : (who : ℕ) → opening.participants ≤ who → values_of who moves ≡ []
 

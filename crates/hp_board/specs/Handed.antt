@@ -26,12 +26,12 @@ pub record HasTakenLater (slot : ℕ) (kept : Kept) (mine after : Mine) : Type 0
   pub holding : Holding
   pub view : FindsMore (after_take slot kept holding mine) after
 
--- What a participant learns of a value that it takes: it is the slot's, has of this participant the entries that it made there and no others,
--- and begins with what it had seen; a segment value has the participant in its roster as that knows; and it did not hold the slot. A heap
--- takes the pages of its socket and has what the segment value has for it: the pages of its own segments, and by its history the runs that it
--- has claimed and given up; and what was granted to the participant's ask for it, as far as that has heard, it has claimed. A segment value
--- has for each heap in hand what was known, and the participant is armed in it with the ask with which it armed itself last. Where the
--- participant is in the roster, its own table has the pages of the heaps that it then holds.
+-- What a participant learns of a value that it takes: it is the slot's, has of this participant the entries that it made there and no
+-- others, and begins with what it had seen; a segment value has the participant in its roster as that knows; and it did not hold the slot.
+-- A heap takes the pages of its socket and has what the segment value has for it: the pages of its own segments, and by its history the
+-- runs that it has claimed and given up; and what was granted to the participant's ask for it, as far as that has heard, it has claimed. A
+-- segment value has for each heap in hand what was known, and the participant is armed in it with the ask with which it armed itself last.
+-- Where the participant is in the roster, its own table has the pages of the heaps that it then holds.
 pub record IsHanded (mine : Mine) (slot : ℕ) (kept : Kept) (after : Mine) : Type 0 where
   pub at : IsKeptAt mine.opening slot kept
   pub own : entries_of mine.who (history_of kept) ≡ made_in slot mine

@@ -19,8 +19,8 @@ use Rattle.hp_board.specs.declared.view.Mine.{Mine}
 abbrev pub holding_by : Bool → ℕ → SegsView → Option Holding
 holding_by holds heap segs = if holds then Some (standing_of heap segs) else None
 
--- A participant is armed with the ask with which it armed itself last. Of each heap that it holds, and of no other, it knows what the segment
--- value has for it. And while its ask is not settled it holds the heap of that.
+-- A participant is armed with the ask with which it armed itself last. Of each heap that it holds, and of no other, it knows what the
+-- segment value has for it. And while its ask is not settled it holds the heap of that.
 pub record IsOwner (segs : SegsView) (who : ℕ) (mine : Mine) : Type 0 where
   pub armed : armed_ask segs who ≡ mine.armed
   pub known : (heap : ℕ) → value_of heap mine.holdings ≡ holding_by (holds_heap heap mine) heap segs
