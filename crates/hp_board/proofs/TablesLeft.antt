@@ -1,5 +1,5 @@
 -- What a closed board says of a participant's table.
-use Rattle.std.proofs.Common.{◌≡◌, ◌∙◌, ℕ, ◌≤◌, Bool, true, false, ◌||◌, List, [], length, refl, sym, ap, subst, arith, if◌then◌else◌}
+use Rattle.std.proofs.Common.{◌≡◌, ◌∙◌, Bool, true, false, ◌||◌, List, [], refl, sym, ap, subst, arith, if◌then◌else◌}
 use Rattle.std.specs.Prelude.{Contains, not}
 use Rattle.std.proofs.lemmas.Bool.{false≢true}
 use Rattle.std.specs.Option.{is_some}
@@ -45,6 +45,7 @@ module _ (segs : SegsView) (mine : Mine) (sound : IsSound segs) (lag : IsLagging
     behind = lag.behind;
     within = let long = front_length segs.log mine.log lag.log in omega (arith, lag.within, long);
     joined = lag.joined;
+    taken = taken;
     table = table_is;
     rows = λ is row has.
         subst (λ (l : List Row). Contains l row) (sym (table_is is)) (in_use_known segs mine.who mine row sound (lag.joined ∙ is) taken has);
