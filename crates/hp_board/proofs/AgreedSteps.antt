@@ -10,7 +10,7 @@ use Rattle.hp_segs.specs.SoundAsks.{IsGranted}
 use Rattle.hp_segs.specs.declared.outcome.AskLog.{AskLog}
 use Rattle.hp_segs.specs.declared.outcome.Outcome.{Outcome}
 use Rattle.hp_segs.specs.declared.outcome.Outcome.TheVariants.{Granted, Refused, Stale, Freed}
-use Rattle.hp_board.specs.Agreement.{HasTakenIn}
+use Rattle.hp_board.proofs.TakenIn.{HasTakenIn}
 use Rattle.hp_hall.specs.Giving.{giver_of}
 use Rattle.hp_board.specs.Knowing.{knows_of}
 use Rattle.hp_board.specs.Left.{IsLeft}

@@ -36,7 +36,6 @@ use Rattle.hp_segs.specs.SegsView.{SegsView}
 use Rattle.hp_segs.specs.SettledAsks.{IsSettled}
 use Rattle.hp_segs.specs.Standing.{Holding, standing_of}
 use Rattle.hp_segs.specs.declared.ask.Ask.{Ask}
-use Rattle.hp_board.specs.Agreement.{HasTakenIn}
 use Rattle.hp_board.specs.Knowing.{HasMappedHeld, heap_part, holds_heap, knows_of}
 use Rattle.hp_board.specs.Lag.{IsLagging}
 use Rattle.hp_board.specs.declared.view.Move.TheVariants as moved_by
@@ -54,6 +53,7 @@ use Rattle.hp_board.proofs.Pairs.{value_of-here}
 use Rattle.hp_log.specs.Log.{IsWellFormed}
 use Rattle.hp_segs.specs.Sound.{IsSound}
 use Rattle.hp_board.proofs.InUse.{agreed_by}
+use Rattle.hp_board.proofs.TakenIn.{HasTakenIn, member_taken}
 use Rattle.hp_board.proofs.GivenLeaves.{form_gives, given_left}
 use Rattle.hp_board.proofs.TablesKnown.{formed_front}
 use Rattle.hp_board.proofs.Updates.{with_at}
@@ -97,7 +97,8 @@ module _ (opening : Opening) (s : BoardState) (board : IsBoard opening s) where
   all_mapped who may =
       mapped_held board.owned.segs who (board.mine who) owned_sound (board.owned.owners who may) (board.segments.told who may).its
       (subst (λ (v : SegsView). IsLagging v who (board.mine who)) one_segs (board.segments.lagging who may))
-      (subst (λ (v : SegsView). HasTakenIn v who (board.mine who)) one_segs (board.segments.agreed who may))
+      (subst (λ (v : SegsView). HasTakenIn v who (board.mine who)) one_segs
+      (member_taken opening.participants s.words board.kept board.mine board.segments who may))
 
   pub seat_mapped : (id : ℕ) (part : Mine) → get_elem? s.views id ≡ some (one_part part) → HasMappedHeld part
   seat_mapped id part at =

@@ -1,5 +1,5 @@
 -- A board whose every participant has come back and holds nothing has every value at home.
-use Rattle.std.proofs.Common.{◌≡◌, ◌≢◌, ℕ, ◌-◌, ◌<◌, ◌≤◌, List, [], map, get_or, Option, Some, None, refl, sym, ap, subst, ◌∙◌, arith}
+use Rattle.std.proofs.Common.{◌≡◌, ◌≢◌, ℕ, ◌-◌, ◌<◌, ◌≤◌, true, List, [], map, get_or, Option, Some, None, refl, sym, ap, subst, ◌∙◌, arith}
 use Rattle.std.specs.List.{Contains, All, flat_map, range_with_len, slice_get}
 use Rattle.std.specs.List.Sorted.{IsPermutation}
 use Rattle.std.proofs.lemmas.List.Sorted.{IsPermutation-trans}
@@ -12,7 +12,7 @@ use lib.ListN.{get_elem?}
 use Rattle.atomic_table.specs.Table.{State, Seen, Final}
 use Rattle.hp_base.specs.declared.limits.TheConstants.{MAX_HEAPS}
 use Rattle.hp_heap.specs.History.{HeapView, entries_of}
-use Rattle.hp_segs.specs.SegsView.{SegsView}
+use Rattle.hp_segs.specs.SegsView.{SegsView, is_member}
 use Rattle.hp_segs.specs.Sound.{IsSound}
 use Rattle.hp_hall.specs.declared.kept.Kept.{Kept}
 use Rattle.hp_hall.specs.declared.kept.Kept.TheVariants.{Heap, Segments}
@@ -22,7 +22,8 @@ use Rattle.hp_board.specs.declared.view.Mine.{Mine}
 use Rattle.hp_board.specs.declared.view.View.{View}
 use Rattle.hp_board.specs.BoardRule.{IsBoard}
 use Rattle.hp_board.specs.BoardView.{BoardView}
-use Rattle.hp_board.specs.Agreement.{HasTakenIn, IsDeclaredRoster}
+use Rattle.hp_board.specs.Agreement.{IsDeclaredRoster}
+use Rattle.hp_board.proofs.TakenIn.{HasTakenIn, member_taken}
 use Rattle.hp_segs.specs.LaterSteps.{armed_ask}
 use Rattle.hp_base.specs.declared.row.Run.{Run}
 use Rattle.hp_heap.specs.HistoryLaws.{runs_cut}
@@ -138,7 +139,7 @@ ends o id view words items all (s, (board, at), words_are, long, each) = record 
   lagging = λ part has. let known = part_known o s board id view at part has in
       subst (IsLagging board.segments.segs part.who) (sym known.1) (board.segments.lagging part.who known.0);
   agreed = λ part has. let known = part_known o s board id view at part has in
-      subst (HasTakenIn board.segments.segs part.who) (sym known.1) (board.segments.agreed part.who known.0);
+      subst (HasTakenIn board.segments.segs part.who) (sym known.1) (member_taken o.participants s.words board.kept board.mine board.segments part.who known.0);
   noted = λ part other has has-other.
       let known = part_known o s board id view at part has in
       let known-other = part_known o s board id view at other has-other in
@@ -181,13 +182,29 @@ module _ (o : Opening) (view : View) (items : List (Option Kept)) (told : IsTold
   segs_sound : IsSound segs
   segs_sound = (subst (IsKeptAt o MAX_HEAPS) (told.there ∙ ap (λ (s : SegsView). Segments s) segs_is) (told.at MAX_HEAPS (omega arith))).sound
 
-  pub segs_are : AreLeftSegs o segs
-  segs_are = record { sound = segs_sound; roster = subst (IsDeclaredRoster o.participants) segs_is told.roster }
+  roster_is : IsDeclaredRoster o.participants segs
+  roster_is = subst (IsDeclaredRoster o.participants) segs_is told.roster
+
+  taken_in : (part : Mine) → Contains view.parts part → HasTakenIn segs part.who part
+  taken_in part has = subst (λ (s : SegsView). HasTakenIn s part.who part) segs_is (told.agreed part has)
+
+  pub segs_are : (seats : List SeatView) → ((who : ℕ) → who < o.participants → IsAmong seats who)
+      → ((seat : SeatView) → Contains seats seat → Contains view.parts seat.mine) → AreLeftSegs o seats segs
+  segs_are seats everyone among = record {
+    sound = segs_sound;
+    roster = roster_is;
+    agreed = λ number its entry generation member has granted is.
+        let one = everyone member (roster_is member is) in
+        let taken = taken_in one.seat.mine (among one.seat one.there) in
+        let low = taken.granted (subst (λ (n : ℕ). is_member segs.roster n ≡ true) (sym one.who_is) is) entry generation has granted in
+        let same : number member ≡ one.seat.mine.number = ap number (sym one.who_is) ∙ its one.seat one.there in
+        omega (arith, low, same);
+  }
 
   pub tables_are : (part : Mine) → Contains view.parts part → part.held ≡ [] → KeepsTableOf segs part
   tables_are part has free =
       keeps_table segs part segs_sound (subst (λ (s : SegsView). IsLagging s part.who part) segs_is (told.lagging part has))
-      (subst (λ (s : SegsView). HasTakenIn s part.who part) segs_is (told.agreed part has)) free
+      (taken_in part has) free
 
   -- so is that of which ownership speaks
   owned_is : told.owned.segs ≡ segs

@@ -18,7 +18,7 @@ use Rattle.hp_hall.specs.Holding.{HasHolding, IsAsPart, IsClaimedFor, IsHeldWith
 use Rattle.hp_hall.proofs.GivenAsks.{asker_is}
 use Rattle.hp_hall.proofs.KnownAsks.{settled_is_claimed}
 use Rattle.hp_hall.proofs.OwnedKnown.{owned_known}
-use Rattle.hp_board.specs.Agreement.{HasTakenIn}
+use Rattle.hp_board.proofs.TakenIn.{HasTakenIn}
 use Rattle.hp_board.specs.KeptValues.{IsHeapAt}
 use Rattle.hp_board.specs.Knowing.{HasMappedHeld, heap_part, holds_heap}
 use Rattle.hp_board.specs.Lag.{IsLagging}

@@ -23,6 +23,7 @@ pub mod AgreedSteps
 pub mod WordSteps
 pub mod Loads
 pub mod TablesKnown
+pub mod TakenIn
 pub mod InUse
 pub mod SegsSteps
 pub mod Holders

@@ -160,9 +160,7 @@ starts words heaps segs o wide free are sound serves few are-segs sound-segs sam
           joined = sym (member who);
           joining = λ is. absurd (cc);
         };
-        agreed = λ who may. record {
-          granted = λ its entry generation among granted. absurd (let inside = (subst (λ (l : List AskLog). Contains l entry) are-segs.asks among).1 in omega arith);
-        };
+        agreed = λ entry generation member among granted its. absurd (let inside = (subst (λ (l : List AskLog). Contains l entry) are-segs.asks among).1 in omega arith);
         roster = are-segs.roster;
       };
       owned = record {

@@ -10,7 +10,7 @@ use Rattle.hp_hall.specs.declared.slot.TheConstants.{SLOTS}
 use Rattle.hp_segs.specs.SegsView.{SegsView}
 use Rattle.hp_board.specs.declared.opening.Opening.{Opening}
 use Rattle.hp_board.specs.declared.view.Mine.{Mine}
-use Rattle.hp_board.specs.Agreement.{HasTakenIn}
+use Rattle.hp_board.specs.Agreement.{IsDeclaredRoster}
 use Rattle.hp_hall.specs.Giving.{GivesFor, giver_of}
 use Rattle.hp_board.specs.Knowing.{knows_of}
 use Rattle.hp_board.specs.KeptValues.{IsKeptAt}
@@ -22,6 +22,7 @@ use Rattle.hp_board.specs.Words.{IsTold, ack_word}
 use Rattle.hp_board.proofs.AgreedSteps.{agreed_other, agreed_own, agreed_rises}
 use Rattle.hp_board.proofs.LagSteps.{lag_ack, lag_give, lag_give_heap, lag_load, lag_other, lag_partial, lag_same, lag_take}
 use Rattle.hp_board.proofs.GivenLeaves.{form_gives, given_left}
+use Rattle.hp_board.proofs.TakenIn.{HasTakenIn, are_taken, member_taken}
 use Rattle.hp_board.proofs.Updates.{with_at, with_at-here, with_at-else, each}
 use Rattle.hp_board.proofs.WordSteps.{told_load, told_lock, told_other, told_own, told_same}
 
@@ -34,21 +35,25 @@ module _ (opening : Opening) (words : List ℕ) (kept : ℕ → Kept) (mine : �
   lag_part = subst (IsLagging old.segs part.who) (sym known) (old.lagging part.who declared)
 
   pub agreed_part : HasTakenIn old.segs part.who part
-  agreed_part = subst (HasTakenIn old.segs part.who) (sym known) (old.agreed part.who declared)
+  agreed_part = subst (HasTakenIn old.segs part.who) (sym known) (member_taken opening.participants words kept mine old part.who declared)
 
   -- words change, and one view; the segment value stays
   stays : (words' : List ℕ) (kept' : ℕ → Kept) (new : Mine) → kept' MAX_HEAPS ≡ Segments old.segs → IsTold opening.participants words' part.who new → IsLagging old.segs part.who new → part.number ≤ new.number
       → ((who : ℕ) → who ≢ part.who → who < opening.participants → IsTold opening.participants words' who (mine who))
       → AreSegs opening.participants words' kept' (with_at part.who new mine)
-  stays words' kept' new there told lag rises others = record {
-    segs = old.segs;
-    there = there;
-    told = each (λ w m. w < opening.participants → IsTold opening.participants words' w m) part.who new mine (λ _. told) others;
-    lagging = each (λ w m. w < opening.participants → IsLagging old.segs w m) part.who new mine (λ _. lag) (λ w apart. old.lagging w);
-    agreed = each (λ w m. w < opening.participants → HasTakenIn old.segs w m) part.who new mine
-        (λ _. agreed_rises old.segs part.who part new rises agreed_part) (λ w apart. old.agreed w);
-    roster = old.roster;
-  }
+  stays words' kept' new there told lag rises others =
+      let all-told : (w : ℕ) → w < opening.participants → IsTold opening.participants words' w (with_at part.who new mine w) =
+      each (λ w m. w < opening.participants → IsTold opening.participants words' w m) part.who new mine (λ _. told) others in
+      record {
+        segs = old.segs;
+        there = there;
+        told = all-told;
+        lagging = each (λ w m. w < opening.participants → IsLagging old.segs w m) part.who new mine (λ _. lag) (λ w apart. old.lagging w);
+        agreed = are_taken opening.participants words' (with_at part.who new mine) old.segs all-told
+            (each (λ w m. w < opening.participants → HasTakenIn old.segs w m) part.who new mine
+            (λ _. agreed_rises old.segs part.who part new rises agreed_part) (λ w apart. member_taken opening.participants words kept mine old w)) old.roster;
+        roster = old.roster;
+      }
 
   -- a held word was found
   pub segs_look : (slot word : ℕ) → AreSegs opening.participants words kept (with_at part.who (after_look slot word part) mine)
@@ -83,23 +88,29 @@ module _ (opening : Opening) (words : List ℕ) (kept : ℕ → Kept) (mine : �
       let segs_is : taken ≡ old.segs = cc in
       let giver = giver_of (knows_of part) in
       let left : IsLeft giver old.segs given = subst (λ (s : SegsView). IsLeft giver s given) segs_is (given_left giver taken given at.sound (form_gives (knows_of part) taken given gives.form)) in
+      let all-told : (w : ℕ) → w < opening.participants → IsTold opening.participants (set words slot 0) w (with_at part.who (after_give slot (Segments given) part) mine w) =
+      each (λ w m. w < opening.participants → IsTold opening.participants (set words slot 0) w m) part.who (after_give slot (Segments given) part) mine
+      (λ _. told_lock opening.participants words slot 0 part.who (after_give slot (Segments given) part) inside
+      (told_same opening.participants words part.who part (after_give slot (Segments given) part) refl refl refl told_part))
+      (λ w apart low. told_lock opening.participants words slot 0 w (mine w) inside (old.told w low)) in
+      let roster : IsDeclaredRoster opening.participants given =
+      λ who its.
+      dite (ℕ_discrete who part.who)
+      (λ self. subst (λ (n : ℕ). n < opening.participants) (sym self) declared)
+      (λ apart. old.roster who (sym (left.others who apart) ∙ its)) in
       record {
         segs = given;
         there = ap (with_at slot (Segments given) kept) (sym at.last) ∙ with_at-here slot (Segments given) kept;
-        told = each (λ w m. w < opening.participants → IsTold opening.participants (set words slot 0) w m) part.who (after_give slot (Segments given) part) mine
-            (λ _. told_lock opening.participants words slot 0 part.who (after_give slot (Segments given) part) inside
-            (told_same opening.participants words part.who part (after_give slot (Segments given) part) refl refl refl told_part))
-            (λ w apart low. told_lock opening.participants words slot 0 w (mine w) inside (old.told w low));
+        told = all-told;
         lagging = each (λ w m. w < opening.participants → IsLagging given w m) part.who (after_give slot (Segments given) part) mine
             (λ _. lag_give old.segs part.who part lag_part slot (giver_of (knows_of part)) given refl left)
             (λ w apart low. lag_other (giver_of (knows_of part)) old.segs given w (mine w) left apart (old.lagging w low));
-        agreed = each (λ w m. w < opening.participants → HasTakenIn given w m) part.who (after_give slot (Segments given) part) mine
+        agreed = are_taken opening.participants (set words slot 0) (with_at part.who (after_give slot (Segments given) part) mine) given all-told
+            (each (λ w m. w < opening.participants → HasTakenIn given w m) part.who (after_give slot (Segments given) part) mine
             (λ _. agreed_own opening.participants words part old.segs given left at'.sound agreed_part (after_give slot (Segments given) part) refl)
-            (λ w apart low. agreed_other opening.participants words part old.segs given left w (mine w) low apart told_part.noted (old.told w low) (old.agreed w low));
-        roster = λ who its.
-            dite (ℕ_discrete who part.who)
-            (λ self. subst (λ (n : ℕ). n < opening.participants) (sym self) declared)
-            (λ apart. old.roster who (sym (left.others who apart) ∙ its));
+            (λ w apart low. agreed_other opening.participants words part old.segs given left w (mine w) low apart told_part.noted (old.told w low)
+            (member_taken opening.participants words kept mine old w low))) roster;
+        roster = roster;
       }
 
   pub segs_give : (slot : ℕ) (taken given : Kept) → GivesFor (knows_of part) (Some taken) given → slot < SLOTS → kept slot ≡ taken → IsKeptAt opening slot taken → IsKeptAt opening slot given

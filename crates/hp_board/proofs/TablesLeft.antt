@@ -8,7 +8,7 @@ use Rattle.hp_base.specs.declared.row.Row.{Row}
 use Rattle.hp_segs.specs.SegsView.{SegsView}
 use Rattle.hp_segs.specs.Sound.{IsSound}
 use Rattle.hp_hall.specs.Own.{rows_known}
-use Rattle.hp_board.specs.Agreement.{HasTakenIn}
+use Rattle.hp_board.proofs.TakenIn.{HasTakenIn}
 use Rattle.hp_board.specs.Closing.{KeepsTableOf}
 use Rattle.hp_board.specs.Lag.{IsLagging}
 use Rattle.hp_board.specs.Views.{holds_segments, own_of, table_of, value_of}
@@ -45,7 +45,6 @@ module _ (segs : SegsView) (mine : Mine) (sound : IsSound segs) (lag : IsLagging
     behind = lag.behind;
     within = let long = front_length segs.log mine.log lag.log in omega (arith, lag.within, long);
     joined = lag.joined;
-    taken = taken;
     table = table_is;
     rows = λ is row has.
         subst (λ (l : List Row). Contains l row) (sym (table_is is)) (in_use_known segs mine.who mine row sound (lag.joined ∙ is) taken has);

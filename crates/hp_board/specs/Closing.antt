@@ -17,10 +17,11 @@ use Rattle.hp_segs.specs.declared.ask.Ask.{Ask}
 use Rattle.hp_hall.specs.Giving.{IsNumbered}
 use Rattle.hp_hall.specs.Holding.{HasHolding}
 use Rattle.hp_hall.specs.Own.{rows_known}
+use Rattle.hp_hall.specs.TakenIn.{AreTakenIn}
 use Rattle.hp_hall.specs.declared.kept.Kept.{Kept}
 use Rattle.hp_hall.specs.declared.kept.Kept.TheVariants.{Heap, Segments}
 use Rattle.hp_hall.specs.declared.slot.TheConstants.{SLOTS}
-use Rattle.hp_board.specs.Agreement.{HasInUse, HasTakenIn, IsDeclaredRoster}
+use Rattle.hp_board.specs.Agreement.{HasInUse, IsDeclaredRoster}
 use Rattle.hp_board.specs.BoardView.{BoardView}
 use Rattle.hp_board.specs.KeptValues.{IsHeapAt}
 use Rattle.hp_board.specs.declared.view.Move.{Move}
@@ -50,10 +51,12 @@ pub record AreHeaps (opening : Opening) (heaps : List HeapView) : Type 0 where
   pub strange : (who slot : ℕ) (heap : HeapView) → opening.participants ≤ who → slice_get heaps slot ≡ Some heap
       → entries_of who heap.history ≡ []
 
--- the segment value of a closed board is sound, and its roster names participants of the board alone
-pub record AreLeftSegs (opening : Opening) (segs : SegsView) : Type 0 where
+-- the segment value of a closed board is sound, its roster names participants of the board alone, and each of these has taken in each
+-- record that was granted, by the numbers of the seats
+pub record AreLeftSegs (opening : Opening) (seats : List SeatView) (segs : SegsView) : Type 0 where
   pub sound : IsSound segs
   pub roster : IsDeclaredRoster opening.participants segs
+  pub agreed : (number : ℕ → ℕ) → ((seat : SeatView) → Contains seats seat → number seat.mine.who ≡ seat.mine.number) → AreTakenIn number segs
 
 -- the heaps have of a participant the entries that it made in each, numbered from 1 over all heaps, and each history begins
 -- with what it had seen
@@ -65,15 +68,14 @@ pub record KeepCallsOf (heaps : List HeapView) (mine : Mine) : Type 0 where
   pub numbered : IsNumbered mine.who 0 (all_made mine)
 
 -- What a participant had seen of the log and of the outcomes is a front of them. Where it is in the roster, its table is the one of the
--- log at its number, without the rows that further records drop, up to some of them; it has taken in each record that was granted, and has
--- each row that is agreed, owned or given up. Where it is out, its table is empty.
+-- log at its number, without the rows that further records drop, up to some of them, and has each row that is agreed, owned or given up.
+-- Where it is out, its table is empty.
 pub record KeepsTableOf (segs : SegsView) (mine : Mine) : Type 0 where
   pub log : BeginsWith segs.log mine.log
   pub heard : BeginsWith segs.asks mine.heard
   pub behind : mine.number ≤ mine.unmapped
   pub within : mine.unmapped ≤ length segs.log
   pub joined : is_member segs.roster mine.who ≡ mine.joined
-  pub taken : HasTakenIn segs mine.who mine
   pub table : mine.joined ≡ true → table_of mine ≡ rows_known segs.log (own_of mine)
   pub rows : mine.joined ≡ true → (row : Row) → HasInUse segs row → Contains (table_of mine) row
   pub out : mine.joined ≡ false → table_of mine ≡ []

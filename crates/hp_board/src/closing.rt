@@ -42,9 +42,9 @@ impl Board {
         // Of each participant the heaps have the calls that it made, once and in order.
         ensures calls { (seat : SeatView) → Contains seats.items seat → KeepCallsOf result.heaps.items seat.mine }
 
-        // The segment value is sound. Its log begins with what each participant has seen of it, and no table of a participant in its
-        // roster lacks a row that is in use.
-        ensures segs { AreLeftSegs self.opening result.segs }
+        // The segment value is sound, and each participant in its roster has taken in each record that was granted. Its log begins with
+        // what each participant has seen of it, and no table of a participant in its roster lacks a row that is in use.
+        ensures segs { AreLeftSegs self.opening seats.items result.segs }
         ensures tables { (seat : SeatView) → Contains seats.items seat → KeepsTableOf result.segs seat.mine }
         ensures noted { (seat other : SeatView) → Contains seats.items seat → Contains seats.items other
             → IsNotedUpTo seat.mine other.mine }

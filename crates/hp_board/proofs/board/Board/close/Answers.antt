@@ -1,4 +1,4 @@
-use Rattle.std.proofs.Common.{ap, arith, subst, sym, Some, ◌∙◌}
+use Rattle.std.proofs.Common.{ap, arith, subst, sym, Some, ◌∙◌, ◌<◌}
 use mathlib.Core.Option.{some}
 use Rattle.std.specs.Slots.{slots_items}
 use Rattle.std.proofs.lemmas.List.Elements.{All-contains}
@@ -46,8 +46,10 @@ returns-clause-segs c =
     let o = c.self.inside.table.shared.key in
     let view = c.gather-token.result.me.0 in
     let items = slots_items c.close_with.result.slots in
-    subst (λ (p : Opening). AreLeftSegs p c.fill-segs.result) (ap (λ (v : BoardView). v.opening) c.self.view_is)
-    (segs_are o view items (told c.before) c.fill-segs.new.heaps.items c.fill-segs.result c.fill-segs.ensures)
+    let opened = ap (λ (v : BoardView). v.opening) c.self.view_is in
+    subst (λ (p : Opening). AreLeftSegs p c.args.seats.items c.fill-segs.result) opened
+    (segs_are o view items (told c.before) c.fill-segs.new.heaps.items c.fill-segs.result c.fill-segs.ensures c.args.seats.items
+    (λ who may. c.requires.everyone who (subst (λ (p : Opening). who < p.participants) opened may)) c.gather-token.ensures.parts)
 
 pub returns-clause-tables : goal.returns-clause-tables
 returns-clause-tables c seat there =
