@@ -28,6 +28,7 @@ pub mod InUse
 pub mod SegsSteps
 pub mod Holders
 pub mod OwnerSteps
+pub mod StandingGrows
 pub mod OwnedSteps
 pub mod GivenTaken
 pub mod MoveSteps

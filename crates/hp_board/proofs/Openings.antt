@@ -28,13 +28,14 @@ use Rattle.hp_board.specs.KeptValues.{IsKeptAt}
 use Rattle.hp_board.specs.Words.{ack_word}
 use Rattle.hp_board.specs.Moved.{slots_of}
 use Rattle.hp_board.specs.MovesKept.{OpensWith}
-use Rattle.hp_board.specs.Ownership.{IsOwnedIn}
+use Rattle.hp_board.specs.Ownership.{HasBegun, IsOwnedIn}
 use Rattle.std.proofs.lemmas.Bool.{cases_lt}
 use Rattle.hp_board.specs.Served.{serves_of, AreOpeningHeaps, AreOpeningSegs}
 use Rattle.hp_board.specs.Views.{newcomer}
 use Rattle.hp_board.specs.Parts.{parts_from, whole_view}
 use Rattle.hp_board.proofs.Histories.{entries_of-nil}
 use Rattle.hp_board.proofs.LockSteps.{held_no}
+use Rattle.hp_board.proofs.StandingGrows.{begun_has}
 use Rattle.hp_board.proofs.OpeningOwned.{bare_armed, bare_pending, bare_standing, heap_bare}
 
 -- what stands for a heap past the last
@@ -172,6 +173,13 @@ starts words heaps segs o wide free are sound serves few are-segs sound-segs sam
             (λ below. subst (IsOwnedIn segs slot) (sym (kept_heap heaps segs slot (omega arith)))
             (heap_bare slot (heap_at heaps slot) segs (sound slot no_heap (omega arith)) (empty slot below) (bare_standing segs sound-segs are-segs.log are-segs.asks slot)))
             (λ above. subst (IsOwnedIn segs slot) (sym (kept_last heaps segs slot (omega arith))) tt)
+            (cases_lt slot MAX_HEAPS);
+        begun = λ slot within.
+            ⊎_elim
+            (λ below. subst (HasBegun segs slot) (sym (kept_heap heaps segs slot (omega arith)))
+            (begun_has segs slot (heap_at heaps slot)
+            (heap_bare slot (heap_at heaps slot) segs (sound slot no_heap (omega arith)) (empty slot below) (bare_standing segs sound-segs are-segs.log are-segs.asks slot))))
+            (λ above. subst (HasBegun segs slot) (sym (kept_last heaps segs slot (omega arith))) tt)
             (cases_lt slot MAX_HEAPS);
         none = λ heap high. bare_standing segs sound-segs are-segs.log are-segs.asks heap;
         armed = bare_armed segs sound-segs are-segs.log are-segs.asks;

@@ -22,12 +22,13 @@ use Rattle.hp_hall.proofs.KnownAsks.{known_is_settled}
 use Rattle.hp_board.specs.KeptValues.{IsKeptAt}
 use Rattle.hp_board.specs.Knowing.{holds_heap, knows_of}
 use Rattle.hp_board.specs.Locks.{AreLocked}
-use Rattle.hp_board.specs.Ownership.{AreOwned, IsOwnedIn, IsOwner, holding_by}
+use Rattle.hp_board.specs.Ownership.{AreOwned, HasBegun, IsOwnedIn, IsOwner, holding_by}
 use Rattle.hp_board.specs.Views.{BeginsWith, after_give, after_take, value_of}
 use Rattle.hp_board.specs.declared.opening.Opening.{Opening}
 use Rattle.hp_board.specs.declared.view.Mine.{Mine}
 use Rattle.hp_board.proofs.Holders.{holds_beyond, holds_word, known_no, known_yes}
 use Rattle.hp_board.proofs.OwnerSteps.{held_known, owner_give, owner_give_heap, owner_other, owner_same, owner_take}
+use Rattle.hp_board.proofs.StandingGrows.{begun_has, begun_on}
 use Rattle.hp_board.proofs.Updates.{with_at, with_at-here, with_at-else, each, each_word}
 
 -- a heap held with what is known has what the segment value has for it
@@ -48,6 +49,7 @@ module _ (opening : Opening) (words : List ℕ) (kept : ℕ → Kept) (mine : �
     there = old.there;
     owners = each (λ w m. w < opening.participants → IsOwner old.segs w m) part.who new mine (λ _. owner) (λ w apart. old.owners w);
     home = λ slot within zero-now. old.home slot within (free slot within zero-now);
+    begun = old.begun;
     none = old.none;
     armed = old.armed;
     pending = old.pending;
@@ -116,6 +118,7 @@ module _ (opening : Opening) (words : List ℕ) (kept : ℕ → Kept) (mine : �
             (λ _. owner_give_heap old.segs part.who part owner_part slot given settled) (λ w apart. old.owners w);
         home = each (λ k v. k < SLOTS → get_or (set words slot 0) k 0 ≡ 0 → IsOwnedIn old.segs k v) slot (Heap given) kept
             (λ _ _. its.1) (λ k apart within zero-now. old.home k within (sym (get_or-set_other words slot k 0 0 apart) ∙ zero-now));
+        begun = each (λ k v. k < SLOTS → HasBegun old.segs k v) slot (Heap given) kept (λ _. begun_has old.segs slot given its.1) (λ k apart. old.begun k);
         none = old.none;
         armed = old.armed;
         pending = old.pending;
@@ -169,6 +172,8 @@ module _ (opening : Opening) (words : List ℕ) (kept : ℕ → Kept) (mine : �
             (λ k apart within zero-now.
             let was : get_or words k 0 ≡ 0 = sym (get_or-set_other words slot k 0 0 apart) ∙ zero-now in
             home_still k (kept k) was (old.home k within was));
+        begun = each (λ k v. k < SLOTS → HasBegun given k v) slot (Segments given) kept (λ _. tt)
+            (λ k apart within. begun_on (knows_of part) old.segs given sound old.pending form k (kept k) (old.begun k within));
         none = λ heap high. standing_given (knows_of part) old.segs given sound form heap (unknown heap (holds_beyond heap part high)) ∙ old.none heap high;
         armed = armed_given (knows_of part) old.segs given form old.armed;
         pending = pending_given (knows_of part) old.segs given sound sound' old.armed form holder asking one_holder old.pending;
