@@ -89,17 +89,17 @@ claim_goes segs heap from number (Some generation) sound last may is = claim_by 
 
 -- a run is given up
 retire_goes : (segs : SegsView) (heap owner : ℕ) (run : Run) → IsSound segs → OwnsRun owner run segs → GoesOn (standing_of heap segs) (standing_of heap (after_retire owner run segs))
-retire_goes segs heap owner run sound owns =
+retire_goes segs heap owner run sound its_own =
     dite (ℕ_discrete heap owner)
     (λ here.
-    let is = retire_takes_rows segs owner run sound owns in
+    let is = retire_takes_rows segs owner run sound its_own in
     subst (λ (h : ℕ). GoesOn (standing_of h segs) (standing_of h (after_retire owner run segs))) (sym here)
     (record {
       came = front_same (standing_of owner segs).came (standing_of owner (after_retire owner run segs)).came (ap (λ (h : Holding). h.came) is);
       retired = (run ∷ [], ap (λ (h : Holding). h.retired) is);
     }))
     (λ apart.
-    goes_same (standing_of heap segs) (standing_of heap (after_retire owner run segs)) (retire_leaves_others segs owner run sound owns heap apart))
+    goes_same (standing_of heap segs) (standing_of heap (after_retire owner run segs)) (retire_leaves_others segs owner run sound its_own heap apart))
 
 -- what one call leaves
 record IsOwnerStep (old new : SegsView) : Type 0 where
