@@ -134,6 +134,13 @@ two_made who made taken between middle given first second request tag found addr
     (one_made who (made + 1) middle given second (call.Free addr false) (fault_answer fault) (then-is ∙ ap (λ (n : ℕ). record { participant = who; number = n }) later) two
     (free_pages second addr false (fault_answer fault) middle given two) refl (freed_none fault))))
 
+-- entries of a slot of the board are such
+under_placed : (slot : ℕ) (entries : List Entry) → slot < SLOTS → All (λ (pair : ℕ × Entry). pair.0 < SLOTS) (under slot entries)
+under_placed slot entries inside = All-map (λ (pair : ℕ × Entry). pair.0 < SLOTS) (λ (entry : Entry). (slot, entry)) entries (λ k d within. inside)
+
+under_length : (slot : ℕ) (entries : List Entry) → length (under slot entries) ≡ length entries
+under_length slot entries = length-map entries (λ (entry : Entry). (slot, entry))
+
 -- A ROUND
 
 module _ (id : TableId) (old : SeatView) (made after : ℕ) (working : IsWorking id old.mine.who made old) (first : Mine) (kept : Kept) (heap given : HeapView) (handed : IsHanded old.mine 0 kept first)
@@ -184,10 +191,9 @@ module _ (id : TableId) (old : SeatView) (made after : ℕ) (working : IsWorking
         free = ap (λ (m : Mine). m.held) gave ∙ (ap (λ (m : Mine). without 0 m.held) taken.view.1 ∙ ap (λ h. without 0 ((0, kept) ∷ h)) working.free);
         unarmed = ap (λ (m : Mine). m.armed) gave ∙ armed_is;
         placed = subst (All (λ (pair : ℕ × Entry). pair.0 < SLOTS)) (sym all)
-            (All-append (λ (pair : ℕ × Entry). pair.0 < SLOTS) old.mine.made (under 0 calls.own) working.placed
-            (All-map (λ (pair : ℕ × Entry). pair.0 < SLOTS) (λ (entry : Entry). (0, entry)) calls.own (λ k d within. lit< tt)));
+            (All-append (λ (pair : ℕ × Entry). pair.0 < SLOTS) old.mine.made (under 0 calls.own) working.placed (under_placed 0 calls.own (lit< tt)));
         count =
             let long = length-append old.mine.made (under 0 calls.own) in
-            let own = length-map calls.own (λ (entry : Entry). (0, entry)) in
+            let own = under_length 0 calls.own in
             omega (arith, ap length all, long, own, working.count, calls.count);
       }

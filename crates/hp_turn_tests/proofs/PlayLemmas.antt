@@ -24,6 +24,7 @@ use Rattle.hp_serve.proofs.Tying.{tied_along}
 use Rattle.hp_board.specs.Handed.{GoesOnFrom, HasTakenLater, IsHanded}
 use Rattle.hp_board.specs.KeptValues.{IsKeptAt, entries_added}
 use Rattle.hp_board.specs.Knowing.{heap_part, knows_of}
+use Rattle.hp_board.specs.declared.opening.Opening.{Opening}
 use Rattle.hp_board.specs.SeatView.{SeatView}
 use Rattle.hp_board.specs.Views.{after_give, after_load, asks_heard, holdings_taken, log_seen, noted_of, own_of, under, value_of, without}
 use Rattle.hp_board.specs.declared.view.Mine.{Mine}
@@ -232,3 +233,10 @@ loaded_noted mine after acks other number inside own loaded noted who =
 pub loads_one : (mine now after : Mine) (other number : ℕ) → HasComeOn mine now → after ≡ after_load other number now → HasComeOn mine after
 loads_one mine now after other number comes loaded =
     come_then mine now after comes (now.number, now.unmapped, now.joining, (other, number) ∷ now.noted, loaded)
+
+pub taken_sound : (o : Opening) (kept : Kept) (segs : SegsView) → IsKeptAt o 32 kept → kept ≡ Segments segs → IsSound segs
+taken_sound o kept segs at is = (subst (IsKeptAt o 32) is at).sound
+
+-- who holds the value has not acknowledged more than its log has
+pub holds_within : (board : TableId) (segs : SegsView) (seat : SeatView) (maps : MapsView) → HoldsSegs board segs seat maps → seat.mine.number ≤ length segs.log
+holds_within board segs seat maps holds = (holds_tied board segs seat maps holds).within

@@ -23,7 +23,10 @@ fn is_refused(segs: &Segs, who: u8, number: u64) -> bool
     ensures { result ≡ true → IsRefusedIn segs.now.asks who number }
 {
     let _records = segs.records();
-    matches!(segs.grant_or_refusal(who, number), Some(Outcome::Refused { .. }))
+    matches!(
+        segs.grant_or_refusal(who, number),
+        Some(Outcome::Refused { .. })
+    )
 }
 
 /// A turn: where the log has more records than it had, the table catches up with it once.

@@ -16,7 +16,7 @@ const POOL: PoolLine = PoolLine {
     socket: 0,
     page: PAGE,
     pages: PAGES,
-    slots: PAGES,
+    slots: 8,
 };
 
 // The heap with this index: that of socket 0 first, and heaps without a name.

@@ -146,7 +146,11 @@ fn play<R: Threads + Wait + Sync>(rt: &R, alloc: Global) -> Result<Option<Left>,
     let Some(asker) = asker else {
         return Ok(None);
     };
-    let rows = [leader.1.rows().len(), asker.1.rows().len(), third.1.rows().len()];
+    let rows = [
+        leader.1.rows().len(),
+        asker.1.rows().len(),
+        third.1.rows().len(),
+    ];
     let mut seat = third.0;
     let word = board.load_ack(&mut seat, 2);
     let closed = board.close(gathered(back, leader.0, asker.0, seat));
@@ -160,7 +164,10 @@ fn play<R: Threads + Wait + Sync>(rt: &R, alloc: Global) -> Result<Option<Left>,
 // Whether the log has a growth of one run and its Drop, and no more.
 fn has_the_pair(records: &[LogRecord]) -> bool {
     match records {
-        [LogRecord::Add { run, heap: 0 }, LogRecord::Drop { run: dropped }] => run == dropped,
+        [
+            LogRecord::Add { run, heap: 0 },
+            LogRecord::Drop { run: dropped },
+        ] => run == dropped,
         _ => false,
     }
 }

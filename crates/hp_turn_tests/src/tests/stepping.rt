@@ -25,11 +25,7 @@ fn make_room(segs: &mut Segs) -> Result<(), AllocError>
 }
 
 /// Hands the coordinator an event. Without memory for a step, nothing changes.
-pub fn step(
-    core: &mut Coordinator,
-    segs: &mut Segs,
-    event: CoreEvent,
-) -> Result<Out, AllocError>
+pub fn step(core: &mut Coordinator, segs: &mut Segs, event: CoreEvent) -> Result<Out, AllocError>
     requires names { NamesParticipants event }
     requires sound { IsSound segs.old }
 
