@@ -1,4 +1,0 @@
-pub mod PlayLemmas
-pub mod AskLemmas
-pub mod Opened
-pub mod Crossing
