@@ -1,11 +1,12 @@
 -- What calls leave, one after another.
-use Rattle.std.proofs.Common.{◌≡◌, ℕ, List, [], ◌++◌, refl, sym, ap, ◌∙◌, arith}
+use Rattle.std.proofs.Common.{◌≡◌, ℕ, List, [], ◌∷◌, ◌++◌, refl, sym, ap, ◌∙◌, arith}
 use Rattle.std.proofs.lemmas.List.{append-nil, append_assoc}
 use Rattle.hp_base.specs.declared.limits.TheConstants.{MAX_HEAPS}
 use Rattle.hp_hall.specs.HallCalls.{HasComeTo, Idles}
 use Rattle.hp_hall.specs.HallState.{Did, HallState, IsLater, MayServe, MineStay, OthersStay, PartsStay, SlotsStay, SlotsStayBut, Stays, Waits}
-use Rattle.hp_hall.specs.Mail.{MailStep}
+use Rattle.hp_hall.specs.Mail.{HasInHand, MailStep, Takes}
 use Rattle.hp_hall.specs.Own.{Own}
+use Rattle.hp_hall.specs.declared.kept.Kept.{Kept}
 use Rattle.hp_hall.specs.declared.note.Note.{Note}
 
 -- two lists that each go on from the one before
@@ -46,6 +47,10 @@ did_same me a = record { made = sym (append-nil (a.done me)) }
 pub did_then : {me : ℕ} {first second : List MailStep} {a b c : HallState} → Did me first a b → Did me second b c → Did me (first ++ second) a c
 did_then {me} {first} {second} {a} {b} {c} here next =
     record { made = more_then (a.done me) (b.done me) (c.done me) first second here.made next.made }
+
+-- who has just taken a value has it in hand
+pub just_taken : {me slot : ℕ} {kept : Kept} {a b : HallState} → Did me (Takes slot kept ∷ []) a b → HasInHand slot (b.done me)
+just_taken {me} {slot} {kept} {a} {b} did = (a.done me, [], kept, did.made, tt)
 
 pub slots_same : (a : HallState) → SlotsStay a a
 slots_same a = record { taken = λ number. refl; home = λ number may. may }

@@ -1,5 +1,6 @@
 -- What is done in a hall: the rule "Messages" of docs/PARTICIPANTS.md.
-use Rattle.std.specs.Prelude.{◌≡◌, ◌↔◌, ℕ, ◌+◌, ◌-◌, ◌^◌, ◌==◌, min, max, sum_by, List, Option, map, filter, ⊤}
+use Rattle.std.specs.Prelude.{◌≡◌, ◌≢◌, ◌↔◌, ℕ, ◌+◌, ◌-◌, ◌^◌, ◌==◌, min, max, sum_by, List, ◌∷◌, ◌++◌, Option, map, filter, ⊤}
+use Rattle.std.specs.List.{AllByRecursion}
 use Rattle.hp_base.specs.declared.plan.Action.{Action}
 use Rattle.hp_base.specs.declared.plan.Action.TheVariants.{Lose}
 use Rattle.hp_frame.specs.declared.frame.Frame.{Frame}
@@ -24,6 +25,19 @@ IsAsPlanned (Fetches frame) = ⊤
 IsAsPlanned (Takes slot kept) = ⊤
 IsAsPlanned (Gives slot kept) = ⊤
 IsAsPlanned (Notes note) = ⊤
+
+-- a step that gives nothing back to that slot
+abbrev pub GivesNot : ℕ → MailStep → Type 0
+GivesNot slot (Posts to frame action posted) = ⊤
+GivesNot slot (Fetches frame) = ⊤
+GivesNot slot (Takes other kept) = ⊤
+GivesNot slot (Gives other kept) = other ≢ slot
+GivesNot slot (Notes note) = ⊤
+
+-- by its steps a participant has the value of a slot in hand: it took that, and has not given it back since
+abbrev pub HasInHand : ℕ → List MailStep → Type 0
+HasInHand slot steps = (before after : List MailStep) × (kept : Kept) × (steps ≡ before ++ (Takes slot kept ∷ after))
+    × AllByRecursion (GivesNot slot) after
 
 -- 1 for a message that found its mailbox full
 abbrev pub full_of : Posted → ℕ

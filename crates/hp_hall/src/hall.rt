@@ -1,10 +1,10 @@
-ghost use Rattle.std.specs.Prelude.{◌≡◌, ◌⊎◌, ℕ, ◌+◌, ◌*◌, ◌^◌, ◌<◌, ◌≤◌, [], ◌∷◌, true, IfErr, IfOk, IsSome, length};
+ghost use Rattle.std.specs.Prelude.{◌≡◌, ◌⊎◌, ℕ, ◌+◌, ◌*◌, ◌^◌, ◌<◌, ◌≤◌, [], ◌∷◌, true, IfErr, IfOk, length};
 ghost use Rattle.hp_base.specs.declared.limits.TheConstants.{MAX_HEAPS};
 ghost use Rattle.hp_hall.specs.declared.note.Note.{Note};
 ghost use Rattle.hp_hall.specs.Giving.{IsGiveOf};
 ghost use Rattle.hp_hall.specs.HallCalls.{HasComeTo, HasFoundHeld, HasGiven, HasTaken, HavePosted};
 ghost use Rattle.hp_hall.specs.HallState.{Did, HallState, IsBusy, IsLater, OthersStay, SlotsStayBut, Stays, known_to};
-ghost use Rattle.hp_hall.specs.Mail.{Fetches, Notes, Posts};
+ghost use Rattle.hp_hall.specs.Mail.{Fetches, HasInHand, Notes, Posts};
 ghost use Rattle.hp_hall.specs.Own.{after_ack, after_partial};
 ghost use Rattle.hp_hall.specs.Slots.{IsSlot, slot_number};
 ghost use Rattle.hp_hall.specs.Weights.{fetched_weight, frame_weight};
@@ -69,11 +69,11 @@ pub trait Hall {
         ensures weight { (state self.new).weight ≤ (state self.old).weight }
         ensures goes_on { goes_on self.old self.new };
 
-    /// Acknowledges records: the participant's table has taken in so many. It is in the roster, or the segment value is out, so that it
-    /// may come in. Own.
+    /// Acknowledges records: the participant's table has taken in so many. It is in the roster, or has the segment value in hand, so that
+    /// it may come in. Own.
     fn ack(&mut self, me: u8, number: u64)
         requires serves { (state self.old).serves me }
-        requires may { ((state self.old).joined me ≡ true) ⊎ IsSome ((state self.old).taken MAX_HEAPS) }
+        requires may { ((state self.old).joined me ≡ true) ⊎ HasInHand MAX_HEAPS ((state self.old).done me) }
         requires rises { ((state self.old).own me).number ≤ number }
         requires seen { number ≤ length ((state self.old).seen me) }
         ensures own { HasComeTo me (after_ack number) (Notes (Note.Acked number) ∷ []) (state self.old) (state self.new) }

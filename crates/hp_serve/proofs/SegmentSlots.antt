@@ -1,10 +1,8 @@
 -- A participant takes the segment value, and gives it back.
-use Rattle.std.proofs.Common.{◌≡◌, ◌∙◌, ◌≤◌, ℕ, Option, None, refl, sym, subst, arith}
-use Rattle.std.specs.Prelude.{IsSome}
+use Rattle.std.proofs.Common.{◌≡◌, ◌∙◌, ◌≤◌, ℕ, None, refl, sym, subst, arith}
 use Rattle.hp_base.specs.declared.limits.TheConstants.{MAX_HEAPS}
 use Rattle.hp_hall.specs.HallCalls.{HasTaken}
 use Rattle.hp_hall.specs.HallState.{HallState, OthersStay, PartsStay, SlotsStay, SlotsStayBut, Stays, MayServe}
-use Rattle.hp_hall.specs.declared.kept.Kept.{Kept}
 use Rattle.hp_hall.specs.declared.kept.Kept.TheVariants.{Segments}
 use Rattle.hp_hall.proofs.HallStates.{others_then, parts_then}
 use Rattle.hp_segs.specs.SegsView.{SegsView, is_member}
@@ -41,10 +39,6 @@ took_has took = record {
   roster = took.took.roster ∙ sym took.took.joined;
   standing = took.took.stands;
 }
-
--- so the value is out of its slot
-pub in_hand : {me : ℕ} {segs : SegsView} {a : HallState} → HasSegs me segs a → IsSome (a.taken MAX_HEAPS)
-in_hand has = subst (λ (kept : Option Kept). IsSome kept) (sym has.taken) refl
 
 -- it has the value still, behind what leaves its parts and the slots
 pub has_still : {me : ℕ} {segs : SegsView} {a b : HallState} → SlotsStay a b → PartsStay me a b → OthersStay me a b → HasSegs me segs a

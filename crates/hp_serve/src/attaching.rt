@@ -1,5 +1,5 @@
 //! What a participant does that attaches or detaches, in one hold of the segment value.
-ghost use Rattle.std.specs.Prelude.{◌≡◌, ℕ, ◌^◌, ◌<◌, ◌≤◌, ◌++◌, ◌||◌, [], ◌∷◌, true, false, IsSome, length};
+ghost use Rattle.std.specs.Prelude.{◌≡◌, ℕ, ◌^◌, ◌<◌, ◌≤◌, ◌++◌, ◌||◌, [], ◌∷◌, true, false, length};
 ghost use Rattle.hp_base.specs.Mapping.{is_done};
 ghost use Rattle.hp_base.specs.declared.limits.TheConstants.{MAX_HEAPS, MAX_PARTICIPANTS};
 ghost use Rattle.hp_maps.specs.MapsView.{MapsView, calls_of, chunk_rows};
@@ -9,7 +9,7 @@ ghost use Rattle.hp_serve.specs.Attaching.{after_attaching, emptied, table_left}
 ghost use Rattle.hp_serve.specs.Serving.{CatchesUp, acks_behind, gives_segments, takes_segments};
 ghost use Rattle.hp_serve.specs.Tied.{IsTied};
 ghost use Rattle.hp_hall.specs.HallState.{Did, Stays};
-ghost use Rattle.hp_hall.specs.Mail.{Notes};
+ghost use Rattle.hp_hall.specs.Mail.{HasInHand, Notes};
 ghost use Rattle.hp_hall.specs.declared.note.Note.{Note};
 ghost use Rattle.hp_serve.specs.SegmentSlot.{GivesBack, HasSegs, MayHold, StaysButOwn, StaysButRoster};
 
@@ -51,7 +51,7 @@ fn take_whole_log<H: Hall, M: Mapper>(
     segs: &Segs,
 ) -> Caught
     requires serves { (H.state hall.old).serves me }
-    requires hand { IsSome ((H.state hall.old).taken MAX_HEAPS) }
+    requires hand { HasInHand MAX_HEAPS ((H.state hall.old).done me) }
     requires seen { segs.now.log ≡ (H.state hall.old).seen me }
     requires tied { IsTied segs.now.log ((H.state hall.old).own me) joined maps.old }
     requires calls { calls_of maps.old ≤ 2 ^ 63 }

@@ -1,5 +1,5 @@
 //! The calls of a hall that serving makes, each with all that later steps need of it.
-ghost use Rattle.std.specs.Prelude.{◌≡◌, ℕ, ◌<◌, ◌≤◌, IsSome, length};
+ghost use Rattle.std.specs.Prelude.{◌≡◌, ℕ, ◌<◌, ◌≤◌, length};
 ghost use Rattle.hp_base.specs.declared.limits.TheConstants.{MAX_HEAPS};
 ghost use Rattle.hp_hall.specs.declared.kept.Kept.{Kept};
 ghost use Rattle.hp_hall.specs.Giving.{IsGiveOf};
@@ -8,6 +8,7 @@ ghost use Rattle.hp_serve.specs.Serving.{tells_behind};
 ghost use Rattle.hp_serve.specs.Tied.{own_after};
 ghost use Rattle.hp_hall.specs.HallState.{OthersStay, SlotsStayBut, known_to};
 ghost use Rattle.hp_hall.specs.HallCalls.{HasComeTo, HasTaken};
+ghost use Rattle.hp_hall.specs.Mail.{HasInHand};
 ghost use Rattle.hp_serve.specs.SegmentSlot.{GivesBack, HasSegs, PutsBack};
 
 use hp_base::Caught;
@@ -67,7 +68,7 @@ pub(crate) fn tell_number<H: Hall>(hall: &mut H, me: u8, caught: &Caught, record
     requires serves { (H.state hall.old).serves me }
     requires rises { ((H.state hall.old).own me).number ≤ records }
     requires seen { length ((H.state hall.old).seen me) ≡ records }
-    requires hand { IsSome ((H.state hall.old).taken MAX_HEAPS) }
+    requires hand { HasInHand MAX_HEAPS ((H.state hall.old).done me) }
     ensures own { HasComeTo me (own_after caught.now records ((H.state hall.old).own me)) (tells_behind caught.now records)
         (H.state hall.old) (H.state hall.new) }
     ensures weight { (H.state hall.new).weight ≤ (H.state hall.old).weight }

@@ -1,11 +1,12 @@
 //! A participant's table catches up with the log of the segment value that the participant has taken.
-ghost use Rattle.std.specs.Prelude.{◌≡◌, ◌^◌, ◌≤◌, ◌||◌, true, false, IsSome, length};
+ghost use Rattle.std.specs.Prelude.{◌≡◌, ◌^◌, ◌≤◌, ◌||◌, true, false, length};
 ghost use Rattle.hp_base.specs.declared.limits.TheConstants.{MAX_HEAPS};
 ghost use Rattle.hp_base.specs.Mapping.{is_done};
 ghost use Rattle.hp_maps.specs.MapsView.{calls_of};
 ghost use Rattle.hp_serve.specs.Serving.{CatchesUp, IsWorn, tells_behind};
 ghost use Rattle.hp_serve.specs.Tied.{IsTied};
 ghost use Rattle.hp_hall.specs.HallState.{Did};
+ghost use Rattle.hp_hall.specs.Mail.{HasInHand};
 ghost use Rattle.hp_serve.specs.SegmentSlot.{MayCatchUp, StaysButOwn};
 
 use crate::calls::tell_number;
@@ -53,7 +54,7 @@ pub(crate) fn take_in<H: Hall, M: Mapper>(
 ) -> Caught
     requires serves { (H.state hall.old).serves me }
     requires seen { segs.now.log ≡ (H.state hall.old).seen me }
-    requires hand { IsSome ((H.state hall.old).taken MAX_HEAPS) }
+    requires hand { HasInHand MAX_HEAPS ((H.state hall.old).done me) }
     requires may { MayCatchUp segs.now.log ((H.state hall.old).own me) joined maps.old }
     ensures caught { CatchesUp segs.now.log maps.old maps.new result }
     ensures tied { IsTied segs.now.log ((H.state hall.new).own me) (joined || is_done result) maps.new }

@@ -2,13 +2,13 @@
 ghost use Rattle.std.specs.Prelude.{◌≡◌, ◌+◌, ◌*◌, ◌<◌, ◌≤◌, ◌++◌, ◌||◌, [], ◌∷◌, true, length};
 ghost use Rattle.hp_base.specs.Mapping.{is_done};
 ghost use Rattle.hp_base.specs.Plans.{action_of};
-ghost use Rattle.hp_base.specs.declared.limits.TheConstants.{MAX_PARTICIPANTS};
+ghost use Rattle.hp_base.specs.declared.limits.TheConstants.{MAX_HEAPS, MAX_PARTICIPANTS};
 ghost use Rattle.hp_base.specs.declared.plan_entry.MsgKind.{MsgKind};
 ghost use Rattle.hp_core.specs.Following.{after_catching, reply_of};
 ghost use Rattle.hp_frame.specs.Spelling.{HasFieldValues};
 ghost use Rattle.hp_frame.specs.declared.frame.Frame.{Frame};
 ghost use Rattle.hp_mail.specs.declared.posted.Posted.{Posted};
-ghost use Rattle.hp_hall.specs.Mail.{Posts};
+ghost use Rattle.hp_hall.specs.Mail.{HasInHand, Posts};
 ghost use Rattle.hp_segs.specs.SegsView.{is_member};
 ghost use Rattle.hp_serve.specs.Frames.{Says};
 ghost use Rattle.hp_serve.specs.Party.{one_more};
@@ -73,6 +73,7 @@ pub(crate) fn obey<H: Hall, M: Mapper>(
     segs: Segs,
 ) -> Caught
     requires has { HasSegs me segs (H.state hall.old) }
+    requires hand { HasInHand MAX_HEAPS ((H.state hall.old).done me) }
     requires some { 0 < (H.state hall.old).count }
     requires few { me < MAX_PARTICIPANTS }
     requires member { is_member segs.roster me ≡ true }

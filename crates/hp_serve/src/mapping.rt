@@ -3,8 +3,9 @@ ghost use Rattle.std.specs.Prelude.{◌≡◌, ℕ, ◌^◌, ◌<◌, ◌≤◌,
 ghost use Rattle.std.specs.Result.{result_ok};
 ghost use Rattle.hp_base.specs.Mapping.{is_done};
 ghost use Rattle.hp_base.specs.declared.caught.Caught.{Caught};
+ghost use Rattle.hp_base.specs.declared.limits.TheConstants.{MAX_HEAPS};
 ghost use Rattle.hp_core.specs.declared.event.CoreEvent.TheVariants.{SelfMapped};
-ghost use Rattle.hp_hall.specs.Mail.{MailStep, Notes};
+ghost use Rattle.hp_hall.specs.Mail.{HasInHand, MailStep, Notes};
 ghost use Rattle.hp_hall.specs.declared.note.Note.{Note};
 ghost use Rattle.hp_maps.specs.MapsView.{calls_of};
 ghost use Rattle.hp_segs.specs.Sound.{IsSound};
@@ -34,6 +35,7 @@ fn catch_and_hand<H: Hall, M: Mapper>(
     segs: Segs,
 ) -> Result<Out, AllocError>
     requires has { HasSegs 0 segs (H.state hall.old) }
+    requires hand { HasInHand MAX_HEAPS ((H.state hall.old).done 0) }
     requires declared { 0 < (H.state hall.old).count }
     requires sound { IsSound segs }
     requires log { segs.log ≡ (H.state hall.old).seen 0 }

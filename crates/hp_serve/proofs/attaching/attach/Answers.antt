@@ -1,10 +1,10 @@
 -- The steps follow one another: the value is taken, the log is taken in, and the value is given back.
 use Rattle.std.proofs.Common.{◌∙◌, ◌||◌, sym, ap, subst, arith}
 use Rattle.hp_base.specs.Mapping.{is_done}
-use Rattle.hp_hall.proofs.HallStates.{but_then, did_then, others_then, slots_but}
+use Rattle.hp_hall.proofs.HallStates.{but_then, did_then, just_taken, others_then, slots_but}
 use Rattle.hp_serve.specs.Tied.{IsTied}
 use Rattle.hp_serve.proofs.Attached.{attached_roster}
-use Rattle.hp_serve.proofs.SegmentSlots.{Took, closed, has_still, in_hand, took_has, took_serves}
+use Rattle.hp_serve.proofs.SegmentSlots.{Took, closed, has_still, took_has, took_serves}
 use Rattle.hp_serve.proofs.Tying.{tied_since}
 use Rattle.hp_serve.proofs.attaching.attach.Goals as goal
 
@@ -23,7 +23,7 @@ take_whole_log-caught-requires g c =
     let seen = is.others.later.seen me in
     record {
       serves = took_serves took;
-      hand = in_hand (took_has took);
+      hand = just_taken is.took.did;
       seen = is.took.log;
       tied = tied_since (old.seen me) segs.log seen.0 (old.own me) (mid.own me) c.args.joined c.args.maps.now (is.took.log ∙ seen.1) is.took.own
           c.requires.tied;

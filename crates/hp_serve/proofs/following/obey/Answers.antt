@@ -5,7 +5,7 @@ use Rattle.hp_base.specs.declared.limits.TheConstants.{MAX_HEAPS}
 use Rattle.hp_hall.proofs.HallStates.{but_then, did_then, others_then, parts_then, slots_but}
 use Rattle.hp_serve.specs.Frames.{Says}
 use Rattle.hp_serve.specs.Tied.{IsTied}
-use Rattle.hp_serve.proofs.SegmentSlots.{has_still, in_hand}
+use Rattle.hp_serve.proofs.SegmentSlots.{has_still}
 use Rattle.hp_serve.proofs.Tying.{tied_along}
 use Rattle.hp_serve.proofs.following.obey.Goals as goal
 
@@ -13,7 +13,7 @@ pub take_in-caught-requires-clause-serves : goal.take_in-caught-requires-clause-
 take_in-caught-requires-clause-serves g c = c.requires.has.serves
 
 pub take_in-caught-requires-clause-hand : goal.take_in-caught-requires-clause-hand
-take_in-caught-requires-clause-hand g c = in_hand c.requires.has
+take_in-caught-requires-clause-hand g c = c.requires.hand
 
 pub give_noted-reply-requires-clause-has : goal.give_noted-reply-requires-clause-has
 give_noted-reply-requires-clause-has g c =

@@ -3,14 +3,14 @@ use Rattle.std.proofs.Common.{◌∙◌, refl, sym, subst, arith}
 use Rattle.hp_hall.proofs.HallStates.{but_then, did_then, others_then, parts_then, slots_but, slots_then, stays_then}
 use Rattle.hp_serve.specs.Tied.{IsTied}
 use Rattle.hp_serve.proofs.Handed.{mapped_number, tied_still}
-use Rattle.hp_serve.proofs.SegmentSlots.{has_still, in_hand}
+use Rattle.hp_serve.proofs.SegmentSlots.{has_still}
 use Rattle.hp_serve.proofs.mapping.catch_and_hand.Goals as goal
 
 pub take_in-caught-requires : goal.take_in-caught-requires
 take_in-caught-requires g c = record {
   serves = c.requires.has.serves;
   seen = c.requires.log;
-  hand = in_hand c.requires.has;
+  hand = c.requires.hand;
   may = record { tied = c.requires.tied; calls = c.requires.calls };
 }
 

@@ -3,7 +3,7 @@ use Rattle.std.proofs.Common.{◌∙◌, [], ◌∷◌, ◌++◌, length, sym, a
 use Rattle.hp_base.specs.Mapping.{is_done}
 use Rattle.hp_hall.specs.Mail.{Notes}
 use Rattle.hp_hall.specs.declared.note.Note.TheVariants.{Loaded, Read}
-use Rattle.hp_hall.proofs.HallStates.{did_then}
+use Rattle.hp_hall.proofs.HallStates.{did_then, just_taken}
 use Rattle.hp_serve.specs.Serving.{tells_behind, gives_segments, takes_segments}
 use Rattle.hp_serve.proofs.Attached.{has_still}
 use Rattle.hp_serve.proofs.Handed.{mapped_by, tied_still, worn_by}
@@ -63,6 +63,7 @@ catch_and_hand-requires g c =
     let seen = is.others.later.seen 0 in
     record {
       has = took_has took;
+      hand = just_taken is.took.did;
       declared =
           let declared = c.requires.may.declared in
           let count = is.others.later.count in

@@ -12,7 +12,7 @@ use Rattle.hp_serve.proofs.MemberLemmas.{has_followed}
 use Rattle.hp_serve.proofs.Tying.{tied_since}
 use Rattle.hp_segs.specs.SegsView.{is_member}
 use Rattle.hp_hall.specs.HallState.{Did, OthersStay, PartsStay, Stays}
-use Rattle.hp_hall.proofs.HallStates.{did_then, others_then, parts_then}
+use Rattle.hp_hall.proofs.HallStates.{did_then, just_taken, others_then, parts_then}
 use Rattle.hp_serve.specs.SegmentSlot.{MayHold}
 use Rattle.hp_serve.specs.InHall.{IsTiedIn}
 use Rattle.hp_serve.proofs.Attached.{has_still}
@@ -69,6 +69,9 @@ obey-caught-requires-clause-has g c =
       weight = is.weight;
     } in
     took_has took
+
+pub obey-caught-requires-clause-hand : goal.obey-caught-requires-clause-hand
+obey-caught-requires-clause-hand g c = just_taken c.take_segments-segs.ensures.took.did
 
 pub obey-caught-requires-clause-some : goal.obey-caught-requires-clause-some
 obey-caught-requires-clause-some g c =
