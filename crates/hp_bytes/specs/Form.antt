@@ -80,7 +80,7 @@ form_of (word ∷ label ∷ at ∷ len ∷ []) = if bytes_eq word (codes "get") 
 form_of (word ∷ label ∷ at ∷ byte ∷ len ∷ []) = if bytes_eq word (codes "put") then put_line label at byte len else None
 form_of (word ∷ a ∷ b ∷ c ∷ d ∷ e ∷ more) = None
 
--- the fields of a line: what stands before, between and behind its spaces
+-- the fields of a line: what stands before, between and after its spaces
 unfoldable pub fields_of : List ℕ → List (List ℕ)
 fields_of text = slice_split (λ byte. byte == 32) text
 
@@ -88,11 +88,11 @@ fields_of text = slice_split (λ byte. byte == 32) text
 abbrev pub line_of : List ℕ → Option Line
 line_of text = form_of (fields_of text)
 
--- what stands before, between and behind the newlines of an input
+-- what stands before, between and after the newlines of an input
 unfoldable pub parts_of : List ℕ → List (List ℕ)
 parts_of input = slice_split (λ byte. byte == 10) input
 
--- nothing may stand behind the last newline
+-- nothing may stand after the last newline
 abbrev pub end_of : ℕ → List ℕ → Result (List Line) ℕ
 end_of number [] = Ok []
 end_of number (byte ∷ bytes) = Err number

@@ -64,7 +64,7 @@ pub data IsAnswered (input : List ℕ) (held held' : Option (List ℕ)) (sink_fa
       → IsAnswered input held held' sink_failed result
   wrote_nothing : held' ≡ held → IsAnswered input held held' sink_failed status.OutOfMemory
 
--- the text of a status was written, behind what the sink held
+-- the text of a status was written, after what the sink held
 pub record Writes (right : Bool) (left left' held held' : Option (List ℕ)) (ended : Status) : Type 0 where
   pub text : List ℕ
   pub is : IsText right left left' ended text

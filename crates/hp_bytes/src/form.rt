@@ -135,7 +135,7 @@ pub fn form_of<'a>(fields: &[Word<'a>]) -> Option<Line<'a>>
     }
 }
 
-/// Puts the fields of a line into a buffer: what stands before, between and behind its spaces.
+/// Puts the fields of a line into a buffer: what stands before, between and after its spaces.
 pub fn read_fields<'a>(fields: &mut Vec<Word<'a>>, line: &'a [u8]) -> Result<(), AllocError>
     ensures { OnOk result (fields.new.items ≡ fields_of line.entry.now) }
 {
