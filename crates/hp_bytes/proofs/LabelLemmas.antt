@@ -18,7 +18,7 @@ use Rattle.hp_bytes.specs.declared.labels.Labels.{Labels}
 use Rattle.hp_bytes.specs.declared.labels.Place.{Place}
 use Rattle.hp_bytes.specs.declared.word.WordKey.{WordKey}
 
-abbrev texts_alike : finite.IsAntisymmetric (slice_cmp nat_cmp)
+abbrev pub texts_alike : finite.IsAntisymmetric (slice_cmp nat_cmp)
 texts_alike = finite.slice_cmp-IsAntisymmetric finite.nat_cmp-IsAntisymmetric
 
 module _ (store : StoreView) (heap : PlainHeap) where

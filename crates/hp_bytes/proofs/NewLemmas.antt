@@ -57,7 +57,7 @@ module _ (number : ℕ) (label : List ℕ) (size : ℕ) (state : Session) (sessi
     make_asked request new given accepted sized allocates = record {
       step = subst (λ (o : Option Held). IsMadeBy o (record { answer = given; next = plain_of new })) (sym (held_none number state session tiled label fresh))
           (subst (λ (o : Option BadRequest). IsAllocated number label size o (plain_of state) (record { answer = given; next = plain_of new })) (sym accepted)
-          (request, (sized, allocates.step)));
+          (request, sized, allocates.step));
       session = allocates.session;
       room = allocates.room;
     }

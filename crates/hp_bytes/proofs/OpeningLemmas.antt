@@ -68,7 +68,7 @@ module _ (state : Session) (heap : state.heap.plain ≡ after_grow session_run (
   no_labels : labels_held state.store state.heap.plain state.labels ≡ finite.empty
   no_labels =
       finite.same_map nat_list_cmp_total texts_alike (labels_held state.store state.heap.plain state.labels) finite.empty (λ label.
-      get-labels state.store state.heap.plain state.labels label ∙ ap (option_map (held_at state.store state.heap.plain)) (none label))
+      get-labels state.store state.heap.plain state.labels label ∙ ap (option_map (held_at state.store state.heap.plain)) (none label) ∙ sym (finite.get-empty (slice_cmp nat_cmp) label))
 
   -- it is the one that opens
   pub opening_plain : plain_of state ≡ opening_session

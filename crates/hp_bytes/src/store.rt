@@ -61,8 +61,17 @@ impl Store {
         ensures refused { result_err result ≡ byte_fault addr self.old heap.now.plain }
         ensures part { IfOk result (λ part. IsData addr self.old heap.now.plain part.now) }
     {
-        let part = self.part_at(heap, addr)?;
+        let part = self.part_to_write(heap, addr)?;
         Ok(self.part_mut(part))
+    }
+
+    // Which bytes are lent for writing. It takes the store by `&mut`, as the prover follows a loan for writing from one call to the next.
+    fn part_to_write(&mut self, heap: &Heap, addr: u64) -> Result<Part, ByteFault>
+        ensures refused { result_err result ≡ byte_fault addr self.old heap.now.plain }
+        ensures part { IfOk result (IsPartOf addr self.old heap.now.plain) }
+        ensures same { self.new ≡ self.old }
+    {
+        self.part_at(heap, addr)
     }
 
     /// The data of two elements at once, for writing: two parts of the one buffer. Own.

@@ -18,13 +18,13 @@ returns-in-Ok-reply_text-clause-written g c =
     wrote _ _ _ (of_reply _ (reply_is c.args.input.now _ c.as_bytes.result.now c.in-Ok.lines.items c.as_slice.result.now c.in-Ok.ensures c.as_slice.ensures.value c.in-Ok-reply_text.ensures bytes))
     c.written.ensures.written
 
-pub returns-in-Err-clause-written : goal.returns-in-Err-clause-written
-returns-in-Err-clause-written g c = wrote_nothing refl
+pub returns-in-Ok-clause-written : goal.returns-in-Ok-clause-written
+returns-in-Ok-clause-written g c = wrote_nothing refl
 
 pub returns-in-Err-Bad-clause-written : goal.returns-in-Err-Bad-clause-written
 returns-in-Err-Bad-clause-written g c =
     let due : reading c.args.input.now ≡ Err c.in-Err-Bad.line = rw c.in-Err-Bad.field-0-is at c.in-Err-Bad.ensures in
     tried_answers c.args.input.now _ _ _ c.in-Err-Bad.line _ due c.refused.ensures.written
 
-pub returns-in-Err-OutOfMemory-clause-written : goal.returns-in-Err-OutOfMemory-clause-written
-returns-in-Err-OutOfMemory-clause-written g c = wrote_nothing refl
+pub returns-clause-written : goal.returns-clause-written
+returns-clause-written g c = wrote_nothing refl
