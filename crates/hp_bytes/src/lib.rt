@@ -20,5 +20,6 @@ mod word;
 mod zeroed;
 
 pub use fault::{ByteFault, StoreFault};
+pub use part::Part;
 pub use store::Store;
 pub use top_call::{session, top};

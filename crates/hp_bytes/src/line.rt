@@ -4,7 +4,10 @@ use crate::word::Word;
 #[derive(Drop)]
 pub enum Line<'a> {
     /// An element of at least `size` bytes, under a label.
-    New { label: Word<'a>, size: u64 },
+    New {
+        label: Word<'a>,
+        size: u64,
+    },
     /// `len` bytes of an element, from the one at `at` on, become `byte`.
     Put {
         label: Word<'a>,
@@ -13,7 +16,10 @@ pub enum Line<'a> {
         len: u64,
     },
     /// The first bytes of an element go to another.
-    Copy { from: Word<'a>, to: Word<'a> },
+    Copy {
+        from: Word<'a>,
+        to: Word<'a>,
+    },
     /// `len` bytes of an element are shown, from the one at `at` on.
     Get {
         label: Word<'a>,
@@ -21,5 +27,7 @@ pub enum Line<'a> {
         len: u64,
     },
     /// An element is freed, and its label with it.
-    Drop { label: Word<'a> },
+    Drop {
+        label: Word<'a>,
+    },
 }

@@ -3,7 +3,7 @@ ghost use Rattle.std.specs.Prelude.{◌≡◌, ◌+◌, ◌≤◌, ◌&&◌, nat
 ghost use Rattle.hp_bytes.specs.Written.{written_over};
 ghost use Rattle.hp_bytes.specs.Parts.{AreApart, IsPartFrom};
 
-/// So many bytes of a buffer, from an index on.
+/// So many bytes of a store, from an index on: the byte at its base has the index 0. Own.
 #[derive(Clone, Copy)]
 pub struct Part {
     pub from: usize,

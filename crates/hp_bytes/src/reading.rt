@@ -51,10 +51,7 @@ pub fn read_lines<'a>(alloc: Global, input: &'a [u8]) -> Result<Vec<Line<'a>>, F
 }
 
 // What a line asks for, where it is of one of the forms. Its fields are left in the buffer.
-fn read_line<'a>(
-    fields: &mut Vec<Word<'a>>,
-    text: &'a [u8],
-) -> Result<Option<Line<'a>>, AllocError>
+fn read_line<'a>(fields: &mut Vec<Word<'a>>, text: &'a [u8]) -> Result<Option<Line<'a>>, AllocError>
     ensures { IfOk result (λ line. line ≡ line_of text.entry.now) }
 {
     read_fields(fields, text)?;

@@ -168,13 +168,7 @@ impl<'a> Session<'a> {
     }
 
     // `get`
-    fn get(
-        &self,
-        alloc: Global,
-        label: &Word<'_>,
-        at: u64,
-        len: u64,
-    ) -> Result<Answer, AllocError>
+    fn get(&self, alloc: Global, label: &Word<'_>, at: u64, len: u64) -> Result<Answer, AllocError>
         requires { IsSomeSession self.now }
         ensures { IfOk result (DoesUnderEach (Line.Get label.now at len) self.now self.now) }
     {

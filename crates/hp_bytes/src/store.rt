@@ -4,7 +4,7 @@ ghost use Rattle.std.specs.Borrow.{sem};
 ghost use Rattle.hp_bytes.specs.Stores.{byte_fault, most_bytes, with_bytes, IsData};
 ghost use Rattle.hp_bytes.specs.Parts.{AreApart, IsPartOf, shared_front, two_fault};
 ghost use Rattle.hp_bytes.specs.Written.{written_over};
-ghost use Rattle.hp_bytes.specs.Lends.{lends_data, lends_part};
+ghost use Rattle.hp_bytes.specs.Lends.{lends_part};
 
 use crate::element::data_size;
 use crate::fault::{ByteFault, StoreFault};
@@ -55,23 +55,13 @@ impl Store {
         Ok(&self.bytes[part.from..part.from + part.len])
     }
 
-    /// The same data, for writing. When the loan ends, every other byte of the store is as before. Own.
+    /// The same data, for writing: `part_at`, and then `part_mut`, whose contract says what the store has once the loan has ended. Own.
     pub fn bytes_mut<'a>(&'a mut self, heap: &Heap, addr: u64) -> Result<&'a mut [u8], ByteFault>
-        ensures* lends { sem 𝓛 (lends_data addr self.entry result) }
         ensures refused { result_err result ≡ byte_fault addr self.old heap.now.plain }
         ensures part { IfOk result (λ part. IsData addr self.old heap.now.plain part.now) }
     {
-        let part = self.part_to_write(heap, addr)?;
+        let part = self.part_at(heap, addr)?;
         Ok(self.part_mut(part))
-    }
-
-    // Which bytes are lent for writing. It takes the store by `&mut`, as the prover follows a loan for writing from one call to the next.
-    fn part_to_write(&mut self, heap: &Heap, addr: u64) -> Result<Part, ByteFault>
-        ensures refused { result_err result ≡ byte_fault addr self.old heap.now.plain }
-        ensures part { IfOk result (IsPartOf addr self.old heap.now.plain) }
-        ensures same { self.new ≡ self.old }
-    {
-        self.part_at(heap, addr)
     }
 
     /// The data of two elements at once, for writing: two parts of the one buffer. Own.
@@ -100,8 +90,8 @@ impl Store {
         Ok(())
     }
 
-    /// A part of the buffer, for writing.
-    pub(crate) fn part_mut(&mut self, part: Part) -> &mut [u8]
+    /// A part of the buffer, for writing. When the loan ends, every other byte of the store is as before. Own.
+    pub fn part_mut(&mut self, part: Part) -> &mut [u8]
         requires { part.from + part.len ≤ length self.old.bytes }
         ensures* lends { sem 𝓛 (lends_part part self.entry result) }
         ensures part { result.now ≡ take part.len (drop part.from self.old.bytes) }
@@ -113,8 +103,8 @@ impl Store {
     pub(crate) fn clear(&mut self, part: Part)
         requires { part.from + part.len ≤ length self.old.bytes }
         ensures { self.new ≡ record {
-            base = self.old.base;
-            bytes = written_over part.from (replicate part.len 0) self.old.bytes;
+          base = self.old.base;
+          bytes = written_over part.from (replicate part.len 0) self.old.bytes;
         } }
     {
         fill_part(self.bytes.as_mut_slice(), part, 0);
@@ -151,8 +141,8 @@ impl Store {
         }
     }
 
-    /// Which bytes the data of an element are.
-    pub(crate) fn part_at(&self, heap: &Heap, addr: u64) -> Result<Part, ByteFault>
+    /// Which bytes of the store the data of the busy element with its data at `addr` are. Own.
+    pub fn part_at(&self, heap: &Heap, addr: u64) -> Result<Part, ByteFault>
         ensures refused { result_err result ≡ byte_fault addr self.now heap.now.plain }
         ensures part { IfOk result (IsPartOf addr self.now heap.now.plain) }
     {

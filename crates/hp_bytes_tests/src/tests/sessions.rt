@@ -16,7 +16,11 @@ fn answers(
     fails: (&[u64], &[u64]),
 ) -> Result<(Status, MemSink), AllocError> {
     let (source_fails, sink_fails) = fails;
-    let mut source = MemSource::new(input.to_vec(alloc)?, piece.max(1), source_fails.to_vec(alloc)?);
+    let mut source = MemSource::new(
+        input.to_vec(alloc)?,
+        piece.max(1),
+        source_fails.to_vec(alloc)?,
+    );
     let mut sink = MemSink::new(alloc, piece.max(1), sink_fails.to_vec(alloc)?);
     let status = session(alloc, &mut source, &mut sink);
     Ok((status, sink))
@@ -57,7 +61,11 @@ const ANSWERED: [Row; 9] = [
         Status::Ok,
     ),
     // All of the memory but the header.
-    ("new a 8388480\nnew b 1\n", "ok 0x100000080\nnone\n", Status::Ok),
+    (
+        "new a 8388480\nnew b 1\n",
+        "ok 0x100000080\nnone\n",
+        Status::Ok,
+    ),
     // Labels that are not live.
     (
         "put a 0 0 0\ncopy a a\nget a 0 1\ndrop a\nnew a 1\ncopy a b\ncopy b a\n",

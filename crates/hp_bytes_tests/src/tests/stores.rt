@@ -64,7 +64,9 @@ fn zeroed(store: &mut Store, heap: &mut Heap, size: u64, wanted: Option<u64>) ->
     let Ok(request) = Request::new(size, 0, 0, 0) else {
         return false;
     };
-    heap.reserve(1).is_ok() && heap.spare() > 0 && store.zalloc(heap, CALLER, &request, TAG) == wanted
+    heap.reserve(1).is_ok()
+        && heap.spare() > 0
+        && store.zalloc(heap, CALLER, &request, TAG) == wanted
 }
 
 fn fill(store: &mut Store, heap: &Heap, addr: u64, byte: u8) -> bool {
