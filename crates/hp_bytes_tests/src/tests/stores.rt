@@ -38,8 +38,8 @@ const B: u64 = A - 128 - 64;
 
 #[derive(Clone, Copy)]
 enum Step {
-    /// An element of so many bytes is allocated and zeroed, with its data at the address, or not.
-    Zeroed(u64, Option<u64>),
+    /// An element of so many bytes is allocated by the heap alone, with its data at the address, or not.
+    Alloc(u64, Option<u64>),
     /// All bytes of the element become this one.
     Fill(u64, u8),
     /// The element has so many bytes, all of them this one.
@@ -54,19 +54,19 @@ enum Step {
     Free(u64),
 }
 
-use Step::{Fill, Free, Holds, No, NoTwo, Over, Zeroed};
+use Step::{Alloc, Fill, Free, Holds, No, NoTwo, Over};
 
 const fn missing(addr: u64) -> ByteFault {
     ByteFault::NotAnElement { addr }
 }
 
-fn zeroed(store: &mut Store, heap: &mut Heap, size: u64, wanted: Option<u64>) -> bool {
-    let Ok(request) = Request::new(size, 0, 0, 0) else {
-        return false;
-    };
-    heap.reserve(1).is_ok()
-        && heap.spare() > 0
-        && store.zalloc(heap, CALLER, &request, TAG) == wanted
+fn allocated(heap: &mut Heap, size: u64) -> Option<u64> {
+    let request = Request::new(size, 0, 0, 0).ok()?;
+    heap.reserve(1).ok()?;
+    if heap.spare() == 0 {
+        return None;
+    }
+    heap.alloc(CALLER, &request, TAG)
 }
 
 fn fill(store: &mut Store, heap: &Heap, addr: u64, byte: u8) -> bool {
@@ -112,7 +112,7 @@ fn free(heap: &mut Heap, addr: u64) -> bool {
 
 fn do_step(store: &mut Store, heap: &mut Heap, step: &Step) -> bool {
     match step {
-        Zeroed(size, wanted) => zeroed(store, heap, *size, *wanted),
+        Alloc(size, wanted) => allocated(heap, *size) == *wanted,
         Fill(addr, byte) => fill(store, heap, *addr, *byte),
         Holds(addr, len, byte) => holds(store, heap, *addr, *len, *byte),
         Over(a, b) => over(store, heap, *a, *b),
@@ -155,8 +155,8 @@ const ALL: usize = 2 * PAGE as usize;
 #[test]
 fn lends_each_element_its_own_bytes(rt: HostRuntime) -> Result<(), Fail> {
     let steps = [
-        Zeroed(100, Some(A)),
-        Zeroed(64, Some(B)),
+        Alloc(100, Some(A)),
+        Alloc(64, Some(B)),
         Holds(A, 128, 0),
         Fill(A, 255),
         Holds(B, 64, 0),
@@ -167,18 +167,18 @@ fn lends_each_element_its_own_bytes(rt: HostRuntime) -> Result<(), Fail> {
     play(rt.alloc(), ALL, &steps)
 }
 
+// A heap knows nothing of the bytes, and leaves them: `zalloc` is for that. The sessions show it.
 #[test]
-fn zeroes_what_it_allocates_and_nothing_else(rt: HostRuntime) -> Result<(), Fail> {
+fn keeps_the_bytes_of_what_is_freed(rt: HostRuntime) -> Result<(), Fail> {
     let steps = [
-        Zeroed(100, Some(A)),
-        Zeroed(64, Some(B)),
+        Alloc(100, Some(A)),
+        Alloc(64, Some(B)),
         Fill(A, 255),
         Fill(B, 7),
         Free(A),
-        Zeroed(100, Some(A)),
-        Holds(A, 128, 0),
-        Holds(B, 64, 7),
-        Zeroed(2 * PAGE, None),
+        Alloc(100, Some(A)),
+        Holds(A, 128, 255),
+        Alloc(2 * PAGE, None),
         Holds(B, 64, 7),
     ];
     play(rt.alloc(), ALL, &steps)
@@ -187,8 +187,8 @@ fn zeroes_what_it_allocates_and_nothing_else(rt: HostRuntime) -> Result<(), Fail
 #[test]
 fn lends_two_at_once(rt: HostRuntime) -> Result<(), Fail> {
     let steps = [
-        Zeroed(100, Some(A)),
-        Zeroed(64, Some(B)),
+        Alloc(100, Some(A)),
+        Alloc(64, Some(B)),
         Fill(A, 1),
         Over(A, B),
         Holds(B, 64, 1),
@@ -203,7 +203,7 @@ fn lends_two_at_once(rt: HostRuntime) -> Result<(), Fail> {
 fn lends_no_other_addresses(rt: HostRuntime) -> Result<(), Fail> {
     let steps = [
         No(A, missing(A)),
-        Zeroed(100, Some(A)),
+        Alloc(100, Some(A)),
         No(A - 128, missing(A - 128)),
         No(A + 64, missing(A + 64)),
         No(BASE, missing(BASE)),
@@ -234,15 +234,6 @@ fn lends_nothing_outside_the_store(rt: HostRuntime) -> Result<(), Fail> {
     assert!(rt; refuses_two(&mut store, &heap, B, A, outside));
     assert!(rt; holds(&store, &heap, B, 64, 0));
     Ok(())
-}
-
-fn allocated(heap: &mut Heap, size: u64) -> Option<u64> {
-    let request = Request::new(size, 0, 0, 0).ok()?;
-    heap.reserve(1).ok()?;
-    if heap.spare() == 0 {
-        return None;
-    }
-    heap.alloc(CALLER, &request, TAG)
 }
 
 #[test]
