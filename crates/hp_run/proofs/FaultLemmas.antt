@@ -1,5 +1,6 @@
 -- Whatever comes of writing what there is to write, reading did not fail.
-use Rattle.std.proofs.Common.{◌≡◌, ℕ, List, Option, false, refl}
+use Rattle.std.proofs.Common.{◌≡◌, ℕ, Bool, List, Option, false, refl, sym, subst, arith, true≢false}
+use Rattle.hp_base.specs.Streams.{CountsFault}
 use Rattle.hp_base.specs.declared.status.Status.{Status}
 use Rattle.hp_run.specs.Faults.{is_read_fault, is_write_fault}
 use Rattle.hp_run.specs.Making.{IsMade}
@@ -39,3 +40,12 @@ pub made_reads : (is : List ℕ → Type 0) (held held' : Option (List ℕ)) (si
     → IsMade is held held' sink_failed result → is_read_fault result ≡ false
 made_reads is held held' sink_failed result (made result' text shown written) = put_reads _ result text held held' sink_failed written refl
 made_reads is held held' sink_failed result (made_nothing same) = refl
+
+-- and a source's count of faults stands as it was
+pub unread : (faults : ℕ) (failed : Bool) → failed ≡ false → CountsFault faults faults failed
+unread faults failed is =
+    subst (λ (failed : Bool). CountsFault faults faults failed) (sym is) (record {
+      never_falls = omega arith;
+      rose = λ bad. absurd (true≢false (sym bad));
+      same = λ _. refl;
+    })

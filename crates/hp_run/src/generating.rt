@@ -66,12 +66,7 @@ pub fn generate_summary<K: Sink, M: Mapper>(
 }
 
 // Runs a workload that is not refused, and writes its summary.
-fn summed<K: Sink, M: Mapper>(
-    alloc: Global,
-    bytes: &[u8],
-    sink: &mut K,
-    mappers: Vec<M>,
-) -> Status
+fn summed<K: Sink, M: Mapper>(alloc: Global, bytes: &[u8], sink: &mut K, mappers: Vec<M>) -> Status
     requires short { length bytes.now ≤ LIMIT }
     requires accepted { refusal_of bytes.now ≡ None }
     requires count { length mappers.items ≡ MAX_PARTICIPANTS }

@@ -111,7 +111,10 @@ impl fmt::Display for Counts {
             frees,
             resized,
         } = *self;
-        write!(f, "lines {lines}\nallocs {allocs}\nfrees {frees}\nresized {resized}\n")
+        write!(
+            f,
+            "lines {lines}\nallocs {allocs}\nfrees {frees}\nresized {resized}\n"
+        )
     }
 }
 
@@ -129,7 +132,10 @@ impl fmt::Display for Rest {
             pool1,
             free,
         } = *self;
-        write!(f, "records {records}\npool0 {pool0}\npool1 {pool1}\nfree {free}\n")
+        write!(
+            f,
+            "records {records}\npool0 {pool0}\npool1 {pool1}\nfree {free}\n"
+        )
     }
 }
 

@@ -123,8 +123,7 @@ unfolding walk_fault
 all_trail values [] = (refl, ap (λ values. behind values true) (sym (append-nil values)))
 all_trail values (word ∷ words) =
     let next = all_trail (values ++ word ∷ []) words in
-    let step = trailing_step values word in
-    (
+    let step = trailing_step values word in (
       ap₂ or_else (trailing_passes values word) (ap (λ place. walk_fault shape [] place words) step) ∙ next.0,
       ap (λ place. fold (walked shape.rules []) place words) step ∙ next.1
           ∙ ap (λ values. behind values true) (append_assoc values (word ∷ []) words),

@@ -4,7 +4,8 @@ use super::*;
 // Words, an input, and what is written for them.
 type Said = (&'static [&'static str], &'static str, &'static str);
 
-const LONG: &str = "participants 3\npool 0 2M 1024\npool 1 2M 1024\n0 zone MP_mbuf_pool 18872064\n0 zone RG_rx 65920\n\
+const LONG: &str =
+    "participants 3\npool 0 2M 1024\npool 1 2M 1024\n0 zone MP_mbuf_pool 18872064\n0 zone RG_rx 65920\n\
 1 await 0 2\n1 lookup MP_mbuf_pool\n2 await 0 2\n2 alloc flow_table 1M align=4K\n";
 
 // One generated line, by hand from the four states that its draws go by.
@@ -14,7 +15,8 @@ const FIRST_SUMMARY: &str =
     "lines 1\nallocs 1\nfrees 0\nresized 0\nrecords 1\npool0 1023\npool1 1024\nfree 2081536\n";
 
 // Of a model that is none of this program.
-const LONG_SUMMARY: &str = "lines 2000\nallocs 1028\nfrees 753\nresized 122\nrecords 12\npool0 1021\npool1 1021\nfree 3656960\n";
+const LONG_SUMMARY: &str =
+    "lines 2000\nallocs 1028\nfrees 753\nresized 122\nrecords 12\npool0 1021\npool1 1021\nfree 3656960\n";
 
 const SAID: [Said; 10] = [
     (&["check"], LONG, "ok 6\n"),
@@ -99,7 +101,13 @@ fn ends_where_a_form_fails(rt: HostRuntime) -> Result<(), Fail> {
     let (status, _source, sink) = ran(rt.alloc(), &["check"], EXAMPLE, &[1], &NO_CALL)?;
     assert!(rt; status == Status::ReadFault);
     assert!(rt; sink.bytes().len() == 0);
-    let (status, _source, sink) = ran(rt.alloc(), &["check"], "pool 0 2M 4\n0 alloc a", &NO_CALL, &NO_CALL)?;
+    let (status, _source, sink) = ran(
+        rt.alloc(),
+        &["check"],
+        "pool 0 2M 4\n0 alloc a",
+        &NO_CALL,
+        &NO_CALL,
+    )?;
     assert!(rt; status == Status::BadWorkload);
     assert!(rt; sink.bytes() == b"refused line 2 Fields\n".as_slice());
     Ok(())

@@ -1,7 +1,6 @@
-use Rattle.std.proofs.Common.{◌≡◌, List, ℕ, Some, None, refl, sym, ◌∙◌}
+use Rattle.std.proofs.Common.{◌≡◌, Some, refl, sym, ◌∙◌}
 use Rattle.std.proofs.lemmas.Option.{none-some}
-use Rattle.hp_run.specs.Making.{IsMade}
-use Rattle.hp_run.specs.Making.IsMade.{wrote, wrote_nothing}
+use Rattle.hp_run.specs.Making.IsMade.{wrote_nothing}
 use Rattle.hp_run.specs.Refusals.{refusal_of}
 use Rattle.hp_run.proofs.MadeLemmas.{made_more}
 use Rattle.hp_run.proofs.generating.summed.Goals as goal

@@ -1,4 +1,4 @@
-use Rattle.std.proofs.Common.{◌≡◌, ◌∙◌, refl, rules}
+use Rattle.std.proofs.Common.{◌≡◌, refl, rules}
 use Rattle.std.specs.Prelude.{string_bytes}
 use Rattle.hp_run.specs.Making.IsMade.{wrote, wrote_nothing}
 use Rattle.hp_run.proofs.generating.told.Goals as goal

@@ -1,5 +1,4 @@
-use Rattle.std.proofs.Common.{◌≡◌, drop, arith, rules}
-use Rattle.hp_run.specs.Summary.{count_done}
+use Rattle.std.proofs.Common.{arith, rules}
 use Rattle.hp_run.proofs.SummaryLemmas.{none_behind}
 use Rattle.hp_run.proofs.summary.count_of.Goals as goal
 
