@@ -59,7 +59,12 @@ module _ (seats : List Seat) (by : ℕ) (seat : Seat) (there : slice_get seats b
         → AreSo (stepping event core segs).segs
     gone_event event core its brings =
         gone_logged who base past seats (with_room segs) (stepping event core segs).segs
-        (record { low = was.low; since = was.since; freed = was.freed }) cut
+        (record {
+          low = was.low;
+          since = record { more = was.since.more; is = was.since.is; going = was.since.going };
+          freed = was.freed;
+        })
+        cut
         (step_logs (IsTaken took) nobody_denies event core (with_room segs) brings (traced.held core its) armed)
 
   gone_claim : (number : ℕ) (segs : SegsView) → AreSo segs → AreSo (after_claim by number segs)
@@ -189,7 +194,8 @@ module _ (count absent : ℕ) (pools : List PoolLine) (first : Joint) (is : IsFi
         let who = entry.from in
         let its = of_a_seat count absent pools first now is runs entry among in
         let gone = gone_runs first (Runs.stands first) who runs (cut_all who) in
-        let none = ap (λ (dones : List Done). length (numbered_in dones)) (none_first who) in
+        let none : length (numbered_in (trace_in (slice_get first.seats who))) ≡ 0 =
+        ap (λ (dones : List Done). length (numbered_in dones)) (none_first who) in
         let truly : IsTrulySince who (length (numbered_in (trace_in (slice_get first.seats who)))) (length first.segs.log)
         (numbers_of now.seats) now.segs.log entry =
         All-contains

@@ -15,7 +15,7 @@ use Rattle.hp_joint.proofs.Gone.{HasGoneSince}
 -- many
 abbrev pub IsShownBetween : List LogRecord → Run → ℕ → ℕ → ℕ → Type 0
 IsShownBetween log run generation base most = (base ≤ before_drop run 0 0 (take generation log))
-    × (before_drop run 0 0 (take generation log) ≤ generation) × (generation ≤ most)
+    × ((before_drop run 0 0 (take generation log) ≤ generation) × (generation ≤ most))
 
 -- a Drop of the run is one
 its_drop : (run : Run) → is_drop_of run (Drop run) ≡ true
@@ -61,4 +61,4 @@ module _ (run : Run) where
       sym (get_before (take generation log) (drop generation log) gone.place (omega (arith, long, gone.before)))
       ∙ (ap (λ (log : List LogRecord). slice_get log gone.place) (take-append-drop generation log) ∙ gone.dropped) in
       let most = found_within (take generation log) 0 0 (omega arith) in
-      (found_high (take generation log) base 0 0 gone.place (omega (arith, gone.since)) here, omega (arith, most, long), within)
+      (found_high (take generation log) base 0 0 gone.place (omega (arith, gone.since)) here, (omega (arith, most, long), within))

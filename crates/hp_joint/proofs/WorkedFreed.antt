@@ -118,10 +118,10 @@ module _ (alloc free : Act) (request : Request) where
       omega (arith, rises.1.1.1.1.1.1.0)
 
   -- where it has a Drop of its own, all is as it should be
-  abbrev dropped : List LogRecord
-  dropped = Add run 0 ∷ Drop run ∷ Add run 0 ∷ Drop run ∷ []
+  abbrev dropped_twice : List LogRecord
+  dropped_twice = Add run 0 ∷ Drop run ∷ Add run 0 ∷ Drop run ∷ []
 
-  shown_dropped : AreShown dropped (told 4) twice
+  shown_dropped : AreShown dropped_twice (told 4) twice
   shown_dropped =
       seen_rising 4 (0 ∷ 1 ∷ 1 ∷ 2 ∷ 2 ∷ 3 ∷ 3 ∷ 4 ∷ [])
       (omega arith, (omega arith, (omega arith, (omega arith, (omega arith, (omega arith, (omega arith, (omega arith, omega arith))))))))
