@@ -4,8 +4,8 @@ use crate::map_answer::MapAnswer;
 use std::marker::Model;
 use std::snapshot::Snapshot;
 
-/// All answers that a mapper gave, in their order. Contracts see the list; of its bytes it keeps the last answer alone,
-/// behind which the earlier ones stand as a snapshot, which has none.
+/// All answers that a mapper gave, in their order. Contracts see the list; at run time it keeps the last answer alone,
+/// and the earlier ones are a snapshot, which takes no bytes. Own.
 #[cycle(answers)]
 #[derive(Drop)]
 pub struct Answers {

@@ -9,7 +9,7 @@ use std::marker::Model;
 /// The name of a heap, a memzone, a watcher or a validator: 1 to 63 bytes. After rte_memzone's and rte_malloc's names.
 #[derive(Copy)]
 pub struct Name {
-    // The text, and zeros behind it. The length is one byte, so that a name takes 64 bytes at an alignment of 1.
+    // The text, and zeros after it. The length is one byte, so that a name takes 64 bytes at an alignment of 1.
     bytes: [u8; 63],
     len: u8,
 }

@@ -16,7 +16,7 @@ use std::marker::Model;
 /// The greatest number of bytes of a store: 256 MiB. Own.
 pub const LIMIT: usize = 268_435_456;
 
-/// The bytes behind a stretch of addresses. Contracts see its first address and its bytes. Own.
+/// The bytes at adjacent addresses. Contracts see the first address and the bytes. Own.
 #[derive(Drop)]
 pub struct Store {
     pub(crate) base: u64,
@@ -32,7 +32,7 @@ impl Model for Store {
 }
 
 impl Store {
-    /// The bytes behind `len` addresses from `base` on, all of them 0. Own.
+    /// The bytes at `len` addresses from `base` on, all of them 0. Own.
     pub fn new(alloc: Global, base: u64, len: usize) -> Result<Store, StoreFault>
         ensures zeros { IfOk result (λ store. store ≡ record { base = base; bytes = replicate len 0 }) }
         ensures too_large { (limit : ℕ) → (result ≡ Err (StoreFault.TooLarge limit)) ↔ ((most_bytes < len) × (limit ≡ most_bytes)) }

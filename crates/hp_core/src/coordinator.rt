@@ -125,7 +125,7 @@ impl Coordinator {
         ensures moves { IsCoreMove (times_of self.old.deadline self.old.phase event) (acks_of event)
             segs.old segs.new }
 
-        // What stands behind the answer.
+        // Why the answer is given.
         ensures answers { IsOut event self.old segs.old
             (record { core = self.new; segs = segs.new; out = result }) }
 

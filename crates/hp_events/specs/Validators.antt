@@ -64,7 +64,7 @@ module _ {F : Type 0} where
     AreAnswered validators None = All Allows validators
     AreAnswered validators (Some (name, limit)) = IsFirstToDeny validators name limit
 
-    -- whoever denies has a limit below the bytes
+    -- a validator that denies has a limit below the bytes
     pub limit_below : (validators : List (Validator F)) (answer : Option (List ℕ × ℕ)) → AreAnswered validators answer
         → IfSome answer (λ denied. denied.1 < total)
     limit_below validators None is = tt

@@ -34,7 +34,7 @@ IsCreateFault plain text (create.NoSpace limit) =
     IsZoneName text × IsNotFound plain text × (¬ HasPlace plain) × (limit ≡ MAX_HEAPS)
 IsCreateFault plain text create.OutOfMemory = IsZoneName text × IsNotFound plain text × HasPlace plain
 
--- a heap is destroyed: it had no chunk, the directory loses its name, and so does the heap
+-- a heap is destroyed: it had no chunk, and the directory and the heap lose its name
 pub record Destroys (caller : Caller) (text : List ℕ) (names names' : Names) (heap heap' : HeapView) : Type 0 where
   pub name : IsZoneName text
   pub socket : ℕ

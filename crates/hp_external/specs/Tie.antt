@@ -50,7 +50,7 @@ pub record IsClaimedRow (claims : List ExternalRange) (row : Row) : Type 0 where
   pub from : claim.addr ≤ row.addr
   pub within : row.addr < claim.addr + claim.len
 
--- so does a row of a chunk, which has generation 0
+-- a row of a chunk, which has generation 0, begins in memory that is claimed under its list
 abbrev pub IsOfClaim : List ExternalRange → Row → Type 0
 IsOfClaim claims row = row.generation ≡ 0 → IsClaimedRow claims row
 

@@ -12,7 +12,7 @@ use Rattle.hp_segs.specs.declared.ask.Ask.{Ask}
 use Rattle.hp_segs.specs.declared.outcome.AskLog.{AskLog}
 use Rattle.hp_hall.specs.Asks.{Arms, ClaimsGrants, IsKnownSettled}
 
--- what settled asks are stays so
+-- asks that are settled stay so
 abbrev pub LeavesSettled : SegsView → SegsView → Type 0
 LeavesSettled old new = (from number : ℕ) → IsSettled from number old → IsSettled from number new
 
@@ -20,10 +20,11 @@ LeavesSettled old new = (from number : ℕ) → IsSettled from number old → Is
 abbrev pub LogCallsSettle : Type 0
 LogCallsSettle = (old new : SegsView) → IsSound old → IsSound new → IsArmed old → IsMovedBy is_log_call 1 old new → LeavesSettled old new
 
--- so do calls on the roster, and those by which heaps take and give up rows
+-- calls on the roster leave settled asks settled
 abbrev pub RosterCallsSettle : Type 0
 RosterCallsSettle = (old new : SegsView) → IsMovedBy is_roster_call 0 old new → LeavesSettled old new
 
+-- calls by which heaps take and give up rows leave settled asks settled
 abbrev pub OwnerCallsSettle : Type 0
 OwnerCallsSettle = (old new : SegsView) → IsMovedBy is_owner_call 0 old new → LeavesSettled old new
 

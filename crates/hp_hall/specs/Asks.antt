@@ -32,7 +32,7 @@ AnswersOfArmed taken given = (entry : AskLog) (ask : Ask) → Contains (drop (le
 
 -- asks in a value that is given by the log: nobody but the giver is armed anew; the giver is armed with the ask of before, or else with one
 -- for a heap that it holds; its ask of before is still the one with which it is armed, or else is settled; the open growth and the kept
--- asks stay those of the armed; and so was each growth that was opened and has failed since
+-- asks stay those of the armed, and each growth that was opened and has failed since was one of the armed
 pub record Arms (who : ℕ) (Holds : ℕ → Type 0) (taken given : SegsView) : Type 0 where
   pub others : (other : ℕ) → other ≢ who → armed_ask given other ≡ armed_ask taken other
   pub for_held : (ask : Ask) → armed_ask given who ≡ Some ask → (armed_ask taken who ≡ Some ask) ⊎ Holds ask.heap

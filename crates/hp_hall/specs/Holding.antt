@@ -45,7 +45,7 @@ pub record HasHolding (heap : HeapView) (holding : Holding) : Type 0 where
   pub grown : runs_grown heap.history ≡ holding.came
   pub cut : runs_cut heap.history ≡ holding.retired
 
--- so has a heap in hand
+-- a heap in hand has what its holding names
 abbrev pub IsHeldWith : HeapView → Option Holding → Type 0
 IsHeldWith heap None = ⊥
 IsHeldWith heap (Some holding) = HasHolding heap holding

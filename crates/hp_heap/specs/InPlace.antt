@@ -24,7 +24,7 @@ pub record IsGrowing (range : Span) (size : ℕ) : Type 0 where
 abbrev pub sized : ℕ → Keyed Span → Items → Items
 sized size e es = record e { value = resized e.value e.value.whole size } ∷ es
 
--- the first of the elements behind another, where it is free and touches it
+-- the first of the elements after another, where it is free and touches it
 abbrev pub first_free : Span → List Span → Option Span
 first_free range [] = None
 first_free range (next ∷ ranges) = if is_next_free range next then Some next else None

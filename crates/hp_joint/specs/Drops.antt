@@ -44,15 +44,15 @@ pub record HasGoneBetween (count : ℕ) (log : List LogRecord) (asks : List AskL
   pub seen : (who : ℕ) → All (λ shown. records ≤ shown)
       (seen_in log asks who (numbers_made who before + 1) (trace_of (courses_of who behind)))
 
--- so it is behind each number of lines
+-- for each number of lines: what these had given up had gone, by a Drop of its own each, before later lines saw the log
 abbrev pub DropsComeFirst : ℕ → List LogRecord → List AskLog → List Course → Type 0
 DropsComeFirst count log asks courses = (lines : ℕ) → HasGoneBetween count log asks (take lines courses) (drop lines courses)
 
--- before the first line it is so
+-- before the first line nothing was given up, so the above holds
 abbrev pub DropsOpen : Type 0
 DropsOpen = (count : ℕ) (log : List LogRecord) (asks : List AskLog) → DropsComeFirst count log asks []
 
--- and after each line more that leaves nothing Retiring
+-- and it goes on holding by each line more that leaves nothing Retiring
 abbrev pub DropsGoOnByLine : Type 0
 DropsGoOnByLine = (workload : Workload) (courses : List Course) (parties behind : List Party) (old new : HallView) (line : Line)
     (answer : Answer) (was now : SegsView) → IsGiven workload → SoFar workload courses parties old

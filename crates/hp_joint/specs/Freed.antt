@@ -56,7 +56,7 @@ shown_by_lines log asks made (course ∷ courses) =
     shown_in log asks who (made who + 1) course.trace
     ++ shown_by_lines log asks (counted_on made who (length (numbered_in course.trace))) courses
 
--- these numbers never fall from line to line, whoever did them: what is seen after a line whose notice has its outcome holds the records
+-- these numbers never fall from line to line, of all participants together: what is seen after a line whose notice has its outcome holds the records
 -- that were there then, and what was seen before it holds no more
 abbrev pub AreShown : List LogRecord → List AskLog → List Course → Type 0
 AreShown log asks courses = AreSeen (length log) (shown_by_lines log asks none_made courses)

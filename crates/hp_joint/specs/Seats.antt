@@ -102,7 +102,7 @@ pub data Mails (who : ℕ) : Seat → Seat → MailStep → Type 0 where
   asks : (seat : Seat) (ask : Ask) (frame : Frame) (action : Action) (posted : Posted) → seat.asking ≡ Some ask
       → Says frame (alloc_body ask)
       → Mails who seat seat (Posts 0 frame action posted)
-  -- so does the notice of a run that it gave up, by its next number
+  -- the notice of a run that it gave up goes to participant 0, under its next number
   tells : (seat : Seat) (heap : ℕ) (run : Run) (frame : Frame) (action : Action) (posted : Posted)
       → Says frame (free_body who (seat.party.asked + 1) heap run)
       → Mails who seat (having_done (numbered_on (seat.party.asked + 1) seat.party) (GaveUp heap run ∷ []) seat)
@@ -141,7 +141,7 @@ pub data Handles (count who : ℕ) : Seat → Seat → SegsView → SegsView →
       → Handles count who seat (armed_with who asked run number seat) segs (after_arm (ask_of who number asked) segs)
   -- it claims what was granted for its last ask
   claims : (seat : Seat) (segs : SegsView) → Handles count who seat seat segs (after_claim who seat.party.asked segs)
-  -- three deadlines behind its last ask it takes that back where nothing stands, and claims what was granted
+  -- three deadlines after its last ask was sent it takes that back where neither a grant nor a refusal stands, and claims what was granted
   settles : (seat : Seat) (segs : SegsView) (since now : ℕ) → since + 3 * seat.party.deadline ≤ now
       → Handles count who seat seat segs (after_claim who seat.party.asked (after_withdraw who seat.party.asked since now segs))
   -- it cuts a run from the heap in its hand, and gives it up

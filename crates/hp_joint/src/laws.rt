@@ -12,7 +12,7 @@ pub fn line_law()
     ensures rests { RestsSoFar }
 {}
 
-/// Behind its last line that is an end of the workload: each line did what its facts say and was answered so; the histories are the calls
+/// After the last line a run has come to an end of its workload: each line did what its facts say and was answered so; the histories are the calls
 /// of the lines; each outcome is of an ask or a notice of its participant, in turn, and has its cause; pages came and went by the log; and
 /// each participant is in the roster, and has its table, as its lines leave it. Own.
 pub fn end_law()
@@ -33,7 +33,7 @@ pub fn refusal_law()
 {}
 
 /// Between any two lines of such a run there was a number of records by which all that the lines before had given up had gone, and which
-/// whatever the later lines see of the log holds: so it is before the first line, after each line that leaves nothing Retiring, and where
+/// whatever the later lines see of the log holds. This is so before the first line, after each line that leaves nothing Retiring, and where
 /// all serve on. Own.
 pub fn drops_law()
     ensures opens { DropsOpen }
@@ -41,7 +41,7 @@ pub fn drops_law()
     ensures rests { DropsRest }
 {}
 
-/// What the lines of such a run show of the log, with the notices of what they gave up, never falls: so it is before the first line, after
+/// What the lines of such a run show of the log, with the notices of what they gave up, never falls. This holds before the first line, after
 /// each line in which none of the lines before gets an outcome late, and where all serve on and none gets one. Own.
 pub fn shown_law()
     ensures opens { ShownOpen }

@@ -33,7 +33,7 @@ pub record IsReady (lists : List ListPlace) (maps : MapsView) (records : List Lo
   pub room : length (chunk_rows maps.rows) + slots_in lists ≤ maps.capacity
   pub calls : calls_of maps ≤ 2 ^ 63
 
--- so it is with a new table, where it has room for all slots
+-- a new table is ready, where it has room for all slots
 abbrev pub NewIsReady : Type 0
 NewIsReady = (lists : List ListPlace) (capacity faults : ℕ) (may_fail : Option (List FailingCall)) (records : List LogRecord) (to : ℕ) → IsLogOf lists records
     → to ≤ length records → slots_in lists ≤ capacity

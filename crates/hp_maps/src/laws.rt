@@ -46,7 +46,7 @@ pub fn few_events_law()
     ensures { (rows : List Row) (n : ℕ) (records : List LogRecord) (caught : Caught) → TellsFew rows n records caught }
 {}
 
-/// Whatever calls of a mapper are made: a row that is held at its own place behind them, and that place is none of their
+/// Whatever calls of a mapper are made: a row that is held at its own place after them, and that place is none of their
 /// answers, was unmapped by none of them. So a catch-up never unmaps a row that no new record drops, since its answers are
 /// the own places of new rows.
 pub fn stays_mapped_law()

@@ -49,7 +49,7 @@ pub record IsIdleIn (me : ℕ) (party : Party) (state : HallState) : Type 0 wher
   pub home : (number : ℕ) → number ≤ MAX_HEAPS → state.may_take number
   pub tied : IsTiedIn me party state
 
--- so it is, and may do its line; it is in the roster where its lines left it attached
+-- a participant is idle in the hall and may do its line; it is in the roster where its lines left it attached
 pub record IsReadyIn (me : ℕ) (doer : ParticipantView) (state : HallState) : Type 0 where
   pub idle : IsIdleIn me doer.party state
   pub ready : MayDo (moment me doer state)
@@ -60,7 +60,7 @@ pub record IsReadyAgain (me : ℕ) (old new : ParticipantView) (state : HallStat
   pub same : IsSameParty old.party new.party
   pub ready : IsReadyIn me new state
 
--- so it is, and what it knows is as it was but for the number of its calls
+-- a participant is ready again, and what it knows is as it was but for the number of its calls
 pub record HasCalled (me : ℕ) (old new : ParticipantView) (state : HallState) : Type 0 where
   pub again : IsReadyAgain me old new state
   pub context : new.context ≡ with_calls new.context.calls old.context
@@ -93,7 +93,7 @@ pub record HoldsIn (me : ℕ) (doer : ParticipantView) (heap : HeapView) (state 
   pub attached : state.joined me ≡ doer.context.standing.attached
   pub mapped : HasMapped me state
 
--- a heap in hand has room for so many calls, and so have the numbers of its holder's calls
+-- a heap in hand has room for so many calls, and the numbers of its holder's calls have
 pub record HasRoom (calls : ℕ) (heap : HeapView) (doer : ParticipantView) : Type 0 where
   pub spare : calls ≤ heap.spare
   pub counted : doer.context.calls + calls < 2 ^ 64

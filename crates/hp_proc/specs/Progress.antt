@@ -85,7 +85,7 @@ pub record Does (held : List ℕ) (count : ℕ) (did : List MailStep → Type 0)
   pub outcomes : List AskLog
   pub asks : new.asks ≡ old.asks ++ outcomes
 
--- so it did, and its last call was one of that heap
+-- what it did of a line, from one moment to a later one, where its last call was one of that heap
 pub record DoesIn (heap count : ℕ) (did : List MailStep → Type 0) (doing rest : Doing) (old new : Moment) : Type 0 where
   pub does : Does [] count did doing rest old new
   pub last : last_heap (calls_in does.trace) ≡ Some heap

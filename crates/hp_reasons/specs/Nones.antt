@@ -58,7 +58,7 @@ IsRefusedForWant entry = (cause : Cause) → entry.outcome ≡ Refused cause →
 abbrev pub NoMappingFailed : List AskLog → Type 0
 NoMappingFailed asks = (entry : AskLog) (participant call : ℕ) → Contains asks entry → IsFailedMapping participant call entry → ⊥
 
--- at each end of a workload the lines of its participants that allocate and are answered so did nothing that came to anything
+-- at each end of a workload the lines of its participants that allocate and are answered `none` found no address and were granted nothing
 abbrev pub NonesAreInVain : Type 0
 NonesAreInVain = (workload : Workload) (answers : List Answer) (heaps : List HeapView) (segs : SegsView) (tables : List Table)
     (end : IsEnd workload answers heaps segs tables) (who : ℕ) → who < workload.participants → All IsNoneInVain (courses_of who end.courses)

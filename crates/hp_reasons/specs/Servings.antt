@@ -27,7 +27,7 @@ use Rattle.hp_serve.specs.Posting.{after_answer, after_syncs, is_asker, is_told,
 use Rattle.hp_serve.specs.Serving.{CatchesUp, IsMemberServed, after_catching_up, hearing, is_sync}
 use Rattle.hp_reasons.specs.Shared.{MakesAll, Shared, fetched_by, posted_to, with_number, with_segs}
 
--- the numbers behind a catching up: who has caught up has acknowledged all records
+-- the numbers after a catch-up: who has caught up has acknowledged all records
 abbrev pub numbered : ℕ → Caught → Shared → Shared
 numbered who caught.Done at = with_number who (length at.segs.log) at
 numbered who (caught.Refused row call) at = at
@@ -37,8 +37,8 @@ numbered who (caught.Elsewhere row call got) at = at
 abbrev pub caught_up : ℕ → Caught → Shared → Shared
 caught_up who caught at = with_segs (after_catching who caught at.segs) (numbered who caught at)
 
--- a member obeys a SYNC that it has fetched: it catches up with the log as it stands, acknowledges that or notes a mapping that failed, and
--- replies
+-- a member follows a SYNC that it has fetched: it catches up with the log as it stands, acknowledges that or notes a mapping that failed,
+-- and replies
 pub record ObeysIn (old new : Shared) (party after : Party) : Type 0 where
   pub caught : Caught
   pub caught_up_is : CatchesUp old.segs.log party.maps after.maps caught
@@ -67,7 +67,7 @@ pub data MemberServes (old new : Shared) (party after : Party) : Bool → Type 0
   obeys : (frame : Frame) (more : List Frame) (body : Body) → box_of old.boxes party.me ≡ frame ∷ more → Says frame body → is_sync body ≡ true
       → is_member old.segs.roster party.me ≡ true → ObeysIn (fetched_by party.me old) new party after → MemberServes old new party after true
 
--- so it is, whatever is shared
+-- whatever is shared, what one serving of a member makes of it and of the member is this, exactly
 abbrev pub MembersServeSo : Type 0
 MembersServeSo = (old new : Shared) (party after : Party) (steps : List MailStep) (moved : Bool) → party.me < length old.boxes
     → IsMemberServed party after steps (Some moved) → MakesAll party.me steps old new → MemberServes old new party after moved
@@ -162,7 +162,7 @@ pub data CoreServes (count : ℕ) (old new : Shared) (party after : Party) : Boo
   hears : (frame : Frame) (more : List Frame) (body : Body) → box_of old.boxes party.me ≡ frame ∷ more → Says frame body → IsNoAsk count body
       → is_sync_reply body ≡ false → new ≡ fetched_by party.me old → after ≡ hearing body party → CoreServes count old new party after true
 
--- so it is, whatever is shared
+-- whatever is shared, what one serving of participant 0 makes of it and of the participant is this, exactly
 abbrev pub CoordinatesSo : Type 0
 CoordinatesSo = (count : ℕ) (old new : Shared) (party after : Party) (steps : List MailStep) (moved : Bool) → party.me ≡ 0
     → length old.boxes ≡ count → length old.numbers ≡ count → 0 < count → count ≤ 16

@@ -13,7 +13,7 @@ use Rattle.hp_reasons.specs.Outcomes.{stale_outcomes}
 use Rattle.hp_reasons.specs.Servings.{CoreServes, Handles, MemberServes, Polls}
 use Rattle.hp_reasons.specs.Shared.{Shared}
 
--- a world behind what one participant did
+-- the world after what one participant did
 abbrev pub world_with : Shared → List (List Body) → ℕ → Party → World → World
 world_with shared mail who after old = record { shared = shared; mail = mail; parties = slice_set old.parties who after }
 

@@ -22,7 +22,7 @@ pub fn failing_law()
     ensures notes { NotesAFailure }
 {}
 
-/// What one serving makes of the segment value, of the mailboxes and of the acknowledged numbers, whoever serves. Own.
+/// What one serving makes of the segment value, of the mailboxes and of the acknowledged numbers, of a member and of participant 0. Own.
 pub fn serving_law()
     ensures members { MembersServeSo }
     ensures coordinates { CoordinatesSo }
@@ -34,8 +34,8 @@ pub fn reasons_law()
     ensures { ThreadsHaveReasons }
 {}
 
-/// In every run in one thread whose plan loses no message, nothing of what was given up is left at the end, and whoever is attached has taken
-/// in all records. Own.
+/// In every run in one thread whose plan loses no message, nothing of what was given up is left at the end, and each attached participant has
+/// taken in all records. Own.
 pub fn level_law()
     ensures { ThreadsEndLevel }
 {}

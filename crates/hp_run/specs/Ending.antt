@@ -1,4 +1,4 @@
--- What a run has come to: an end of its workload, why mappings failed, what agreement is worth, why growths were refused, that nothing is
+-- What a run has come to: an end of its workload, why mappings failed, what agreement gives, why growths were refused, that nothing is
 -- left to do where the plan loses no message, and why allocations found no memory. The rules "Together" and "Reasons" of docs/RUNS.md.
 use Rattle.std.specs.Prelude.{◌≡◌, ◌<◌, ℕ, true, false, List, length, Option}
 use Rattle.std.specs.List.{All}
@@ -40,8 +40,8 @@ pub record AreAsMay (workload : Workload) (servers : List AloneView) (answers : 
   pub refusals : RefuseAsMay servers workload.lines.items answers
   pub refused_once : RefuseOnce workload.lines.items answers
 
--- what agreement is worth at the end: each attached participant maps each segment in use, and so each page of each heap, alike; and a growth
--- that failed left no row
+-- what agreement gives at the end: each attached participant maps each segment in use, and with that each page of each heap, alike; and a
+-- growth that failed left no row
 pub record IsAgreed (heaps : List HeapView) (segs : SegsView) (tables : List Table) : Type 0 where
   pub alike : TablesAlike segs tables
   pub pages : PagesAlike heaps segs tables

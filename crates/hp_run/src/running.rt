@@ -202,7 +202,7 @@ fn come_all<'p, M: Mapper>(
     Ok(())
 }
 
-// The lines, and what comes behind the last one.
+// The lines, and what comes after the last one.
 fn run_in<'p, M: Mapper>(
     alloc: Global,
     workload: &Workload<'_>,

@@ -80,7 +80,7 @@ impl<'a> Token<'a> {
         self.text.starts_with(word)
     }
 
-    /// What stands in it behind its first bytes.
+    /// What stands in it after its first bytes.
     #[tactic(auto, using(crate::proofs::PartLemmas::part_is, crate::proofs::PartLemmas::to_end))]
     pub(crate) fn behind(&self, n: usize) -> Piece<'a>
         requires { n ≤ length self.now.text }
@@ -89,7 +89,7 @@ impl<'a> Token<'a> {
         Piece::new(self.start + n, &self.text[n..])
     }
 
-    /// The token that stands in it behind its first bytes, where that is not empty.
+    /// The token that stands in it after its first bytes, where that is not empty.
     #[tactic(auto, using(crate::proofs::WordLemmas::word_behind))]
     pub(crate) fn token_behind(&self, n: usize) -> Option<Token<'a>>
         requires { n ≤ length self.now.text }

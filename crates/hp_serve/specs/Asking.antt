@@ -64,7 +64,7 @@ pub record HasAnswer (log : List LogRecord) (asks : List AskLog) (ask : Ask) (ru
   pub kept : entry.ask ≡ Some ask
   pub given : Gives log entry.outcome run
 
--- a participant asked for pages, by the next number behind that of its last ask and the outcomes that it found then, and has the answer
+-- a participant asked for pages, by the next number after that of its last ask and the outcomes that it found then, and has the answer
 pub record IsAsked (log : List LogRecord) (asks : List AskLog) (who before after : ℕ) (asked : PagesAsked) (run : Option Run) : Type 0 where
   pub found : List AskLog
   pub since : List AskLog

@@ -32,7 +32,7 @@ pub record RemainsIn (me : ℕ) (old new : Party) (from to : HallState) : Type 0
   pub joined : to.joined me ≡ from.joined me
   pub later : IsLater from to
 
--- so it does, and its parts in heaps stay
+-- a participant goes on in a hall, and its parts in heaps stay
 pub record StaysIn (me : ℕ) (old new : Party) (from to : HallState) : Type 0 where
   pub same : IsSameParty old new
   pub tied : IsTiedIn me new to

@@ -65,7 +65,7 @@ pub data IsTurned (count until : ℕ) (party after : Party) (steps : List MailSt
       → PausesAt until (due_in after.core) moved paused → steps ≡ served ++ paused → answer ≡ Some moved
       → IsTurned count until party after steps answer
 
--- its wait is over at the answer to its last ask, where it heeds that
+-- its wait is over at the answer to its last ask, where the wait is for that
 abbrev pub is_over : Bool → Party → Bool
 is_over heeds party = heeds && party.answered
 
@@ -95,7 +95,7 @@ pub data IsWaited (count until : ℕ) (heeds : Bool) (party after : Party) (step
       → WaitsOn heeds mid until now → IsTurned count until mid after last None → steps ≡ first ++ (Notes (Read now) ∷ last)
       → ended ≡ None → IsWaited count until heeds party after steps ended
 
--- all serve in a turn, whoever stops: those below it first, then the participant itself, then those above
+-- all serve in a turn, also where somebody stops: those below it first, then the participant itself, then those above
 pub record HaveServedOn (count : ℕ) (party after : Party) (steps : List MailStep) : Type 0 where
   pub below : Option Bool
   pub mine : Option Bool
@@ -104,7 +104,7 @@ pub record HaveServedOn (count : ℕ) (party after : Party) (steps : List MailSt
   pub served : IsServedOut count party after own mine
   pub are : steps ≡ Notes (Yielded false below) ∷ (own ++ Notes (Yielded true above) ∷ [])
 
--- such a turn of its wait until a deadline comes to its end whoever stops, with a pause until the sooner deadline
+-- a turn of its wait until a deadline comes to its end also where somebody stops, with a pause until the sooner deadline
 pub record IsTurnedOn (count until : ℕ) (party after : Party) (steps : List MailStep) : Type 0 where
   pub moved : Bool
   pub served : List MailStep
@@ -136,7 +136,7 @@ pub data IsWaitedOut (count until : ℕ) (heeds : Bool) (party after : Party) (s
       → IsOutlasted count until heeds mid after rest ended → steps ≡ first ++ rest → stopped ≡ true
       → IsWaitedOut count until heeds party after steps ended stopped
 
--- a reading of the clock: every deadline behind it is still to come
+-- a reading of the clock: every deadline after it is still to come
 abbrev pub IsReading : (ℕ → Type 0) → ℕ → Type 0
 IsReading IsToCome reading = (deadline : ℕ) → reading < deadline → IsToCome deadline
 

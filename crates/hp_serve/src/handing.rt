@@ -42,7 +42,7 @@ fn step_with_room(
     ensures ok { IfOk result (λ out. IsStepped core.new segs.new out (stepping event core.old segs.old)) }
     ensures err { OnErr result ((core.new ≡ core.old) × (segs.new ≡ segs.old)) }
 
-    // What it leaves may be given back by whoever knows what the event tells.
+    // What it leaves may be given back by one that knows what the event tells.
     ensures gives { (knows : Knows) → IsTrueOf knows.noted (length segs.old.log) event
         → GivesSegments knows segs.old segs.new }
 

@@ -1,4 +1,4 @@
-//! A store behind the heap of a socket.
+//! A store for the addresses of a socket's heap.
 
 use hp_base::{Caller, Request, Run, Tag};
 use hp_bytes::{ByteFault, Store, StoreFault};

@@ -74,7 +74,7 @@ impl<'p, M: Mapper> Server<'p, M> {
         since
     }
 
-    // Waits until its deadlines have passed, whether it was answered or not and whoever stops, and then settles its ask.
+    // Waits until its deadlines have passed, whether it was answered or not and also where somebody stops, and then settles its ask.
     fn settle_late<H: Waiting>(&mut self, hall: &mut H, ask: &Ask, since: u64) -> Answered
         requires can { CanServe self.old.me self.old (H.state hall.old) }
         requires own { ask.now.from ≡ self.old.me }
@@ -100,8 +100,8 @@ impl<'p, M: Mapper> Server<'p, M> {
         }
     }
 
-    // Waits for the answer to the ask that it sent behind that reading of the clock, for three deadlines at most and whoever stops, and then
-    // looks. Where it was answered and nothing stands, it waits until the deadlines have passed.
+    // Waits for the answer to the ask that it sent after that reading of the clock, for three deadlines at most, also where somebody stops,
+    // and then looks. Where it was answered and neither a grant nor a refusal stands, it waits until the deadlines have passed.
     fn await_answer<H: Waiting>(&mut self, hall: &mut H, ask: &Ask, since: u64) -> Answered
         requires can { CanServe self.old.me self.old (H.state hall.old) }
         requires own { ask.now.from ≡ self.old.me }

@@ -50,7 +50,7 @@ impl<'p, M: Mapper> Server<'p, M> {
         retire_run(hall, self.me, heap, run);
     }
 
-    // Sends the notice that a run was given up, of the next number behind its last ask.
+    // Sends the notice that a run was given up, under the next number after that of its last ask.
     fn send_notice<H: Hall>(&mut self, hall: &mut H, number: u64, heap: u32, run: &Run)
         requires serves { (H.state hall.old).serves self.old.me }
         requires me { self.old.me < (H.state hall.old).count }

@@ -150,8 +150,8 @@ impl<'p, M: Mapper> Server<'p, M> {
         Ok(moved)
     }
 
-    // Whether its wait has ended at a reading of the clock: that has reached the deadline, or, where it heeds that, its last ask is
-    // answered.
+    // Whether its wait has ended at a reading of the clock: that has reached the deadline, or, where the wait is for that, its last ask
+    // is answered.
     pub(super) fn ends_wait(&self, reading: u64, until: u64, heeds: bool) -> bool
         ensures ended { result ≡ true → HasWaited heeds self.now until reading }
         ensures waits_on { result ≡ false → WaitsOn heeds self.now until reading }
@@ -162,8 +162,8 @@ impl<'p, M: Mapper> Server<'p, M> {
         heeds && self.answered
     }
 
-    // Takes turns until a reading of the clock has reached the deadline, or, where it heeds that, its last ask is answered. Returned
-    // is the last reading.
+    // Takes turns until a reading of the clock has reached the deadline, or, where the wait is for that, its last ask is answered.
+    // Returned is the last reading.
     pub(crate) fn wait<H: Waiting>(
         &mut self,
         hall: &mut H,
