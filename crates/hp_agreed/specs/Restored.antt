@@ -65,7 +65,7 @@ owner_steps_of (Claim from number) segs = claim_steps (grant_of segs.asks from n
 owner_steps_of (Retire heap run) segs = GivesUp run ∷ []
 owner_steps_of _ segs = []
 
--- and those of calls one after another
+-- what calls, one after another, do to rows beside growths
 abbrev pub owner_steps : List SegsCall → SegsView → List OwnerStep
 owner_steps [] segs = []
 owner_steps (call ∷ calls) segs = owner_steps_of call segs ++ owner_steps calls (after call segs)

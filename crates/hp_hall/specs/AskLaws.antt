@@ -34,7 +34,7 @@ abbrev pub KnownIsSettled : Type 0
 KnownIsSettled = (segs : SegsView) (heard more : List AskLog) (ask : Ask) → IsSound segs → segs.asks ≡ heard ++ more
     → IsKnownSettled heard (Some (standing_of ask.heap segs)) ask → IsSettled ask.from ask.number segs
 
--- and what was granted to an ask that is settled, and with which its participant is armed, its heap has claimed
+-- what was granted to an ask that is settled, and with which its participant is armed, its heap has claimed
 abbrev pub SettledIsClaimed : Type 0
 SettledIsClaimed = (segs : SegsView) (ask : Ask) → IsSound segs → KeepsArmed segs → armed_ask segs ask.from ≡ Some ask
     → IsSettled ask.from ask.number segs → ClaimsGrants segs.asks (Some (standing_of ask.heap segs)) ask
@@ -56,7 +56,7 @@ RosterGivesLeave = (old new : SegsView) → IsMovedBy is_roster_call 0 old new �
 abbrev pub OwnerGivesLeave : Type 0
 OwnerGivesLeave = (old new : SegsView) → IsMovedBy is_owner_call 0 old new → ArePending old → ArePending new
 
--- such a run is alone for its heap where each armed ask is settled, or its participant has the heap of it in hand, and no two have one heap
+-- a run that no heap has claimed is alone for its heap where each armed ask is settled, or its participant has the heap of it in hand, and no two have one heap
 abbrev pub HeldIsAlone : Type 0
 HeldIsAlone = (segs : SegsView) (holds : ℕ → ℕ → Bool) → IsSound segs → IsArmed segs → PendingIsArmed segs
     → ((who : ℕ) (ask : Ask) → armed_ask segs who ≡ Some ask → IsSettled ask.from ask.number segs ⊎ (holds who ask.heap ≡ true))

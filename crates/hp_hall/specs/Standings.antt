@@ -120,7 +120,8 @@ abbrev pub RetireLeavesOthers : Type 0
 RetireLeavesOthers = (segs : SegsView) (heap : ℕ) (run : Run) → IsSound segs → OwnsRun heap run segs
     → (other : ℕ) → other ≢ heap → standing_of other (after_retire heap run segs) ≡ standing_of other segs
 
--- and takes the run's rows, and no grant, from what it has for that heap, and puts the run after those that the heap gave up before
+-- a giving up takes the run's rows, and no grant, from what the value has for that heap, and puts the run after those that the heap gave up
+-- before
 abbrev pub RetireTakesRows : Type 0
 RetireTakesRows = (segs : SegsView) (heap : ℕ) (run : Run) → IsSound segs → OwnsRun heap run segs
     → standing_of heap (after_retire heap run segs) ≡ record (standing_of heap segs) {

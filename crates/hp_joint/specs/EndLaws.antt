@@ -183,7 +183,7 @@ FailsByReason = (workload : Workload) (courses : List Course) (parties : List Pa
     → Contains segs.asks entry → (failed : IsFailedMapping participant call entry)
     → MayHaveFailedSo parties participant call failed.addr failed.got entry.ask
 
--- and failed mappings that share participant and call stand at one place of the outcomes
+-- failed mappings that share participant and call stand at one place of the outcomes
 abbrev pub FailsOnce : Type 0
 FailsOnce = (workload : Workload) (courses : List Course) (parties : List Party) (hall : HallView) (segs : SegsView) (place other : ℕ)
     (entry second : AskLog) (participant call : ℕ) → IsGiven workload → SoFar workload courses parties hall

@@ -48,7 +48,7 @@ after_deal v = record v { dealt = v.dealt + 1 }
 abbrev pub dealt_view : View → View
 dealt_view v = only_sender (sender v.dealt [])
 
--- the same for the owner, whose pass fetches from then on
+-- the owner got a pass, which fetches from then on: what the pass that deals has left, and what the new one has
 abbrev pub after_deal_owner : View → View
 after_deal_owner v = record v { fetches = false; fetched = []; dealt = v.dealt + 1 }
 

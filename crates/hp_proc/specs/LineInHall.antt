@@ -70,7 +70,7 @@ pub record AreFreeBut (slot : ℕ) (state : HallState) : Type 0 where
   pub taken : (number : ℕ) → number ≢ slot → state.taken number ≡ None
   pub home : (number : ℕ) → number ≤ MAX_HEAPS → number ≢ slot → state.may_take number
 
--- that one is free
+-- the slot is free: it is not out, and may be taken
 pub record IsFreeAt (slot : ℕ) (state : HallState) : Type 0 where
   pub taken : state.taken slot ≡ None
   pub home : state.may_take slot

@@ -17,7 +17,7 @@ pub record Course : Type 0 where
   pub answer : Answer
   pub trace : List Done
 
--- those of one participant's lines, in their order
+-- the courses of one participant's lines, in their order
 abbrev pub courses_of : ℕ → List Course → List Course
 courses_of who courses = filter (λ course. course.line.participant == who) courses
 

@@ -97,13 +97,13 @@ pub record Tries (heap : ℕ) (held : List ℕ) (count : ℕ) (did : List MailSt
   pub does : Does held count did doing (unless_answered otherwise given) old new
   pub last : (address : ℕ) → given ≡ Some (gives.Address address) → last_heap (calls_in does.trace) ≡ Some heap
 
--- it did so, and held no heap twice
+-- what it did of a line, from one moment to a later one, in which it held no heap twice
 pub record DoesOnce (count : ℕ) (did : List MailStep → Type 0) (doing rest : Doing) (old new : Moment) : Type 0 where
   pub held : List ℕ
   pub once : AreOnce held
   pub does : Does held count did doing rest old new
 
--- it did so to that answer, and held no heap twice; where the answer is an address, its last call was one of that heap
+-- what it did of a line came to that answer, and it held no heap twice; where the answer is an address, its last call was one of that heap
 pub record Brings (heap count : ℕ) (did : List MailStep → Type 0) (doing : Doing) (answer : Answer) (old new : Moment) : Type 0 where
   pub held : List ℕ
   pub once : AreOnce held
@@ -172,6 +172,6 @@ pub record IsInHand (taken : ℕ → Option Kept) (moment : Moment) (heap : Heap
 abbrev pub caller_of : ParticipantView → Caller
 caller_of doer = record { participant = doer.party.me; number = doer.context.calls + 1 }
 
--- it is so with the asks of a participant that are settled
+-- the asks of a participant at a moment are settled
 abbrev pub AreSettled : Moment → Type 0
 AreSettled moment = HasSettledAsks moment.parts moment.asks

@@ -63,8 +63,8 @@ abbrev pub NonesAreInVain : Type 0
 NonesAreInVain = (workload : Workload) (answers : List Answer) (heaps : List HeapView) (segs : SegsView) (tables : List Table)
     (end : IsEnd workload answers heaps segs tables) (who : ℕ) → who < workload.participants → All IsNoneInVain (courses_of who end.courses)
 
--- and where late and taken-back outcomes have their reasons in the plan, the plan loses no message and no mapping failed, asks were refused for
--- want alone
+-- where late and taken-back outcomes have their reasons in the plan, the plan loses no message and no mapping failed, asks were refused
+-- for want alone
 abbrev pub RefusalsAreForWant : Type 0
 RefusalsAreForWant = (workload : Workload) (answers : List Answer) (heaps : List HeapView) (segs : SegsView) (tables : List Table)
     → IsEnd workload answers heaps segs tables → HaveReasons workload segs.asks → LosesNothing workload.plan.items

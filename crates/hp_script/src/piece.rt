@@ -78,7 +78,7 @@ impl<'a> Piece<'a> {
         self.text == word
     }
 
-    /// The same piece once more.
+    /// This piece once more. Own.
     pub fn again(&self) -> Piece<'a>
         ensures { result ≡ self.now }
     {

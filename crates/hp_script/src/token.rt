@@ -102,7 +102,7 @@ impl<'a> Token<'a> {
         Some(Token::new(rest.start(), rest.as_bytes()))
     }
 
-    /// The same token once more.
+    /// This token once more. Own.
     pub fn again(&self) -> Token<'a>
         ensures { result ≡ self.now }
     {

@@ -52,7 +52,7 @@ pub record IsArmedWith (ask : Ask) (parts : ℕ → HeapPart) : Type 0 where
   pub unclaimed : (heap : ℕ) (holding : Holding) (entry : AskLog) → (parts heap).holding ≡ Some holding → Contains holding.claimed entry
       → entry.from ≡ ask.from → entry.number < ask.number
 
--- it is so, and holds the heap that is to grow
+-- a participant is armed with the ask, no heap that it holds has claimed anything for that number, and it holds the heap that is to grow
 pub record IsAwaiting (ask : Ask) (parts : ℕ → HeapPart) : Type 0 where
   pub armed : IsArmedWith ask parts
   pub holds : IsSome (parts ask.heap).holding

@@ -73,7 +73,7 @@ is_over heeds party = heeds && party.answered
 abbrev pub HasWaited : Bool → Party → ℕ → ℕ → Type 0
 HasWaited heeds party until now = (is_over heeds party ≡ true) ⊎ (until ≤ now)
 
--- it has not
+-- its wait until a deadline has not ended at a reading of its clock
 pub record WaitsOn (heeds : Bool) (party : Party) (until now : ℕ) : Type 0 where
   pub still : is_over heeds party ≡ false
   pub early : now < until

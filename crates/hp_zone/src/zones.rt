@@ -20,7 +20,7 @@ pub struct Zones {
     log: Vec<ZoneChange>,
     // The indexes of their changes in the log, in the order of reservation.
     order: Vec<usize>,
-    // The same in the order of their names.
+    // The indexes of their changes in the log, in the order of their names.
     by_name: Vec<usize>,
     spare: usize,
 }

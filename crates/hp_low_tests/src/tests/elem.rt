@@ -46,7 +46,7 @@ const TAG: Tag = Tag {
     number: 7,
 };
 
-// The same one, asked for by another participant, which is not compared.
+// The tag above, asked for by another participant, which is not compared.
 const OTHER: Tag = Tag { who: 2, ..TAG };
 
 const LATER: Tag = Tag {

@@ -130,7 +130,7 @@ fn later(alloc: Global, text: &str) -> Result<Option<u32>, ParseFault> {
     Ok(first_later(&workload))
 }
 
-// The same of parts of a text, one after the other.
+// The first line that is not built, of a text in parts, one after the other.
 fn later_of(alloc: Global, parts: &[&str]) -> Result<Option<u32>, ParseFault> {
     let mut text = String::new(alloc);
     add_each(&mut text, parts)?;
