@@ -36,7 +36,7 @@ impl Model for Answers {
 }
 
 impl Answers {
-    /// No answer yet.
+    /// No answer yet. Own.
     pub fn new() -> Answers
         ensures { result ≡ [] }
     {
@@ -45,7 +45,7 @@ impl Answers {
         }
     }
 
-    /// These answers, and another one.
+    /// These answers, and another one. Own.
     pub fn with(&self, answer: MapAnswer) -> Answers
         ensures { result ≡ self.now ++ answer ∷ [] }
     {

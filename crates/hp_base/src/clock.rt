@@ -36,7 +36,7 @@ impl Model for StepClock {
 impl StepClock {
     ghost use Rattle.hp_base.specs.Clocks.{ClockState};
 
-    /// A clock that was not read yet.
+    /// A clock that was not read yet. Own.
     pub fn new(step: u64) -> StepClock
         ensures { result ≡ record { step = step; last = 0; next = 0 } }
     {

@@ -58,7 +58,8 @@ impl Eq for Name {
 }
 
 impl Name {
-    /// The name with this text. It is `None` for an empty text and for one of more than 63 bytes.
+    /// The name with this text. It is `None` for an empty text and for one of more than 63 bytes. After
+    /// RTE_MEM_EVENT_CALLBACK_NAME_LEN, which counts a zero at the end.
     pub fn new(text: &[u8]) -> Option<Name>
         ensures accepted { IsSome result ↔ IsNameText text.now }
         ensures text { IfSome result (λ name. name ≡ text.now) }
@@ -75,7 +76,7 @@ impl Name {
         })
     }
 
-    /// Its text.
+    /// Its text. Own.
     pub fn as_bytes(&self) -> &[u8]
         ensures text { result.now ≡ self.now }
         ensures accepted { IsNameText self.now }

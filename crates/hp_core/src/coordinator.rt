@@ -80,7 +80,8 @@ fn is_foreign(phase: &Phase, growth: Option<&Growth>) -> bool
 }
 
 impl Coordinator {
-    /// A coordinator whose rounds wait for `deadline` milliseconds, with nothing under way and no ask held.
+    /// A coordinator whose rounds wait for `deadline` milliseconds, with nothing under way and no ask held. After
+    /// MP_TIMEOUT_S of malloc_mp.c; that the deadline is set is own.
     pub fn new(deadline: u64) -> Coordinator
         ensures { result ≡ record { deadline = deadline; phase = Phase.Idle; held = replicate 16 None } }
     {
@@ -92,7 +93,7 @@ impl Coordinator {
     }
 
     /// Whether neither a growth nor a round is under way, and an ask is held. A Poll then starts it. While participant 0
-    /// catches up for a round, that round is under way.
+    /// catches up for a round, that round is under way. Own.
     pub fn holds_ask(&self) -> bool
         ensures { result ≡ holds_ask self.now }
     {
@@ -101,7 +102,7 @@ impl Coordinator {
 
     /// The reading at which the deadline of the round under way passes: that at its first SYNC and the deadline, or the
     /// greatest number where that is more. It is `None` exactly where no round is under way: before the first SYNC, while
-    /// participant 0 itself catches up, there is none.
+    /// participant 0 itself catches up, there is none. Own.
     pub fn due(&self) -> Option<u64>
         ensures { result ≡ due_of self.now.deadline self.now.phase }
     {

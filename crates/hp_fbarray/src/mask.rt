@@ -10,7 +10,7 @@ use crate::runs;
 use std::alloc::{AllocError, Global};
 use std::marker::Model;
 
-/// The most places that a mask may have: the segments of all memseg lists together.
+/// The most places that a mask may have: the segments of all memseg lists together. Own.
 pub const MAX_PLACES: usize = 16_384;
 
 /// Which places of a fixed number are used, after the used mask of DPDK's `rte_fbarray`.
@@ -126,7 +126,7 @@ impl Mask {
         if place < len { Some(place) } else { None }
     }
 
-    /// How many places are used.
+    /// How many places are used. After the count of used elements that rte_fbarray keeps.
     pub fn count_used(&self) -> usize
         ensures { result ≡ count_by (λ used. used) self.now }
     {

@@ -14,7 +14,7 @@ pub struct Message {
 
 impl Message {
     /// Whether it can be written: each byte of its name is visible ASCII, and each field of its body is
-    /// among its values.
+    /// among its values. Own.
     pub fn is_valid(&self) -> bool
         ensures { IsTrue result ↔ IsValid self.now }
     {

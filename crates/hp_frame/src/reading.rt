@@ -9,7 +9,7 @@ use crate::fault::Fault;
 use crate::view::FrameView;
 
 /// Reads a frame, which is all of the bytes. It allocates nothing and copies no part: the view lends the
-/// name and the parameter from the bytes.
+/// name and the parameter from the bytes. Own.
 pub fn read(bytes: &[u8]) -> Result<FrameView<'_>, Fault>
     // The bytes spell the message that is read, and its parts lie where the bytes lie.
     ensures spelled { IfOk result (λ view. Spells bytes.now view.message) }

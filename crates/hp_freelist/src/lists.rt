@@ -33,7 +33,7 @@ impl Model for Lists {
 }
 
 impl Lists {
-    /// Empty lists, which take no memory, and no room for any key.
+    /// Empty lists, which take no memory, and no room for any key. Own.
     pub fn new(alloc: Global) -> Lists
         ensures lists { result.lists ≡ empty_lists }
         ensures room { result.room ≡ 0 }
@@ -45,7 +45,7 @@ impl Lists {
         }
     }
 
-    /// Makes room for the keys below `n`.
+    /// Makes room for the keys below `n`. Own.
     pub fn reserve(&mut self, n: usize) -> Result<(), AllocError>
         ensures room { OnOk result (n ≤ self.new.room) }
         ensures kept { self.old.room ≤ self.new.room }

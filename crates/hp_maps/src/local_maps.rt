@@ -68,7 +68,7 @@ impl<M: Mapper> LocalMaps<M> {
       was_refused,
     };
 
-    /// Nothing is mapped yet, and there is room for so many rows.
+    /// Nothing is mapped yet, and there is room for so many rows. Own.
     pub fn new(alloc: Global, mapper: M, capacity: usize) -> Result<LocalMaps<M>, AllocError>
         requires holds { M.held mapper ≡ [] }
         requires room { capacity ≤ M.capacity mapper }
@@ -92,21 +92,21 @@ impl<M: Mapper> LocalMaps<M> {
         })
     }
 
-    /// How many records of the log it has taken in.
+    /// How many records of the log it has taken in. Own.
     pub fn number(&self) -> u64
         ensures { result ≡ self.now.number }
     {
         self.number
     }
 
-    /// How many mapping calls there were.
+    /// How many mapping calls there were. Own.
     pub fn calls(&self) -> u64
         ensures { result ≡ calls_of self.now }
     {
         self.calls
     }
 
-    /// What is mapped, in the order of mapping: rows of the log, and of chunks.
+    /// What is mapped, in the order of mapping: rows of the log, and of chunks. Own.
     pub fn rows(&self) -> &[Row]
         ensures rows { result.now ≡ self.now.rows }
         ensures mapped { IsMapped self.now }
@@ -116,14 +116,14 @@ impl<M: Mapper> LocalMaps<M> {
         self.rows.as_slice()
     }
 
-    /// Hands out what is mapped, in the order of mapping, without unmapping it. No row is copied.
+    /// Hands out what is mapped, in the order of mapping, without unmapping it. No row is copied. Own.
     pub fn into_rows(self) -> Vec<Row>
         ensures { result.items ≡ self.rows }
     {
         self.rows.into_rows()
     }
 
-    /// Whether a row is mapped. Rows are compared in all fields.
+    /// Whether a row is mapped. Rows are compared in all fields. Own.
     pub fn maps(&self, row: &Row) -> bool
         ensures { result ≡ list_any (is_row row.now) self.now.rows }
     {

@@ -40,7 +40,7 @@ fn place_of(pools: &[Pool], socket: u32, page: u64) -> Option<usize>
 }
 
 impl Pools {
-    /// No pools.
+    /// No pools. Own.
     pub fn new(alloc: Global) -> Pools
         ensures { result ≡ [] }
     {

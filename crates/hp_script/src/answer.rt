@@ -80,7 +80,7 @@ pub enum Answer {
 impl Answer {
     ghost use Rattle.hp_script.specs.Answers.{answer_word};
 
-    /// The words of the answer, without its numbers.
+    /// The words of the answer, without its numbers. Own.
     pub fn words(&self) -> &'static str
         ensures { result.now ≡ answer_word self.now }
     {

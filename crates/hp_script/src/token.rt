@@ -36,7 +36,7 @@ impl<'a> Token<'a> {
         Token { start, text }
     }
 
-    /// Its bytes.
+    /// Its bytes. Own.
     pub fn as_bytes(&self) -> &'a [u8]
         ensures text { result.now ≡ self.now.text }
         ensures within { self.now.start + length self.now.text < 2 ^ 32 }
@@ -46,7 +46,7 @@ impl<'a> Token<'a> {
         self.text
     }
 
-    /// Its text.
+    /// Its text. Own.
     #[tactic(auto, using(crate::proofs::WordLemmas::word_utf8))]
     pub fn as_str(&self) -> &'a str
         ensures text { result.now ≡ self.now.text }
@@ -58,7 +58,7 @@ impl<'a> Token<'a> {
         }
     }
 
-    /// The place of its first byte in the text of the workload, from 0.
+    /// The place of its first byte in the text of the workload, from 0. Own.
     pub fn start(&self) -> usize
         ensures { result ≡ self.now.start }
     {

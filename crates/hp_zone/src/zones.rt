@@ -40,7 +40,7 @@ impl Model for Zones {
 }
 
 impl Zones {
-    /// No memzone, and no memory taken.
+    /// No memzone, and no memory taken. Own.
     pub fn new(alloc: Global) -> Zones
         ensures { result ≡ no_zones }
     {
@@ -134,7 +134,7 @@ impl Zones {
         }
     }
 
-    /// How many memzones there are.
+    /// How many memzones there are. Own.
     pub fn len(&self) -> usize
         ensures { result ≡ length self.now.zones }
     {

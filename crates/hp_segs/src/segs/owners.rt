@@ -93,7 +93,7 @@ impl Segs {
         self.retired = self.retired.with(heap, run);
     }
 
-    /// The number of Retiring runs.
+    /// The number of Retiring runs. Own.
     pub fn retiring(&self) -> usize
         ensures { result ≡ length self.now.retiring }
     {
