@@ -1,5 +1,5 @@
-/// The kinds of message between the primary process and its secondaries. Own; after the requests and replies
-/// of Multi-process Support.
+/// The kinds of message between the primary process and its secondaries. After the requests and replies of malloc_mp.c,
+/// by which EAL synchronises dynamic memory between processes; that a plan names them is own.
 #[derive(Clone, Copy, PartialEq, Eq)]
 pub enum MsgKind {
     /// A request for memory.

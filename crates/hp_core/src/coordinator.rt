@@ -23,8 +23,9 @@ use hp_segs::{Growth, Segs};
 use std::marker::Model;
 
 /// The coordinator of growths, of which participant 0 has one. It grants or cancels each growth and sees memory go back,
-/// one ask at a time, and holds at most one further ask of each participant. After the request handling of the primary
-/// in rte_malloc, under Multi-process Support; the order of asks and the deadline are own.
+/// one ask at a time, and holds at most one further ask of each participant. After handle_request, handle_sync_response and
+/// handle_rollback_response of malloc_mp.c (the chapter Environment Abstraction Layer, dynamic memory mode); the order of
+/// asks is own.
 #[derive(Drop)]
 pub struct Coordinator {
     deadline: u64,

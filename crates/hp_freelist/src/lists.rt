@@ -12,8 +12,8 @@ use std::alloc::{AllocError, Global};
 use std::marker::Model;
 
 /// The thirteen free lists of a heap, one for each size class: keys of elements with their whole sizes in bytes, the one
-/// inserted last at the head. After the array `free_head` of `struct malloc_heap` in rte_malloc, where the links stand in the
-/// headers; the number of classes is own.
+/// inserted last at the head. After the array `free_head` of `struct malloc_heap` in rte_malloc, which has
+/// RTE_HEAP_NUM_FREELISTS lists; there the links stand in the headers.
 #[derive(Drop)]
 pub struct Lists {
     links: Vec<Link>,

@@ -19,8 +19,8 @@ use std::alloc::{AllocError, Global};
 use std::marker::Model;
 use std::sync::Wait;
 
-/// Frames that wait for the mailbox's owner. All participants share it. After the socket of a process (DPDK Programmer's Guide, Multi-process
-/// Support).
+/// Frames that wait for the mailbox's owner. All participants share it. After the socket by which rte_mp_sendmsg reaches a process (the
+/// chapter Multi-process Support).
 #[derive(Drop)]
 pub struct Mailbox {
     queue: Queue,

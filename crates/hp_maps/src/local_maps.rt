@@ -15,7 +15,7 @@ use std::alloc::{AllocError, Global};
 use std::marker::Model;
 
 /// What one process has mapped: the rows of the log that it has taken in, and the rows of the chunks that it attached.
-/// After the memory maps of a secondary process in Multi-process Support.
+/// After the memseg lists that a secondary process keeps for itself, and eal_memalloc_sync_with_primary.
 #[derive(Drop)]
 pub struct LocalMaps<M: Mapper> {
     mapper: M,
@@ -133,7 +133,7 @@ impl<M: Mapper> LocalMaps<M> {
     /// Catches up with the log: unmaps the rows that the records after its number up to `to` drop, and then maps the rows
     /// that they bring, by rising address within each record, in the order of the log. What goes is told before it is
     /// unmapped, and what comes once all of it is mapped. Where the mapper refuses a row, or maps it elsewhere, what came is
-    /// unmapped again. After the synchronisation of memory maps in Multi-process Support.
+    /// unmapped again. After eal_memalloc_sync_with_primary.
     pub fn catch_up<T: Tell>(&mut self, records: &[LogRecord], to: u64, tell: &mut T) -> Caught
         requires can { CanCatchUp self.old records.now to }
         requires spare { length (caught_events self.old.rows self.old.number (newer records.now self.old.number to)

@@ -30,8 +30,8 @@ use std::marker::Model;
 pub const PARTICIPANTS: usize = MAX_PARTICIPANTS as usize;
 
 /// The segment lists of the pools, the log of what was mapped and unmapped, and the state of each mapped segment.
-/// Contracts see it as a `SegsView`. After the memory segment lists of EAL memory management, and the growth of
-/// rte_malloc under Multi-process Support.
+/// Contracts see it as a `SegsView`. After rte_memseg_list, and the growth of heaps in malloc_heap.c and
+/// malloc_mp.c; the log, the states and the roster are own.
 #[derive(Drop)]
 pub struct Segs {
     table: Table,

@@ -56,8 +56,7 @@ fn step_with_room(
 }
 
 /// Hands the coordinator an event, with the segment value that participant 0 has taken, and gives the value back as the step leaves
-/// it. Without memory for a step, it gives the value back as it was. After the request handling of the primary in rte_malloc, under
-/// Multi-process Support.
+/// it. Without memory for a step, it gives the value back as it was. After handle_request of malloc_mp.c.
 pub(crate) fn hand<H: Hall>(
     hall: &mut H,
     core: &mut Coordinator,

@@ -138,8 +138,8 @@ impl<'p, M: Mapper> Server<'p, M> {
     /// Asks the coordinator for pages for a heap that it holds, waits for the answer, and claims the run that was granted; there is none
     /// where the ask was refused, or taken back after three deadlines. It serves while it waits, and holds the slots that it held before.
     /// Once it is armed, its ask is settled in the end: where somebody stops while it serves it waits on, for no longer than it would have,
-    /// and its answer says so. Without memory to be armed, nothing is asked. After the growth of a heap by a secondary process in
-    /// rte_malloc, under Multi-process Support.
+    /// and its answer says so. Without memory to be armed, nothing is asked. After request_to_primary of malloc_mp.c; arming and
+    /// taking back are own.
     pub fn ask<H: Waiting>(
         &mut self,
         hall: &mut H,

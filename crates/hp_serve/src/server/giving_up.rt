@@ -73,7 +73,7 @@ impl<'p, M: Mapper> Server<'p, M> {
 
     /// Tells the coordinator that a run of a heap was given up, and waits for its answer, for three deadlines at most. What comes of it
     /// does not matter. It serves while it waits, and holds the slots that it held before. Where its numbers have come to an end,
-    /// nothing is sent. After the notice of freed memory of a secondary process in rte_malloc, under Multi-process Support.
+    /// nothing is sent. After request_to_primary of malloc_mp.c, as malloc_heap_free calls it in a secondary process.
     pub fn notify<H: Waiting>(
         &mut self,
         hall: &mut H,
