@@ -45,7 +45,7 @@ pub fn limits_law()
     ensures { HasLimits }
 {}
 
-/// A plan names a mapping call of a party exactly where it has an entry for it, and then lists it; where it names none it asks
+/// A plan names a mapping call of a participant exactly where it has an entry for it, and then lists it; where it names none it asks
 /// the mapper. Own.
 pub fn plan_law()
     ensures { (plan : List PlanEntry) (party call : ℕ) → PlansMapping plan party call }

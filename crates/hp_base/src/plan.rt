@@ -85,7 +85,7 @@ impl Plan {
         self.entries.as_slice()
     }
 
-    /// What becomes of the `k`-th message of a kind that concerns a party, counted from 1. Own.
+    /// What becomes of the `k`-th message of a kind that concerns a participant, counted from 1. Own.
     pub fn message(&self, kind: MsgKind, party: u8, k: u64) -> Action
         ensures action { result ≡ action_of self.now kind party k }
         ensures planned { IsAction self.now kind party k result }
@@ -96,7 +96,7 @@ impl Plan {
         }
     }
 
-    /// What becomes of a mapping call of a party. Its calls are counted from 1. Own.
+    /// What becomes of a mapping call of a participant. Its calls are counted from 1. Own.
     pub fn mapping(&self, party: u8, call: u64) -> MapAction
         ensures action { result ≡ map_action_of self.now party call }
         ensures planned { IsMapAction self.now party call result }

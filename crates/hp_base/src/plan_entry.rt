@@ -18,7 +18,7 @@ pub enum MsgKind {
 /// workload that plans it. Own.
 #[derive(Clone, Copy, PartialEq, Eq)]
 pub enum PlanEntry {
-    /// The k-th message of the kind that concerns the party is lost, or comes twice.
+    /// The k-th message of the kind that concerns the participant is lost, or comes twice.
     Message {
         kind: MsgKind,
         party: u8,
@@ -26,7 +26,7 @@ pub enum PlanEntry {
         twice: bool,
         line: u32,
     },
-    /// The party's call-th mapping is refused, or comes out elsewhere.
+    /// The participant's call-th mapping is refused, or comes out elsewhere.
     Mapping {
         party: u8,
         call: u64,

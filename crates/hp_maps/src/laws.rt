@@ -53,7 +53,7 @@ pub fn stays_mapped_law()
     ensures { (row : Row) → StaysMapped row }
 {}
 
-/// Over a mapper that is steady, a mapper with a plan may fail exactly at the mapping calls of its party that the plan names. Own.
+/// Over a mapper that is steady, a mapper with a plan may fail exactly at the mapping calls of its participant that the plan names. Own.
 pub fn planned_law()
     ensures { (plan : List PlanEntry) (party : ℕ) (other_may_fail : Option (List FailingCall)) → FailsByPlan plan party other_may_fail }
 {}
