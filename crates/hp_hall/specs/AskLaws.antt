@@ -28,8 +28,8 @@ RosterCallsSettle = (old new : SegsView) → IsMovedBy is_roster_call 0 old new 
 abbrev pub OwnerCallsSettle : Type 0
 OwnerCallsSettle = (old new : SegsView) → IsMovedBy is_owner_call 0 old new → LeavesSettled old new
 
--- what a participant knows to be settled is, in each value that goes on from the outcomes that it has heard and has for the ask's heap what it
--- knows
+-- what a participant knows to be settled is, in each value that goes on from the outcomes that it has heard and has for the ask's heap what
+-- it knows
 abbrev pub KnownIsSettled : Type 0
 KnownIsSettled = (segs : SegsView) (heard more : List AskLog) (ask : Ask) → IsSound segs → segs.asks ≡ heard ++ more
     → IsKnownSettled heard (Some (standing_of ask.heap segs)) ask → IsSettled ask.from ask.number segs
@@ -56,7 +56,8 @@ RosterGivesLeave = (old new : SegsView) → IsMovedBy is_roster_call 0 old new �
 abbrev pub OwnerGivesLeave : Type 0
 OwnerGivesLeave = (old new : SegsView) → IsMovedBy is_owner_call 0 old new → ArePending old → ArePending new
 
--- a run that no heap has claimed is alone for its heap where each armed ask is settled, or its participant has the heap of it in hand, and no two have one heap
+-- a run that no heap has claimed is alone for its heap where each armed ask is settled, or its participant has the heap of it in hand, and
+-- no two have one heap
 abbrev pub HeldIsAlone : Type 0
 HeldIsAlone = (segs : SegsView) (holds : ℕ → ℕ → Bool) → IsSound segs → IsArmed segs → PendingIsArmed segs
     → ((who : ℕ) (ask : Ask) → armed_ask segs who ≡ Some ask → IsSettled ask.from ask.number segs ⊎ (holds who ask.heap ≡ true))

@@ -19,8 +19,8 @@ abbrev pub ClaimsGrants : List AskLog → Option Holding → Ask → Type 0
 ClaimsGrants heard holding ask = (entry : AskLog) (generation : ℕ) → Contains heard entry → entry.from ≡ ask.from → entry.number ≡ ask.number
     → granted_by entry.outcome ≡ Some generation → IsClaimedIn holding entry
 
--- a participant knows that an ask for pages is settled: it has heard a grant or a refusal of it, and what it has heard to be granted its heap
--- has claimed
+-- a participant knows that an ask for pages is settled: it has heard a grant or a refusal of it, and what it has heard to be granted its
+-- heap has claimed
 pub record IsKnownSettled (heard : List AskLog) (holding : Option Holding) (ask : Ask) : Type 0 where
   pub answered : list_any (grants_or_refuses ask.from ask.number) heard ≡ true
   pub claims : ClaimsGrants heard holding ask

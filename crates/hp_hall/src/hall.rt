@@ -22,7 +22,8 @@ pub trait Hall {
     /// How the hall looks to its callers.
     ghost state: { Self → HallState };
 
-    /// What a deadline counts at a clock, and what a frame's weight counts for: 1 in one thread, and 0 where a count of turns falls instead.
+    /// What a deadline counts at a clock, and what a frame's weight counts for: 1 in one thread, and 0 where a count of turns falls
+    /// instead.
     ghost pending: { ℕ → ℕ → ℕ };
 
     ghost scale: { ℕ };

@@ -35,8 +35,8 @@ cut_by_lines count courses = flat_map (λ who. runs_cut_in (trace_of (courses_of
 abbrev pub numbers_made : ℕ → List Course → ℕ
 numbers_made who courses = length (numbered_in (trace_of (courses_of who courses)))
 
--- between lines there was a number of records: by then all that the lines before had given up had gone, each run by one Drop of its own, and
--- whatever the later lines see of the log holds these records
+-- between lines there was a number of records: by then all that the lines before had given up had gone, each run by one Drop of its own,
+-- and whatever the later lines see of the log holds these records
 pub record HasGoneBetween (count : ℕ) (log : List LogRecord) (asks : List AskLog) (before behind : List Course) : Type 0 where
   pub records : ℕ
   pub most : records ≤ length log

@@ -175,8 +175,8 @@ pub record MayHaveFailedSo (parties : List Party) (participant call addr : ℕ) 
   pub its : slice_get parties participant ≡ Some party
   pub fails : FailsFor party.maps.may_fail call addr got kept
 
--- wherever it was run to, a mapping that failed was a declared participant's, of a page that was asked for, at a call at which its mapper may
--- answer so
+-- wherever it was run to, a mapping that failed was a declared participant's, of a page that was asked for, at a call at which its mapper
+-- may answer so
 abbrev pub FailsByReason : Type 0
 FailsByReason = (workload : Workload) (courses : List Course) (parties : List Party) (hall : HallView) (segs : SegsView) (entry : AskLog)
     (participant call : ℕ) → IsGiven workload → SoFar workload courses parties hall → segs_in (slot_at hall MAX_HEAPS) ≡ Some segs

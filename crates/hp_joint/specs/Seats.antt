@@ -39,8 +39,8 @@ use Rattle.hp_proc.specs.declared.own_element.OwnElement.{OwnElement}
 use Rattle.hp_serve.specs.declared.pages_asked.PagesAsked.{PagesAsked}
 use Rattle.hp_serve.specs.declared.sent.Sent.{Sent}
 
--- a participant in the course of a run: itself, what its lines left, what was done for its lines so far, the frames that it has fetched, and
--- the ask with which it armed itself last
+-- a participant in the course of a run: itself, what its lines left, what was done for its lines so far, the frames that it has fetched,
+-- and the ask with which it armed itself last
 pub record Seat : Type 0 where
   pub party : Party
   pub standing : Standing

@@ -12,9 +12,9 @@ pub fn line_law()
     ensures rests { RestsSoFar }
 {}
 
-/// After the last line a run has come to an end of its workload: each line did what its facts say and was answered so; the histories are the calls
-/// of the lines; each outcome is of an ask or a notice of its participant, in turn, and has its cause; pages came and went by the log; and
-/// each participant is in the roster, and has its table, as its lines leave it. Own.
+/// After the last line a run has come to an end of its workload: each line did what its facts say and was answered so; the histories are
+/// the calls of the lines; each outcome is of an ask or a notice of its participant, in turn, and has its cause; pages came and went by the
+/// log; and each participant is in the roster, and has its table, as its lines leave it. Own.
 pub fn end_law()
     ensures { EndsSo }
 {}
@@ -41,8 +41,8 @@ pub fn drops_law()
     ensures rests { DropsRest }
 {}
 
-/// What the lines of such a run show of the log, with the notices of what they gave up, never falls. This holds before the first line, after
-/// each line in which none of the lines before gets an outcome late, and where all serve on and none gets one. Own.
+/// What the lines of such a run show of the log, with the notices of what they gave up, never falls. This holds before the first line,
+/// after each line in which none of the lines before gets an outcome late, and where all serve on and none gets one. Own.
 pub fn shown_law()
     ensures opens { ShownOpen }
     ensures goes_on { ShownGoOnByLine }

@@ -84,8 +84,8 @@ after_put frame v = record v { senders = sender (sender_of v).who ((sender_of v)
 abbrev pub after_get : Letter → View → View
 after_get x v = record v { fetched = v.fetched ++ x ∷ [] }
 
--- What a view shows of the letters in the queue: after those that were fetched before, which a pass that fetches knows, they have of each of
--- its senders what that has posted, in its order.
+-- What a view shows of the letters in the queue: after those that were fetched before, which a pass that fetches knows, they have of each
+-- of its senders what that has posted, in its order.
 pub record Shows (v : View) (letters : List Letter) : Type 0 where
   pub before : List Letter
   pub fetched : v.fetches ≡ true → before ≡ v.fetched

@@ -37,8 +37,8 @@ impl Model for Mailbox {
 }
 
 impl Mailbox {
-    /// An empty mailbox with room for that many frames, and a pass for each participant, in the order of their numbers. The owner fetches by
-    /// its pass. Own.
+    /// An empty mailbox with room for that many frames, and a pass for each participant, in the order of their numbers. The owner fetches
+    /// by its pass. Own.
     pub fn new(
         alloc: Global,
         capacity: usize,
@@ -62,8 +62,8 @@ impl Mailbox {
         requires mailbox { pass.old.mailbox ≡ self.now.id }
         ensures posted { pass.new ≡ after_post frame result pass.old }
 
-        // It is lost exactly where that is planned. It comes twice only where that is planned, and then once only where there was no room for
-        // the second.
+        // It is lost exactly where that is planned. It comes twice only where that is planned, and then once only where there was no room
+        // for the second.
         ensures lost { (line : ℕ) → (result ≡ Posted.Lost line) ↔ (action ≡ Action.Lose line) }
         ensures twice { result ≡ Posted.Twice → (line : ℕ) × (action ≡ Action.Repeat line) }
         ensures once { (line : ℕ) → action ≡ Action.Repeat line → result ≡ Posted.Sent

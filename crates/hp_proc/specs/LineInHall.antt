@@ -26,8 +26,8 @@ moment_with heap me doer state = in_hand heap (moment me doer state)
 abbrev pub did_in : ℕ → HallState → HallState → List MailStep → Type 0
 did_in me old new steps = Did me steps old new
 
--- what it did of a line from no heap in hand to none, in which it held these heaps, one after another; or some heaps, none of them twice; and
--- what it did with a heap in hand
+-- what it did of a line from no heap in hand to none, in which it held these heaps, one after another; or some heaps, none of them twice;
+-- and what it did with a heap in hand
 abbrev pub DoesHere : List ℕ → ℕ → ParticipantView → ParticipantView → HallState → HallState → Doing → Doing → Type 0
 DoesHere held me old new from to doing rest = Does held from.count (did_in me from to) doing rest (moment me old from) (moment me new to)
 
@@ -75,8 +75,8 @@ pub record IsFreeAt (slot : ℕ) (state : HallState) : Type 0 where
   pub taken : state.taken slot ≡ None
   pub home : state.may_take slot
 
--- it attached or detached: it is the same one, its table is tied, it is in the roster where it notes that it is attached, the slots stay, and
--- nobody else did anything
+-- it attached or detached: it is the same one, its table is tied, it is in the roster where it notes that it is attached, the slots stay,
+-- and nobody else did anything
 pub record ChangesRoster (me : ℕ) (old new : ParticipantView) (from to : HallState) : Type 0 where
   pub same : IsSameParty old.party new.party
   pub tied : IsTiedIn me new.party to

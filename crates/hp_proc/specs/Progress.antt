@@ -34,8 +34,8 @@ use Rattle.hp_proc.specs.Histories.{entries_for}
 use Rattle.hp_serve.specs.Party.{IsSameParty, Party}
 use Rattle.hp_proc.specs.ParticipantView.{ParticipantView}
 
--- a participant at a moment of its line: itself, what it knows of its lines, the heap in its hand, where it has one, its parts in the heaps,
--- and what it has seen of the log and of the outcomes
+-- a participant at a moment of its line: itself, what it knows of its lines, the heap in its hand, where it has one, its parts in the
+-- heaps, and what it has seen of the log and of the outcomes
 pub record Moment : Type 0 where
   pub party : Party
   pub context : Context
@@ -65,8 +65,8 @@ in_hand heap moment = record moment { hand = Some heap.plain.index; parts = with
 abbrev pub AreOnce : List ℕ → Type 0
 AreOnce heaps = (heap : ℕ) → count_by (λ other. other == heap) heaps ≤ 1
 
--- what it did of a line, from one moment to a later one, on which it took these heaps into its hand: its trace leads from what was left to do
--- to what is left now; each heap has its calls, numbered on over all heaps; and each of its asks has its answer
+-- what it did of a line, from one moment to a later one, on which it took these heaps into its hand: its trace leads from what was left to
+-- do to what is left now; each heap has its calls, numbered on over all heaps; and each of its asks has its answer
 pub record Does (held : List ℕ) (count : ℕ) (did : List MailStep → Type 0) (doing rest : Doing) (old new : Moment) : Type 0 where
   pub trace : List Done
   pub steps : List MailStep
@@ -148,9 +148,9 @@ pub record MayDo (moment : Moment) : Type 0 where
   pub settled : HasSettledAsks moment.parts moment.asks
   pub counted : moment.context.calls ≡ entries_made moment.parts
 
--- it has a heap in hand, which it has taken: the heap's history is that one's and entries of its own, numbered on over all heaps, and it has
--- what its holding names: its pages are those of its own segments, and its growths and cuts those of the runs that it has claimed and given up;
--- the participant holds no other
+-- it has a heap in hand, which it has taken: the heap's history is that one's and entries of its own, numbered on over all heaps, and it
+-- has what its holding names: its pages are those of its own segments, and its growths and cuts those of the runs that it has claimed and
+-- given up; the participant holds no other
 pub record IsInHand (taken : ℕ → Option Kept) (moment : Moment) (heap : HeapView) : Type 0 where
   pub was : HeapView
   pub taken_is : taken heap.plain.index ≡ Some (Heap was)

@@ -1,5 +1,5 @@
--- Why a line that allocates is answered that there is no memory: its heaps found nothing, and its asks were refused, where the plan loses no
--- message and no mapping failed, for want of a list, of pages, of slots or of a place. The rule "Reasons" of docs/RUNS.md.
+-- Why a line that allocates is answered that there is no memory: its heaps found nothing, and its asks were refused, where the plan loses
+-- no message and no mapping failed, for want of a list, of pages, of slots or of a place. The rule "Reasons" of docs/RUNS.md.
 use Rattle.std.specs.Prelude.{◌≡◌, ℕ, ◌<◌, ⊤, List, Contains, None}
 use Rattle.std.specs.List.{All}
 use Rattle.hp_heap.specs.History.{HeapView}

@@ -40,8 +40,8 @@ unfreed_in asks who number (GaveUp heap run ∷ trace) =
 unfreed_in asks who number (Looked records ∷ trace) = unfreed_in asks who number trace
 unfreed_in asks who number (CaughtUp to caught ∷ trace) = unfreed_in asks who number trace
 
--- notices of a participant without an outcome are at most the lines of the plan that lose a FREE of it. So where none does, each run that it
--- gave up has gone back
+-- notices of a participant without an outcome are at most the lines of the plan that lose a FREE of it. So where none does, each run that
+-- it gave up has gone back
 abbrev pub NoticesAreHeard : List PlanEntry → List Course → List AskLog → Type 0
 NoticesAreHeard plan courses asks = (who : ℕ) → unfreed_in asks who 1 (trace_of (courses_of who courses)) ≤ planned_losses plan message.Free who
 

@@ -113,7 +113,8 @@ pub data PostsFor (count : ℕ) (old new : Shared) (party after : Party) : Out �
   nobody : (to number what : ℕ) (good : Bool) → is_asker count to ≡ false → new ≡ old → after ≡ party
       → PostsFor count old new party after (out.Answer to number what good)
 
--- an answer of the coordinator is carried out: where that is to catch up it does so, as often as it is told, and then what is to be posted is
+-- an answer of the coordinator is carried out: where that is to catch up it does so, as often as it is told, and then what is to be posted
+-- is
 pub data CarriesOut (count : ℕ) : Shared → Shared → Party → Party → Out → Type 0 where
   posts : (old new : Shared) (party after : Party) (answer : Out) → PostsFor count old new party after answer
       → CarriesOut count old new party after answer

@@ -65,8 +65,8 @@ pub data OneThread (first : SoloView) : List Course → SoloView → Type 0 wher
       → OneThread first (courses ++ record { line = line; answer = answer; trace = does.does.does.trace } ∷ []) new
   rests : (courses : List Course) (old new : SoloView) → OneThread first courses old → Drains old new → OneThread first courses new
 
--- growths were refused as late, and asks taken back or stale, at most as often as a workload's plan loses or repeats messages; and who was late
--- was so by readings that are exactly its deadline apart, and what was taken back by readings three deadlines apart
+-- growths were refused as late, and asks taken back or stale, at most as often as a workload's plan loses or repeats messages; and who was
+-- late was so by readings that are exactly its deadline apart, and what was taken back by readings three deadlines apart
 pub record HaveReasons (workload : Workload) (asks : List AskLog) : Type 0 where
   pub late : (who : ℕ) → late_outcomes who asks ≤ planned_losses workload.plan.items message.Sync who
   pub withdrawn : (who : ℕ) → withdrawn_outcomes who asks ≤ planned_losses workload.plan.items message.Alloc who

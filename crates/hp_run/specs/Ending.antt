@@ -25,8 +25,8 @@ use Rattle.hp_reasons.specs.Notices.{NoticesAreHeard}
 use Rattle.hp_reasons.specs.Threads.{HaveReasons}
 use Rattle.hp_run.specs.Failures.{AreFailuresNamed, AreRefusalsNamed, FailAsMay, FailOnce, IsFailureNamed, RefuseAsMay, RefuseOnce}
 
--- a mapping failed only at a call that the plan names, and was answered as the plan says, or over a mapper that is not steady, and at no call
--- twice: for a growth, and for a line that attaches
+-- a mapping failed only at a call that the plan names, and was answered as the plan says, or over a mapper that is not steady, and at no
+-- call twice: for a growth, and for a line that attaches
 pub record AreNamed (workload : Workload) (mappers : List (Option (List FailingCall))) (answers : List Answer) (segs : SegsView) : Type 0 where
   pub failures : AreFailuresNamed workload.plan.items mappers segs.asks
   pub once : FailOnce segs.asks
@@ -70,20 +70,20 @@ pub record IsHeardEnd (workload : Workload) (answers : List Answer) (heaps : Lis
   pub leads : Leads calls (first_segs workload) segs
   pub opens : IsSound (first_segs workload)
 
--- a growth that failed restores: the segment value came about by calls, each under its condition, and wherever among them a growth was opened
--- and failed, pools, free slots and pages, the states of the other rows and what is given up are as the other calls meanwhile would have
--- left them; and the table of a participant whose number is at the growth's Drop is the one from before it
+-- a growth that failed restores: the segment value came about by calls, each under its condition, and wherever among them a growth was
+-- opened and failed, pools, free slots and pages, the states of the other rows and what is given up are as the other calls meanwhile would
+-- have left them; and the table of a participant whose number is at the growth's Drop is the one from before it
 pub record HasRestored (workload : Workload) (segs : SegsView) (tables : List Table) : Type 0 where
   pub calls : List SegsCall
   pub leads : Leads calls (first_segs workload) segs
   pub growths : GrowthsRestore calls (first_segs workload)
   pub answering : TablesRestore segs.log tables
 
--- what a run has come to, in whatever order its participants' steps came: an end of the workload. A mapping failed, for a growth or for a line
--- that attaches, only where the plan or the mapper is why, and at no call twice; all who are attached map what is in use alike, and a growth
--- that failed left no row. An allocation that is answered that there is no memory found no address in its heaps and was granted nothing (that
--- it tried all of them, and all page sizes, is in what its line does); and a growth that failed left all else as the other calls meanwhile
--- would have left it
+-- what a run has come to, in whatever order its participants' steps came: an end of the workload. A mapping failed, for a growth or for a
+-- line that attaches, only where the plan or the mapper is why, and at no call twice; all who are attached map what is in use alike, and a
+-- growth that failed left no row. An allocation that is answered that there is no memory found no address in its heaps and was granted
+-- nothing (that it tried all of them, and all page sizes, is in what its line does); and a growth that failed left all else as the other
+-- calls meanwhile would have left it
 pub record IsRunEnd (workload : Workload) (mappers : List (Option (List FailingCall))) (answers : List Answer) (heaps : List HeapView)
     (segs : SegsView) (tables : List Table) : Type 0 where
   pub end : IsEnd workload answers heaps segs tables
@@ -92,13 +92,13 @@ pub record IsRunEnd (workload : Workload) (mappers : List (Option (List FailingC
   pub vain : (who : ℕ) → who < workload.participants → All IsNoneInVain (courses_of who end.courses)
   pub restored : HasRestored workload segs tables
 
--- what a run in one thread has come to, whose lines were done one after another. Growths were refused as a participant was late, and asks of
--- one taken back or stale, at most as often as the plan loses SYNCs to it, loses its asks, or repeats its asks and notices. Where the plan
--- loses no message, no segment is Retiring, and each participant that is attached has taken in all records of the log; and where no mapping
--- may fail either, asks were refused for want of a list, of pages, of slots or of a place alone. Each run that was given up has gone back, as
--- its notice's outcome says, but for as many as the plan loses of its participant's notices; and where the plan loses no message, what lines
--- gave up had gone before later lines saw the log. What lines see of the log never falls over all lines, with what the outcomes of their
--- notices show: wherever one came that a run has gone back, later lines see the records up to its Drop
+-- what a run in one thread has come to, whose lines were done one after another. Growths were refused as a participant was late, and asks
+-- of one taken back or stale, at most as often as the plan loses SYNCs to it, loses its asks, or repeats its asks and notices. Where the
+-- plan loses no message, no segment is Retiring, and each participant that is attached has taken in all records of the log; and where no
+-- mapping may fail either, asks were refused for want of a list, of pages, of slots or of a place alone. Each run that was given up has
+-- gone back, as its notice's outcome says, but for as many as the plan loses of its participant's notices; and where the plan loses no
+-- message, what lines gave up had gone before later lines saw the log. What lines see of the log never falls over all lines, with what the
+-- outcomes of their notices show: wherever one came that a run has gone back, later lines see the records up to its Drop
 pub record IsSoloRunEnd (workload : Workload) (mappers : List (Option (List FailingCall))) (answers : List Answer) (heaps : List HeapView)
     (segs : SegsView) (tables : List Table) : Type 0 where
   pub run : IsRunEnd workload mappers answers heaps segs tables

@@ -104,8 +104,8 @@ pub record AsksIn (me : ℕ) (old new : Party) (asked : PagesAsked) (from to : H
   pub answer : IsAsked (to.seen me) (to.heard me) me old.asked new.asked asked answered.run
   pub grows : GrowsHeld asked.heap answered.run (from.part me asked.heap) (to.part me asked.heap)
 
--- a participant tells that it gave up a run of a heap, as the plan has its next notice, reads its clock, and waits for the answer, for three
--- deadlines at most
+-- a participant tells that it gave up a run of a heap, as the plan has its next notice, reads its clock, and waits for the answer, for
+-- three deadlines at most
 pub record DoesNotify (count : ℕ) (party after : Party) (heap : ℕ) (run : Run) (steps : List MailStep) : Type 0 where
   pub frame : Frame
   pub posted : Posted

@@ -28,8 +28,8 @@ EachPost P (Takes slot kept ∷ steps) = EachPost P steps
 EachPost P (Gives slot kept ∷ steps) = EachPost P steps
 EachPost P (Notes note ∷ steps) = EachPost P steps
 
--- A SYNC makes a member take the segment value. In its roster it catches up with the log as it stands, acknowledges it or not, gives the value
--- back, with a mapping that failed noted, and posts its reply to participant 0, as the plan has its next one
+-- A SYNC makes a member take the segment value. In its roster it catches up with the log as it stands, acknowledges it or not, gives the
+-- value back, with a mapping that failed noted, and posts its reply to participant 0, as the plan has its next one
 pub data FollowsSync (party : Party) (steps : List MailStep) (answer : Option Bool) : Type 0 where
   replies : (taken : SegsView) (caught : Caught) (frame : Frame) (posted : Posted) → is_member taken.roster party.me ≡ true
       → Says frame (reply_of party.me caught taken)
@@ -60,8 +60,8 @@ pub data IsCorePost (count to : ℕ) (frame : Frame) : Type 0 where
   syncs : (generation round : ℕ) → Says frame (Sync generation round) → 0 < to → to < count → IsCorePost count to frame
   results : (number what : ℕ) (good : Bool) → Says frame (result_body number what good) → is_asker count to ≡ true → IsCorePost count to frame
 
--- an event is handed to the coordinator: participant 0 takes the segment value, and gives it back as the coordinator's step leaves it; or it
--- has no memory for the step, gives the value back as it was, and stops
+-- an event is handed to the coordinator: participant 0 takes the segment value, and gives it back as the coordinator's step leaves it; or
+-- it has no memory for the step, gives the value back as it was, and stops
 pub data HandsOver (party : Party) (event : CoreEvent) (steps : List MailStep) (answer : Option Bool) : Type 0 where
   steps_on : (core : Core) (taken : SegsView) (more : List MailStep) → party.core ≡ Some core
       → steps ≡ takes_segments taken ∷ gives_segments (stepping event core taken).segs ∷ more → HandsOver party event steps answer

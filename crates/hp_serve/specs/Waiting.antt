@@ -27,8 +27,8 @@ pub data IsServedOut (count : ℕ) (party after : Party) (steps : List MailStep)
   -- it served as often as it may
   enough : AreServings count most_servings party after steps → answer ≡ Some true → IsServedOut count party after steps answer
 
--- all serve in a turn: those below it first, then the participant itself, then those above; and the answer: whether something moved, or that
--- somebody stopped
+-- all serve in a turn: those below it first, then the participant itself, then those above; and the answer: whether something moved, or
+-- that somebody stopped
 pub data HaveServed (count : ℕ) (party after : Party) (steps : List MailStep) (answer : Option Bool) : Type 0 where
   -- one of those below met a refusal, before it served itself
   below_stops : steps ≡ Notes (Yielded false None) ∷ [] → after ≡ party → answer ≡ None → HaveServed count party after steps answer
@@ -57,8 +57,8 @@ pub record PausesAt (until : ℕ) (due : Option ℕ) (moved : Bool) (steps : Lis
   pub sooner : IsSoonerOf now until due next
   pub are : steps ≡ Notes (Read now) ∷ Notes (Paused moved (Some next)) ∷ []
 
--- what a turn of its wait until a deadline makes of it, by what it did, and the turn's answer: whether something moved, or that a refusal of
--- memory ended it
+-- what a turn of its wait until a deadline makes of it, by what it did, and the turn's answer: whether something moved, or that a refusal
+-- of memory ended it
 pub data IsTurned (count until : ℕ) (party after : Party) (steps : List MailStep) (answer : Option Bool) : Type 0 where
   stops : HaveServed count party after steps None → answer ≡ None → IsTurned count until party after steps answer
   ends : (moved : Bool) (served paused : List MailStep) → HaveServed count party after served (Some moved)
@@ -86,8 +86,8 @@ AreTurns count until heeds (suc n) party after steps =
     × AreTurns count until heeds n party mid before × WaitsOn heeds mid until now × IsTurned count until mid after last (Some moved)
     × (steps ≡ before ++ (Notes (Read now) ∷ last))
 
--- what a wait until a deadline makes of it, by what it did; the last part is the reading at which it ended, or none where a refusal of memory
--- ended it
+-- what a wait until a deadline makes of it, by what it did; the last part is the reading at which it ended, or none where a refusal of
+-- memory ended it
 pub data IsWaited (count until : ℕ) (heeds : Bool) (party after : Party) (steps : List MailStep) (ended : Option ℕ) : Type 0 where
   ends : (turns now : ℕ) (first : List MailStep) → AreTurns count until heeds turns party after first → HasWaited heeds after until now
       → steps ≡ first ++ (Notes (Read now) ∷ []) → ended ≡ Some now → IsWaited count until heeds party after steps ended

@@ -83,7 +83,8 @@ impl Segs {
         run
     }
 
-    /// A heap gives up a run of its rows: they become Retiring. After malloc_heap_free_pages of malloc_heap.c; that they wait as Retiring is own.
+    /// A heap gives up a run of its rows: they become Retiring. After malloc_heap_free_pages of malloc_heap.c; that they wait as Retiring
+    /// is own.
     pub fn retire(&mut self, heap: u32, run: &Run)
         requires owned { OwnsRun heap run.now self.old }
         ensures step { self.new ≡ after_retire heap run.now self.old }

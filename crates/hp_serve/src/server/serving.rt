@@ -58,9 +58,9 @@ impl<'p, M: Mapper> Server<'p, M> {
         }
     }
 
-    /// Serves once: does what the first frame of its mailbox asks, and participant 0, where that is empty, polls for what is due. It answers
-    /// whether it did something, and that memory ran out, or its mapper's calls, where it stopped. Between two servings it holds the
-    /// slots that it held before. After the actions of rte_mp_action_register, by which malloc_mp.c handles messages.
+    /// Serves once: does what the first frame of its mailbox asks, and participant 0, where that is empty, polls for what is due. It
+    /// answers whether it did something, and that memory ran out, or its mapper's calls, where it stopped. Between two servings it holds
+    /// the slots that it held before. After the actions of rte_mp_action_register, by which malloc_mp.c handles messages.
     pub fn serve<H: Hall>(&mut self, hall: &mut H) -> Result<bool, AllocError>
         requires can { CanServe self.old.me self.old (H.state hall.old) }
 

@@ -89,7 +89,8 @@ fn grants_a_growth(rt: HostRuntime) -> Result<(), Fail> {
     play(rt.alloc(), None, IN_TIME)
 }
 
-// Participant 1 does not serve before both deadlines have passed. It does what the frames ask that it fetches then, and its replies are dropped.
+// Participant 1 does not serve before both deadlines have passed. It does what the frames ask that it fetches then, and its replies are
+// dropped.
 const TOO_LATE: &[Act] = &[
     Alloc(1, Posted::Sent),
     Primary(true),
