@@ -70,7 +70,7 @@ module _ {F : Type 0} where
     limit_below validators None is = tt
     limit_below validators (Some (name, limit)) is = subst (λ limit. limit < total) (sym is.its_limit) is.denies.asked.above
 
--- it is refused for that, and else registered, unless memory is wanting
+-- a validator is refused for that reason, and else registered, unless memory is wanting
 abbrev pub AnswersLimit : Option LimitFault → Result Unit LimitFault → Type 0
 AnswersLimit (Some fault) (Ok done) = ⊥
 AnswersLimit (Some fault) (Err given) = given ≡ fault

@@ -15,7 +15,7 @@ use Rattle.hp_hall.specs.Own.{Own, rows_known}
 pub record Noted : Type 0 where
   pub number : ℕ
 
--- slots go by their numbers
+-- a hall as its callers see it; slots go by their numbers
 pub record HallState : Type 1 where
   -- how many participants there are
   pub count : ℕ
@@ -44,7 +44,7 @@ pub record HallState : Type 1 where
   pub fulls : ℕ
   -- one of those who serve in the hall has met a refusal of memory, as far as the hall has seen
   pub stopped : Bool
-  -- the number that falls, beside the deadlines that are pending
+  -- the measure by which waits end, beside the deadlines that are pending
   pub weight : ℕ
   -- the clock of one thread; threads have none in common, and there it stands still
   pub clock : ℕ

@@ -46,5 +46,5 @@ pub record AllocatesAlone (participant : ℕ) (request : Request) (tag : Tag) (h
   -- the one that was allocated has the tag
   pub tagged : (address : ℕ) → allocated participant request heap ≡ Some address
       → tag_at address (after_alloc participant request tag heap) ≡ Some tag
-  -- else the heap
+  -- where it is given no address, the heap
   pub refused : allocated participant request heap ≡ None → after_alloc participant request tag heap ≡ heap

@@ -48,7 +48,7 @@ StaysReady = (lists : List ListPlace) (old new : MapsView) (records more : List 
     → Lags records new.number to (table_in new.rows) → chunk_rows new.rows ≡ chunk_rows old.rows → calls_of new ≤ 2 ^ 63
     → IsLogOf lists (records ++ more) → to ≤ further → further ≤ length (records ++ more) → IsReady lists new (records ++ more) further
 
--- then it may catch up
+-- a table that is ready may catch up
 abbrev pub IsReadyToCatchUp : Type 0
 IsReadyToCatchUp = (lists : List ListPlace) (maps : MapsView) (records : List LogRecord) (to : ℕ) → IsReady lists maps records to
     → CanCatchUp maps records to

@@ -61,7 +61,7 @@ IsMetered who (Takes slot kept) old new = new ≡ old
 IsMetered who (Gives slot kept) old new = new ≡ old
 IsMetered who (Notes note) old new = IsNoted who note old new
 
--- by these steps they came from one state to another
+-- by these steps the clock and the numbers came from one state to another
 abbrev pub AreMetered : List (ℕ × MailStep) → Meters → Meters → Type 0
 AreMetered [] old new = new ≡ old
 AreMetered (step ∷ steps) old new = (mid : Meters) × IsMetered step.0 step.1 old mid × AreMetered steps mid new

@@ -37,7 +37,7 @@ seen_by false at (Refused cause) = at ∷ at ∷ []
 seen_by failed at (Stale done) = []
 seen_by failed at (Freed generation) = []
 
--- so for an ask for a heap, where it has an outcome
+-- what an ask for a heap shows of the log, where it has an outcome
 abbrev pub seen_by_ask : List LogRecord → List AskLog → ℕ → Option AskLog → List ℕ
 seen_by_ask log asks heap None = []
 seen_by_ask log asks heap (Some entry) = seen_by (has_failed log asks heap entry.at) entry.at entry.outcome

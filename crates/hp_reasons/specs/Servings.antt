@@ -63,7 +63,7 @@ pub data MemberServes (old new : Shared) (party after : Party) : Bool → Type 0
   -- it was told to catch up, and is not in the roster
   is_out : (frame : Frame) (more : List Frame) (body : Body) → box_of old.boxes party.me ≡ frame ∷ more → Says frame body → is_sync body ≡ true
       → is_member old.segs.roster party.me ≡ false → new ≡ fetched_by party.me old → after ≡ party → MemberServes old new party after true
-  -- it was, and is
+  -- it was told to catch up, and is in the roster
   obeys : (frame : Frame) (more : List Frame) (body : Body) → box_of old.boxes party.me ≡ frame ∷ more → Says frame body → is_sync body ≡ true
       → is_member old.segs.roster party.me ≡ true → ObeysIn (fetched_by party.me old) new party after → MemberServes old new party after true
 
@@ -155,7 +155,7 @@ pub data CoreServes (count : ℕ) (old new : Shared) (party after : Party) : Boo
   replied : (frame : Frame) (more : List Frame) (body : Body) (due : ℕ) → box_of old.boxes party.me ≡ frame ∷ more → Says frame body
       → is_sync_reply body ≡ true → due_in party.core ≡ Some due → Polls count (fetched_by party.me old) new party after
       → CoreServes count old new party after true
-  -- one came while none was
+  -- a reply came while no round was under way
   late_reply : (frame : Frame) (more : List Frame) (body : Body) → box_of old.boxes party.me ≡ frame ∷ more → Says frame body
       → is_sync_reply body ≡ true → due_in party.core ≡ None → new ≡ fetched_by party.me old → after ≡ party
       → CoreServes count old new party after true

@@ -64,7 +64,7 @@ pub record HasComeOut (set : Setting) (call : Asked) (sent now : ℕ) (world : W
   pub now_is : now ≡ world.shared.clock
   pub ended : is_ended at_turn.stage ≡ true
 
--- WHAT IS TO BE KNOWN OF SINGLE SERVINGS
+-- What is known of single servings:
 
 -- what single servings make of a stage and of the weight, and what is shared along a course
 pub record AreServingsKnown : Type 0 where
@@ -76,7 +76,7 @@ pub record AreServingsKnown : Type 0 where
   pub core_lighter : CoreWeighsLess
   pub member_lighter : MemberWeighsLess
 
--- WHAT IS TO BE SHOWN
+-- What is to be shown of turns, waits, asks and notices:
 
 -- a turn of a wait, which is no longer than three deadlines, goes on from stage to stage
 abbrev pub TurnsOn : Type 0

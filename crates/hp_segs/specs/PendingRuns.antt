@@ -18,7 +18,7 @@ pub record IsPending (segs : SegsView) (ask : Ask) (generation : ℕ) (entry : A
 abbrev pub PendingIsArmed : SegsView → Type 0
 PendingIsArmed segs = (entry : AskLog) (ask : Ask) (generation : ℕ) → IsPending segs ask generation entry → armed_ask segs ask.from ≡ Some ask
 
--- while it waits no growth is open for its heap
+-- while a granted run waits to be claimed no growth is open for its heap
 abbrev pub PendingIsAlone : SegsView → Type 0
 PendingIsAlone segs = (entry : AskLog) (ask : Ask) (generation : ℕ) (growth : Growth) → IsPending segs ask generation entry
     → segs.growth ≡ Some growth → growth.ask.heap ≢ ask.heap

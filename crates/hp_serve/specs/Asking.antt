@@ -21,7 +21,7 @@ use Rattle.hp_segs.specs.declared.outcome.Outcome.{Outcome}
 use Rattle.hp_segs.specs.declared.outcome.Outcome.TheVariants.{Granted, Refused}
 use Rattle.hp_serve.specs.declared.pages_asked.PagesAsked.{PagesAsked}
 
--- a participant's ask of that number, for a asked
+-- a participant's ask of that number, for the pages asked
 abbrev pub ask_of : ℕ → ℕ → PagesAsked → Ask
 ask_of who number asked = record {
   from = who;

@@ -1,4 +1,4 @@
--- The number by which serving returns, on participant 0's side: what its round and held asks weigh: the rule "Coordinating" of
+-- The measure by which serving ends, on participant 0's side: what its round and held asks weigh: the rule "Coordinating" of
 -- docs/PARTICIPANTS.md. A growth's first round weighs 96 once its SYNCs are out, and 95 once its deadline has passed; a rollback's or
 -- drop's 4 and 3; what a SYNC to fifteen members may bring is 90, since each weighs 3 and may come twice. Before its SYNCs are out a
 -- round weighs that much more. A held ask weighs 187, and a RESULT 2.

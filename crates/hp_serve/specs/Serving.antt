@@ -81,7 +81,7 @@ pub data IsFollowed (party after : Party) (taken : SegsView) (steps : List MailS
   -- it is not in the roster
   is_out : is_member taken.roster party.me ≡ false → steps ≡ gives_segments taken ∷ [] → after ≡ party → goes ≡ true
       → IsFollowed party after taken steps goes
-  -- it is, and its mapper has made too many calls
+  -- it is in the roster, and its mapper has made too many calls
   is_worn : is_member taken.roster party.me ≡ true → IsWorn party.maps → steps ≡ gives_segments taken ∷ [] → after ≡ party → goes ≡ false
       → IsFollowed party after taken steps goes
 

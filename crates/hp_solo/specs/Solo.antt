@@ -85,7 +85,7 @@ server_weight pending server = (if server.stopped then 0 else 1) + party_weight 
 abbrev pub servers_weight : (ℕ → ℕ) → List AloneView → ℕ
 servers_weight pending servers = sum_by (server_weight pending) servers
 
--- the number by which serving returns: what the mailboxes weigh, and all that serve
+-- the measure by which serving ends: what the mailboxes weigh, and all that serve
 abbrev pub solo_weight : SoloView → ℕ
 solo_weight hall = boxes_weight hall.plain.boxes + servers_weight (pending_at hall.plain.clock) hall.servers
 
@@ -184,7 +184,7 @@ abbrev pub IsBeside : ℕ → Bool → ℕ → Type 0
 IsBeside me false who = who < me
 IsBeside me true who = me < who
 
--- who does not
+-- who does not stand on that side of one that waits
 abbrev pub IsNotBeside : ℕ → Bool → ℕ → Type 0
 IsNotBeside me above who = IsBeside me above who → ⊥
 

@@ -68,7 +68,7 @@ impl<'p, M: Mapper> Server<'p, M> {
         ensures served { (steps : List MailStep) × Did self.old.me steps (H.state hall.old) (H.state hall.new)
             × IsServed (H.state hall.old).count self.old self.new steps (result_ok result) }
 
-        // Each serving that does something makes this number smaller. One that did nothing leaves no deadline that has passed, but
+        // Each serving that does something makes this measure smaller. One that did nothing leaves no deadline that has passed, but
         // one at the end of the clock's type, which never does.
         ensures weight { left_to_do H.scale H.pending self.new (H.state hall.new) + H.scale * served_of result
             ≤ left_to_do H.scale H.pending self.old (H.state hall.old) }

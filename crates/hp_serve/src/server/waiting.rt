@@ -127,7 +127,7 @@ impl<'p, M: Mapper> Server<'p, M> {
         ensures turned { (steps : List MailStep) × Did self.old.me steps (H.state hall.old) (H.state hall.new)
             × IsTurned (H.state hall.old).count until self.old self.new steps (result_ok result) }
 
-        // Each turn makes this number smaller, and one that somebody stopped does not raise it.
+        // Each turn makes this measure smaller, and one that somebody stopped does not raise it.
         ensures falls { OnOk result (left_to_do H.scale H.pending self.new (H.state hall.new) + H.pending
             (H.state hall.new).clock until < left_to_do H.scale H.pending self.old (H.state hall.old) + H.pending
             (H.state hall.old).clock until) }
