@@ -12,8 +12,7 @@ use crate::row::Row;
 use std::alloc::{AllocError, Global};
 use std::marker::Model;
 
-/// What maps the pages of a process, one row at a time. It stands for what mmap and munmap do in EAL memory
-/// management. Own.
+/// What maps the pages of a process, one row at a time. Own; it stands for mmap and munmap, as EAL calls them.
 pub trait Mapper: Drop {
     /// The rows that it holds, in the order of mapping, each with the answer that it was mapped by.
     ghost held: { Self → List Held };

@@ -114,7 +114,7 @@ impl Coordinator {
     }
 
     /// Takes one event: what becomes of the segment value and of the coordinator, and what participant 0 has to do. It
-    /// takes no memory. After the handling of requests and replies by the primary in rte_malloc.
+    /// takes no memory. After handle_request, handle_sync_response and handle_rollback_response of malloc_mp.c.
     pub fn step<J: Judge>(&mut self, segs: &mut Segs, event: CoreEvent, judge: &J) -> Out
         requires may { MayStep event segs.old }
         requires may_ask { J.may_ask judge.now }

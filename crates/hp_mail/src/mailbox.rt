@@ -114,7 +114,7 @@ impl Mailbox {
         }
     }
 
-    /// Fetches the first frame, or none where the mailbox was empty at a step of this call. After the handling of messages of rte_mp.
+    /// Fetches the first frame, or none where the mailbox was empty at a step of this call. After the actions of rte_mp_action_register.
     pub fn fetch<R: Wait>(&self, rt: &R, pass: &mut Pass) -> Option<Frame>
         requires mailbox { pass.old.mailbox ≡ self.now.id }
         requires owner { IsOwner pass.old }
