@@ -41,7 +41,7 @@ pub(super) const LATE: Shown = Shown {
     last: Some((1, 1, End::Late(1, 0, 200))),
 };
 
-// And where participant 0 alone has.
+// Participant 1 was late for the growth, and participant 0 alone has taken in that it was cancelled.
 const LATE_STILL: Shown = Shown {
     numbers: (2, 0),
     ..LATE
