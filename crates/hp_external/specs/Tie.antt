@@ -63,5 +63,5 @@ pub record IsTiedHeap (directory : List HeapRange) (claims : List ExternalRange)
   pub claimed : AreClaimed claims heap.chunks
   -- the participant's marks are on exactly those that its table has attached
   pub marked : AreMarked participant rows heap.chunks
-  -- and beside those of the log the table has rows of claimed memory alone
+  -- beside the rows of the log the table has rows of claimed memory alone
   pub known : AllByRecursion (IsOfClaim claims) rows

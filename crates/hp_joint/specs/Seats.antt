@@ -56,7 +56,7 @@ seated party seat = record seat { party = party }
 abbrev pub leaving : Standing → Seat → Seat
 leaving standing seat = record seat { standing = standing }
 
--- and this was done for its line
+-- this was done for its line, besides what was done before
 abbrev pub having_done : Party → List Done → Seat → Seat
 having_done party more seat = record seat { party = party; trace = seat.trace ++ more }
 
@@ -107,7 +107,7 @@ pub data Mails (who : ℕ) : Seat → Seat → MailStep → Type 0 where
       → Says frame (free_body who (seat.party.asked + 1) heap run)
       → Mails who seat (having_done (numbered_on (seat.party.asked + 1) seat.party) (GaveUp heap run ∷ []) seat)
       (Posts 0 frame action posted)
-  -- and any message that asks for nothing goes to anybody
+  -- any message that asks for nothing goes to anybody
   speaks : (seat : Seat) (to : ℕ) (frame : Frame) (body : Body) (action : Action) (posted : Posted) → AsksNothing body → Says frame body
       → Mails who seat seat (Posts to frame action posted)
 

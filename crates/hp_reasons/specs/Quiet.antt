@@ -20,7 +20,7 @@ pub record IsQuietWorld (set : Setting) (world : World) : Type 0 where
   -- asks and notices without an outcome are no more than the notices that were lost
   pub told : (who : ℕ) (party : Party) → slice_get world.parties who ≡ Some party
       → unanswered_among world.shared.segs.asks who party.asked ≤ notices_lost set who party
-  -- and what had none when the line began has none still
+  -- asks and notices without an outcome when the line began have none still
   pub in_time : (who : ℕ) (party : Party) → slice_get world.parties who ≡ Some party → IsInTime set world.shared.segs.asks who party.asked
   -- where the plan loses no message all members have taken in all records
   pub level : LosesNothing set.plan → AreLevel world
