@@ -27,7 +27,7 @@ fn run(rt: &HostRuntime) -> Result<Status, AllocError> {
     Ok(top(rt.alloc(), words.as_slice(), &mut source, &mut sink))
 }
 
-// The words behind the program's name; where one is no text, an empty one, which is none that the program takes.
+// The words after the program's name; where one is no text, an empty one, which is none that the program takes.
 fn words(rt: &HostRuntime) -> Result<Vec<String>, AllocError> {
     match env::args(rt) {
         Ok(mut args) => {

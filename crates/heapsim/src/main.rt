@@ -34,7 +34,7 @@ fn run(rt: &HostRuntime) -> Result<Status, AllocError> {
     ))
 }
 
-// The words behind the program's name; none of them where one is no text, which is no list that the program takes.
+// The words after the program's name; none of them where one is no text, which is no list that the program takes.
 fn words(rt: &HostRuntime) -> Result<Vec<String>, AllocError> {
     match env::args(rt) {
         Ok(mut args) => {

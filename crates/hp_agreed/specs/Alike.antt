@@ -1,5 +1,5 @@
--- What agreement is worth: each segment that is in use is mapped alike by every attached participant. The rule "What agreement is worth"
--- of docs/GROWTH.md.
+-- What agreement gives: each segment that is in use is mapped alike by every attached participant. The rule "What agreement gives" of
+-- docs/GROWTH.md.
 use Rattle.std.specs.Prelude.{◌≡◌, ℕ, ◌≤◌, true, false, List, Contains, Some, slice_get}
 use Rattle.hp_base.specs.declared.limits.TheConstants.{MAX_HEAPS}
 use Rattle.hp_base.specs.declared.row.Row.{Row}
@@ -43,7 +43,7 @@ abbrev pub TablesAlike : SegsView → List Table → Type 0
 TablesAlike segs tables = (who : ℕ) (table : Table) (segment : Segment) → slice_get tables who ≡ Some table → table.joined ≡ true
     → Contains segs.segments segment → IsInUse segment → HasSegment table.rows.items segment
 
--- so it is at the end of a run
+-- at the end of a run each table of an attached participant has every segment in use
 abbrev pub EndsAlike : Type 0
 EndsAlike = (workload : Workload) (answers : List Answer) (heaps : List HeapView) (segs : SegsView) (tables : List Table)
     → IsEnd workload answers heaps segs tables → TablesAlike segs tables
@@ -65,15 +65,15 @@ abbrev pub TablesHave : List Table → Segment → Type 0
 TablesHave tables segment = (who : ℕ) (table : Table) → slice_get tables who ≡ Some table → table.joined ≡ true
     → HasSegment table.rows.items segment
 
--- each page of each heap is mapped alike: an address that a heap hands out means the same memory for all who are attached. So it is between
--- two lines, of each heap that nobody holds,
+-- between two lines each page of each heap that nobody holds is mapped alike: an address that a heap hands out means the same memory for
+-- all who are attached
 abbrev pub AttachedPagesAlike : Type 0
 AttachedPagesAlike = (workload : Workload) (courses : List Course) (parties : List Party) (hall : HallView) (segs : SegsView) (index : ℕ)
     (heap : HeapView) (page : HeapPage) → IsGiven workload → SoFar workload courses parties hall → IsHall hall
     → segs_in (slot_at hall MAX_HEAPS) ≡ Some segs → IsHeapAtHome hall index heap → Contains heap.plain.pages page
     → IsMappedAlike segs index page (AttachedHave parties)
 
--- and at the end of a run
+-- each page of each of these heaps is mapped alike, by the tables that a run leaves
 abbrev pub PagesAlike : List HeapView → SegsView → List Table → Type 0
 PagesAlike heaps segs tables = (index : ℕ) (heap : HeapView) (page : HeapPage) → slice_get heaps index ≡ Some heap
     → Contains heap.plain.pages page → IsMappedAlike segs heap.plain.index page (TablesHave tables)

@@ -1,4 +1,4 @@
--- A growth that fails leaves two records and its refusal, and nothing else. The rule "What agreement is worth" of docs/GROWTH.md.
+-- A growth that fails leaves two records and its refusal, and nothing else. The rule "What agreement gives" of docs/GROWTH.md.
 use Rattle.std.specs.Prelude.{◌≡◌, ℕ, ◌+◌, ◌-◌, ◌<◌, ◌≤◌, false, true, List, [], ◌∷◌, ◌++◌, length, map, Option, Some, None, slice_get}
 use Rattle.hp_base.specs.declared.row.Row.{Row}
 use Rattle.hp_base.specs.declared.row.Run.{Run}
@@ -29,12 +29,12 @@ pub record HasFailedGrowth (log : List LogRecord) (generation : ℕ) (run : Run)
   pub added : slice_get log (generation - 1) ≡ Some (Add run heap)
   pub dropped : slice_get log generation ≡ Some (Drop run)
 
--- its two records leave the table from before it
+-- the two records of each growth that failed leave the table from before it
 abbrev pub FailuresLeaveNoRow : List LogRecord → Type 0
 FailuresLeaveNoRow log = (generation heap : ℕ) (run : Run) → HasFailedGrowth log generation run heap
     → table_at log (generation + 1) ≡ table_at log (generation - 1)
 
--- so it is in the log of each sound value
+-- in the log of each sound value the two records of a growth that failed leave the table from before it
 abbrev pub SoundLogsRestore : Type 0
 SoundLogsRestore = (segs : SegsView) → IsSound segs → FailuresLeaveNoRow segs.log
 
@@ -45,7 +45,7 @@ pub record IsTableBefore (log : List LogRecord) (generation to : ℕ) (table : L
   pub up_to : reached ≤ to
   pub left : table ≡ undropped (newer log (generation + 1) reached) (table_at log (generation - 1))
 
--- so is that of each participant whose number is there
+-- the table of each participant whose number is at the Drop of a growth that failed is the one from before the growth
 abbrev pub AnsweringRestore : Type 0
 AnsweringRestore = (segs : SegsView) (generation heap to : ℕ) (run : Run) (table : List Row) → IsSound segs
     → HasFailedGrowth segs.log generation run heap → Lags segs.log (generation + 1) to table → IsTableBefore segs.log generation to table
@@ -65,7 +65,7 @@ owner_steps_of (Claim from number) segs = claim_steps (grant_of segs.asks from n
 owner_steps_of (Retire heap run) segs = GivesUp run ∷ []
 owner_steps_of _ segs = []
 
--- and those of calls one after another
+-- what calls, one after another, do to rows beside growths
 abbrev pub owner_steps : List SegsCall → SegsView → List OwnerStep
 owner_steps [] segs = []
 owner_steps (call ∷ calls) segs = owner_steps_of call segs ++ owner_steps calls (after call segs)
@@ -113,7 +113,7 @@ pub record IsAsWithout (calls : List SegsCall) (old new : SegsView) : Type 0 whe
   pub slots : (list n : ℕ) → slots_of (rows_in new.segments) list n ≡ slots_of (rows_in old.segments) list n
   pub pages : (pool : ℕ) → pages_left new pool ≡ pages_left old pool
 
--- so it is after each growth that failed
+-- after each growth that failed the value is as the steps of the other calls would have left it
 abbrev pub FailedCoursesRestore : Type 0
 FailedCoursesRestore = (calls : List SegsCall) (old new : SegsView) → IsSound old → IsFailedCourse calls old new → IsAsWithout calls old new
 
@@ -123,7 +123,7 @@ abbrev pub GrowthsRestore : List SegsCall → SegsView → Type 0
 GrowthsRestore calls first = (before during behind : List SegsCall) (old new : SegsView) → calls ≡ before ++ (during ++ behind)
     → Leads before first old → IsFailedCourse during old new → IsAsWithout during old new
 
--- so it is of all calls that lead on from a sound value
+-- each growth that fails among calls that lead on from a sound value leaves the value as the other calls would have left it
 abbrev pub CoursesRestore : Type 0
 CoursesRestore = (calls : List SegsCall) (first : SegsView) → IsSound first → GrowthsRestore calls first
 
@@ -133,7 +133,7 @@ TablesRestore log tables = (who generation heap : ℕ) (run : Run) (table : Tabl
     → HasFailedGrowth log generation run heap → table.number ≡ generation + 1
     → IsTableBefore log generation (length log) (table_in table.rows.items)
 
--- so it is at the end of a run
+-- at the end of a run each table at the Drop of a growth that failed is the one from before it
 abbrev pub EndTablesRestore : Type 0
 EndTablesRestore = (workload : Workload) (answers : List Answer) (heaps : List HeapView) (segs : SegsView) (tables : List Table)
     → IsEnd workload answers heaps segs tables → TablesRestore segs.log tables

@@ -1,4 +1,4 @@
-//! Laws of what agreement is worth. They are proved of all runs and of all segment values, and their functions have no code.
+//! Laws of what agreement gives. They are proved of all runs and of all segment values, and their functions have no code.
 ghost use Rattle.hp_agreed.specs.Alike.{AttachedMapAlike, AttachedPagesAlike, EndPagesAlike, EndsAlike};
 ghost use Rattle.hp_agreed.specs.Restored.{AnsweringRestore, CoursesRestore, EndTablesRestore, FailedCoursesRestore, SoundLogsRestore};
 
@@ -11,9 +11,9 @@ pub fn alike_law()
     ensures pages { EndPagesAlike }
 {}
 
-/// A growth that fails leaves two records and its refusal: the table of the log is the one from before it, so is that of a participant
-/// whose number is at the Drop, and pools, free slots and the states of all rows are those that the other calls meanwhile would have left. So
-/// it is wherever a growth fails among calls that lead on from a sound value, and of each table at the end of a run. Own.
+/// A growth that fails leaves two records and its refusal: the table of the log, and that of a participant whose number is at the Drop, are
+/// those from before it, and pools, free slots and the states of all rows are those that the other calls meanwhile would have left. This
+/// holds wherever a growth fails among calls that lead on from a sound value, and of each table at the end of a run. Own.
 pub fn restoring_law()
     ensures tables { SoundLogsRestore }
     ensures answering { AnsweringRestore }

@@ -1,4 +1,4 @@
-//! What agreement among several participants is worth: definitions, lemmas and laws, and no code.
+//! What agreement among several participants gives: definitions, lemmas and laws, and no code.
 #![tactic(auto)]
 
 mod laws;

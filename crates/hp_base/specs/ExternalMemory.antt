@@ -14,7 +14,7 @@ pub record IsExternalMemory (addr len page : ℕ) : Type 0 where
   pub some : 0 < len
   pub end : addr + len ≤ 2 ^ 63
 
--- memory that may not, as it is judged ("External memory")
+-- memory that may not be external memory, as it is judged ("External memory")
 abbrev pub is_bad_range : ℕ → ℕ → ℕ → Bool
 is_bad_range addr len page =
     not (is_power_of_two page) || (nat_lt page 4096 || (nat_lt GREATEST_PAGE page

@@ -77,8 +77,8 @@ ComputesPlace = (start end : ℕ) (request : Request)
 abbrev pub JudgesMemory : Type 0
 JudgesMemory = (addr len page : ℕ) → (is_bad_range addr len page ≡ false) ↔ IsExternalMemory addr len page
 
--- a mapping call of a party is named exactly where the plan has an entry for it, and is then among the planned calls of the party, which fail
--- as their entries say; where none names it the mapper is asked ("Plans" of docs/OUTSIDE.md)
+-- a mapping call of a participant is named exactly where the plan has an entry for it, and is then among the planned calls of the
+-- participant, which fail as their entries say; where none names it the mapper is asked ("Plans" of docs/OUTSIDE.md)
 pub record PlansMapping (plan : List PlanEntry) (party call : ℕ) : Type 0 where
   pub named : (plans_mapping plan party call ≡ true) ↔ ((elsewhere : Bool) × (line : ℕ) × Contains plan (Mapping party call elsewhere line))
   pub listed : may_fail_at (Some (planned_calls plan party)) call ≡ plans_mapping plan party call

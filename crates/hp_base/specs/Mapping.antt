@@ -86,8 +86,8 @@ pub record IsFailing (calls : List FailingCall) (call : ℕ) (row : Row) (got : 
   pub its : Contains calls (record { call = call; how = how })
   pub is : got ≡ failed_answer how row
 
--- a row may be answered so where that mapping call fails: as one of the calls at which the mapper may fail; or in any way, where these are not
--- told
+-- a row may be answered so where that mapping call fails: as one of the calls at which the mapper may fail; or in any way, where these are
+-- not told
 abbrev pub FailsSo : Option (List FailingCall) → ℕ → Row → MapAnswer → Type 0
 FailsSo None call row got = ⊤
 FailsSo (Some calls) call row got = IsFailing calls call row got

@@ -6,7 +6,7 @@ pub record IsNameText (text : List ℕ) : Type 0 where
   pub some : 0 < length text
   pub short : length text ≤ 63
 
--- a text with zeros behind it, 63 bytes in all
+-- a text with zeros after it, 63 bytes in all
 abbrev pub padded : List ℕ → List ℕ
 padded text = text ++ replicate (63 - length text) 0
 
@@ -14,7 +14,7 @@ padded text = text ++ replicate (63 - length text) 0
 abbrev pub text_of : List ℕ → ℕ → List ℕ
 text_of bytes len = take len bytes
 
--- the bytes are a name's text of that length, with zeros behind it
+-- the bytes are a name's text of that length, with zeros after it
 pub record IsPadded (bytes : List ℕ) (len : ℕ) : Type 0 where
   pub some : 0 < len
   pub short : len ≤ 63

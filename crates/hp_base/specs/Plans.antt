@@ -21,13 +21,13 @@ kind_place message.Sync = 2
 kind_place message.Reply = 3
 kind_place message.Answer = 4
 
--- the entry names the k-th message of that kind that concerns that party ("Plans")
+-- the entry names the k-th message of that kind that concerns that participant ("Plans")
 abbrev pub names_message : MsgKind → ℕ → ℕ → PlanEntry → Bool
 names_message kind party k (Message its_kind its_party its_k twice line) =
     (kind_place kind == kind_place its_kind) && ((party == its_party) && (k == its_k))
 names_message kind party k (Mapping its_party its_call elsewhere line) = false
 
--- the entry names that mapping call of that party ("Plans")
+-- the entry names that mapping call of that participant ("Plans")
 abbrev pub names_mapping : ℕ → ℕ → PlanEntry → Bool
 names_mapping party call (Message its_kind its_party its_k twice line) = false
 names_mapping party call (Mapping its_party its_call elsewhere line) = (party == its_party) && (call == its_call)
@@ -41,7 +41,7 @@ names_same (Mapping party call elsewhere line) other = names_mapping party call 
 abbrev pub has_named : List PlanEntry → PlanEntry → Bool
 has_named plan entry = list_any (λ other. names_same other entry) plan
 
--- an entry of the plan names that mapping call of that party ("Plans")
+-- an entry of the plan names that mapping call of that participant ("Plans")
 abbrev pub plans_mapping : List PlanEntry → ℕ → ℕ → Bool
 plans_mapping plan party call = list_any (names_mapping party call) plan
 
@@ -50,7 +50,7 @@ abbrev pub failure_of : Bool → Failure
 failure_of false = Refuses
 failure_of true = Misplaces
 
--- the mapping calls of a party that the plan names, and how they fail, in the order of its entries ("Plans")
+-- the mapping calls of a participant that the plan names, and how they fail, in the order of its entries ("Plans")
 abbrev pub planned_calls : List PlanEntry → ℕ → List FailingCall
 planned_calls [] party = []
 planned_calls (Message kind its_party k twice line ∷ plan) party = planned_calls plan party
@@ -73,11 +73,11 @@ entry_map_action (Message kind party k twice line) = Ask
 entry_map_action (Mapping party call false line) = Refuse line
 entry_map_action (Mapping party call true line) = Elsewhere line
 
--- what becomes of the k-th message of a kind that concerns a party: what the entry that names it does, and else it is delivered
+-- what becomes of the k-th message of a kind that concerns a participant: what the entry that names it does, and else it is delivered
 abbrev pub action_of : List PlanEntry → MsgKind → ℕ → ℕ → Action
 action_of plan kind party k = option_map_or entry_action (find (names_message kind party k) plan) Deliver
 
--- what becomes of a mapping call of a party: what the entry that names it does, and else the mapper is asked
+-- what becomes of a mapping call of a participant: what the entry that names it does, and else the mapper is asked
 abbrev pub map_action_of : List PlanEntry → ℕ → ℕ → MapAction
 map_action_of plan party call = option_map_or entry_map_action (find (names_mapping party call) plan) Ask
 
@@ -93,7 +93,7 @@ IsMapAction plan party call Ask = (elsewhere : Bool) (line : ℕ) → ¬ (Contai
 IsMapAction plan party call (Refuse line) = Contains plan (Mapping party call false line)
 IsMapAction plan party call (Elsewhere line) = Contains plan (Mapping party call true line)
 
--- the party that an entry names
+-- the participant that an entry names
 abbrev pub party_of : PlanEntry → ℕ
 party_of (Message kind party k twice line) = party
 party_of (Mapping party call elsewhere line) = party
@@ -103,13 +103,13 @@ abbrev pub count_of : PlanEntry → ℕ
 count_of (Message kind party k twice line) = k
 count_of (Mapping party call elsewhere line) = call
 
--- an entry names a declared party, and counts from 1 to 1,000,000 ("Plans")
+-- an entry names a declared participant, and counts from 1 to 1,000,000 ("Plans")
 pub record IsPlanEntry (participants : ℕ) (entry : PlanEntry) : Type 0 where
   pub declared : party_of entry < participants
   pub from_1 : 1 ≤ count_of entry
   pub few : count_of entry ≤ MAX_COUNT
 
--- the plan of a workload: its entries differ pairwise, name declared parties, and count from 1 to 1,000,000 ("Plans"). An entry for a
+-- the plan of a workload: its entries differ pairwise, name declared participants, and count from 1 to 1,000,000 ("Plans"). An entry for a
 -- SYNC or a reply of participant 0 is one too, and has no effect: there is no such message
 pub record ArePlanEntries (participants : ℕ) (plan : List PlanEntry) : Type 0 where
   pub distinct : AllPairs IsOtherEntry plan

@@ -4,8 +4,8 @@ use crate::map_answer::MapAnswer;
 use std::marker::Model;
 use std::snapshot::Snapshot;
 
-/// All answers that a mapper gave, in their order. Contracts see the list; of its bytes it keeps the last answer alone,
-/// behind which the earlier ones stand as a snapshot, which has none.
+/// All answers that a mapper gave, in their order. Contracts see the list; at run time it keeps the last answer alone,
+/// and the earlier ones are a snapshot, which takes no bytes. Own.
 #[cycle(answers)]
 #[derive(Drop)]
 pub struct Answers {
@@ -36,7 +36,7 @@ impl Model for Answers {
 }
 
 impl Answers {
-    /// No answer yet.
+    /// No answer yet. Own.
     pub fn new() -> Answers
         ensures { result ≡ [] }
     {
@@ -45,7 +45,7 @@ impl Answers {
         }
     }
 
-    /// These answers, and another one.
+    /// These answers, and another one. Own.
     pub fn with(&self, answer: MapAnswer) -> Answers
         ensures { result ≡ self.now ++ answer ∷ [] }
     {

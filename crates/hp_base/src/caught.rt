@@ -2,7 +2,7 @@ use crate::map_answer::MapAnswer;
 use crate::row::Row;
 
 /// How catching up with the log of segments, or attaching a chunk, ended. `call` is the mapper's number of the mapping
-/// call that failed, from 1. Own; after the synchronisation of memory maps between processes in Multi-process Support.
+/// call that failed, from 1. Own; it stands for what eal_memalloc_sync_with_primary answers.
 #[derive(Clone, Copy, PartialEq, Eq)]
 pub enum Caught {
     /// All rows are mapped.

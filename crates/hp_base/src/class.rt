@@ -2,7 +2,7 @@ ghost use Rattle.std.specs.Prelude.{◌≡◌};
 ghost use Rattle.hp_base.specs.Class.{class_number, IsClassOf};
 
 /// The size class of `size` bytes, from 0 to 12: the free list on which an element with that many bytes behind its
-/// header stands. After malloc_elem_free_list_index of rte_malloc; the number of classes is own.
+/// header stands. After malloc_elem_free_list_index of rte_malloc, and RTE_HEAP_NUM_FREELISTS.
 pub fn class_of(size: u64) -> u8
     ensures class { IsClassOf size result }
     ensures number { result ≡ class_number size }

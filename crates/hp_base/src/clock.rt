@@ -3,7 +3,8 @@ ghost use Rattle.std.specs.Prelude.{◌≡◌, ◌≤◌, ◌^◌, ℕ};
 use crate::limits::MAX_READING;
 use std::marker::Model;
 
-/// A clock in milliseconds, whose readings never fall. They have no other meaning. Own; after rte_get_timer_cycles.
+/// A clock in milliseconds, whose readings never fall. They have no other meaning. After rte_get_timer_cycles; the unit
+/// is own.
 pub trait Clock: Drop {
     /// Its last reading, or 0 before the first.
     ghost last: { Self → ℕ };
@@ -36,7 +37,7 @@ impl Model for StepClock {
 impl StepClock {
     ghost use Rattle.hp_base.specs.Clocks.{ClockState};
 
-    /// A clock that was not read yet.
+    /// A clock that was not read yet. Own.
     pub fn new(step: u64) -> StepClock
         ensures { result ≡ record { step = step; last = 0; next = 0 } }
     {

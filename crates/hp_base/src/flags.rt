@@ -16,7 +16,7 @@ pub const PAGE_FLAGS: [(u64, u32); 8] = [
 /// The bit of flags by which the page sizes that they name are a hint alone. After RTE_MEMZONE_SIZE_HINT_ONLY.
 pub const HINT_BIT: u32 = 2;
 
-/// What that bit adds to flags.
+/// What that bit adds to flags. After RTE_MEMZONE_SIZE_HINT_ONLY.
 pub const HINT: u32 = 1 << HINT_BIT;
 
 /// Whether a bit of a number is set. Own.

@@ -4,8 +4,8 @@ pub const MAX_PARTICIPANTS: u8 = 16;
 /// The most heaps, those of sockets and external ones together. After RTE_MAX_HEAPS.
 pub const MAX_HEAPS: usize = 32;
 
-/// The number of sockets: a socket of a pool line or of a participant is below it. Own; external memory has sockets
-/// above.
+/// The number of sockets: a socket of a pool line or of a participant is below it, and external heaps have numbers above.
+/// After RTE_MAX_NUMA_NODES.
 pub const MAX_SOCKETS: u32 = 32;
 
 /// The most segment lists, those of pools and of external memory together. After RTE_MAX_MEMSEG_LISTS.

@@ -1,5 +1,5 @@
 /// What a mapper answers to the mapping of one page. `addr` and `page` are bytes. Own; it stands for what mmap
-/// answers in EAL memory management.
+/// answers where EAL maps a page.
 #[derive(Clone, Copy, PartialEq, Eq)]
 pub enum MapAnswer {
     /// The page is mapped, at this place.

@@ -12,8 +12,7 @@ use crate::row::Row;
 use std::alloc::{AllocError, Global};
 use std::marker::Model;
 
-/// What maps the pages of a process, one row at a time. It stands for what mmap and munmap do in EAL memory
-/// management. Own.
+/// What maps the pages of a process, one row at a time. Own; it stands for mmap and munmap, as EAL calls them.
 pub trait Mapper: Drop {
     /// The rows that it holds, in the order of mapping, each with the answer that it was mapped by.
     ghost held: { Self → List Held };
@@ -54,7 +53,7 @@ pub trait Mapper: Drop {
         ensures may_fail { may_fail self.new ≡ may_fail self.old };
 }
 
-/// A mapper that keeps its rows, each at its own place, and refuses at the calls that it is told.
+/// A mapper that keeps its rows, each at its own place, and refuses at the calls that it is told. Own.
 #[derive(Drop)]
 pub struct MemMapper {
     // The rows in the order of mapping, with a gap where one was unmapped.
@@ -88,7 +87,7 @@ impl MemMapper {
     ghost use Rattle.std.specs.Prelude.{IfOk};
     ghost use Rattle.hp_base.specs.MemMapping.{MapperState};
 
-    /// A mapper with room for so many rows, which holds none and refuses no call.
+    /// A mapper with room for so many rows, which holds none and refuses no call. Own.
     pub fn new(alloc: Global, capacity: usize) -> Result<MemMapper, AllocError>
         ensures { IfOk result (λ mapper. mapper
             ≡ record { rows = []; capacity = capacity; fails = []; answers = []; faults = 0 }) }
@@ -107,14 +106,14 @@ impl MemMapper {
     }
 
     /// From now on these mapping calls are refused, and no others. Calls are counted from 1, over the whole life of the
-    /// mapper.
+    /// mapper. Own.
     pub fn fail_at(&mut self, calls: Vec<u64>)
         ensures { self.new ≡ record self.old { fails = calls.items } }
     {
         self.failing.fails = calls;
     }
 
-    /// Whether it holds a row. Rows are compared in all fields.
+    /// Whether it holds a row. Rows are compared in all fields. Own.
     pub fn holds(&self, row: &Row) -> bool
         ensures { result ≡ list_any (is_row row.now) self.now.rows }
     {

@@ -9,7 +9,7 @@ use std::marker::Model;
 /// The name of a heap, a memzone, a watcher or a validator: 1 to 63 bytes. After rte_memzone's and rte_malloc's names.
 #[derive(Copy)]
 pub struct Name {
-    // The text, and zeros behind it. The length is one byte, so that a name takes 64 bytes at an alignment of 1.
+    // The text, and zeros after it. The length is one byte, so that a name takes 64 bytes at an alignment of 1.
     bytes: [u8; 63],
     len: u8,
 }
@@ -58,7 +58,8 @@ impl Eq for Name {
 }
 
 impl Name {
-    /// The name with this text. It is `None` for an empty text and for one of more than 63 bytes.
+    /// The name with this text. It is `None` for an empty text and for one of more than 63 bytes. After
+    /// RTE_MEM_EVENT_CALLBACK_NAME_LEN, which counts a zero at the end.
     pub fn new(text: &[u8]) -> Option<Name>
         ensures accepted { IsSome result ↔ IsNameText text.now }
         ensures text { IfSome result (λ name. name ≡ text.now) }
@@ -75,7 +76,7 @@ impl Name {
         })
     }
 
-    /// Its text.
+    /// Its text. Own.
     pub fn as_bytes(&self) -> &[u8]
         ensures text { result.now ≡ self.now }
         ensures accepted { IsNameText self.now }

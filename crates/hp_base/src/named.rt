@@ -4,7 +4,7 @@ ghost use Rattle.hp_base.specs.Plans.{kind_place};
 
 use crate::plan_entry::{MsgKind, PlanEntry};
 
-/// What an entry of a plan names: the message of a kind, 0 to 4, or the mapping call, 5, of a party, by its count.
+/// What an entry of a plan names: the message of a kind, 0 to 4, or the mapping call, 5, of a participant, by its count.
 #[derive(Clone, Copy, PartialEq, Eq, Hash)]
 pub struct Named {
     pub kind: u8,

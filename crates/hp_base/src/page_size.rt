@@ -19,7 +19,7 @@ pub const PAGE_SIZES: [u64; 8] = [
 ];
 
 /// The greatest page size, in bytes. What is asked for a request, rounded up to it, has to be a number of 64 bits, and
-/// pages of external memory are no greater. Own.
+/// pages of external memory are no greater. After RTE_MEMZONE_16GB; what it bounds is own.
 pub const GREATEST_PAGE: u64 = PAGE_SIZES[7];
 
 /// Whether a page of `page` bytes has one of the eight hugepage sizes, `PAGE_SIZES`. After the RTE_MEMZONE_ flags of
@@ -31,8 +31,8 @@ pub fn is_page_size(page: u64) -> bool
 }
 
 /// The number of pages of `page` bytes that are asked for a request: those that its rounded size and one header
-/// take. A request with a bound, or with an alignment above the page, may have no place in them. Own; after
-/// alloc_pages_on_heap of rte_malloc.
+/// take. A request with a bound, or with an alignment above the page, may have no place in them. After
+/// try_expand_heap of malloc_heap.c.
 pub fn pages_for(req: &Request, page: u64) -> u64
     requires { IsTrue (is_page_size page) }
     ensures number { result ≡ pages_of req.now page }

@@ -55,7 +55,7 @@ impl Plan {
     ghost use Rattle.hp_base.specs.Plans.{IsAction, IsMapAction, IsOtherEntry, action_of, has_named, map_action_of};
     ghost use Rattle.hp_base.specs.PlanIndex.{entry_named};
 
-    /// A plan without an entry.
+    /// A plan without an entry. Own.
     pub fn new(alloc: Global) -> Plan
         ensures { result ≡ [] }
     {
@@ -65,7 +65,7 @@ impl Plan {
         }
     }
 
-    /// Adds an entry, for a message or a mapping call that no entry names yet.
+    /// Adds an entry, for a message or a mapping call that no entry names yet. Own.
     pub fn add(&mut self, entry: PlanEntry) -> Result<(), AllocError>
         requires { has_named self.old entry ≡ false }
         ensures ok { OnOk result (self.new ≡ self.old ++ entry ∷ []) }
@@ -77,7 +77,7 @@ impl Plan {
         Ok(())
     }
 
-    /// Its entries, in the order in which they were added. No two name the same message or mapping call.
+    /// Its entries, in the order in which they were added. No two name the same message or mapping call. Own.
     pub fn entries(&self) -> &[PlanEntry]
         ensures entries { result.now ≡ self.now }
         ensures distinct { AllPairs IsOtherEntry self.now }
@@ -85,7 +85,7 @@ impl Plan {
         self.entries.as_slice()
     }
 
-    /// What becomes of the `k`-th message of a kind that concerns a party, counted from 1.
+    /// What becomes of the `k`-th message of a kind that concerns a participant, counted from 1. Own.
     pub fn message(&self, kind: MsgKind, party: u8, k: u64) -> Action
         ensures action { result ≡ action_of self.now kind party k }
         ensures planned { IsAction self.now kind party k result }
@@ -96,7 +96,7 @@ impl Plan {
         }
     }
 
-    /// What becomes of a mapping call of a party. Its calls are counted from 1.
+    /// What becomes of a mapping call of a participant. Its calls are counted from 1. Own.
     pub fn mapping(&self, party: u8, call: u64) -> MapAction
         ensures action { result ≡ map_action_of self.now party call }
         ensures planned { IsMapAction self.now party call result }

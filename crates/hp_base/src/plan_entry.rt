@@ -1,5 +1,5 @@
-/// The kinds of message between the primary process and its secondaries. Own; after the requests and replies
-/// of Multi-process Support.
+/// The kinds of message between the primary process and its secondaries. After the requests and replies of malloc_mp.c,
+/// by which EAL synchronises dynamic memory between processes; that a plan names them is own.
 #[derive(Clone, Copy, PartialEq, Eq)]
 pub enum MsgKind {
     /// A request for memory.
@@ -18,7 +18,7 @@ pub enum MsgKind {
 /// workload that plans it. Own.
 #[derive(Clone, Copy, PartialEq, Eq)]
 pub enum PlanEntry {
-    /// The k-th message of the kind that concerns the party is lost, or comes twice.
+    /// The k-th message of the kind that concerns the participant is lost, or comes twice.
     Message {
         kind: MsgKind,
         party: u8,
@@ -26,7 +26,7 @@ pub enum PlanEntry {
         twice: bool,
         line: u32,
     },
-    /// The party's call-th mapping is refused, or comes out elsewhere.
+    /// The participant's call-th mapping is refused, or comes out elsewhere.
     Mapping {
         party: u8,
         call: u64,

@@ -7,7 +7,8 @@ ghost use Rattle.hp_base.specs.Requests.{IsAccepted, refusal_of, rounded_size, r
 use crate::page_size::GREATEST_PAGE;
 use crate::round::{HEADER, LINE, align_ceil, round_up, round64};
 
-/// Why a request is refused, in the order in which it is judged.
+/// Why a request is refused, in the order in which it is judged. After what rte_malloc_socket and
+/// rte_memzone_reserve_bounded refuse; the rule of overflow is own.
 #[derive(Clone, Copy, PartialEq, Eq)]
 pub enum BadRequest {
     /// The size is 0.
@@ -33,7 +34,8 @@ pub struct Request {
 }
 
 impl Request {
-    /// The request for `size` bytes. An alignment of 0 means a cache line, a bound of 0 none.
+    /// The request for `size` bytes. An alignment of 0 means a cache line, a bound of 0 none. After rte_malloc_socket
+    /// and rte_memzone_reserve_bounded; the rule of overflow is own.
     pub fn new(size: u64, align: u64, bound: u64, flags: u32) -> Result<Request, BadRequest>
         ensures refused { result_err result ≡ refusal_of size align bound }
         ensures size { IfOk result (λ request. request.size ≡ rounded_size size) }

@@ -2,10 +2,10 @@ ghost use Rattle.std.specs.Prelude.{◌≡◌, ◌<◌, IsTrue};
 ghost use Rattle.std.specs.Int.{is_power_of_two};
 ghost use Rattle.hp_base.specs.Round.{floor_of, ceil_of, fitting};
 
-/// A cache line, in bytes: the unit of sizes and alignments.
+/// A cache line, in bytes: the unit of sizes and alignments. After RTE_CACHE_LINE_SIZE where that is 64.
 pub const LINE: u64 = 64;
 
-/// The header of an element, in bytes.
+/// The header of an element, in bytes. After MALLOC_ELEM_HEADER_LEN where a cache line has 64 bytes.
 pub const HEADER: u64 = 128;
 
 /// `n` bytes rounded down to a multiple of `unit`, a power of two. After RTE_ALIGN_FLOOR.

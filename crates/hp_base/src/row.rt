@@ -27,7 +27,7 @@ pub struct Run {
 impl Run {
     ghost use Rattle.hp_base.specs.Extents.{run_bytes, run_end};
 
-    /// Its bytes: those of all its pages.
+    /// Its bytes: those of all its pages. Own.
     pub fn bytes(&self) -> u64
         requires { run_bytes self.now < 2 ^ 64 }
         ensures { result ≡ run_bytes self.now }
@@ -35,7 +35,7 @@ impl Run {
         u64::from(self.count) * self.page
     }
 
-    /// The address behind its last byte.
+    /// The address behind its last byte. Own.
     pub fn end(&self) -> u64
         requires { run_end self.now < 2 ^ 64 }
         ensures { result ≡ run_end self.now }

@@ -5,7 +5,7 @@ use crate::failing_calls::FailingCalls;
 use std::alloc::{AllocError, Global};
 use std::marker::Model;
 
-/// What a write takes.
+/// What a write takes. Own.
 #[derive(Clone, Copy, PartialEq, Eq)]
 pub enum Put {
     /// The first bytes, so many.
@@ -30,7 +30,7 @@ pub trait Sink {
 }
 
 /// A sink that keeps its bytes, takes at most `piece` of them at a time and fails at the calls that it is told, and where its memory ends,
-/// which is not before the room that is set aside for it is full.
+/// which is not before the room that is set aside for it is full. Own.
 #[derive(Drop)]
 pub struct MemSink {
     bytes: Vec<u8>,
@@ -61,7 +61,7 @@ impl Model for MemSink {
 impl MemSink {
     ghost use Rattle.hp_base.specs.MemStreams.{SinkState};
 
-    /// A sink that holds nothing yet, and has no room set aside.
+    /// A sink that holds nothing yet, and has no room set aside. Own.
     pub fn new(alloc: Global, piece: usize, fails: Vec<u64>) -> MemSink
         requires { 0 < piece }
         ensures { result ≡ record { held = []; room = 0; piece = piece; fails = fails.items; calls = 0; faults = 0 } }
@@ -69,7 +69,7 @@ impl MemSink {
         MemSink::over(Vec::new(alloc), 0, piece, fails)
     }
 
-    /// A sink that holds nothing yet, with room for so many bytes.
+    /// A sink that holds nothing yet, with room for so many bytes. Own.
     pub fn with_room(
         alloc: Global,
         room: usize,
@@ -101,7 +101,7 @@ impl MemSink {
         }
     }
 
-    /// What it holds.
+    /// What it holds. Own.
     pub fn bytes(&self) -> &[u8]
         ensures { result.now ≡ self.now.held }
     {

@@ -4,7 +4,7 @@ ghost use Rattle.hp_base.specs.Streams.{Gives, CountsFault, got_failed};
 use crate::failing_calls::FailingCalls;
 use std::marker::Model;
 
-/// What a read gives.
+/// What a read gives. Own.
 #[derive(Clone, Copy, PartialEq, Eq)]
 pub enum Got {
     /// The next bytes, so many, stand at the front of the buffer.
@@ -31,6 +31,7 @@ pub trait Source {
 }
 
 /// A source over bytes in memory, which gives pieces of at most `piece` bytes and fails at the calls that it is told.
+/// Own.
 #[derive(Drop)]
 pub struct MemSource {
     bytes: Vec<u8>,
@@ -53,7 +54,7 @@ impl Model for MemSource {
 impl MemSource {
     ghost use Rattle.hp_base.specs.MemStreams.{SourceState};
 
-    /// A source that gives these bytes.
+    /// A source that gives these bytes. Own.
     pub fn new(bytes: Vec<u8>, piece: usize, fails: Vec<u64>) -> MemSource
         requires { 0 < piece }
         ensures { result ≡ record { left = bytes.items; piece = piece; fails = fails.items; calls = 0; faults = 0 } }
@@ -70,7 +71,7 @@ impl MemSource {
         }
     }
 
-    /// The bytes that are left.
+    /// The bytes that are left. Own.
     pub fn left(&self) -> &[u8]
         ensures { result.now ≡ self.now.left }
     {

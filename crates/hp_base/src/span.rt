@@ -13,7 +13,7 @@ pub struct Span {
     pub state: SpanState,
 }
 
-/// Whether an element is free or busy.
+/// Whether an element is free or busy. After elem_state of malloc_elem.h; stamps and tags are own.
 #[derive(Clone, Copy, PartialEq, Eq)]
 pub enum SpanState {
     /// Free. The stamp counts the heap's insertions into its free lists, from 1.
@@ -25,7 +25,7 @@ pub enum SpanState {
 impl Span {
     ghost use Rattle.hp_base.specs.Extents.{span_end};
 
-    /// The address behind its last byte.
+    /// The address behind its last byte. Own.
     pub fn end(&self) -> u64
         requires { span_end self.now < 2 ^ 64 }
         ensures { result ≡ span_end self.now }

@@ -22,7 +22,7 @@ pub enum Status {
 impl Status {
     ghost use Rattle.hp_base.specs.Exit.{exit_code};
 
-    /// The exit status of the process, from 0 to 6.
+    /// The exit status of the process, from 0 to 6. Own.
     pub fn code(self) -> u8
         ensures { result ≡ exit_code self }
     {

@@ -25,7 +25,8 @@ abbrev pub AreAgreedBy : Mine → SegsView → SegsView → Type 0
 AreAgreedBy mine taken given = (row : Row) (member : ℕ) → HasInUse given row → is_member given.roster member ≡ true
     → HasInUse taken row ⊎ (row.generation ≤ noted_of member mine)
 
--- so it is of the values that were taken and are given for a slot, where these are segment values
+-- rows become agreed only by numbers that the giver has loaded, in values that were taken and are given for a slot, where these are segment
+-- values
 abbrev pub AgreesFrom : Mine → Option Kept → Kept → Type 0
 AgreesFrom mine (Some (Segments taken)) (Segments given) = AreAgreedBy mine taken given
 AgreesFrom mine (Some (Segments taken)) (Heap given) = ⊤

@@ -21,7 +21,7 @@ pub record HasTakenOut (slot : ℕ) (kept : Kept) (mine after : Mine) : Type 0 w
   pub holding : Holding
   pub view : after ≡ after_take slot kept holding mine
 
--- so it is with one that has found words held first
+-- a participant has found words held first, and then taken that value out of that slot
 pub record HasTakenLater (slot : ℕ) (kept : Kept) (mine after : Mine) : Type 0 where
   pub holding : Holding
   pub view : FindsMore (after_take slot kept holding mine) after

@@ -9,6 +9,6 @@ use Rattle.hp_hall.specs.declared.kept.Kept.TheVariants.{Heap, Segments}
 abbrev pub slot_of : HeapView → Option Kept
 slot_of heap = Some (Heap heap)
 
--- the slots of heaps, and behind them that of the segment value
+-- the slots of heaps, and after them that of the segment value
 abbrev pub slots_of : List HeapView → SegsView → List (Option Kept)
 slots_of heaps segs = map slot_of heaps ++ Some (Segments segs) ∷ []

@@ -44,8 +44,8 @@ abbrev pub no_holding : Holding
 no_holding = record { owned = []; claimed = []; came = []; retired = [] }
 
 -- Each heap at home has what the segment value has for it, of each that is out that goes on from what it had when it was taken, and for
--- what is no heap of the board the segment value has nothing. The open growth and the kept asks are those of the armed; runs that no heap has claimed are of armed asks, each alone for its heap, and the last one of that.
--- Nobody but the board's participants is armed.
+-- what is no heap of the board the segment value has nothing. The open growth and the kept asks are those of the armed; runs that no heap
+-- has claimed are of armed asks, each alone for its heap, and the last one of that. Nobody but the board's participants is armed.
 pub record AreOwned (participants : ℕ) (words : List ℕ) (kept : ℕ → Kept) (mine : ℕ → Mine) : Type 0 where
   -- the segment value, at home or as its holder took it
   pub segs : SegsView

@@ -11,8 +11,8 @@ use Rattle.hp_board.specs.Lag.{IsLagging}
 use Rattle.hp_board.specs.Words.{IsTold, number_by}
 use Rattle.hp_board.specs.declared.view.Mine.{Mine}
 
--- the words are those that participants stored and know, each participant lags behind the log, and by the words whoever is in the
--- roster, which names participants of the board alone, has taken in what was granted
+-- the words are those that participants stored and know, each participant's table lags behind the log, and by the words each member of
+-- the roster, which names participants of the board alone, has taken in what was granted
 pub record AreSegs (participants : ℕ) (words : List ℕ) (kept : ℕ → Kept) (mine : ℕ → Mine) : Type 0 where
   -- the segment value, at home or as its holder took it
   pub segs : SegsView

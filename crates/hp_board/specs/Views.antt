@@ -94,7 +94,7 @@ abbrev pub holdings_taken : ℕ → Kept → Holding → List (ℕ × Holding) �
 holdings_taken slot (Heap heap) holding holdings = (slot, holding) ∷ holdings
 holdings_taken slot (Segments segs) holding holdings = holdings
 
--- and once one was given: a heap is in hand no longer, and a segment value says what it has for those that are
+-- the holdings once a value was given: a heap is in hand no longer, and a segment value says what it has for those that are
 abbrev pub holdings_behind : ℕ → Kept → List (ℕ × Holding) → List (ℕ × Holding)
 holdings_behind slot (Heap heap) holdings = without slot holdings
 holdings_behind slot (Segments segs) holdings = map (λ pair. (pair.0, standing_of pair.0 segs)) holdings

@@ -62,14 +62,14 @@ impl Seat {
         token
     }
 
-    /// The participant's number.
+    /// The participant's number. Own.
     pub fn participant(&self) -> u8
         ensures { result ≡ self.now.mine.who }
     {
         self.who
     }
 
-    /// Whether it holds a slot.
+    /// Whether it holds a slot. Own.
     pub fn holds(&self, slot: Slot) -> bool
         requires slot { IsSlot slot }
         ensures { result ≡ is_some (value_of (slot_number slot) self.now.mine.held) }

@@ -53,7 +53,7 @@ pub data IsWritten (ended : Status) (text : List ℕ) (held held' : Option (List
   whole : Holds held held' text → IsWritten ended text held held' sink_failed ended
   front : HoldsFront held held' text → sink_failed → IsWritten ended text held held' sink_failed status.WriteFault
 
--- the same, or nothing was written where memory ran out
+-- a text was written with a status, or a front of it before the sink failed, or nothing where memory ran out
 pub data IsTried (ended : Status) (text : List ℕ) (held held' : Option (List ℕ)) (sink_failed : Type 0) : Status → Type 0 where
   tried : (result : Status) → IsWritten ended text held held' sink_failed result → IsTried ended text held held' sink_failed result
   ran_out : held' ≡ held → IsTried ended text held held' sink_failed status.OutOfMemory

@@ -8,7 +8,7 @@ use Rattle.hp_bytes.specs.declared.fault.ByteFault.{ByteFault}
 use Rattle.hp_bytes.specs.declared.fault.ByteFault.TheVariants.{Same}
 use Rattle.hp_bytes.specs.declared.part.Part.{Part}
 
--- so many bytes from an address on, in a buffer of some length behind a base
+-- so many bytes from an address on, in a buffer of some length from a base on
 pub record IsPartFrom (base room addr size : ℕ) (part : Part) : Type 0 where
   pub from : base + part.from ≡ addr
   pub len : part.len ≡ size

@@ -69,7 +69,7 @@ pub record Does (number : ℕ) (line : Line) (old new : Session) (answer : Answe
   pub session : IsSession (number + 1) new
   pub room : old.heap.spare ≤ new.heap.spare + 1
 
--- the same of a line that is done alike under each number
+-- the line was done, in one way under each number, and the session goes on
 abbrev pub DoesUnderEach : Line → Session → Session → Answer → Type 0
 DoesUnderEach line old new answer = (number : ℕ) → IsSession number old → Does number line old new answer
 

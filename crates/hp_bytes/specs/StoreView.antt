@@ -1,4 +1,4 @@
--- What contracts see of a store: the rule "Bytes behind addresses" of docs/BYTES.md.
+-- What contracts see of a store: the rule "Bytes at addresses" of docs/BYTES.md.
 use Rattle.std.specs.Prelude.{ℕ, List}
 
 -- the address of its first byte, and its bytes

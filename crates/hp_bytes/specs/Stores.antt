@@ -1,4 +1,4 @@
--- Which bytes of a store the data of an element are: the rule "Bytes behind addresses" of docs/BYTES.md.
+-- Which bytes of a store the data of an element are: the rule "Bytes at addresses" of docs/BYTES.md.
 use Rattle.std.specs.Prelude.{◌≡◌, ℕ, ◌+◌, ◌-◌, Bool, ◌&&◌, nat_le, List, length, take, drop, Option, Some, None, if◌then◌else◌}
 use Rattle.hp_base.specs.declared.span.Span.{Span}
 use Rattle.hp_heap.specs.PlainHeap.{PlainHeap, size_of_state}

@@ -20,7 +20,7 @@ impl Digits {
     ghost use Rattle.std.specs.Prelude.{◌≡◌, IfOk};
     ghost use Rattle.hex.specs.Hex.{encode_lower};
 
-    /// Those of some bytes.
+    /// The digits of some bytes. Own.
     pub fn of(alloc: Global, bytes: &[u8]) -> Result<Digits, AllocError>
         ensures { IfOk result (λ digits. digits ≡ encode_lower bytes.now) }
     {

@@ -1,4 +1,4 @@
-//! The bytes behind the addresses of a heap: the data of its elements, lent as slices; and a session over them.
+//! The bytes at the addresses of a heap: the data of its elements, lent as slices; and a session over them.
 #![tactic(auto)]
 
 mod answer;

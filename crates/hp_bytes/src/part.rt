@@ -10,7 +10,7 @@ pub struct Part {
     pub len: usize,
 }
 
-/// So many bytes from an address on, where a buffer of some length behind a base has all of them.
+/// So many bytes from an address on, where a buffer of some length from a base on has all of them. Own.
 pub fn part_of(base: u64, room: usize, addr: u64, size: u64) -> Option<Part>
     ensures inside { is_some result ≡ (nat_le base addr && nat_le (addr + size) (base + room)) }
     ensures part { IfSome result (IsPartFrom base room addr size) }

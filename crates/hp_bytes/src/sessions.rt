@@ -1,4 +1,4 @@
-//! A session: a heap with bytes behind it, and labels for its elements.
+//! A session: a heap with the bytes at its addresses, and labels for its elements.
 ghost use Rattle.std.specs.Prelude.{◌≡◌, ◌+◌, ◌≤◌, ◌<◌, ◌^◌, IfOk, Some, length};
 ghost use Rattle.hp_heap.specs.Growing.{after_grow};
 ghost use Rattle.hp_heap.specs.PlainHeap.{opening_heap};

@@ -16,7 +16,7 @@ use std::marker::Model;
 /// The greatest number of bytes of a store: 256 MiB. Own.
 pub const LIMIT: usize = 268_435_456;
 
-/// The bytes behind a stretch of addresses. Contracts see its first address and its bytes. Own.
+/// The bytes at adjacent addresses. Contracts see the first address and the bytes. Own.
 #[derive(Drop)]
 pub struct Store {
     pub(crate) base: u64,
@@ -32,7 +32,7 @@ impl Model for Store {
 }
 
 impl Store {
-    /// The bytes behind `len` addresses from `base` on, all of them 0. Own.
+    /// The bytes at `len` addresses from `base` on, all of them 0. Own.
     pub fn new(alloc: Global, base: u64, len: usize) -> Result<Store, StoreFault>
         ensures zeros { IfOk result (λ store. store ≡ record { base = base; bytes = replicate len 0 }) }
         ensures too_large { (limit : ℕ) → (result ≡ Err (StoreFault.TooLarge limit)) ↔ ((most_bytes < len) × (limit ≡ most_bytes)) }
@@ -55,7 +55,8 @@ impl Store {
         Ok(&self.bytes[part.from..part.from + part.len])
     }
 
-    /// The same data, for writing: `part_at`, and then `part_mut`, whose contract says what the store has once the loan has ended. Own.
+    /// The data of the busy element of a heap with its data at `addr`, for writing: `part_at`, and then `part_mut`, whose contract says
+    /// what the store has once the loan has ended. Own.
     pub fn bytes_mut<'a>(&'a mut self, heap: &Heap, addr: u64) -> Result<&'a mut [u8], ByteFault>
         ensures refused { result_err result ≡ byte_fault addr self.old heap.now.plain }
         ensures part { IfOk result (λ part. IsData addr self.old heap.now.plain part.now) }

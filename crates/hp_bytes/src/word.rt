@@ -40,7 +40,7 @@ impl<'a> Word<'a> {
         self.text == text
     }
 
-    /// The same field once more.
+    /// This field once more. Own.
     pub fn again(&self) -> Word<'a>
         ensures { result ≡ self.now }
     {

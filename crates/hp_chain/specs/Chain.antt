@@ -1,4 +1,4 @@
--- Chains: values under keys, each linked to the key before it and the key behind it.
+-- Chains: values under keys, each linked to the key before it and the key after it.
 use Rattle.std.specs.Prelude.{◌≡◌, ℕ, zero, suc, List, [], ◌∷◌, Bool, false, Option, Some, None, nat_eq}
 use Rattle.std.specs.List.{list_any}
 
@@ -18,7 +18,7 @@ abbrev pub Places : Type 0 → Type 0
 Places X = ℕ → Option (Place X)
 
 module _ {X : Type 0} where
-  -- the first key of a list, or what comes behind the list where it is empty
+  -- the first key of a list, or what comes after the list where it is empty
   abbrev pub first_key : List (Keyed X) → Option ℕ → Option ℕ
   first_key [] after = after
   first_key (e ∷ es) after = Some e.key
@@ -28,7 +28,7 @@ module _ {X : Type 0} where
   last_key before [] = before
   last_key before (e ∷ es) = last_key (Some e.key) es
 
-  -- the memory has this list, in this order: each element names the one before it and the one behind it
+  -- the memory has this list, in this order: each element names the one before it and the one after it
   abbrev pub Spells : Places X → Option ℕ → List (Keyed X) → Option ℕ → Type 0
   Spells at before [] after = Unit {0}
   Spells at before (e ∷ es) after =

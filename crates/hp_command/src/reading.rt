@@ -6,13 +6,13 @@ ghost use Rattle.hp_base.specs.Streams.{CountsFault};
 use hp_base::{Got, MAX_WORKLOAD_BYTES, Source};
 use std::alloc::{AllocError, Global};
 
-/// The greatest length of a workload, in bytes.
+/// The greatest length of a workload, in bytes. Own.
 pub const LIMIT: usize = MAX_WORKLOAD_BYTES;
 
 /// The greatest piece that is asked of a source at a time, in bytes.
 const PIECE: usize = 65_536;
 
-/// Why a source could not be read to its end.
+/// Why a source could not be read to its end. Own.
 #[derive(Clone, Copy)]
 pub enum ReadFault {
     /// Reading failed.
@@ -24,6 +24,7 @@ pub enum ReadFault {
 }
 
 /// The bytes of a source, up to its end. One that gives too much is left once it gave one byte more than the limit.
+/// Own.
 pub fn read_whole<S: Source>(alloc: Global, source: &mut S) -> Result<Vec<u8>, ReadFault>
     ensures read { MatchResult result
         (λ bytes. GaveAll (S.left source.old) (S.left source.new) bytes.items)

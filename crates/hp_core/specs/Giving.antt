@@ -49,7 +49,7 @@ pub record StepGives (event : CoreEvent) (old new : SegsView) : Type 0 where
   pub agreed : (entry : AskLog) (generation member : ℕ) → Contains (drop (length old.asks) new.asks) entry
       → granted_by entry.outcome ≡ Some generation → is_member old.roster member ≡ true → HasAcknowledged event old generation member
 
--- so does each step with a sound value
+-- each step with a sound value leaves the armed asks and the roster, and grants only what all members have acknowledged
 abbrev pub StepsGive : Type 0
 StepsGive = (denial : ℕ → ℕ → Option (List ℕ × ℕ)) (event : CoreEvent) (core : Core) (segs : SegsView) → IsSound segs
     → StepGives event segs (stepped denial event core segs).segs
@@ -64,7 +64,7 @@ abbrev pub AnswersArmed : SegsView → SegsView → Type 0
 AnswersArmed old new = (entry : AskLog) (ask : Ask) → Contains (drop (length old.asks) new.asks) entry → entry.ask ≡ Some ask
     → armed_ask old entry.from ≡ Some ask
 
--- so it is with those that a step logs, where the open growth is of such an ask
+-- where the open growth is of an armed ask, each outcome that a step logs beside its ask is of an armed one
 abbrev pub StepsAnswerArmed : Type 0
 StepsAnswerArmed = (denial : ℕ → ℕ → Option (List ℕ × ℕ)) (event : CoreEvent) (core : Core) (segs : SegsView) → HasArmedGrowth segs
     → AnswersArmed segs (stepped denial event core segs).segs

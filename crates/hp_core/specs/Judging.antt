@@ -69,7 +69,7 @@ abbrev pub MayAnswer : (ℕ → ℕ → Option (List ℕ × ℕ) → Type 0) →
 MayAnswer denies None answer = answer ≡ None
 MayAnswer denies (Some (socket, total)) answer = denies socket total answer
 
--- that is done for some answer that the judge may give
+-- an ask is started so for some answer that the judge may give
 abbrev pub IsDoneBy : (ℕ → ℕ → Option (List ℕ × ℕ) → Type 0) → Option (ℕ × ℕ) → SegsView → Next
     → ((ℕ → ℕ → Option (List ℕ × ℕ)) → Done) → Type 0
 IsDoneBy denies judged segs next done =

@@ -84,11 +84,11 @@ pub record IsJudgedAt (event : CoreEvent) (core : Core) (segs : SegsView) (judge
   pub plan : plan_of ask (after_drop segs) ≡ Ok run
   pub judged_is : judged ≡ (ask.socket, total_with ask run (after_drop segs))
 
--- of nothing else is it asked
+-- the judge is asked of nothing but the planned run of an ask that the step starts
 abbrev pub JudgedOfPlans : Type 0
 JudgedOfPlans = (event : CoreEvent) (core : Core) (segs : SegsView) → IfSome (judged_at event core segs) (IsJudgedAt event core segs)
 
--- and it is asked of each such run: of an ask that comes, and of a held one that a poll starts
+-- the judge is asked of each run that is planned for an ask that a step starts: of one that comes, and of a held one that a poll starts
 abbrev pub PlansAreJudged : Type 0
 PlansAreJudged = (event : CoreEvent) (core : Core) (segs : SegsView) (ask : Ask) (run : Run) → IsTaken event core (Grow ask)
     → is_idle core.phase ≡ true → is_foreign core.phase segs.growth ≡ false → IsStarted ask segs → plan_of ask (after_drop segs) ≡ Ok run

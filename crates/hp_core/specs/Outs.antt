@@ -1,4 +1,4 @@
--- What a step answers, and when: one of four answers, each with what stands behind it.
+-- What a step answers, and when: one of four answers, each with why it is given.
 use Rattle.std.specs.Prelude.{◌≡◌, ℕ, ◌<◌, true, false, List, length, Some, None, slice_index_or}
 use Rattle.hp_base.specs.declared.caught.Caught.{Caught}
 use Rattle.hp_segs.specs.LaterSteps.{noted_failure}
@@ -87,7 +87,7 @@ pub data IsMapCause (event : CoreEvent) (core : Core) (segs after : SegsView) : 
   finds : (round : Round) → IsUnderWay core.phase round → round.kind ≡ kind.Growth → is_open_for round segs.growth ≡ false
       → IsMapCause event core segs after
 
--- what is answered, with what stands behind it
+-- what is answered, with why it is given
 pub data IsOut (event : CoreEvent) (core : Core) (segs : SegsView) (after : Stepped) : Type 0 where
   -- the log has an outcome of the ask, and it is good or not
   answers : (from number what : ℕ) (outcome : Outcome) → after.out ≡ Answer from number what (is_good outcome)

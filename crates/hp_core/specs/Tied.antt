@@ -31,7 +31,7 @@ abbrev pub StepsTie : Type 0
 StepsTie = (denial : ℕ → ℕ → Option (List ℕ × ℕ)) (event : CoreEvent) (core : Core) (segs : SegsView) → IsTied core segs
     → IsTied (stepped denial event core segs).core (stepped denial event core segs).segs
 
--- and so does whatever others do to the value by its calls
+-- whatever others do to the value by its calls leaves them tied
 abbrev pub MovesTie : Type 0
 MovesTie = (allowed : SegsCall → Bool) (steps : ℕ) (core : Core) (old new : SegsView) → IsMovedBy allowed steps old new
     → IsTied core old → IsTied core new

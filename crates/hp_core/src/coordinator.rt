@@ -23,8 +23,9 @@ use hp_segs::{Growth, Segs};
 use std::marker::Model;
 
 /// The coordinator of growths, of which participant 0 has one. It grants or cancels each growth and sees memory go back,
-/// one ask at a time, and holds at most one further ask of each participant. After the request handling of the primary
-/// in rte_malloc, under Multi-process Support; the order of asks and the deadline are own.
+/// one ask at a time, and holds at most one further ask of each participant. After handle_request, handle_sync_response and
+/// handle_rollback_response of malloc_mp.c (the chapter Environment Abstraction Layer, dynamic memory mode); the order of
+/// asks is own.
 #[derive(Drop)]
 pub struct Coordinator {
     deadline: u64,
@@ -80,7 +81,8 @@ fn is_foreign(phase: &Phase, growth: Option<&Growth>) -> bool
 }
 
 impl Coordinator {
-    /// A coordinator whose rounds wait for `deadline` milliseconds, with nothing under way and no ask held.
+    /// A coordinator whose rounds wait for `deadline` milliseconds, with nothing under way and no ask held. After
+    /// MP_TIMEOUT_S of malloc_mp.c; that the deadline is set is own.
     pub fn new(deadline: u64) -> Coordinator
         ensures { result ≡ record { deadline = deadline; phase = Phase.Idle; held = replicate 16 None } }
     {
@@ -92,7 +94,7 @@ impl Coordinator {
     }
 
     /// Whether neither a growth nor a round is under way, and an ask is held. A Poll then starts it. While participant 0
-    /// catches up for a round, that round is under way.
+    /// catches up for a round, that round is under way. Own.
     pub fn holds_ask(&self) -> bool
         ensures { result ≡ holds_ask self.now }
     {
@@ -101,7 +103,7 @@ impl Coordinator {
 
     /// The reading at which the deadline of the round under way passes: that at its first SYNC and the deadline, or the
     /// greatest number where that is more. It is `None` exactly where no round is under way: before the first SYNC, while
-    /// participant 0 itself catches up, there is none.
+    /// participant 0 itself catches up, there is none. Own.
     pub fn due(&self) -> Option<u64>
         ensures { result ≡ due_of self.now.deadline self.now.phase }
     {
@@ -112,7 +114,7 @@ impl Coordinator {
     }
 
     /// Takes one event: what becomes of the segment value and of the coordinator, and what participant 0 has to do. It
-    /// takes no memory. After the handling of requests and replies by the primary in rte_malloc.
+    /// takes no memory. After handle_request, handle_sync_response and handle_rollback_response of malloc_mp.c.
     pub fn step<J: Judge>(&mut self, segs: &mut Segs, event: CoreEvent, judge: &J) -> Out
         requires may { MayStep event segs.old }
         requires may_ask { J.may_ask judge.now }
@@ -125,7 +127,7 @@ impl Coordinator {
         ensures moves { IsCoreMove (times_of self.old.deadline self.old.phase event) (acks_of event)
             segs.old segs.new }
 
-        // What stands behind the answer.
+        // Why the answer is given.
         ensures answers { IsOut event self.old segs.old
             (record { core = self.new; segs = segs.new; out = result }) }
 

@@ -1,8 +1,8 @@
 use hp_base::Caught;
 use hp_segs::Ask;
 
-/// What the coordinator is told. Readings of the clock are milliseconds. After the requests that the primary serves for
-/// rte_malloc under Multi-process Support.
+/// What the coordinator is told. Readings of the clock are milliseconds. After the requests and
+/// the replies that the primary handles in malloc_mp.c.
 #[derive(Clone, Copy)]
 pub enum CoreEvent {
     /// A participant asks for memory.

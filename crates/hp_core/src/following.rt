@@ -69,8 +69,7 @@ pub(crate) fn note(segs: &mut Segs, participant: u8, caught: &Caught)
 }
 
 /// A member of the roster has caught up with the log for a SYNC, or failed to: a failed mapping is noted for the open
-/// growth, where it is of it, and the answer is the reply to the coordinator. After the handling of a sync request by
-/// a secondary in rte_malloc, under Multi-process Support.
+/// growth, where it is of it, and the answer is the reply to the coordinator. After handle_sync of malloc_mp.c.
 pub fn follow(segs: &mut Segs, me: u8, caught: &Caught) -> Body
     requires member { IsTrue (is_member segs.old.roster me) }
     ensures reply { result ≡ reply_of me caught.now segs.old }

@@ -28,8 +28,8 @@ pub fn core_law()
 {}
 
 /// The ask of a round under way is that of the open growth, or has an outcome: each step keeps this tie of the coordinator
-/// and its segment value, and so does each call of the value that others make. While it holds, each round ends with an
-/// answer. Own.
+/// and its segment value, and each call of the value that others make keeps it too. While it holds, each round ends with
+/// an answer. Own.
 pub fn tie_law()
     ensures steps { StepsTie }
     ensures moves { MovesTie }

@@ -1,5 +1,5 @@
-/// What participant 0 has to do after a step of the coordinator. After the messages of rte_malloc under Multi-process
-/// Support.
+/// What participant 0 has to do after a step of the coordinator. After the messages that the
+/// primary sends in malloc_mp.c: mp_malloc_sync, mp_malloc_rollback and mp_malloc_response.
 #[derive(Clone, Copy, PartialEq, Eq)]
 pub enum Out {
     /// Nothing.

@@ -10,7 +10,7 @@ abbrev pub lower_of : Option Lowest → ℕ → ℕ → Option Lowest
 lower_of None key addr = Some (record { key = key; addr = addr })
 lower_of (Some best) key addr = if nat_le best.addr addr then Some best else Some (record { key = key; addr = addr })
 
--- the same, where the other one counts only if it is busy with the tag
+-- the lower of the one so far and another one, which counts only if it is busy with the tag
 abbrev pub with_span : Bool → ℕ → Option Lowest → ℕ → Span → Option Lowest
 with_span zone number best key span = if is_tagged_state zone number span.state then lower_of best key span.addr else best
 

@@ -10,7 +10,7 @@ pub record ElemsView : Type 0 where
   pub spare : ℕ
   pub key_end : ℕ
 
--- the same, of the links alone
+-- the links alone: the elements in address order, each under its key, and the number that every key is below
 pub record ChainView : Type 0 where
   pub items : Items
   pub key_end : ℕ

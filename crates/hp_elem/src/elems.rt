@@ -15,7 +15,7 @@ use std::alloc::{AllocError, Global};
 use std::collections::HashMap;
 use std::marker::Model;
 
-/// The elements of a heap.
+/// The elements of a heap. After the elements that struct malloc_heap of rte_malloc links by address.
 #[derive(Drop)]
 pub struct Elems {
     pub(crate) chain: Chain,
@@ -45,7 +45,7 @@ impl Model for Elems {
 }
 
 impl Elems {
-    /// No elements, and no room for any. It takes no memory.
+    /// No elements, and no room for any. It takes no memory. Own.
     pub fn new(alloc: Global) -> Elems
         ensures items { result.items ≡ [] }
         ensures stamps { result.stamps ≡ 0 }
@@ -62,7 +62,7 @@ impl Elems {
         }
     }
 
-    /// Makes room for `n` more elements: the next `n` of `add` and `split` take no memory.
+    /// Makes room for `n` more elements: the next `n` of `add` and `split` take no memory. Own.
     pub fn reserve(&mut self, n: usize) -> Result<(), AllocError>
         ensures room { OnOk result (n ≤ self.new.spare) }
         ensures err { OnErr result (self.new.spare ≡ self.old.spare) }
@@ -86,7 +86,7 @@ impl Elems {
         Ok(())
     }
 
-    /// The number that every key is below, those that `add` and `split` give until the next `reserve` among them.
+    /// The number that every key is below, those that `add` and `split` give until the next `reserve` among them. Own.
     pub fn key_end(&self) -> usize
         ensures key_end { result ≡ self.now.key_end }
         ensures ordered { IsOrdered self.now.items self.now.key_end }
@@ -94,21 +94,21 @@ impl Elems {
         self.chain.key_end()
     }
 
-    /// How many elements there are.
+    /// How many elements there are. Own.
     pub fn len(&self) -> usize
         ensures { result ≡ length self.now.items }
     {
         self.chain.len()
     }
 
-    /// The element of lowest address.
+    /// The element of lowest address. After `first` of struct malloc_heap.
     pub fn first(&self) -> Option<usize>
         ensures { result ≡ first_key self.now.items None }
     {
         self.chain.first()
     }
 
-    /// The header of the element under a key: the element, and the keys of its neighbours.
+    /// The header of the element under a key: the element, and the keys of its neighbours. After struct malloc_elem.
     pub fn get(&self, key: usize) -> &Node
         requires known { has_key key self.now.items ≡ true }
         ensures stands { Stands self.now.items key result.now }
@@ -117,7 +117,7 @@ impl Elems {
     }
 
     /// The element that contains an address. An element's start and the address of its data are found in constant
-    /// time; another address by a walk from the start of its extent.
+    /// time; another address by a walk from the start of its extent. Own.
     pub fn at(&self, addr: u64) -> Option<usize>
         ensures { result ≡ key_at addr self.now.items }
     {
@@ -145,7 +145,7 @@ impl Elems {
     }
 
     /// The element that is busy with a tag, of several the one of lowest address. Who asked for it is not compared. It
-    /// looks at the busy elements alone whose numbers fall into one bucket, of which there are as many as keys.
+    /// looks at the busy elements alone whose numbers fall into one bucket, of which there are as many as keys. Own.
     pub fn find_tag(&self, tag: Tag) -> Option<usize>
         ensures { result ≡ first_tagged tag.zone tag.number self.now.items }
     {
@@ -243,7 +243,7 @@ impl Elems {
     }
 
     /// Makes the element busy: `pad` bytes lie in front of its header, its data are `size` bytes, and `tag` says who
-    /// asked for it.
+    /// asked for it. After ELEM_BUSY of malloc_elem.h; the tag is own.
     pub fn set_busy(&mut self, key: usize, pad: u64, size: u64, tag: Tag)
         requires known { has_key key self.old.items ≡ true }
         ensures items { self.new.items ≡ after_set key (Busy pad size tag) self.old.items }
@@ -258,7 +258,8 @@ impl Elems {
         self.tags.set(key, Some(tag.number));
     }
 
-    /// Makes the element free, with the next stamp. Stamps are counted from 1.
+    /// Makes the element free, with the next stamp. Stamps are counted from 1. After ELEM_FREE of malloc_elem.h; stamps
+    /// are own.
     pub fn set_free(&mut self, key: usize)
         requires known { has_key key self.old.items ≡ true }
         requires stamps_left { self.old.stamps + 1 < 2 ^ 64 }

@@ -10,7 +10,7 @@ use hp_base::{HEADER, LINE};
 const OFFSETS: [u64; 4] = [0, HEADER, HEADER + LINE, HEADER + 2 * LINE];
 
 impl Elems {
-    /// The element that begins at an address, found in constant time.
+    /// The element that begins at an address, found in constant time. Own.
     pub fn starting_at(&self, addr: u64) -> Option<usize>
         ensures { result ≡ key_from addr self.now.items }
     {

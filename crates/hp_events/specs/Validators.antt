@@ -64,13 +64,13 @@ module _ {F : Type 0} where
     AreAnswered validators None = All Allows validators
     AreAnswered validators (Some (name, limit)) = IsFirstToDeny validators name limit
 
-    -- whoever denies has a limit below the bytes
+    -- a validator that denies has a limit below the bytes
     pub limit_below : (validators : List (Validator F)) (answer : Option (List ℕ × ℕ)) → AreAnswered validators answer
         → IfSome answer (λ denied. denied.1 < total)
     limit_below validators None is = tt
     limit_below validators (Some (name, limit)) is = subst (λ limit. limit < total) (sym is.its_limit) is.denies.asked.above
 
--- it is refused for that, and else registered, unless memory is wanting
+-- a validator is refused for that reason, and else registered, unless memory is wanting
 abbrev pub AnswersLimit : Option LimitFault → Result Unit LimitFault → Type 0
 AnswersLimit (Some fault) (Ok done) = ⊥
 AnswersLimit (Some fault) (Err given) = given ≡ fault

@@ -46,7 +46,7 @@ watch_refusal listeners name =
     else (if list_any (has_name name) listeners then Some watch.Exists
     else (if nat_le 4 (length listeners) then Some (watch.Full 4) else None))
 
--- it is refused for that, and else registered, unless memory is wanting
+-- a watcher is refused for that reason, and else registered, unless memory is wanting
 abbrev pub AnswersWatch : Option WatchFault → Result Unit WatchFault → Type 0
 AnswersWatch (Some fault) (Ok done) = ⊥
 AnswersWatch (Some fault) (Err given) = given ≡ fault
@@ -59,7 +59,7 @@ unwatch_refusal listeners name =
     if not (is_name name) then Some (unwatch.NameLong (length name))
     else (if list_any (has_name name) listeners then None else Some unwatch.NotFound)
 
--- it is refused for that alone
+-- what is to be unregistered is refused for that reason alone
 abbrev pub AnswersUnwatch : Option UnwatchFault → Result Unit UnwatchFault → Type 0
 AnswersUnwatch (Some fault) (Ok done) = ⊥
 AnswersUnwatch (Some fault) (Err given) = given ≡ fault

@@ -4,8 +4,8 @@ use hp_base::Row;
 use std::marker::Model;
 use std::snapshot::Snapshot;
 
-/// Rows as they were at one time, in their order. Contracts see the list; of its bytes it keeps the last row alone, behind which the
-/// earlier ones stand as a snapshot, which has none.
+/// Rows as they were at one time, in their order. Contracts see the list; at run time it keeps the last row alone, and the earlier ones
+/// are a snapshot, which takes no bytes. Own.
 #[cycle(rows_then)]
 #[derive(Drop)]
 pub struct RowsThen {
@@ -49,7 +49,7 @@ impl RowsThen {
         then
     }
 
-    // These rows, and another one behind them.
+    // These rows, and another one after them.
     fn with(&self, row: Row) -> RowsThen
         ensures { result ≡ self.now ++ row ∷ [] }
     {

@@ -41,7 +41,7 @@ impl Model for Watchers {
 }
 
 impl Watchers {
-    /// Nobody watches, and no memory is taken.
+    /// Nobody watches, and no memory is taken. Own.
     pub fn new(alloc: Global) -> Watchers
         ensures { result ≡ none_watching }
     {
@@ -115,7 +115,7 @@ impl Watchers {
         Ok(())
     }
 
-    /// How many watchers there are, at most four.
+    /// How many watchers there are, at most four. Own.
     pub fn len(&self) -> usize
         ensures len { result ≡ length self.now.listeners }
         ensures few { result ≤ 4 }
@@ -123,7 +123,7 @@ impl Watchers {
         self.list.len()
     }
 
-    /// The name of the watcher at a place in the order of registration.
+    /// The name of the watcher at a place in the order of registration. Own.
     pub fn name(&self, i: usize) -> &Name
         requires { i < length self.now.listeners }
         ensures { IfSome (slice_get self.now.listeners i) (λ listener. result.now ≡ listener.name) }
@@ -131,7 +131,7 @@ impl Watchers {
         self.list[i].name()
     }
 
-    /// The events that the watcher at a place in the order of registration was told since it was registered, in their order.
+    /// The events that the watcher at a place in the order of registration was told since it was registered, in their order. Own.
     pub fn events(&self, i: usize) -> &[Event]
         requires { i < length self.now.listeners }
         ensures { IfSome (slice_get self.now.listeners i) (λ listener. result.now ≡ listener.events) }

@@ -102,7 +102,7 @@ pub record Detaches (caller : Caller) (plain : PlainDirectory) (text : List ℕ)
   pub others : SameButRows maps maps'
   pub unshared : IsCall caller (call.Unshare addr len) answer.Done heap heap'
 
--- why it does not, in the order in which it is judged
+-- why a participant does not leave a chunk, in the order in which it is judged
 abbrev pub IsDetachFault : ℕ → PlainDirectory → List ℕ → ℕ → ℕ → PlainHeap → DetachFault → Type 0
 IsDetachFault participant plain text addr len heap detach.NotFound = IsChunkFault plain text heap addr len fault.NotFound
 IsDetachFault participant plain text addr len heap detach.NoChunk = IsChunkFault plain text heap addr len fault.NoChunk

@@ -28,7 +28,7 @@ DestroysLeaveOthers = (caller : Caller) (text : List ℕ) (names names' : Names)
     → IsBeside heap.plain other → IsTiedHeap names.heaps.plain.ranges claims participant rows other
     → IsBeside heap'.plain other × IsTiedHeap names'.heaps.plain.ranges claims participant rows other
 
--- and where memory comes to a heap
+-- where memory comes to a heap, another one stays tied, and beside it
 abbrev pub AddsLeaveOthers : Type 0
 AddsLeaveOthers = (caller : Caller) (text : List ℕ) (addr len page : ℕ) (names names' : Names) (segs segs' : SegsView)
     (heap heap' : HeapView) (other : PlainHeap) (participant : ℕ) (rows : List Row)
@@ -36,7 +36,7 @@ AddsLeaveOthers = (caller : Caller) (text : List ℕ) (addr len page : ℕ) (nam
     → IsTiedHeap names.heaps.plain.ranges segs.ranges participant rows other
     → IsBeside heap'.plain other × IsTiedHeap names'.heaps.plain.ranges segs'.ranges participant rows other
 
--- and where it goes from one that is tied to the same table
+-- where memory goes from a heap that is tied to a table, another one that is tied to that table stays tied, and beside it
 abbrev pub RemovesLeaveOthers : Type 0
 RemovesLeaveOthers = (caller : Caller) (text : List ℕ) (addr len : ℕ) (names names' : Names) (segs segs' : SegsView)
     (heap heap' : HeapView) (other : PlainHeap) (participant : ℕ) (rows : List Row)
@@ -45,7 +45,7 @@ RemovesLeaveOthers = (caller : Caller) (text : List ℕ) (addr len : ℕ) (names
     → IsTiedHeap names.heaps.plain.ranges segs.ranges participant rows other
     → IsBeside heap'.plain other × IsTiedHeap names'.heaps.plain.ranges segs'.ranges participant rows other
 
--- and where a participant attaches a chunk of a heap, or leaves it, the other one is tied to the table that this leaves
+-- where a participant attaches a chunk of a heap, or leaves it, another heap is tied to the table that this leaves
 abbrev pub AttachesLeaveOthers : Type 0
 AttachesLeaveOthers = (caller : Caller) (text : List ℕ) (addr len : ℕ) (names : Names) (claims : List ExternalRange)
     (heap heap' : HeapView) (maps maps' : MapsView) (other : PlainHeap)

@@ -26,7 +26,7 @@ pub record Creates (old new : Names) (text : List ℕ) (index socket : ℕ) : Ty
   pub given : GivesName (with_room old.heaps) new.heaps text index socket
   pub zones : new.zones ≡ old.zones
 
--- why none is made, in the order in which it is judged
+-- why no heap is made, in the order in which it is judged
 abbrev pub IsCreateFault : PlainDirectory → List ℕ → CreateFault → Type 0
 IsCreateFault plain text create.BadName = ¬ IsZoneName text
 IsCreateFault plain text create.Exists = IsZoneName text × (¬ IsNotFound plain text)
@@ -34,7 +34,7 @@ IsCreateFault plain text (create.NoSpace limit) =
     IsZoneName text × IsNotFound plain text × (¬ HasPlace plain) × (limit ≡ MAX_HEAPS)
 IsCreateFault plain text create.OutOfMemory = IsZoneName text × IsNotFound plain text × HasPlace plain
 
--- a heap is destroyed: it had no chunk, the directory loses its name, and so does the heap
+-- a heap is destroyed: it had no chunk, and the directory and the heap lose its name
 pub record Destroys (caller : Caller) (text : List ℕ) (names names' : Names) (heap heap' : HeapView) : Type 0 where
   pub name : IsZoneName text
   pub socket : ℕ
@@ -44,7 +44,7 @@ pub record Destroys (caller : Caller) (text : List ℕ) (names names' : Names) (
   pub zones : names'.zones ≡ names.zones
   pub unnamed : IsCall caller call.Unname answer.Done heap heap'
 
--- why it is not, in the order in which it is judged. The number of chunks is given up to the most that has 32 bits
+-- why a heap is not destroyed, in the order in which it is judged. The number of chunks is given up to the most that has 32 bits
 abbrev pub IsDestroyFault : PlainDirectory → List ℕ → PlainHeap → DestroyFault → Type 0
 IsDestroyFault plain text heap destroy.BadName = IsNameFault plain text name.BadName
 IsDestroyFault plain text heap destroy.NotFound = IsNameFault plain text name.NotFound

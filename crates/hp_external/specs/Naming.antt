@@ -47,7 +47,7 @@ IsNameFault plain text name.BadName = ¬ IsZoneName text
 IsNameFault plain text name.NotFound = IsZoneName text × IsNotFound plain text
 IsNameFault plain text name.SocketHeap = IsZoneName text × IsSocketName plain text
 
--- these faults as those of the calls
+-- the faults of a name as those of the calls
 abbrev pub destroy_name_fault : NameFault → DestroyFault
 destroy_name_fault name.BadName = destroy.BadName
 destroy_name_fault name.NotFound = destroy.NotFound
@@ -73,7 +73,7 @@ pub record HasNoSuchChunk (plain : PlainDirectory) (text : List ℕ) (heap : Pla
   pub named : IsExternal plain text
   pub missing : chunk_at addr len heap ≡ None
 
--- why they name none: no heap has the name; or the heap is a socket's or has no such chunk
+-- why a text, an address and a length name no chunk: no heap has the name; or the heap is a socket's or has no such chunk
 abbrev pub IsChunkFault : PlainDirectory → List ℕ → PlainHeap → ℕ → ℕ → ChunkFault → Type 0
 IsChunkFault plain text heap addr len chunk.NotFound = IsNotFound plain text
 IsChunkFault plain text heap addr len chunk.NoChunk = IsSocketName plain text ⊎ HasNoSuchChunk plain text heap addr len

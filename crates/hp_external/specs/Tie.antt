@@ -50,7 +50,7 @@ pub record IsClaimedRow (claims : List ExternalRange) (row : Row) : Type 0 where
   pub from : claim.addr ≤ row.addr
   pub within : row.addr < claim.addr + claim.len
 
--- so does a row of a chunk, which has generation 0
+-- a row of a chunk, which has generation 0, begins in memory that is claimed under its list
 abbrev pub IsOfClaim : List ExternalRange → Row → Type 0
 IsOfClaim claims row = row.generation ≡ 0 → IsClaimedRow claims row
 
@@ -63,5 +63,5 @@ pub record IsTiedHeap (directory : List HeapRange) (claims : List ExternalRange)
   pub claimed : AreClaimed claims heap.chunks
   -- the participant's marks are on exactly those that its table has attached
   pub marked : AreMarked participant rows heap.chunks
-  -- and beside those of the log the table has rows of claimed memory alone
+  -- beside the rows of the log the table has rows of claimed memory alone
   pub known : AllByRecursion (IsOfClaim claims) rows

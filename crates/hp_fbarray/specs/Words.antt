@@ -38,7 +38,7 @@ pub record IsNextIn (words : List ℕ) (from end : ℕ) (used : Bool) (place : �
 abbrev pub places_of : List ℕ → ℕ → List Bool
 places_of words n = map (is_place words) (range_with_len 0 n)
 
--- the words have n places, and the bits behind them are 0
+-- the words have n places, and the bits after these are 0
 pub record HavePlaces (words : List ℕ) (n : ℕ) : Type 0 where
   pub enough : n ≤ 64 * length words
   pub few : length words ≤ 256

@@ -10,7 +10,7 @@ use crate::runs;
 use std::alloc::{AllocError, Global};
 use std::marker::Model;
 
-/// The most places that a mask may have: the segments of all memseg lists together.
+/// The most places that a mask may have: the segments of all memseg lists together. Own.
 pub const MAX_PLACES: usize = 16_384;
 
 /// Which places of a fixed number are used, after the used mask of DPDK's `rte_fbarray`.
@@ -86,7 +86,7 @@ impl Mask {
         ensures first { IfSome result (IsFirstFreeRun self.now from n) }
         ensures none { IfNone result (HasNoFreeRun self.now from n) }
 
-        // The same as a value that definitions above can compute with.
+        // The answer as a value that definitions of other crates can compute with.
         ensures value { result ≡ first_free_run self.now from n }
     {
         if from > self.places.len() {
@@ -106,7 +106,7 @@ impl Mask {
         ensures none { IfTooShort result (λ _. HasNoFreeRun self.now 0 n) }
         ensures longest { IfTooShort result (IsLongestFree self.now) }
 
-        // The same as a value that definitions above can compute with.
+        // The answer as a value that definitions of other crates can compute with.
         ensures value { result ≡ free_run self.now n }
     {
         runs::search(&self.places, self.first_clear, 0, n)
@@ -126,7 +126,7 @@ impl Mask {
         if place < len { Some(place) } else { None }
     }
 
-    /// How many places are used.
+    /// How many places are used. After the count of used elements that rte_fbarray keeps.
     pub fn count_used(&self) -> usize
         ensures { result ≡ count_by (λ used. used) self.now }
     {
@@ -138,7 +138,7 @@ impl Mask {
     pub fn longest_free(&self) -> usize
         ensures longest { IsLongestFree self.now result }
 
-        // The same as a value that definitions above can compute with.
+        // The answer as a value that definitions of other crates can compute with.
         ensures value { result ≡ longest_free_run self.now }
     {
         // No run is longer than the mask.

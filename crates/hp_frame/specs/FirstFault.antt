@@ -69,8 +69,8 @@ bad_place kind name param =
     else option_or (option_map (λ i. HEADER_LEN + i) (bad_name_byte name))
     (option_map (λ i. HEADER_LEN + length name + i) (bad_param_byte kind param))
 
--- the same in a text whose header and length are as they must be. A text with no kind has a fault before
--- it comes to this.
+-- the first place whose byte is none of its values, in a text whose header and length are as they must be. A text with no kind has a
+-- fault before it comes to this.
 abbrev pub bad_place_in : List ℕ → Option ℕ
 bad_place_in text =
     option_and_then (λ kind. bad_place kind (name_in text) (param_in text))

@@ -1,6 +1,6 @@
 use thiserror::Error;
 
-/// Why bytes are no frame: the first fault, in the order in which the reader checks.
+/// Why bytes are no frame: the first fault, in the order in which the reader checks. Own.
 #[derive(Clone, Copy, Debug, PartialEq, Eq, Error)]
 pub enum Fault {
     /// Fewer bytes than a header has, or fewer than it says.

@@ -13,7 +13,7 @@ pub struct Frame {
 }
 
 impl Frame {
-    /// The message's frame.
+    /// The message's frame. Own.
     pub fn new(msg: &Message) -> Frame
         requires valid { IsValid msg.now }
         ensures { Spells (take result.len result.bytes) msg.now }
@@ -23,7 +23,7 @@ impl Frame {
         Frame { bytes, len }
     }
 
-    /// The frame's bytes.
+    /// The frame's bytes. Own.
     pub fn as_bytes(&self) -> &[u8]
         ensures bytes { result.now ≡ take self.now.len self.now.bytes }
         ensures len { length result.now ≡ self.now.len }

@@ -5,7 +5,7 @@ use crate::kind::Kind;
 use hp_base::Name;
 
 /// A message between a participant and the coordinator: who it is for, by name, and what it says.
-/// After the named messages of the Multi-process Support guide, `rte_mp_msg`.
+/// After struct rte_mp_msg (the chapter Multi-process Support).
 #[derive(Clone, Copy)]
 pub struct Message {
     pub name: Name,
@@ -14,7 +14,7 @@ pub struct Message {
 
 impl Message {
     /// Whether it can be written: each byte of its name is visible ASCII, and each field of its body is
-    /// among its values.
+    /// among its values. Own.
     pub fn is_valid(&self) -> bool
         ensures { IsTrue result ↔ IsValid self.now }
     {

@@ -9,13 +9,13 @@ use crate::fault::Fault;
 use crate::view::FrameView;
 
 /// Reads a frame, which is all of the bytes. It allocates nothing and copies no part: the view lends the
-/// name and the parameter from the bytes.
+/// name and the parameter from the bytes. Own.
 pub fn read(bytes: &[u8]) -> Result<FrameView<'_>, Fault>
-    // What is read is spelled so, and lies where the bytes lie.
+    // The bytes spell the message that is read, and its parts lie where the bytes lie.
     ensures spelled { IfOk result (λ view. Spells bytes.now view.message) }
     ensures lent { IfOk result (λ view. view.address ≡ bytes.entry.ref_ptr) }
 
-    // What is spelled so is read.
+    // A message that the bytes spell is read.
     ensures only { (m : Message) → Spells bytes.now m → IsOkAnd result (λ view. view.message ≡ m) }
 
     // An error is the first fault.

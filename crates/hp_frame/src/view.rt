@@ -10,7 +10,7 @@ use crate::param::body_of;
 use std::marker::Model;
 
 /// A frame that was read. Its name and its parameter are lent: they are parts of the bytes that were read,
-/// and nothing of them is copied.
+/// and nothing of them is copied. Own.
 #[derive(Drop)]
 pub struct FrameView<'a> {
     bytes: &'a [u8],
@@ -44,7 +44,7 @@ impl<'a> FrameView<'a> {
         }
     }
 
-    /// The name, lent from the frame: the bytes behind the header.
+    /// The name, lent from the frame: the bytes behind the header. Own.
     pub fn name(&self) -> &'a [u8]
         ensures text { result.now ≡ self.now.message.name }
         ensures lent { result.ref_ptr ≡ bytes_behind self.now.address HEADER_LEN }
@@ -52,7 +52,7 @@ impl<'a> FrameView<'a> {
         &self.bytes[HEADER_LEN..HEADER_LEN + self.name_len]
     }
 
-    /// The parameter, lent from the frame: the bytes behind the name, up to the end.
+    /// The parameter, lent from the frame: the bytes behind the name, up to the end. Own.
     pub fn param(&self) -> &'a [u8]
         ensures text { result.now ≡ param_of self.now.message.body }
         ensures lent { result.ref_ptr
@@ -61,7 +61,7 @@ impl<'a> FrameView<'a> {
         &self.bytes[HEADER_LEN + self.name_len..]
     }
 
-    /// What the message says.
+    /// What the message says. Own.
     pub fn body(&self) -> Body
         ensures body { result ≡ self.now.message.body }
         ensures message { HasSpelling self.now.message }

@@ -76,7 +76,7 @@ fn put_param(out: &mut [u8], at: usize, body: Body) -> usize
 }
 
 /// Writes the message's frame at the front of the buffer, and gives its length in bytes. It allocates
-/// nothing. `Message::is_valid` tests the condition.
+/// nothing. `Message::is_valid` tests the condition. Own.
 pub fn write(msg: &Message, out: &mut [u8; 384]) -> usize
     requires valid { IsValid msg.now }
     ensures len { result ≡ length (spelling msg.now) }

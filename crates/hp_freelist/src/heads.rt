@@ -4,7 +4,7 @@ ghost use Rattle.hp_freelist.specs.Heads.{head_at, bit_of, IsNext, NoneFrom, IsL
 
 use std::marker::Model;
 
-/// How many classes there are.
+/// How many classes there are. After RTE_HEAP_NUM_FREELISTS.
 pub const CLASSES: usize = 13;
 
 /// The first key of the list of each class, with a bit for each list that has one.

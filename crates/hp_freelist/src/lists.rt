@@ -12,8 +12,8 @@ use std::alloc::{AllocError, Global};
 use std::marker::Model;
 
 /// The thirteen free lists of a heap, one for each size class: keys of elements with their whole sizes in bytes, the one
-/// inserted last at the head. After the array `free_head` of `struct malloc_heap` in rte_malloc, where the links stand in the
-/// headers; the number of classes is own.
+/// inserted last at the head. After the array `free_head` of `struct malloc_heap` in rte_malloc, which has
+/// RTE_HEAP_NUM_FREELISTS lists; there the links stand in the headers.
 #[derive(Drop)]
 pub struct Lists {
     links: Vec<Link>,
@@ -33,7 +33,7 @@ impl Model for Lists {
 }
 
 impl Lists {
-    /// Empty lists, which take no memory, and no room for any key.
+    /// Empty lists, which take no memory, and no room for any key. Own.
     pub fn new(alloc: Global) -> Lists
         ensures lists { result.lists ≡ empty_lists }
         ensures room { result.room ≡ 0 }
@@ -45,7 +45,7 @@ impl Lists {
         }
     }
 
-    /// Makes room for the keys below `n`.
+    /// Makes room for the keys below `n`. Own.
     pub fn reserve(&mut self, n: usize) -> Result<(), AllocError>
         ensures room { OnOk result (n ≤ self.new.room) }
         ensures kept { self.old.room ≤ self.new.room }

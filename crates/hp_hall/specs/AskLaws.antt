@@ -12,7 +12,7 @@ use Rattle.hp_segs.specs.declared.ask.Ask.{Ask}
 use Rattle.hp_segs.specs.declared.outcome.AskLog.{AskLog}
 use Rattle.hp_hall.specs.Asks.{Arms, ClaimsGrants, IsKnownSettled}
 
--- what settled asks are stays so
+-- asks that are settled stay so
 abbrev pub LeavesSettled : SegsView → SegsView → Type 0
 LeavesSettled old new = (from number : ℕ) → IsSettled from number old → IsSettled from number new
 
@@ -20,20 +20,21 @@ LeavesSettled old new = (from number : ℕ) → IsSettled from number old → Is
 abbrev pub LogCallsSettle : Type 0
 LogCallsSettle = (old new : SegsView) → IsSound old → IsSound new → IsArmed old → IsMovedBy is_log_call 1 old new → LeavesSettled old new
 
--- so do calls on the roster, and those by which heaps take and give up rows
+-- calls on the roster leave settled asks settled
 abbrev pub RosterCallsSettle : Type 0
 RosterCallsSettle = (old new : SegsView) → IsMovedBy is_roster_call 0 old new → LeavesSettled old new
 
+-- calls by which heaps take and give up rows leave settled asks settled
 abbrev pub OwnerCallsSettle : Type 0
 OwnerCallsSettle = (old new : SegsView) → IsMovedBy is_owner_call 0 old new → LeavesSettled old new
 
--- what a participant knows to be settled is, in each value that goes on from the outcomes that it has heard and has for the ask's heap what it
--- knows
+-- what a participant knows to be settled is, in each value that goes on from the outcomes that it has heard and has for the ask's heap what
+-- it knows
 abbrev pub KnownIsSettled : Type 0
 KnownIsSettled = (segs : SegsView) (heard more : List AskLog) (ask : Ask) → IsSound segs → segs.asks ≡ heard ++ more
     → IsKnownSettled heard (Some (standing_of ask.heap segs)) ask → IsSettled ask.from ask.number segs
 
--- and what was granted to an ask that is settled, and with which its participant is armed, its heap has claimed
+-- what was granted to an ask that is settled, and with which its participant is armed, its heap has claimed
 abbrev pub SettledIsClaimed : Type 0
 SettledIsClaimed = (segs : SegsView) (ask : Ask) → IsSound segs → KeepsArmed segs → armed_ask segs ask.from ≡ Some ask
     → IsSettled ask.from ask.number segs → ClaimsGrants segs.asks (Some (standing_of ask.heap segs)) ask
@@ -55,7 +56,8 @@ RosterGivesLeave = (old new : SegsView) → IsMovedBy is_roster_call 0 old new �
 abbrev pub OwnerGivesLeave : Type 0
 OwnerGivesLeave = (old new : SegsView) → IsMovedBy is_owner_call 0 old new → ArePending old → ArePending new
 
--- such a run is alone for its heap where each armed ask is settled, or its participant has the heap of it in hand, and no two have one heap
+-- a run that no heap has claimed is alone for its heap where each armed ask is settled, or its participant has the heap of it in hand, and
+-- no two have one heap
 abbrev pub HeldIsAlone : Type 0
 HeldIsAlone = (segs : SegsView) (holds : ℕ → ℕ → Bool) → IsSound segs → IsArmed segs → PendingIsArmed segs
     → ((who : ℕ) (ask : Ask) → armed_ask segs who ≡ Some ask → IsSettled ask.from ask.number segs ⊎ (holds who ask.heap ≡ true))

@@ -19,8 +19,8 @@ abbrev pub ClaimsGrants : List AskLog → Option Holding → Ask → Type 0
 ClaimsGrants heard holding ask = (entry : AskLog) (generation : ℕ) → Contains heard entry → entry.from ≡ ask.from → entry.number ≡ ask.number
     → granted_by entry.outcome ≡ Some generation → IsClaimedIn holding entry
 
--- a participant knows that an ask for pages is settled: it has heard a grant or a refusal of it, and what it has heard to be granted its heap
--- has claimed
+-- a participant knows that an ask for pages is settled: it has heard a grant or a refusal of it, and what it has heard to be granted its
+-- heap has claimed
 pub record IsKnownSettled (heard : List AskLog) (holding : Option Holding) (ask : Ask) : Type 0 where
   pub answered : list_any (grants_or_refuses ask.from ask.number) heard ≡ true
   pub claims : ClaimsGrants heard holding ask
@@ -32,7 +32,7 @@ AnswersOfArmed taken given = (entry : AskLog) (ask : Ask) → Contains (drop (le
 
 -- asks in a value that is given by the log: nobody but the giver is armed anew; the giver is armed with the ask of before, or else with one
 -- for a heap that it holds; its ask of before is still the one with which it is armed, or else is settled; the open growth and the kept
--- asks stay those of the armed; and so was each growth that was opened and has failed since
+-- asks stay those of the armed, and each growth that was opened and has failed since was one of the armed
 pub record Arms (who : ℕ) (Holds : ℕ → Type 0) (taken given : SegsView) : Type 0 where
   pub others : (other : ℕ) → other ≢ who → armed_ask given other ≡ armed_ask taken other
   pub for_held : (ask : Ask) → armed_ask given who ≡ Some ask → (armed_ask taken who ≡ Some ask) ⊎ Holds ask.heap

@@ -41,8 +41,8 @@ giver_of knows = record { who = knows.who; number = knows.number; noted = knows.
 
 -- a heap may be given in place of the taken one: it opened as that did; its history is the taken one and entries of the giver alone,
 -- numbered on from those that it had made in all heaps; it has the pages of the segments that the giver knows to be its own, and as its
--- growths and cuts the runs that the giver knows it to have claimed and given up, each in order; and the giver's ask, where it armed one for
--- the heap, is settled
+-- growths and cuts the runs that the giver knows it to have claimed and given up, each in order; and the giver's ask, where it armed one
+-- for the heap, is settled
 pub record GivesHeap (knows : Knows) (taken given : HeapView) : Type 0 where
   pub index : given.plain.index ≡ taken.plain.index
   pub serves : given.plain.serves ≡ taken.plain.serves

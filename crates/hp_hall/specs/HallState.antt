@@ -15,7 +15,7 @@ use Rattle.hp_hall.specs.Own.{Own, rows_known}
 pub record Noted : Type 0 where
   pub number : ℕ
 
--- slots go by their numbers
+-- a hall as its callers see it; slots go by their numbers
 pub record HallState : Type 1 where
   -- how many participants there are
   pub count : ℕ
@@ -44,7 +44,7 @@ pub record HallState : Type 1 where
   pub fulls : ℕ
   -- one of those who serve in the hall has met a refusal of memory, as far as the hall has seen
   pub stopped : Bool
-  -- the number that falls, beside the deadlines that are pending
+  -- the measure by which waits end, beside the deadlines that are pending
   pub weight : ℕ
   -- the clock of one thread; threads have none in common, and there it stands still
   pub clock : ℕ
@@ -58,7 +58,8 @@ HasMapped me state = state.joined me ≡ true → (heap : ℕ) (holding : Holdin
 pub record IsNotedLater (old new : Noted) : Type 0 where
   pub number : old.number ≤ new.number
 
--- later on: the same participants, whoever was served is, what was seen, noted and counted grows, and who stopped has
+-- a later state: the participants are the same, those of whom the hall takes calls stay so, what was seen, noted and counted grows, and
+-- where one had stopped, one has stopped
 pub record IsLater (old new : HallState) : Type 0 where
   pub count : new.count ≡ old.count
   pub serves : (who : ℕ) → old.serves who → new.serves who
@@ -73,7 +74,7 @@ pub record SlotsStay (old new : HallState) : Type 0 where
   pub taken : (number : ℕ) → new.taken number ≡ old.taken number
   pub home : (number : ℕ) → old.may_take number → new.may_take number
 
--- so it is with all slots but one
+-- what is out of all slots but one stays, and what may be taken from these may be still
 pub record SlotsStayBut (slot : ℕ) (old new : HallState) : Type 0 where
   pub taken : (number : ℕ) → number ≢ slot → new.taken number ≡ old.taken number
   pub home : (number : ℕ) → number ≢ slot → old.may_take number → new.may_take number
@@ -83,7 +84,7 @@ pub record PartsStay (me : ℕ) (old new : HallState) : Type 0 where
   pub part : (heap : ℕ) → new.part me heap ≡ old.part me heap
   pub joined : new.joined me ≡ old.joined me
 
--- so does its own part
+-- a participant's parts in the heaps and its own part stay, and whether it is in the roster
 pub record MineStay (me : ℕ) (old new : HallState) : Type 0 where
   pub parts : PartsStay me old new
   pub own : new.own me ≡ old.own me

@@ -45,7 +45,7 @@ pub record HasHolding (heap : HeapView) (holding : Holding) : Type 0 where
   pub grown : runs_grown heap.history ≡ holding.came
   pub cut : runs_cut heap.history ≡ holding.retired
 
--- so has a heap in hand
+-- a heap in hand has what its holding names
 abbrev pub IsHeldWith : HeapView → Option Holding → Type 0
 IsHeldWith heap None = ⊥
 IsHeldWith heap (Some holding) = HasHolding heap holding
@@ -59,8 +59,8 @@ abbrev pub IsClaimedFor : ℕ → List AskLog → HeapPart → Type 0
 IsClaimedFor heap heard part = (ask : Ask) → part.armed ≡ Some ask → ask.heap ≡ heap → ClaimsGrants heard part.holding ask
 
 -- what a participant learns of a segment value: of each heap that it holds the value has what was known; it is armed with the ask with
--- which it armed itself last, and that is settled, or else it holds the ask's heap; the open growth and the kept asks are those of the armed;
--- and runs that no heap has claimed are of armed asks, each alone for its heap, and the last one of that
+-- which it armed itself last, and that is settled, or else it holds the ask's heap; the open growth and the kept asks are those of the
+-- armed; and runs that no heap has claimed are of armed asks, each alone for its heap, and the last one of that
 pub record AreStanding (who : ℕ) (parts : ℕ → HeapPart) (segs : SegsView) : Type 0 where
   pub held : (heap : ℕ) (holding : Holding) → (parts heap).holding ≡ Some holding → holding ≡ standing_of heap segs
   pub armed : (heap : ℕ) → (parts heap).armed ≡ armed_ask segs who

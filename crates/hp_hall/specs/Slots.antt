@@ -10,7 +10,7 @@ abbrev pub IsSlot : Slot → Type 0
 IsSlot (Heap index) = index < MAX_HEAPS
 IsSlot Segments = ⊤
 
--- a slot's number: the heaps' by index, and behind them the segment value's
+-- a slot's number: the heaps' by index, and after them the segment value's
 abbrev pub slot_number : Slot → ℕ
 slot_number (Heap index) = index
 slot_number Segments = MAX_HEAPS

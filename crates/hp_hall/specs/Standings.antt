@@ -22,7 +22,7 @@ use Rattle.hp_hall.specs.Holding.{HasPages}
 use Rattle.hp_segs.specs.PendingRuns.{PendingIsLast}
 use Rattle.hp_segs.specs.Standing.{Holding, IsArmed, given_up_by, owned_by, standing_of}
 
--- what the value has for each heap is as it was, and so is the ask of each who is armed
+-- what the value has for each heap is as it was, and the ask of each participant that is armed stays
 pub record LeavesStanding (old new : SegsView) : Type 0 where
   pub standing : (heap : ℕ) → standing_of heap new ≡ standing_of heap old
   pub armed : (who : ℕ) → armed_ask new who ≡ armed_ask old who
@@ -40,7 +40,7 @@ abbrev pub LogCallsLeave : Type 0
 LogCallsLeave = (steps : ℕ) (old new : SegsView) → IsSound old → IsMovedBy is_log_call steps old new
     → (heap : ℕ) → standing_of heap new ≡ standing_of heap old
 
--- so do calls on the roster and on external memory, and they arm nobody
+-- calls on the roster leave what the value has for each heap, and arm nobody; calls on external memory do the same
 abbrev pub RosterCallsLeave : Type 0
 RosterCallsLeave = (steps : ℕ) (old new : SegsView) → IsMovedBy is_roster_call steps old new → LeavesStanding old new
 
@@ -95,7 +95,7 @@ pub record PutsClaim (entry : AskLog) (run : Run) (old new : Holding) : Type 0 w
   pub came : new.came ≡ old.came ++ run ∷ []
   pub retired : new.retired ≡ old.retired
 
--- so it is with each claim, where what no heap has claimed yet is the last of its heap
+-- where each run that no heap has claimed yet is the last one of its heap, a claim puts its grant and its run last
 abbrev pub ClaimPuts : Type 0
 ClaimPuts = (segs : SegsView) (heap from number generation : ℕ) (entry : AskLog) (run : Run) → IsSound segs → PendingIsLast segs
     → grant_of segs.asks from number ≡ Some generation → Contains segs.asks entry → IsGrantFor heap generation entry
@@ -120,7 +120,8 @@ abbrev pub RetireLeavesOthers : Type 0
 RetireLeavesOthers = (segs : SegsView) (heap : ℕ) (run : Run) → IsSound segs → OwnsRun heap run segs
     → (other : ℕ) → other ≢ heap → standing_of other (after_retire heap run segs) ≡ standing_of other segs
 
--- and takes the run's rows, and no grant, from what it has for that heap, and puts the run after those that the heap gave up before
+-- a giving up takes the run's rows, and no grant, from what the value has for that heap, and puts the run after those that the heap gave up
+-- before
 abbrev pub RetireTakesRows : Type 0
 RetireTakesRows = (segs : SegsView) (heap : ℕ) (run : Run) → IsSound segs → OwnsRun heap run segs
     → standing_of heap (after_retire heap run segs) ≡ record (standing_of heap segs) {

@@ -9,7 +9,7 @@ abbrev pub AreTakenIn : (ℕ → ℕ) → SegsView → Type 0
 AreTakenIn number segs = (entry : AskLog) (generation member : ℕ) → Contains segs.asks entry
     → granted_by entry.outcome ≡ Some generation → is_member segs.roster member ≡ true → generation ≤ number member
 
--- an own part is one of a log of so many records: it has unmapped what is dropped up to a record that is not before its number, nor behind
+-- an own part is one of a log of so many records: it has unmapped what is dropped up to a record that is not before its number, nor after
 -- the last one
 pub record IsOwnOf (records : ℕ) (own : Own) : Type 0 where
   pub behind : own.number ≤ own.unmapped

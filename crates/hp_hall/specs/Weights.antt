@@ -1,4 +1,4 @@
--- The number by which serving returns: what a frame weighs: the rule "Messages" of docs/PARTICIPANTS.md.
+-- The measure by which serving ends: what a frame weighs: the rule "Messages" of docs/PARTICIPANTS.md.
 use Rattle.std.specs.Prelude.{◌≡◌, ◌≤◌, ◌⊎◌, ℕ, ◌-◌, ◌==◌, ◌||◌, Bool, true, false, nat_lt, List, Option, Some, None, Result, Ok, Err, slice_index_or, sum_by, if◌then◌else◌}
 use Rattle.std.proofs.Common.{arith}
 use Rattle.hp_frame.specs.declared.frame.Frame.{Frame}

@@ -22,7 +22,8 @@ pub trait Hall {
     /// How the hall looks to its callers.
     ghost state: { Self → HallState };
 
-    /// What a deadline counts at a clock, and what a frame's weight counts for: 1 in one thread, and 0 where a count of turns falls instead.
+    /// What a deadline counts at a clock, and what a frame's weight counts for: 1 in one thread, and 0 where a count of turns falls
+    /// instead.
     ghost pending: { ℕ → ℕ → ℕ };
 
     ghost scale: { ℕ };
@@ -117,7 +118,7 @@ pub trait Hall {
         ensures weight { (state self.new).weight ≤ (state self.old).weight + scale * (2 * frame_weight frame) }
         ensures goes_on { goes_on self.old self.new };
 
-    /// Fetches the first frame of the participant's mailbox, or none where that was empty. After rte_mp's handling of messages.
+    /// Fetches the first frame of the participant's mailbox, or none where that was empty. After the actions of rte_mp_action_register.
     fn fetch(&mut self, me: u8) -> Option<Frame>
         requires serves { (state self.old).serves me }
         ensures did { Did me (Fetches result ∷ []) (state self.old) (state self.new) }

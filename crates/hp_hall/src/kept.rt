@@ -14,7 +14,7 @@ pub enum Kept {
 }
 
 impl Kept {
-    /// The heap that it is.
+    /// The heap that it is. Own.
     pub fn into_heap(self) -> Heap
         requires heap { IsHeap self }
         ensures { self ≡ Kept.Heap result }
@@ -25,7 +25,7 @@ impl Kept {
         }
     }
 
-    /// The segment value that it is.
+    /// The segment value that it is. Own.
     pub fn into_segments(self) -> Segs
         requires segments { IsSegments self }
         ensures { self ≡ Kept.Segments result }
@@ -37,7 +37,7 @@ impl Kept {
     }
 
     /// What holds of every value: a heap is tiled by its elements, its free lists are exact, and it stands for its history; a
-    /// segment value is sound. It does nothing.
+    /// segment value is sound. It does nothing. Own.
     pub fn sound(&self)
         ensures { IsSoundKept self.now }
     {

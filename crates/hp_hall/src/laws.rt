@@ -45,8 +45,8 @@ pub fn settled_law()
     ensures claimed { SettledIsClaimed }
 {}
 
-/// Runs that no heap has claimed yet stay those of armed asks, and the last of their heaps, under each form of a give; and they are alone for
-/// their heaps, since an asker has its heap in hand as long as its ask is not settled. Own.
+/// Runs that no heap has claimed yet stay those of armed asks, and the last of their heaps, under each form of a give; and they are alone
+/// for their heaps, since an asker has its heap in hand as long as its ask is not settled. Own.
 pub fn pending_law()
     ensures logs { LogGivesLeave }
     ensures enrols { RosterGivesLeave }

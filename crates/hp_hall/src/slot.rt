@@ -17,7 +17,7 @@ pub enum Slot {
 }
 
 impl Slot {
-    /// Its number among the slots: the index of its heap, or after all heaps.
+    /// Its number among the slots: the index of its heap, or after all heaps. Own.
     pub fn number(self) -> usize
         requires slot { IsSlot self }
         ensures { result ≡ slot_number self }

@@ -33,7 +33,7 @@ pub record BusyKept (old new : PlainHeap) : Type 0 where
   pub busy : busy_ranges new ≡ busy_ranges old
   pub zones : zone_ranges new ≡ zone_ranges old
 
--- such a call leaves every busy element and every zone of a tiled heap ("Tiling")
+-- a call that is none of an allocation, a free and a resize leaves every busy element and every zone of a tiled heap ("Tiling")
 abbrev pub LeavesBusy : Type 0
 LeavesBusy = (participant : ℕ) (step : HeapCall) (heap : PlainHeap) → IsTiled heap → IsAllowed participant step heap → names_none step ≡ true
     → BusyKept heap (after participant step heap)
@@ -43,8 +43,8 @@ pub record AllocatesAlone (participant : ℕ) (request : Request) (tag : Tag) (h
   -- where it is given an address, the busy elements besides the one with its data there are those that were busy before
   pub busy : (address : ℕ) → allocated participant request heap ≡ Some address
       → filter (λ range. not (data_address range == address)) (busy_ranges (after_alloc participant request tag heap)) ≡ busy_ranges heap
-  -- and that one has the tag
+  -- the one that was allocated has the tag
   pub tagged : (address : ℕ) → allocated participant request heap ≡ Some address
       → tag_at address (after_alloc participant request tag heap) ≡ Some tag
-  -- else the heap
+  -- where it is given no address, the heap
   pub refused : allocated participant request heap ≡ None → after_alloc participant request tag heap ≡ heap

@@ -33,11 +33,11 @@ pub record HasDataAt (addr : ℕ) (items : Items) (key : ℕ) : Type 0 where
 abbrev pub LacksData : ℕ → ℕ → Items → Type 0
 LacksData addr pad items = AllByRecursion (λ e. has_data_at addr e.value ≡ true → pad_of_state e.value.state ≡ pad → ⊥) items
 
--- the key of such an element, or that there is none behind that pad
+-- the key of the busy element with its data at an address behind that pad, or that there is none
 abbrev pub FindsPadded : ℕ → ℕ → Items → Option ℕ → Type 0
 FindsPadded addr pad items result = MatchOption result (LacksData addr pad items) (HasDataAt addr items)
 
--- its key, or that there is none
+-- the key of the busy element with its data at an address, or that there is none
 abbrev pub FindsData : ℕ → Items → Option ℕ → Type 0
 FindsData addr items result = MatchOption result (find (has_data_at addr) (spans_of items) ≡ None) (HasDataAt addr items)
 

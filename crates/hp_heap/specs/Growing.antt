@@ -64,7 +64,7 @@ pub record IsGrownTo (run : Run) (heap : PlainHeap) : Type 0 where
   pub pages : heap.pages ≡ run_pages run
   pub chunks : heap.chunks ≡ []
 
--- a run goes on right behind another
+-- a run begins right behind another, in its list
 pub record IsNextRun (run next : Run) : Type 0 where
   pub list : next.list ≡ run.list
   pub page : next.page ≡ run.page

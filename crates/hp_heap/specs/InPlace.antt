@@ -24,7 +24,7 @@ pub record IsGrowing (range : Span) (size : ℕ) : Type 0 where
 abbrev pub sized : ℕ → Keyed Span → Items → Items
 sized size e es = record e { value = resized e.value e.value.whole size } ∷ es
 
--- the first of the elements behind another, where it is free and touches it
+-- the first of the elements after another, where it is free and touches it
 abbrev pub first_free : Span → List Span → Option Span
 first_free range [] = None
 first_free range (next ∷ ranges) = if is_next_free range next then Some next else None
@@ -54,7 +54,7 @@ pub record KeepsBytes (key size : ℕ) (old new : HeadersView) : Type 0 where
   pub spans : spans_of new.items ≡ spans_of front ++ (resized found.value found.value.whole size ∷ spans_of back)
   pub insertions : new.insertions ≡ old.insertions
 
--- it is had with those of the free element right behind it
+-- a busy element has the size with the bytes of the free element right behind it
 pub record TakesNext (key size : ℕ) (old new : HeadersView) : Type 0 where
   pub front : Items
   pub found : Keyed Span
@@ -69,7 +69,7 @@ pub record TakesNext (key size : ℕ) (old new : HeadersView) : Type 0 where
       ≡ spans_of front ++ (with_rest_if (has_rest found.value next.value size) found.value next.value size (old.insertions + 1) ++ spans_of back)
   pub insertions : new.insertions ≡ old.insertions + count_if (has_rest found.value next.value size)
 
--- it is not had, and all stays
+-- a busy element lacks the bytes for the size, and all stays
 pub record LacksBytes (key size : ℕ) (old new : HeadersView) : Type 0 where
   pub front : Items
   pub found : Keyed Span
@@ -84,7 +84,7 @@ pub record LacksBytes (key size : ℕ) (old new : HeadersView) : Type 0 where
 abbrev pub Resizes : ℕ → ℕ → HeadersView → HeadersView → Bool → Type 0
 Resizes key size old new had = MatchBool had (KeepsBytes key size old new ⊎ TakesNext key size old new) (LacksBytes key size old new)
 
--- and of the one with its data at an address
+-- what is made of the busy element with its data at an address
 pub record ResizesData (addr size : ℕ) (old new : HeadersView) (had : Bool) : Type 0 where
   pub key : ℕ
   pub there : HasDataAt addr old.items key

@@ -26,7 +26,7 @@ pub record CanStretch (span : Span) : Type 0 where
   pub least : 192 ≤ span.whole
   pub end : end_of span ≤ 2 ^ 63
 
--- the same of the element under a key, among elements of which no two neighbours would be one
+-- the element under a key may become free, or a part of a free one, among elements of which no two neighbours would be one
 pub record CanInsertJoined (key : ℕ) (items : Items) : Type 0 where
   pub apart : AreApart items
   pub at : IsAt CanStretch key items

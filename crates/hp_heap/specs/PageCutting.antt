@@ -27,7 +27,7 @@ pub record HasFreeAt (addr : ℕ) (items : Items) (key : ℕ) : Type 0 where
 abbrev pub HasNoFreeAt : ℕ → Items → Type 0
 HasNoFreeAt addr items = IfSome (find (in_range addr) (spans_of items)) (λ range. is_free range ≡ false)
 
--- its key, or that there is none
+-- the key of the free element that contains an address, or that there is none
 abbrev pub FindsFree : ℕ → Items → Option ℕ → Type 0
 FindsFree addr items result = MatchOption result (HasNoFreeAt addr items) (HasFreeAt addr items)
 

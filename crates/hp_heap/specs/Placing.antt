@@ -49,7 +49,8 @@ busy_piece before behind range address size tag =
       state = Busy (address - 128 - start) size tag;
     }
 
--- the elements that a free one becomes, each with its other fields: the rest behind is inserted into the free lists first, then the rest before
+-- the elements that a free one becomes, each with its other fields: the rest behind is inserted into the free lists first, then the rest
+-- before
 abbrev pub pieces_with : Bool → Bool → Span → ℕ → ℕ → Tag → ℕ → List Span
 pieces_with before behind range address size tag insertions =
     only_if before (rest_before range address (insertions + count_if behind + 1))

@@ -14,7 +14,7 @@ in_range byte range = is_within range.addr range.whole byte
 abbrev pub in_segment : ℕ → Extent → Bool
 in_segment byte segment = is_within segment.addr segment.len byte
 
--- the same, of one segment list with pages of one size
+-- whether a byte lies in an element, or in a segment, of one segment list with pages of one size
 abbrev pub in_range_of : ℕ → ℕ → ℕ → Span → Bool
 in_range_of list page byte range = in_range byte range && ((range.list == list) && (range.page == page))
 

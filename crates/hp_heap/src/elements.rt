@@ -39,7 +39,7 @@ impl<'a> Elements<'a> {
         }
     }
 
-    /// The next element, where one is left.
+    /// The next element, where one is left. Own.
     pub fn next(&mut self) -> Option<&'a Span>
         ensures { MatchOption result (self.old ≡ []) (λ span. self.old ≡ span.now ∷ self.new) }
     {

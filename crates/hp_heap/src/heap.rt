@@ -105,14 +105,14 @@ impl Heap {
         Ok(())
     }
 
-    /// How many calls there is room for.
+    /// How many calls there is room for. Own.
     pub fn spare(&self) -> usize
         ensures { result ≡ self.now.spare }
     {
         self.spare
     }
 
-    /// Appends its elements, by address.
+    /// Appends its elements, by address. Own.
     pub fn elements(&self, out: &mut Vec<Span>) -> Result<(), AllocError>
         ensures elements { OnOk result (out.new.items ≡ out.old.items ++ self.now.plain.ranges) }
         ensures err { OnErr result (out.new.items ≡ out.old.items) }
@@ -127,7 +127,7 @@ impl Heap {
         Elements::new(&self.headers)
     }
 
-    /// All calls so far, in their order.
+    /// All calls so far, in their order. Own.
     pub fn history(&self) -> &[Entry]
         ensures { result.now ≡ self.now.history }
     {
@@ -135,42 +135,42 @@ impl Heap {
     }
 
     /// What holds of every heap: its elements tile its segments, its free lists are exact, and it stands for its
-    /// history. It does nothing.
+    /// history. It does nothing. Own; it stands for rte_malloc_validate.
     pub fn sound(&self)
         ensures { IsSound self.now }
     {
         let _ = &self.history;
     }
 
-    /// Its place among the heaps.
+    /// Its place among the heaps. Own.
     pub fn index(&self) -> u32
         ensures { result ≡ self.now.plain.index }
     {
         self.index
     }
 
-    /// The socket whose pages it takes, or none where it takes external memory.
+    /// The socket whose pages it takes, or none where it takes external memory. Own.
     pub fn serves(&self) -> Option<u32>
         ensures { result ≡ self.now.plain.serves }
     {
         self.serves
     }
 
-    /// Its name, where it has one.
+    /// Its name, where it has one. Own.
     pub fn name(&self) -> Option<&Name>
         ensures { option_copied result ≡ self.now.plain.name }
     {
         self.name.as_ref()
     }
 
-    /// Its socket number.
+    /// Its socket number. Own.
     pub fn socket_number(&self) -> u32
         ensures { result ≡ self.now.plain.socket }
     {
         self.socket
     }
 
-    /// Its statistics, without an entry in the history.
+    /// Its statistics, without an entry in the history. After malloc_heap_get_stats of malloc_heap.c.
     pub fn summary(&self) -> Stats
         ensures { result ≡ statistics_of self.now.plain }
     {

@@ -81,7 +81,7 @@ fn goes_on_below(below: &Span, span: &Span) -> bool
     is_free(below) && touches(below, span)
 }
 
-// The same with the element above it.
+// Whether an element would be one with the element above it, once it is free.
 fn goes_on_above(span: &Span, above: &Span) -> bool
     requires { end_of span.now < 2 ^ 64 }
     ensures { result ≡ joins (freed 0 span.now) above.now }

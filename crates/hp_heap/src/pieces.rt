@@ -10,7 +10,7 @@ ghost use Rattle.hp_heap.specs.Cutting.{IsWithin, IsCarving, CanCutBehind, CanCu
 use crate::headers::Headers;
 use hp_base::{HEADER, Span, Tag};
 
-/// The least whole size of an element: a header and the least data, in bytes.
+/// The least whole size of an element: a header and the least data, in bytes. After MALLOC_ELEM_OVERHEAD and MIN_DATA_SIZE.
 pub const LEAST_WHOLE: u64 = 192;
 
 /// Cuts a request's data, `size` bytes at `address`, out of a free element. A rest of more than 192 bytes behind them

@@ -27,7 +27,7 @@ use Rattle.hp_joint.specs.SoFar.{SoFar}
 abbrev pub runs_cut_in : List Done → List Run
 runs_cut_in trace = flat_map (λ own. run_cut own.answer) (calls_in trace)
 
--- those of the lines of all participants, so many
+-- the runs that the lines of all participants, so many, cut
 abbrev pub cut_by_lines : ℕ → List Course → List Run
 cut_by_lines count courses = flat_map (λ who. runs_cut_in (trace_of (courses_of who courses))) (range_with_len 0 count)
 
@@ -35,8 +35,8 @@ cut_by_lines count courses = flat_map (λ who. runs_cut_in (trace_of (courses_of
 abbrev pub numbers_made : ℕ → List Course → ℕ
 numbers_made who courses = length (numbered_in (trace_of (courses_of who courses)))
 
--- between lines there was a number of records: by then all that the lines before had given up had gone, each run by one Drop of its own, and
--- whatever the later lines see of the log holds these records
+-- between lines there was a number of records: by then all that the lines before had given up had gone, each run by one Drop of its own,
+-- and whatever the later lines see of the log holds these records
 pub record HasGoneBetween (count : ℕ) (log : List LogRecord) (asks : List AskLog) (before behind : List Course) : Type 0 where
   pub records : ℕ
   pub most : records ≤ length log
@@ -44,15 +44,15 @@ pub record HasGoneBetween (count : ℕ) (log : List LogRecord) (asks : List AskL
   pub seen : (who : ℕ) → All (λ shown. records ≤ shown)
       (seen_in log asks who (numbers_made who before + 1) (trace_of (courses_of who behind)))
 
--- so it is behind each number of lines
+-- for each number of lines: what these had given up had gone, by a Drop of its own each, before later lines saw the log
 abbrev pub DropsComeFirst : ℕ → List LogRecord → List AskLog → List Course → Type 0
 DropsComeFirst count log asks courses = (lines : ℕ) → HasGoneBetween count log asks (take lines courses) (drop lines courses)
 
--- before the first line it is so
+-- before the first line: what lines gave up has gone before later lines see the log
 abbrev pub DropsOpen : Type 0
 DropsOpen = (count : ℕ) (log : List LogRecord) (asks : List AskLog) → DropsComeFirst count log asks []
 
--- and after each line more that leaves nothing Retiring
+-- by each line more that leaves nothing Retiring: what lines gave up has still gone before later lines see the log
 abbrev pub DropsGoOnByLine : Type 0
 DropsGoOnByLine = (workload : Workload) (courses : List Course) (parties behind : List Party) (old new : HallView) (line : Line)
     (answer : Answer) (was now : SegsView) → IsGiven workload → SoFar workload courses parties old
@@ -61,7 +61,7 @@ DropsGoOnByLine = (workload : Workload) (courses : List Course) (parties behind 
     → DropsComeFirst workload.participants now.log now.asks
     (courses ++ record { line = line; answer = answer; trace = goes.does.does.does.trace } ∷ [])
 
--- and where all serve on
+-- where all serve on: what lines gave up has still gone before later lines see the log
 abbrev pub DropsRest : Type 0
 DropsRest = (workload : Workload) (courses : List Course) (parties behind : List Party) (old new : HallView) (was now : SegsView)
     → IsGiven workload → SoFar workload courses parties old → length behind ≡ length parties

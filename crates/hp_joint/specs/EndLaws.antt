@@ -72,13 +72,13 @@ OpensSoFar = (workload : Workload) (heaps : List HeapView) (parties : List Party
     → ((who : ℕ) (party : Party) → slice_get parties who ≡ Some party → IsFirstParty workload who party)
     → SoFar workload [] parties (first_hall workload heaps)
 
--- a participant served while another one did its line, or behind the last line
+-- a participant served while another one did its line, or after the last line
 pub record ServesBeside (count who : ℕ) (old new : HallView) (party after : Party) : Type 0 where
   pub served : HasServed count who old new party after
   pub same : IsSameParty party after
   pub tied : IsTied (seen_in new) (own_at new who) after.joined after.maps
 
--- so did all but those that are apart
+-- all but those that are apart served, and did nothing else
 abbrev pub OthersServe : (ℕ → Type 0) → ℕ → HallView → HallView → List Party → List Party → Type 0
 OthersServe apart count old new parties behind = (who : ℕ) (party after : Party) → (apart who → ⊥) → slice_get parties who ≡ Some party
     → slice_get behind who ≡ Some after → ServesBeside count who old new party after
@@ -140,7 +140,7 @@ pub record IsAtEnd (workload : Workload) (courses : List Course) (answers : List
   pub tables_are : (who : ℕ) (party : Party) (table : Table) → slice_get parties who ≡ Some party → slice_get tables who ≡ Some table
       → LeavesTable party table
 
--- behind the last line that is an end of the workload, of these lines as they were done
+-- after the last line what the run has come to is an end of the workload, of these lines as they were done
 abbrev pub EndsSo : Type 0
 EndsSo = (workload : Workload) (courses : List Course) (answers : List Answer) (parties : List Party) (hall : HallView)
     (heaps : List HeapView) (segs : SegsView) (tables : List Table) → IsGiven workload → SoFar workload courses parties hall
@@ -175,15 +175,15 @@ pub record MayHaveFailedSo (parties : List Party) (participant call addr : ℕ) 
   pub its : slice_get parties participant ≡ Some party
   pub fails : FailsFor party.maps.may_fail call addr got kept
 
--- wherever it was run to, a mapping that failed was a declared participant's, of a page that was asked for, at a call at which its mapper may
--- answer so
+-- wherever it was run to, a mapping that failed was a declared participant's, of a page that was asked for, at a call at which its mapper
+-- may answer so
 abbrev pub FailsByReason : Type 0
 FailsByReason = (workload : Workload) (courses : List Course) (parties : List Party) (hall : HallView) (segs : SegsView) (entry : AskLog)
     (participant call : ℕ) → IsGiven workload → SoFar workload courses parties hall → segs_in (slot_at hall MAX_HEAPS) ≡ Some segs
     → Contains segs.asks entry → (failed : IsFailedMapping participant call entry)
     → MayHaveFailedSo parties participant call failed.addr failed.got entry.ask
 
--- and failed mappings that share participant and call stand at one place of the outcomes
+-- failed mappings that share participant and call stand at one place of the outcomes
 abbrev pub FailsOnce : Type 0
 FailsOnce = (workload : Workload) (courses : List Course) (parties : List Party) (hall : HallView) (segs : SegsView) (place other : ℕ)
     (entry second : AskLog) (participant call : ℕ) → IsGiven workload → SoFar workload courses parties hall

@@ -61,7 +61,7 @@ shown_in log asks who number (GaveUp heap run ∷ trace) =
 shown_in log asks who number (Looked records ∷ trace) = records ∷ shown_in log asks who number trace
 shown_in log asks who number (CaughtUp to caught ∷ trace) = shown_in log asks who number trace
 
--- those that lines show which are done one after another, each of a participant that made so many asks and notices before
+-- the numbers that lines show which are done one after another, each of a participant that made so many asks and notices before
 abbrev pub shown_by_lines : List LogRecord → List AskLog → (ℕ → ℕ) → List Course → List ℕ
 shown_by_lines log asks made [] = []
 shown_by_lines log asks made (course ∷ courses) =
@@ -84,7 +84,7 @@ NoneComesLate courses before now = (who number : ℕ) → 0 < number → number 
 abbrev pub ShownOpen : Type 0
 ShownOpen = (log : List LogRecord) (asks : List AskLog) → AreShown log asks []
 
--- and after each line more in which no outcome comes late
+-- after each line more in which no outcome comes late the numbers that lines show never fall
 abbrev pub ShownGoOnByLine : Type 0
 ShownGoOnByLine = (workload : Workload) (courses : List Course) (parties behind : List Party) (old new : HallView) (line : Line)
     (answer : Answer) (was now : SegsView) → IsGiven workload → SoFar workload courses parties old
@@ -92,7 +92,7 @@ ShownGoOnByLine = (workload : Workload) (courses : List Course) (parties behind 
     → segs_in (slot_at new MAX_HEAPS) ≡ Some now → NoneComesLate courses was.asks now.asks → AreShown was.log was.asks courses
     → AreShown now.log now.asks (courses ++ record { line = line; answer = answer; trace = goes.does.does.does.trace } ∷ [])
 
--- and where all serve on, and no outcome comes late
+-- where all serve on, and no outcome comes late, the numbers that lines show never fall
 abbrev pub ShownRest : Type 0
 ShownRest = (workload : Workload) (courses : List Course) (parties behind : List Party) (old new : HallView) (was now : SegsView)
     → IsGiven workload → SoFar workload courses parties old → length behind ≡ length parties

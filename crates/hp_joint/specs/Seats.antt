@@ -39,8 +39,8 @@ use Rattle.hp_proc.specs.declared.own_element.OwnElement.{OwnElement}
 use Rattle.hp_serve.specs.declared.pages_asked.PagesAsked.{PagesAsked}
 use Rattle.hp_serve.specs.declared.sent.Sent.{Sent}
 
--- a participant in the course of a run: itself, what its lines left, what was done for its lines so far, the frames that it has fetched, and
--- the ask with which it armed itself last
+-- a participant in the course of a run: itself, what its lines left, what was done for its lines so far, the frames that it has fetched,
+-- and the ask with which it armed itself last
 pub record Seat : Type 0 where
   pub party : Party
   pub standing : Standing
@@ -56,7 +56,7 @@ seated party seat = record seat { party = party }
 abbrev pub leaving : Standing → Seat → Seat
 leaving standing seat = record seat { standing = standing }
 
--- and this was done for its line
+-- this was done for its line, besides what was done before
 abbrev pub having_done : Party → List Done → Seat → Seat
 having_done party more seat = record seat { party = party; trace = seat.trace ++ more }
 
@@ -102,12 +102,12 @@ pub data Mails (who : ℕ) : Seat → Seat → MailStep → Type 0 where
   asks : (seat : Seat) (ask : Ask) (frame : Frame) (action : Action) (posted : Posted) → seat.asking ≡ Some ask
       → Says frame (alloc_body ask)
       → Mails who seat seat (Posts 0 frame action posted)
-  -- so does the notice of a run that it gave up, by its next number
+  -- the notice of a run that it gave up goes to participant 0, under its next number
   tells : (seat : Seat) (heap : ℕ) (run : Run) (frame : Frame) (action : Action) (posted : Posted)
       → Says frame (free_body who (seat.party.asked + 1) heap run)
       → Mails who seat (having_done (numbered_on (seat.party.asked + 1) seat.party) (GaveUp heap run ∷ []) seat)
       (Posts 0 frame action posted)
-  -- and any message that asks for nothing goes to anybody
+  -- any message that asks for nothing goes to anybody
   speaks : (seat : Seat) (to : ℕ) (frame : Frame) (body : Body) (action : Action) (posted : Posted) → AsksNothing body → Says frame body
       → Mails who seat seat (Posts to frame action posted)
 
@@ -141,7 +141,7 @@ pub data Handles (count who : ℕ) : Seat → Seat → SegsView → SegsView →
       → Handles count who seat (armed_with who asked run number seat) segs (after_arm (ask_of who number asked) segs)
   -- it claims what was granted for its last ask
   claims : (seat : Seat) (segs : SegsView) → Handles count who seat seat segs (after_claim who seat.party.asked segs)
-  -- three deadlines behind its last ask it takes that back where nothing stands, and claims what was granted
+  -- three deadlines after its last ask was sent it takes that back where neither a grant nor a refusal stands, and claims what was granted
   settles : (seat : Seat) (segs : SegsView) (since now : ℕ) → since + 3 * seat.party.deadline ≤ now
       → Handles count who seat seat segs (after_claim who seat.party.asked (after_withdraw who seat.party.asked since now segs))
   -- it cuts a run from the heap in its hand, and gives it up

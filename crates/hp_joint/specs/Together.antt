@@ -22,7 +22,7 @@ pub record Joint : Type 0 where
 abbrev pub with_seat : ℕ → Seat → Joint → Joint
 with_seat who seat at = record { seats = slice_set at.seats who seat; segs = at.segs; boxes = at.boxes }
 
--- and the segment value to this
+-- the segment value has become this
 abbrev pub with_segs : SegsView → Joint → Joint
 with_segs segs at = record { seats = at.seats; segs = segs; boxes = at.boxes }
 

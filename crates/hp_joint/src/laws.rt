@@ -12,9 +12,9 @@ pub fn line_law()
     ensures rests { RestsSoFar }
 {}
 
-/// Behind its last line that is an end of the workload: each line did what its facts say and was answered so; the histories are the calls
-/// of the lines; each outcome is of an ask or a notice of its participant, in turn, and has its cause; pages came and went by the log; and
-/// each participant is in the roster, and has its table, as its lines leave it. Own.
+/// After the last line a run has come to an end of its workload: each line did what its facts say and was answered so; the histories are
+/// the calls of the lines; each outcome is of an ask or a notice of its participant, in turn, and has its cause; pages came and went by the
+/// log; and each participant is in the roster, and has its table, as its lines leave it. Own.
 pub fn end_law()
     ensures { EndsSo }
 {}
@@ -33,7 +33,7 @@ pub fn refusal_law()
 {}
 
 /// Between any two lines of such a run there was a number of records by which all that the lines before had given up had gone, and which
-/// whatever the later lines see of the log holds: so it is before the first line, after each line that leaves nothing Retiring, and where
+/// whatever the later lines see of the log holds. This is so before the first line, after each line that leaves nothing Retiring, and where
 /// all serve on. Own.
 pub fn drops_law()
     ensures opens { DropsOpen }

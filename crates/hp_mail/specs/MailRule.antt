@@ -9,8 +9,8 @@ use Rattle.hp_mail.specs.declared.view.Sender.{Sender}
 use Rattle.hp_mail.specs.declared.view.View.{View}
 use Rattle.hp_mail.specs.Views.{frames_of}
 
--- what no pass sees alone: the pass of each sender, the one that fetches and the one that deals; how many participants have a pass; what each
--- has posted; and what was fetched
+-- what no pass sees alone: the pass of each sender, the one that fetches and the one that deals; how many participants have a pass; what
+-- each has posted; and what was fetched
 pub record Hidden : Type 0 where
   pub pass_of : ℕ → ℕ
   pub fetcher : ℕ

@@ -48,7 +48,7 @@ after_deal v = record v { dealt = v.dealt + 1 }
 abbrev pub dealt_view : View → View
 dealt_view v = only_sender (sender v.dealt [])
 
--- the same for the owner, whose pass fetches from then on
+-- the owner got a pass, which fetches from then on: what the pass that deals has left, and what the new one has
 abbrev pub after_deal_owner : View → View
 after_deal_owner v = record v { fetches = false; fetched = []; dealt = v.dealt + 1 }
 
@@ -84,8 +84,8 @@ after_put frame v = record v { senders = sender (sender_of v).who ((sender_of v)
 abbrev pub after_get : Letter → View → View
 after_get x v = record v { fetched = v.fetched ++ x ∷ [] }
 
--- What a view shows of the letters in the queue: after those that were fetched before, which a pass that fetches knows, they have of each of
--- its senders what that has posted, in its order.
+-- What a view shows of the letters in the queue: after those that were fetched before, which a pass that fetches knows, they have of each
+-- of its senders what that has posted, in its order.
 pub record Shows (v : View) (letters : List Letter) : Type 0 where
   pub before : List Letter
   pub fetched : v.fetches ≡ true → before ≡ v.fetched

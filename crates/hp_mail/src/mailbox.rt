@@ -19,8 +19,8 @@ use std::alloc::{AllocError, Global};
 use std::marker::Model;
 use std::sync::Wait;
 
-/// Frames that wait for the mailbox's owner. All participants share it. After the socket of a process (DPDK Programmer's Guide, Multi-process
-/// Support).
+/// Frames that wait for the mailbox's owner. All participants share it. After the socket by which rte_mp_sendmsg reaches a process (the
+/// chapter Multi-process Support).
 #[derive(Drop)]
 pub struct Mailbox {
     queue: Queue,
@@ -37,8 +37,8 @@ impl Model for Mailbox {
 }
 
 impl Mailbox {
-    /// An empty mailbox with room for that many frames, and a pass for each participant, in the order of their numbers. The owner fetches by
-    /// its pass. Own.
+    /// An empty mailbox with room for that many frames, and a pass for each participant, in the order of their numbers. The owner fetches
+    /// by its pass. Own.
     pub fn new(
         alloc: Global,
         capacity: usize,
@@ -62,8 +62,8 @@ impl Mailbox {
         requires mailbox { pass.old.mailbox ≡ self.now.id }
         ensures posted { pass.new ≡ after_post frame result pass.old }
 
-        // It is lost exactly where that is planned. It comes twice only where that is planned, and then once only where there was no room for
-        // the second.
+        // It is lost exactly where that is planned. It comes twice only where that is planned, and then once only where there was no room
+        // for the second.
         ensures lost { (line : ℕ) → (result ≡ Posted.Lost line) ↔ (action ≡ Action.Lose line) }
         ensures twice { result ≡ Posted.Twice → (line : ℕ) × (action ≡ Action.Repeat line) }
         ensures once { (line : ℕ) → action ≡ Action.Repeat line → result ≡ Posted.Sent
@@ -114,7 +114,7 @@ impl Mailbox {
         }
     }
 
-    /// Fetches the first frame, or none where the mailbox was empty at a step of this call. After the handling of messages of rte_mp.
+    /// Fetches the first frame, or none where the mailbox was empty at a step of this call. After the actions of rte_mp_action_register.
     pub fn fetch<R: Wait>(&self, rt: &R, pass: &mut Pass) -> Option<Frame>
         requires mailbox { pass.old.mailbox ≡ self.now.id }
         requires owner { IsOwner pass.old }

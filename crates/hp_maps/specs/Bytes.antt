@@ -27,7 +27,7 @@ told_byte kind.Free told there = there && not told
 abbrev pub bytes_after : Event → (ℕ → Bool) → ℕ → Bool
 bytes_after event bytes byte = told_byte event.kind (in_event byte event) (bytes byte)
 
--- and after events, one after the other
+-- the bytes after events, one after the other
 abbrev pub bytes_after_all : List Event → (ℕ → Bool) → ℕ → Bool
 bytes_after_all [] bytes = bytes
 bytes_after_all (event ∷ events) bytes = bytes_after_all events (bytes_after event bytes)

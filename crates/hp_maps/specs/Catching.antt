@@ -14,7 +14,7 @@ use Rattle.hp_log.specs.declared.log_record.LogRecord.{LogRecord}
 use Rattle.hp_log.specs.declared.log_record.LogRecord.TheVariants.{Add, Drop}
 use Rattle.hp_maps.specs.MapsView.{MapsView, AreApart, AreClearOf, calls_of, chunk_rows, is_of_log, table_in}
 
--- the records behind the first n, up to record `to`
+-- the records after the first n, up to record `to`
 abbrev pub newer : List LogRecord → ℕ → ℕ → List LogRecord
 newer records n to = take (to - n) (drop n records)
 
@@ -36,7 +36,7 @@ abbrev pub brought : ℕ → LogRecord → List LogRecord → List Row
 brought generation (Add run heap) later = undropped later (rows_of run generation)
 brought generation (Drop run) later = []
 
--- what the records behind the first n bring, in the order of the log
+-- what the records after the first n bring, in the order of the log
 abbrev pub new_rows : ℕ → List LogRecord → List Row
 new_rows n [] = []
 new_rows n (entry ∷ records) = brought (n + 1) entry records ++ new_rows (n + 1) records
@@ -97,7 +97,7 @@ pub record IsMappableRun (run : Run) : Type 0 where
   pub small : IsSmallRun run
   pub beyond : run.addr + (run.count + 1) * run.page < 2 ^ 64
 
--- how far a table is behind the log: it is the table of its first n records without what the records up to another one drop
+-- how a table lags behind the log: it is the table of the first n records, without what the records up to another one drop
 pub record Lags (records : List LogRecord) (n to : ℕ) (table : List Row) : Type 0 where
   pub reached : ℕ
   pub from : n ≤ reached

@@ -76,7 +76,7 @@ caught_events rows n records caught.Done = dropped_events rows [] records ++ eve
 caught_events rows n records (caught.Refused row call) = dropped_events rows [] records
 caught_events rows n records (caught.Elsewhere row call got) = dropped_events rows [] records
 
--- those that listen, told events one after the other
+-- the listeners once they are told events, one after the other
 abbrev pub all_told : List Event → List Listener → List Listener
 all_told [] listeners = listeners
 all_told (event ∷ events) listeners = all_told events (told_after event listeners)

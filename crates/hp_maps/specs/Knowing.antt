@@ -13,8 +13,8 @@ use Rattle.hp_maps.specs.Chunks.{rows_beside, rows_of_chunk}
 use Rattle.hp_maps.specs.MapsView.{MapsView, table_in}
 use Rattle.hp_maps.specs.Ready.{IsReady}
 
--- it knows the rows: its events, one after the other, turn the bytes of the log's rows that were mapped when it began to listen into those
--- of the log's rows among these
+-- a listener knows rows: its events, one after the other, turn the bytes of the log's rows that were mapped when it began to listen into
+-- those of the log's rows among these
 abbrev pub Knows : List Row → Listener → Type 0
 Knows rows listener = AreTold listener.events (table_in listener.since) (table_in rows)
 
@@ -22,7 +22,7 @@ Knows rows listener = AreTold listener.events (table_in listener.since) (table_i
 abbrev pub AllKnow : List Row → List Listener → Type 0
 AllKnow rows listeners = All (Knows rows) listeners
 
--- those that know the rows of a table that is ready know the rows after it too, once they were told what was
+-- listeners that know the rows of a table that is ready know the rows after a catch-up too, once they were told its events
 abbrev pub StayKnown : MapsView → List LogRecord → ℕ → List Listener → List Row → List Listener → Type 0
 StayKnown maps records to old rows new = (lists : List ListPlace) → IsReady lists maps records to → AllKnow maps.rows old → AllKnow rows new
 
@@ -30,7 +30,7 @@ StayKnown maps records to old rows new = (lists : List ListPlace) → IsReady li
 abbrev pub NewKnows : Type 0
 NewKnows = (name : List ℕ) (rows : List Row) → Knows rows (record { name = name; since = rows; events = [] })
 
--- and who knows the rows knows them with those of a chunk, and without them
+-- a listener that knows the rows knows them with those of a chunk, and without them
 abbrev pub ChunksAreNoNews : Type 0
 ChunksAreNoNews = (chunk : Chunk) (rows : List Row) (ended : Caught) (listener : Listener) → Knows rows listener
     → Knows (rows_after rows (rows_of_chunk chunk) ended) listener × Knows (rows_beside chunk rows) listener

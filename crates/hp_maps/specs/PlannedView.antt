@@ -21,7 +21,7 @@ pub record PlannedView : Type 0 where
   pub faults : ℕ
   -- the calls of the other mapper at which a row may fail, and how, where that is told
   pub other_may_fail : Option (List FailingCall)
-  -- the plan, and the party that the plan names
+  -- the plan, and the participant that the plan names
   pub plan : List PlanEntry
   pub party : ℕ
 
@@ -29,8 +29,8 @@ pub record PlannedView : Type 0 where
 abbrev pub action_for : List PlanEntry → ℕ → ℕ → Row → MapAction
 action_for plan party call row = if row.page == 0 then action.Ask else map_action_of plan party call
 
--- the mapping calls of a party at which a row may fail, and how: those that the plan names, where the other mapper is steady; else it may fail
--- at any, and in any way
+-- the mapping calls of a participant at which a row may fail, and how: those that the plan names, where the other mapper is steady; else it
+-- may fail at any, and in any way
 abbrev pub may_fail_by : List PlanEntry → ℕ → Option (List FailingCall) → Option (List FailingCall)
 may_fail_by plan party None = None
 may_fail_by plan party (Some []) = Some (planned_calls plan party)

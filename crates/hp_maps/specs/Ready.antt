@@ -33,7 +33,7 @@ pub record IsReady (lists : List ListPlace) (maps : MapsView) (records : List Lo
   pub room : length (chunk_rows maps.rows) + slots_in lists ≤ maps.capacity
   pub calls : calls_of maps ≤ 2 ^ 63
 
--- so it is with a new table, where it has room for all slots
+-- a new table is ready, where it has room for all slots
 abbrev pub NewIsReady : Type 0
 NewIsReady = (lists : List ListPlace) (capacity faults : ℕ) (may_fail : Option (List FailingCall)) (records : List LogRecord) (to : ℕ) → IsLogOf lists records
     → to ≤ length records → slots_in lists ≤ capacity
@@ -41,31 +41,31 @@ NewIsReady = (lists : List ListPlace) (capacity faults : ℕ) (may_fail : Option
     (record { rows = []; number = 0; capacity = capacity; answers = []; faults = faults; may_fail = may_fail; held = [] })
     records to
 
--- and again after a catch-up, however it ended, for as much of a longer log
+-- a table is ready again after a catch-up, however that ended, for as much of a longer log
 abbrev pub StaysReady : Type 0
 StaysReady = (lists : List ListPlace) (old new : MapsView) (records more : List LogRecord) (to further : ℕ) (ended : Caught)
     → IsReady lists old records to → new.number ≡ number_after old.number to ended → new.capacity ≡ old.capacity
     → Lags records new.number to (table_in new.rows) → chunk_rows new.rows ≡ chunk_rows old.rows → calls_of new ≤ 2 ^ 63
     → IsLogOf lists (records ++ more) → to ≤ further → further ≤ length (records ++ more) → IsReady lists new (records ++ more) further
 
--- then it may catch up
+-- a table that is ready may catch up
 abbrev pub IsReadyToCatchUp : Type 0
 IsReadyToCatchUp = (lists : List ListPlace) (maps : MapsView) (records : List LogRecord) (to : ℕ) → IsReady lists maps records to
     → CanCatchUp maps records to
 
--- and a catch-up tells at most as many events as it takes in records
+-- a catch-up tells at most as many events as it takes in records
 abbrev pub TellsOneARecord : Type 0
 TellsOneARecord = (lists : List ListPlace) (maps : MapsView) (records : List LogRecord) (to : ℕ) (ended : Caught)
     → IsReady lists maps records to → length (caught_events maps.rows maps.number (newer records maps.number to) ended) ≤ to - maps.number
 
--- its events turn the bytes of the log's rows before it into those after it, however it ended
+-- the events of a catch-up turn the bytes of the log's rows before it into those after it, however it ended
 abbrev pub TellsBytes : Type 0
 TellsBytes = (lists : List ListPlace) (maps : MapsView) (records : List LogRecord) (to : ℕ) (ended : Caught) (rows : List Row)
     → IsReady lists maps records to
     → rows ≡ rows_after (kept (newer records maps.number to) maps.rows) (new_rows maps.number (newer records maps.number to)) ended
     → AreTold (caught_events maps.rows maps.number (newer records maps.number to) ended) (table_in maps.rows) (table_in rows)
 
--- and those of the end leave none of them
+-- the events of the end leave no byte of the log's rows
 abbrev pub TellsTheEnd : Type 0
 TellsTheEnd = (lists : List ListPlace) (maps : MapsView) (records : List LogRecord) (to : ℕ) (rising : List Row) → IsReady lists maps records to
     → IsPermutation maps.rows rising → chunk_rows maps.rows ≡ [] → AreTold (events_of kind.Free rising) (table_in maps.rows) []
@@ -76,13 +76,13 @@ pub record IsClear (lists : List ListPlace) (chunks : List Row) (chunk : Chunk) 
   pub outside : (addr : ℕ) → chunk.addr ≤ addr → addr < chunk.addr + chunk.len → IsOutside lists addr
   pub others : All (λ row. (row.addr < chunk.addr) ⊎ (chunk.addr + chunk.len ≤ row.addr)) chunks
 
--- it may attach such a chunk, where there is room for its pages besides
+-- a participant that is ready may attach a chunk that is clear of its rows, where there is room for the chunk's pages besides
 abbrev pub IsReadyToAttach : Type 0
 IsReadyToAttach = (lists : List ListPlace) (maps : MapsView) (records : List LogRecord) (to : ℕ) (chunk : Chunk) → IsReady lists maps records to
     → IsClear lists (chunk_rows maps.rows) chunk → chunk.len / chunk.page < 2 ^ 32
     → length (chunk_rows maps.rows) + slots_in lists + chunk.len / chunk.page ≤ maps.capacity → CanAttach maps chunk
 
--- and then the rows of its chunks still lie beside the lists, as they do once a chunk is detached
+-- once a chunk is attached the rows of the chunks still lie beside the lists, as they do once one is detached
 abbrev pub AttachedBeside : Type 0
 AttachedBeside = (lists : List ListPlace) (rows : List Row) (chunk : Chunk) → AreBeside lists (chunk_rows rows) → IsClear lists (chunk_rows rows) chunk
     → AreBeside lists (chunk_rows (rows ++ rows_of_chunk chunk))

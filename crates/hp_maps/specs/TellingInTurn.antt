@@ -37,7 +37,7 @@ told_then kind stretch None = []
 told_then kind None (Some row) = []
 told_then kind (Some stretch) (Some row) = if joins_by kind stretch.last row then [] else stretch.event ∷ []
 
--- what is told of a stretch and the rows behind it
+-- what is told of a stretch and the rows after it
 abbrev pub ahead : EventKind → Event → Row → List Row → List Event
 ahead kind event last [] = event ∷ []
 ahead kind event last (row ∷ rows) =

@@ -45,7 +45,7 @@ AreHeld held rows = All (λ row. list_any (λ one. is_row one.row row) held ≡ 
 abbrev pub IsWithin : Row → Type 0
 IsWithin row = row.addr + 2 * row.page < 2 ^ 64
 
--- when the rows from one place on may be mapped behind those before it, which are held
+-- when the rows from one place on may be mapped after those before it, which are held
 pub record CanMapRows (rows : List Row) (start : ℕ) (held : List Held) (capacity calls : ℕ) : Type 0 where
   pub within : start ≤ length rows
   pub holds : held ≡ owned (take start rows)
@@ -71,7 +71,7 @@ calls_after calls more caught.Done = calls + more
 calls_after calls more (caught.Refused row call) = call
 calls_after calls more (caught.Elsewhere row call got) = call
 
--- when records behind the first n may be taken in
+-- when records after the first n may be taken in
 pub record CanTakeIn (rows : List Row) (n : ℕ) (records : List LogRecord) (capacity memory calls : ℕ) : Type 0 where
   pub mappable : All (λ entry. IsMappableRun (run_in entry)) records
   pub few : n + length records < 2 ^ 64

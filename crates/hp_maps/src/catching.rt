@@ -11,7 +11,7 @@ use crate::row_list::{RowList, drop_rows};
 use hp_base::{Caught, Mapper};
 use hp_log::LogRecord;
 
-/// Takes in the records that stand behind the first `n`: unmaps what they drop, and then maps what they bring. `calls`
+/// Takes in the records that stand after the first `n`: unmaps what they drop, and then maps what they bring. `calls`
 /// is how many mapping calls there were.
 pub fn take_in<M: Mapper>(
     mapper: &mut M,

@@ -15,7 +15,7 @@ use std::alloc::{AllocError, Global};
 use std::marker::Model;
 
 /// What one process has mapped: the rows of the log that it has taken in, and the rows of the chunks that it attached.
-/// After the memory maps of a secondary process in Multi-process Support.
+/// After the memseg lists that a secondary process keeps for itself, and eal_memalloc_sync_with_primary.
 #[derive(Drop)]
 pub struct LocalMaps<M: Mapper> {
     mapper: M,
@@ -68,7 +68,7 @@ impl<M: Mapper> LocalMaps<M> {
       was_refused,
     };
 
-    /// Nothing is mapped yet, and there is room for so many rows.
+    /// Nothing is mapped yet, and there is room for so many rows. Own.
     pub fn new(alloc: Global, mapper: M, capacity: usize) -> Result<LocalMaps<M>, AllocError>
         requires holds { M.held mapper ≡ [] }
         requires room { capacity ≤ M.capacity mapper }
@@ -92,21 +92,21 @@ impl<M: Mapper> LocalMaps<M> {
         })
     }
 
-    /// How many records of the log it has taken in.
+    /// How many records of the log it has taken in. Own.
     pub fn number(&self) -> u64
         ensures { result ≡ self.now.number }
     {
         self.number
     }
 
-    /// How many mapping calls there were.
+    /// How many mapping calls there were. Own.
     pub fn calls(&self) -> u64
         ensures { result ≡ calls_of self.now }
     {
         self.calls
     }
 
-    /// What is mapped, in the order of mapping: rows of the log, and of chunks.
+    /// What is mapped, in the order of mapping: rows of the log, and of chunks. Own.
     pub fn rows(&self) -> &[Row]
         ensures rows { result.now ≡ self.now.rows }
         ensures mapped { IsMapped self.now }
@@ -116,14 +116,14 @@ impl<M: Mapper> LocalMaps<M> {
         self.rows.as_slice()
     }
 
-    /// Hands out what is mapped, in the order of mapping, without unmapping it. No row is copied.
+    /// Hands out what is mapped, in the order of mapping, without unmapping it. No row is copied. Own.
     pub fn into_rows(self) -> Vec<Row>
         ensures { result.items ≡ self.rows }
     {
         self.rows.into_rows()
     }
 
-    /// Whether a row is mapped. Rows are compared in all fields.
+    /// Whether a row is mapped. Rows are compared in all fields. Own.
     pub fn maps(&self, row: &Row) -> bool
         ensures { result ≡ list_any (is_row row.now) self.now.rows }
     {
@@ -133,7 +133,7 @@ impl<M: Mapper> LocalMaps<M> {
     /// Catches up with the log: unmaps the rows that the records after its number up to `to` drop, and then maps the rows
     /// that they bring, by rising address within each record, in the order of the log. What goes is told before it is
     /// unmapped, and what comes once all of it is mapped. Where the mapper refuses a row, or maps it elsewhere, what came is
-    /// unmapped again. After the synchronisation of memory maps in Multi-process Support.
+    /// unmapped again. After eal_memalloc_sync_with_primary.
     pub fn catch_up<T: Tell>(&mut self, records: &[LogRecord], to: u64, tell: &mut T) -> Caught
         requires can { CanCatchUp self.old records.now to }
         requires spare { length (caught_events self.old.rows self.old.number (newer records.now self.old.number to)

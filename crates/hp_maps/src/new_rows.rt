@@ -12,7 +12,7 @@ use crate::rows::{drops, is_drop};
 use hp_base::{Row, Run};
 use hp_log::{LogRecord, row_of};
 
-/// Adds what records bring behind the first `n`, where there is room for it.
+/// Adds what the records after the first `n` bring, where there is room for it.
 pub fn push_new_rows(rows: &mut RowList, n: u64, records: &[LogRecord])
     requires small { All (λ entry. IsSmallRun (run_in entry)) records.now }
     requires few { n + length records.now < 2 ^ 64 }

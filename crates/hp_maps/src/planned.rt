@@ -45,7 +45,7 @@ impl<'p, M: Mapper> Model for Planned<'p, M> {
 }
 
 impl<'p, M: Mapper> Planned<'p, M> {
-    /// A mapper over another one, for the mapping calls of a party.
+    /// A mapper over another one, for the mapping calls of a participant. Own.
     pub fn new(inner: M, plan: &'p Plan, party: u8) -> Planned<'p, M>
         requires holds { M.held inner ≡ [] }
         requires calls { M.answers inner ≡ [] }

@@ -93,7 +93,7 @@ pub fn tell_dropped<M: Mapper, T: Tell>(
     }
 }
 
-// Tells the rows that a record unmaps, where others came before it, by rising slot. Each is looked for behind the one before it
+// Tells the rows that a record unmaps, where others came before it, by rising slot. Each is looked for after the one before it
 // first.
 fn tell_freed<T: Tell>(
     tell: &mut T,

@@ -52,7 +52,7 @@ abbrev pub IsPut : Status → List ℕ → Option (List ℕ) → Option (List �
 IsPut ended text held held' failed status.WriteFault = HoldsFront held held' text × failed
 IsPut ended text held held' failed result = (result ≡ ended) × Holds held held' text
 
--- the same, or nothing was written, as memory ran out
+-- a text was written with a status, or a front of it before the sink failed, or nothing, as memory ran out
 abbrev pub IsPutUnlessShort : Status → List ℕ → Option (List ℕ) → Option (List ℕ) → Type 0 → Status → Type 0
 IsPutUnlessShort ended text held held' failed status.OutOfMemory = held' ≡ held
 IsPutUnlessShort ended text held held' failed result = IsPut ended text held held' failed result

@@ -60,8 +60,8 @@ pub record IsFresh (v : View) (number : ℕ) : Type 0 where
   pub within : number < v.total
   pub fresh : times number v.has ≡ 0
 
--- What a pass shows of the numbers in the queue: with its own they are numbers of the pool, each once at most. A pass that has the whole pool
--- shows that they are all numbers of it.
+-- What a pass shows of the numbers in the queue: with its own they are numbers of the pool, each once at most. A pass that has the whole
+-- pool shows that they are all numbers of it.
 pub record Shows (v : View) (numbers : List ℕ) : Type 0 where
   pub once : (number : ℕ) → times number v.has + times number numbers ≤ once_below v.total number
   pub all : v.part ≡ 2 ^ v.halvings → (number : ℕ) → times number v.has + times number numbers ≡ once_below v.total number

@@ -65,7 +65,7 @@ MovesSound (Takes number kept) = IsSoundAndArmed kept
 MovesSound (Gives number kept) = IsSoundAndArmed kept
 MovesSound (Notes note) = ⊤
 
--- where the opening values are sound and armed, so is each value that is taken or given, and so are those of the end
+-- where the opening values are sound and armed, each value that is taken or given is sound and armed, and those of the end are
 abbrev pub ValuesStaySound : Type 0
 ValuesStaySound = (old new : HallView) (course : IsCourse old new) → AreSoundAndArmed old
     → AllByRecursion (λ step. MovesSound step.1) course.steps × AreSoundAndArmed new

@@ -24,7 +24,7 @@ out_slot who kept = record { kept = kept; holder = Some who }
 abbrev pub heap_slot : HeapView → SlotView
 heap_slot heap = home_slot (Heap heap)
 
--- the slots of these values, all at home: the heaps in their order, and behind them the segment value
+-- the slots of these values, all at home: the heaps in their order, and after them the segment value
 abbrev pub slots_of : List HeapView → SegsView → List SlotView
 slots_of heaps segs = map heap_slot heaps ++ home_slot (Segments segs) ∷ []
 

@@ -15,7 +15,7 @@ ShowsHome (Takes number kept) homes = slice_get homes number ≡ Some true
 ShowsHome (Gives number kept) homes = slice_get homes number ≡ Some false
 ShowsHome (Notes note) homes = ⊤
 
--- of which slots they are there behind it
+-- of which slots the values are there after it
 abbrev pub homes_after : MailStep → List Bool → List Bool
 homes_after (Posts to frame action posted) homes = homes
 homes_after (Fetches frame) homes = homes

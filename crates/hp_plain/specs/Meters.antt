@@ -28,7 +28,7 @@ ShowsNote who (Paused moved until) meters = ⊤
 abbrev pub GoesOnTo : Bool → Option ℕ → ℕ → ℕ → Type 0
 GoesOnTo moved until old new = (new ≡ old) ⊎ ((moved ≡ false) × (old ≤ new) × IfSome until (λ deadline. new ≤ deadline))
 
--- the clock behind a note
+-- the clock after a note
 abbrev pub IsClockBehind : Note → ℕ → ℕ → Type 0
 IsClockBehind (Read now) old new = new ≡ old
 IsClockBehind (Loaded participant number) old new = new ≡ old
@@ -38,7 +38,7 @@ IsClockBehind Emptied old new = new ≡ old
 IsClockBehind (Yielded above moved) old new = new ≡ old
 IsClockBehind (Paused moved until) old new = GoesOnTo moved until old new
 
--- the numbers behind it
+-- the acknowledged numbers after a note
 abbrev pub numbers_after : ℕ → Note → List ℕ → List ℕ
 numbers_after who (Read now) numbers = numbers
 numbers_after who (Loaded participant number) numbers = numbers
@@ -61,7 +61,7 @@ IsMetered who (Takes slot kept) old new = new ≡ old
 IsMetered who (Gives slot kept) old new = new ≡ old
 IsMetered who (Notes note) old new = IsNoted who note old new
 
--- by these steps they came from one state to another
+-- by these steps the clock and the numbers came from one state to another
 abbrev pub AreMetered : List (ℕ × MailStep) → Meters → Meters → Type 0
 AreMetered [] old new = new ≡ old
 AreMetered (step ∷ steps) old new = (mid : Meters) × IsMetered step.0 step.1 old mid × AreMetered steps mid new

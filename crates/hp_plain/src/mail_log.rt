@@ -8,8 +8,8 @@ use hp_mail::Posted;
 use std::marker::Model;
 use std::snapshot::Snapshot;
 
-// All that was done in a hall, in order. Contracts see the list; of its bytes it keeps a few of the last step alone, behind
-// which the earlier ones stand as a snapshot, which has none.
+// All that was done in a hall, in order. Contracts see the list; at run time it keeps a few bytes of the last step alone, and
+// the earlier ones are a snapshot, which takes no bytes.
 #[cycle(mail_log)]
 #[derive(Drop)]
 pub(crate) struct MailLog {

@@ -104,14 +104,14 @@ impl PlainHall {
         HallParts { heaps, segs }
     }
 
-    /// The reading of its clock, in milliseconds.
+    /// The reading of its clock, in milliseconds. Own.
     pub fn clock(&self) -> u64
         ensures { result ≡ self.now.clock }
     {
         self.clock
     }
 
-    /// How often a mailbox was full. At its type's end the count stands still.
+    /// How often a mailbox was full. At its type's end the count stands still. Own.
     pub fn fulls(&self) -> u64
         ensures { result ≡ self.now.fulls }
     {
@@ -120,7 +120,7 @@ impl PlainHall {
 
     /// What holds of every hall: each value is one of its slot; each participant has a mailbox and its own part; the segment value is
     /// sound with its growth and outcomes of armed asks; each heap at home has what that has for it; whose ask is not settled has its heap
-    /// in hand; and the members of the roster have taken in what was granted. It does nothing.
+    /// in hand; and the members of the roster have taken in what was granted. It does nothing. Own.
     pub fn sound(&self)
         ensures { IsHall self.now }
     {

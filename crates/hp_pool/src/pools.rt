@@ -40,7 +40,7 @@ fn place_of(pools: &[Pool], socket: u32, page: u64) -> Option<usize>
 }
 
 impl Pools {
-    /// No pools.
+    /// No pools. Own.
     pub fn new(alloc: Global) -> Pools
         ensures { result ≡ [] }
     {
@@ -123,8 +123,8 @@ impl Pools {
         Some(self.pools[place].free)
     }
 
-    /// The same, where the caller knows at which place the pool stands: the pools stand in the order in which they were
-    /// added. Where another pool stands there, it is looked for (own).
+    /// How many pages of a pool are free, where the caller knows at which place the pool stands: the pools stand in the
+    /// order in which they were added. Where another pool stands there, it is looked for (own).
     pub fn have_at(&self, place: usize, socket: u32, page: u64) -> Option<u64>
         ensures { result ≡ free_pages self.now socket page }
     {

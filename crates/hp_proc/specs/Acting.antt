@@ -29,7 +29,7 @@ use Rattle.hp_serve.specs.Serving.{acks_behind, gives_segments, takes_segments}
 use Rattle.hp_serve.specs.Waiting.{IsTurned}
 use Rattle.hp_serve.specs.declared.pages_asked.PagesAsked.{PagesAsked}
 
--- what a participant did, with the steps that it made in the hall: with the heap in its hand before and behind, where it had one, and the
+-- what a participant did, with the steps that it made in the hall: with the heap in its hand before and after, where it had one, and the
 -- heaps that it took meanwhile, in their order
 pub data Acts (count : ℕ) : Option ℕ → Option ℕ → List ℕ → ParticipantView → ParticipantView → List Done → List MailStep → Type 0 where
   nothing : (hand : Option ℕ) (doer : ParticipantView) → Acts count hand hand [] doer doer [] []

@@ -11,7 +11,7 @@ use Rattle.hp_proc.specs.LinesDone.{Course, courses_of, trace_of}
 abbrev pub calls_within : ℕ → ℕ → List Course → ℕ
 calls_within who lines courses = length (calls_in (trace_of (take lines (courses_of who courses))))
 
--- in a history the first calls of one participant, so many, stand before all that another one made behind so many of its own
+-- in a history the first calls of one participant, so many, stand before all that another one made after so many of its own
 abbrev pub StandBefore : List Entry → ℕ → ℕ → ℕ → ℕ → Type 0
 StandBefore history first calls other behind = (early late : ℕ) (entry next : Entry)
     → slice_get history early ≡ Some entry → entry.caller.participant ≡ first → entry.caller.number ≤ calls

@@ -105,6 +105,6 @@ searched_by who context maker =
     then option_to_list (heap_of_element context.pools context.standing.elements (Some maker))
     else map (λ heap. record { index = heap.index; serves = heap.serves }) (socket_heaps context.pools)
 
--- the line stands behind those whose elements are known
+-- the line stands after those whose elements are known
 abbrev pub IsNextLine : Context → Line → Type 0
 IsNextLine context line = All (λ element. element.line < line.line) context.standing.elements

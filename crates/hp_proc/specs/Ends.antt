@@ -135,8 +135,8 @@ abbrev pub none_made : ℕ → ℕ
 none_made who = 0
 
 -- what lines leave besides where they are done one after another: the entries of an earlier line stand before those of a later one in every
--- history, and a line sees of the log what the lines before it show, whoever did them; each outcome but a stale one, and so that of a notice
--- too, is of what a line did, and a stale one has the number of an ask or a notice
+-- history, and a line sees of the log what the lines before it show, of any participant; each outcome but a stale one, also that of a
+-- notice, is of what a line did, and a stale one has the number of an ask or a notice
 pub record OneThreadLeaves (courses : List Course) (heaps : List HeapView) (segs : SegsView) : Type 0 where
   pub in_order : (index : ℕ) (heap : HeapView) → slice_get heaps index ≡ Some heap → heap.history ≡ history_by index none_made courses
   pub seen_in_order : AreSeen (length segs.log) (seen_by_lines segs.log segs.asks none_made courses)

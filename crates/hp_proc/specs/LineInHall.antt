@@ -26,8 +26,8 @@ moment_with heap me doer state = in_hand heap (moment me doer state)
 abbrev pub did_in : ℕ → HallState → HallState → List MailStep → Type 0
 did_in me old new steps = Did me steps old new
 
--- what it did of a line from no heap in hand to none, in which it held these heaps, one after another; or some heaps, none of them twice; and
--- what it did with a heap in hand
+-- what it did of a line from no heap in hand to none, in which it held these heaps, one after another; or some heaps, none of them twice;
+-- and what it did with a heap in hand
 abbrev pub DoesHere : List ℕ → ℕ → ParticipantView → ParticipantView → HallState → HallState → Doing → Doing → Type 0
 DoesHere held me old new from to doing rest = Does held from.count (did_in me from to) doing rest (moment me old from) (moment me new to)
 
@@ -49,7 +49,7 @@ pub record IsIdleIn (me : ℕ) (party : Party) (state : HallState) : Type 0 wher
   pub home : (number : ℕ) → number ≤ MAX_HEAPS → state.may_take number
   pub tied : IsTiedIn me party state
 
--- so it is, and may do its line; it is in the roster where its lines left it attached
+-- a participant is idle in the hall and may do its line; it is in the roster where its lines left it attached
 pub record IsReadyIn (me : ℕ) (doer : ParticipantView) (state : HallState) : Type 0 where
   pub idle : IsIdleIn me doer.party state
   pub ready : MayDo (moment me doer state)
@@ -60,7 +60,7 @@ pub record IsReadyAgain (me : ℕ) (old new : ParticipantView) (state : HallStat
   pub same : IsSameParty old.party new.party
   pub ready : IsReadyIn me new state
 
--- so it is, and what it knows is as it was but for the number of its calls
+-- a participant is ready again, and what it knows is as it was but for the number of its calls
 pub record HasCalled (me : ℕ) (old new : ParticipantView) (state : HallState) : Type 0 where
   pub again : IsReadyAgain me old new state
   pub context : new.context ≡ with_calls new.context.calls old.context
@@ -70,13 +70,13 @@ pub record AreFreeBut (slot : ℕ) (state : HallState) : Type 0 where
   pub taken : (number : ℕ) → number ≢ slot → state.taken number ≡ None
   pub home : (number : ℕ) → number ≤ MAX_HEAPS → number ≢ slot → state.may_take number
 
--- that one is free
+-- the slot is free: it is not out, and may be taken
 pub record IsFreeAt (slot : ℕ) (state : HallState) : Type 0 where
   pub taken : state.taken slot ≡ None
   pub home : state.may_take slot
 
--- it attached or detached: it is the same one, its table is tied, it is in the roster where it notes that it is attached, the slots stay, and
--- nobody else did anything
+-- it attached or detached: it is the same one, its table is tied, it is in the roster where it notes that it is attached, the slots stay,
+-- and nobody else did anything
 pub record ChangesRoster (me : ℕ) (old new : ParticipantView) (from to : HallState) : Type 0 where
   pub same : IsSameParty old.party new.party
   pub tied : IsTiedIn me new.party to
@@ -93,7 +93,7 @@ pub record HoldsIn (me : ℕ) (doer : ParticipantView) (heap : HeapView) (state 
   pub attached : state.joined me ≡ doer.context.standing.attached
   pub mapped : HasMapped me state
 
--- a heap in hand has room for so many calls, and so have the numbers of its holder's calls
+-- a heap in hand has room for so many calls, and the numbers of its holder's calls have
 pub record HasRoom (calls : ℕ) (heap : HeapView) (doer : ParticipantView) : Type 0 where
   pub spare : calls ≤ heap.spare
   pub counted : doer.context.calls + calls < 2 ^ 64

@@ -17,7 +17,7 @@ pub record Course : Type 0 where
   pub answer : Answer
   pub trace : List Done
 
--- those of one participant's lines, in their order
+-- the courses of one participant's lines, in their order
 abbrev pub courses_of : ℕ → List Course → List Course
 courses_of who courses = filter (λ course. course.line.participant == who) courses
 
@@ -46,7 +46,7 @@ pub record IsDone (workload : Workload) (standing : Standing) (course : Course) 
   pub known : AreFacts workload standing course.line facts
   pub does : Leads (doing_of course.line course.line.act facts) course.trace (Doing.Ended course.answer)
 
--- so did the lines of one participant, one after another
+-- the lines of one participant, one after another, did what their facts say, and were answered so
 abbrev pub AreDone : Workload → Standing → List Course → Type 0
 AreDone workload standing [] = ⊤
 AreDone workload standing (course ∷ courses) = IsDone workload standing course

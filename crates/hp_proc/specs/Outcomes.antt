@@ -76,7 +76,7 @@ pub record IsAskedFor (segs : SegsView) (generation : ℕ) : Type 0 where
   pub which : entry.ask ≡ Some ask
   pub grown : IsAddOf segs.pools segs.log generation ask run
 
--- so was each growth, granted or not
+-- each growth, granted or not, was asked for
 abbrev pub AreAskedFor : SegsView → Type 0
 AreAskedFor segs = (place : ℕ) (run : Run) (heap : ℕ) → slice_get segs.log place ≡ Some (Add run heap) → IsAskedFor segs (place + 1)
 

@@ -34,8 +34,8 @@ use Rattle.hp_proc.specs.Histories.{entries_for}
 use Rattle.hp_serve.specs.Party.{IsSameParty, Party}
 use Rattle.hp_proc.specs.ParticipantView.{ParticipantView}
 
--- a participant at a moment of its line: itself, what it knows of its lines, the heap in its hand, where it has one, its parts in the heaps,
--- and what it has seen of the log and of the outcomes
+-- a participant at a moment of its line: itself, what it knows of its lines, the heap in its hand, where it has one, its parts in the
+-- heaps, and what it has seen of the log and of the outcomes
 pub record Moment : Type 0 where
   pub party : Party
   pub context : Context
@@ -65,8 +65,8 @@ in_hand heap moment = record moment { hand = Some heap.plain.index; parts = with
 abbrev pub AreOnce : List ℕ → Type 0
 AreOnce heaps = (heap : ℕ) → count_by (λ other. other == heap) heaps ≤ 1
 
--- what it did of a line, from one moment to a later one, on which it took these heaps into its hand: its trace leads from what was left to do
--- to what is left now; each heap has its calls, numbered on over all heaps; and each of its asks has its answer
+-- what it did of a line, from one moment to a later one, on which it took these heaps into its hand: its trace leads from what was left to
+-- do to what is left now; each heap has its calls, numbered on over all heaps; and each of its asks has its answer
 pub record Does (held : List ℕ) (count : ℕ) (did : List MailStep → Type 0) (doing rest : Doing) (old new : Moment) : Type 0 where
   pub trace : List Done
   pub steps : List MailStep
@@ -85,7 +85,7 @@ pub record Does (held : List ℕ) (count : ℕ) (did : List MailStep → Type 0)
   pub outcomes : List AskLog
   pub asks : new.asks ≡ old.asks ++ outcomes
 
--- so it did, and its last call was one of that heap
+-- what it did of a line, from one moment to a later one, where its last call was one of that heap
 pub record DoesIn (heap count : ℕ) (did : List MailStep → Type 0) (doing rest : Doing) (old new : Moment) : Type 0 where
   pub does : Does [] count did doing rest old new
   pub last : last_heap (calls_in does.trace) ≡ Some heap
@@ -97,13 +97,13 @@ pub record Tries (heap : ℕ) (held : List ℕ) (count : ℕ) (did : List MailSt
   pub does : Does held count did doing (unless_answered otherwise given) old new
   pub last : (address : ℕ) → given ≡ Some (gives.Address address) → last_heap (calls_in does.trace) ≡ Some heap
 
--- it did so, and held no heap twice
+-- what it did of a line, from one moment to a later one, in which it held no heap twice
 pub record DoesOnce (count : ℕ) (did : List MailStep → Type 0) (doing rest : Doing) (old new : Moment) : Type 0 where
   pub held : List ℕ
   pub once : AreOnce held
   pub does : Does held count did doing rest old new
 
--- it did so to that answer, and held no heap twice; where the answer is an address, its last call was one of that heap
+-- what it did of a line came to that answer, and it held no heap twice; where the answer is an address, its last call was one of that heap
 pub record Brings (heap count : ℕ) (did : List MailStep → Type 0) (doing : Doing) (answer : Answer) (old new : Moment) : Type 0 where
   pub held : List ℕ
   pub once : AreOnce held
@@ -148,9 +148,9 @@ pub record MayDo (moment : Moment) : Type 0 where
   pub settled : HasSettledAsks moment.parts moment.asks
   pub counted : moment.context.calls ≡ entries_made moment.parts
 
--- it has a heap in hand, which it has taken: the heap's history is that one's and entries of its own, numbered on over all heaps, and it has
--- what its holding names: its pages are those of its own segments, and its growths and cuts those of the runs that it has claimed and given up;
--- the participant holds no other
+-- it has a heap in hand, which it has taken: the heap's history is that one's and entries of its own, numbered on over all heaps, and it
+-- has what its holding names: its pages are those of its own segments, and its growths and cuts those of the runs that it has claimed and
+-- given up; the participant holds no other
 pub record IsInHand (taken : ℕ → Option Kept) (moment : Moment) (heap : HeapView) : Type 0 where
   pub was : HeapView
   pub taken_is : taken heap.plain.index ≡ Some (Heap was)
@@ -172,6 +172,6 @@ pub record IsInHand (taken : ℕ → Option Kept) (moment : Moment) (heap : Heap
 abbrev pub caller_of : ParticipantView → Caller
 caller_of doer = record { participant = doer.party.me; number = doer.context.calls + 1 }
 
--- it is so with the asks of a participant that are settled
+-- the asks of a participant at a moment are settled
 abbrev pub AreSettled : Moment → Type 0
 AreSettled moment = HasSettledAsks moment.parts moment.asks

@@ -37,7 +37,7 @@ seen_by false at (Refused cause) = at ∷ at ∷ []
 seen_by failed at (Stale done) = []
 seen_by failed at (Freed generation) = []
 
--- so for an ask for a heap, where it has an outcome
+-- what an ask for a heap shows of the log, where it has an outcome
 abbrev pub seen_by_ask : List LogRecord → List AskLog → ℕ → Option AskLog → List ℕ
 seen_by_ask log asks heap None = []
 seen_by_ask log asks heap (Some entry) = seen_by (has_failed log asks heap entry.at) entry.at entry.outcome
@@ -52,7 +52,8 @@ seen_in log asks who number (GaveUp heap run ∷ trace) = seen_in log asks who (
 seen_in log asks who number (Looked records ∷ trace) = records ∷ seen_in log asks who number trace
 seen_in log asks who number (CaughtUp to caught ∷ trace) = seen_in log asks who number trace
 
--- such numbers never fall, so that each look holds the records of one's own earlier asks; and there are no more records than at the end
+-- the numbers of records that are seen never fall, so that each look holds the records of one's own earlier asks; and they are no more than
+-- the records at the end
 pub record AreSeen (records : ℕ) (seen : List ℕ) : Type 0 where
   pub rising : IsNonDecreasing seen
   pub most : All (λ n. n ≤ records) seen

@@ -26,7 +26,7 @@ impl<'p> LineContext<'p> {
         Ok(places)
     }
 
-    // That of a name, where one is asked for, and else by the socket.
+    // The heap of a name, where one is asked for, and else the heaps by the socket.
     fn chosen(&self, own: u32, options: &Options<'_>) -> Result<Vec<SocketHeap>, AllocError>
         ensures { IfOk result (λ places. map named_heap places.items
             ≡ heaps_for own (socket_heaps self.now.pools) (option_map (λ name. name.text) options.now.heap) options.now.socket) }
@@ -43,7 +43,7 @@ impl<'p> LineContext<'p> {
         }
     }
 
-    // That of a socket, or all, the own socket's first.
+    // The heap of a socket, or all heaps, the own socket's first.
     fn chosen_by_socket(
         &self,
         own: u32,

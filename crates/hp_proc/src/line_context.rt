@@ -46,7 +46,7 @@ impl<'p> Model for LineContext<'p> {
 }
 
 impl<'p> LineContext<'p> {
-    /// That of a participant that has done no line, and is attached or not. Own.
+    /// What a participant knows that has done no line, and is attached or not. Own.
     pub fn new(
         alloc: Global,
         workload: Option<&'p WorkloadFacts<'p>>,

@@ -25,8 +25,8 @@ pub(crate) fn without_hint(flags: u32) -> u32
     if is_hint(flags) { flags - HINT } else { flags }
 }
 
-/// The page sizes for which memory is asked on a socket, in their order: those that the flags name, ascending; then the socket's
-/// others, ascending, where the flags name none or are a hint alone. After the order of page sizes of malloc_heap.
+/// The page sizes for which memory is asked on a socket, in their order: those that the flags name, ascending; then the socket's others,
+/// ascending, where the flags name none or are a hint alone. After alloc_more_mem_on_socket of malloc_heap.c.
 pub(crate) fn page_sizes_for(
     alloc: Global,
     pools: &[PoolLine],

@@ -16,7 +16,7 @@ mod looking;
 mod serving;
 
 /// One process with its lines: it does those of the workload that begin with its number, and serves what others send it while it waits.
-/// After a primary or a secondary process of Multi-process Support.
+/// After a primary or a secondary process (the chapter Multi-process Support).
 #[derive(Drop)]
 pub struct Participant<'p, M: Mapper> {
     server: Server<'p, M>,

@@ -32,7 +32,7 @@ impl<'p> Model for WorkloadFacts<'p> {
 }
 
 impl<'p> WorkloadFacts<'p> {
-    /// Those of a workload with these pool lines and these lines. Own.
+    /// What a workload says that has these pool lines and these lines. Own.
     pub fn of(
         alloc: Global,
         pools: &'p [PoolLine],

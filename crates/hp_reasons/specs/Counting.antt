@@ -19,7 +19,7 @@ is_doubled (Lose line) = false
 is_doubled (Repeat line) = true
 is_doubled Deliver = false
 
--- there are messages of that kind that concern the party: participant 0 is sent no SYNC, and sends no reply
+-- there are messages of that kind that concern the participant: participant 0 is sent no SYNC, and sends no reply
 abbrev pub is_sent : MsgKind → ℕ → Bool
 is_sent kinds.Alloc party = true
 is_sent kinds.Free party = true
@@ -27,7 +27,7 @@ is_sent kinds.Sync party = not (party == 0)
 is_sent kinds.Reply party = not (party == 0)
 is_sent kinds.Answer party = true
 
--- an entry of a plan loses a message of that kind that concerns the party, or doubles one; where there are none of that kind it loses none.
+-- an entry of a plan loses a message of that kind that concerns the participant, or doubles one; where there are none of that kind it loses none.
 -- It counts also where the message of its number is never sent
 abbrev pub entry_loses : MsgKind → ℕ → PlanEntry → Bool
 entry_loses kind party (Message its_kind its_party k twice line) =
@@ -40,7 +40,7 @@ entry_repeats kind party (Message its_kind its_party k twice line) =
     (kind_place kind == kind_place its_kind) && ((party == its_party) && twice)
 entry_repeats kind party (Mapping its_party call elsewhere line) = false
 
--- the lines of a plan that lose a message of that kind that concerns the party, where there are any of that kind, and those that double one
+-- the lines of a plan that lose a message of that kind that concerns the participant, where there are any of that kind, and those that double one
 abbrev pub planned_losses : List PlanEntry → MsgKind → ℕ → ℕ
 planned_losses plan kind party = count_by (entry_loses kind party) plan
 
@@ -52,7 +52,7 @@ planned_repeats plan kind party = count_by (entry_repeats kind party) plan
 abbrev pub LosesNothing : List PlanEntry → Type 0
 LosesNothing plan = (kind : MsgKind) (party : ℕ) → planned_losses plan kind party ≡ 0
 
--- how many of the first messages of that kind that concern the party, so many, are lost, and how many of them come twice
+-- how many of the first messages of that kind that concern the participant, so many, are lost, and how many of them come twice
 unfoldable pub lost_among : List PlanEntry → MsgKind → ℕ → ℕ → ℕ
 lost_among plan kind party zero = 0
 lost_among plan kind party (suc n) =

@@ -202,8 +202,8 @@ pub record IsToldBefore (set : Setting) (asks : List AskLog) (call : Asked) (who
   pub fresh : who ≡ asker call → set.made who < number_of call
   pub in_time : IsInTime set asks who party.asked
 
--- each ask that was stale so far came twice; those of the asker that are still to come are counted in, but for the first one of a fresh ask.
--- All others were answered, or lost
+-- each ask that was stale so far came twice; those of the asker that are still to come are counted in, but for the first one of a fresh
+-- ask. All others were answered, or lost
 pub record AreDoubled (set : Setting) (world : World) (call : Asked) (holds fresh : Bool) : Type 0 where
   pub asker_is : (party : Party) → slice_get world.parties (asker call) ≡ Some party
       → stale_outcomes (asker call) world.shared.segs.asks + copies_left world holds ≤ doubles set (asker call) party + (if fresh then 1 else 0)
@@ -230,8 +230,8 @@ pub record IsAwaited (world : World) (generation member : ℕ) : Type 0 where
   pub is_member : is_member world.shared.segs.roster member ≡ true
   pub below : number_of_party world member < generation
 
--- a member whose SYNC of a settling round lies in its mailbox: the clock stands, and either the member has not acknowledged the round, or no
--- answer lies in mailbox 0 by which participant 0 would poll
+-- a member whose SYNC of a settling round lies in its mailbox: the clock stands, and either the member has not acknowledged the round, or
+-- no answer lies in mailbox 0 by which participant 0 would poll
 pub record WaitsToSettle (call : Asked) (world : World) (generation since member : ℕ) : Type 0 where
   pub stands : world.shared.clock ≡ since
   pub is_member : is_member world.shared.segs.roster member ≡ true

@@ -35,7 +35,7 @@ abbrev pub FailsAtTheGrowth : Type 0
 FailsAtTheGrowth = (segs : SegsView) (maps new : MapsView) (caught : Caught) (row : Row) → IsSound segs
     → AreGrantsWithin maps.number segs.asks → CatchesUp segs.log maps new caught → failing_row caught ≡ Some row → IsOfTheGrowth segs row
 
--- and behind it a failed mapping is noted for that growth, where none of that participant by this call or a later one is logged
+-- after a catch-up a failed mapping is noted for the open growth, where none of that participant by this call or a later one is logged
 abbrev pub NotesAFailure : Type 0
 NotesAFailure = (segs : SegsView) (maps new : MapsView) (caught : Caught) (who call : ℕ) → IsSound segs
     → AreGrantsWithin maps.number segs.asks → CatchesUp segs.log maps new caught → failing_call caught ≡ Some call

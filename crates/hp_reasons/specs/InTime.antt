@@ -14,7 +14,7 @@ use Rattle.hp_joint.specs.Freed.{NoneComesLate}
 use Rattle.hp_joint.specs.SoFar.{SoFar}
 use Rattle.hp_reasons.specs.Threads.{DoesInTurn, MayRun, OneThread, OpensThread, filled}
 
--- by no line of a run in one thread
+-- by no line of a run in one thread an ask or a notice of an earlier line gets its outcome
 abbrev pub LinesHearInTime : Type 0
 LinesHearInTime = (workload : Workload) (first old new : SoloView) (courses : List Course) (parties : List Party) (line : Line)
     (answer : Answer) (was now : SegsView) → OpensThread workload first → OneThread first courses old
@@ -23,7 +23,7 @@ LinesHearInTime = (workload : Workload) (first old new : SoloView) (courses : Li
     → SoFar workload courses parties old.plain → old.servers ≡ map filled parties → segs_in (slot_at old.plain MAX_HEAPS) ≡ Some was
     → segs_in (slot_at new.plain MAX_HEAPS) ≡ Some now → NoneComesLate courses was.asks now.asks
 
--- nor where all serve on after the last one
+-- where all serve on after the last line no ask and no notice of a line gets its outcome
 abbrev pub RestsHearInTime : Type 0
 RestsHearInTime = (workload : Workload) (first old new : SoloView) (courses : List Course) (was now : SegsView)
     → OpensThread workload first → OneThread first courses old → Drains old new → MayRun workload courses

@@ -54,7 +54,7 @@ abbrev pub is_cut : HeapCall → HeapAnswer → Bool
 is_cut (call.Cut address) (gives.Pages run) = true
 is_cut _ _ = false
 
--- whether a participant owes word of a run that it gave up, behind what it did
+-- whether a participant still has to post the notice of a run that it cut, after what it did
 abbrev pub owes_behind : Bool → Done → Bool
 owes_behind owes (Called heap call answer) = owes || is_cut call answer
 owes_behind owes (GaveUp heap run) = false
@@ -62,7 +62,7 @@ owes_behind owes (Asked asked run) = owes
 owes_behind owes (Looked records) = owes
 owes_behind owes (CaughtUp to caught) = owes
 
--- it may do this: it asks for pages only while it owes nothing
+-- what a participant may do next: it asks for pages only where no notice is left to post
 abbrev pub MayDoOwing : Bool → Done → Type 0
 MayDoOwing owes (Asked asked run) = owes ≡ false
 MayDoOwing owes (Called heap call answer) = ⊤
@@ -70,12 +70,12 @@ MayDoOwing owes (GaveUp heap run) = ⊤
 MayDoOwing owes (Looked records) = ⊤
 MayDoOwing owes (CaughtUp to caught) = ⊤
 
--- it asks for pages only once word was given behind its last cut; this tells whether it owes word before its trace, and behind it
+-- it asks for pages only once the notice of its last cut is posted; this tells whether it has one to post before its trace, and after it
 unfoldable pub Owes : Bool → List Done → Bool → Type 0
 Owes owes [] left = left ≡ owes
 Owes owes (done ∷ trace) left = MayDoOwing owes done × Owes (owes_behind owes done) trace left
 
--- so does each line, and behind it nothing is owed
+-- each line asks for pages only once its notices are posted, and after it none is left to post
 abbrev pub LinesOweNothing : Type 0
 LinesOweNothing = (line : Line) (facts : Facts) (trace : List Done) (answer : Answer)
     → Leads (doing_of line line.act facts) trace (Doing.Ended answer) → Owes false trace false

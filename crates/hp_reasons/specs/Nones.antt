@@ -1,5 +1,5 @@
--- Why a line that allocates is answered that there is no memory: its heaps found nothing, and its asks were refused, where the plan loses no
--- message and no mapping failed, for want of a list, of pages, of slots or of a place. The rule "Reasons" of docs/RUNS.md.
+-- Why a line that allocates is answered that there is no memory: its heaps found nothing, and its asks were refused, where the plan loses
+-- no message and no mapping failed, for want of a list, of pages, of slots or of a place. The rule "Reasons" of docs/RUNS.md.
 use Rattle.std.specs.Prelude.{◌≡◌, ℕ, ◌<◌, ⊤, List, Contains, None}
 use Rattle.std.specs.List.{All}
 use Rattle.hp_heap.specs.History.{HeapView}
@@ -58,13 +58,13 @@ IsRefusedForWant entry = (cause : Cause) → entry.outcome ≡ Refused cause →
 abbrev pub NoMappingFailed : List AskLog → Type 0
 NoMappingFailed asks = (entry : AskLog) (participant call : ℕ) → Contains asks entry → IsFailedMapping participant call entry → ⊥
 
--- at each end of a workload the lines of its participants that allocate and are answered so did nothing that came to anything
+-- at each end of a workload the lines of its participants that allocate and are answered `none` found no address and were granted nothing
 abbrev pub NonesAreInVain : Type 0
 NonesAreInVain = (workload : Workload) (answers : List Answer) (heaps : List HeapView) (segs : SegsView) (tables : List Table)
     (end : IsEnd workload answers heaps segs tables) (who : ℕ) → who < workload.participants → All IsNoneInVain (courses_of who end.courses)
 
--- and where late and taken-back outcomes have their reasons in the plan, the plan loses no message and no mapping failed, asks were refused for
--- want alone
+-- where late and taken-back outcomes have their reasons in the plan, the plan loses no message and no mapping failed, asks were refused
+-- for want alone
 abbrev pub RefusalsAreForWant : Type 0
 RefusalsAreForWant = (workload : Workload) (answers : List Answer) (heaps : List HeapView) (segs : SegsView) (tables : List Table)
     → IsEnd workload answers heaps segs tables → HaveReasons workload segs.asks → LosesNothing workload.plan.items

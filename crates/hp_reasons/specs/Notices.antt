@@ -40,12 +40,12 @@ unfreed_in asks who number (GaveUp heap run ∷ trace) =
 unfreed_in asks who number (Looked records ∷ trace) = unfreed_in asks who number trace
 unfreed_in asks who number (CaughtUp to caught ∷ trace) = unfreed_in asks who number trace
 
--- notices of a participant without an outcome are at most the lines of the plan that lose a FREE of it. So where none does, each run that it
--- gave up has gone back
+-- notices of a participant without an outcome are at most the lines of the plan that lose a FREE of it. So where none does, each run that
+-- it gave up has gone back
 abbrev pub NoticesAreHeard : List PlanEntry → List Course → List AskLog → Type 0
 NoticesAreHeard plan courses asks = (who : ℕ) → unfreed_in asks who 1 (trace_of (courses_of who courses)) ≤ planned_losses plan message.Free who
 
--- so it is in every run in one thread, behind its last line
+-- this holds in every run in one thread, after its last line
 abbrev pub ThreadsHearNotices : Type 0
 ThreadsHearNotices = (workload : Workload) (first last : SoloView) (courses : List Course) (parties : List Party) (segs : SegsView)
     → MayRun workload courses → OpensThread workload first → OneThread first courses last → SoFar workload courses parties last.plain

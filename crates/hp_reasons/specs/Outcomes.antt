@@ -52,7 +52,7 @@ IsCauseApart deadline (Late participant from to) = to ≡ from + deadline
 IsCauseApart deadline (Withdrawn from to) = to ≡ from + 3 * deadline
 IsCauseApart deadline _ = ⊤
 
--- so they are in an outcome that is such a refusal
+-- in an outcome that is such a refusal the two readings are so far apart
 abbrev pub IsApart : ℕ → AskLog → Type 0
 IsApart deadline entry = (cause : Cause) → entry.outcome ≡ Refused cause → IsCauseApart deadline cause
 

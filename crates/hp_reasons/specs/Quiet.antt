@@ -20,12 +20,12 @@ pub record IsQuietWorld (set : Setting) (world : World) : Type 0 where
   -- asks and notices without an outcome are no more than the notices that were lost
   pub told : (who : ℕ) (party : Party) → slice_get world.parties who ≡ Some party
       → unanswered_among world.shared.segs.asks who party.asked ≤ notices_lost set who party
-  -- and what had none when the line began has none still
+  -- asks and notices without an outcome when the line began have none still
   pub in_time : (who : ℕ) (party : Party) → slice_get world.parties who ≡ Some party → IsInTime set world.shared.segs.asks who party.asked
   -- where the plan loses no message all members have taken in all records
   pub level : LosesNothing set.plan → AreLevel world
 
--- so it is but for an ask that was lost: all other asks and notices have an outcome, or are notices that were lost
+-- all is quiet but for an ask that was lost: all other asks and notices have an outcome, or are notices that were lost
 pub record IsQuietBut (set : Setting) (call : Asked) (world : World) : Type 0 where
   pub base : IsBase set world
   pub idle : (primary : Party) → slice_get world.parties 0 ≡ Some primary
@@ -38,8 +38,7 @@ pub record IsQuietBut (set : Setting) (call : Asked) (world : World) : Type 0 wh
       → IsToldBefore set world.shared.segs.asks call who party
   pub level : LosesNothing set.plan → AreLevel world
 
--- a participant owes word of a run that it gave up, or not: all is quiet, and where the plan loses no message nothing is left of what was
--- given up unless it does
+-- all is quiet; and where the plan loses no message nothing that was given up is left, unless a participant still has to post a notice
 pub record IsQuietOwing (set : Setting) (owes : Bool) (world : World) : Type 0 where
   pub quiet : IsQuietWorld set world
   pub gone : LosesNothing set.plan → owes ≡ false → world.shared.segs.retiring ≡ []

@@ -27,7 +27,7 @@ use Rattle.hp_serve.specs.Posting.{after_answer, after_syncs, is_asker, is_told,
 use Rattle.hp_serve.specs.Serving.{CatchesUp, IsMemberServed, after_catching_up, hearing, is_sync}
 use Rattle.hp_reasons.specs.Shared.{MakesAll, Shared, fetched_by, posted_to, with_number, with_segs}
 
--- the numbers behind a catching up: who has caught up has acknowledged all records
+-- the numbers after a catch-up: who has caught up has acknowledged all records
 abbrev pub numbered : ℕ → Caught → Shared → Shared
 numbered who caught.Done at = with_number who (length at.segs.log) at
 numbered who (caught.Refused row call) at = at
@@ -37,8 +37,8 @@ numbered who (caught.Elsewhere row call got) at = at
 abbrev pub caught_up : ℕ → Caught → Shared → Shared
 caught_up who caught at = with_segs (after_catching who caught at.segs) (numbered who caught at)
 
--- a member obeys a SYNC that it has fetched: it catches up with the log as it stands, acknowledges that or notes a mapping that failed, and
--- replies
+-- a member follows a SYNC that it has fetched: it catches up with the log as it stands, acknowledges that or notes a mapping that failed,
+-- and replies
 pub record ObeysIn (old new : Shared) (party after : Party) : Type 0 where
   pub caught : Caught
   pub caught_up_is : CatchesUp old.segs.log party.maps after.maps caught
@@ -63,11 +63,11 @@ pub data MemberServes (old new : Shared) (party after : Party) : Bool → Type 0
   -- it was told to catch up, and is not in the roster
   is_out : (frame : Frame) (more : List Frame) (body : Body) → box_of old.boxes party.me ≡ frame ∷ more → Says frame body → is_sync body ≡ true
       → is_member old.segs.roster party.me ≡ false → new ≡ fetched_by party.me old → after ≡ party → MemberServes old new party after true
-  -- it was, and is
+  -- it was told to catch up, and is in the roster
   obeys : (frame : Frame) (more : List Frame) (body : Body) → box_of old.boxes party.me ≡ frame ∷ more → Says frame body → is_sync body ≡ true
       → is_member old.segs.roster party.me ≡ true → ObeysIn (fetched_by party.me old) new party after → MemberServes old new party after true
 
--- so it is, whatever is shared
+-- whatever is shared, what one serving of a member makes of it and of the member is this, exactly
 abbrev pub MembersServeSo : Type 0
 MembersServeSo = (old new : Shared) (party after : Party) (steps : List MailStep) (moved : Bool) → party.me < length old.boxes
     → IsMemberServed party after steps (Some moved) → MakesAll party.me steps old new → MemberServes old new party after moved
@@ -113,7 +113,8 @@ pub data PostsFor (count : ℕ) (old new : Shared) (party after : Party) : Out �
   nobody : (to number what : ℕ) (good : Bool) → is_asker count to ≡ false → new ≡ old → after ≡ party
       → PostsFor count old new party after (out.Answer to number what good)
 
--- an answer of the coordinator is carried out: where that is to catch up it does so, as often as it is told, and then what is to be posted is
+-- an answer of the coordinator is carried out: where that is to catch up it does so, as often as it is told, and then what is to be posted
+-- is
 pub data CarriesOut (count : ℕ) : Shared → Shared → Party → Party → Out → Type 0 where
   posts : (old new : Shared) (party after : Party) (answer : Out) → PostsFor count old new party after answer
       → CarriesOut count old new party after answer
@@ -154,7 +155,7 @@ pub data CoreServes (count : ℕ) (old new : Shared) (party after : Party) : Boo
   replied : (frame : Frame) (more : List Frame) (body : Body) (due : ℕ) → box_of old.boxes party.me ≡ frame ∷ more → Says frame body
       → is_sync_reply body ≡ true → due_in party.core ≡ Some due → Polls count (fetched_by party.me old) new party after
       → CoreServes count old new party after true
-  -- one came while none was
+  -- a reply came while no round was under way
   late_reply : (frame : Frame) (more : List Frame) (body : Body) → box_of old.boxes party.me ≡ frame ∷ more → Says frame body
       → is_sync_reply body ≡ true → due_in party.core ≡ None → new ≡ fetched_by party.me old → after ≡ party
       → CoreServes count old new party after true
@@ -162,7 +163,7 @@ pub data CoreServes (count : ℕ) (old new : Shared) (party after : Party) : Boo
   hears : (frame : Frame) (more : List Frame) (body : Body) → box_of old.boxes party.me ≡ frame ∷ more → Says frame body → IsNoAsk count body
       → is_sync_reply body ≡ false → new ≡ fetched_by party.me old → after ≡ hearing body party → CoreServes count old new party after true
 
--- so it is, whatever is shared
+-- whatever is shared, what one serving of participant 0 makes of it and of the participant is this, exactly
 abbrev pub CoordinatesSo : Type 0
 CoordinatesSo = (count : ℕ) (old new : Shared) (party after : Party) (steps : List MailStep) (moved : Bool) → party.me ≡ 0
     → length old.boxes ≡ count → length old.numbers ≡ count → 0 < count → count ≤ 16

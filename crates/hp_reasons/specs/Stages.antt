@@ -13,7 +13,7 @@ use Rattle.hp_reasons.specs.Outcomes.{stale_outcomes}
 use Rattle.hp_reasons.specs.Servings.{CoreServes, Handles, MemberServes, Polls}
 use Rattle.hp_reasons.specs.Shared.{Shared}
 
--- a world behind what one participant did
+-- the world after what one participant did
 abbrev pub world_with : Shared → List (List Body) → ℕ → Party → World → World
 world_with shared mail who after old = record { shared = shared; mail = mail; parties = slice_set old.parties who after }
 
@@ -46,7 +46,7 @@ abbrev pub HasOneMore : Setting → World → Asked → Bool → Type 0
 HasOneMore set world call holds = (party : Party) → slice_get world.parties (asker call) ≡ Some party
     → stale_outcomes (asker call) world.shared.segs.asks + copies_left world holds + 1 ≤ doubles set (asker call) party
 
--- WHAT IS TO BE SHOWN OF PARTICIPANT 0 (world: behind the fetch, if there was one)
+-- What is to be shown of participant 0, over the world after its fetch, if there was one:
 
 -- it starts a fresh ask
 abbrev pub StartsFresh : Type 0
@@ -97,7 +97,7 @@ PrimaryServes = (set : Setting) (call : Asked) (sent : ℕ) (world : World) (sha
     → IsSent set call sent → IsBase set world → Stage set call sent true world → slice_get world.parties 0 ≡ Some primary
     → CoreServes set.count world.shared shared primary after moved → ComesTo set call sent true world 0 shared after
 
--- WHAT IS TO BE SHOWN OF OTHERS
+-- What is to be shown of members:
 
 -- a member serves once
 abbrev pub MemberServesOnce : Type 0

@@ -57,7 +57,7 @@ pub record DoesInTurn (line : Line) (answer : Answer) (old new : SoloView) : Typ
   pub rises : back.plain.clock ≤ away.plain.clock + 2 ^ 40
   pub new_is : new ≡ with_place line.participant (filled after.party) back
 
--- a run: the lines of its participants one after another, and behind the last one turns of all
+-- a run: the lines of its participants one after another, and after the last one turns of all
 pub data OneThread (first : SoloView) : List Course → SoloView → Type 0 where
   opens : OneThread first [] first
   goes_on : (courses : List Course) (line : Line) (answer : Answer) (old new : SoloView) → OneThread first courses old
@@ -65,8 +65,8 @@ pub data OneThread (first : SoloView) : List Course → SoloView → Type 0 wher
       → OneThread first (courses ++ record { line = line; answer = answer; trace = does.does.does.trace } ∷ []) new
   rests : (courses : List Course) (old new : SoloView) → OneThread first courses old → Drains old new → OneThread first courses new
 
--- growths were refused as late, and asks taken back or stale, at most as often as a workload's plan loses or repeats messages; and who was late
--- was so by readings that are exactly its deadline apart, and what was taken back by readings three deadlines apart
+-- growths were refused as late, and asks taken back or stale, at most as often as a workload's plan loses or repeats messages; and who was
+-- late was so by readings that are exactly its deadline apart, and what was taken back by readings three deadlines apart
 pub record HaveReasons (workload : Workload) (asks : List AskLog) : Type 0 where
   pub late : (who : ℕ) → late_outcomes who asks ≤ planned_losses workload.plan.items message.Sync who
   pub withdrawn : (who : ℕ) → withdrawn_outcomes who asks ≤ planned_losses workload.plan.items message.Alloc who
@@ -101,7 +101,7 @@ abbrev pub DrainsInQuiet : Type 0
 DrainsInQuiet = (set : Setting) (old new : SoloView) (world : World) → IsSetting set → IsWorldAt old world → IsQuietWorld set world
     → Drains old new → IsWorldAt new world
 
--- lines lead from quiet worlds to quiet ones, by what waits do and what lines owe, and turns behind them leave them as they are
+-- lines lead from quiet worlds to quiet ones, by what waits do and which notices lines have to post; turns after the lines leave them so
 pub record LeadInQuiet : Type 0 where
   pub waits : AreWaitsQuiet
   pub acts : ActsInQuiet
@@ -132,7 +132,7 @@ ThreadsHaveReasons = (workload : Workload) (first last : SoloView) (courses : Li
     → MayRun workload courses → OpensThread workload first → OneThread first courses last → SoFar workload courses parties last.plain
     → segs_in (slot_at last.plain MAX_HEAPS) ≡ Some segs → HaveReasons workload segs.asks
 
--- and in every one whose plan loses no message nothing is left to do behind the last line
+-- in every run in one thread whose plan loses no message nothing is left to do after the last line
 abbrev pub ThreadsEndLevel : Type 0
 ThreadsEndLevel = (workload : Workload) (first last : SoloView) (courses : List Course) (parties : List Party) (segs : SegsView)
     → MayRun workload courses → OpensThread workload first → OneThread first courses last → SoFar workload courses parties last.plain

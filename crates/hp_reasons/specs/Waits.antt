@@ -43,7 +43,7 @@ core_in (Some party) = party.core
 abbrev pub weight_in : World → ℕ
 weight_in world = weight_of world.shared (core_in (slice_get world.parties 0))
 
--- before a turn and behind it: who is not participant 0 has an empty mailbox, and once the ask is over all is quiet
+-- before a turn and after it: who is not participant 0 has an empty mailbox, and once the ask is over all is quiet
 pub record IsAtTurn (set : Setting) (call : Asked) (sent : ℕ) (world : World) : Type 0 where
   pub base : IsBase set world
   pub stage : Stage set call sent true world
@@ -52,7 +52,7 @@ pub record IsAtTurn (set : Setting) (call : Asked) (sent : ℕ) (world : World) 
   -- nobody has so much to serve that it would not come to an end in a turn
   pub light : weight_in world < most_servings
 
--- a world behind another, of a hall of one thread from which one is away
+-- a world after another, of a hall of one thread from which one is away
 pub record LeadsTo (P : World → Type 0) (new : SoloView) (me : ℕ) (after : Party) : Type 0 where
   pub world : World
   pub its : IsWorldOf new me after world
@@ -64,7 +64,7 @@ pub record HasComeOut (set : Setting) (call : Asked) (sent now : ℕ) (world : W
   pub now_is : now ≡ world.shared.clock
   pub ended : is_ended at_turn.stage ≡ true
 
--- WHAT IS TO BE KNOWN OF SINGLE SERVINGS
+-- What is known of single servings:
 
 -- what single servings make of a stage and of the weight, and what is shared along a course
 pub record AreServingsKnown : Type 0 where
@@ -76,7 +76,7 @@ pub record AreServingsKnown : Type 0 where
   pub core_lighter : CoreWeighsLess
   pub member_lighter : MemberWeighsLess
 
--- WHAT IS TO BE SHOWN
+-- What is to be shown of turns, waits, asks and notices:
 
 -- a turn of a wait, which is no longer than three deadlines, goes on from stage to stage
 abbrev pub TurnsOn : Type 0
@@ -91,7 +91,7 @@ WaitsOut = AreServingsKnown → (set : Setting) (call : Asked) (sent now : ℕ) 
     → Sequence (asker call) old steps new → IsWaited set.count (waits_until sent set.deadline) heeds party after steps (Some now)
     → LeadsTo (HasComeOut set call sent now) new (asker call) after
 
--- an ask leads from a quiet world to a quiet one, while nothing is owed, and so does a notice, behind which nothing is
+-- an ask leads from a quiet world to a quiet one while no notice is left to post; a notice leads to one too, after which none is left
 abbrev pub AsksInQuiet : Type 0
 AsksInQuiet = AreServingsKnown → (set : Setting) (me : ℕ) (old new : SoloView) (party after : Party) (asked : PagesAsked) (run : Option Run)
     (steps : List MailStep) (world : World) → IsSetting set → IsWorldOf old me party world → IsQuietOwing set false world

@@ -16,7 +16,7 @@ abbrev pub CoreWeighsLess : Type 0
 CoreWeighsLess = (count : ℕ) (old new : Shared) (party after : Party) (moved : Bool) → party.me ≡ 0
     → CoreServes count old new party after moved → weight_of new after.core + if_moved moved ≤ weight_of old party.core
 
--- so does one of a member, whatever participant 0 has under way
+-- a serving of a member that does something makes the weight smaller, whatever participant 0 has under way
 abbrev pub MemberWeighsLess : Type 0
 MemberWeighsLess = (old new : Shared) (party after : Party) (moved : Bool) (core : Option Core) → MemberServes old new party after moved
     → weight_of new core + if_moved moved ≤ weight_of old core

@@ -36,7 +36,7 @@ pub record GoesAlong (who : ℕ) (steps : List MailStep) (old : Shared) (hall : 
   pub shared : IsSharedIn hall at
   pub order : IsInOrder hall
 
--- so it is, whatever one alone does
+-- whatever one participant alone does, what is shared goes along with the hall
 abbrev pub CoursesGoAlong : Type 0
 CoursesGoAlong = (who : ℕ) (steps : List MailStep) (old new : HallView) (at : Shared) → IsMadeBy who steps old new → AreCalls steps
     → IsInOrder old → IsSharedIn old at → GoesAlong who steps at new

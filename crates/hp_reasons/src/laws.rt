@@ -15,14 +15,14 @@ pub fn counting_law()
     ensures repeats { RepeatsAsPlanned }
 {}
 
-/// A mapping that fails for one who has taken in each granted record is one of the open growth's pages, and is noted for that growth, unless
-/// one by that call or a later one was logged. Own.
+/// A mapping that fails for one who has taken in each granted record is one of the open growth's pages, and is noted for that growth,
+/// unless one by that call or a later one was logged. Own.
 pub fn failing_law()
     ensures fails { FailsAtTheGrowth }
     ensures notes { NotesAFailure }
 {}
 
-/// What one serving makes of the segment value, of the mailboxes and of the acknowledged numbers, whoever serves. Own.
+/// What one serving makes of the segment value, of the mailboxes and of the acknowledged numbers, of a member and of participant 0. Own.
 pub fn serving_law()
     ensures members { MembersServeSo }
     ensures coordinates { CoordinatesSo }
@@ -34,8 +34,8 @@ pub fn reasons_law()
     ensures { ThreadsHaveReasons }
 {}
 
-/// In every run in one thread whose plan loses no message, nothing of what was given up is left at the end, and whoever is attached has taken
-/// in all records. Own.
+/// In every run in one thread whose plan loses no message, nothing of what was given up is left at the end, and each attached participant
+/// has taken in all records. Own.
 pub fn level_law()
     ensures { ThreadsEndLevel }
 {}
@@ -46,16 +46,16 @@ pub fn notices_law()
     ensures { ThreadsHearNotices }
 {}
 
-/// In no run in one thread does an outcome come late: of the asks and notices of the lines before, what had no outcome before a line has none
-/// after it, and nothing comes where all serve on after the last one. Own.
+/// In no run in one thread does an outcome come late: of the asks and notices of the lines before, what had no outcome before a line has
+/// none after it, and nothing comes where all serve on after the last one. Own.
 pub fn in_time_law()
     ensures lines { LinesHearInTime }
     ensures rests { RestsHearInTime }
 {}
 
 /// A line that allocates and is answered that there is no memory found no address in its heaps and was granted no pages; and where late and
-/// taken-back outcomes have their reasons in the plan, the plan loses no message and no mapping failed, asks were refused for want of a list, of
-/// pages, of slots or of a place alone. Own.
+/// taken-back outcomes have their reasons in the plan, the plan loses no message and no mapping failed, asks were refused for want of a
+/// list, of pages, of slots or of a place alone. Own.
 pub fn none_law()
     ensures vain { NonesAreInVain }
     ensures want { RefusalsAreForWant }

@@ -54,7 +54,7 @@ pub fn put_answer(page: &mut Page, answer: &Answer) -> Result<(), AllocError>
     put_answer_numbers(page, answer)
 }
 
-// The numbers of an answer, each behind a blank.
+// The numbers of an answer, each after a blank.
 fn put_answer_numbers(page: &mut Page, answer: &Answer) -> Result<(), AllocError>
     ensures { OnOk result (page.new ≡ page.old ++ answer_numbers answer.now) }
 {

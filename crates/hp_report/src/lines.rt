@@ -16,7 +16,7 @@ pub trait Lines {
     /// The text of the lines that are left.
     ghost rest: { Self → List ℕ };
 
-    /// A number that falls with each line.
+    /// A measure that falls with each line.
     ghost count: { Self → ℕ };
 
     /// Adds the next line to a page, which may be empty; false where none is left.

@@ -17,7 +17,7 @@ pub fn make_room(bytes: &mut Vec<u8>, at: usize, n: usize) -> Result<(), AllocEr
     lengthen(bytes, at, n)
 }
 
-// The same where that room is missing.
+// Makes the room where it is missing.
 #[cold]
 #[inline(never)]
 fn lengthen(bytes: &mut Vec<u8>, at: usize, n: usize) -> Result<(), AllocError>

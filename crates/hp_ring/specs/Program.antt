@@ -62,7 +62,7 @@ EndsWeave left left' held held' source_failed sink_failed status.TooLong senders
 EndsWeave left left' held held' source_failed sink_failed status.OutOfMemory senders taker = held' ≡ held
 EndsWeave left left' held held' source_failed sink_failed _ senders taker = ⊥
 
--- the same, without the passes
+-- whatever was read was woven and then written, all of it or a front, or nothing was, with no word on the passes
 abbrev pub EndsRead : Option (List ℕ) → Option (List ℕ) → Option (List ℕ) → Option (List ℕ) → Type 0 → Type 0 → Status → Type 0
 EndsRead left left' held held' source_failed sink_failed status.Ok =
     (text : List ℕ) × GaveAll left left' text × Holds held held' (woven text)

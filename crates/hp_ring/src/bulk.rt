@@ -50,7 +50,7 @@ impl Bulk {
         self.sender
     }
 
-    /// Its words.
+    /// Its words. Own.
     pub fn words(&self) -> &[u64]
         ensures words { result.now ≡ self.now.words }
         ensures few { length result.now ≤ MAX_WORDS }

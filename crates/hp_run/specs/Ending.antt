@@ -1,4 +1,4 @@
--- What a run has come to: an end of its workload, why mappings failed, what agreement is worth, why growths were refused, that nothing is
+-- What a run has come to: an end of its workload, why mappings failed, what agreement gives, why growths were refused, that nothing is
 -- left to do where the plan loses no message, and why allocations found no memory. The rules "Together" and "Reasons" of docs/RUNS.md.
 use Rattle.std.specs.Prelude.{◌≡◌, ◌<◌, ℕ, true, false, List, length, Option}
 use Rattle.std.specs.List.{All}
@@ -25,8 +25,8 @@ use Rattle.hp_reasons.specs.Notices.{NoticesAreHeard}
 use Rattle.hp_reasons.specs.Threads.{HaveReasons}
 use Rattle.hp_run.specs.Failures.{AreFailuresNamed, AreRefusalsNamed, FailAsMay, FailOnce, IsFailureNamed, RefuseAsMay, RefuseOnce}
 
--- a mapping failed only at a call that the plan names, and was answered as the plan says, or over a mapper that is not steady, and at no call
--- twice: for a growth, and for a line that attaches
+-- a mapping failed only at a call that the plan names, and was answered as the plan says, or over a mapper that is not steady, and at no
+-- call twice: for a growth, and for a line that attaches
 pub record AreNamed (workload : Workload) (mappers : List (Option (List FailingCall))) (answers : List Answer) (segs : SegsView) : Type 0 where
   pub failures : AreFailuresNamed workload.plan.items mappers segs.asks
   pub once : FailOnce segs.asks
@@ -40,8 +40,8 @@ pub record AreAsMay (workload : Workload) (servers : List AloneView) (answers : 
   pub refusals : RefuseAsMay servers workload.lines.items answers
   pub refused_once : RefuseOnce workload.lines.items answers
 
--- what agreement is worth at the end: each attached participant maps each segment in use, and so each page of each heap, alike; and a growth
--- that failed left no row
+-- what agreement gives at the end: each attached participant maps each segment in use, and with that each page of each heap, alike; and a
+-- growth that failed left no row
 pub record IsAgreed (heaps : List HeapView) (segs : SegsView) (tables : List Table) : Type 0 where
   pub alike : TablesAlike segs tables
   pub pages : PagesAlike heaps segs tables
@@ -70,20 +70,20 @@ pub record IsHeardEnd (workload : Workload) (answers : List Answer) (heaps : Lis
   pub leads : Leads calls (first_segs workload) segs
   pub opens : IsSound (first_segs workload)
 
--- a growth that failed restores: the segment value came about by calls, each under its condition, and wherever among them a growth was opened
--- and failed, pools, free slots and pages, the states of the other rows and what is given up are as the other calls meanwhile would have
--- left them; and the table of a participant whose number is at the growth's Drop is the one from before it
+-- a growth that failed restores: the segment value came about by calls, each under its condition, and wherever among them a growth was
+-- opened and failed, pools, free slots and pages, the states of the other rows and what is given up are as the other calls meanwhile would
+-- have left them; and the table of a participant whose number is at the growth's Drop is the one from before it
 pub record HasRestored (workload : Workload) (segs : SegsView) (tables : List Table) : Type 0 where
   pub calls : List SegsCall
   pub leads : Leads calls (first_segs workload) segs
   pub growths : GrowthsRestore calls (first_segs workload)
   pub answering : TablesRestore segs.log tables
 
--- what a run has come to, in whatever order its participants' steps came: an end of the workload. A mapping failed, for a growth or for a line
--- that attaches, only where the plan or the mapper is why, and at no call twice; all who are attached map what is in use alike, and a growth
--- that failed left no row. An allocation that is answered that there is no memory found no address in its heaps and was granted nothing (that
--- it tried all of them, and all page sizes, is in what its line does); and a growth that failed left all else as the other calls meanwhile
--- would have left it
+-- what a run has come to, in whatever order its participants' steps came: an end of the workload. A mapping failed, for a growth or for a
+-- line that attaches, only where the plan or the mapper is why, and at no call twice; all who are attached map what is in use alike, and a
+-- growth that failed left no row. An allocation that is answered that there is no memory found no address in its heaps and was granted
+-- nothing (that it tried all of them, and all page sizes, is in what its line does); and a growth that failed left all else as the other
+-- calls meanwhile would have left it
 pub record IsRunEnd (workload : Workload) (mappers : List (Option (List FailingCall))) (answers : List Answer) (heaps : List HeapView)
     (segs : SegsView) (tables : List Table) : Type 0 where
   pub end : IsEnd workload answers heaps segs tables

@@ -1,5 +1,5 @@
--- At which mapping calls of a run a mapping may have failed, and what was answered: those that its plan names, as the plan says, and those of a
--- mapper that is not steady, in whatever way. The rule "Together" of docs/RUNS.md.
+-- At which mapping calls of a run a mapping may have failed, and what was answered: those that its plan names, as the plan says, and those
+-- of a mapper that is not steady, in whatever way. The rule "Together" of docs/RUNS.md.
 use Rattle.std.specs.Prelude.{◌≡◌, ℕ, ◌+◌, ◌⊎◌, Bool, true, false, List, Option, Some, slice_get}
 use Rattle.std.specs.List.{Contains}
 use Rattle.hp_base.specs.Mapping.{FailingCall, IsSteady, may_fail_at}
@@ -18,7 +18,8 @@ use Rattle.hp_serve.specs.Party.{Party}
 use Rattle.hp_solo.specs.Solo.{AloneView, party_at}
 use Rattle.hp_joint.specs.EndLaws.{FailsFor, IsFailedMapping}
 
--- the participant has a mapper, which is not steady; of each mapper the list has the calls at which it may fail, and how, where these are told
+-- the participant has a mapper, which is not steady; of each mapper the list has the calls at which it may fail, and how, where these are
+-- told
 pub record IsUnsteady (mappers : List (Option (List FailingCall))) (participant : ℕ) : Type 0 where
   pub may_fail : Option (List FailingCall)
   pub its : slice_get mappers participant ≡ Some may_fail
@@ -28,8 +29,8 @@ pub record IsUnsteady (mappers : List (Option (List FailingCall))) (participant 
 abbrev pub IsFailureNamed : List PlanEntry → List (Option (List FailingCall)) → ℕ → ℕ → Type 0
 IsFailureNamed plan mappers participant call = (plans_mapping plan participant call ≡ true) ⊎ IsUnsteady mappers participant
 
--- what a line of the plan has a mapping call answer: it refuses the page at that address, or the page comes out one page above, with the page
--- size and the socket that were asked for
+-- what a line of the plan has a mapping call answer: it refuses the page at that address, or the page comes out one page above, with the
+-- page size and the socket that were asked for
 abbrev pub planned_answer : Bool → ℕ → Ask → MapAnswer
 planned_answer false addr ask = answer.Refused
 planned_answer true addr ask = answer.At (addr + ask.page) ask.page ask.socket

@@ -44,7 +44,7 @@ pub record IsPlannedParty (workload : Workload) (who : ℕ) (may_fail : Option (
   pub fails : maps.may_fail ≡ may_fail_by workload.plan.items who may_fail
   pub is : party ≡ first_party workload who maps workload.plan.items
 
--- and it is over the mapper that has its place among these
+-- a participant goes by the plan of the workload, over the mapper that has its place among these
 pub record IsPartyOver (workload : Workload) (mappers : List (Option (List FailingCall))) (who : ℕ) (party : Party) : Type 0 where
   pub may_fail : Option (List FailingCall)
   pub its : slice_get mappers who ≡ Some may_fail

@@ -38,7 +38,7 @@ pub data IsPut (ended : Status) (text : List ℕ) (held held' : Option (List ℕ
   whole : Holds held held' text → IsPut ended text held held' sink_failed ended
   front : HoldsFront held held' text → sink_failed → IsPut ended text held held' sink_failed status.WriteFault
 
--- so it was, or a front of it before memory ran out
+-- a text was written with a status, or a front of it before the sink failed or memory ran out
 pub data IsWritten (ended : Status) (text : List ℕ) (held held' : Option (List ℕ)) (sink_failed : Type 0) : Status → Type 0 where
   put : (result : Status) → IsPut ended text held held' sink_failed result → IsWritten ended text held held' sink_failed result
   short : HoldsFront held held' text → IsWritten ended text held held' sink_failed status.OutOfMemory

@@ -23,7 +23,7 @@ use Rattle.hp_joint.specs.SoFar.{SoFar, context_of}
 use Rattle.hp_reasons.specs.Counting.{LosesNothing}
 use Rattle.hp_reasons.specs.Threads.{MayRun, OneThread, OpensThread}
 
--- a workload can be run: it is of what is built so far and within its limits, and so are its pools, its plan, its participants and its lines
+-- a workload can be run: its lines are implemented, and its pools, plan, participants and lines are within their limits
 pub record IsRunnable (workload : Workload) : Type 0 where
   pub built : IsBuilt workload
   pub limits : IsWithinLimits workload

@@ -1,4 +1,4 @@
-//! What participants do in a run: their lines, and what comes behind the last one.
+//! What participants do in a run: their lines, and what comes after the last one.
 ghost use Rattle.std.specs.Prelude.{◌≡◌, ◌+◌, ◌<◌, List, [], IfOk, OnOk, false, length, take};
 ghost use Rattle.hp_script.specs.declared.answer.Answer.{Answer};
 ghost use Rattle.hp_script.specs.declared.line.Line.{Line};
@@ -78,7 +78,7 @@ fn do_next<'p, M: Mapper>(
     Ok(())
 }
 
-/// Behind the last line all serve on, until nothing is left for any of them. It is refused where one meets want of memory. Own.
+/// After the last line all serve on, until nothing is left for any of them. It is refused where one of them has run out of memory. Own.
 pub fn do_rest<M: Mapper>(hall: &mut SoloHall<'_, M>) -> Result<(), AllocError>
     requires so_far { (workload : Workload) × (lines : List Line) × (answers : List Answer) × IsRunnable workload
         × HaveDoneLines workload lines answers hall.old }

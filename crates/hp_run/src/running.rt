@@ -61,7 +61,7 @@ pub fn run<'a, M: Mapper>(
     })
 }
 
-// By its plan.
+// Runs a workload by its plan.
 fn run_planned<'x, M: Mapper>(
     alloc: Global,
     workload: &'x Workload<'x>,
@@ -77,7 +77,7 @@ fn run_planned<'x, M: Mapper>(
     run_said(alloc, workload, &plan, mappers)
 }
 
-// By what its lines go by.
+// Runs a workload by its plan, and by what its lines go by.
 fn run_said<'x, M: Mapper>(
     alloc: Global,
     workload: &'x Workload<'x>,
@@ -95,7 +95,7 @@ fn run_said<'x, M: Mapper>(
     run_lines(alloc, workload, plan, &facts, mappers)
 }
 
-// Its participants in their hall, by the plan, and by what lines go by.
+// Runs the participants in their hall, by the plan, and by what lines go by.
 fn run_lines<'p, M: Mapper>(
     alloc: Global,
     workload: &Workload<'_>,
@@ -202,7 +202,7 @@ fn come_all<'p, M: Mapper>(
     Ok(())
 }
 
-// The lines, and what comes behind the last one.
+// The lines, and what comes after the last one.
 fn run_in<'p, M: Mapper>(
     alloc: Global,
     workload: &Workload<'_>,

@@ -58,7 +58,7 @@ impl Summary {
 }
 
 impl Counts {
-    // Those of lines and their answers.
+    // The counts of lines and their answers.
     fn of(lines: &[Line<'_>], answers: &[Answer]) -> Counts
         ensures { result ≡ counts_of lines.now answers.now }
     {
@@ -72,7 +72,7 @@ impl Counts {
 }
 
 impl Rest {
-    // That in heaps and segments.
+    // What is left in heaps and segments.
     fn of(heaps: &[Heap], segs: &Segs) -> Rest
         ensures { result ≡ rest_of heaps.now segs.now }
     {

@@ -70,7 +70,7 @@ fn refuses_words_that_it_does_not_take(rt: HostRuntime) -> Result<(), Fail> {
     Ok(())
 }
 
-// A line that is not built yet stands behind built ones and before others, and one that the language refuses wins over them.
+// A line that is not built yet stands after built ones and before others, and one that the language refuses wins over them.
 #[test]
 fn refuses_the_first_bad_line_or_the_first_that_is_not_built(rt: HostRuntime) -> Result<(), Fail> {
     for (input, refused) in [

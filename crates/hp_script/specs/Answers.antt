@@ -72,7 +72,7 @@ elements_text stats = codes " busy" ++ number_text stats.busy ++ codes " frees" 
 abbrev pub stats_text : Stats → List ℕ
 stats_text stats = bytes_text stats ++ elements_text stats
 
--- the numbers of an answer, each behind a blank, and the words between them
+-- the numbers of an answer, each after a blank, and the words between them
 abbrev pub answer_numbers : Answer → List ℕ
 answer_numbers (answer.Address addr) = address_text addr
 answer_numbers (answer.Found addr len) = address_text addr ++ number_text len

@@ -51,8 +51,8 @@ abbrev pub generated_reading : List Line → Reader
 generated_reading lines =
     record { participants = Some 4; absent = 0; placed = 0; sockets = replicate 16 0; deadline = None; pools = generated_pool 0 ∷ generated_pool 1 ∷ []; plan = []; lines = lines }
 
--- so many lines from a start are read: none is refused, and the participant lines, which stand behind three others, are those that were drawn,
--- and each is built
+-- so many lines from a start are read: none is refused, and the participant lines, which stand after three others, are those that were
+-- drawn, and each is built
 pub record IsReadAsDrawn (start lines : ℕ) (reading : Result Reader Refusal) : Type 0 where
   pub read : List Line
   pub whole : reading ≡ Ok (generated_reading read)

@@ -18,7 +18,7 @@ standing state live = record { state = state; live = live }
 abbrev pub opening : ℕ → Drawing
 opening start = standing start []
 
--- behind a draw
+-- a drawing after a draw
 abbrev pub behind_draw : Drawing → Drawing
 behind_draw from = record { state = next_state from.state; live = from.live }
 
@@ -46,7 +46,7 @@ allocates number from = record {
   left = record { state = next_state (next_state from.state); live = from.live ++ number ∷ [] };
 }
 
--- a free draws a live label; that is live no longer, and those behind it move up
+-- a free draws a live label; that is live no longer, and those after it move up
 abbrev pub frees : Drawing → Turn
 frees from = record {
   act = Free (drawn_label from);

@@ -6,8 +6,8 @@ use Rattle.hp_script.specs.declared.line.Act.{Act}
 use Rattle.hp_script.specs.declared.line.Act.TheVariants as act
 use Rattle.hp_script.specs.declared.line.Line.{Line}
 
--- the definition of what is built, which all others cite: of the acts the program does allocations, but not from an external heap, frees, resizes, attaching and detaching, and the statistics under
--- the lock; it does all setup lines
+-- the definition of what is built, which all others cite: of the acts the program does allocations, but not from an external heap, frees,
+-- resizes, attaching and detaching, and the statistics under the lock; it does all setup lines
 abbrev pub is_built_act : Act → Bool
 is_built_act (act.Alloc label size options) = not (is_some options.heap)
 is_built_act (act.Free label) = true

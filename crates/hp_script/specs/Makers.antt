@@ -26,7 +26,7 @@ pub record Makers : Type 0 where
   pub alloc_line : List ℕ → Option ℕ
   pub zone_line : List ℕ → Option ℕ
 
--- those of a text with these lines
+-- the makers of a text with these lines
 abbrev pub makers_of : List Part → Makers
 makers_of lines = record { alloc_line = first_maker (codes "alloc") lines 1; zone_line = first_maker (codes "zone") lines 1 }
 

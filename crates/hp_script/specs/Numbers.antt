@@ -22,7 +22,7 @@ unit_of letter = if letter == 75 then Some (2 ^ 10) else (if letter == 77 then S
 abbrev pub units : Option ℕ → ℕ → Option ℕ
 units count unit = option_and_then (λ n. fitting (n * unit)) count
 
--- a decimal number with or without a unit behind it
+-- a decimal number with or without a unit after it
 abbrev pub scaled : List ℕ → Option ℕ → Option ℕ
 scaled text None = numeral 10 text
 scaled text (Some unit) = units (numeral 10 (take (length text - 1) text)) unit

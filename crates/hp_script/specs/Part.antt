@@ -19,7 +19,7 @@ address_of part = (part.base.0, part.base.1 + part.start)
 abbrev pub part_at : ℕ → Bor (List ℕ) → Part
 part_at start slice = record { start = start; text = slice.now; base = (slice.ref_ptr.0, slice.ref_ptr.1 - start) }
 
--- what stands in a part behind its first bytes
+-- what stands in a part after its first bytes
 abbrev pub behind : ℕ → Part → Part
 behind n part = record { start = part.start + n; text = drop n part.text; base = part.base }
 

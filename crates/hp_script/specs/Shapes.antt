@@ -23,7 +23,7 @@ use Rattle.hp_script.specs.declared.shape.Shape.TheVariants as said
 abbrev pub is_participant_line : Part → Bool
 is_participant_line first = is_ascii_digit (slice_index first.text 0)
 
--- the fields behind a verb
+-- the fields after a verb
 abbrev pub act_line : Verb → Part → List Part → Result Shape BadKind
 act_line Alloc party arguments = alloc_line party arguments
 act_line Zone party arguments = zone_line party arguments
@@ -43,7 +43,7 @@ participant_line party (word ∷ arguments) = do
   verb ← ok_or (verb_named word) bad.Verb
   act_line verb party arguments
 
--- the fields behind the first field of a setup line
+-- the fields after the first field of a setup line
 abbrev pub setup_act : SetupVerb → List Part → Result Setup BadKind
 setup_act setup_verb.Participants arguments = participants_line arguments
 setup_act setup_verb.Absent arguments = absent_line arguments

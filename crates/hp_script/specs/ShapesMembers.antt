@@ -23,7 +23,7 @@ member_line call p [] = do
   Ok (Does party (member_act call))
 member_line call p _ = Err bad.Fields
 
--- behind a limit stands nothing, or `allow`
+-- after a limit stands nothing, or `allow`
 abbrev pub is_allow : List Part → Result Bool BadKind
 is_allow [] = Ok false
 is_allow (word ∷ others) = if is_word (codes "allow") word then Ok true else Err bad.Option

@@ -34,7 +34,7 @@ abbrev pub is_plain_rest : Option Part → Bool
 is_plain_rest None = true
 is_plain_rest (Some rest) = list_all is_plain rest.text
 
--- a line is cut behind its first field
+-- a line is cut after its first field
 pub record IsFieldCut (whole field : Part) (rest : Option Part) : Type 0 where
   pub parts : parts_of Blank whole ≡ field ∷ parts_left Blank rest
   pub visible : list_all is_visible field.text ≡ true

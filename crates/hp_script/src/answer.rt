@@ -5,7 +5,7 @@ use crate::stats_text::StatsText;
 use hp_base::{BadRequest, Stats};
 use std::fmt;
 
-/// What a participant line is answered. Addresses and lengths are bytes. Own; after the error codes of rte_malloc,
+/// What a participant line is answered. Addresses and lengths are bytes. Own; they stand for the error codes of rte_malloc,
 /// rte_memzone and rte_memory.
 #[derive(Clone, Copy, PartialEq, Eq)]
 pub enum Answer {
@@ -80,7 +80,7 @@ pub enum Answer {
 impl Answer {
     ghost use Rattle.hp_script.specs.Answers.{answer_word};
 
-    /// The words of the answer, without its numbers.
+    /// The words of the answer, without its numbers. Own.
     pub fn words(&self) -> &'static str
         ensures { result.now ≡ answer_word self.now }
     {

@@ -57,7 +57,7 @@ fn put_alloc(text: &mut Vec<u8>, label: u32, size: u64, socket: u64) -> Result<(
     put_number(text, b" socket=", socket)
 }
 
-// Adds words, and a number behind them.
+// Adds words, and a number after them.
 fn put_number(text: &mut Vec<u8>, words: &[u8], n: u64) -> Result<(), AllocError>
     ensures { OnOk result (text.new.items ≡ text.old.items ++ (words.now ++ decimal n)) }
 {

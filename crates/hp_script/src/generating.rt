@@ -145,7 +145,7 @@ fn draw(state: &mut u64, n: u64) -> u64
     (*state >> 33) % n
 }
 
-// The state behind a draw.
+// The state after a draw.
 #[tactic(auto, using(crate::proofs::DrawLemmas::wrapped))]
 fn next_state(state: u64) -> u64
     ensures { result ≡ next_state state }

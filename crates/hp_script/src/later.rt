@@ -22,6 +22,7 @@ pub fn first_later(workload: &Workload) -> Option<u32>
 
 /// A workload without a line to be built later is built: its lines, each of any participant, allocate, but not from an
 /// external heap, free, resize, attach, detach and dump. This law is proved of all workloads; the function has no code.
+/// Own.
 pub fn built_law()
     ensures { (workload : Workload) → later_line workload.lines.items ≡ None → IsBuilt workload }
 {}

@@ -119,7 +119,7 @@ impl<'a> Act<'a> {
     ghost use Rattle.std.specs.Prelude.{◌≡◌};
     ghost use Rattle.hp_script.specs.ActVerbs.{verb_word};
 
-    /// The word of its verb, as workloads have it.
+    /// The word of its verb, as workloads have it. Own.
     pub fn verb(&self) -> &'static str
         ensures { result.now ≡ verb_word self.now }
     {

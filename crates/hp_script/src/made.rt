@@ -33,7 +33,7 @@ pub fn made_in<'a>(line: &Piece<'a>) -> Option<Made<'a>>
     made_with(&word, name)
 }
 
-// What a participant line makes by a verb and the field behind it.
+// What a participant line makes by a verb and the field after it.
 fn made_with<'a>(word: &Piece, name: Piece<'a>) -> Option<Made<'a>>
     ensures label { label_in result ≡ (if is_word (codes "alloc") word.now then Some name.entry.text else None) }
     ensures zone { zone_in result ≡ (if is_word (codes "zone") word.now then Some name.entry.text else None) }

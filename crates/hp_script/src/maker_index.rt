@@ -35,7 +35,7 @@ impl<'a> MakerIndex<'a> {
     ghost use Rattle.std.specs.Option.{option_map};
     ghost use Rattle.hp_script.specs.Labels.{maker_of};
 
-    /// Of the lines of a workload.
+    /// Of the lines of a workload. Own.
     pub fn of(alloc: Global, lines: &'a [Line<'a>]) -> Result<MakerIndex<'a>, AllocError>
         ensures { IfOk result (λ index. index ≡ lines.now) }
     {
@@ -46,7 +46,7 @@ impl<'a> MakerIndex<'a> {
         Ok(MakerIndex { lines, places })
     }
 
-    /// The line that makes a label or a memzone's name, as the function `maker_of` finds it.
+    /// The line that makes a label or a memzone's name, as the function `maker_of` finds it. Own.
     pub fn maker_of(&self, name: &[u8]) -> Option<&'a Line<'a>>
         ensures { option_map (λ line. line.now) result ≡ maker_of self.now name.now }
     {

@@ -18,7 +18,7 @@ pub struct KnownMakers<'a> {
 impl<'a> KnownMakers<'a> {
     ghost use Rattle.hp_script.specs.Known.{known};
 
-    /// Those of a text with these lines.
+    /// The makers of a text with these lines.
     pub fn of(alloc: Global, mut lines: LinesLeft<'a>) -> Result<KnownMakers<'a>, AllocError>
         requires { length lines ≤ 1048577 }
         ensures { IfOk result (λ makers. known makers ≡ makers_of lines.entry) }

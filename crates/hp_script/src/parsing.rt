@@ -30,13 +30,13 @@ pub fn parse<'a>(alloc: Global, bytes: &'a [u8]) -> Result<Workload<'a>, ParseFa
     // The tokens stand in the text itself.
     ensures lent { IfOk result (λ workload. All (IsLentFrom bytes.entry) (all_tokens workload.lines.items)) }
 
-    // There is room in a run for what it says, each line is of a declared participant, pools differ, and so do labels.
+    // There is room in a run for what it says, each line is of a declared participant, and no two pools and no two labels are alike.
     ensures limits { IfOk result IsWithinLimits }
     ensures declared { IfOk result (λ workload. AreDeclared workload.participants workload.lines.items) }
     ensures pools { IfOk result (λ workload. ArePoolLines workload.pools.items) }
     ensures lines { IfOk result (λ workload. AreParticipantLines workload.lines.items) }
 
-    // The numbers of a line are within their ranges, by its verb. Who awaits lines stands behind them.
+    // The numbers of a line are within their ranges, by its verb. Who awaits lines stands after them.
     ensures acts { IfOk result (λ workload. All IsLineOf workload.lines.items) }
     ensures awaits { IfOk result (λ workload. AwaitEarlier workload.participants workload.lines.items) }
 
@@ -48,7 +48,7 @@ pub fn parse<'a>(alloc: Global, bytes: &'a [u8]) -> Result<Workload<'a>, ParseFa
     ensures sockets { IfOk result (λ workload. AreSockets workload.sockets) }
     ensures absent { IfOk result (λ workload. IsAbsent workload.participants workload.absent) }
 
-    // A fault is the first refusal of the text: that of its first bad line, behind lines that are all accepted.
+    // A fault is the first refusal of the text: that of its first bad line, after lines that are all accepted.
     ensures refused { IfErr result (IsRefusalOf (reading_of bytes.entry.now)) }
     ensures first_bad { IfErr result (NamesFirstBad bytes.entry) }
 {

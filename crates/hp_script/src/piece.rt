@@ -52,7 +52,7 @@ impl<'a> Piece<'a> {
         }
     }
 
-    /// What stands in it behind its first bytes.
+    /// What stands in it after its first bytes.
     #[tactic(auto, using(crate::proofs::PartLemmas::part_is, crate::proofs::PartLemmas::to_end))]
     pub fn rest(&self, n: usize) -> Piece<'a>
         requires { n ≤ length self.now.text }
@@ -78,7 +78,7 @@ impl<'a> Piece<'a> {
         self.text == word
     }
 
-    /// The same piece once more.
+    /// This piece once more. Own.
     pub fn again(&self) -> Piece<'a>
         ensures { result ≡ self.now }
     {

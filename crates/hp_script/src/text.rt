@@ -51,7 +51,7 @@ fn separator_at(separator: Separator, text: &[u8]) -> Option<usize>
     }
 }
 
-/// The first part, and what stands behind the separator after it.
+/// The first part, and what stands after the separator that ends it.
 pub fn cut<'a>(separator: Separator, whole: &Piece<'a>) -> (Piece<'a>, Option<Piece<'a>>)
     ensures parts { parts_of separator whole.now ≡ result.0 ∷ parts_left separator result.1 }
     ensures shorter { IfSome result.1 (λ rest. length rest.text < length whole.now.text) }
@@ -85,7 +85,7 @@ fn first_visible(line: &Piece) -> Option<u8>
         .find(|byte| !is_separator(Separator::Blank, *byte))
 }
 
-/// The first byte of a line's fields: nothing behind it is read.
+/// The first byte of a line's fields: nothing after it is read.
 #[tactic(auto, using(crate::proofs::TextLemmas::first_of_fields))]
 fn first_byte(line: &Piece) -> Option<u8>
     ensures { result ≡ first_byte (fields_of line.now) }

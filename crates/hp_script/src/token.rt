@@ -36,7 +36,7 @@ impl<'a> Token<'a> {
         Token { start, text }
     }
 
-    /// Its bytes.
+    /// Its bytes. Own.
     pub fn as_bytes(&self) -> &'a [u8]
         ensures text { result.now ≡ self.now.text }
         ensures within { self.now.start + length self.now.text < 2 ^ 32 }
@@ -46,7 +46,7 @@ impl<'a> Token<'a> {
         self.text
     }
 
-    /// Its text.
+    /// Its text. Own.
     #[tactic(auto, using(crate::proofs::WordLemmas::word_utf8))]
     pub fn as_str(&self) -> &'a str
         ensures text { result.now ≡ self.now.text }
@@ -58,7 +58,7 @@ impl<'a> Token<'a> {
         }
     }
 
-    /// The place of its first byte in the text of the workload, from 0.
+    /// The place of its first byte in the text of the workload, from 0. Own.
     pub fn start(&self) -> usize
         ensures { result ≡ self.now.start }
     {
@@ -80,7 +80,7 @@ impl<'a> Token<'a> {
         self.text.starts_with(word)
     }
 
-    /// What stands in it behind its first bytes.
+    /// What stands in it after its first bytes.
     #[tactic(auto, using(crate::proofs::PartLemmas::part_is, crate::proofs::PartLemmas::to_end))]
     pub(crate) fn behind(&self, n: usize) -> Piece<'a>
         requires { n ≤ length self.now.text }
@@ -89,7 +89,7 @@ impl<'a> Token<'a> {
         Piece::new(self.start + n, &self.text[n..])
     }
 
-    /// The token that stands in it behind its first bytes, where that is not empty.
+    /// The token that stands in it after its first bytes, where that is not empty.
     #[tactic(auto, using(crate::proofs::WordLemmas::word_behind))]
     pub(crate) fn token_behind(&self, n: usize) -> Option<Token<'a>>
         requires { n ≤ length self.now.text }
@@ -102,7 +102,7 @@ impl<'a> Token<'a> {
         Some(Token::new(rest.start(), rest.as_bytes()))
     }
 
-    /// The same token once more.
+    /// This token once more. Own.
     pub fn again(&self) -> Token<'a>
         ensures { result ≡ self.now }
     {

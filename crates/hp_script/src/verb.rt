@@ -100,7 +100,7 @@ pub fn verb_named(word: &Token) -> Option<Verb>
     }
 }
 
-// The verbs behind those of memory.
+// The verbs after those of memory.
 fn heap_verb(word: &Token) -> Option<Verb>
     ensures { result ≡ lookup (λ verb. is_word verb word.now) (drop 8 verbs) }
 {

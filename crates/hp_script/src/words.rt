@@ -28,7 +28,7 @@ fn blind_at(text: &[u8]) -> Option<usize>
     text.iter().position(|byte| is_blind(*byte))
 }
 
-// The first field, and what stands behind the blank after it. It is `None` where a byte comes that may stand in no line.
+// The first field, and what stands after the blank that ends it. It is `None` where a byte comes that may stand in no line.
 #[tactic(auto, using(crate::proofs::WordLemmas::cut_bad, crate::proofs::WordLemmas::cut_blank, crate::proofs::WordLemmas::cut_whole))]
 fn cut_field<'a>(whole: &Piece<'a>) -> Option<(Piece<'a>, Option<Piece<'a>>)>
     ensures some { IfSome result (λ cut. IsFieldCut whole.now cut.0 cut.1) }

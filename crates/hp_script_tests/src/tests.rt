@@ -20,7 +20,7 @@ pub fn outcome(alloc: Global, text: &[u8]) -> Result<usize, ParseFault> {
     Ok(workload.lines.len())
 }
 
-// The same with the line and the kind of a refusal, where memory lasted.
+// The number of participant lines of a text, or the line and the kind of its refusal, where memory lasted.
 pub fn judged(alloc: Global, text: &[u8]) -> Option<Result<usize, (u32, BadKind)>> {
     match outcome(alloc, text) {
         Ok(lines) => Some(Ok(lines)),

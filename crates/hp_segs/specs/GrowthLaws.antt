@@ -23,7 +23,7 @@ abbrev pub IsPlacedGrant : List LogRecord → AskLog → Type 0
 IsPlacedGrant log entry = (ask : Ask) (generation : ℕ) (run : Run) → entry.ask ≡ Some ask → entry.outcome ≡ Granted generation
     → run_of log generation ≡ Some run → HasPlace ask run
 
--- so it is with each grant that is logged
+-- the run of each grant that is logged has a place for its request
 abbrev pub GrantsHavePlace : Type 0
 GrantsHavePlace = (segs : SegsView) → IsSound segs → All (IsPlacedGrant segs.log) segs.asks
 

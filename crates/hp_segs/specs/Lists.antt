@@ -17,7 +17,7 @@ list_after line end = record { socket = line.socket; page = line.page; base = ce
 abbrev pub end_of : ListInfo → ℕ
 end_of info = info.base + info.slots * info.page
 
--- the lists of pools, each behind the one before
+-- the lists of pools, each behind the one before it
 abbrev pub lists_from : ℕ → List PoolLine → List ListInfo
 lists_from end [] = []
 lists_from end (line ∷ lines) = list_after line end ∷ lists_from (end_of (list_after line end)) lines

@@ -1,4 +1,4 @@
--- Lists of which a stretch of places is set alike, such as masks. No public clause cites this module.
+-- Lists of which adjacent places are set alike, such as masks. No public clause cites this module.
 use Rattle.std.specs.Prelude.{ℕ, zero, suc, ◌+◌, List, slice_set}
 
 -- the list with n places from `first` on set alike

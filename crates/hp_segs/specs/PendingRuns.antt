@@ -14,16 +14,16 @@ pub record IsPending (segs : SegsView) (ask : Ask) (generation : ℕ) (entry : A
   pub granted : granted_by entry.outcome ≡ Some generation
   pub unclaimed : is_unclaimed segs.segments generation ≡ true
 
--- such a run is of the ask with which its participant is armed
+-- a run that no heap has claimed is of the ask with which its participant is armed
 abbrev pub PendingIsArmed : SegsView → Type 0
 PendingIsArmed segs = (entry : AskLog) (ask : Ask) (generation : ℕ) → IsPending segs ask generation entry → armed_ask segs ask.from ≡ Some ask
 
--- while it waits no growth is open for its heap
+-- while a granted run waits to be claimed no growth is open for its heap
 abbrev pub PendingIsAlone : SegsView → Type 0
 PendingIsAlone segs = (entry : AskLog) (ask : Ask) (generation : ℕ) (growth : Growth) → IsPending segs ask generation entry
     → segs.growth ≡ Some growth → growth.ask.heap ≢ ask.heap
 
--- and it is the last one that was granted for its heap
+-- a run that no heap has claimed is the last one that was granted for its heap
 abbrev pub PendingIsLast : SegsView → Type 0
 PendingIsLast segs = (entry other : AskLog) (ask asked : Ask) (generation number : ℕ) → IsPending segs ask generation entry → Contains segs.asks other
     → other.ask ≡ Some asked → granted_by other.outcome ≡ Some number → asked.heap ≡ ask.heap → number ≤ generation

@@ -25,6 +25,6 @@ ClaimSettles = (segs : SegsView) (from number : ℕ) → IsUnclaimedGrant from n
 abbrev pub UnclaimedIsUnsettled : Type 0
 UnclaimedIsUnsettled = (segs : SegsView) (from number : ℕ) → IsUnclaimedGrant from number segs → ¬ (IsSettled from number segs)
 
--- nor is an ask above the closed number of its participant
+-- an ask above the closed number of its participant is not settled
 abbrev pub AboveIsUnsettled : Type 0
 AboveIsUnsettled = (segs : SegsView) (from number : ℕ) → closed_number segs.asks from < number → ¬ (IsSettled from number segs)

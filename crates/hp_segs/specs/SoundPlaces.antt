@@ -15,7 +15,7 @@ pub record IsRange (range : ExternalRange) : Type 0 where
   pub list : range.list < 128
   pub segments : range.len / range.page ≤ 8192
 
--- external memory has a number behind those of the pools' lists, and shares no byte with these
+-- external memory has a list number after those of the pools' lists, and shares no byte with these
 pub record IsBeside (pools : List PoolLine) (range : ExternalRange) : Type 0 where
   pub behind : length pools ≤ range.list
   pub apart : All (λ info. shares_byte range.addr range.len info ≡ false) (lists_of pools)
@@ -28,7 +28,7 @@ pub record AreRanges (pools : List PoolLine) (ranges : List ExternalRange) : Typ
   pub distinct : (list : ℕ) → count_by (λ range. range.list == list) ranges ≤ 1
   pub apart : (byte : ℕ) → count_by (range_contains byte) ranges ≤ 1
 
--- the places of the participants 0 to 15 are sound, and so is external memory
+-- the places of the participants 0 to 15 and external memory are sound
 pub record ArePlaces (pools : List PoolLine) (roster : List Bool) (armed : List (Option Ask)) (ranges : List ExternalRange) : Type 0 where
   pub roster_places : length roster ≡ 16
   pub armed_places : length armed ≡ 16

@@ -1,7 +1,7 @@
 use hp_base::Request;
 
 /// A participant's request that the heap of a socket grow: pages of `page` bytes for the memory of `request`. `number`
-/// counts the participant's own asks, from 1. After the requests of rte_malloc's multi-process growth.
+/// counts the participant's own asks, from 1. After struct malloc_req_alloc of malloc_mp.h.
 #[derive(Clone, Copy, PartialEq, Eq)]
 pub struct Ask {
     pub from: u8,

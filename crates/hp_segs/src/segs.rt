@@ -26,12 +26,12 @@ use hp_base::{MAX_PARTICIPANTS, PoolLine, Run};
 use std::alloc::{AllocError, Global};
 use std::marker::Model;
 
-/// The number of participants that there can be.
+/// The number of participants that there can be. Own.
 pub const PARTICIPANTS: usize = MAX_PARTICIPANTS as usize;
 
 /// The segment lists of the pools, the log of what was mapped and unmapped, and the state of each mapped segment.
-/// Contracts see it as a `SegsView`. After the memory segment lists of EAL memory management, and the growth of
-/// rte_malloc under Multi-process Support.
+/// Contracts see it as a `SegsView`. After rte_memseg_list, and the growth of heaps in malloc_heap.c and
+/// malloc_mp.c; the log, the states and the roster are own.
 #[derive(Drop)]
 pub struct Segs {
     table: Table,
@@ -62,7 +62,7 @@ impl Model for Segs {
 
 impl Segs {
     /// The value of pools without a record, for participants of which those with a bit in `absent` are not in the
-    /// roster.
+    /// roster. Own.
     pub fn new(
         alloc: Global,
         pools: &[PoolLine],

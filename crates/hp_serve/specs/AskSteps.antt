@@ -67,8 +67,8 @@ pub record DoesAsk (count : ℕ) (party after : Party) (asked : PagesAsked) (ste
   pub awaited : IsAwaitedBy count (after_alloc after.asked party) after (ask_of party.me after.asked asked) since rest run
   pub are : steps ≡ sending ++ rest
 
--- so it settles its ask late, awaits its answer and asks where somebody may stop meanwhile: it sees each wait through, so that what is taken
--- back has a reading that has reached its deadline there too
+-- where somebody may stop meanwhile it settles its ask late in these steps: it sees its wait through, so that what is taken back has a
+-- reading that has reached its deadline
 pub record IsSettledOn (count : ℕ) (party after : Party) (ask : Ask) (since : ℕ) (steps : List MailStep) (stopped : Bool) : Type 0 where
   pub waited : List MailStep
   pub taken : SegsView
@@ -76,6 +76,7 @@ pub record IsSettledOn (count : ℕ) (party after : Party) (ask : Ask) (since : 
   pub waits : IsWaitedOut count (waits_until since party.deadline) false party after waited now stopped
   pub are : steps ≡ waited ++ (takes_segments taken ∷ gives_segments (after_settling ask since now taken) ∷ [])
 
+-- where somebody may stop meanwhile it awaits its answer in these steps, and sees each wait through
 pub data IsAwaitedOn (count : ℕ) (party after : Party) (ask : Ask) (since : ℕ) (steps : List MailStep) (run : Option Run) (stopped : Bool)
     : Type 0 where
   finds : (now : ℕ) (waited looked : List MailStep)
@@ -86,6 +87,7 @@ pub data IsAwaitedOn (count : ℕ) (party after : Party) (ask : Ask) (since : �
       → IsSettledOn count mid after ask since late second → steps ≡ waited ++ (looked ++ late) → stopped ≡ (first || second)
       → IsAwaitedOn count party after ask since steps run stopped
 
+-- a participant asks for pages, and is answered with the run, or none, where somebody may stop meanwhile
 pub record DoesAskOn (count : ℕ) (party after : Party) (asked : PagesAsked) (steps : List MailStep) (run : Option Run) (stopped : Bool)
     : Type 0 where
   pub since : ℕ
@@ -95,15 +97,15 @@ pub record DoesAskOn (count : ℕ) (party after : Party) (asked : PagesAsked) (s
   pub awaited : IsAwaitedOn count (after_alloc after.asked party) after (ask_of party.me after.asked asked) since rest run stopped
   pub are : steps ≡ sending ++ rest
 
--- a participant asked for pages in a hall, by such steps, whoever stopped meanwhile: by the next number, and has its answer; and what was
--- granted came to the heap, which it holds
+-- a participant asked for pages in a hall, by these steps, also where somebody stopped meanwhile: by the next number, and has its answer;
+-- and what was granted came to the heap, which it holds
 pub record AsksIn (me : ℕ) (old new : Party) (asked : PagesAsked) (from to : HallState) (answered : Answered) : Type 0 where
   pub did : (steps : List MailStep) × Did me steps from to × DoesAskOn from.count old new asked steps answered.run answered.stopped
   pub answer : IsAsked (to.seen me) (to.heard me) me old.asked new.asked asked answered.run
   pub grows : GrowsHeld asked.heap answered.run (from.part me asked.heap) (to.part me asked.heap)
 
--- a participant tells that it gave up a run of a heap, as the plan has its next notice, reads its clock, and waits for the answer, for three
--- deadlines at most
+-- a participant tells that it gave up a run of a heap, as the plan has its next notice, reads its clock, and waits for the answer, for
+-- three deadlines at most
 pub record DoesNotify (count : ℕ) (party after : Party) (heap : ℕ) (run : Run) (steps : List MailStep) : Type 0 where
   pub frame : Frame
   pub posted : Posted

@@ -21,7 +21,7 @@ use Rattle.hp_segs.specs.declared.outcome.Outcome.{Outcome}
 use Rattle.hp_segs.specs.declared.outcome.Outcome.TheVariants.{Granted, Refused}
 use Rattle.hp_serve.specs.declared.pages_asked.PagesAsked.{PagesAsked}
 
--- a participant's ask of that number, for a asked
+-- a participant's ask of that number, for the pages asked
 abbrev pub ask_of : ℕ → ℕ → PagesAsked → Ask
 ask_of who number asked = record {
   from = who;
@@ -52,7 +52,7 @@ pub record IsArmedWith (ask : Ask) (parts : ℕ → HeapPart) : Type 0 where
   pub unclaimed : (heap : ℕ) (holding : Holding) (entry : AskLog) → (parts heap).holding ≡ Some holding → Contains holding.claimed entry
       → entry.from ≡ ask.from → entry.number < ask.number
 
--- it is so, and holds the heap that is to grow
+-- a participant is armed with the ask, no heap that it holds has claimed anything for that number, and it holds the heap that is to grow
 pub record IsAwaiting (ask : Ask) (parts : ℕ → HeapPart) : Type 0 where
   pub armed : IsArmedWith ask parts
   pub holds : IsSome (parts ask.heap).holding
@@ -64,7 +64,7 @@ pub record HasAnswer (log : List LogRecord) (asks : List AskLog) (ask : Ask) (ru
   pub kept : entry.ask ≡ Some ask
   pub given : Gives log entry.outcome run
 
--- a participant asked for pages, by the next number behind that of its last ask and the outcomes that it found then, and has the answer
+-- a participant asked for pages, by the next number after that of its last ask and the outcomes that it found then, and has the answer
 pub record IsAsked (log : List LogRecord) (asks : List AskLog) (who before after : ℕ) (asked : PagesAsked) (run : Option Run) : Type 0 where
   pub found : List AskLog
   pub since : List AskLog

@@ -1,4 +1,4 @@
--- The number by which serving returns, on participant 0's side: what its round and held asks weigh: the rule "Coordinating" of
+-- The measure by which serving ends, on participant 0's side: what its round and held asks weigh: the rule "Coordinating" of
 -- docs/PARTICIPANTS.md. A growth's first round weighs 96 once its SYNCs are out, and 95 once its deadline has passed; a rollback's or
 -- drop's 4 and 3; what a SYNC to fifteen members may bring is 90, since each weighs 3 and may come twice. Before its SYNCs are out a
 -- round weighs that much more. A held ask weighs 187, and a RESULT 2.
@@ -73,7 +73,7 @@ brought (Shrink from number) = 187
 brought (SelfMapped caught now) = 0
 brought (Poll now acks) = 0
 
--- what a step uses up besides: a poll always uses up 1 where it does anything, and so does a catching up that is followed by another
+-- what a step uses up besides: 1 by a poll that does anything, and by a catch-up that is followed by another
 abbrev pub used_up : CoreEvent → Out → ℕ
 used_up (Grow ask) answer = 0
 used_up (Shrink from number) answer = 0
@@ -96,7 +96,7 @@ FallsBy brings uses old new answer =
 abbrev pub Falls : CoreEvent → Core → Core → Out → Type 0
 Falls event old new answer = FallsBy (brought event) (used_up event answer) old new answer
 
--- so does a participant's coordinator, where there is one before and after
+-- a step makes the weight of a participant's coordinator fall, where there is one before and after
 pub record CoreFalls (brings uses : ℕ) (old new : Option Core) (answer : Out) : Type 0 where
   pub before : Core
   pub behind : Core

@@ -9,7 +9,7 @@ use Rattle.hp_serve.specs.Tied.{IsTiedAs}
 abbrev pub IsTiedIn : ℕ → Party → HallState → Type 0
 IsTiedIn me party state = IsTiedAs (state.seen me) (state.own me) (state.joined me) party.joined party.maps
 
--- the number that falls, the participant's own part of it among it
+-- the measure by which serving ends, the participant's own part of it among it
 abbrev pub left_to_do : ℕ → (ℕ → ℕ → ℕ) → Party → HallState → ℕ
 left_to_do scale pending party state = state.weight + own_weight scale (pending state.clock) party.core
 
@@ -18,7 +18,7 @@ pub record CanServe (me : ℕ) (party : Party) (state : HallState) : Type 0 wher
   pub may : MayServe me state
   pub tied : IsTiedIn me party state
 
--- participant 0 may, and its table is
+-- participant 0 may serve, and its table is tied
 pub record CanCoordinate (party : Party) (state : HallState) : Type 0 where
   pub primary : party.me ≡ 0
   pub may : MayServe 0 state
@@ -32,7 +32,7 @@ pub record RemainsIn (me : ℕ) (old new : Party) (from to : HallState) : Type 0
   pub joined : to.joined me ≡ from.joined me
   pub later : IsLater from to
 
--- so it does, and its parts in heaps stay
+-- a participant goes on in a hall, and its parts in heaps stay
 pub record StaysIn (me : ℕ) (old new : Party) (from to : HallState) : Type 0 where
   pub same : IsSameParty old new
   pub tied : IsTiedIn me new to

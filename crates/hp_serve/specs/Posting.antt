@@ -70,7 +70,7 @@ IsSpoken (out.MapSelf generation) = Unit {0}
 IsSpoken (out.Sync generation round members) = HasFieldValues (Sync generation round)
 IsSpoken (out.Answer to number what good) = HasFieldValues (result_body number what good)
 
--- what participant 0 posts behind an answer of its coordinator
+-- what participant 0 posts after an answer of its coordinator
 pub data IsPosted (count : ℕ) (party after : Party) (answer : Out) (steps : List MailStep) : Type 0 where
   nothing : answer ≡ out.Nothing → steps ≡ [] → after ≡ party → IsPosted count party after answer steps
   -- a SYNC to each member that is named

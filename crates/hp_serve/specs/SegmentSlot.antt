@@ -31,12 +31,12 @@ pub record GivesBack (me : ℕ) (segs : SegsView) (old new : HallState) : Type 0
   pub others : OthersStay me old new
   pub weight : new.weight ≤ old.weight
 
--- so it has, and its parts in heaps stay
+-- it has given a segment value back and did nothing else, and its parts in heaps stay
 pub record PutsBack (me : ℕ) (segs : SegsView) (old new : HallState) : Type 0 where
   pub back : GivesBack me segs old new
   pub parts : PartsStay me old new
 
--- it has given the segment value back behind what else it did with it, and its parts in heaps stay
+-- it has given the segment value back after what else it did with it, and its parts in heaps stay
 pub record FreesSegs (me : ℕ) (old new : HallState) : Type 0 where
   pub taken : new.taken MAX_HEAPS ≡ None
   pub home : new.may_take MAX_HEAPS

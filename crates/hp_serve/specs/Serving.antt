@@ -35,14 +35,14 @@ pub record CatchesUp (log : List LogRecord) (old new : MapsView) (caught : Caugh
   pub reason : HasReason old.may_fail caught
   pub stays : new.may_fail ≡ old.may_fail
 
--- what a participant that attaches tells behind a catching up with so many records: it acknowledges all of them, or nothing where a mapping
+-- what a participant that attaches tells after a catch-up with so many records: it acknowledges all of them, or nothing where a mapping
 -- failed, since its table is then empty as before
 abbrev pub acks_behind : Caught → ℕ → List MailStep
 acks_behind caught.Done records = Notes (Acked records) ∷ []
 acks_behind (caught.Refused row call) records = []
 acks_behind (caught.Elsewhere row call got) records = []
 
--- what a participant that has a table tells behind a catching up with so many records: it acknowledges all of them, or where a mapping
+-- what a participant that has a table tells after a catch-up with so many records: it acknowledges all of them, or where a mapping
 -- failed tells that its table has lost what they drop
 abbrev pub tells_behind : Caught → ℕ → List MailStep
 tells_behind caught.Done records = Notes (Acked records) ∷ []
@@ -60,7 +60,7 @@ pub record Replies (party : Party) (body : Body) (step : MailStep) : Type 0 wher
 abbrev pub after_catching_up : Caught → MapsView → Party → Party
 after_catching_up caught maps party = record party { maps = maps; joined = party.joined || is_done caught }
 
--- a member that holds the segment value obeys a SYNC: it catches up with the log as it stands, whatever generation is named, acknowledges
+-- a member that holds the segment value follows a SYNC: it catches up with the log as it stands, whatever generation is named, acknowledges
 -- that or notes a mapping that failed, gives the value back and posts its reply
 pub record Obeys (party after : Party) (taken : SegsView) (steps : List MailStep) : Type 0 where
   pub caught : Caught
@@ -81,7 +81,7 @@ pub data IsFollowed (party after : Party) (taken : SegsView) (steps : List MailS
   -- it is not in the roster
   is_out : is_member taken.roster party.me ≡ false → steps ≡ gives_segments taken ∷ [] → after ≡ party → goes ≡ true
       → IsFollowed party after taken steps goes
-  -- it is, and its mapper has made too many calls
+  -- it is in the roster, and its mapper has made too many calls
   is_worn : is_member taken.roster party.me ≡ true → IsWorn party.maps → steps ≡ gives_segments taken ∷ [] → after ≡ party → goes ≡ false
       → IsFollowed party after taken steps goes
 
@@ -118,7 +118,7 @@ pub data IsHeeded (party after : Party) (frame : Frame) (steps : List MailStep) 
   drops : SaysNothing frame → steps ≡ [] → after ≡ party → goes ≡ true → IsHeeded party after frame steps goes
   tells : (body : Body) → Says frame body → IsTold party after body steps goes → IsHeeded party after frame steps goes
 
--- what serving answers behind a frame: that it did something, or that it stopped
+-- what serving answers after a frame: that it did something, or that it stopped
 abbrev pub answer_behind : Bool → Option Bool
 answer_behind true = Some true
 answer_behind false = None

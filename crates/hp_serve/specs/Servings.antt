@@ -19,7 +19,7 @@ use Rattle.hp_serve.specs.Party.{Party, one_more}
 use Rattle.hp_serve.specs.Posting.{is_asker, result_body}
 use Rattle.hp_serve.specs.Serving.{IsWorn, gives_segments, takes_segments, tells_behind}
 
--- so is each post among these steps: to whom, and the frame
+-- what is said of a post, of its receiver and its frame, holds of each post among these steps
 abbrev pub EachPost : (ℕ → Frame → Type 0) → List MailStep → Type 0
 EachPost P [] = ⊤
 EachPost P (Posts to frame action posted ∷ steps) = P to frame × EachPost P steps
@@ -28,8 +28,8 @@ EachPost P (Takes slot kept ∷ steps) = EachPost P steps
 EachPost P (Gives slot kept ∷ steps) = EachPost P steps
 EachPost P (Notes note ∷ steps) = EachPost P steps
 
--- A SYNC makes a member take the segment value. In its roster it catches up with the log as it stands, acknowledges it or not, gives the value
--- back, with a mapping that failed noted, and posts its reply to participant 0, as the plan has its next one
+-- A SYNC makes a member take the segment value. In its roster it catches up with the log as it stands, acknowledges it or not, gives the
+-- value back, with a mapping that failed noted, and posts its reply to participant 0, as the plan has its next one
 pub data FollowsSync (party : Party) (steps : List MailStep) (answer : Option Bool) : Type 0 where
   replies : (taken : SegsView) (caught : Caught) (frame : Frame) (posted : Posted) → is_member taken.roster party.me ≡ true
       → Says frame (reply_of party.me caught taken)
@@ -39,7 +39,7 @@ pub data FollowsSync (party : Party) (steps : List MailStep) (answer : Option Bo
   -- not in the roster it gives the value back as it was
   gives_back : (taken : SegsView) → is_member taken.roster party.me ≡ false → steps ≡ takes_segments taken ∷ gives_segments taken ∷ []
       → answer ≡ Some true → FollowsSync party steps answer
-  -- so it does where its mapper has made too many calls, and stops
+  -- where its mapper has made too many calls it gives the value back as it was, and stops
   is_worn : (taken : SegsView) → is_member taken.roster party.me ≡ true → IsWorn party.maps
       → steps ≡ takes_segments taken ∷ gives_segments taken ∷ [] → answer ≡ None → FollowsSync party steps answer
 
@@ -60,8 +60,8 @@ pub data IsCorePost (count to : ℕ) (frame : Frame) : Type 0 where
   syncs : (generation round : ℕ) → Says frame (Sync generation round) → 0 < to → to < count → IsCorePost count to frame
   results : (number what : ℕ) (good : Bool) → Says frame (result_body number what good) → is_asker count to ≡ true → IsCorePost count to frame
 
--- an event is handed to the coordinator: participant 0 takes the segment value, and gives it back as the coordinator's step leaves it; or it
--- has no memory for the step, gives the value back as it was, and stops
+-- an event is handed to the coordinator: participant 0 takes the segment value, and gives it back as the coordinator's step leaves it; or
+-- it has no memory for the step, gives the value back as it was, and stops
 pub data HandsOver (party : Party) (event : CoreEvent) (steps : List MailStep) (answer : Option Bool) : Type 0 where
   steps_on : (core : Core) (taken : SegsView) (more : List MailStep) → party.core ≡ Some core
       → steps ≡ takes_segments taken ∷ gives_segments (stepping event core taken).segs ∷ more → HandsOver party event steps answer

@@ -30,7 +30,7 @@ pub record IsTied (log : List LogRecord) (own : Own) (joined : Bool) (maps : Map
   pub within : own.number ≤ length log
   pub table : HasTable log (part_of joined own) maps
 
--- so it is, and the participant has a table where it is in the roster
+-- a participant's table is what the hall knows of it, and it has a table exactly where it is in the roster
 pub record IsTiedAs (log : List LogRecord) (own : Own) (member joined : Bool) (maps : MapsView) : Type 0 where
   pub table : IsTied log own joined maps
   pub same : member ≡ joined

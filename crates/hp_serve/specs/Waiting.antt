@@ -27,8 +27,8 @@ pub data IsServedOut (count : ℕ) (party after : Party) (steps : List MailStep)
   -- it served as often as it may
   enough : AreServings count most_servings party after steps → answer ≡ Some true → IsServedOut count party after steps answer
 
--- all serve in a turn: those below it first, then the participant itself, then those above; and the answer: whether something moved, or that
--- somebody stopped
+-- all serve in a turn: those below it first, then the participant itself, then those above; and the answer: whether something moved, or
+-- that somebody stopped
 pub data HaveServed (count : ℕ) (party after : Party) (steps : List MailStep) (answer : Option Bool) : Type 0 where
   -- one of those below met a refusal, before it served itself
   below_stops : steps ≡ Notes (Yielded false None) ∷ [] → after ≡ party → answer ≡ None → HaveServed count party after steps answer
@@ -57,15 +57,15 @@ pub record PausesAt (until : ℕ) (due : Option ℕ) (moved : Bool) (steps : Lis
   pub sooner : IsSoonerOf now until due next
   pub are : steps ≡ Notes (Read now) ∷ Notes (Paused moved (Some next)) ∷ []
 
--- what a turn of its wait until a deadline makes of it, by what it did, and the turn's answer: whether something moved, or that a refusal of
--- memory ended it
+-- what a turn of its wait until a deadline makes of it, by what it did, and the turn's answer: whether something moved, or that a refusal
+-- of memory ended it
 pub data IsTurned (count until : ℕ) (party after : Party) (steps : List MailStep) (answer : Option Bool) : Type 0 where
   stops : HaveServed count party after steps None → answer ≡ None → IsTurned count until party after steps answer
   ends : (moved : Bool) (served paused : List MailStep) → HaveServed count party after served (Some moved)
       → PausesAt until (due_in after.core) moved paused → steps ≡ served ++ paused → answer ≡ Some moved
       → IsTurned count until party after steps answer
 
--- its wait is over at the answer to its last ask, where it heeds that
+-- its wait is over at the answer to its last ask, where the wait is for that
 abbrev pub is_over : Bool → Party → Bool
 is_over heeds party = heeds && party.answered
 
@@ -73,7 +73,7 @@ is_over heeds party = heeds && party.answered
 abbrev pub HasWaited : Bool → Party → ℕ → ℕ → Type 0
 HasWaited heeds party until now = (is_over heeds party ≡ true) ⊎ (until ≤ now)
 
--- it has not
+-- its wait until a deadline has not ended at a reading of its clock
 pub record WaitsOn (heeds : Bool) (party : Party) (until now : ℕ) : Type 0 where
   pub still : is_over heeds party ≡ false
   pub early : now < until
@@ -86,8 +86,8 @@ AreTurns count until heeds (suc n) party after steps =
     × AreTurns count until heeds n party mid before × WaitsOn heeds mid until now × IsTurned count until mid after last (Some moved)
     × (steps ≡ before ++ (Notes (Read now) ∷ last))
 
--- what a wait until a deadline makes of it, by what it did; the last part is the reading at which it ended, or none where a refusal of memory
--- ended it
+-- what a wait until a deadline makes of it, by what it did; the last part is the reading at which it ended, or none where a refusal of
+-- memory ended it
 pub data IsWaited (count until : ℕ) (heeds : Bool) (party after : Party) (steps : List MailStep) (ended : Option ℕ) : Type 0 where
   ends : (turns now : ℕ) (first : List MailStep) → AreTurns count until heeds turns party after first → HasWaited heeds after until now
       → steps ≡ first ++ (Notes (Read now) ∷ []) → ended ≡ Some now → IsWaited count until heeds party after steps ended
@@ -95,7 +95,7 @@ pub data IsWaited (count until : ℕ) (heeds : Bool) (party after : Party) (step
       → WaitsOn heeds mid until now → IsTurned count until mid after last None → steps ≡ first ++ (Notes (Read now) ∷ last)
       → ended ≡ None → IsWaited count until heeds party after steps ended
 
--- all serve in a turn, whoever stops: those below it first, then the participant itself, then those above
+-- all serve in a turn, also where somebody stops: those below it first, then the participant itself, then those above
 pub record HaveServedOn (count : ℕ) (party after : Party) (steps : List MailStep) : Type 0 where
   pub below : Option Bool
   pub mine : Option Bool
@@ -104,7 +104,7 @@ pub record HaveServedOn (count : ℕ) (party after : Party) (steps : List MailSt
   pub served : IsServedOut count party after own mine
   pub are : steps ≡ Notes (Yielded false below) ∷ (own ++ Notes (Yielded true above) ∷ [])
 
--- such a turn of its wait until a deadline comes to its end whoever stops, with a pause until the sooner deadline
+-- a turn of its wait until a deadline comes to its end also where somebody stops, with a pause until the sooner deadline
 pub record IsTurnedOn (count until : ℕ) (party after : Party) (steps : List MailStep) : Type 0 where
   pub moved : Bool
   pub served : List MailStep
@@ -136,7 +136,7 @@ pub data IsWaitedOut (count until : ℕ) (heeds : Bool) (party after : Party) (s
       → IsOutlasted count until heeds mid after rest ended → steps ≡ first ++ rest → stopped ≡ true
       → IsWaitedOut count until heeds party after steps ended stopped
 
--- a reading of the clock: every deadline behind it is still to come
+-- a reading of the clock: every deadline after it is still to come
 abbrev pub IsReading : (ℕ → Type 0) → ℕ → Type 0
 IsReading IsToCome reading = (deadline : ℕ) → reading < deadline → IsToCome deadline
 

@@ -10,8 +10,7 @@ use hp_frame::Body;
 use hp_segs::Ask;
 
 /// The event that a message of one of `count` participants is for the coordinator. It is `None` where the message is no ask, where
-/// its participant isn't declared, and where its numbers make no request. After the request handling of the primary in rte_malloc,
-/// under Multi-process Support.
+/// its participant isn't declared, and where its numbers make no request. After handle_request of malloc_mp.c.
 pub(crate) fn ask_in(body: &Body, count: u8) -> Option<CoreEvent>
     requires { HasFieldValues body.now }
     ensures ask { MatchOption result (IsNoAsk count body.now) (λ event. IsAskIn count body.now event) }

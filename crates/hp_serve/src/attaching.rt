@@ -114,7 +114,7 @@ fn give_left<H: Hall>(hall: &mut H, me: u8, segs: Segs)
     give_segments(hall, me, given);
 }
 
-// Gives the segment value back behind a catching up: it comes into the roster, or leaves all as it was.
+// Gives the segment value back after a catch-up: it comes into the roster, or leaves all as it was.
 fn give_attached<H: Hall>(hall: &mut H, me: u8, caught: &Caught, segs: Segs)
     requires has { HasSegs me segs (H.state hall.old) }
     requires few { me < MAX_PARTICIPANTS }

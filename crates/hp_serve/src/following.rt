@@ -1,4 +1,4 @@
-//! What a member does that obeys a SYNC, once it has taken the segment value.
+//! What a member does that follows a SYNC, once it has taken the segment value.
 ghost use Rattle.std.specs.Prelude.{◌≡◌, ◌+◌, ◌*◌, ◌<◌, ◌≤◌, ◌++◌, ◌||◌, [], ◌∷◌, true, length};
 ghost use Rattle.hp_base.specs.Mapping.{is_done};
 ghost use Rattle.hp_base.specs.Plans.{action_of};
@@ -61,8 +61,9 @@ fn give_noted<H: Hall>(hall: &mut H, me: u8, caught: &Caught, segs: Segs) -> Bod
     reply
 }
 
-/// A member that has taken the segment value obeys a SYNC: it catches up with the log as it stands, acknowledges that or notes a mapping
-/// that failed, gives the value back and posts its reply, its next one behind so many. `joined` says whether it had a table before.
+/// A member that has taken the segment value does what a SYNC asks: it catches up with the log as it stands, acknowledges that or notes
+/// a mapping that failed, gives the value back and posts its reply, which is the next one after so many. `joined` says whether it had a
+/// table before.
 pub(crate) fn obey<H: Hall, M: Mapper>(
     hall: &mut H,
     me: u8,

@@ -42,7 +42,7 @@ fn step_with_room(
     ensures ok { IfOk result (λ out. IsStepped core.new segs.new out (stepping event core.old segs.old)) }
     ensures err { OnErr result ((core.new ≡ core.old) × (segs.new ≡ segs.old)) }
 
-    // What it leaves may be given back by whoever knows what the event tells.
+    // What it leaves may be given back by one that knows what the event tells.
     ensures gives { (knows : Knows) → IsTrueOf knows.noted (length segs.old.log) event
         → GivesSegments knows segs.old segs.new }
 
@@ -56,8 +56,7 @@ fn step_with_room(
 }
 
 /// Hands the coordinator an event, with the segment value that participant 0 has taken, and gives the value back as the step leaves
-/// it. Without memory for a step, it gives the value back as it was. After the request handling of the primary in rte_malloc, under
-/// Multi-process Support.
+/// it. Without memory for a step, it gives the value back as it was. After handle_request of malloc_mp.c.
 pub(crate) fn hand<H: Hall>(
     hall: &mut H,
     core: &mut Coordinator,

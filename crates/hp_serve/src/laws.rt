@@ -6,7 +6,7 @@ ghost use Rattle.hp_serve.specs.Party.{Party};
 ghost use Rattle.hp_serve.specs.Servings.{ServesSo};
 ghost use Rattle.hp_serve.specs.Waiting.{LeavesAsked};
 
-/// Serving leaves a participant its last ask: its number stays, and so does its answer once that has come. Own.
+/// Serving leaves a participant its last ask: its number stays, and its answer stays once that has come. Own.
 pub fn asking_law()
     ensures { (count : ℕ) (old new : Party) (steps : List MailStep) (answer : Option Bool) → IsServed count old new steps answer
         → LeavesAsked old new }

@@ -61,7 +61,7 @@ fn catch_and_hand<H: Hall, M: Mapper>(
 }
 
 /// Participant 0 takes the segment value, catches up with the log as it stands, and tells its coordinator. Where its mapper has made
-/// too many calls, it gives the value back as it was. After the synchronisation of memory maps in Multi-process Support.
+/// too many calls, it gives the value back as it was. Own: DPDK's primary maps pages when it adds them.
 pub(crate) fn map_self<H: Hall, M: Mapper>(
     hall: &mut H,
     core: &mut Coordinator,

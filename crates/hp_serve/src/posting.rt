@@ -95,8 +95,8 @@ fn tell_each<H: Hall>(hall: &mut H, plan: &Plan, syncs: &mut [u64; 16], frame: F
     }
 }
 
-/// Posts the SYNC for a generation once to each of these members that the hall has, but participant 0, in rising number. After the
-/// sync requests of the primary in rte_malloc, under Multi-process Support.
+/// Posts the SYNC for a generation once to each of these members that the hall has, but participant 0, in rising number. After
+/// request_sync of malloc_mp.c.
 pub(crate) fn tell_all<H: Hall>(
     hall: &mut H,
     plan: &Plan,

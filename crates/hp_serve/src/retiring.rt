@@ -13,7 +13,7 @@ use crate::calls::{give_back, take_segments};
 use hp_base::Run;
 use hp_hall::Hall;
 
-/// The rows of a run that was cut from a heap become Retiring. Own; after malloc_heap_free_pages of rte_malloc.
+/// The rows of a run that was cut from a heap become Retiring. After malloc_heap_free_pages of malloc_heap.c.
 pub(crate) fn retire_run<H: Hall>(hall: &mut H, me: u8, heap: u32, run: &Run)
     requires may { MayHold me (H.state hall.old) }
     requires cut { (holding : Holding) × (left : PlainHeap) × (((H.state hall.old).part me heap).holding ≡ Some holding)

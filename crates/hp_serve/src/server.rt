@@ -24,7 +24,7 @@ mod serving;
 mod waiting;
 
 /// One process, but for the lines of the workload that it does: it has a table, and participant 0 also the coordinator of growths. It
-/// serves what others send it, asks for pages and waits. After a primary or a secondary process of Multi-process Support.
+/// serves what others send it, asks for pages and waits. After a primary or a secondary process (the chapter Multi-process Support).
 #[derive(Drop)]
 pub struct Server<'p, M: Mapper> {
     me: u8,

@@ -1,4 +1,4 @@
--- Turns of all participants in one thread, behind the last line: the rule "Turns in one thread" of docs/RUNS.md.
+-- Turns of all participants in one thread, after the last line: the rule "Turns in one thread" of docs/RUNS.md.
 use Rattle.std.specs.Prelude.{◌≡◌, ℕ, ◌-◌, ◌^◌, ◌≤◌, false, List, [], length, Option, Some, None, IsSome, ⊤}
 use Rattle.hp_plain.specs.Course.{IsCourse}
 use Rattle.hp_plain.specs.HallSteps.{after_pause}
@@ -7,8 +7,8 @@ use Rattle.hp_plain.specs.Boxes.{box_of}
 use Rattle.hp_solo.specs.Sequence.{Visits}
 use Rattle.hp_solo.specs.Solo.{AreLater, IsPendingDue, IsQuiet, AloneView, SoloView, due_at, has_stopped, party_at, server_at}
 
--- what turns of all participants leave: the plain values go on, and so does each that serves; and the slots and the parts in heaps are as
--- they were
+-- what turns of all participants leave: the plain values keep their course, each that serves goes on from itself, and the slots and the
+-- parts in heaps are as they were
 pub record TurnsLeave (old new : SoloView) : Type 0 where
   pub course : IsCourse old.plain new.plain
   pub later : AreLater old new

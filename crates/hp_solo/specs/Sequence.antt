@@ -99,18 +99,18 @@ abbrev pub IsInSequence : SoloView → SoloView → Type 0
 IsInSequence old new = (me : ℕ) → IsAloneAway me old.servers → has_stopped new.servers ≡ false
     → (steps : List MailStep) × HasDone old.plain new.plain me steps × Sequence me old steps new
 
--- one that is there served some times, and did something each time, whoever else is there
+-- one that is there served some times, and did something each time, whichever others are there
 abbrev pub IsServedSome : HallView → HallView → Party → Party → Type 0
 IsServedSome old new party after = (servers : List AloneView) → server_at servers party.me ≡ Some (going_place party)
     → ServesSome party.me (record { plain = old; servers = servers })
     (record { plain = new; servers = slice_set servers party.me (going_place after) })
 
--- it was visited, whoever else is there
+-- one that is there was visited, whichever others are there
 abbrev pub IsVisited : HallView → HallView → Party → Party → Type 0
 IsVisited old new party after = (servers : List AloneView) → server_at servers party.me ≡ Some (going_place party)
     → Visit party.me (record { plain = old; servers = servers }) (record { plain = new; servers = slice_set servers party.me (going_place after) })
 
--- so was one that is there; of one that is away nothing is said
+-- one that is there was visited; of one that is away nothing is said
 abbrev pub IsVisitedAs : HallView → HallView → Option Party → Option Party → Type 0
 IsVisitedAs old new None after = ⊤
 IsVisitedAs old new (Some party) None = ⊥

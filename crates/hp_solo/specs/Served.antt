@@ -22,13 +22,13 @@ pub record HasServed (count who : ℕ) (old new : HallView) (party after : Party
   pub did : HasDone old new who steps
   pub serves : ServesOn count party after steps
 
--- so did the one of that number, where it is there; of one that is away nothing is said
+-- the participant of that number served, where it is there, and did nothing else but pause; of one that is away nothing is said
 abbrev pub HasServedAt : HallView → HallView → ℕ → Option Party → Option Party → Type 0
 HasServedAt old new who None after = ⊤
 HasServedAt old new who (Some party) None = ⊥
 HasServedAt old new who (Some party) (Some after) = HasServed (length old.owns) who old new party after
 
--- so did one that is there, by its own number
+-- one that is there served, by its own number, and did nothing else but pause
 abbrev pub HasServedAs : HallView → HallView → Option Party → Option Party → Type 0
 HasServedAs old new None after = ⊤
 HasServedAs old new (Some party) None = ⊥
@@ -43,17 +43,17 @@ pub record KeepsServing (count who : ℕ) (old new : HallView) (party : Party) :
   pub did : HasDone old new who (first ++ rest)
   pub serves : IsServed count party after first answer
 
--- so did one that is there; of one that is away nothing is said
+-- one that is there served at least once; of one that is away nothing is said
 abbrev pub KeepsServingAs : HallView → HallView → Option Party → Type 0
 KeepsServingAs old new None = ⊤
 KeepsServingAs old new (Some party) = KeepsServing (length old.owns) party.me old new party
 
--- so did the one of that number, where it is there
+-- the participant of that number served at least once, where it is there
 abbrev pub KeepsServingAt : HallView → HallView → ℕ → Option Party → Type 0
 KeepsServingAt old new who None = ⊤
 KeepsServingAt old new who (Some party) = KeepsServing (length old.owns) who old new party
 
--- from one state to a later one participants served in rising number: who did something did it behind nobody of a higher number
+-- from one state to a later one participants served in rising number: nobody did anything after one of a higher number had
 pub record IsInRisingNumber (old new : HallView) : Type 0 where
   pub steps : List (ℕ × MailStep)
   pub mail : new.mail ≡ old.mail ++ steps

@@ -85,7 +85,7 @@ server_weight pending server = (if server.stopped then 0 else 1) + party_weight 
 abbrev pub servers_weight : (ℕ → ℕ) → List AloneView → ℕ
 servers_weight pending servers = sum_by (server_weight pending) servers
 
--- the number by which serving returns: what the mailboxes weigh, and all that serve
+-- the measure by which serving ends: what the mailboxes weigh, and all that serve
 abbrev pub solo_weight : SoloView → ℕ
 solo_weight hall = boxes_weight hall.plain.boxes + servers_weight (pending_at hall.plain.clock) hall.servers
 
@@ -140,8 +140,8 @@ IsServedAs old new None (Some after) = ⊥
 IsServedAs old new (Some party) None = ⊥
 IsServedAs old new (Some party) (Some after) = IsPartyServed old new party after
 
--- what a participant does that looks into its mailbox in vain: participant 0 then reads its clock, to see whether the deadline of its round
--- has passed
+-- what a participant does that looks into its mailbox and finds nothing: participant 0 then reads its clock, to see whether the deadline of
+-- its round has passed
 abbrev pub looks_in_vain : ℕ → ℕ → List MailStep
 looks_in_vain zero clock = Fetches None ∷ Notes (Read clock) ∷ []
 looks_in_vain (suc who) clock = Fetches None ∷ []
@@ -152,7 +152,7 @@ pub record FindsNothing (old new : HallView) (who : ℕ) : Type 0 where
   pub boxes : new.boxes ≡ old.boxes
   pub empty : box_of new.boxes who ≡ []
 
--- so does one that is there, and nothing is done for one that is away
+-- one that is there finds its mailbox empty and does nothing else, and nothing is done for one that is away
 abbrev pub HasNothingToDo : HallView → HallView → Option Party → Type 0
 HasNothingToDo old new None = new ≡ old
 HasNothingToDo old new (Some party) = FindsNothing old new party.me
@@ -161,12 +161,12 @@ HasNothingToDo old new (Some party) = FindsNothing old new party.me
 abbrev pub LooksLast : HallView → HallView → ℕ → Type 0
 LooksLast old new who = (steps : List MailStep) × HasDone old new who (steps ++ looks_in_vain who new.clock)
 
--- so does one that is there
+-- one that is there looks last into its mailbox, which is empty then
 abbrev pub HasLookedLast : HallView → HallView → Option Party → Type 0
 HasLookedLast old new None = ⊤
 HasLookedLast old new (Some party) = LooksLast old new party.me
 
--- so does one that is there and serves still
+-- one that is there and serves still looks last into its mailbox, which is empty then
 abbrev pub LooksLastAt : HallView → HallView → ℕ → Option AloneView → Type 0
 LooksLastAt old new who None = ⊤
 LooksLastAt old new who (Some server) = server.stopped ≡ false → IsSome server.party → LooksLast old new who
@@ -184,7 +184,7 @@ abbrev pub IsBeside : ℕ → Bool → ℕ → Type 0
 IsBeside me false who = who < me
 IsBeside me true who = me < who
 
--- who does not
+-- who does not stand on that side of one that waits
 abbrev pub IsNotBeside : ℕ → Bool → ℕ → Type 0
 IsNotBeside me above who = IsBeside me above who → ⊥
 
@@ -216,7 +216,7 @@ pub record IsIdle (old new : SoloView) (who : ℕ) (server : AloneView) : Type 0
   pub stays : server_at new.servers who ≡ Some server
   pub looked : IsSome server.party → HasDone old.plain new.plain who (looks_in_vain who new.plain.clock)
 
--- nothing moved on a side: whoever there had met no refusal of memory was idle; and if nobody had, the mailboxes are as they were, and
+-- nothing moved on a side: those there that had met no refusal of memory were idle; and if nobody had, the mailboxes are as they were, and
 -- those of the side are empty
 pub record IsQuiet (beside : ℕ → Type 0) (old new : SoloView) : Type 0 where
   pub idle : (who : ℕ) (server : AloneView) → beside who → server_at old.servers who ≡ Some server → server.stopped ≡ false

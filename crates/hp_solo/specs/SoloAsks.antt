@@ -12,8 +12,8 @@ use Rattle.hp_serve.specs.Party.{Party}
 use Rattle.hp_serve.specs.Tied.{nothing_yet}
 use Rattle.hp_solo.specs.Solo.{MayWait, SoloView}
 
--- a hall of two as it opens where nobody was armed: all values are there, nobody has acknowledged a record, both are in the roster, and heap
--- 0 takes the pages of a socket
+-- a hall of two as it opens where nobody was armed: all values are there, nobody has acknowledged a record, both are in the roster, and
+-- heap 0 takes the pages of a socket
 pub record IsOpening (hall : HallView) : Type 0 where
   pub two : length hall.owns ≡ 2
   pub home : AreHome hall

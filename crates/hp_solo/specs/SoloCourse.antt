@@ -14,8 +14,8 @@ use Rattle.hp_solo.specs.Served.{HasServed, HasServedAt, ServesOn}
 use Rattle.hp_solo.specs.Served.ServesOn.{pauses, rests, serves}
 use Rattle.hp_solo.specs.Solo.{AreLater, IsAway, IsLaterAt, IsLaterParty, AloneView, SoloView, has_stopped, party_in, server_at}
 
--- from one state to a later one: the plain values go on, and so does each that serves; and where one alone is away, what it did and what
--- the others did meanwhile stands in a sequence of its calls
+-- from one state to a later one: the plain values keep their course, each that serves goes on from itself; and where one alone is away,
+-- what it did and what the others did meanwhile stands in a sequence of its calls
 pub record IsSoloCourse (old new : SoloView) : Type 0 where
   pub plain : IsCourse old.plain new.plain
   pub servers : AreLater old new

@@ -32,7 +32,7 @@ solo_later old new course =
       stopped = still_so (has_stopped old.servers) (has_stopped new.servers) (going_before old new course.servers);
     }
 
--- and posts come to what the values count and the plan says
+-- posts come to what the values count and the plan says
 pub solo_posts : (old new : SoloView) → IsSoloCourse old new → HavePosted (solo_state old) (solo_state new)
 solo_posts old new course =
     let plain = plain_posts old.plain new.plain course.plain in

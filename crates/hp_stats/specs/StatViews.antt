@@ -19,7 +19,7 @@ pub record PassView : Type 0 where
   pub cells : List TableId
   pub seen : List (List StatPair)
 
--- before the first step
+-- a pen, and a pass, before the first step
 abbrev pub new_pen : TableId → PenView
 new_pen cell = record { cell = cell; published = [] }
 

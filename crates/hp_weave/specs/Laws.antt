@@ -13,7 +13,7 @@ pub record GoApart {L S : Type 0} (first last : Gathering L S) (deeds : ℕ → 
   pub chain : Chain first.value holds last.value
   pub own : (who : ℕ) → holds_of who holds ≡ holds_in who (deeds who)
 
--- they went together: in turns of all, in which each one's deeds are its own, in its order, and the holds are that chain
+-- participants went together: in turns of all, in which each one's deeds are its own, in its order, and the holds are that chain
 pub record GoTogether {L S : Type 0} (first last : Gathering L S) (deeds : ℕ → List (Deed L S)) (holds : List (Hold S)) : Type 0 where
   pub turns : List (Turn L S)
   pub runs : Runs first turns last

@@ -59,7 +59,7 @@ fn four_words(verb: &str, start: &str, lines: &str, last: &str) -> Option<Form>
     }
 }
 
-// The form of two numbers behind the verb `generate`.
+// The form of two numbers after the verb `generate`.
 fn generated_by(start: &str, lines: &str, summary: bool) -> Option<Form>
     ensures form { result ≡ generated_by summary start.now lines.now }
     ensures lines { IfSome result IsWithin }

@@ -135,7 +135,7 @@ pub record HasPlace (plain : PlainDirectory) : Type 0 where
 abbrev pub with_change : DirectoryView → NameChange → DirectoryView
 with_change old change = record old { plain = after_change old.plain change; log = old.log ++ change ∷ [] }
 
--- the same, where the call uses memory that is set aside
+-- the directory after a call that makes one change with memory that is set aside
 abbrev pub with_more : DirectoryView → NameChange → DirectoryView
 with_more old change = record (with_change old change) { room = old.room - 1 }
 

@@ -23,7 +23,8 @@ pub record ZonesReplay (log more : List ZoneChange) : Type 0 where
   pub whole : zones_at log (length log) ≡ zones_after [] log
   pub front : zones_at (log ++ more) (length log) ≡ zones_after [] log
 
--- the same of the changes of a directory
+-- changes of a directory and then more leave what the more leave of what the first left; and what all changes of a log leave is what the
+-- log leaves
 pub record DirectoryReplays (sockets : List ℕ) (log more : List NameChange) : Type 0 where
   pub parts : (plain : PlainDirectory) → directory_after plain (log ++ more) ≡ directory_after (directory_after plain log) more
   pub whole : directory_at sockets log (length log) ≡ directory_after (opening sockets) log

@@ -20,7 +20,7 @@ pub struct Zones {
     log: Vec<ZoneChange>,
     // The indexes of their changes in the log, in the order of reservation.
     order: Vec<usize>,
-    // The same in the order of their names.
+    // The indexes of their changes in the log, in the order of their names.
     by_name: Vec<usize>,
     spare: usize,
 }
@@ -40,7 +40,7 @@ impl Model for Zones {
 }
 
 impl Zones {
-    /// No memzone, and no memory taken.
+    /// No memzone, and no memory taken. Own.
     pub fn new(alloc: Global) -> Zones
         ensures { result ≡ no_zones }
     {
@@ -134,7 +134,7 @@ impl Zones {
         }
     }
 
-    /// How many memzones there are.
+    /// How many memzones there are. Own.
     pub fn len(&self) -> usize
         ensures { result ≡ length self.now.zones }
     {

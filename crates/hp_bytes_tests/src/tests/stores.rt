@@ -1,4 +1,4 @@
-//! A store behind the heap of a socket.
+//! A store for the addresses of a socket's heap.
 ghost use Rattle.std.specs.Prelude.{◌≡◌, IfOk, Some};
 ghost use Rattle.hp_heap.specs.Growing.{after_grow};
 ghost use Rattle.hp_heap.specs.PlainHeap.{opening_heap};

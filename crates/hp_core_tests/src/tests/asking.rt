@@ -65,7 +65,7 @@ fn holds_one_ask_of_each_participant(rt: HostRuntime) -> Result<(), Fail> {
     play(rt.alloc(), 3, 4, acts.as_slice(), ends.as_slice(), 2)
 }
 
-// An ask with which its participant is not armed is dropped, and so is each ask while another's growth is open.
+// An ask with which its participant is not armed is dropped, and each ask is while another's growth is open.
 #[test]
 fn drops_what_it_may_not_start(rt: HostRuntime) -> Result<(), Fail> {
     let acts = [

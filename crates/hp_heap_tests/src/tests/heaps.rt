@@ -15,7 +15,7 @@ pub fn one_page(alloc: Global) -> Result<Heap, AllocError> {
     first_page(alloc)
 }
 
-// The same, and what is known of it where another page comes.
+// A heap of socket 0 with a page of 2M at 0x100000000, and what is known of it where another page comes.
 fn first_page(alloc: Global) -> Result<Heap, AllocError>
     ensures spare { IfOk result (λ heap. 16 ≤ heap.spare) }
     ensures grown { IfOk result (λ heap.

@@ -46,7 +46,7 @@ const TAG: Tag = Tag {
     number: 7,
 };
 
-// The same one, asked for by another participant, which is not compared.
+// The tag above, asked for by another participant, which is not compared.
 const OTHER: Tag = Tag { who: 2, ..TAG };
 
 const LATER: Tag = Tag {
@@ -259,7 +259,7 @@ fn do_play(elems: &mut Elems, play: Play) -> bool
     }
 }
 
-// So it does, from no elements on, with room for three.
+// Whether all comes out as it has to, from no elements on, with room for three.
 fn plays(alloc: Global, play: Play) -> Result<bool, AllocError> {
     let mut elems = Elems::new(alloc);
     elems.reserve(3)?;
@@ -286,7 +286,7 @@ fn finds_each_part_of_a_busy_element(rt: HostRuntime) -> Result<(), Fail> {
     holds(plays(rt.alloc(), Play::CutBusy)?)
 }
 
-// So it does with room for one, until more is made.
+// Whether all comes out as it has to with room for one, until more is made.
 fn plays_after_reserve(alloc: Global) -> Result<bool, AllocError> {
     let mut elems = Elems::new(alloc);
     elems.reserve(1)?;

@@ -20,7 +20,7 @@ enum Step {
     Take(u32, u64, u64, Result<(), TakeFault>),
     // So many pages are free.
     Have(u32, u64, Option<u64>),
-    // The same, where the pool is thought to stand at a place.
+    // So many pages are free of a pool that is thought to stand at a place.
     HaveAt(usize, u32, u64, Option<u64>),
 }
 

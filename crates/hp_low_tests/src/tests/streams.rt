@@ -27,7 +27,8 @@ fn reads_otherwise(
     None
 }
 
-// The same of five bytes of which two are given at a time and the second reading fails, with what the buffer has at the end.
+// The first reading that goes otherwise, of five bytes of which two are given at a time and the second reading fails, with what the buffer
+// has at the end.
 fn read_five(alloc: Global) -> Result<(Option<usize>, [u8; 4]), AllocError> {
     let bytes = Vec::from_slice(alloc, b"abcde")?;
     let fails = Vec::from_slice(alloc, &[2])?;
@@ -64,7 +65,8 @@ fn writes_otherwise(sink: &mut MemSink, written: &[(&[u8], Put)]) -> Option<usiz
     None
 }
 
-// The same to a sink with room for five bytes, which takes three at a time and fails at the second writing, and whether it holds all.
+// The first writing that answers something else, to a sink with room for five bytes, which takes three at a time and fails at the second
+// writing, and whether it holds all.
 fn write_five(alloc: Global) -> Result<(Option<usize>, bool), AllocError> {
     let fails = Vec::from_slice(alloc, &[2])?;
     let mut sink = MemSink::with_room(alloc, 5, 3, fails)?;

@@ -13,7 +13,7 @@ impl<M: Mapper> LocalMaps<M> {
     ghost use Rattle.hp_maps.specs.Knowing.{StayKnown};
 
     /// Unmaps the whole table, where no chunk is attached, and begins anew: no record is taken in. What goes is told first,
-    /// by rising address, whatever record it came by.
+    /// by rising address, whatever record it came by. Own.
     pub fn unmap_all<T: Tell>(&mut self, tell: &mut T)
         requires no_chunk { chunk_rows self.old.rows ≡ [] }
         requires spare { length self.old.rows ≤ T.spare tell.old }

@@ -30,7 +30,7 @@ pub fn drop_rows<M: Mapper>(mapper: &mut M, rows: &mut RowList, records: &[LogRe
     }
 }
 
-// Unmaps the rows that go with a run. Where they stand next to each other, no other row is looked at behind them.
+// Unmaps the rows that go with a run. Where they stand next to each other, no other row is looked at after them.
 fn drop_run<M: Mapper>(mapper: &mut M, rows: &mut RowList, run: &Run)
     requires held { M.held mapper.old ≡ owned rows.old.items }
     requires once { HaveOwnSlots rows.old.items }

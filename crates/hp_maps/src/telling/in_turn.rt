@@ -7,8 +7,8 @@ ghost use Rattle.hp_maps.specs.Unmapping.{IsWithin};
 use crate::telling::Stretch;
 use hp_base::{Event, EventKind, Row, Tell};
 
-/// Goes on with a row, where one is found: behind the last one, or as a stretch of its own, before which the last one is
-/// told.
+/// Goes on with a row, where one is found: it goes on the last stretch, or begins one of its own, before which the last
+/// one is told.
 pub fn tell_found<T: Tell>(
     tell: &mut T,
     kind: EventKind,

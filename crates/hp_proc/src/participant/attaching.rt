@@ -47,7 +47,7 @@ impl<'p, M: Mapper> Participant<'p, M> {
 
     /// A line of a secondary that attaches: in one hold of the segment value it takes in the whole log, acknowledges it and joins the
     /// roster. Where a mapping fails its table stays empty and the roster as it was. It stops where its mapper has made too many calls.
-    /// After rte_eal_init of a secondary process, under Multi-process Support.
+    /// After rte_eal_init of a secondary process (the chapter Multi-process Support).
     pub fn do_attach<H: Hall>(
         &mut self,
         hall: &mut H,

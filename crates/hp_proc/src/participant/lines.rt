@@ -119,7 +119,7 @@ impl<'p, M: Mapper> Participant<'p, M> {
 
     /// Does one of its lines, and gives the answer: an allocation, a free, a resize, a dump, an attach or a detach. It holds no slot before
     /// and after. Where memory runs out, the numbers of its calls, or a mapper's calls, it does no further line. After rte_malloc_socket,
-    /// rte_free, malloc_elem_resize, rte_malloc_dump_stats, and the memory maps of a secondary process in Multi-process Support.
+    /// rte_free, malloc_elem_resize, rte_malloc_get_socket_stats, and rte_eal_init and rte_eal_cleanup of a secondary process.
     pub fn do_line<H: Waiting>(
         &mut self,
         hall: &mut H,

@@ -164,7 +164,7 @@ fn take(segs: &mut Segs, ask: &Ask) -> Result<Run, Fail>
     Ok(run)
 }
 
-// And gives it up.
+// Gives the granted run up.
 fn retire(segs: &mut Segs, ask: &Ask) -> Result<(), Fail>
     requires { ask.now.from < 16 }
 {

@@ -94,7 +94,7 @@ pub fn grow_large(heap: &mut Heap, wanted: &Wanted) -> Result<(), Fail>
     Ok(())
 }
 
-// And then a page of 256K for one of participant 1.
+// A page of 256K comes for an allocation of participant 1, after the page of 2M.
 pub fn grow_small(heap: &mut Heap, wanted: &Wanted) -> Result<(), Fail>
     requires grown { IsGrownTo LARGE heap.old.plain }
 {

@@ -183,7 +183,7 @@ const ADDR_C: u64 = 0x1_001f_f6c0;
 
 const ADDR_S: u64 = 0x1_0023_ffc0;
 
-// The calls behind the growths, each with its participant and the number of the first one. No line makes the last two.
+// The calls after the growths, each with its participant and the number of the first one. No line makes the last two.
 const STEPS: [(u8, u64, Step); 20] = [
     (0, 4, Step::Alloc { wanted: B }),
     (0, 5, Step::Alloc { wanted: C }),

@@ -36,7 +36,7 @@ pub fn member_line<'a>(
     Ok(Shape::Does { party, act })
 }
 
-// The word behind a limit: none, or `allow`.
+// The word after a limit: none, or `allow`.
 fn is_allow(words: &[Token]) -> Result<bool, BadKind>
     ensures { result ≡ is_allow words.now }
 {

@@ -130,7 +130,7 @@ fn later(alloc: Global, text: &str) -> Result<Option<u32>, ParseFault> {
     Ok(first_later(&workload))
 }
 
-// The same of parts of a text, one after the other.
+// The first line that is not built, of a text in parts, one after the other.
 fn later_of(alloc: Global, parts: &[&str]) -> Result<Option<u32>, ParseFault> {
     let mut text = String::new(alloc);
     add_each(&mut text, parts)?;
@@ -200,7 +200,7 @@ fn make_lines(text: &mut String, count: u32) -> Result<(), AllocError> {
     Ok(())
 }
 
-// The first line that is not built of 19,999 that are, and what comes behind.
+// The first line that is not built, of 19,999 that are and what comes after them.
 fn later_of_many(alloc: Global, behind: &str) -> Result<Option<u32>, ParseFault> {
     let mut text = String::new(alloc);
     make_lines(&mut text, 19_999)?;

@@ -10,7 +10,7 @@ const PAGES: &[&str] = &["256K", "2M", "16M", "256M", "512M", "1G", "4G", "16G"]
 enum Made {
     // So many pool lines, of the eight page sizes of one socket after another, each with so many segments.
     Pools(u32, u32),
-    // A word so often, and what comes behind.
+    // A word so often, and what comes after it.
     Words(&'static str, u32, &'static str),
 }
 

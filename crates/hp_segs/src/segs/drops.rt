@@ -7,7 +7,7 @@ use crate::segs::Segs;
 
 impl Segs {
     /// Drops all Retiring runs, one record each, lowest address first, and gives their pages back. The answer is the
-    /// generation of the last record. Own; after eal_memalloc_free_seg_bulk.
+    /// generation of the last record. After eal_memalloc_free_seg_bulk; the log is own.
     pub fn drop_retiring(&mut self) -> u64
         requires may { MayDrop self.old }
         ensures generation { result ≡ length self.new.log }

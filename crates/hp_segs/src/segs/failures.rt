@@ -43,8 +43,8 @@ impl Segs {
 
     /// Notes a failed mapping for the open growth: the participant's mapping call of that number, for the row, answered
     /// `got`. The answer is true exactly where it is taken: the row is the open growth's, none is noted for it yet, and
-    /// no failure of the participant by this call or a later one is logged. Otherwise nothing changes. Own; after the
-    /// rollback that a secondary asks for under Multi-process Support.
+    /// no failure of the participant by this call or a later one is logged. Otherwise nothing changes. Own; in
+    /// malloc_mp.c a secondary's reply says that it failed (handle_sync), and the primary rolls back.
     pub fn note_failed(&mut self, participant: u8, call: u64, row: &Row, got: MapAnswer) -> bool
         requires may { MayNote participant row.now got self.old }
         ensures taken { result ≡ is_noted self.old participant call row.now self.old.growth }

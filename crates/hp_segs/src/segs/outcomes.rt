@@ -82,7 +82,7 @@ impl Segs {
         self.asks.closed(participant)
     }
 
-    /// The logged outcomes, in the order in which they were logged.
+    /// The logged outcomes, in the order in which they were logged. Own.
     pub fn asks(&self) -> &[AskLog]
         ensures { result.now ≡ self.now.asks }
     {

@@ -83,7 +83,8 @@ impl Segs {
         run
     }
 
-    /// A heap gives up a run of its rows: they become Retiring. Own; after malloc_heap_free_pages of rte_malloc.
+    /// A heap gives up a run of its rows: they become Retiring. After malloc_heap_free_pages of malloc_heap.c; that they wait as Retiring
+    /// is own.
     pub fn retire(&mut self, heap: u32, run: &Run)
         requires owned { OwnsRun heap run.now self.old }
         ensures step { self.new ≡ after_retire heap run.now self.old }
@@ -93,7 +94,7 @@ impl Segs {
         self.retired = self.retired.with(heap, run);
     }
 
-    /// The number of Retiring runs.
+    /// The number of Retiring runs. Own.
     pub fn retiring(&self) -> usize
         ensures { result ≡ length self.now.retiring }
     {

@@ -16,14 +16,14 @@ use hp_log::LogRecord;
 use std::alloc::{AllocError, Global};
 
 impl Segs {
-    /// The pools, in their order.
+    /// The pools, in their order. After hugepage_info of EAL.
     pub fn pools(&self) -> &[PoolLine]
         ensures { result.now ≡ self.now.pools }
     {
         self.table.pools()
     }
 
-    /// The free pages of the pool of that place.
+    /// The free pages of the pool of that place. After hugepage_info of EAL.
     pub fn pages_left(&self, pool: usize) -> u64
         requires { pool < length self.now.pools }
         ensures { result ≡ pages_left self.now pool }
@@ -31,14 +31,15 @@ impl Segs {
         self.table.pages_left(pool)
     }
 
-    /// The segment lists of the pools, in their order.
+    /// The segment lists of the pools, in their order. After rte_memseg_list_walk.
     pub fn lists(&self) -> &[ListInfo]
         ensures { result.now ≡ lists_of self.now.pools }
     {
         self.table.lists()
     }
 
-    /// The state of a slot of a pool's list. It is `None` exactly where the slot is not mapped.
+    /// The state of a slot of a pool's list. It is `None` exactly where the slot is not mapped. After rte_memseg_walk;
+    /// the states are own.
     pub fn state(&self, list: u32, slot: u32) -> Option<RowState>
         ensures { result ≡ state_at self.now.segments list slot }
     {
@@ -69,7 +70,7 @@ impl Segs {
         }
     }
 
-    /// The bytes of the Agreed and Owned rows of a socket.
+    /// The bytes of the Agreed and Owned rows of a socket. Own.
     pub fn total_of(&self, socket: u32) -> u64
         ensures total { result ≡ total_of self.now.segments socket }
         ensures fits { result ≤ 2 ^ 48 }
@@ -77,7 +78,7 @@ impl Segs {
         self.table.total_of(socket)
     }
 
-    /// Adds the table that the first `n` records leave to `out`. Where memory runs out, `out` is as before.
+    /// Adds the table that the first `n` records leave to `out`. Where memory runs out, `out` is as before. Own.
     pub fn table_at(&self, alloc: Global, n: u64, out: &mut Vec<Row>) -> Result<(), AllocError>
         requires { n ≤ length self.now.log }
         ensures ok { OnOk result (out.new.items ≡ out.old.items ++ table_at self.now.log n) }

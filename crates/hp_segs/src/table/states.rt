@@ -19,7 +19,7 @@ fn count_run(totals: &mut [u64; 32], run: &Run)
     totals[run.socket as usize] += u64::from(run.count) * run.page;
 }
 
-// They no longer do.
+// The rows of a run count in their socket's total no longer.
 fn uncount_run(totals: &mut [u64; 32], run: &Run)
     requires socket { run.now.socket < 32 }
     requires counted { run.now.count * run.now.page ≤ slice_index totals.old run.now.socket }

@@ -17,12 +17,12 @@ pub enum Look {
     // The generation of the open growth, and the failure that is noted for it.
     Growing(Option<u64>),
     Failed(Option<End>),
-    // Participants 0 and 1 have acknowledged so many records: the lowest one that is behind that generation.
+    // Participants 0 and 1 have acknowledged so many records: the lowest one that has not acknowledged that generation.
     Behind(u64, u64, u64, Option<NotAll>),
     // The closed number, and how an ask ended.
     Closed(u64),
     Ended(u64, Option<End>),
-    // The outcome that is logged last: of which ask, behind how many records, how it ended, and whether the ask stands with it.
+    // The outcome that is logged last: of which ask, after how many records, how it ended, and whether the ask stands with it.
     Last(u64, u64, End, bool),
     // The record that is logged last.
     Record(LogRecord),
@@ -92,7 +92,7 @@ fn ended(segs: &Segs, number: u64) -> Option<End> {
     }
 }
 
-// The outcome that is logged last: of which ask, behind how many records, and how it ended.
+// The outcome that is logged last: of which ask, after how many records, and how it ended.
 fn last(segs: &Segs) -> Option<(u64, u64, End)> {
     let entry = segs.asks().last()?;
     Some((entry.number, entry.at, end_of(&entry.outcome)))

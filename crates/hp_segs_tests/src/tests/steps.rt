@@ -13,7 +13,7 @@ use std::test::Fail;
 /// One step, with what has to come of it. An ask is one of participant 0 for heap 3, and is named by its number.
 #[derive(Clone, Copy)]
 pub enum Step {
-    // The participant is armed with its ask for 1,000 bytes. So are these asks, too.
+    // The participant is armed with its ask for 1,000 bytes, as all asks here are.
     Arm(u64),
     // The growth of an ask is opened, of that run.
     Open(u64, Run),

@@ -74,7 +74,7 @@ impl<'p, M: Mapper> Server<'p, M> {
         since
     }
 
-    // Waits until its deadlines have passed, whether it was answered or not and whoever stops, and then settles its ask.
+    // Waits until its deadlines have passed, whether it was answered or not and also where somebody stops, and then settles its ask.
     fn settle_late<H: Waiting>(&mut self, hall: &mut H, ask: &Ask, since: u64) -> Answered
         requires can { CanServe self.old.me self.old (H.state hall.old) }
         requires own { ask.now.from ≡ self.old.me }
@@ -100,8 +100,8 @@ impl<'p, M: Mapper> Server<'p, M> {
         }
     }
 
-    // Waits for the answer to the ask that it sent behind that reading of the clock, for three deadlines at most and whoever stops, and then
-    // looks. Where it was answered and nothing stands, it waits until the deadlines have passed.
+    // Waits for the answer to the ask that it sent after that reading of the clock, for three deadlines at most, also where somebody stops,
+    // and then looks. Where it was answered and neither a grant nor a refusal stands, it waits until the deadlines have passed.
     fn await_answer<H: Waiting>(&mut self, hall: &mut H, ask: &Ask, since: u64) -> Answered
         requires can { CanServe self.old.me self.old (H.state hall.old) }
         requires own { ask.now.from ≡ self.old.me }
@@ -138,8 +138,8 @@ impl<'p, M: Mapper> Server<'p, M> {
     /// Asks the coordinator for pages for a heap that it holds, waits for the answer, and claims the run that was granted; there is none
     /// where the ask was refused, or taken back after three deadlines. It serves while it waits, and holds the slots that it held before.
     /// Once it is armed, its ask is settled in the end: where somebody stops while it serves it waits on, for no longer than it would have,
-    /// and its answer says so. Without memory to be armed, nothing is asked. After the growth of a heap by a secondary process in
-    /// rte_malloc, under Multi-process Support.
+    /// and its answer says so. Without memory to be armed, nothing is asked. After request_to_primary of malloc_mp.c; arming and
+    /// taking back are own.
     pub fn ask<H: Waiting>(
         &mut self,
         hall: &mut H,

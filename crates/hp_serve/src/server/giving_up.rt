@@ -50,7 +50,7 @@ impl<'p, M: Mapper> Server<'p, M> {
         retire_run(hall, self.me, heap, run);
     }
 
-    // Sends the notice that a run was given up, of the next number behind its last ask.
+    // Sends the notice that a run was given up, under the next number after that of its last ask.
     fn send_notice<H: Hall>(&mut self, hall: &mut H, number: u64, heap: u32, run: &Run)
         requires serves { (H.state hall.old).serves self.old.me }
         requires me { self.old.me < (H.state hall.old).count }
@@ -73,7 +73,7 @@ impl<'p, M: Mapper> Server<'p, M> {
 
     /// Tells the coordinator that a run of a heap was given up, and waits for its answer, for three deadlines at most. What comes of it
     /// does not matter. It serves while it waits, and holds the slots that it held before. Where its numbers have come to an end,
-    /// nothing is sent. After the notice of freed memory of a secondary process in rte_malloc, under Multi-process Support.
+    /// nothing is sent. After request_to_primary of malloc_mp.c, as malloc_heap_free calls it in a secondary process.
     pub fn notify<H: Waiting>(
         &mut self,
         hall: &mut H,

@@ -1,4 +1,4 @@
-//! How a participant waits that has to see its wait through, whoever stops meanwhile.
+//! How a participant waits that has to see its wait through, also where somebody stops meanwhile.
 ghost use Rattle.std.specs.Prelude.{◌≡◌, ◌+◌, ◌*◌, ◌<◌, ◌≤◌, ◌⊎◌, List};
 ghost use Rattle.hp_hall.specs.HallState.{Did};
 ghost use Rattle.hp_hall.specs.Mail.{MailStep};
@@ -36,7 +36,7 @@ fn own_moved(answer: Result<bool, AllocError>) -> bool
 }
 
 impl<'p, M: Mapper> Server<'p, M> {
-    // A turn without its pause, in which all serve, whoever stops. Returned is whether something moved.
+    // A turn without its pause, in which all serve, also where somebody stops. Returned is whether something moved.
     fn serve_on<H: Waiting>(&mut self, hall: &mut H) -> bool
         requires can { CanServe self.old.me self.old (H.state hall.old) }
         ensures served { (steps : List MailStep) × Did self.old.me steps (H.state hall.old) (H.state hall.new)
@@ -55,7 +55,7 @@ impl<'p, M: Mapper> Server<'p, M> {
         has_moved(own, below, above)
     }
 
-    // A turn of a wait until a deadline, which comes to its end whoever stops.
+    // A turn of a wait until a deadline, which comes to its end also where somebody stops.
     fn turn_on<H: Waiting>(&mut self, hall: &mut H, until: u64)
         requires can { CanServe self.old.me self.old (H.state hall.old) }
         requires before { H.pending (H.state hall.old).clock until ≡ H.scale }
@@ -73,8 +73,8 @@ impl<'p, M: Mapper> Server<'p, M> {
         self.end_turn(hall, until, moved);
     }
 
-    // Takes such turns until a reading of the clock has reached the deadline, or, where it heeds that, its last ask is answered. Returned is
-    // the last reading.
+    // Takes turns that come to their ends until a reading of the clock has reached the deadline, or, where the wait is for that, its last
+    // ask is answered. Returned is the last reading.
     fn outlast<H: Waiting>(&mut self, hall: &mut H, until: u64, heeds: bool) -> u64
         requires can { CanServe self.old.me self.old (H.state hall.old) }
         ensures turned { (steps : List MailStep) × Did self.old.me steps (H.state hall.old) (H.state hall.new)
@@ -94,7 +94,7 @@ impl<'p, M: Mapper> Server<'p, M> {
         }
     }
 
-    // Waits as `wait` does, and for as long where somebody stops: it serves on, and so do the others.
+    // Waits as `wait` does, and for as long where somebody stops: it and the others serve on.
     pub(crate) fn wait_out<H: Waiting>(&mut self, hall: &mut H, until: u64, heeds: bool) -> Waited
         requires can { CanServe self.old.me self.old (H.state hall.old) }
         ensures turned { (steps : List MailStep) × Did self.old.me steps (H.state hall.old) (H.state hall.new)

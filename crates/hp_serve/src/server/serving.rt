@@ -58,9 +58,9 @@ impl<'p, M: Mapper> Server<'p, M> {
         }
     }
 
-    /// Serves once: heeds the first frame of its mailbox, and participant 0, where that is empty, polls for what is due. It answers
-    /// whether it did something, and that memory ran out, or its mapper's calls, where it stopped. Between two servings it holds the
-    /// slots that it held before. After the handling of messages in Multi-process Support.
+    /// Serves once: does what the first frame of its mailbox asks, and participant 0, where that is empty, polls for what is due. It
+    /// answers whether it did something, and that memory ran out, or its mapper's calls, where it stopped. Between two servings it holds
+    /// the slots that it held before. After the actions of rte_mp_action_register, by which malloc_mp.c handles messages.
     pub fn serve<H: Hall>(&mut self, hall: &mut H) -> Result<bool, AllocError>
         requires can { CanServe self.old.me self.old (H.state hall.old) }
 
@@ -68,7 +68,7 @@ impl<'p, M: Mapper> Server<'p, M> {
         ensures served { (steps : List MailStep) × Did self.old.me steps (H.state hall.old) (H.state hall.new)
             × IsServed (H.state hall.old).count self.old self.new steps (result_ok result) }
 
-        // Each serving that does something makes this number smaller. One that did nothing leaves no deadline that has passed, but
+        // Each serving that does something makes this measure smaller. One that did nothing leaves no deadline that has passed, but
         // one at the end of the clock's type, which never does.
         ensures weight { left_to_do H.scale H.pending self.new (H.state hall.new) + H.scale * served_of result
             ≤ left_to_do H.scale H.pending self.old (H.state hall.old) }

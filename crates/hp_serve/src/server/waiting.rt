@@ -127,7 +127,7 @@ impl<'p, M: Mapper> Server<'p, M> {
         ensures turned { (steps : List MailStep) × Did self.old.me steps (H.state hall.old) (H.state hall.new)
             × IsTurned (H.state hall.old).count until self.old self.new steps (result_ok result) }
 
-        // Each turn makes this number smaller, and one that somebody stopped does not raise it.
+        // Each turn makes this measure smaller, and one that somebody stopped does not raise it.
         ensures falls { OnOk result (left_to_do H.scale H.pending self.new (H.state hall.new) + H.pending
             (H.state hall.new).clock until < left_to_do H.scale H.pending self.old (H.state hall.old) + H.pending
             (H.state hall.old).clock until) }
@@ -150,8 +150,8 @@ impl<'p, M: Mapper> Server<'p, M> {
         Ok(moved)
     }
 
-    // Whether its wait has ended at a reading of the clock: that has reached the deadline, or, where it heeds that, its last ask is
-    // answered.
+    // Whether its wait has ended at a reading of the clock: that has reached the deadline, or, where the wait is for that, its last ask
+    // is answered.
     pub(super) fn ends_wait(&self, reading: u64, until: u64, heeds: bool) -> bool
         ensures ended { result ≡ true → HasWaited heeds self.now until reading }
         ensures waits_on { result ≡ false → WaitsOn heeds self.now until reading }
@@ -162,8 +162,8 @@ impl<'p, M: Mapper> Server<'p, M> {
         heeds && self.answered
     }
 
-    // Takes turns until a reading of the clock has reached the deadline, or, where it heeds that, its last ask is answered. Returned
-    // is the last reading.
+    // Takes turns until a reading of the clock has reached the deadline, or, where the wait is for that, its last ask is answered.
+    // Returned is the last reading.
     pub(crate) fn wait<H: Waiting>(
         &mut self,
         hall: &mut H,

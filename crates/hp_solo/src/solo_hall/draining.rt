@@ -68,7 +68,7 @@ impl<'p, M: Mapper> SoloHall<'p, M> {
 
     /// Serves all who are there, in rising number and again and again, until nothing moves. Then the clock jumps to the least deadline of
     /// a round that is still to come, which is noted as a pause of participant 0, and they serve on, until there is none. This is how a
-    /// run goes on behind its last line. Own.
+    /// run goes on after its last line. Own.
     pub fn drain(&mut self)
         requires home { IsHome (slot_at self.old.plain MAX_HEAPS) }
         ensures drained { IsDrained self.new }
@@ -79,8 +79,8 @@ impl<'p, M: Mapper> SoloHall<'p, M> {
         ensures home { (number : ℕ) → IsHome (slot_at self.old.plain number) → IsHome (slot_at self.new.plain number) }
         ensures part { (who heap : ℕ) → part_in self.new.plain who heap ≡ part_in self.old.plain who heap }
 
-        // The plain values go on, and so does each that serves. Where nobody has stopped in the end, all were visited in turn, again and
-        // again, and the clock jumped only behind visits in which nothing moved.
+        // The plain values keep their course, and each that serves goes on from itself. Where nobody has stopped in the end, all were
+        // visited in turn, again and again, and the clock jumped only after visits in which nothing moved.
         ensures course { IsCourse self.old.plain self.new.plain }
         ensures later { AreLater self.old self.new }
         ensures drains { has_stopped self.new.servers ≡ false → Drains self.old self.new }

@@ -54,7 +54,7 @@ impl<'p, M: Mapper> SoloHall<'p, M> {
         self.plain.note_yield(me, above, Some(moved));
     }
 
-    // The reading of the clock behind a pause. It stands where something moved, and else jumps to the least of the deadline that is waited
+    // The reading of the clock after a pause. It stands where something moved, and else jumps to the least of the deadline that is waited
     // for and those of participants that are there, of such as are still to come.
     fn reading_behind(&self, moved: bool, until: Option<u64>) -> u64
         requires before { IsPending 1 (pending_at self.now.plain.clock) moved until }

@@ -39,7 +39,7 @@ const fn granted(from: u8) -> SegsShown {
     }
 }
 
-// And where the first ask of participant 1 was refused so, after so many records.
+// What the segment value shows where the first ask of participant 1 was refused so, after so many records.
 const fn refused(records: usize, end: End) -> SegsShown {
     SegsShown {
         records,

@@ -209,8 +209,8 @@ fn is_left(end: &SoloEnd, number: u64, rows: usize, clock: u64) -> bool {
         && end.plain.clock() == clock
 }
 
-/// The same, where that is planned: two tables are left, each of one that is attached, with so many rows by so many records, and the clock
-/// shows that reading.
+/// A participant does its line where that is planned, and both serve on: two tables are left, each of one that is attached, with so many
+/// rows by so many records, and the clock shows that reading.
 pub fn drains(
     alloc: Global,
     planned: Option<PlanEntry>,

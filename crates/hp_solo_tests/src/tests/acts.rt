@@ -13,12 +13,12 @@ use std::alloc::AllocError;
 pub(super) enum Act {
     // Participant 0 serves once, and did something or nothing.
     Primary(bool),
-    // So does participant 1.
+    // Participant 1 serves once, and did something or nothing.
     Secondary(bool),
     // Participant 1 posts its ALLOC of that number, as the plan has it, and its FREE.
     Alloc(u64, Posted),
     Free(u64),
-    // Participant 1 posts the ALLOC of a participant and of a number, whoever asks by it.
+    // Participant 1 posts the ALLOC of a participant, its own or another's, and of a number.
     Claim(u8, u64),
     // One of the two posts a message to the other's handler of growths, one to another handler, and a frame that does not read.
     Say(u8, Body),

@@ -53,7 +53,7 @@ fn attaches_again_with_the_whole_log(rt: HostRuntime) -> Result<(), Fail> {
     play(rt.alloc(), None, OUT_AND_IN)
 }
 
-// And it has acknowledged no record.
+// Participant 1 is out, and has acknowledged no record.
 const MISSED: Shown = Shown {
     numbers: (1, 0),
     ..OUT

@@ -41,7 +41,7 @@ pub(super) const LATE: Shown = Shown {
     last: Some((1, 1, End::Late(1, 0, 200))),
 };
 
-// And where participant 0 alone has.
+// Participant 1 was late for the growth, and participant 0 alone has taken in that it was cancelled.
 const LATE_STILL: Shown = Shown {
     numbers: (2, 0),
     ..LATE
@@ -89,7 +89,8 @@ fn grants_a_growth(rt: HostRuntime) -> Result<(), Fail> {
     play(rt.alloc(), None, IN_TIME)
 }
 
-// Participant 1 does not serve before both deadlines have passed. What it fetches then it heeds, and its replies are dropped.
+// Participant 1 does not serve before both deadlines have passed. It does what the frames ask that it fetches then, and its replies are
+// dropped.
 const TOO_LATE: &[Act] = &[
     Alloc(1, Posted::Sent),
     Primary(true),

@@ -121,7 +121,7 @@ impl<'p> Stage<'p> {
         self.secondary.do_attach(&mut self.hall, &line)
     }
 
-    // And one by which it detaches.
+    // Participant 1 does a line by which it detaches.
     pub(super) fn detach(&mut self) -> Answer {
         let line = Line {
             line: 1,
