@@ -1,6 +1,7 @@
 -- The ask is one step of its line, and where a run comes its growth is the next, whoever stopped meanwhile.
 use Rattle.std.proofs.Common.{◌+◌, ◌<◌, ℕ, subst, sym}
 use Rattle.std.specs.Prelude.{◌^◌, IsSome}
+use Rattle.hp_serve.proofs.AskedAlong.{held_same}
 use Rattle.hp_serve.proofs.AskedOn.{asked_whole}
 use Rattle.hp_proc.specs.Contexts.{Context}
 use Rattle.hp_proc.proofs.HandAsked.{held_some}
@@ -24,7 +25,8 @@ pub returns-in_err-answered-clause-keeps : goal.returns-in_err-answered-clause-k
 returns-in_err-answered-clause-keeps g c =
     let is = c.ask.ensures in
     keeps_asked c.args.self.now c.ask.new.self (g.H.Hall.state c.args.hall.now) (g.H.Hall.state c.ask.new.hall) c.args.heap.now
-    c.args.asked.now c.requires.holds c.requires.its is.context is.remains is.settled is.mapped c.in_err-answered.ensures.err
+    c.args.asked.now c.requires.holds c.requires.its is.context is.remains is.settled is.mapped
+    (λ index. held_same _ _ (c.in_err-answered.ensures.err.armed.stays.mine.parts.part index))
 
 -- THE HEAP TAKES IN WHAT WAS GRANTED
 
