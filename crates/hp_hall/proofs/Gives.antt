@@ -188,16 +188,19 @@ gives_leave knows segs may = record {
     moved = calls_move is_roster_call (LeaveRoster knows.who) segs refl may;
     others = λ other apart. get_or-set_other segs.roster knows.who other false false apart;
     joins = λ out came. absurd (true≢false (sym may.member ∙ out));
+    caught_up = λ out came. absurd (true≢false (sym may.member ∙ out));
   });
 }
 
-pub gives_join : (knows : Knows) (segs : SegsView) → MayJoin knows.who knows.number segs → GivesSegments knows segs (after_join knows.who segs)
-gives_join knows segs may = record {
+pub gives_join : (knows : Knows) (segs : SegsView) → MayJoin knows.who knows.number segs → knows.acked ≡ Some (length segs.log)
+    → GivesSegments knows segs (after_join knows.who segs)
+gives_join knows segs may acked = record {
   more = [];
   log = sym (append-nil segs.log);
   form = enrols (record {
     moved = calls_move is_roster_call (JoinRoster knows.who knows.number) segs refl may;
     others = λ other apart. get_or-set_other segs.roster knows.who other true false apart;
     joins = λ out came. may.all;
+    caught_up = λ out came. acked;
   });
 }

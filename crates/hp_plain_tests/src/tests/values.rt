@@ -1,5 +1,5 @@
 //! Values that are taken and given back, and numbers that are told, through the trait.
-ghost use Rattle.std.specs.Prelude.{◌≡◌, ◌≢◌, ◌<◌, ℕ, [], ◌∷◌, OnOk, length};
+ghost use Rattle.std.specs.Prelude.{◌≡◌, ◌≢◌, ◌<◌, ℕ, [], ◌∷◌, OnOk, Some, length};
 ghost use Rattle.hp_base.specs.declared.limits.TheConstants.{MAX_HEAPS};
 ghost use Rattle.hp_hall.specs.Giving.{GivesSegments, Knows};
 ghost use Rattle.hp_hall.specs.HallState.{Did, OthersStay, SlotsStayBut};
@@ -47,11 +47,11 @@ fn leave(segs: &mut Segs, me: u8)
     segs.leave_roster(me);
 }
 
-// A participant that has acknowledged all records joins the roster, where it is out.
+// A participant that has acknowledged all records since it took the segment value joins the roster, where it is out.
 fn join(segs: &mut Segs, me: u8, records: u64)
     requires declared { me < 16 }
     requires all { records ≡ length segs.old.log }
-    ensures { (knows : Knows) → knows.who ≡ me → knows.number ≡ records → GivesSegments knows segs.old segs.new }
+    ensures { (knows : Knows) → knows.who ≡ me → knows.number ≡ records → knows.acked ≡ Some records → GivesSegments knows segs.old segs.new }
 {
     if segs.is_member(me) {
         return;
