@@ -90,18 +90,19 @@ ready_again board old new holder segs given was here holds gives gave =
 
 -- the participant joins, or leaves
 pub joins : (who : ℕ) (segs : SegsView) → MayJoin who (length segs.log) segs → Changes who segs (after_join who segs)
-joins who segs may knows is number acked =
+joins who segs may knows is number acked emptied =
     subst (λ (w : ℕ). GivesSegments knows segs (after_join w segs)) is
     (gives_join knows segs (record { declared = let low = may.declared in omega (arith, low, is); out = ap (is_member segs.roster) is ∙ may.out; all = number })
     (acked may.out))
 
 pub leaves : (who : ℕ) (segs : SegsView) → MayLeave who segs → Changes who segs (after_leave who segs)
-leaves who segs may knows is number acked =
+leaves who segs may knows is number acked emptied =
     subst (λ (w : ℕ). GivesSegments knows segs (after_leave w segs)) is
-    (gives_leave knows segs (record { member = ap (is_member segs.roster) is ∙ may.member; secondary = let low = may.secondary in omega (arith, low, is) }))
+    (gives_leave knows segs (record { member = ap (is_member segs.roster) is ∙ may.member; secondary = let low = may.secondary in omega (arith, low, is) })
+    emptied)
 
 pub gives_changed : (old holder : Mine) (segs given : SegsView) → HoldsAll old segs holder → Changes holder.who segs given → GivesSegments (knows_of holder) segs given
-gives_changed old holder segs given holds changes = changes (knows_of holder) refl holds.number holds.acked
+gives_changed old holder segs given holds changes = changes (knows_of holder) refl holds.number holds.acked refl
 
 -- SEATS
 

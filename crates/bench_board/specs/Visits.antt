@@ -30,7 +30,8 @@ pub record HoldsAll (old : Mine) (segs : SegsView) (mine : Mine) : Type 0 where
   pub acked : is_member segs.roster mine.who ≡ false → (knows_of mine).acked ≡ Some (length segs.log)
   pub log : mine.log ≡ segs.log
 
--- a participant that has taken in the whole log may give this value in place of the taken one: it has come into the roster, or has left it
+-- a participant that has taken in the whole log, and whose table has no row where it is out, may give this value in place of the taken one: it
+-- has come into the roster, or has left it
 abbrev pub Changes : ℕ → SegsView → SegsView → Type 0
 Changes who taken given = (knows : Knows) → knows.who ≡ who → knows.number ≡ length taken.log
-    → (is_member taken.roster who ≡ false → knows.acked ≡ Some (length taken.log)) → GivesSegments knows taken given
+    → (is_member taken.roster who ≡ false → knows.acked ≡ Some (length taken.log)) → knows.emptied ≡ true → GivesSegments knows taken given

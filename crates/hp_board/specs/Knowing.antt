@@ -18,7 +18,8 @@ heap_part mine heap = record {
   armed = mine.armed;
 }
 
--- all that it knows when it gives; who joins has acknowledged its number since it took the segment value
+-- all that it knows when it gives; who joins has acknowledged its number since it took the segment value. A seat has no table to empty: that of
+-- who is out has no row, as its view says (`table_of`)
 abbrev pub knows_of : Mine → Knows
 knows_of mine = record {
   who = mine.who;
@@ -26,6 +27,7 @@ knows_of mine = record {
   part = heap_part mine;
   number = mine.number;
   acked = if mine.joining then Some mine.number else None;
+  emptied = true;
   noted = λ other. noted_of other mine;
   seen = mine.log;
   heard = mine.heard;

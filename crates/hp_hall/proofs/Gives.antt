@@ -180,8 +180,9 @@ entries_made-none part none =
     omega arith
 
 -- the segment value once its giver has left the roster, and once it has come in with the whole log taken in
-pub gives_leave : (knows : Knows) (segs : SegsView) → MayLeave knows.who segs → GivesSegments knows segs (after_leave knows.who segs)
-gives_leave knows segs may = record {
+pub gives_leave : (knows : Knows) (segs : SegsView) → MayLeave knows.who segs → knows.emptied ≡ true
+    → GivesSegments knows segs (after_leave knows.who segs)
+gives_leave knows segs may emptied = record {
   more = [];
   log = sym (append-nil segs.log);
   form = enrols (record {
@@ -189,6 +190,7 @@ gives_leave knows segs may = record {
     others = λ other apart. get_or-set_other segs.roster knows.who other false false apart;
     joins = λ out came. absurd (true≢false (sym may.member ∙ out));
     caught_up = λ out came. absurd (true≢false (sym may.member ∙ out));
+    leaves = λ was gone. emptied;
   });
 }
 
@@ -202,5 +204,6 @@ gives_join knows segs may acked = record {
     others = λ other apart. get_or-set_other segs.roster knows.who other true false apart;
     joins = λ out came. may.all;
     caught_up = λ out came. acked;
+    leaves = λ was gone. absurd (true≢false (sym was ∙ may.out));
   });
 }

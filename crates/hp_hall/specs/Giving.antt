@@ -1,5 +1,5 @@
 -- What may be given back in place of what was taken: the rule "Giving" of docs/PARTICIPANTS.md.
-use Rattle.std.specs.Prelude.{◌≡◌, ℕ, ◌+◌, List, [], ◌∷◌, ◌++◌, length, Option, Some, None, IsSome, sum_by, ⊤}
+use Rattle.std.specs.Prelude.{◌≡◌, ℕ, ◌+◌, List, [], ◌∷◌, ◌++◌, length, Bool, Option, Some, None, IsSome, sum_by, ⊤}
 use Rattle.std.specs.List.{All, range_with_len}
 use Rattle.hp_heap.specs.declared.entry.Entry.{Entry}
 use Rattle.hp_heap.specs.History.{HeapView}
@@ -15,14 +15,15 @@ use Rattle.hp_hall.specs.Holding.{HeapPart, IsHeldWith, IsSettledFor}
 use Rattle.hp_hall.specs.SegsGives.{Giver, IsLogGive, IsOwnerGive, IsRosterGive}
 
 -- what a giver knows: its number among the participants, the values that it has taken, its part in each heap, its own number of records,
--- and that which it has acknowledged since it took the segment value, where it has; the numbers that it has loaded of others, and what it has
--- seen of the log and of the outcomes
+-- and that which it has acknowledged since it took the segment value, where it has; whether it has told since then that its table has no row;
+-- the numbers that it has loaded of others, and what it has seen of the log and of the outcomes
 pub record Knows : Type 0 where
   pub who : ℕ
   pub taken : ℕ → Option Kept
   pub part : ℕ → HeapPart
   pub number : ℕ
   pub acked : Option ℕ
+  pub emptied : Bool
   pub noted : ℕ → ℕ
   pub seen : List LogRecord
   pub heard : List AskLog
@@ -39,7 +40,7 @@ IsNumbered who count (entry ∷ entries) =
 
 -- a giver, as those who have a table see it
 abbrev pub giver_of : Knows → Giver
-giver_of knows = record { who = knows.who; number = knows.number; acked = knows.acked; noted = knows.noted }
+giver_of knows = record { who = knows.who; number = knows.number; acked = knows.acked; emptied = knows.emptied; noted = knows.noted }
 
 -- a heap may be given in place of the taken one: it opened as that did; its history is the taken one and entries of the giver alone,
 -- numbered on from those that it had made in all heaps; it has the pages of the segments that the giver knows to be its own, and as its

@@ -1,5 +1,5 @@
 -- What a participant has told since it took the segment value, by its steps: the rule "Giving" of docs/PARTICIPANTS.md.
-use Rattle.std.specs.Prelude.{ℕ, List, Option, Some, None}
+use Rattle.std.specs.Prelude.{ℕ, Bool, true, false, List, Option, Some, None}
 use Rattle.std.specs.List.{fold}
 use Rattle.hp_hall.specs.Mail.{MailStep, Fetches, Gives, Notes, Posts, Takes}
 use Rattle.hp_hall.specs.declared.kept.Kept.TheVariants.{Heap, Segments}
@@ -24,3 +24,22 @@ acked_after acked (Notes (Paused moved until)) = acked
 
 abbrev pub acked_since_take : List MailStep → Option ℕ
 acked_since_take steps = fold acked_after None steps
+
+-- whether it has told since then that its table has no row, after one step more; who acknowledges records after that has a table again
+abbrev pub emptied_after : Bool → MailStep → Bool
+emptied_after emptied (Posts to frame action posted) = emptied
+emptied_after emptied (Fetches frame) = emptied
+emptied_after emptied (Takes slot (Heap heap)) = emptied
+emptied_after emptied (Takes slot (Segments segs)) = false
+emptied_after emptied (Gives slot (Heap heap)) = emptied
+emptied_after emptied (Gives slot (Segments segs)) = false
+emptied_after emptied (Notes (Read now)) = emptied
+emptied_after emptied (Notes (Loaded participant number)) = emptied
+emptied_after emptied (Notes (Acked number)) = false
+emptied_after emptied (Notes Unmapped) = emptied
+emptied_after emptied (Notes Emptied) = true
+emptied_after emptied (Notes (Yielded above moved)) = emptied
+emptied_after emptied (Notes (Paused moved until)) = emptied
+
+abbrev pub emptied_since_take : List MailStep → Bool
+emptied_since_take steps = fold emptied_after false steps

@@ -10,7 +10,7 @@ ghost use Rattle.hp_serve.specs.Serving.{CatchesUp, acks_behind, gives_segments,
 ghost use Rattle.hp_serve.specs.Tied.{IsTied};
 ghost use Rattle.hp_hall.specs.HallState.{Did, Stays};
 ghost use Rattle.hp_hall.specs.Mail.{HasInHand, Notes};
-ghost use Rattle.hp_hall.specs.Telling.{acked_since_take};
+ghost use Rattle.hp_hall.specs.Telling.{acked_since_take, emptied_since_take};
 ghost use Rattle.hp_hall.specs.declared.note.Note.{Note};
 ghost use Rattle.hp_serve.specs.SegmentSlot.{GivesBack, HasSegs, MayHold, StaysButOwn, StaysButRoster};
 
@@ -102,6 +102,7 @@ fn give_left<H: Hall>(hall: &mut H, me: u8, segs: Segs)
     requires has { HasSegs me segs (H.state hall.old) }
     requires few { me < MAX_PARTICIPANTS }
     requires secondary { 0 < me }
+    requires emptied { emptied_since_take ((H.state hall.old).done me) ≡ true }
     ensures log { (H.state hall.new).seen me ≡ segs.log }
     ensures part { (heap : ℕ) → (H.state hall.new).part me heap ≡ (H.state hall.old).part me heap }
     ensures back { GivesBack me (after_leave me segs) (H.state hall.old) (H.state hall.new) }
