@@ -5,6 +5,7 @@ use Rattle.hp_hall.specs.HallState.{Did}
 use Rattle.hp_hall.specs.Mail.{Notes}
 use Rattle.hp_hall.specs.declared.note.Note.TheVariants.{Acked}
 use Rattle.hp_hall.proofs.HallStates.{acked_taken, but_then, did_then, just_taken, others_then, slots_but}
+use Rattle.hp_serve.specs.Serving.{takes_segments}
 use Rattle.hp_serve.specs.Tied.{IsTied}
 use Rattle.hp_serve.proofs.Attached.{acks_done, attached_roster}
 use Rattle.hp_serve.proofs.SegmentSlots.{Took, closed, has_still, took_has, took_serves}
@@ -50,7 +51,9 @@ give_attached-requires-clause-acked g c = λ done.
     let records = length c.take_segments-segs.result.log in
     let acked : Did me (Notes (Acked records) ∷ []) mid late =
     subst (λ steps. Did me steps mid late) (acks_done c.take_whole_log-caught.result records done) c.take_whole_log-caught.ensures.did in
-    acked_taken (did_then c.take_segments-segs.ensures.took.did acked)
+    let both : Did me (takes_segments c.take_segments-segs.result ∷ Notes (Acked records) ∷ []) (g.H.Hall.state c.args.hall.now) late =
+    did_then c.take_segments-segs.ensures.took.did acked in
+    acked_taken both
 
 pub returns-clause-did : goal.returns-clause-did
 returns-clause-did g c =

@@ -5,7 +5,8 @@ use Rattle.hp_hall.specs.declared.kept.Kept.{Kept}
 use Rattle.hp_hall.specs.declared.kept.Kept.TheVariants.{Segments}
 use Rattle.hp_hall.specs.Giving.{Knows}
 use Rattle.hp_hall.specs.HallState.{Did}
-use Rattle.hp_hall.specs.Mail.{Takes}
+use Rattle.hp_hall.specs.Mail.{Notes, Takes}
+use Rattle.hp_hall.specs.declared.note.Note.TheVariants.{Emptied}
 use Rattle.hp_hall.proofs.Gives.{gives_taken}
 use Rattle.hp_hall.proofs.HallStates.{but_then, did_then, emptied_taken, others_then, slots_but}
 use Rattle.hp_plain.proofs.Given.{known}
@@ -24,9 +25,11 @@ give-requires-clause-gives c =
     let took =
     subst (λ (kept : Kept). Did me (Takes MAX_HEAPS kept ∷ []) (plain_state c.args.hall.now) (plain_state c.take.new.self)) is
     c.take.ensures.took.did in
+    let both : Did me (Takes MAX_HEAPS (Segments segs) ∷ Notes Emptied ∷ []) (plain_state c.args.hall.now) (plain_state c.emptied.new.self) =
+    did_then took told.did in
     gives_taken knows MAX_HEAPS (Segments segs) (Segments c.leave.new.segs)
     (told.stays.slots.taken MAX_HEAPS ∙ (c.take.ensures.took.taken ∙ ap Some is))
-    (c.leave.ensures knows refl (emptied_taken (did_then took told.did)))
+    (c.leave.ensures knows refl (emptied_taken both))
 
 pub returns-clause-home : goal.returns-clause-home
 returns-clause-home c = λ number home.

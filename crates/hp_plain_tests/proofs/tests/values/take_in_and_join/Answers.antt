@@ -1,10 +1,11 @@
-use Rattle.std.proofs.Common.{◌∙◌, [], ◌∷◌, Some, refl, ap, inr, subst, arith}
+use Rattle.std.proofs.Common.{◌∙◌, [], ◌∷◌, length, Some, refl, ap, inr, subst, arith}
 use Rattle.hp_base.specs.declared.limits.TheConstants.{MAX_HEAPS}
 use Rattle.hp_hall.specs.declared.kept.Kept.{Kept}
 use Rattle.hp_hall.specs.declared.kept.Kept.TheVariants.{Segments}
 use Rattle.hp_hall.specs.Giving.{Knows}
 use Rattle.hp_hall.specs.HallState.{Did}
-use Rattle.hp_hall.specs.Mail.{Takes}
+use Rattle.hp_hall.specs.Mail.{Notes, Takes}
+use Rattle.hp_hall.specs.declared.note.Note.TheVariants.{Acked}
 use Rattle.hp_hall.specs.Own.{Own}
 use Rattle.hp_hall.proofs.Gives.{gives_taken}
 use Rattle.hp_hall.proofs.HallStates.{acked_taken, did_then, just_taken}
@@ -29,6 +30,9 @@ give-requires-clause-gives c =
     let took =
     subst (λ (kept : Kept). Did me (Takes MAX_HEAPS kept ∷ []) (plain_state c.args.hall.now) (plain_state c.take.new.self)) is
     c.take.ensures.took.did in
+    let both : Did me (Takes MAX_HEAPS (Segments segs) ∷ Notes (Acked (length c.records.result.now)) ∷ []) (plain_state c.args.hall.now)
+    (plain_state c.ack.new.self) =
+    did_then took came.did in
     gives_taken knows MAX_HEAPS (Segments segs) (Segments c.join.new.segs)
     (came.slots.taken MAX_HEAPS ∙ (c.take.ensures.took.taken ∙ ap Some is))
-    (c.join.ensures knows refl (ap (λ (o : Own). o.number) came.own) (acked_taken (did_then took came.did)))
+    (c.join.ensures knows refl (ap (λ (o : Own). o.number) came.own) (acked_taken both))
