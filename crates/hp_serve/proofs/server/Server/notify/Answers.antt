@@ -1,5 +1,7 @@
 -- The table is tied along the reading of the clock, and the steps follow one another.
-use Rattle.std.proofs.Common.{◌≡◌, ◌∙◌, List, [], ◌∷◌, refl, ◌+◌, ◌≤◌, ◌⊎◌, ℕ, true, Some, None, ap, sym, subst, arith}
+use Rattle.std.proofs.Common.{◌≡◌, ◌∙◌, List, [], ◌∷◌, refl, ◌+◌, ◌≤◌, ◌⊎◌, inl, inr, ℕ, true, Some, None, ap, sym, subst, arith}
+use Rattle.std.specs.Prelude.{◌^◌}
+use Rattle.std.proofs.lemmas.Bool.{cases_lt}
 use Rattle.hp_hall.specs.Mail.{MailStep, Notes}
 use Rattle.hp_hall.specs.declared.note.Note.TheVariants.{Read}
 use Rattle.hp_serve.specs.AskSteps.{StopsNotifying, waits_until}
@@ -177,9 +179,13 @@ pub returns-in_default-clause-err : goal.returns-in_default-clause-err
 returns-in_default-clause-err g c =
     let party = c.args.self.now in
     let old = g.H.Hall.state c.args.hall.now in
-    let ended = c.in_default.ensures in
-    let asked = ap (λ (party : Party). party.asked) c.self.view_is in (
+    let asked = ap (λ (party : Party). party.asked) c.self.view_is in
+    let ended : 2 ^ 64 ≤ party.asked + 1 =
+    elim (cases_lt (party.asked + 1) (2 ^ 64)) [
+      | inl below ↦ absurd (c.in_default.ensures (omega (arith, below, asked)))
+      | inr past ↦ past
+    ] in (
       [],
       did_same party.me old,
-      StopsNotifying.no_number (omega (arith, ended, asked)) refl refl,
+      StopsNotifying.no_number ended refl refl,
     )
