@@ -1,7 +1,10 @@
 -- What was done of a line that ends without an answer joins with what was done before and behind it.
 use Rattle.std.proofs.Common.{◌≡◌, ◌∙◌, ℕ, ◌+◌, List, [], ◌∷◌, ◌++◌, length, append-nil, append_assoc, None, refl, ap, sym, subst}
 use Rattle.std.proofs.lemmas.List.{length-append}
+use Rattle.std.specs.Prelude.{Result, Ok, Err, OnErr}
+use Rattle.hp_hall.specs.HallState.{HallState}
 use Rattle.hp_hall.specs.Mail.{MailStep}
+use Rattle.hp_hall.proofs.HallStates.{did_then}
 use Rattle.hp_serve.specs.Party.{IsSameParty}
 use Rattle.hp_serve.specs.Waiting.{IsTurned}
 use Rattle.hp_proc.specs.Acting.{Acts}
@@ -10,8 +13,10 @@ use Rattle.hp_proc.specs.Courses.{OwnCall, calls_in}
 use Rattle.hp_proc.specs.Doing.{Doing, Done, Leads}
 use Rattle.hp_proc.specs.Halting.{ActsOn, Halts}
 use Rattle.hp_proc.specs.Histories.{entries_for}
+use Rattle.hp_proc.specs.LineInHall.{did_in, moment}
 use Rattle.hp_proc.specs.ParticipantView.{ParticipantView}
 use Rattle.hp_proc.specs.Progress.{Does, Moment, doer_at}
+use Rattle.hp_proc.proofs.HallMoments.{told_alike}
 use Rattle.hp_proc.proofs.Joining.{calls_on, context_joined, context_still, does_same, entries_joined, goes_as}
 use Rattle.hp_proc.proofs.LawLemmas.{leads_on}
 
@@ -154,3 +159,47 @@ module _ (count : ℕ) (here_did there_did did : List MailStep → Type 0) (old 
           deadline = there.same.deadline ∙ here.same.deadline;
         };
       }
+
+-- in a hall: what stopped joins with what was done before it, and what was done behind with what stopped
+module _ (heaps : List ℕ) (first second third : HallState) (now who : ℕ) (mid behind : Moment → Moment) (doer after : ParticipantView) (old : Moment)
+    (doing : Doing) (same : now ≡ who) (many : second.count ≡ first.count) where
+  pub halts_more : {held : List ℕ} (left : Doing) → Does held first.count (did_in who first second) doing left old (mid (moment who doer second))
+      → Halts heaps second.count (did_in now second third) left (mid (moment now doer second)) (behind (moment now after third))
+      → Halts (held ++ heaps) first.count (did_in who first third) doing old (behind (moment who after third))
+  halts_more left here there =
+      then_halts first.count (did_in who first second) (did_in who second third) (did_in who first third) old (mid (moment who doer second))
+      (behind (moment who after third)) (λ one two. did_then) heaps doing left here
+      (told_alike (λ count did before later. Halts heaps count did left before later) second.count first.count second third now who mid behind doer
+      after same many there)
+
+  pub halts_on : Halts heaps first.count (did_in who first second) doing old (mid (moment who doer second))
+      → ((rest : Doing) → Does [] second.count (did_in now second third) rest rest (mid (moment now doer second)) (behind (moment now after third)))
+      → Halts heaps first.count (did_in who first third) doing old (behind (moment who after third))
+  halts_on here there =
+      halts_then first.count (did_in who first second) (did_in who second third) (did_in who first third) old (mid (moment who doer second))
+      (behind (moment who after third)) (λ one two. did_then) heaps doing here here.rest
+      (told_alike (λ count did before later. Does [] count did here.rest here.rest before later) second.count first.count second third now who mid
+      behind doer after same many (there here.rest))
+
+-- no more heaps than these are taken, where a front of fewer is
+pub halts_within : (heaps more : List ℕ) (count : ℕ) (did : List MailStep → Type 0) (doing : Doing) (old new : Moment)
+    → Halts heaps count did doing old new → Halts (heaps ++ more) count did doing old new
+halts_within heaps more count did doing old new halts = record {
+  rest = halts.rest;
+  trace = halts.trace;
+  steps = halts.steps;
+  held = halts.held;
+  others = halts.others ++ more;
+  front = ap (λ (front : List ℕ). front ++ more) halts.front ∙ append_assoc halts.held halts.others more;
+  leads = halts.leads;
+  made = halts.made;
+  acts = halts.acts;
+  entries = halts.entries;
+  counted = halts.counted;
+  same = halts.same;
+}
+
+-- what holds on a refusal shows more
+pub on_err_all : {T E : Type 0} (P Q : Type 0) (result : Result T E) → (P → Q) → OnErr result P → OnErr result Q
+on_err_all P Q (Ok value) shows is = tt
+on_err_all P Q (Err refusal) shows is = shows is
