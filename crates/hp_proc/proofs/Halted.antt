@@ -1,5 +1,5 @@
 -- What was done of a line that ends without an answer joins with what was done before and behind it.
-use Rattle.std.proofs.Common.{◌≡◌, ◌∙◌, ℕ, ◌+◌, List, [], ◌∷◌, ◌++◌, length, append-nil, append_assoc, None, refl, ap, sym, subst}
+use Rattle.std.proofs.Common.{◌≡◌, ◌∙◌, ℕ, ◌+◌, List, [], ◌∷◌, ◌++◌, length, append-nil, append_assoc, None, refl, ap, sym, subst, ◌<◌, drop, get_or, map, take}
 use Rattle.std.proofs.lemmas.List.{length-append}
 use Rattle.std.specs.Prelude.{Result, Ok, Err, OnErr}
 use Rattle.hp_hall.specs.HallState.{HallState}
@@ -19,6 +19,7 @@ use Rattle.hp_proc.specs.Progress.{Does, Moment, doer_at}
 use Rattle.hp_proc.proofs.HallMoments.{told_alike}
 use Rattle.hp_proc.proofs.Joining.{calls_on, context_joined, context_still, does_same, entries_joined, goes_as}
 use Rattle.hp_proc.proofs.LawLemmas.{leads_on}
+use Rattle.hp_proc.proofs.OnceHeld.{heaps_more, heaps_whole}
 
 -- what was done of an answered line, as a front
 pub halts_of : {held : List ℕ} (count : ℕ) (did : List MailStep → Type 0) (doing rest : Doing) (old new : Moment)
@@ -203,3 +204,13 @@ halts_within heaps more count did doing old new halts = record {
 pub on_err_all : {T E : Type 0} (P Q : Type 0) (result : Result T E) → (P → Q) → OnErr result P → OnErr result Q
 on_err_all P Q (Ok value) shows is = tt
 on_err_all P Q (Err refusal) shows is = shows is
+
+-- it stopped over one of some places, after those before it
+pub halts_among : {X : Type 0} (heap_of : X → ℕ) (places : List X) (index : ℕ) (place : X) (count : ℕ) (did : List MailStep → Type 0) (doing : Doing)
+    (old new : Moment) → index < length places
+    → Halts (map heap_of (take index places) ++ heap_of (get_or places index place) ∷ []) count did doing old new
+    → Halts (map heap_of places) count did doing old new
+halts_among heap_of places index place count did doing old new within halts =
+    subst (λ (heaps : List ℕ). Halts heaps count did doing old new) (heaps_whole heap_of places (index + 1))
+    (halts_within (map heap_of (take (index + 1) places)) (map heap_of (drop (index + 1) places)) count did doing old new
+    (subst (λ (heaps : List ℕ). Halts heaps count did doing old new) (heaps_more heap_of places index place within) halts))

@@ -175,6 +175,7 @@ returns-in-Some g c =
           found_first doer mid (g.H.Hall.state c.args.hall.now) heap next c.args.place.now c.args.request.now c.with_flags-first.result c.args.tag
           c.allocate_in.result (c.with_flags-first.ensures ∙ ap (λ (flags : ℕ). with_flags flags c.args.request.now) c.without_hint.ensures) step
           counted c.requires.its heaps c.in-Some.addr c.in-Some.is;
+      halts = tt;
       lies = λ given same.
           lies_so doer.party.me (g.H.Hall.state c.args.hall.now) (gives.Address c.in-Some.addr) given
           (address_lies doer.party.me doer c.with_flags-first.result c.args.tag c.in-Some.addr c.args.place.now.socket heap next
