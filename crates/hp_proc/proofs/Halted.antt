@@ -1,21 +1,22 @@
 -- What was done of a line that ends without an answer joins with what was done before and behind it.
 use Rattle.std.proofs.Common.{◌≡◌, ◌∙◌, ℕ, ◌+◌, List, [], ◌∷◌, ◌++◌, length, append-nil, append_assoc, None, refl, ap, sym, subst, ◌<◌, drop, get_or, map, take}
 use Rattle.std.proofs.lemmas.List.{length-append}
-use Rattle.std.specs.Prelude.{Result, Ok, Err, OnErr}
 use Rattle.hp_hall.specs.HallState.{HallState}
 use Rattle.hp_hall.specs.Mail.{MailStep}
 use Rattle.hp_hall.proofs.HallStates.{did_then}
+use Rattle.hp_script.specs.declared.line.Line.{Line}
 use Rattle.hp_serve.specs.Party.{IsSameParty}
 use Rattle.hp_serve.specs.Waiting.{IsTurned}
 use Rattle.hp_proc.specs.Acting.{Acts}
-use Rattle.hp_proc.specs.Contexts.{Context, after_calls}
+use Rattle.hp_proc.specs.Contexts.{AreFactsOf, Context, after_calls}
 use Rattle.hp_proc.specs.Courses.{OwnCall, calls_in}
 use Rattle.hp_proc.specs.Doing.{Doing, Done, Leads}
-use Rattle.hp_proc.specs.Halting.{ActsOn, Halts}
+use Rattle.hp_proc.specs.Halting.{ActsOn, Halts, HaltsLine}
 use Rattle.hp_proc.specs.Histories.{entries_for}
 use Rattle.hp_proc.specs.LineInHall.{did_in, moment}
+use Rattle.hp_proc.specs.Lines.{Facts, doing_of}
 use Rattle.hp_proc.specs.ParticipantView.{ParticipantView}
-use Rattle.hp_proc.specs.Progress.{Does, Moment, doer_at}
+use Rattle.hp_proc.specs.Progress.{AreOnce, Does, Moment, doer_at}
 use Rattle.hp_proc.proofs.HallMoments.{told_alike}
 use Rattle.hp_proc.proofs.Joining.{calls_on, context_joined, context_still, does_same, entries_joined, goes_as}
 use Rattle.hp_proc.proofs.LawLemmas.{leads_on}
@@ -200,10 +201,17 @@ halts_within heaps more count did doing old new halts = record {
   same = halts.same;
 }
 
--- what holds on a refusal shows more
-pub on_err_all : {T E : Type 0} (P Q : Type 0) (result : Result T E) → (P → Q) → OnErr result P → OnErr result Q
-on_err_all P Q (Ok value) shows is = tt
-on_err_all P Q (Err refusal) shows is = shows is
+-- what was done of a line's tree, by what is known when it begins
+pub line_halted : (count : ℕ) (did : List MailStep → Type 0) (line : Line) (old new : Moment) (facts : Facts)
+    → AreFactsOf old.party.socket old.context line facts → (doing : Doing) → doing ≡ doing_of line line.act facts
+    → (heaps : List ℕ) × AreOnce heaps × Halts heaps count did doing old new → HaltsLine count did line old new
+line_halted count did line old new facts known doing is stopped = record {
+  facts = facts;
+  known = known;
+  heaps = stopped.0;
+  once = stopped.1;
+  halts = subst (λ (doing : Doing). Halts stopped.0 count did doing old new) is stopped.2;
+}
 
 -- it stopped over one of some places, after those before it
 pub halts_among : {X : Type 0} (heap_of : X → ℕ) (places : List X) (index : ℕ) (place : X) (count : ℕ) (did : List MailStep → Type 0) (doing : Doing)
