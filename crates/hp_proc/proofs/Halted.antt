@@ -86,7 +86,7 @@ pub stops_more : (count counted until : ℕ) (doer mid after : ParticipantView) 
     → after.context ≡ mid.context → Acts count None None [] doer mid [] first → IsTurned counted until mid.party after.party last None
     → ActsOn count None None [] doer after [] (first ++ last)
 stops_more count counted until doer mid after first last same knew here turned =
-    ActsOn.and_then None None None [] [] doer mid after [] [] first last (ActsOn.acts None None [] doer mid [] first here)
+    ActsOn.and_then None None None [] [] doer mid after [] [] first last here
     (subst (λ (after : ParticipantView). ActsOn count None None [] mid after [] last) (goes_as mid after knew)
     (ActsOn.turn_stops until mid after.party last (subst (λ (count : ℕ). IsTurned count until mid.party after.party last None) same turned)))
 
@@ -109,8 +109,7 @@ module _ (count : ℕ) (here_did there_did did : List MailStep → Type 0) (old 
         leads = leads_on doing here.trace there.trace left there.rest here.leads there.leads;
         made = join here.steps there.steps here.made there.made;
         acts = ActsOn.and_then old.hand mid.hand new.hand held there.held (doer_at old) (doer_at mid) (doer_at new) here.trace there.trace
-            here.steps there.steps
-            (ActsOn.acts old.hand mid.hand held (doer_at old) (doer_at mid) here.trace here.steps here.acts) there.acts;
+            here.steps there.steps here.acts there.acts;
         entries = λ heap.
             entries_joined old.party.me mid.party.me heap old.context.calls mid.context.calls (calls_in here.trace) (calls_in there.trace)
             (old.parts heap).entries (mid.parts heap).entries (new.parts heap).entries here.same.me
@@ -138,14 +137,13 @@ module _ (count : ℕ) (here_did there_did did : List MailStep → Type 0) (old 
         rest = rest;
         trace = here.trace ++ there.trace;
         steps = here.steps ++ there.steps;
-        held = here.held ++ [];
+        held = here.held;
         others = here.others;
-        front = here.front ∙ ap (λ (held : List ℕ). held ++ here.others) (sym (append-nil here.held));
+        front = here.front;
         leads = leads_on doing here.trace there.trace here.rest rest here.leads there.leads;
         made = join here.steps there.steps here.made there.made;
-        acts = ActsOn.and_then old.hand mid.hand new.hand here.held [] (doer_at old) (doer_at mid) (doer_at new) here.trace there.trace
-            here.steps there.steps here.acts
-            (ActsOn.acts mid.hand new.hand [] (doer_at mid) (doer_at new) there.trace there.steps there.acts);
+        acts = ActsOn.ends_with old.hand mid.hand new.hand here.held (doer_at old) (doer_at mid) (doer_at new) here.trace there.trace
+            here.steps there.steps here.acts there.acts;
         entries = λ heap.
             entries_joined old.party.me mid.party.me heap old.context.calls mid.context.calls (calls_in here.trace) (calls_in there.trace)
             (old.parts heap).entries (mid.parts heap).entries (new.parts heap).entries here.same.me
