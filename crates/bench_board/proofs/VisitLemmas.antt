@@ -1,5 +1,5 @@
 -- What the turns of participants that attach and detach rest on.
-use Rattle.std.proofs.Common.{◌≡◌, ◌∙◌, ℕ, ◌<◌, ◌≤◌, true, [], ◌∷◌, length, refl, sym, ap, subst, arith}
+use Rattle.std.proofs.Common.{◌≡◌, ◌∙◌, ℕ, ◌<◌, ◌≤◌, true, false, not, [], ◌∷◌, length, Some, None, refl, sym, ap, subst, arith, if◌then◌else◌}
 use Rattle.std.specs.Option.{is_some}
 use Rattle.atomic_table.specs.Seated.{TableId}
 use Rattle.hp_segs.specs.Calls.{MayJoin, MayLeave}
@@ -7,6 +7,7 @@ use Rattle.hp_segs.specs.LaterSteps.{after_join, after_leave}
 use Rattle.hp_segs.specs.SegsView.{SegsView, is_member}
 use Rattle.hp_segs.specs.Sound.{IsSound}
 use Rattle.hp_hall.specs.Giving.{GivesSegments, IsGiveOf}
+use Rattle.hp_hall.specs.Values.{HasMember}
 use Rattle.hp_hall.specs.declared.kept.Kept.{Kept}
 use Rattle.hp_hall.specs.declared.kept.Kept.TheVariants.{Segments}
 use Rattle.hp_hall.proofs.Gives.{gives_join, gives_leave, gives_taken}
@@ -43,12 +44,25 @@ module _ (old first : Mine) (kept : Kept) (segs : SegsView) (takes : HasTakenLat
   pub within : (number : ℕ) → number ≡ length segs.log → number ≤ length first.log
   within number all = let long = ap length log_whole in omega (arith, long, all)
 
-  pub holds_all : (number : ℕ) (second : Mine) → IsSound segs → number ≡ length segs.log → second ≡ after_acking number first → HoldsAll old segs second
-  holds_all number second sound all acked = record {
+  -- where it is out it joins, and has acknowledged them since it took the value
+  joins_with : (number : ℕ) (second : Mine) → IsHanded old 32 kept first → number ≡ length segs.log → second ≡ after_acking number first
+      → is_member segs.roster second.who ≡ false → (knows_of second).acked ≡ Some (length segs.log)
+  joins_with number second handed all acked out =
+      let who : second.who ≡ old.who = ap (λ (m : Mine). m.who) acked ∙ ap (λ (m : Mine). m.who) takes.view.1 in
+      let known : is_member segs.roster old.who ≡ old.joined = subst (HasMember old.who old.joined) is handed.roster in
+      let was : first.joined ≡ false =
+      ap (λ (m : Mine). m.joined) takes.view.1 ∙ (sym known ∙ (ap (is_member segs.roster) (sym who) ∙ out)) in
+      let joins : second.joining ≡ true = ap (λ (m : Mine). m.joining) acked ∙ ap not was in
+      ap (λ b. if b then Some second.number else None) joins ∙ ap Some (ap (λ (m : Mine). m.number) acked ∙ all)
+
+  pub holds_all : (number : ℕ) (second : Mine) → IsSound segs → IsHanded old 32 kept first → number ≡ length segs.log
+      → second ≡ after_acking number first → HoldsAll old segs second
+  holds_all number second sound handed all acked = record {
     sound = sound;
     who = ap (λ (m : Mine). m.who) acked ∙ ap (λ (m : Mine). m.who) takes.view.1;
     held = ap (λ (m : Mine). m.held) acked ∙ held_alone;
     number = ap (λ (m : Mine). m.number) acked ∙ all;
+    acked = joins_with number second handed all acked;
     log = ap (λ (m : Mine). m.log) acked ∙ log_whole;
   }
 
@@ -76,17 +90,19 @@ ready_again board old new holder segs given was here holds gives gave =
 
 -- the participant joins, or leaves
 pub joins : (who : ℕ) (segs : SegsView) → MayJoin who (length segs.log) segs → Changes who segs (after_join who segs)
-joins who segs may knows is number =
+joins who segs may knows is number acked emptied =
     subst (λ (w : ℕ). GivesSegments knows segs (after_join w segs)) is
-    (gives_join knows segs (record { declared = let low = may.declared in omega (arith, low, is); out = ap (is_member segs.roster) is ∙ may.out; all = number }))
+    (gives_join knows segs (record { declared = let low = may.declared in omega (arith, low, is); out = ap (is_member segs.roster) is ∙ may.out; all = number })
+    (acked may.out))
 
 pub leaves : (who : ℕ) (segs : SegsView) → MayLeave who segs → Changes who segs (after_leave who segs)
-leaves who segs may knows is number =
+leaves who segs may knows is number acked emptied =
     subst (λ (w : ℕ). GivesSegments knows segs (after_leave w segs)) is
-    (gives_leave knows segs (record { member = ap (is_member segs.roster) is ∙ may.member; secondary = let low = may.secondary in omega (arith, low, is) }))
+    (gives_leave knows segs (record { member = ap (is_member segs.roster) is ∙ may.member; secondary = let low = may.secondary in omega (arith, low, is) })
+    emptied)
 
 pub gives_changed : (old holder : Mine) (segs given : SegsView) → HoldsAll old segs holder → Changes holder.who segs given → GivesSegments (knows_of holder) segs given
-gives_changed old holder segs given holds changes = changes (knows_of holder) refl holds.number
+gives_changed old holder segs given holds changes = changes (knows_of holder) refl holds.number holds.acked refl
 
 -- SEATS
 

@@ -1,5 +1,5 @@
 -- What a participant knows of heaps, and with that all that it knows when it gives: the rules "Views" and "Giving" of docs/BOARD.md.
-use Rattle.std.specs.Prelude.{◌≡◌, ℕ, Bool, true, ◌&&◌, Contains, Some, None, nat_lt, slice_get, unwrap_or}
+use Rattle.std.specs.Prelude.{◌≡◌, ℕ, Bool, true, ◌&&◌, Contains, Some, None, nat_lt, slice_get, unwrap_or, if◌then◌else◌}
 use Rattle.std.specs.Option.{is_some}
 use Rattle.hp_base.specs.declared.limits.TheConstants.{MAX_HEAPS}
 use Rattle.hp_segs.specs.Standing.{Holding}
@@ -18,13 +18,16 @@ heap_part mine heap = record {
   armed = mine.armed;
 }
 
--- all that it knows when it gives
+-- all that it knows when it gives; who joins has acknowledged its number since it took the segment value. A seat has no table to empty: that of
+-- who is out has no row, as its view says (`table_of`)
 abbrev pub knows_of : Mine → Knows
 knows_of mine = record {
   who = mine.who;
   taken = λ slot. value_of slot mine.held;
   part = heap_part mine;
   number = mine.number;
+  acked = if mine.joining then Some mine.number else None;
+  emptied = true;
   noted = λ other. noted_of other mine;
   seen = mine.log;
   heard = mine.heard;

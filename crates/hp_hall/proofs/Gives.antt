@@ -1,9 +1,10 @@
 -- Values that may be given: the taken one itself, a heap after a call, and the segment value after its giver came into the roster or left.
-use Rattle.std.proofs.Common.{◌≡◌, ◌≢◌, ℕ, ◌+◌, ◌≤◌, true, false, true≢false, List, [], ◌∷◌, ◌++◌, drop, length, Option, Some, None, refl, sym, ap, subst, ◌∙◌, inl, ⊎_elim, arith}
+use Rattle.std.proofs.Common.{◌≡◌, ◌≢◌, ℕ, ◌+◌, ◌≤◌, true, false, true≢false, List, [], ◌∷◌, ◌++◌, drop, length, Option, Some, None, refl, sym, ap, subst, ◌∙◌, inl, ⊎_elim, arith, cond, count_by}
 use Rattle.std.specs.Prelude.{Contains}
-use Rattle.std.specs.List.{range_with_len, sum_by}
+use Rattle.std.specs.List.{All, range_with_len, sum_by}
 use Rattle.std.proofs.lemmas.Bool.{cases_eq}
 use Rattle.std.proofs.lemmas.List.{append-nil, get_or-set_other}
+use Rattle.std.proofs.lemmas.List.Elements.{All-cons, All-nil}
 use Rattle.std.proofs.lemmas.List.Sums.{sum_by-le-sum_by}
 use Rattle.hp_base.specs.declared.tag.Caller.{Caller}
 use Rattle.hp_heap.specs.declared.entry.Entry.{Entry}
@@ -13,16 +14,18 @@ use Rattle.hp_heap.specs.History.{HeapView, IsCall, SameButSpare}
 use Rattle.hp_heap.specs.HistoryLaws.{run_cut, run_grown, runs_cut, runs_grown}
 use Rattle.hp_heap.proofs.EntriesLaw.{calls_add_runs}
 use Rattle.hp_heap.specs.PlainHeap.{HeapPage, PlainHeap}
-use Rattle.hp_segs.proofs.Moves.{calls_move, moves_stay, moves_widen}
+use Rattle.hp_log.proofs.Counts.{count_cons}
+use Rattle.hp_segs.proofs.Moves.{calls_move, moves_stay}
 use Rattle.hp_segs.specs.Calls.{MayJoin, MayLeave}
 use Rattle.hp_segs.specs.LaterSteps.{after_join, after_leave}
-use Rattle.hp_segs.specs.Moved.{JoinRoster, LeaveRoster, is_log_call, is_roster_call}
+use Rattle.hp_segs.specs.Moved.{SegsCall, Reserve, OpenRun, CloseAsk, LogStale, NoteFailed, Agree, Cancel, Claim, Arm, Withdraw, Retire, DropRetiring, LogFreed, JoinRoster, LeaveRoster, ClaimRange, ReleaseRange, IsMovedBy, is_growth_step, is_log_call, is_roster_call}
 use Rattle.hp_segs.specs.SegsView.{SegsView}
 use Rattle.hp_segs.specs.declared.outcome.AskLog.{AskLog}
 use Rattle.hp_segs.specs.declared.row_state.Segment.{Segment}
 use Rattle.hp_hall.specs.declared.kept.Kept.{Kept}
 use Rattle.hp_hall.specs.declared.kept.Kept.TheVariants.{Heap, Segments}
 use Rattle.hp_hall.specs.declared.slot.TheConstants.{SLOTS}
+use Rattle.hp_hall.specs.Asks.{OpensForArmed}
 use Rattle.hp_hall.specs.Giving.{Knows, GivesFor, GivesHeap, GivesSegments, IsGiveOf, entries_made, enrols, logs}
 use Rattle.hp_hall.specs.Holding.{HasPages, HeapPart, IsHeldWith, IsSettledFor, IsTakenAs}
 use Rattle.hp_segs.specs.Standing.{Holding}
@@ -34,27 +37,57 @@ nothing_behind : {X : Type 0} (xs : List X) → drop (length xs) xs ≡ []
 nothing_behind [] = refl
 nothing_behind (x ∷ xs) = nothing_behind xs
 
+-- calls of which none opens or grants a growth open none
+no_growth : (taken : SegsView) (call : SegsCall) → cond (is_growth_step call) 1 0 ≤ 0 → OpensForArmed taken call
+no_growth taken (Reserve n) few = tt
+no_growth taken (OpenRun ask run) few = absurd (omega (arith, few))
+no_growth taken (CloseAsk ask cause) few = tt
+no_growth taken (LogStale from number) few = tt
+no_growth taken (NoteFailed participant call row got) few = tt
+no_growth taken (Agree acks) few = tt
+no_growth taken (Cancel cause) few = tt
+no_growth taken (Claim from number) few = tt
+no_growth taken (Arm ask) few = tt
+no_growth taken (Withdraw from number since now) few = tt
+no_growth taken (Retire heap run) few = tt
+no_growth taken DropRetiring few = tt
+no_growth taken (LogFreed from number) few = tt
+no_growth taken (JoinRoster participant acked) few = tt
+no_growth taken (LeaveRoster participant) few = tt
+no_growth taken (ClaimRange list addr len page socket) few = tt
+no_growth taken (ReleaseRange list) few = tt
+
+pub none_opens : (taken : SegsView) (calls : List SegsCall) → count_by is_growth_step calls ≤ 0 → All (OpensForArmed taken) calls
+none_opens taken [] few = All-nil (OpensForArmed taken)
+none_opens taken (call ∷ calls) few =
+    let split = count_cons is_growth_step call calls in
+    All-cons (OpensForArmed taken) call calls (no_growth taken call (omega (arith, few, split)))
+    (none_opens taken calls (omega (arith, few, split)))
+
 -- the segment value as it was taken
 pub segs_same : (knows : Knows) (segs : SegsView) → GivesSegments knows segs segs
-segs_same knows segs = record {
-  more = [];
-  log = sym (append-nil segs.log);
-  form = logs (record {
-    give = record {
-      moved = moves_widen is_log_call is_log_call 0 1 segs segs (λ call is. is) (omega arith) (moves_stay is_log_call segs);
-      agreed = λ entry generation member has granted is.
-          absurd (has_nothing entry (subst (λ (l : List AskLog). Contains l entry) (nothing_behind segs.asks) has));
-    };
-    arms = record {
-      others = λ other apart. refl;
-      for_held = λ ask is. inl is;
-      settled = λ ask is. inl is;
-      of_armed = λ armed. armed;
-      answers = λ armed entry ask has kept.
-          absurd (has_nothing entry (subst (λ (l : List AskLog). Contains l entry) (nothing_behind segs.asks) has));
-    };
-  });
-}
+segs_same knows segs =
+    let none : IsMovedBy is_log_call 0 segs segs = moves_stay is_log_call segs in
+    record {
+      more = [];
+      log = sym (append-nil segs.log);
+      form = logs (record {
+        give = record {
+          moved = record { calls = none.calls; leads = none.leads; only = none.only; few = omega (arith, none.few) };
+          agreed = λ entry generation member has granted is.
+              absurd (has_nothing entry (subst (λ (l : List AskLog). Contains l entry) (nothing_behind segs.asks) has));
+        };
+        arms = record {
+          others = λ other apart. refl;
+          for_held = λ ask is. inl is;
+          settled = λ ask is. inl is;
+          of_armed = λ armed. armed;
+          answers = λ armed entry ask has kept.
+              absurd (has_nothing entry (subst (λ (l : List AskLog). Contains l entry) (nothing_behind segs.asks) has));
+        };
+        opens = λ armed. none_opens segs none.calls none.few;
+      });
+    }
 
 -- a heap with the pages and the runs of another has what the other's holding names
 held_with : (a b : HeapView) (holding : Option Holding) → b.plain ≡ a.plain → runs_grown b.history ≡ runs_grown a.history
@@ -147,24 +180,30 @@ entries_made-none part none =
     omega arith
 
 -- the segment value once its giver has left the roster, and once it has come in with the whole log taken in
-pub gives_leave : (knows : Knows) (segs : SegsView) → MayLeave knows.who segs → GivesSegments knows segs (after_leave knows.who segs)
-gives_leave knows segs may = record {
+pub gives_leave : (knows : Knows) (segs : SegsView) → MayLeave knows.who segs → knows.emptied ≡ true
+    → GivesSegments knows segs (after_leave knows.who segs)
+gives_leave knows segs may emptied = record {
   more = [];
   log = sym (append-nil segs.log);
   form = enrols (record {
     moved = calls_move is_roster_call (LeaveRoster knows.who) segs refl may;
     others = λ other apart. get_or-set_other segs.roster knows.who other false false apart;
     joins = λ out came. absurd (true≢false (sym may.member ∙ out));
+    caught_up = λ out came. absurd (true≢false (sym may.member ∙ out));
+    leaves = λ was gone. emptied;
   });
 }
 
-pub gives_join : (knows : Knows) (segs : SegsView) → MayJoin knows.who knows.number segs → GivesSegments knows segs (after_join knows.who segs)
-gives_join knows segs may = record {
+pub gives_join : (knows : Knows) (segs : SegsView) → MayJoin knows.who knows.number segs → knows.acked ≡ Some (length segs.log)
+    → GivesSegments knows segs (after_join knows.who segs)
+gives_join knows segs may acked = record {
   more = [];
   log = sym (append-nil segs.log);
   form = enrols (record {
     moved = calls_move is_roster_call (JoinRoster knows.who knows.number) segs refl may;
     others = λ other apart. get_or-set_other segs.roster knows.who other true false apart;
     joins = λ out came. may.all;
+    caught_up = λ out came. acked;
+    leaves = λ was gone. absurd (true≢false (sym was ∙ may.out));
   });
 }

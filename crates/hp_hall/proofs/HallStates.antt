@@ -1,13 +1,18 @@
 -- What calls leave, one after another.
-use Rattle.std.proofs.Common.{◌≡◌, ℕ, List, [], ◌∷◌, ◌++◌, refl, sym, ap, ◌∙◌, arith}
+use Rattle.std.proofs.Common.{◌≡◌, ℕ, List, [], ◌∷◌, ◌++◌, true, false, Some, None, refl, sym, ap, ◌∙◌, arith}
 use Rattle.std.proofs.lemmas.List.{append-nil, append_assoc}
+use Rattle.std.proofs.lemmas.List.Sums.{fold-append}
 use Rattle.hp_base.specs.declared.limits.TheConstants.{MAX_HEAPS}
 use Rattle.hp_hall.specs.HallCalls.{HasComeTo, Idles}
 use Rattle.hp_hall.specs.HallState.{Did, HallState, IsLater, MayServe, MineStay, OthersStay, PartsStay, SlotsStay, SlotsStayBut, Stays, Waits}
-use Rattle.hp_hall.specs.Mail.{HasInHand, MailStep, Takes}
+use Rattle.hp_hall.specs.Mail.{HasInHand, MailStep, Notes, Takes}
 use Rattle.hp_hall.specs.Own.{Own}
+use Rattle.hp_hall.specs.Telling.{acked_after, acked_since_take, emptied_after, emptied_since_take}
 use Rattle.hp_hall.specs.declared.kept.Kept.{Kept}
+use Rattle.hp_hall.specs.declared.kept.Kept.TheVariants.{Segments}
 use Rattle.hp_hall.specs.declared.note.Note.{Note}
+use Rattle.hp_hall.specs.declared.note.Note.TheVariants.{Acked, Emptied}
+use Rattle.hp_segs.specs.SegsView.{SegsView}
 
 -- two lists that each go on from the one before
 more_then : {X : Type 0} (a b c first second : List X) → b ≡ a ++ first → c ≡ b ++ second → c ≡ a ++ (first ++ second)
@@ -51,6 +56,18 @@ did_then {me} {first} {second} {a} {b} {c} here next =
 -- who has just taken a value has it in hand
 pub just_taken : {me slot : ℕ} {kept : Kept} {a b : HallState} → Did me (Takes slot kept ∷ []) a b → HasInHand slot (b.done me)
 just_taken {me} {slot} {kept} {a} {b} did = (a.done me, [], kept, did.made, tt)
+
+-- who has acknowledged records right after it took the segment value has acknowledged so many since
+pub acked_taken : {me slot number : ℕ} {segs : SegsView} {a b : HallState} → Did me (Takes slot (Segments segs) ∷ Notes (Acked number) ∷ []) a b
+    → acked_since_take (b.done me) ≡ Some number
+acked_taken {me} {slot} {number} {segs} {a} {b} did =
+    ap acked_since_take did.made ∙ fold-append acked_after None (a.done me) (Takes slot (Segments segs) ∷ Notes (Acked number) ∷ [])
+
+-- who has told right after it took the segment value that its table has no row has told so since
+pub emptied_taken : {me slot : ℕ} {segs : SegsView} {a b : HallState} → Did me (Takes slot (Segments segs) ∷ Notes Emptied ∷ []) a b
+    → emptied_since_take (b.done me) ≡ true
+emptied_taken {me} {slot} {segs} {a} {b} did =
+    ap emptied_since_take did.made ∙ fold-append emptied_after false (a.done me) (Takes slot (Segments segs) ∷ Notes Emptied ∷ [])
 
 pub slots_same : (a : HallState) → SlotsStay a a
 slots_same a = record { taken = λ number. refl; home = λ number may. may }

@@ -27,4 +27,5 @@ pub mod ClaimPuts
 pub mod KnownAsks
 pub mod GivenAsks
 pub mod TablesKnown
+pub mod ToldMore
 pub mod OwnedKnown

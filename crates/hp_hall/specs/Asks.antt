@@ -3,6 +3,7 @@
 use Rattle.std.specs.Prelude.{◌≡◌, ◌≢◌, ◌⊎◌, ℕ, true, List, Contains, Option, Some, None, drop, length, ⊤}
 use Rattle.std.specs.List.{list_any}
 use Rattle.hp_segs.specs.LaterSteps.{armed_ask}
+use Rattle.hp_segs.specs.Moved.{SegsCall, OpenRun}
 use Rattle.hp_segs.specs.SegsView.{SegsView, granted_by, grants_or_refuses}
 use Rattle.hp_segs.specs.SettledAsks.{IsSettled}
 use Rattle.hp_segs.specs.Standing.{Holding, IsArmed}
@@ -30,9 +31,14 @@ abbrev pub AnswersOfArmed : SegsView → SegsView → Type 0
 AnswersOfArmed taken given = (entry : AskLog) (ask : Ask) → Contains (drop (length taken.asks) given.asks) entry → entry.ask ≡ Some ask
     → armed_ask taken entry.from ≡ Some ask
 
+-- a call opens no growth but of the ask with which its participant was armed in the taken value
+abbrev pub OpensForArmed : SegsView → SegsCall → Type 0
+OpensForArmed taken (OpenRun ask run) = armed_ask taken ask.from ≡ Some ask
+OpensForArmed taken _ = ⊤
+
 -- asks in a value that is given by the log: nobody but the giver is armed anew; the giver is armed with the ask of before, or else with one
 -- for a heap that it holds; its ask of before is still the one with which it is armed, or else is settled; the open growth and the kept
--- asks stay those of the armed, and each growth that was opened and has failed since was one of the armed
+-- asks stay those of the armed; and so is each outcome that came in beside its ask
 pub record Arms (who : ℕ) (Holds : ℕ → Type 0) (taken given : SegsView) : Type 0 where
   pub others : (other : ℕ) → other ≢ who → armed_ask given other ≡ armed_ask taken other
   pub for_held : (ask : Ask) → armed_ask given who ≡ Some ask → (armed_ask taken who ≡ Some ask) ⊎ Holds ask.heap

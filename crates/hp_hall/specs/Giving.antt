@@ -1,26 +1,29 @@
 -- What may be given back in place of what was taken: the rule "Giving" of docs/PARTICIPANTS.md.
-use Rattle.std.specs.Prelude.{◌≡◌, ℕ, ◌+◌, List, [], ◌∷◌, ◌++◌, length, Option, Some, None, IsSome, sum_by, ⊤}
-use Rattle.std.specs.List.{range_with_len}
+use Rattle.std.specs.Prelude.{◌≡◌, ℕ, ◌+◌, List, [], ◌∷◌, ◌++◌, length, Bool, Option, Some, None, IsSome, sum_by, ⊤}
+use Rattle.std.specs.List.{All, range_with_len}
 use Rattle.hp_heap.specs.declared.entry.Entry.{Entry}
 use Rattle.hp_heap.specs.History.{HeapView}
 use Rattle.hp_log.specs.declared.log_record.LogRecord.{LogRecord}
 use Rattle.hp_segs.specs.SegsView.{SegsView}
-use Rattle.hp_segs.specs.Standing.{standing_of}
+use Rattle.hp_segs.specs.Standing.{IsArmed, standing_of}
 use Rattle.hp_segs.specs.declared.outcome.AskLog.{AskLog}
 use Rattle.hp_hall.specs.declared.kept.Kept.{Kept}
 use Rattle.hp_hall.specs.declared.kept.Kept.TheVariants.{Heap, Segments}
 use Rattle.hp_hall.specs.declared.slot.TheConstants.{SLOTS}
-use Rattle.hp_hall.specs.Asks.{Arms}
+use Rattle.hp_hall.specs.Asks.{Arms, OpensForArmed}
 use Rattle.hp_hall.specs.Holding.{HeapPart, IsHeldWith, IsSettledFor}
 use Rattle.hp_hall.specs.SegsGives.{Giver, IsLogGive, IsOwnerGive, IsRosterGive}
 
 -- what a giver knows: its number among the participants, the values that it has taken, its part in each heap, its own number of records,
+-- and that which it has acknowledged since it took the segment value, where it has; whether it has told since then that its table has no row;
 -- the numbers that it has loaded of others, and what it has seen of the log and of the outcomes
 pub record Knows : Type 0 where
   pub who : ℕ
   pub taken : ℕ → Option Kept
   pub part : ℕ → HeapPart
   pub number : ℕ
+  pub acked : Option ℕ
+  pub emptied : Bool
   pub noted : ℕ → ℕ
   pub seen : List LogRecord
   pub heard : List AskLog
@@ -37,7 +40,7 @@ IsNumbered who count (entry ∷ entries) =
 
 -- a giver, as those who have a table see it
 abbrev pub giver_of : Knows → Giver
-giver_of knows = record { who = knows.who; number = knows.number; noted = knows.noted }
+giver_of knows = record { who = knows.who; number = knows.number; acked = knows.acked; emptied = knows.emptied; noted = knows.noted }
 
 -- a heap may be given in place of the taken one: it opened as that did; its history is the taken one and entries of the giver alone,
 -- numbered on from those that it had made in all heaps; it has the pages of the segments that the giver knows to be its own, and as its
@@ -52,10 +55,12 @@ pub record GivesHeap (knows : Knows) (taken given : HeapView) : Type 0 where
   pub held : IsHeldWith given (knows.part given.plain.index).holding
   pub settled : IsSettledFor given.plain.index knows.heard (knows.part given.plain.index)
 
--- by the log: asks, growths and drops; who is armed anew is the giver, for a heap that it holds, once its ask of before is settled
+-- by the log: asks, growths and drops; who is armed anew is the giver, for a heap that it holds, once its ask of before is settled; and each
+-- growth that is opened on the way, be it taken back there, is of the ask with which its participant was armed
 pub record GivesLog (knows : Knows) (taken given : SegsView) : Type 0 where
   pub give : IsLogGive (giver_of knows) taken given
   pub arms : Arms knows.who (λ heap. IsSome (knows.part heap).holding) taken given
+  pub opens : IsArmed taken → All (OpensForArmed taken) give.moved.calls
 
 -- by ownership: segments come to heaps that the giver holds, or are given up by them; what the value has for other heaps stays
 pub record GivesOwned (knows : Knows) (taken given : SegsView) : Type 0 where

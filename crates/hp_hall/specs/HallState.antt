@@ -10,6 +10,7 @@ use Rattle.hp_hall.specs.Giving.{Knows}
 use Rattle.hp_hall.specs.Holding.{HeapPart}
 use Rattle.hp_hall.specs.Mail.{MailStep}
 use Rattle.hp_hall.specs.Own.{Own, rows_known}
+use Rattle.hp_hall.specs.Telling.{acked_since_take, emptied_since_take}
 
 -- what a participant knows of another: its number
 pub record Noted : Type 0 where
@@ -132,6 +133,8 @@ known_to me state = record {
   taken = state.taken;
   part = state.part me;
   number = (state.own me).number;
+  acked = acked_since_take (state.done me);
+  emptied = emptied_since_take (state.done me);
   noted = λ other. (state.noted me other).number;
   seen = state.seen me;
   heard = state.heard me;

@@ -9,6 +9,7 @@ pub mod Giving
 pub mod Own
 pub mod TakenIn
 pub mod Mail
+pub mod Telling
 pub mod Weights
 pub mod HallState
 pub mod HallCalls

@@ -12,6 +12,8 @@ use Rattle.hp_hall.specs.declared.kept.Kept.TheVariants.{Heap, Segments}
 use Rattle.hp_plain.specs.Course.{IsLaterKept}
 use Rattle.hp_hall.specs.Giving.{Knows, GivesFor, IsNumbered}
 use Rattle.hp_plain.specs.HallView.{HallView, SlotView, heard_in, own_at, part_in, seen_in, slot_at, taken_from}
+use Rattle.hp_hall.specs.Mail.{steps_of}
+use Rattle.hp_hall.specs.Telling.{acked_since_take, emptied_since_take}
 use Rattle.hp_hall.specs.Values.{Fits, history_of}
 use Rattle.hp_hall.proofs.Formed.{appends_given, calls_given}
 
@@ -22,6 +24,8 @@ known hall me = record {
   taken = λ number. taken_from (slot_at hall number);
   part = part_in hall me;
   number = (own_at hall me).number;
+  acked = acked_since_take (steps_of me hall.mail);
+  emptied = emptied_since_take (steps_of me hall.mail);
   noted = λ other. (own_at hall other).number;
   seen = seen_in hall;
   heard = heard_in hall;

@@ -27,6 +27,7 @@ use Rattle.hp_proc.specs.Contexts.{AreFactsOf, Context, IsSocketHeapOf, with_ele
 use Rattle.hp_proc.specs.Courses.{HasRequest, Standing, after_line, attached_after, calls_in, element_brought, element_in, heap_of_element, last_heap, maker_for, records_after}
 use Rattle.hp_proc.specs.Doing.{Doing, Done, Leads}
 use Rattle.hp_proc.specs.Heaps.{heaps_for, names_socket, socket_heaps, sockets_of}
+use Rattle.hp_proc.specs.Halting.{Halts, HaltsLine}
 use Rattle.hp_proc.specs.Lines.{Facts, allocating, doing_of, if_attached, judged, tag_of}
 use Rattle.hp_proc.specs.ParticipantView.{ParticipantView, after_answer, with_context, with_standing}
 use Rattle.hp_proc.specs.Progress.{AreOnce, Brings, Does, DoesLine, Moment, doer_at, moment_of}
@@ -166,6 +167,21 @@ module _ (line : Line) (label : Part) (size : ℕ) (options : Options) (its_act 
 
         bad_differs : (kind : BadRequest) (address : ℕ) → gives.BadRequest kind ≡ gives.Address address → ⊥
         bad_differs kind address equal = cc
+
+    -- one that is served, and ends without an answer
+    pub line_halts : (request : Request) → refusal_of size options.align options.bound ≡ None → HasRequest (act.Alloc label size options) (Some request)
+        → (heaps : List ℕ) → AreOnce heaps → (new : Moment)
+        → Halts heaps count did (serving old.context.pools request (tag_of line)
+        (heaps_for old.party.socket (socket_heaps old.context.pools) (option_map (λ name. name.text) options.heap) options.socket)) old new
+        → HaltsLine count did line old new
+    line_halts request accepted has heaps once new halts = record {
+      facts = facts_for old.party.socket old.context (Some request);
+      known = known_facts old.party.socket old.context (Some request) has;
+      heaps = heaps;
+      once = once;
+      halts = subst (λ (doing : Doing). Halts heaps count did doing old new)
+          (sym (judged_tree old.party.socket old.context (Some request) None attached accepted)) halts;
+    }
 
     module _ (request : Request) (accepted : refusal_of size options.align options.bound ≡ None)
         (has : HasRequest (act.Alloc label size options) (Some request)) (heap : ℕ) (answer : Answer) (doer : ParticipantView)

@@ -1,5 +1,5 @@
 -- A heap in hand, and what an ask for pages makes of what is known.
-use Rattle.std.proofs.Common.{◌≡◌, ◌≢◌, ◌∙◌, ℕ, ◌<◌, List, [], ◌∷◌, ◌++◌, length, append-nil, Option, Some, None, refl, ap, sym, subst, ⊎_elim, arith}
+use Rattle.std.proofs.Common.{◌≡◌, ◌≢◌, ◌∙◌, ℕ, ◌<◌, List, [], ◌∷◌, ◌++◌, length, append-nil, true, Option, Some, None, refl, ap, sym, subst, ⊎_elim, arith}
 use Rattle.std.proofs.lemmas.Bool.Decides.{eqb_tells}
 use Rattle.std.proofs.lemmas.List.{length-append}
 use Rattle.std.specs.List.{range_with_len}
@@ -26,18 +26,20 @@ use Rattle.hp_hall.specs.declared.slot.TheConstants.{SLOTS}
 use Rattle.hp_log.specs.declared.log_record.LogRecord.{LogRecord}
 use Rattle.hp_segs.specs.declared.outcome.AskLog.{AskLog}
 use Rattle.hp_proc.specs.Acting.{Acts, AreAsked}
-use Rattle.hp_serve.specs.AskSteps.{DoesAsk}
+use Rattle.hp_serve.specs.AskSteps.{DoesAsk, DoesAskOn}
 use Rattle.hp_serve.specs.Asking.{GrowsHeld, IsAsked, IsHeldAsBefore}
 use Rattle.hp_proc.specs.Contexts.{Context}
 use Rattle.hp_proc.specs.Doing.{Doing, Goes, Leads}
 use Rattle.hp_proc.specs.Doing.Done.{Asked}
+use Rattle.hp_proc.specs.Halting.{ActsOn, Halts}
 use Rattle.hp_proc.specs.Heaps.{sockets_of}
 use Rattle.hp_serve.specs.Party.{IsSameParty}
 use Rattle.hp_proc.specs.ParticipantView.{ParticipantView, after_call}
-use Rattle.hp_proc.specs.Progress.{Does, IsInHand, caller_of, in_hand, moment_of, with_hand}
+use Rattle.hp_proc.specs.Progress.{Does, IsInHand, Moment, caller_of, in_hand, moment_of, with_hand}
 use Rattle.hp_serve.specs.declared.pages_asked.PagesAsked.{PagesAsked}
 use Rattle.hp_proc.proofs.HandCalls.{call_index, call_serves, hand_apart, hand_here, hand_serves, numbered_next, own_behind}
 use Rattle.hp_proc.proofs.HandGiven.{sums_same}
+use Rattle.hp_proc.proofs.Halted.{halts_then}
 use Rattle.hp_proc.proofs.Joining.{context_still, goes_as}
 
 -- parts with the same entries have as many
@@ -123,6 +125,36 @@ module _ (doer after : ParticipantView) (old new : ℕ → HeapPart) (log later 
     outcomes = outcomes;
     asks = asks_are;
   }
+
+  -- somebody stopped while it asked, and it went on with the heap in its hand
+  pub halts_ask : (count : ℕ) (did there_did whole : List MailStep → Type 0) (asked : PagesAsked) (then_on : Option Run → Doing) (run : Option Run)
+      (steps : List MailStep) → asked.heap ≡ heap.plain.index → did steps → DoesAskOn count doer.party after.party asked steps run true
+      → ((index : ℕ) → (new index).entries ≡ (old index).entries)
+      → ((first second : List MailStep) → did first → there_did second → whole (first ++ second)) → (rest : Doing) (last : Moment)
+      → Does [] count there_did (then_on run) rest (in_hand heap (moment_of after new later heard)) last
+      → Halts [] count whole (Doing.Asks asked then_on) (in_hand heap (moment_of doer old log asks)) last
+  unfolding Leads Goes
+  halts_ask count did there_did whole asked then_on run steps its made acts entries join rest last there =
+      halts_then count did there_did whole (in_hand heap (moment_of doer old log asks)) (in_hand heap (moment_of after new later heard)) last join []
+      (Doing.Asks asked then_on)
+      (record {
+        rest = then_on run;
+        trace = Asked asked run ∷ [];
+        steps = steps;
+        held = [];
+        others = [];
+        front = refl;
+        leads = (run, refl, refl);
+        made = made;
+        acts = subst (λ (index : ℕ). ActsOn count (Some index) (Some index) [] doer after (Asked asked run ∷ []) steps) its
+            (subst (λ (after : ParticipantView). ActsOn count (Some asked.heap) (Some asked.heap) [] doer after (Asked asked run ∷ []) steps)
+            (goes_as doer after known) (ActsOn.asks_on doer after.party asked run steps acts));
+        entries = λ index.
+            hand_same doer.party.me after.party.me heap old new same.me entries index
+            ∙ sym (append-nil (with_hand doer.party.me heap old index).entries);
+        counted = context_still doer.context after.context known;
+        same = same;
+      }) rest there
 
 module _ (doer after : ParticipantView) (old new : ℕ → HeapPart) (log later : List LogRecord) (asks heard : List AskLog) (heap : HeapView)
     (same : IsSameParty doer.party after.party) (known : after.context ≡ doer.context) (taken out : ℕ → Option Kept) (still : (number : ℕ) → out number ≡ taken number)

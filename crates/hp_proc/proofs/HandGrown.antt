@@ -1,5 +1,5 @@
 -- A participant asked for pages for the heap in its hand, and the heap took in what was granted.
-use Rattle.std.proofs.Common.{◌≡◌, ◌≢◌, ◌∙◌, ℕ, ◌+◌, ◌≤◌, Bool, true, false, List, [], Option, Some, None, IfNone, IfSome, IsSome, refl, ap, sym, subst, arith}
+use Rattle.std.proofs.Common.{◌≡◌, ◌≢◌, ◌∙◌, ℕ, ◌+◌, ◌≤◌, Bool, true, false, List, [], ◌∷◌, Option, Some, None, IfNone, IfSome, IsSome, refl, ap, sym, subst, arith}
 use Rattle.hp_base.specs.declared.row.Run.{Run}
 use Rattle.hp_base.specs.declared.tag.Tag.{Tag}
 use Rattle.hp_hall.specs.HallState.{Did, HallState, HasMapped}
@@ -11,18 +11,23 @@ use Rattle.hp_heap.specs.declared.entry.HeapAnswer.TheVariants as gives
 use Rattle.hp_heap.specs.declared.entry.HeapCall.TheVariants as call
 use Rattle.hp_proc.specs.Allocating.{behind_asking, searching_again, with_run}
 use Rattle.hp_proc.specs.Contexts.{Context}
+use Rattle.hp_hall.specs.Holding.{HeapPart}
 use Rattle.hp_proc.specs.Doing.{Doing}
+use Rattle.hp_proc.specs.Halting.{ActsOn, Halts}
 use Rattle.hp_proc.specs.LineInHall.{HoldsIn, KeepsHeld, did_in, moment_with}
-use Rattle.hp_proc.specs.ParticipantView.{ParticipantView, after_call}
+use Rattle.hp_proc.specs.ParticipantView.{ParticipantView, after_call, with_party}
 use Rattle.hp_proc.specs.Progress.{Does, IsInHand, caller_of, in_hand, moment_of}
 use Rattle.hp_serve.specs.Asking.{GrowsHeld, HasSettledAsks, IsAsked, IsHeldAsBefore}
-use Rattle.hp_serve.specs.AskSteps.{DoesAsk}
+use Rattle.hp_serve.specs.AskSteps.{AsksNothing, DoesAsk, DoesAskOn}
 use Rattle.hp_serve.specs.InHall.{RemainsIn}
+use Rattle.hp_serve.specs.Party.{Party}
+use Rattle.hp_serve.specs.Serving.{gives_segments, takes_segments}
 use Rattle.hp_serve.specs.declared.pages_asked.PagesAsked.{PagesAsked}
-use Rattle.hp_proc.proofs.HandAsked.{asked_entries, asked_serves, can_grow, does_ask, hand_asked, hand_grown, none_asked}
+use Rattle.hp_proc.proofs.Halted.{halts_by}
+use Rattle.hp_proc.proofs.HandAsked.{asked_entries, asked_serves, can_grow, does_ask, halts_ask, hand_asked, hand_grown, hand_same, none_asked}
 use Rattle.hp_proc.proofs.HandCalls.{call_index, call_serves, does_call}
 use Rattle.hp_proc.proofs.Holds.{knew_called, knew_same, remains_called}
-use Rattle.hp_proc.proofs.Joining.{does_then}
+use Rattle.hp_proc.proofs.Joining.{does_same, does_then, goes_as}
 
 -- by the run that was granted a heap grew, or it did not
 abbrev pub GrewBy : Option Run → Bool → HeapView → HeapView → ParticipantView → ParticipantView → Type 0
@@ -55,6 +60,20 @@ module _ (doer after : ParticipantView) (a b : HallState) (heap : HeapView) (ask
     mapped = mapped;
     remains = remains;
   }
+
+  -- where it could not be armed it asked for nothing
+  pub halts_unasked : (doing : Doing) → AsksNothing me doer.party after.party a b
+      → Halts [] a.count (did_in me a b) doing (moment_with heap me doer a) (moment_with heap me after b)
+  halts_unasked doing nothing =
+      let segs = nothing.armed.did.0 in
+      let steps : List MailStep = takes_segments segs ∷ gives_segments segs ∷ [] in
+      let same : doer ≡ after = ap (λ (party : Party). with_party party doer) (sym nothing.party) ∙ goes_as doer after known in
+      halts_by [] a.count (did_in me a b) doing (moment_with heap me doer a) (moment_with heap me after b) steps nothing.armed.did.1
+      (subst (λ (after : ParticipantView). ActsOn a.count (Some heap.plain.index) (Some heap.plain.index) [] doer after [] steps) same
+      (ActsOn.asks_nothing doer heap.plain.index segs))
+      (hand_same me after.party.me heap (a.part me) (b.part me) remains.same.me
+      (λ index. ap (λ (part : HeapPart). part.entries) (nothing.armed.stays.mine.parts.part index)))
+      remains.same known
 
   -- what was granted it may take in
   pub allowed_by : ((index : ℕ) → index ≢ asked.heap → IsHeldAsBefore (a.part me index) (b.part me index)) → (who : ℕ) (run : Option Run)
@@ -158,3 +177,31 @@ module _ (doer after : ParticipantView) (a b : HallState) (heap : HeapView) (ask
           (Doing.Asks asked (with_run asked.heap asked.request tag otherwise))
           (with_run asked.heap asked.request tag otherwise (Some run)) then (moment_with heap me doer a) mid (moment_with next me last b)
           (λ first second. did_then) (does_asking (Some run) grows acts is) called)
+
+      -- so it is where somebody stopped meanwhile
+      pub halts_grown : (run : Option Run) (granted : Bool) → GrowsHeld asked.heap run (a.part me asked.heap) (b.part me asked.heap)
+          → GrewBy run granted heap next after last → DoesAskOn a.count doer.party after.party asked steps run true
+          → Halts [] a.count (did_in me a b) (Doing.Asks asked (with_run asked.heap asked.request tag otherwise)) (moment_with heap me doer a)
+          (moment_with next me last b)
+      halts_grown None granted grows grew acts =
+          let mid = in_hand heap (moment_of after (b.part me) (b.seen me) (b.heard me)) in
+          subst (λ (next : HeapView). Halts [] a.count (did_in me a b) (Doing.Asks asked (with_run asked.heap asked.request tag otherwise))
+          (moment_with heap me doer a) (moment_with next me last b)) (sym grew.1)
+          (subst (λ (last : ParticipantView). Halts [] a.count (did_in me a b)
+          (Doing.Asks asked (with_run asked.heap asked.request tag otherwise)) (moment_with heap me doer a) (moment_with heap me last b)) (sym grew.2)
+          (halts_ask doer after (a.part me) (b.part me) (a.seen me) (b.seen me) (a.heard me) (b.heard me) heap remains.same known a.count
+          (did_in me a b) (did_in me b b) (did_in me a b) asked (with_run asked.heap asked.request tag otherwise) None steps its made acts
+          (asked_entries asked.heap None (a.part me) (b.part me) others grows) (λ first second. did_then) otherwise mid
+          (does_same a.count (did_in me b b) otherwise mid (did_same me b))))
+      halts_grown (Some run) granted grows grew acts =
+          let then : Doing = searching_again asked.heap asked.request tag in
+          let mid = in_hand heap (moment_of after (b.part me) (b.seen me) (b.heard me)) in
+          let called =
+          subst (λ (index : ℕ). Does [] a.count (did_in me b b) (Doing.Calls index (call.Grow run) (λ _. then)) then mid
+          (moment_with next me last b)) (sym its)
+          (does_call after (b.part me) (b.seen me) (b.heard me) (call.Grow run) gives.Done heap next grew.2 a.count (did_in me b b) (λ _. then)
+          last grew.1 (did_same me b) refl) in
+          halts_ask doer after (a.part me) (b.part me) (a.seen me) (b.seen me) (a.heard me) (b.heard me) heap remains.same known a.count
+          (did_in me a b) (did_in me b b) (did_in me a b) asked (with_run asked.heap asked.request tag otherwise) (Some run) steps its made acts
+          (asked_entries asked.heap (Some run) (a.part me) (b.part me) others grows) (λ first second. did_then) then (moment_with next me last b)
+          called

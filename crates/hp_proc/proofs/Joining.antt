@@ -80,7 +80,7 @@ module _ (log : List LogRecord) (asks : List AskLog) (who : ℕ) where
   asked_none before after same = same
 
 -- the entries of calls one after another, behind those from before
-entries_joined : (who next heap calls later : ℕ) (first rest : List OwnCall) (old mid new : List Entry) → next ≡ who
+pub entries_joined : (who next heap calls later : ℕ) (first rest : List OwnCall) (old mid new : List Entry) → next ≡ who
     → later ≡ calls + length first → mid ≡ old ++ entries_for who heap (calls + 1) first
     → new ≡ mid ++ entries_for next heap (later + 1) rest → new ≡ old ++ entries_for who heap (calls + 1) (first ++ rest)
 entries_joined who next heap calls later first rest old mid new same count here there =
@@ -93,7 +93,7 @@ entries_joined who next heap calls later first rest old mid new same count here 
     ∙ ap (λ (all : List Entry). old ++ all) (sym (entries_go_on who heap (calls + 1) first rest))
 
 -- so many calls further on, and then more
-context_joined : (calls more : ℕ) (old mid new : Context) → mid ≡ record (after_calls calls old) { standing = mid.standing }
+pub context_joined : (calls more : ℕ) (old mid new : Context) → mid ≡ record (after_calls calls old) { standing = mid.standing }
     → new ≡ record (after_calls more mid) { standing = new.standing } → new ≡ record (after_calls (calls + more) old) { standing = new.standing }
 context_joined calls more old mid new here there =
     there

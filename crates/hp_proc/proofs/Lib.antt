@@ -3,6 +3,7 @@ pub mod AllocFacts
 pub mod AttachedLines
 pub mod ChosenHeaps
 pub mod HallMoments
+pub mod Halted
 pub mod HandAsked
 pub mod HandCalls
 pub mod HandCut

@@ -39,6 +39,11 @@ module _ {X : Type 0} (heap_of : X → ℕ) (places : List X) where
       ap (map heap_of) (sym (take-append-drop count places)) ∙ map-append heap_of (take count places) (drop count places) in
       once_front (map heap_of (take count places)) (map heap_of (drop count places)) (subst AreOnce parts once)
 
+  -- those before a place, and those from there on
+  pub heaps_whole : (count : ℕ) → map heap_of (take count places) ++ map heap_of (drop count places) ≡ map heap_of places
+  heaps_whole count =
+      sym (map-append heap_of (take count places) (drop count places)) ∙ ap (map heap_of) (take-append-drop count places)
+
   -- one place further
   pub heaps_more : (count : ℕ) (place : X) → count < length places
       → map heap_of (take count places) ++ heap_of (get_or places count place) ∷ [] ≡ map heap_of (take (count + 1) places)

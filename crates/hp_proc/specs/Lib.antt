@@ -6,6 +6,7 @@ pub mod Courses
 pub mod Doing
 pub mod Ends
 pub mod Freeing
+pub mod Halting
 pub mod Heaps
 pub mod Histories
 pub mod Laws

@@ -10,6 +10,7 @@ use Rattle.hp_script.specs.declared.answer.Answer.{Answer}
 use Rattle.hp_script.specs.declared.answer.Answer.TheVariants.{Address}
 use Rattle.hp_script.specs.declared.line.Line.{Line}
 use Rattle.hp_proc.specs.Doing.{Doing}
+use Rattle.hp_proc.specs.Halting.{Halts, HaltsLine}
 use Rattle.hp_proc.specs.ParticipantView.{ParticipantView, with_calls}
 use Rattle.hp_proc.specs.Progress.{AreSettled, Does, DoesLine, DoesOnce, IsInHand, MayDo, Moment, in_hand, moment_of}
 use Rattle.hp_serve.specs.InHall.{CanServe, IsTiedIn, RemainsIn}
@@ -40,6 +41,17 @@ DoesHeld me old new before behind from to doing rest =
 
 abbrev pub DoesLineHere : ℕ → ParticipantView → ParticipantView → HallState → HallState → Line → Answer → Type 0
 DoesLineHere me old new from to line given = DoesLine from.count (did_in me from to) line given (moment me old from) (moment me new to)
+
+-- and what it did of a line that ends without an answer, where it took a front of these heaps into its hand; and with a heap in hand
+abbrev pub HaltsHere : List ℕ → ℕ → ParticipantView → ParticipantView → HallState → HallState → Doing → Type 0
+HaltsHere heaps me old new from to doing = Halts heaps from.count (did_in me from to) doing (moment me old from) (moment me new to)
+
+abbrev pub HaltsHeld : ℕ → ParticipantView → ParticipantView → HeapView → HeapView → HallState → HallState → Doing → Type 0
+HaltsHeld me old new before behind from to doing =
+    Halts [] from.count (did_in me from to) doing (moment_with before me old from) (moment_with behind me new to)
+
+abbrev pub HaltsLineHere : ℕ → ParticipantView → ParticipantView → HallState → HallState → Line → Type 0
+HaltsLineHere me old new from to line = HaltsLine from.count (did_in me from to) line (moment me old from) (moment me new to)
 
 -- it holds no slot and may take each, the hall takes its calls, and its table is tied
 pub record IsIdleIn (me : ℕ) (party : Party) (state : HallState) : Type 0 where

@@ -12,6 +12,7 @@ use Rattle.hp_hall.specs.Holding.{AreStanding, HeapPart, part_behind}
 use Rattle.hp_segs.specs.Standing.{Holding, is_claimed_for, standing_of}
 use Rattle.hp_hall.specs.Standings.{ArmKeeps}
 use Rattle.hp_hall.specs.Asks.{IsKnownSettled}
+use Rattle.hp_hall.proofs.Gives.{none_opens}
 use Rattle.hp_hall.proofs.KnownAsks.{known_is_settled}
 use Rattle.hp_hall.proofs.StandingAsks.{closed_above}
 use Rattle.hp_heap.proofs.ChoiceLaw.{Contains-filter}
@@ -19,7 +20,7 @@ use Rattle.hp_segs.proofs.GrantLemmas.{closing, closing_grows}
 use Rattle.hp_segs.specs.Calls.{HasNoGrowth, MayArm}
 use Rattle.hp_segs.specs.GrowthLaws.{IsOfArmed}
 use Rattle.hp_segs.specs.LaterSteps.{after_arm, armed_ask}
-use Rattle.hp_segs.specs.Moved.{Arm, is_log_call}
+use Rattle.hp_segs.specs.Moved.{Arm, IsMovedBy, is_log_call}
 use Rattle.hp_segs.specs.SegsView.{SegsView, closed_number, granted_by, is_stale, is_unclaimed}
 use Rattle.hp_segs.specs.SettledAsks.{IsSettled}
 use Rattle.hp_segs.specs.Sound.{IsSound}
@@ -29,7 +30,7 @@ use Rattle.hp_segs.specs.declared.outcome.AskLog.{AskLog}
 use Rattle.hp_segs.specs.declared.outcome.Outcome.{Outcome}
 use Rattle.hp_segs.specs.declared.outcome.Outcome.TheVariants.{Granted, Refused, Stale, Freed}
 use Rattle.hp_segs.specs.declared.row_state.Segment.{Segment}
-use Rattle.hp_segs.proofs.Moves.{calls_move, moves_widen}
+use Rattle.hp_segs.proofs.Moves.{calls_move}
 use Rattle.hp_segs.proofs.SettledLaws.{above_is_unsettled}
 use Rattle.hp_serve.specs.Asking.{IsHeldAsBefore, HasSettledAsks}
 
@@ -173,21 +174,23 @@ pub arm_gives : (knows : Knows) (ask : Ask) (segs : SegsView) → ArmKeeps → I
     → closed_number segs.asks ask.from < ask.number → IsSome (knows.part ask.heap).holding
     → ((earlier : Ask) → armed_ask segs knows.who ≡ Some earlier → IsSettled earlier.from earlier.number segs)
     → GivesSegments knows segs (after_arm ask segs)
-arm_gives knows ask segs keeps sound may own above holds settled = record {
-  more = [];
-  log = sym (append-nil segs.log);
-  form = logs (record {
-    give = record {
-      moved = moves_widen is_log_call is_log_call 0 1 segs (after_arm ask segs) (λ call allowed. allowed) (omega arith)
-          (calls_move is_log_call (Arm ask) segs refl may);
-      agreed = λ entry generation member among granted joined. absurd (none_more segs.asks entry among);
-    };
-    arms = record {
-      others = λ other apart. get_or-set_other segs.armed ask.from other (Some ask) None (λ same. apart (same ∙ own));
-      for_held = λ other is. inr (is_held knows ask other segs sound may own holds is);
-      settled = λ earlier is. inr (settled_still ask segs earlier.from earlier.number (settled earlier is));
-      of_armed = λ armed. keeps segs ask sound armed may above;
-      answers = λ armed entry other among kept. absurd (none_more segs.asks entry among);
-    };
-  });
-}
+arm_gives knows ask segs keeps sound may own above holds settled =
+    let arms : IsMovedBy is_log_call 0 segs (after_arm ask segs) = calls_move is_log_call (Arm ask) segs refl may in
+    record {
+      more = [];
+      log = sym (append-nil segs.log);
+      form = logs (record {
+        give = record {
+          moved = record { calls = arms.calls; leads = arms.leads; only = arms.only; few = omega (arith, arms.few) };
+          agreed = λ entry generation member among granted joined. absurd (none_more segs.asks entry among);
+        };
+        arms = record {
+          others = λ other apart. get_or-set_other segs.armed ask.from other (Some ask) None (λ same. apart (same ∙ own));
+          for_held = λ other is. inr (is_held knows ask other segs sound may own holds is);
+          settled = λ earlier is. inr (settled_still ask segs earlier.from earlier.number (settled earlier is));
+          of_armed = λ armed. keeps segs ask sound armed may above;
+          answers = λ armed entry other among kept. absurd (none_more segs.asks entry among);
+        };
+        opens = λ armed. none_opens segs arms.calls arms.few;
+      });
+    }

@@ -1,5 +1,5 @@
 -- What was done for an ask, and for a notice, from its parts.
-use Rattle.std.proofs.Common.{◌≡◌, ◌∙◌, ℕ, ◌+◌, Bool, true, List, [], ◌∷◌, ◌++◌, Option, Some, refl, ap, sym, subst}
+use Rattle.std.proofs.Common.{◌≡◌, ◌∙◌, ℕ, ◌+◌, Bool, true, List, [], ◌∷◌, ◌++◌, Option, Some, None, refl, ap, sym, subst}
 use Rattle.std.specs.Prelude.{min}
 use Rattle.hp_base.specs.Plans.{action_of}
 use Rattle.hp_base.specs.declared.limits.TheConstants.{MAX_READING}
@@ -12,7 +12,7 @@ use Rattle.hp_mail.specs.declared.posted.Posted.{Posted}
 use Rattle.hp_segs.specs.LaterSteps.{after_arm}
 use Rattle.hp_segs.specs.SegsView.{SegsView}
 use Rattle.hp_segs.specs.declared.ask.Ask.{Ask}
-use Rattle.hp_serve.specs.AskSteps.{DoesAskOn, DoesNotify, IsAwaitedOn, IsSentAs, waits_until}
+use Rattle.hp_serve.specs.AskSteps.{DoesAskOn, DoesNotify, IsAwaitedOn, IsSentAs, StopsNotifying, waits_until}
 use Rattle.hp_serve.specs.Asking.{alloc_body, ask_of, free_body, next_number}
 use Rattle.hp_serve.specs.Frames.{Says}
 use Rattle.hp_serve.specs.Party.{Party, after_alloc, after_free, one_more}
@@ -76,3 +76,14 @@ does_notify count party mid after heap number run frame posted since now waited 
       (mid_is ∙ ap (λ number. after_free number party) number_is) waits;
   are = refl;
 }
+
+-- it was told so, and somebody stopped while it waited
+pub stops_notifying : (count : ℕ) (party mid after : Party) (heap number : ℕ) (run : Run) (frame : Frame) (posted : Posted) (since : ℕ)
+    (waited : List MailStep) → number ≡ party.asked + 1 → mid ≡ after_free number party → Says frame (free_body party.me number heap run)
+    → IsWaited count (waits_until since mid.deadline) true mid after waited None
+    → StopsNotifying count party after heap run (posts_free party frame posted ∷ Notes (Read since) ∷ waited)
+stops_notifying count party mid after heap number run frame posted since waited number_is mid_is says waits =
+    StopsNotifying.stops frame posted since waited (subst (λ number. Says frame (free_body party.me number heap run)) number_is says)
+    (subst (λ mid. IsWaited count (waits_until since mid.deadline) true mid after waited None)
+    (mid_is ∙ ap (λ number. after_free number party) number_is) waits)
+    refl

@@ -12,6 +12,7 @@ use Rattle.hp_hall.specs.Holding.{AreStanding, HeapPart, part_behind}
 use Rattle.hp_hall.specs.Standings.{LogCallsLeave, WithdrawKeeps}
 use Rattle.hp_segs.specs.Calls.{MayWithdraw}
 use Rattle.hp_segs.specs.LaterSteps.{after_withdraw, armed_ask, grows_for, withdrawn_growth, withdrawn_unless}
+use Rattle.hp_hall.proofs.Gives.{none_opens}
 use Rattle.hp_segs.specs.Moved.{IsMovedBy, Withdraw, is_log_call}
 use Rattle.hp_segs.specs.SegsView.{SegsView, grant_of, grant_or_refusal_of, granted_by, grants_or_refuses, is_grant_or_refusal}
 use Rattle.hp_segs.specs.Sound.{IsSound}
@@ -178,12 +179,13 @@ withdraw_gives knows segs from number since now keeps sound may none =
     let given : SegsView = after_withdraw from number since now segs in
     let last = is_refused_last segs from number since now none in
     let appends = calls_append (Withdraw from number since now) segs in
+    let withdraws : IsMovedBy is_log_call 0 segs given = calls_move is_log_call (Withdraw from number since now) segs refl may in
     record {
       more = appends.records;
       log = appends.log;
       form = logs (record {
         give = record {
-          moved = withdraw_moves segs from number since now may;
+          moved = record { calls = withdraws.calls; leads = withdraws.leads; only = withdraws.only; few = omega (arith, withdraws.few) };
           agreed = λ entry generation member among granted joined. absurd
               (not_granted segs given from number last entry generation among granted);
         };
@@ -194,6 +196,7 @@ withdraw_gives knows segs from number since now keeps sound may none =
           of_armed = λ armed. keeps segs from number since now sound armed may;
           answers = λ armed entry ask among kept. of_own segs given from number last entry ask among kept;
         };
+        opens = λ armed. none_opens segs withdraws.calls withdraws.few;
       });
     }
 

@@ -125,3 +125,9 @@ came_in was joined now done same out is = is ∙ ap (λ (was : Bool). was || don
 -- and who had a table has one, whatever became of its catching up
 pub has_still : (joined done now : Bool) → joined ≡ true → now ≡ (joined || done) → now ≡ joined
 has_still joined done now there is = is ∙ ap (λ (joined : Bool). joined || done) there ∙ sym there
+
+-- who has caught up acknowledges all records, and does nothing else
+pub acks_done : (caught : Caught) (records : ℕ) → is_done caught ≡ true → acks_behind caught records ≡ Notes (Acked records) ∷ []
+acks_done Done records done = refl
+acks_done (Refused row call) records done = cc
+acks_done (Elsewhere row call got) records done = cc

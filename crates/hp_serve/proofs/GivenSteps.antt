@@ -16,7 +16,7 @@ use Rattle.hp_segs.specs.SegsView.{SegsView, is_member}
 use Rattle.hp_segs.specs.Sound.{IsSound}
 use Rattle.hp_segs.specs.declared.outcome.AskLog.{AskLog}
 use Rattle.hp_segs.proofs.Appending.{moves_append}
-use Rattle.hp_segs.proofs.Moves.{calls_keep, calls_move, moves_compose}
+use Rattle.hp_segs.proofs.Moves.{calls_keep, calls_move}
 use Rattle.hp_core.specs.Giving.{AnswersArmed, HasAcknowledged, StepGives}
 use Rattle.hp_core.specs.declared.event.CoreEvent.{CoreEvent}
 use Rattle.hp_core.specs.declared.event.CoreEvent.TheVariants.{Grow, Shrink, SelfMapped, Poll}
@@ -27,6 +27,7 @@ use Rattle.hp_core.proofs.AnsweredSteps.{steps_answer_armed}
 use Rattle.hp_core.proofs.ArmedSteps.{steps_leave_armed}
 use Rattle.hp_core.proofs.GivingLemmas.{member_within}
 use Rattle.hp_core.proofs.GivingSteps.{steps_give}
+use Rattle.hp_serve.proofs.ArmedMoves.{MovesArmed, after_none}
 use Rattle.hp_serve.specs.Coordinating.{IsHanded, IsTrueOf, handed, no_room, nobody_denies, stepping, with_room}
 use Rattle.hp_serve.specs.Serving.{gives_segments}
 
@@ -71,17 +72,17 @@ leaves_standing taken given sound moved armed_are grows answers =
     }
 
 -- what a step with room leaves may be given back for the value that was taken
-step_is_given : (knows : Knows) (event : CoreEvent) (taken given : SegsView) → IsSound taken → IsMovedBy is_log_call 1 taken given
+step_is_given : (knows : Knows) (event : CoreEvent) (taken given : SegsView) → IsSound taken → MovesArmed taken taken given
     → StepGives event (with_room taken) given → LeavesStanding taken given → (HasArmedGrowth taken → AnswersArmed taken given)
     → IsTrueOf knows.noted (length taken.log) event → GivesSegments knows taken given
-step_is_given knows event taken given sound moved gives leaves answers known =
-    let appends = moves_append is_log_call 1 taken given moved in
+step_is_given knows event taken given sound moves gives leaves answers known =
+    let appends = moves_append is_log_call 1 taken given moves.moved in
     record {
       more = appends.records;
       log = appends.log;
       form = logs (record {
         give = record {
-          moved = moved;
+          moved = moves.moved;
           agreed = λ entry generation member came granted is_in.
               let was_in : is_member taken.roster member ≡ true = sym (ap (λ roster. is_member roster member) gives.roster) ∙ is_in in
               shown_is_known knows.noted event (with_room taken) generation member
@@ -95,57 +96,58 @@ step_is_given knows event taken given sound moved gives leaves answers known =
           of_armed = leaves.sound;
           answers = λ armed. answers armed.growth;
         };
+        opens = λ armed. moves.opens (leaves.sound armed).growth gives.armed;
       });
     }
 
 -- what a step left, with places made for it
 record IsLeftBy (event : CoreEvent) (taken given : SegsView) : Type 0 where
-  moved : IsMovedBy is_log_call 1 taken given
+  moves : MovesArmed taken taken given
   gives : StepGives event (with_room taken) given
   leaves : LeavesStanding taken given
   answers : HasArmedGrowth taken → AnswersArmed taken given
 
-left_by_step : (event : CoreEvent) (core : Core) (taken given : SegsView) → IsSound taken → IsMovedBy is_log_call 1 (with_room taken) given
+left_by_step : (event : CoreEvent) (core : Core) (taken given : SegsView) → IsSound taken → MovesArmed taken (with_room taken) given
     → given ≡ (stepped nobody_denies event core (with_room taken)).segs → IsLeftBy event taken given
 left_by_step event core taken given sound moved is =
     let roomy = with_room taken in
     let sound_too : IsSound roomy = calls_keep (Reserve (length taken.retiring + 3)) taken sound tt in
-    let moves : IsMovedBy is_log_call 1 taken given = moves_compose is_log_call 0 1 taken roomy given (room_moves taken) moved in
+    let moves : MovesArmed taken taken given = after_none taken taken roomy given (room_moves taken) moved in
     let gives = subst (StepGives event roomy) (sym is) (steps_give nobody_denies event core roomy sound_too) in
     let answers : HasArmedGrowth taken → AnswersArmed taken given =
     λ old. subst (AnswersArmed roomy) (sym is) (steps_answer_armed nobody_denies event core roomy old) in
     record {
-      moved = moves;
+      moves = moves;
       gives = gives;
-      leaves = leaves_standing taken given sound moves gives.armed
+      leaves = leaves_standing taken given sound moves.moved gives.armed
           (λ old. subst HasArmedGrowth (sym is) (steps_leave_armed nobody_denies event core roomy old)) answers;
       answers = answers;
     }
 
 -- so it is with what a step left
 left_by : (event : CoreEvent) (core after : Core) (taken roomy given : SegsView) (out : Out) → roomy ≡ with_room taken
-    → IsSound taken → IsMovedBy is_log_call 1 roomy given → IsStepped after given out (stepped nobody_denies event core roomy)
+    → IsSound taken → MovesArmed taken roomy given → IsStepped after given out (stepped nobody_denies event core roomy)
     → IsLeftBy event taken given
 left_by event core after taken roomy given out has_room sound moved is =
-    left_by_step event core taken given sound (subst (λ roomy. IsMovedBy is_log_call 1 roomy given) has_room moved)
+    left_by_step event core taken given sound (subst (λ roomy. MovesArmed taken roomy given) has_room moved)
     (is.segs_is ∙ ap (λ roomy. (stepped nobody_denies event core roomy).segs) has_room)
 
 pub given_by_step : (knows : Knows) (event : CoreEvent) (core after : Core) (taken roomy given : SegsView) (out : Out) → roomy ≡ with_room taken
-    → IsSound taken → IsMovedBy is_log_call 1 roomy given → IsStepped after given out (stepped nobody_denies event core roomy)
+    → IsSound taken → MovesArmed taken roomy given → IsStepped after given out (stepped nobody_denies event core roomy)
     → IsTrueOf knows.noted (length taken.log) event → GivesSegments knows taken given
 given_by_step knows event core after taken roomy given out has_room sound moved is known =
     let left = left_by event core after taken roomy given out has_room sound moved is in
-    step_is_given knows event taken given sound left.moved left.gives left.leaves left.answers known
+    step_is_given knows event taken given sound left.moves left.gives left.leaves left.answers known
 
 pub step_leaves : (event : CoreEvent) (core after : Core) (taken roomy given : SegsView) (out : Out) → roomy ≡ with_room taken
-    → IsSound taken → IsMovedBy is_log_call 1 roomy given → IsStepped after given out (stepped nobody_denies event core roomy)
+    → IsSound taken → MovesArmed taken roomy given → IsStepped after given out (stepped nobody_denies event core roomy)
     → LeavesStanding taken given
 step_leaves event core after taken roomy given out has_room sound moved is =
     let left = left_by event core after taken roomy given out has_room sound moved is in
     left.leaves
 
 pub step_roster : (event : CoreEvent) (core after : Core) (taken roomy given : SegsView) (out : Out) → roomy ≡ with_room taken
-    → IsSound taken → IsMovedBy is_log_call 1 roomy given → IsStepped after given out (stepped nobody_denies event core roomy)
+    → IsSound taken → MovesArmed taken roomy given → IsStepped after given out (stepped nobody_denies event core roomy)
     → given.roster ≡ taken.roster
 step_roster event core after taken roomy given out has_room sound moved is =
     let left = left_by event core after taken roomy given out has_room sound moved is in

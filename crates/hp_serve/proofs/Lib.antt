@@ -1,4 +1,5 @@
 pub mod Armed
+pub mod ArmedMoves
 pub mod AskDone
 pub mod AskKnown
 pub mod AskLooks

@@ -11,12 +11,13 @@ use Rattle.hp_base.specs.declared.row.Row.{Row}
 use Rattle.hp_base.specs.declared.limits.TheConstants.{MAX_HEAPS}
 use Rattle.hp_core.specs.Following.{after_catching, noted}
 use Rattle.hp_core.specs.Giving.{OnlyNotes}
+use Rattle.hp_hall.proofs.Gives.{none_opens}
 use Rattle.hp_hall.proofs.StandingMoves.{notes_leave}
 use Rattle.hp_hall.specs.Giving.{GivesFor, GivesSegments, IsGiveOf, Knows, logs}
 use Rattle.hp_segs.specs.Standing.{IsArmed}
 use Rattle.hp_hall.specs.Standings.{LeavesStanding}
 use Rattle.hp_hall.specs.declared.kept.Kept.TheVariants.{Segments}
-use Rattle.hp_segs.proofs.Moves.{moves_stay, moves_widen}
+use Rattle.hp_segs.proofs.Moves.{moves_stay}
 use Rattle.hp_segs.specs.LaterSteps.{is_failure}
 use Rattle.hp_segs.specs.Moved.{is_log_call}
 use Rattle.hp_segs.specs.SegsView.{SegsView}
@@ -54,7 +55,7 @@ noted_gives knows taken given is of_armed = record {
   log = is.log ∙ sym (append-nil taken.log);
   form = logs (record {
     give = record {
-      moved = moves_widen is_log_call is_log_call 0 1 taken given (λ call allowed. allowed) (omega arith) is.moved;
+      moved = record { calls = is.moved.calls; leads = is.moved.leads; only = is.moved.only; few = omega (arith, is.moved.few) };
       agreed =
           λ entry generation member there granted joined.
           absurd (none_there entry (drop (length taken.asks) given.asks)
@@ -70,6 +71,7 @@ noted_gives knows taken given is of_armed = record {
           absurd (none_there entry (drop (length taken.asks) given.asks)
           (drop_all (length taken.asks) given.asks (omega (arith, ap (λ (asks : List AskLog). length asks) is.asks))) there);
     };
+    opens = λ armed. none_opens taken is.moved.calls is.moved.few;
   });
 }
 

@@ -1,6 +1,6 @@
 -- What a turn of a wait makes fall, and how servings and turns join: the rule "Turns of a wait" of docs/PARTICIPANTS.md.
 use Rattle.std.proofs.Common.{◌≡◌, ◌∙◌, ℕ, suc, ◌+◌, ◌*◌, ◌<◌, ◌≤◌, ◌⊎◌, ◌||◌, ◌&&◌, inl, inr, ⊎_elim, Bool, true, false, List, [], ◌∷◌, ◌++◌, Option, Some, None, refl, ap, sym, subst, arith}
-use Rattle.std.specs.Prelude.{Result, Ok, Err, IfOk, OnErr, OnOk, nat_lt}
+use Rattle.std.specs.Prelude.{Result, Ok, Err, IfOk, OnErr, OnOk, nat_lt, unwrap_or}
 use Rattle.std.proofs.lemmas.Bool.Decides.{nat_tests}
 use Rattle.hp_core.specs.Core.{Core}
 use Rattle.hp_hall.specs.Mail.{MailStep, Notes}
@@ -142,6 +142,14 @@ pub any_moved : (scale : ℕ) (own below above moved : Bool) → moved ≡ (own 
 any_moved scale true below above moved is = omega (arith, ap (λ (b : Bool). scale * if_moved b) is)
 any_moved scale false true above moved is = omega (arith, ap (λ (b : Bool). scale * if_moved b) is)
 any_moved scale false false above moved is = omega (arith, ap (λ (b : Bool). scale * if_moved b) is)
+
+-- what moved in a turn in which somebody stopped, by what each of the three answered
+pub moved_on : (moved own below above : Bool) (mine under over : Option Bool) → moved ≡ (own || (below || above)) → own ≡ unwrap_or mine false
+    → below ≡ unwrap_or under true → above ≡ unwrap_or over true
+    → moved ≡ (unwrap_or mine false || (unwrap_or under true || unwrap_or over true))
+moved_on moved own below above mine under over is own_is below_is above_is =
+    is ∙ ap (λ (b : Bool). b || (below || above)) own_is ∙ ap (λ (b : Bool). unwrap_or mine false || (b || above)) below_is
+    ∙ ap (λ (b : Bool). unwrap_or mine false || (unwrap_or under true || b)) above_is
 
 -- whoever moved something pays for what the turn answers
 pub all_pay : {E : Type 0} (scale : ℕ) (first second third all : Result Bool E) (below own above moved : Bool) → first ≡ Ok below → second ≡ Ok own

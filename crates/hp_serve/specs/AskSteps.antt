@@ -1,18 +1,18 @@
 -- What a participant does that asks for pages, or tells that it gave some up, step by step: the rule "Asking" of docs/PARTICIPANTS.md.
-use Rattle.std.specs.Prelude.{◌≡◌, ℕ, ◌+◌, ◌-◌, ◌*◌, ◌^◌, min, Bool, true, false, ◌||◌, List, [], ◌∷◌, ◌++◌, Option, Some}
+use Rattle.std.specs.Prelude.{◌≡◌, ℕ, ◌+◌, ◌-◌, ◌*◌, ◌^◌, ◌≤◌, min, Bool, true, false, ◌||◌, List, [], ◌∷◌, ◌++◌, Option, Some, None}
 use Rattle.hp_base.specs.Plans.{action_of}
 use Rattle.hp_base.specs.declared.limits.TheConstants.{MAX_READING}
 use Rattle.hp_base.specs.declared.plan_entry.MsgKind.TheVariants as message
 use Rattle.hp_base.specs.declared.row.Run.{Run}
 use Rattle.hp_frame.specs.declared.frame.Frame.{Frame}
-use Rattle.hp_hall.specs.HallState.{Did, HallState}
+use Rattle.hp_hall.specs.HallState.{Did, HallState, Stays}
 use Rattle.hp_hall.specs.Mail.{MailStep, Notes, Posts}
 use Rattle.hp_hall.specs.declared.note.Note.TheVariants.{Read}
 use Rattle.hp_mail.specs.declared.posted.Posted.{Posted}
 use Rattle.hp_segs.specs.LaterSteps.{after_arm}
 use Rattle.hp_segs.specs.SegsView.{SegsView}
 use Rattle.hp_segs.specs.declared.ask.Ask.{Ask}
-use Rattle.hp_serve.specs.Asking.{GrowsHeld, IsAsked, after_settling, alloc_body, ask_of, free_body, next_number}
+use Rattle.hp_serve.specs.Asking.{GrowsHeld, HasSettledAsks, IsAsked, after_settling, alloc_body, ask_of, free_body, next_number}
 use Rattle.hp_serve.specs.Frames.{Says}
 use Rattle.hp_serve.specs.Looking.{IsLookAt}
 use Rattle.hp_serve.specs.Party.{Party, after_alloc, after_free, one_more}
@@ -104,8 +104,20 @@ pub record AsksIn (me : ℕ) (old new : Party) (asked : PagesAsked) (from to : H
   pub answer : IsAsked (to.seen me) (to.heard me) me old.asked new.asked asked answered.run
   pub grows : GrowsHeld asked.heap answered.run (from.part me asked.heap) (to.part me asked.heap)
 
--- a participant tells that it gave up a run of a heap, as the plan has its next notice, reads its clock, and waits for the answer, for
--- three deadlines at most
+-- a participant is armed as before, without memory or a number for a new ask: it took the segment value, gave it back as it was, and did
+-- nothing else; its asks are settled still
+pub record IsArmedAsBefore (me : ℕ) (from to : HallState) : Type 0 where
+  pub did : (taken : SegsView) × Did me (takes_segments taken ∷ gives_segments taken ∷ []) from to
+  pub stays : Stays me from to
+  pub settled : HasSettledAsks (to.part me) (to.heard me)
+
+-- so it asked for nothing, and is as it was
+pub record AsksNothing (me : ℕ) (old new : Party) (from to : HallState) : Type 0 where
+  pub armed : IsArmedAsBefore me from to
+  pub party : new ≡ old
+
+-- a participant tells that it gave up a run of a heap, as the plan has its next notice, reads its clock, and waits for the answer, for three
+-- deadlines at most
 pub record DoesNotify (count : ℕ) (party after : Party) (heap : ℕ) (run : Run) (steps : List MailStep) : Type 0 where
   pub frame : Frame
   pub posted : Posted
@@ -116,3 +128,12 @@ pub record DoesNotify (count : ℕ) (party after : Party) (heap : ℕ) (run : Ru
   pub waits : IsWaited count (waits_until since party.deadline) true (after_free (party.asked + 1) party) after waited (Some now)
   pub are : steps ≡ Posts 0 frame (action_of party.plan message.Free party.me (one_more party.sent.frees)) posted
       ∷ Notes (Read since) ∷ waited
+
+-- it stops over that: its numbers have come to an end, and it does nothing; or it tells so, reads its clock and waits, and somebody stops
+-- meanwhile
+pub data StopsNotifying (count : ℕ) (party after : Party) (heap : ℕ) (run : Run) (steps : List MailStep) : Type 0 where
+  no_number : 2 ^ 64 ≤ party.asked + 1 → after ≡ party → steps ≡ [] → StopsNotifying count party after heap run steps
+  stops : (frame : Frame) (posted : Posted) (since : ℕ) (waited : List MailStep) → Says frame (free_body party.me (party.asked + 1) heap run)
+      → IsWaited count (waits_until since party.deadline) true (after_free (party.asked + 1) party) after waited None
+      → steps ≡ Posts 0 frame (action_of party.plan message.Free party.me (one_more party.sent.frees)) posted ∷ Notes (Read since) ∷ waited
+      → StopsNotifying count party after heap run steps

@@ -1,5 +1,5 @@
 -- What a participant does while it waits: the rule "Turns of a wait" of docs/PARTICIPANTS.md.
-use Rattle.std.specs.Prelude.{◌≡◌, ℕ, zero, suc, ◌<◌, ◌≤◌, ◌⊎◌, Bool, true, false, ◌||◌, ◌&&◌, List, [], ◌∷◌, ◌++◌, Option, Some, None, nat_lt}
+use Rattle.std.specs.Prelude.{◌≡◌, ℕ, zero, suc, ◌<◌, ◌≤◌, ◌⊎◌, Bool, true, false, ◌||◌, ◌&&◌, List, [], ◌∷◌, ◌++◌, Option, Some, None, unwrap_or, nat_lt}
 use Rattle.hp_hall.specs.Mail.{MailStep, Notes}
 use Rattle.hp_hall.specs.declared.note.Note.TheVariants.{Paused, Read, Yielded}
 use Rattle.hp_serve.specs.Coordinating.{IsServed}
@@ -95,21 +95,24 @@ pub data IsWaited (count until : ℕ) (heeds : Bool) (party after : Party) (step
       → WaitsOn heeds mid until now → IsTurned count until mid after last None → steps ≡ first ++ (Notes (Read now) ∷ last)
       → ended ≡ None → IsWaited count until heeds party after steps ended
 
--- all serve in a turn, also where somebody stops: those below it first, then the participant itself, then those above
-pub record HaveServedOn (count : ℕ) (party after : Party) (steps : List MailStep) : Type 0 where
+-- all serve in a turn, whoever stops: those below it first, then the participant itself, then those above; and whether something moved. Others
+-- that stopped moved something; its own serving counts as nothing where it stopped
+pub record HaveServedOn (count : ℕ) (party after : Party) (steps : List MailStep) (moved : Bool) : Type 0 where
   pub below : Option Bool
   pub mine : Option Bool
   pub above : Option Bool
   pub own : List MailStep
   pub served : IsServedOut count party after own mine
   pub are : steps ≡ Notes (Yielded false below) ∷ (own ++ Notes (Yielded true above) ∷ [])
+  pub moves : moved ≡ (unwrap_or mine false || (unwrap_or below true || unwrap_or above true))
 
--- a turn of its wait until a deadline comes to its end also where somebody stops, with a pause until the sooner deadline
+-- such a turn of its wait until a deadline comes to its end whoever stops, with a pause until the sooner deadline, as one in which something
+-- moved, or nothing
 pub record IsTurnedOn (count until : ℕ) (party after : Party) (steps : List MailStep) : Type 0 where
   pub moved : Bool
   pub served : List MailStep
   pub paused : List MailStep
-  pub all : HaveServedOn count party after served
+  pub all : HaveServedOn count party after served moved
   pub pause : PausesAt until (due_in after.core) moved paused
   pub are : steps ≡ served ++ paused
 

@@ -11,7 +11,8 @@ ghost use Rattle.hp_serve.specs.Asking.{IsAwaiting, IsHeldAsBefore, HasSettledAs
 ghost use Rattle.hp_serve.specs.Asking.{ask_of};
 ghost use Rattle.hp_serve.specs.Serving.{gives_segments, takes_segments};
 ghost use Rattle.hp_hall.specs.HallState.{Did, HasMapped};
-ghost use Rattle.hp_serve.specs.SegmentSlot.{GivesBack, HasSegs, MayHold, StaysButParts};
+ghost use Rattle.hp_serve.specs.AskSteps.{IsArmedAsBefore};
+ghost use Rattle.hp_serve.specs.SegmentSlot.{GivesBack, HasSegs, MayHold, PutsBack, StaysButParts};
 
 use crate::calls::{give_back, put_back, take_segments};
 use crate::pages_asked::PagesAsked;
@@ -54,7 +55,7 @@ fn arm_taken<H: Hall>(hall: &mut H, me: u8, segs: Segs, ask: &Ask) -> Result<(),
     ensures armed { OnOk result ((heap : ℕ) → ((H.state hall.new).part me heap).armed ≡ Some ask.now) }
     ensures held { (heap : ℕ) → IsHeldAsBefore ((H.state hall.old).part me heap) ((H.state hall.new).part me heap) }
     ensures ok { OnOk result (GivesBack me (after_arm ask.now segs) (H.state hall.old) (H.state hall.new)) }
-    ensures err { OnErr result (GivesBack me segs (H.state hall.old) (H.state hall.new)) }
+    ensures err { OnErr result (PutsBack me segs (H.state hall.old) (H.state hall.new)) }
     ensures goes_on { H.goes_on hall.old hall.new }
 {
     let mut armed = segs;
@@ -71,7 +72,7 @@ fn arm_taken<H: Hall>(hall: &mut H, me: u8, segs: Segs, ask: &Ask) -> Result<(),
 }
 
 /// Arms a participant with its next ask for pages, where its last one had that number. Without memory for the log places of the ask, or
-/// where the numbers have come to an end, it is armed as before. Own.
+/// where the numbers have come to an end, it is armed as before, and gives the segment value back as it was taken. Own.
 pub fn arm<H: Hall>(
     hall: &mut H,
     me: u8,
@@ -88,7 +89,7 @@ pub fn arm<H: Hall>(
     ensures held { (heap : ℕ) → IsHeldAsBefore ((H.state hall.old).part me heap) ((H.state hall.new).part me heap) }
     ensures did { IfOk result (λ ask. (taken : SegsView) × (ask.number ≡ next_number before taken.asks me)
         × Did me (takes_segments taken ∷ gives_segments (after_arm ask taken) ∷ []) (H.state hall.old) (H.state hall.new)) }
-    ensures err { OnErr result (HasSettledAsks ((H.state hall.new).part me) ((H.state hall.new).heard me)) }
+    ensures err { OnErr result (IsArmedAsBefore me (H.state hall.old) (H.state hall.new)) }
     ensures mapped { HasMapped me (H.state hall.new) }
     ensures stays { StaysButParts me (H.state hall.old) (H.state hall.new) }
     ensures goes_on { H.goes_on hall.old hall.new }

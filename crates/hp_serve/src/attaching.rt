@@ -1,5 +1,5 @@
 //! What a participant does that attaches or detaches, in one hold of the segment value.
-ghost use Rattle.std.specs.Prelude.{◌≡◌, ℕ, ◌^◌, ◌<◌, ◌≤◌, ◌++◌, ◌||◌, [], ◌∷◌, true, false, length};
+ghost use Rattle.std.specs.Prelude.{◌≡◌, ℕ, ◌^◌, ◌<◌, ◌≤◌, ◌++◌, ◌||◌, [], ◌∷◌, Some, true, false, length};
 ghost use Rattle.hp_base.specs.Mapping.{is_done};
 ghost use Rattle.hp_base.specs.declared.limits.TheConstants.{MAX_HEAPS, MAX_PARTICIPANTS};
 ghost use Rattle.hp_maps.specs.MapsView.{MapsView, calls_of, chunk_rows};
@@ -10,6 +10,7 @@ ghost use Rattle.hp_serve.specs.Serving.{CatchesUp, acks_behind, gives_segments,
 ghost use Rattle.hp_serve.specs.Tied.{IsTied};
 ghost use Rattle.hp_hall.specs.HallState.{Did, Stays};
 ghost use Rattle.hp_hall.specs.Mail.{HasInHand, Notes};
+ghost use Rattle.hp_hall.specs.Telling.{acked_since_take, emptied_since_take};
 ghost use Rattle.hp_hall.specs.declared.note.Note.{Note};
 ghost use Rattle.hp_serve.specs.SegmentSlot.{GivesBack, HasSegs, MayHold, StaysButOwn, StaysButRoster};
 
@@ -80,6 +81,7 @@ fn give_joined<H: Hall>(hall: &mut H, me: u8, segs: Segs)
     requires has { HasSegs me segs (H.state hall.old) }
     requires few { me < MAX_PARTICIPANTS }
     requires whole { ((H.state hall.old).own me).number ≡ length segs.log }
+    requires acked { acked_since_take ((H.state hall.old).done me) ≡ Some (length segs.log) }
     ensures log { (H.state hall.new).seen me ≡ segs.log }
     ensures part { (heap : ℕ) → (H.state hall.new).part me heap ≡ (H.state hall.old).part me heap }
     ensures back { GivesBack me (after_join me segs) (H.state hall.old) (H.state hall.new) }
@@ -100,6 +102,7 @@ fn give_left<H: Hall>(hall: &mut H, me: u8, segs: Segs)
     requires has { HasSegs me segs (H.state hall.old) }
     requires few { me < MAX_PARTICIPANTS }
     requires secondary { 0 < me }
+    requires emptied { emptied_since_take ((H.state hall.old).done me) ≡ true }
     ensures log { (H.state hall.new).seen me ≡ segs.log }
     ensures part { (heap : ℕ) → (H.state hall.new).part me heap ≡ (H.state hall.old).part me heap }
     ensures back { GivesBack me (after_leave me segs) (H.state hall.old) (H.state hall.new) }
@@ -119,6 +122,7 @@ fn give_attached<H: Hall>(hall: &mut H, me: u8, caught: &Caught, segs: Segs)
     requires has { HasSegs me segs (H.state hall.old) }
     requires few { me < MAX_PARTICIPANTS }
     requires whole { is_done caught.now ≡ true → ((H.state hall.old).own me).number ≡ length segs.log }
+    requires acked { is_done caught.now ≡ true → acked_since_take ((H.state hall.old).done me) ≡ Some (length segs.log) }
     ensures log { (H.state hall.new).seen me ≡ segs.log }
     ensures part { (heap : ℕ) → (H.state hall.new).part me heap ≡ (H.state hall.old).part me heap }
     ensures back { GivesBack me (after_attaching me caught.now segs) (H.state hall.old) (H.state hall.new) }

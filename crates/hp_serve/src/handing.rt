@@ -14,7 +14,7 @@ ghost use Rattle.hp_serve.specs.SegmentSlot.{FreesSegs, HasSegs, MayHold};
 
 use crate::calls::{give_segments, take_segments};
 use hp_base::NoLimits;
-use hp_core::{Coordinator, CoreEvent, Out, core_law};
+use hp_core::{Coordinator, CoreEvent, Out};
 use hp_hall::Hall;
 use hp_segs::Segs;
 use std::alloc::AllocError;
@@ -50,7 +50,6 @@ fn step_with_room(
     ensures leaves { LeavesStanding segs.old segs.new }
     ensures roster { segs.new.roster ≡ segs.old.roster }
 {
-    core_law();
     make_room(segs)?;
     Ok(core.step(segs, event, &NoLimits))
 }

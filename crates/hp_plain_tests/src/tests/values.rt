@@ -1,5 +1,5 @@
 //! Values that are taken and given back, and numbers that are told, through the trait.
-ghost use Rattle.std.specs.Prelude.{◌≡◌, ◌≢◌, ◌<◌, ℕ, [], ◌∷◌, OnOk, length};
+ghost use Rattle.std.specs.Prelude.{◌≡◌, ◌≢◌, ◌<◌, ℕ, [], ◌∷◌, OnOk, Some, length, true};
 ghost use Rattle.hp_base.specs.declared.limits.TheConstants.{MAX_HEAPS};
 ghost use Rattle.hp_hall.specs.Giving.{GivesSegments, Knows};
 ghost use Rattle.hp_hall.specs.HallState.{Did, OthersStay, SlotsStayBut};
@@ -35,11 +35,11 @@ pub fn call_first(hall: &mut PlainHall, me: u8, index: u32) -> Result<(), AllocE
     Ok(())
 }
 
-// A participant leaves the roster, where it is in it.
+// A participant that has told that its table has no row leaves the roster, where it is in it.
 fn leave(segs: &mut Segs, me: u8)
     requires declared { me < 16 }
     requires secondary { 0 < me }
-    ensures { (knows : Knows) → knows.who ≡ me → GivesSegments knows segs.old segs.new }
+    ensures { (knows : Knows) → knows.who ≡ me → knows.emptied ≡ true → GivesSegments knows segs.old segs.new }
 {
     if !segs.is_member(me) {
         return;
@@ -47,11 +47,11 @@ fn leave(segs: &mut Segs, me: u8)
     segs.leave_roster(me);
 }
 
-// A participant that has acknowledged all records joins the roster, where it is out.
+// A participant that has acknowledged all records since it took the segment value joins the roster, where it is out.
 fn join(segs: &mut Segs, me: u8, records: u64)
     requires declared { me < 16 }
     requires all { records ≡ length segs.old.log }
-    ensures { (knows : Knows) → knows.who ≡ me → knows.number ≡ records → GivesSegments knows segs.old segs.new }
+    ensures { (knows : Knows) → knows.who ≡ me → knows.number ≡ records → knows.acked ≡ Some records → GivesSegments knows segs.old segs.new }
 {
     if segs.is_member(me) {
         return;
@@ -59,7 +59,7 @@ fn join(segs: &mut Segs, me: u8, records: u64)
     segs.join_roster(me, records);
 }
 
-/// A participant takes the segment value, leaves the roster, and gives the value back.
+/// A participant takes the segment value, tells that its table has no row, leaves the roster, and gives the value back.
 pub fn take_and_leave(hall: &mut PlainHall, me: u8)
     requires me { me < length hall.old.owns }
     requires secondary { 0 < me }
@@ -72,6 +72,7 @@ pub fn take_and_leave(hall: &mut PlainHall, me: u8)
 {
     hall.sound();
     let mut segs = hall.take(me, Slot::Segments).into_segments();
+    hall.emptied(me, &[]);
     leave(&mut segs, me);
     hall.give(me, Slot::Segments, Kept::Segments(segs));
 }

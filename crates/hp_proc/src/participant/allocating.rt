@@ -15,7 +15,7 @@ ghost use Rattle.hp_proc.specs.ParticipantView.{after_answer};
 ghost use Rattle.hp_proc.specs.Progress.{AreOnce, Brings, IsAllocation, Tries};
 ghost use Rattle.hp_proc.specs.declared.socket_heap.SocketHeap.{SocketHeap};
 ghost use Rattle.hp_hall.specs.HallState.{IsBusy};
-ghost use Rattle.hp_proc.specs.LineInHall.{DoesLineHere, HasCalled, HasRoom, HoldsIn, IsKnownMapped, IsMapped, IsReadyAgain, IsReadyIn, KeepsHeld, did_in, moment, moment_with};
+ghost use Rattle.hp_proc.specs.LineInHall.{DoesLineHere, HaltsHeld, HaltsHere, HaltsLineHere, HasCalled, HasRoom, HoldsIn, IsKnownMapped, IsMapped, IsReadyAgain, IsReadyIn, KeepsHeld, did_in, moment, moment_with};
 
 use super::Participant;
 use crate::page_sizes::without_hint;
@@ -63,6 +63,9 @@ impl<'p, M: Mapper> Participant<'p, M> {
             ∷ heaps)) (trying self.old.context.pools request.now tag heaps) given
             (moment_with heap.old self.old.party.me self.old (H.state hall.old))
             (moment_with heap.new self.old.party.me self.new (H.state hall.new))) }
+        ensures halts { OnErr result ((heaps : List NamedHeap)
+            → HaltsHeld self.old.party.me self.old self.new heap.old heap.new (H.state hall.old)
+            (H.state hall.new) (trying self.old.context.pools request.now tag (named_heap place.now ∷ heaps))) }
         ensures lies { IfOk result (λ given. (answer : Answer) → given ≡ Some answer
             → IsKnownMapped self.old.party.me (H.state hall.new) answer) }
         ensures clock { RisesWithin H.pending (λ hall. IsBusy (H.state hall)) (longest_growth self.old.party.deadline)
@@ -99,6 +102,9 @@ impl<'p, M: Mapper> Participant<'p, M> {
             (H.state hall.new)) (trying self.old.context.pools request.now tag (named_heap place.now
             ∷ heaps)) (trying self.old.context.pools request.now tag heaps) given
             (moment self.old.party.me self.old (H.state hall.old)) (moment self.old.party.me self.new (H.state hall.new))) }
+        ensures halts { OnErr result ((heaps : List NamedHeap)
+            → HaltsHere (place.now.index ∷ []) self.old.party.me self.old self.new (H.state hall.old)
+            (H.state hall.new) (trying self.old.context.pools request.now tag (named_heap place.now ∷ heaps))) }
         ensures lies { IfOk result (λ given. (answer : Answer) → given ≡ Some answer
             → IsKnownMapped self.old.party.me (H.state hall.new) answer) }
         ensures clock { RisesWithin H.pending (λ hall. IsBusy (H.state hall)) (longest_growth self.old.party.deadline)
@@ -127,6 +133,8 @@ impl<'p, M: Mapper> Participant<'p, M> {
             (did_in self.old.party.me (H.state hall.old)
             (H.state hall.new)) (serving self.old.context.pools request.now tag (map named_heap places.now)) given.0
             (moment self.old.party.me self.old (H.state hall.old)) (moment self.old.party.me self.new (H.state hall.new))) }
+        ensures halts { OnErr result (HaltsHere (map (λ place. place.index) places.now) self.old.party.me self.old self.new (H.state hall.old)
+            (H.state hall.new) (serving self.old.context.pools request.now tag (map named_heap places.now))) }
         ensures lies { IfOk result (λ given. IsKnownMapped self.old.party.me (H.state hall.new) given.0) }
         ensures few { IfOk result (λ given. given.1 < MAX_HEAPS) }
         ensures clock { RisesWithin H.pending (λ hall. IsBusy
@@ -191,6 +199,8 @@ impl<'p, M: Mapper> Participant<'p, M> {
         requires ready { IsReadyIn self.old.party.me self.old (H.state hall.old) }
         ensures does { IfOk result (λ given. DoesLineHere self.old.party.me self.old self.new (H.state hall.old)
             (H.state hall.new) line.now given) }
+        ensures halts { OnErr result (HaltsLineHere self.old.party.me self.old self.new (H.state hall.old)
+            (H.state hall.new) line.now) }
         ensures lies { IfOk result (λ given. IsMapped self.new.party given) }
         ensures clock { RisesWithin H.pending (λ hall. IsBusy (H.state hall)) (longest_allocation self.old.party.deadline)
             (H.state hall.old).clock (H.state hall.new).clock }
@@ -224,6 +234,8 @@ impl<'p, M: Mapper> Participant<'p, M> {
         requires ready { IsReadyIn self.old.party.me self.old (H.state hall.old) }
         ensures does { IfOk result (λ given. DoesLineHere self.old.party.me self.old self.new (H.state hall.old)
             (H.state hall.new) line.now given) }
+        ensures halts { OnErr result (HaltsLineHere self.old.party.me self.old self.new (H.state hall.old)
+            (H.state hall.new) line.now) }
         ensures lies { IfOk result (λ given. IsMapped self.new.party given) }
         ensures clock { RisesWithin H.pending (λ hall. IsBusy (H.state hall)) (longest_allocation self.old.party.deadline)
             (H.state hall.old).clock (H.state hall.new).clock }

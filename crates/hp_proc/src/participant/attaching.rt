@@ -4,7 +4,7 @@ ghost use Rattle.hp_script.specs.declared.answer.Answer.TheVariants as answer;
 ghost use Rattle.hp_script.specs.declared.line.Act.TheVariants as act;
 ghost use Rattle.hp_proc.specs.Courses.{attached_after, standing_tried};
 ghost use Rattle.hp_proc.specs.Doing.{Doing};
-ghost use Rattle.hp_proc.specs.LineInHall.{ChangesRoster, DoesLineHere, moment};
+ghost use Rattle.hp_proc.specs.LineInHall.{ChangesRoster, DoesLineHere, HaltsLineHere, moment};
 ghost use Rattle.hp_proc.specs.Lines.{attached_with};
 ghost use Rattle.hp_proc.specs.ParticipantView.{with_standing};
 ghost use Rattle.hp_proc.specs.Progress.{MayDo};
@@ -60,6 +60,8 @@ impl<'p, M: Mapper> Participant<'p, M> {
         requires attached { (H.state hall.old).joined self.old.party.me ≡ self.old.context.standing.attached }
         ensures does { IfOk result (λ given. DoesLineHere self.old.party.me self.old self.new (H.state hall.old)
             (H.state hall.new) line.now given) }
+        ensures halts { OnErr result (HaltsLineHere self.old.party.me self.old self.new (H.state hall.old)
+            (H.state hall.new) line.now) }
         ensures ready { MayDo (moment self.old.party.me self.old (H.state hall.old))
             → MayDo (moment self.old.party.me self.new (H.state hall.new)) }
 

@@ -1,5 +1,5 @@
 //! A heap in a participant's hand gets pages, where some are granted.
-ghost use Rattle.std.specs.Prelude.{◌≡◌, ◌+◌, ◌<◌, ◌≤◌, Some, None, IfNone, IfOk, IfSome, IsSome, false, true};
+ghost use Rattle.std.specs.Prelude.{◌≡◌, ◌+◌, ◌<◌, ◌≤◌, Some, None, IfNone, IfOk, IfSome, IsSome, OnErr, false, true};
 ghost use Rattle.hp_base.specs.declared.tag.Tag.{Tag};
 ghost use Rattle.hp_proc.specs.Allocating.{asking, behind_asking, with_run};
 ghost use Rattle.hp_serve.specs.Clocks.{RisesWithin, longest_growth, longest_wait};
@@ -12,7 +12,7 @@ ghost use Rattle.hp_heap.specs.declared.entry.HeapCall.TheVariants as call;
 ghost use Rattle.hp_proc.specs.ParticipantView.{after_call};
 ghost use Rattle.hp_proc.specs.Progress.{caller_of};
 ghost use Rattle.hp_hall.specs.HallState.{IsBusy};
-ghost use Rattle.hp_proc.specs.LineInHall.{DoesHeld, HasRoom, HoldsIn, KeepsHeld};
+ghost use Rattle.hp_proc.specs.LineInHall.{DoesHeld, HaltsHeld, HasRoom, HoldsIn, KeepsHeld};
 
 use super::Participant;
 use crate::page_sizes::page_sizes_for;
@@ -40,6 +40,9 @@ impl<'p, M: Mapper> Participant<'p, M> {
             → DoesHeld self.old.party.me self.old self.new heap.old heap.new (H.state hall.old)
             (H.state hall.new) (Doing.Asks asked.now (with_run asked.now.heap asked.now.request tag otherwise))
             (behind_asking asked.now.heap asked.now.request tag otherwise granted)) }
+        ensures halts { OnErr result ((tag : Tag) (otherwise : Doing)
+            → HaltsHeld self.old.party.me self.old self.new heap.old heap.new (H.state hall.old)
+            (H.state hall.new) (Doing.Asks asked.now (with_run asked.now.heap asked.now.request tag otherwise))) }
         ensures clock { RisesWithin H.pending (λ hall. IsBusy (H.state hall)) (longest_wait self.old.party.deadline)
             (H.state hall.old).clock (H.state hall.new).clock }
         ensures keeps { KeepsHeld self.old.party.me self.old self.new heap.old heap.new (H.state hall.old) (H.state hall.new) }
@@ -90,6 +93,10 @@ impl<'p, M: Mapper> Participant<'p, M> {
             (H.state hall.new) (asking place.now.index place.now.socket request.now tag otherwise
             (page_sizes_for self.old.context.pools place.now.socket request.now.flags)) (behind_asking place.now.index
             request.now tag otherwise granted)) }
+        ensures halts { OnErr result ((tag : Tag) (otherwise : Doing)
+            → HaltsHeld self.old.party.me self.old self.new heap.old heap.new (H.state hall.old)
+            (H.state hall.new) (asking place.now.index place.now.socket request.now tag otherwise
+            (page_sizes_for self.old.context.pools place.now.socket request.now.flags))) }
         ensures clock { RisesWithin H.pending (λ hall. IsBusy (H.state hall)) (longest_growth self.old.party.deadline)
             (H.state hall.old).clock (H.state hall.new).clock }
         ensures keeps { KeepsHeld self.old.party.me self.old self.new heap.old heap.new (H.state hall.old) (H.state hall.new) }

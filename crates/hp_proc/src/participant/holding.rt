@@ -7,7 +7,7 @@ ghost use Rattle.hp_proc.specs.Doing.{Doing};
 ghost use Rattle.hp_serve.specs.Party.{IsSameParty};
 ghost use Rattle.hp_proc.specs.Progress.{AreSettled, Does, IsInHand, MayDo, in_hand};
 ghost use Rattle.hp_hall.specs.HallState.{IsBusy, OthersStay, SlotsStayBut};
-ghost use Rattle.hp_proc.specs.LineInHall.{AreFreeBut, HasRoom, HoldsIn, IsFreeAt, IsReadyIn, TableStays, did_in, moment, moment_with};
+ghost use Rattle.hp_proc.specs.LineInHall.{AreFreeBut, HaltsHere, HasRoom, HoldsIn, IsFreeAt, IsReadyIn, TableStays, did_in, moment, moment_with};
 ghost use Rattle.hp_serve.specs.InHall.{IsTiedIn};
 
 use super::Participant;
@@ -24,6 +24,8 @@ impl<'p, M: Mapper> Participant<'p, M> {
         ensures did { IfOk result (λ heap. (doing : Doing) → Does (index ∷ []) (H.state hall.old).count
             (did_in self.old.party.me (H.state hall.old) (H.state hall.new)) doing doing
             (moment self.old.party.me self.old (H.state hall.old)) (moment_with heap self.old.party.me self.new (H.state hall.new))) }
+        ensures halts { OnErr result ((doing : Doing) → HaltsHere (index ∷ []) self.old.party.me self.old self.new (H.state hall.old)
+            (H.state hall.new) doing) }
         ensures holds { IfOk result (λ heap. HoldsIn self.old.party.me self.new heap (H.state hall.new)) }
         ensures index { IfOk result (λ heap. heap.plain.index ≡ index) }
         ensures same { IsSameParty self.old.party self.new.party }
@@ -75,6 +77,8 @@ impl<'p, M: Mapper> Participant<'p, M> {
         ensures did { IfOk result (λ heap. (doing : Doing) → Does (index ∷ []) (H.state hall.old).count
             (did_in self.old.party.me (H.state hall.old) (H.state hall.new)) doing doing
             (moment self.old.party.me self.old (H.state hall.old)) (moment_with heap self.old.party.me self.new (H.state hall.new))) }
+        ensures halts { OnErr result ((doing : Doing) → HaltsHere (index ∷ []) self.old.party.me self.old self.new (H.state hall.old)
+            (H.state hall.new) doing) }
         ensures holds { IfOk result (λ heap. HoldsIn self.old.party.me self.new heap (H.state hall.new)) }
         ensures index { IfOk result (λ heap. heap.plain.index ≡ index) }
         ensures room { IfOk result (λ heap. HasRoom calls heap self.new) }

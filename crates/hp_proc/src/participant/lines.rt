@@ -1,5 +1,5 @@
 //! The lines that a participant does.
-ghost use Rattle.std.specs.Prelude.{◌≡◌, ℕ, ◌^◌, ◌<◌, ◌≤◌, Some, None, IfOk, MatchResult, true};
+ghost use Rattle.std.specs.Prelude.{◌≡◌, ℕ, ◌^◌, ◌<◌, ◌≤◌, Some, None, IfOk, MatchResult, OnErr, true};
 ghost use Rattle.hp_base.specs.Requests.{rounded_size};
 ghost use Rattle.hp_base.specs.declared.request.BadRequest.TheVariants as bad;
 ghost use Rattle.hp_script.specs.Part.{Part};
@@ -10,7 +10,7 @@ ghost use Rattle.hp_proc.specs.Contexts.{IsNextLine};
 ghost use Rattle.hp_proc.specs.Freeing.{resize_refusal};
 ghost use Rattle.hp_proc.specs.Progress.{IsLineBuilt};
 ghost use Rattle.hp_hall.specs.HallState.{IsBusy};
-ghost use Rattle.hp_proc.specs.LineInHall.{DoesLineHere, IsMapped, IsReadyAgain, IsReadyIn};
+ghost use Rattle.hp_proc.specs.LineInHall.{DoesLineHere, HaltsLineHere, IsMapped, IsReadyAgain, IsReadyIn};
 
 use super::Participant;
 use hp_base::{BadRequest, Mapper, round64};
@@ -58,6 +58,8 @@ impl<'p, M: Mapper> Participant<'p, M> {
         requires ready { IsReadyIn self.old.party.me self.old (H.state hall.old) }
         ensures does { IfOk result (λ given. DoesLineHere self.old.party.me self.old self.new (H.state hall.old)
             (H.state hall.new) line.now given) }
+        ensures halts { OnErr result (HaltsLineHere self.old.party.me self.old self.new (H.state hall.old)
+            (H.state hall.new) line.now) }
         ensures clock { RisesWithin H.pending (λ hall. IsBusy (H.state hall)) (longest_wait self.old.party.deadline)
             (H.state hall.old).clock (H.state hall.new).clock }
         ensures ready { IsReadyAgain self.old.party.me self.old self.new (H.state hall.new) }
@@ -80,6 +82,8 @@ impl<'p, M: Mapper> Participant<'p, M> {
         requires ready { IsReadyIn self.old.party.me self.old (H.state hall.old) }
         ensures does { IfOk result (λ given. DoesLineHere self.old.party.me self.old self.new (H.state hall.old)
             (H.state hall.new) line.now given) }
+        ensures halts { OnErr result (HaltsLineHere self.old.party.me self.old self.new (H.state hall.old)
+            (H.state hall.new) line.now) }
         ensures clock { RisesWithin H.pending (λ hall. IsBusy (H.state hall)) (longest_wait self.old.party.deadline)
             (H.state hall.old).clock (H.state hall.new).clock }
         ensures ready { IsReadyAgain self.old.party.me self.old self.new (H.state hall.new) }
@@ -104,6 +108,8 @@ impl<'p, M: Mapper> Participant<'p, M> {
         requires ready { IsReadyIn self.old.party.me self.old (H.state hall.old) }
         ensures does { IfOk result (λ given. DoesLineHere self.old.party.me self.old self.new (H.state hall.old)
             (H.state hall.new) line.now given) }
+        ensures halts { OnErr result (HaltsLineHere self.old.party.me self.old self.new (H.state hall.old)
+            (H.state hall.new) line.now) }
         ensures clock { RisesWithin H.pending (λ hall. IsBusy (H.state hall)) 0 (H.state hall.old).clock (H.state hall.new).clock }
         ensures ready { IsReadyAgain self.old.party.me self.old self.new (H.state hall.new) }
         ensures goes_on { H.goes_on hall.old hall.new }
@@ -133,6 +139,8 @@ impl<'p, M: Mapper> Participant<'p, M> {
         // What it did, by what was known when it began, and what that leaves.
         ensures does { IfOk result (λ given. DoesLineHere self.old.party.me self.old self.new (H.state hall.old)
             (H.state hall.new) line.now given) }
+        ensures halts { OnErr result (HaltsLineHere self.old.party.me self.old self.new (H.state hall.old)
+            (H.state hall.new) line.now) }
 
         // An address that an allocation answers lies in a page that the participant has mapped.
         ensures lies { IfOk result (λ given. (label : Part) (size : ℕ) (options : Options) → line.now.act ≡ act.Alloc label size options

@@ -1,5 +1,5 @@
 //! A line looks for its element in heaps, and acts on it where it is there.
-ghost use Rattle.std.specs.Prelude.{◌≡◌, ◌<◌, [], ◌∷◌, List, Some, None, IfOk, Contains, false, map};
+ghost use Rattle.std.specs.Prelude.{◌≡◌, ◌<◌, [], ◌∷◌, List, Some, None, IfOk, OnErr, Contains, false, map};
 ghost use Rattle.hp_base.specs.declared.tag.Tag.{Tag};
 ghost use Rattle.hp_script.specs.Acts.{label_used};
 ghost use Rattle.hp_proc.specs.Allocating.{unless_answered};
@@ -11,7 +11,7 @@ ghost use Rattle.hp_proc.specs.Lines.{Facts, on_element};
 ghost use Rattle.hp_proc.specs.Progress.{AreOnce};
 ghost use Rattle.hp_proc.specs.declared.searched_heap.SearchedHeap.{SearchedHeap};
 ghost use Rattle.hp_hall.specs.HallState.{IsBusy, OthersStay};
-ghost use Rattle.hp_proc.specs.LineInHall.{DoesHeld, DoesHere, DoesOnceHere, HasCalled, HasRoom, HoldsIn, IsReadyIn, KeepsHeld};
+ghost use Rattle.hp_proc.specs.LineInHall.{DoesHeld, DoesHere, DoesOnceHere, HaltsHere, HasCalled, HasRoom, HoldsIn, IsReadyIn, KeepsHeld};
 
 use super::Participant;
 use crate::element_act::{ElementAct, Left};
@@ -62,6 +62,8 @@ impl<'p, M: Mapper> Participant<'p, M> {
         requires ready { IsReadyIn self.old.party.me self.old (H.state hall.old) }
         ensures does { IfOk result (λ given. DoesHere [] self.old.party.me self.old self.new (H.state hall.old)
             (H.state hall.new) (left_of heap left) (Doing.Ended given)) }
+        ensures halts { OnErr result (HaltsHere [] self.old.party.me self.old self.new (H.state hall.old)
+            (H.state hall.new) (left_of heap left)) }
         ensures clock { RisesWithin H.pending (λ hall. IsBusy (H.state hall)) (longest_wait self.old.party.deadline)
             (H.state hall.old).clock (H.state hall.new).clock }
         ensures ready { HasCalled self.old.party.me self.old self.new (H.state hall.new) }
@@ -92,6 +94,9 @@ impl<'p, M: Mapper> Participant<'p, M> {
             → DoesHere (place.now.index ∷ []) self.old.party.me self.old self.new (H.state hall.old)
             (H.state hall.new) (looking tag (acting action) (place.now
             ∷ places)) (behind_looking place.now.index (looking tag (acting action) places) left)) }
+        ensures halts { OnErr result ((places : List SearchedHeap)
+            → HaltsHere (place.now.index ∷ []) self.old.party.me self.old self.new (H.state hall.old)
+            (H.state hall.new) (looking tag (acting action) (place.now ∷ places))) }
         ensures clock { RisesWithin H.pending (λ hall. IsBusy (H.state hall)) 0 (H.state hall.old).clock (H.state hall.new).clock }
         ensures ready { HasCalled self.old.party.me self.old self.new (H.state hall.new) }
         ensures goes_on { H.goes_on hall.old hall.new }
@@ -117,6 +122,9 @@ impl<'p, M: Mapper> Participant<'p, M> {
             → DoesHere (place.now.index ∷ []) self.old.party.me self.old self.new (H.state hall.old)
             (H.state hall.new) (looking tag (acting action) (place.now
             ∷ places)) (unless_answered (looking tag (acting action) places) given)) }
+        ensures halts { OnErr result ((places : List SearchedHeap)
+            → HaltsHere (place.now.index ∷ []) self.old.party.me self.old self.new (H.state hall.old)
+            (H.state hall.new) (looking tag (acting action) (place.now ∷ places))) }
         ensures clock { RisesWithin H.pending (λ hall. IsBusy (H.state hall)) (longest_wait self.old.party.deadline)
             (H.state hall.old).clock (H.state hall.new).clock }
         ensures passed { IfOk result (λ given. given ≡ None → RisesWithin H.pending (λ hall. IsBusy (H.state hall)) 0
@@ -145,6 +153,8 @@ impl<'p, M: Mapper> Participant<'p, M> {
         requires ready { IsReadyIn self.old.party.me self.old (H.state hall.old) }
         ensures does { IfOk result (λ given. DoesOnceHere self.old.party.me self.old self.new (H.state hall.old)
             (H.state hall.new) (looking tag (acting action) places.now) (Doing.Ended given)) }
+        ensures halts { OnErr result (HaltsHere (map (λ place. place.index) places.now) self.old.party.me self.old self.new (H.state hall.old)
+            (H.state hall.new) (looking tag (acting action) places.now)) }
         ensures clock { RisesWithin H.pending (λ hall. IsBusy (H.state hall)) (longest_wait self.old.party.deadline)
             (H.state hall.old).clock (H.state hall.new).clock }
         ensures ready { HasCalled self.old.party.me self.old self.new (H.state hall.new) }
@@ -173,6 +183,10 @@ impl<'p, M: Mapper> Participant<'p, M> {
             → DoesOnceHere self.old.party.me self.old self.new (H.state hall.old)
             (H.state hall.new) (on_element self.old.party.me facts
             (λ tag. looking tag (acting (act_for tag.zone size))) facts.maker) (Doing.Ended given)) }
+        ensures halts { OnErr result ((facts : Facts) → AreFactsOf self.old.party.socket self.old.context line.now facts
+            → (heaps : List ℕ) × AreOnce heaps × HaltsHere heaps self.old.party.me self.old self.new (H.state hall.old)
+            (H.state hall.new) (on_element self.old.party.me facts
+            (λ tag. looking tag (acting (act_for tag.zone size))) facts.maker)) }
         ensures clock { RisesWithin H.pending (λ hall. IsBusy (H.state hall)) (longest_wait self.old.party.deadline)
             (H.state hall.old).clock (H.state hall.new).clock }
         ensures ready { HasCalled self.old.party.me self.old self.new (H.state hall.new) }

@@ -12,7 +12,7 @@ ghost use Rattle.hp_segs.specs.LaterSteps.{after_leave};
 ghost use Rattle.hp_segs.specs.SegsView.{SegsView};
 ghost use Rattle.hp_segs.specs.Standing.{Holding};
 ghost use Rattle.hp_segs.specs.Steps.{after_retire};
-ghost use Rattle.hp_serve.specs.AskSteps.{AsksIn, DoesNotify};
+ghost use Rattle.hp_serve.specs.AskSteps.{AsksIn, AsksNothing, DoesNotify, StopsNotifying};
 ghost use Rattle.hp_serve.specs.Asking.{GivesUp, HasSettledAsks, IsCutFrom, IsHeldAsBefore};
 ghost use Rattle.hp_serve.specs.Attaching.{Attaches, after_attaching, after_detaching};
 ghost use Rattle.hp_serve.specs.Clocks.{RisesWithin, longest_wait};
@@ -87,8 +87,7 @@ impl<'p, M: Mapper> Participant<'p, M> {
         ensures mapped { HasMapped self.old.party.me (H.state hall.new) }
         ensures others { (heap : ℕ) → heap ≢ asked.now.heap
             → IsHeldAsBefore ((H.state hall.old).part self.old.party.me heap) ((H.state hall.new).part self.old.party.me heap) }
-        ensures err { OnErr result ((heap : ℕ)
-            → IsHeldAsBefore ((H.state hall.old).part self.old.party.me heap) ((H.state hall.new).part self.old.party.me heap)) }
+        ensures err { OnErr result (AsksNothing self.old.party.me self.old.party self.new.party (H.state hall.old) (H.state hall.new)) }
         ensures clock { RisesWithin H.pending (λ hall. IsBusy (H.state hall)) (longest_wait self.old.party.deadline)
             (H.state hall.old).clock (H.state hall.new).clock }
         ensures remains { RemainsIn self.old.party.me self.old.party self.new.party (H.state hall.old) (H.state hall.new) }
@@ -129,6 +128,8 @@ impl<'p, M: Mapper> Participant<'p, M> {
         ensures did { OnOk result ((steps : List MailStep) × Did self.old.party.me steps (H.state hall.old) (H.state hall.new)
             × DoesNotify (H.state hall.old).count self.old.party self.new.party heap run.now steps) }
         ensures asked { OnOk result (self.new.party.asked ≡ self.old.party.asked + 1) }
+        ensures err { OnErr result ((steps : List MailStep) × Did self.old.party.me steps (H.state hall.old) (H.state hall.new)
+            × StopsNotifying (H.state hall.old).count self.old.party self.new.party heap run.now steps) }
         ensures clock { RisesWithin H.pending (λ hall. IsBusy (H.state hall)) (longest_wait self.old.party.deadline)
             (H.state hall.old).clock (H.state hall.new).clock }
         ensures stays { StaysIn self.old.party.me self.old.party self.new.party (H.state hall.old) (H.state hall.new) }

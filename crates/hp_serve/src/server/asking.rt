@@ -8,7 +8,7 @@ ghost use Rattle.hp_hall.specs.Mail.{MailStep, Notes, Posts};
 ghost use Rattle.hp_hall.specs.declared.note.Note.{Note};
 ghost use Rattle.hp_mail.specs.declared.posted.Posted.{Posted};
 ghost use Rattle.hp_serve.specs.Asking.{IsAwaiting, IsHeldAsBefore, HasSettledAsks, Settles, alloc_body};
-ghost use Rattle.hp_serve.specs.AskSteps.{AsksIn, IsAwaitedOn, IsSettledOn, waits_until};
+ghost use Rattle.hp_serve.specs.AskSteps.{AsksIn, AsksNothing, IsAwaitedOn, IsSettledOn, waits_until};
 ghost use Rattle.hp_serve.specs.Clocks.{RisesWithin, longest_wait};
 ghost use Rattle.hp_serve.specs.Frames.{Says};
 ghost use Rattle.hp_serve.specs.Party.{after_alloc, one_more};
@@ -138,8 +138,8 @@ impl<'p, M: Mapper> Server<'p, M> {
     /// Asks the coordinator for pages for a heap that it holds, waits for the answer, and claims the run that was granted; there is none
     /// where the ask was refused, or taken back after three deadlines. It serves while it waits, and holds the slots that it held before.
     /// Once it is armed, its ask is settled in the end: where somebody stops while it serves it waits on, for no longer than it would have,
-    /// and its answer says so. Without memory to be armed, nothing is asked. After request_to_primary of malloc_mp.c; arming and
-    /// taking back are own.
+    /// and its answer says so. Without memory to be armed, nothing is asked, and it refuses. After the growth of a heap by a secondary
+    /// process in rte_malloc, under Multi-process Support.
     pub fn ask<H: Waiting>(
         &mut self,
         hall: &mut H,
@@ -156,11 +156,10 @@ impl<'p, M: Mapper> Server<'p, M> {
         ensures settled { HasSettledAsks ((H.state hall.new).part self.old.me) ((H.state hall.new).heard self.old.me) }
         ensures mapped { HasMapped self.old.me (H.state hall.new) }
 
-        // What it has in all other heaps stays, and in that one too where nothing was asked.
+        // What it has in all other heaps stays. Where nothing was asked it took the segment value and gave it back, and is as it was.
         ensures others { (heap : ℕ) → heap ≢ asked.now.heap
             → IsHeldAsBefore ((H.state hall.old).part self.old.me heap) ((H.state hall.new).part self.old.me heap) }
-        ensures err { OnErr result ((heap : ℕ)
-            → IsHeldAsBefore ((H.state hall.old).part self.old.me heap) ((H.state hall.new).part self.old.me heap)) }
+        ensures err { OnErr result (AsksNothing self.old.me self.old self.new (H.state hall.old) (H.state hall.new)) }
         ensures clock { RisesWithin H.pending (λ hall. IsBusy (H.state hall)) (longest_wait self.old.deadline)
             (H.state hall.old).clock (H.state hall.new).clock }
         ensures remains { RemainsIn self.old.me self.old self.new (H.state hall.old) (H.state hall.new) }

@@ -1,5 +1,5 @@
 //! How a participant gives pages up.
-ghost use Rattle.std.specs.Prelude.{◌≡◌, ◌≢◌, ℕ, ◌+◌, ◌<◌, List, [], ◌∷◌, false, true, Some, OnOk};
+ghost use Rattle.std.specs.Prelude.{◌≡◌, ◌≢◌, ℕ, ◌+◌, ◌<◌, List, [], ◌∷◌, false, true, Some, OnErr, OnOk};
 ghost use Rattle.hp_base.specs.Plans.{action_of};
 ghost use Rattle.hp_base.specs.declared.plan_entry.MsgKind.{MsgKind};
 ghost use Rattle.hp_frame.specs.declared.frame.Frame.{Frame};
@@ -10,7 +10,7 @@ ghost use Rattle.hp_heap.specs.PlainHeap.{PlainHeap};
 ghost use Rattle.hp_segs.specs.SegsView.{SegsView};
 ghost use Rattle.hp_segs.specs.Steps.{after_retire};
 ghost use Rattle.hp_serve.specs.Asking.{GivesUp, HasSettledAsks, IsCutFrom, free_body};
-ghost use Rattle.hp_serve.specs.AskSteps.{DoesNotify};
+ghost use Rattle.hp_serve.specs.AskSteps.{DoesNotify, StopsNotifying};
 ghost use Rattle.hp_serve.specs.Clocks.{RisesWithin, longest_wait};
 ghost use Rattle.hp_serve.specs.Frames.{Says};
 ghost use Rattle.hp_serve.specs.Party.{after_free, one_more};
@@ -73,7 +73,8 @@ impl<'p, M: Mapper> Server<'p, M> {
 
     /// Tells the coordinator that a run of a heap was given up, and waits for its answer, for three deadlines at most. What comes of it
     /// does not matter. It serves while it waits, and holds the slots that it held before. Where its numbers have come to an end,
-    /// nothing is sent. After request_to_primary of malloc_mp.c, as malloc_heap_free calls it in a secondary process.
+    /// nothing is sent; there it refuses, and where somebody stops while it waits. After the notice of freed memory of a secondary process in
+    /// rte_malloc, under Multi-process Support.
     pub fn notify<H: Waiting>(
         &mut self,
         hall: &mut H,
@@ -84,6 +85,8 @@ impl<'p, M: Mapper> Server<'p, M> {
         ensures did { OnOk result ((steps : List MailStep) × Did self.old.me steps (H.state hall.old) (H.state hall.new)
             × DoesNotify (H.state hall.old).count self.old self.new heap run.now steps) }
         ensures asked { OnOk result (self.new.asked ≡ self.old.asked + 1) }
+        ensures err { OnErr result ((steps : List MailStep) × Did self.old.me steps (H.state hall.old) (H.state hall.new)
+            × StopsNotifying (H.state hall.old).count self.old self.new heap run.now steps) }
         ensures clock { RisesWithin H.pending (λ hall. IsBusy (H.state hall)) (longest_wait self.old.deadline)
             (H.state hall.old).clock (H.state hall.new).clock }
         ensures stays { StaysIn self.old.me self.old self.new (H.state hall.old) (H.state hall.new) }

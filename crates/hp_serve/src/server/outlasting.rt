@@ -1,5 +1,6 @@
-//! How a participant waits that has to see its wait through, also where somebody stops meanwhile.
-ghost use Rattle.std.specs.Prelude.{◌≡◌, ◌+◌, ◌*◌, ◌<◌, ◌≤◌, ◌⊎◌, List};
+//! How a participant waits that has to see its wait through, whoever stops meanwhile.
+ghost use Rattle.std.specs.Prelude.{◌≡◌, ◌+◌, ◌*◌, ◌<◌, ◌≤◌, ◌⊎◌, List, false, true, unwrap_or};
+ghost use Rattle.std.specs.Result.{result_ok};
 ghost use Rattle.hp_hall.specs.HallState.{Did};
 ghost use Rattle.hp_hall.specs.Mail.{MailStep};
 ghost use Rattle.hp_hall.specs.Weights.{moved_of};
@@ -17,7 +18,8 @@ use std::alloc::AllocError;
 
 // Whether others moved something, by what letting them serve answered: one that stopped did something.
 fn others_moved(answer: Result<bool, AllocError>) -> bool
-    ensures { if_moved result ≡ moved_of answer }
+    ensures weighs { if_moved result ≡ moved_of answer }
+    ensures moved { result ≡ unwrap_or (result_ok answer) true }
 {
     match answer {
         Ok(moved) => moved,
@@ -27,7 +29,8 @@ fn others_moved(answer: Result<bool, AllocError>) -> bool
 
 // Whether its own serving did something, by what that answered: where it stopped, that counts as nothing.
 fn own_moved(answer: Result<bool, AllocError>) -> bool
-    ensures { if_moved result ≡ served_of answer }
+    ensures weighs { if_moved result ≡ served_of answer }
+    ensures moved { result ≡ unwrap_or (result_ok answer) false }
 {
     match answer {
         Ok(moved) => moved,
@@ -40,7 +43,7 @@ impl<'p, M: Mapper> Server<'p, M> {
     fn serve_on<H: Waiting>(&mut self, hall: &mut H) -> bool
         requires can { CanServe self.old.me self.old (H.state hall.old) }
         ensures served { (steps : List MailStep) × Did self.old.me steps (H.state hall.old) (H.state hall.new)
-            × HaveServedOn (H.state hall.old).count self.old self.new steps }
+            × HaveServedOn (H.state hall.old).count self.old self.new steps result }
         ensures weight { left_to_do H.scale H.pending self.new (H.state hall.new) + H.scale * if_moved result
             ≤ left_to_do H.scale H.pending self.old (H.state hall.old) }
         ensures clock { (H.state hall.new).clock ≡ (H.state hall.old).clock }

@@ -23,4 +23,4 @@ ack-requires-clause-seen g c =
 pub returns-clause-holds : goal.returns-clause-holds
 returns-clause-holds g c =
     holds_all c.args.seat.now.mine c.take.new.seat.mine c.take.result c.into_segments-segs.result c.take.ensures.taken c.into_segments-segs.ensures c.requires.ready.free
-    (length c.records.result.now) c.ack.new.seat.mine c.records.ensures.sound (ap length c.records.ensures.records) c.ack.ensures.acked
+    (length c.records.result.now) c.ack.new.seat.mine c.records.ensures.sound c.take.ensures.handed (ap length c.records.ensures.records) c.ack.ensures.acked

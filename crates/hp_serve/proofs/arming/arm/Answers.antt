@@ -4,11 +4,12 @@ use Rattle.std.specs.Prelude.{IsSome}
 use Rattle.hp_hall.specs.Holding.{HeapPart}
 use Rattle.hp_hall.proofs.HallStates.{did_then}
 use Rattle.hp_segs.specs.declared.ask.Ask.{Ask}
+use Rattle.hp_serve.specs.AskSteps.{IsArmedAsBefore}
 use Rattle.hp_serve.specs.Asking.{HasSettledAsks, next_number}
 use Rattle.hp_serve.proofs.AskKnown.{settled_more}
 use Rattle.hp_serve.proofs.Armed.{earlier_settled, may_arm, next_above, none_claimed}
 use Rattle.hp_serve.proofs.AskedAlong.{held_same, held_then, on_err_any}
-use Rattle.hp_serve.proofs.SegmentSlots.{Took, gave_parts, put_parts, took_has}
+use Rattle.hp_serve.proofs.SegmentSlots.{Took, gave_parts, put_parts, put_stays, took_has}
 use Rattle.hp_serve.proofs.arming.arm.Goals as goal
 
 pub take_segments-segs-requires : goal.take_segments-segs-requires
@@ -67,7 +68,7 @@ pub returns-clause-mapped : goal.returns-clause-mapped
 returns-clause-mapped g c = c.in_ok-arm_taken.ensures.ok.gave.mapped
 
 pub returns-in_err-arm_taken-clause-mapped : goal.returns-in_err-arm_taken-clause-mapped
-returns-in_err-arm_taken-clause-mapped g c = c.in_err-arm_taken.ensures.err.gave.mapped
+returns-in_err-arm_taken-clause-mapped g c = c.in_err-arm_taken.ensures.err.back.gave.mapped
 
 pub returns-in_default-clause-mapped : goal.returns-in_default-clause-mapped
 returns-in_default-clause-mapped g c = c.put_back.ensures.back.back.gave.mapped
@@ -133,7 +134,7 @@ returns-in_err-arm_taken-clause-stays g c =
     let is = c.take_segments-segs.ensures in
     let took : Took c.args.me c.take_segments-segs.result (g.H.Hall.state c.args.hall.now) (g.H.Hall.state c.take_segments-segs.new.hall) =
     record { may = c.requires.may; took = is.took; slots = is.slots; others = is.others; weight = is.weight } in
-    gave_parts took refl c.in_err-arm_taken.ensures.err
+    put_parts took c.in_err-arm_taken.ensures.err
 
 pub returns-in_err-arm_taken-clause-goes_on : goal.returns-in_err-arm_taken-clause-goes_on
 returns-in_err-arm_taken-clause-goes_on g c =
@@ -154,20 +155,27 @@ pub returns-in_default-clause-goes_on : goal.returns-in_default-clause-goes_on
 returns-in_default-clause-goes_on g c =
     g.met.H.Hall.goes_on_then _ _ _ c.take_segments-segs.ensures.goes_on c.put_back.ensures.goes_on
 
--- where nothing was armed its asks are settled still: it holds what it held, and outcomes follow
+-- where nothing was armed the value went back as it was, and its asks are settled still: it holds what it held, and outcomes follow
 pub returns-in_err-arm_taken-clause-err : goal.returns-in_err-arm_taken-clause-err
 returns-in_err-arm_taken-clause-err g c =
     let me = c.args.me in
     let old = g.H.Hall.state c.args.hall.now in
     let new = g.H.Hall.state c.arm_taken.new.hall in
     let took = c.take_segments-segs.ensures.took in
+    let is = c.take_segments-segs.ensures in
+    let its : Took me c.take_segments-segs.result old (g.H.Hall.state c.take_segments-segs.new.hall) =
+    record { may = c.requires.may; took = is.took; slots = is.slots; others = is.others; weight = is.weight } in
     let grown = c.take_segments-segs.ensures.others.later.heard me in
-    let gave = c.in_err-arm_taken.ensures.err.gave in
-    on_err_any _ _ (subst (HasSettledAsks (new.part me)) gave.asks
-    (settled_more c.take_segments-segs.result (old.part me) (new.part me) (old.heard me) grown.0 took.sound (took.asks ∙ grown.1)
-    (λ heap. ap (λ (part : HeapPart). part.armed) (gave.part heap)
-    ∙ (sym (took.stands.armed heap) ∙ ap (λ (part : HeapPart). part.armed) (took.part heap)))
-    (λ heap. (returns-in_err-arm_taken-clause-held g c heap).holding) c.requires.settled))
+    let back = c.in_err-arm_taken.ensures.err in
+    let as_before : IsArmedAsBefore me old new = record {
+      did = (c.take_segments-segs.result, did_then took.did back.back.gave.did);
+      stays = put_stays its back;
+      settled = subst (HasSettledAsks (new.part me)) back.back.gave.asks
+          (settled_more c.take_segments-segs.result (old.part me) (new.part me) (old.heard me) grown.0 took.sound (took.asks ∙ grown.1)
+          (λ heap. ap (λ (part : HeapPart). part.armed) (back.parts.part heap ∙ took.part heap))
+          (λ heap. (returns-in_err-arm_taken-clause-held g c heap).holding) c.requires.settled);
+    } in
+    on_err_any _ _ as_before
 
 pub returns-in_default-clause-err : goal.returns-in_default-clause-err
 returns-in_default-clause-err g c =
@@ -177,7 +185,15 @@ returns-in_default-clause-err g c =
     let took = c.take_segments-segs.ensures.took in
     let grown = c.take_segments-segs.ensures.others.later.heard me in
     let back = c.put_back.ensures.back in
-    subst (HasSettledAsks (new.part me)) back.back.gave.asks
-    (settled_more c.take_segments-segs.result (old.part me) (new.part me) (old.heard me) grown.0 took.sound (took.asks ∙ grown.1)
-    (λ heap. ap (λ (part : HeapPart). part.armed) (back.parts.part heap ∙ took.part heap))
-    (λ heap. (returns-in_default-clause-held g c heap).holding) c.requires.settled)
+    let is = c.take_segments-segs.ensures in
+    let its : Took me c.take_segments-segs.result old (g.H.Hall.state c.take_segments-segs.new.hall) =
+    record { may = c.requires.may; took = is.took; slots = is.slots; others = is.others; weight = is.weight } in
+    let as_before : IsArmedAsBefore me old new = record {
+      did = (c.take_segments-segs.result, did_then took.did back.back.gave.did);
+      stays = put_stays its back;
+      settled = subst (HasSettledAsks (new.part me)) back.back.gave.asks
+          (settled_more c.take_segments-segs.result (old.part me) (new.part me) (old.heard me) grown.0 took.sound (took.asks ∙ grown.1)
+          (λ heap. ap (λ (part : HeapPart). part.armed) (back.parts.part heap ∙ took.part heap))
+          (λ heap. (returns-in_default-clause-held g c heap).holding) c.requires.settled);
+    } in
+    as_before

@@ -5,7 +5,7 @@ use Rattle.hp_hall.specs.Giving.{GivesSegments}
 use Rattle.hp_hall.specs.HallState.{known_to}
 use Rattle.hp_segs.specs.SegsView.{SegsView, closed_number}
 use Rattle.hp_hall.specs.Holding.{HeapPart, part_behind}
-use Rattle.hp_serve.specs.SegmentSlot.{GivesBack, HasSegs}
+use Rattle.hp_serve.specs.SegmentSlot.{GivesBack, HasSegs, PutsBack}
 use Rattle.hp_serve.proofs.Armed.{arm_gives, is_armed, still_held}
 use Rattle.hp_serve.proofs.Noting.{gives_in_place}
 use Rattle.hp_serve.proofs.arming.arm_taken.Goals as goal
@@ -65,5 +65,5 @@ returns-in-Err-clause-held g c = λ heap.
 
 pub returns-in-Err-clause-err : goal.returns-in-Err-clause-err
 returns-in-Err-clause-err g c =
-    subst (λ (given : SegsView). GivesBack c.args.me given (g.H.Hall.state c.args.hall.now) (g.H.Hall.state c.put_back.new.hall))
-    c.in-Err.ensures.err c.put_back.ensures.back.back
+    subst (λ (given : SegsView). PutsBack c.args.me given (g.H.Hall.state c.args.hall.now) (g.H.Hall.state c.put_back.new.hall))
+    c.in-Err.ensures.err c.put_back.ensures.back

@@ -1,9 +1,13 @@
 -- The steps follow one another: the value is taken, the log is taken in, and the value is given back.
-use Rattle.std.proofs.Common.{◌∙◌, ◌||◌, sym, ap, subst, arith}
+use Rattle.std.proofs.Common.{◌∙◌, ◌||◌, [], ◌∷◌, length, sym, ap, subst, arith}
 use Rattle.hp_base.specs.Mapping.{is_done}
-use Rattle.hp_hall.proofs.HallStates.{but_then, did_then, just_taken, others_then, slots_but}
+use Rattle.hp_hall.specs.HallState.{Did}
+use Rattle.hp_hall.specs.Mail.{Notes}
+use Rattle.hp_hall.specs.declared.note.Note.TheVariants.{Acked}
+use Rattle.hp_hall.proofs.HallStates.{acked_taken, but_then, did_then, just_taken, others_then, slots_but}
+use Rattle.hp_serve.specs.Serving.{takes_segments}
 use Rattle.hp_serve.specs.Tied.{IsTied}
-use Rattle.hp_serve.proofs.Attached.{attached_roster}
+use Rattle.hp_serve.proofs.Attached.{acks_done, attached_roster}
 use Rattle.hp_serve.proofs.SegmentSlots.{Took, closed, has_still, took_has, took_serves}
 use Rattle.hp_serve.proofs.Tying.{tied_since}
 use Rattle.hp_serve.proofs.attaching.attach.Goals as goal
@@ -37,6 +41,19 @@ give_attached-requires-clause-has g c =
     let took : Took c.args.me c.take_segments-segs.result (g.H.Hall.state c.args.hall.now) (g.H.Hall.state c.take_segments-segs.new.hall) =
     record { may = c.requires.may; took = is.took; slots = is.slots; others = is.others; weight = is.weight } in
     has_still stays.slots stays.parts stays.others (took_has took)
+
+-- it has acknowledged the whole log since it took the value
+pub give_attached-requires-clause-acked : goal.give_attached-requires-clause-acked
+give_attached-requires-clause-acked g c = λ done.
+    let me = c.args.me in
+    let mid = g.H.Hall.state c.take_segments-segs.new.hall in
+    let late = g.H.Hall.state c.take_whole_log-caught.new.hall in
+    let records = length c.take_segments-segs.result.log in
+    let acked : Did me (Notes (Acked records) ∷ []) mid late =
+    subst (λ steps. Did me steps mid late) (acks_done c.take_whole_log-caught.result records done) c.take_whole_log-caught.ensures.did in
+    let both : Did me (takes_segments c.take_segments-segs.result ∷ Notes (Acked records) ∷ []) (g.H.Hall.state c.args.hall.now) late =
+    did_then c.take_segments-segs.ensures.took.did acked in
+    acked_taken both
 
 pub returns-clause-did : goal.returns-clause-did
 returns-clause-did g c =

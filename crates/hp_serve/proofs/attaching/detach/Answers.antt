@@ -1,8 +1,12 @@
 -- The value is taken and given back, and an emptied table is tied, however many records were acknowledged.
-use Rattle.std.proofs.Common.{◌∙◌, false, ap, sym, subst, arith}
-use Rattle.hp_hall.proofs.HallStates.{but_then, did_then, others_then, slots_but}
+use Rattle.std.proofs.Common.{◌∙◌, [], ◌∷◌, false, ap, sym, subst, arith}
+use Rattle.hp_hall.specs.HallState.{Did}
+use Rattle.hp_hall.specs.Mail.{Notes}
+use Rattle.hp_hall.specs.declared.note.Note.TheVariants.{Emptied}
+use Rattle.hp_hall.proofs.HallStates.{but_then, did_then, emptied_taken, others_then, slots_but}
 use Rattle.hp_maps.specs.MapsView.{MapsView}
 use Rattle.hp_serve.specs.Attaching.{emptied}
+use Rattle.hp_serve.specs.Serving.{takes_segments}
 use Rattle.hp_serve.specs.Tied.{IsTied}
 use Rattle.hp_serve.proofs.Attached.{emptied_tied, left_roster}
 use Rattle.hp_serve.proofs.SegmentSlots.{Took, closed, has_still, took_has, took_serves}
@@ -19,6 +23,14 @@ give_left-requires-clause-has g c =
     record { may = c.requires.may; took = is.took; slots = is.slots; others = is.others; weight = is.weight } in
     let told = c.tell_empty.ensures.stays in
     has_still told.slots told.mine.parts told.others (took_has took)
+
+-- it has told that its table has no row since it took the value
+pub give_left-requires-clause-emptied : goal.give_left-requires-clause-emptied
+give_left-requires-clause-emptied g c =
+    let told : Did c.args.me (takes_segments c.take_segments-segs.result ∷ Notes Emptied ∷ []) (g.H.Hall.state c.args.hall.now)
+    (g.H.Hall.state c.tell_empty.new.hall) =
+    did_then c.take_segments-segs.ensures.took.did c.tell_empty.ensures.did in
+    emptied_taken told
 
 pub tell_empty-requires : goal.tell_empty-requires
 tell_empty-requires g c =

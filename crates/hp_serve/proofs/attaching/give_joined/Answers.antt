@@ -21,7 +21,8 @@ give_segments-requires-clause-gives g c =
     let knows = known_to me (g.H.Hall.state c.args.hall.now) in
     gives_in_place knows segs c.join_roster.new.self c.requires.has.taken
     (subst (GivesSegments knows segs) (sym c.join_roster.ensures.step)
-    (gives_join knows segs (record { declared = c.requires.few; out = sym c.is_member.ensures ∙ c.if-is_member.false; all = c.requires.whole })))
+    (gives_join knows segs (record { declared = c.requires.few; out = sym c.is_member.ensures ∙ c.if-is_member.false; all = c.requires.whole })
+    c.requires.acked))
 
 pub give_segments-requires-clause-same : goal.give_segments-requires-clause-same
 give_segments-requires-clause-same g c =

@@ -21,7 +21,8 @@ give_segments-requires-clause-gives g c =
     let knows = known_to me (g.H.Hall.state c.args.hall.now) in
     gives_in_place knows segs c.leave_roster.new.self c.requires.has.taken
     (subst (GivesSegments knows segs) (sym c.leave_roster.ensures.step)
-    (gives_leave knows segs (record { member = sym c.is_member.ensures ∙ c.if-not-is_member.false; secondary = c.requires.secondary })))
+    (gives_leave knows segs (record { member = sym c.is_member.ensures ∙ c.if-not-is_member.false; secondary = c.requires.secondary })
+    c.requires.emptied))
 
 pub give_segments-requires-clause-same : goal.give_segments-requires-clause-same
 give_segments-requires-clause-same g c =

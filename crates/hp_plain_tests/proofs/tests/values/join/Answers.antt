@@ -1,4 +1,4 @@
-use Rattle.std.proofs.Common.{ℕ, sym, subst, ◌∙◌}
+use Rattle.std.proofs.Common.{ℕ, Some, ap, sym, subst, ◌∙◌}
 use Rattle.hp_segs.specs.Calls.{MayJoin}
 use Rattle.hp_segs.specs.LaterSteps.{after_join}
 use Rattle.hp_hall.specs.Giving.{GivesSegments}
@@ -6,7 +6,7 @@ use Rattle.hp_hall.proofs.Gives.{gives_join}
 use Rattle.hp_plain_tests.proofs.tests.values.join.Goals as goal
 
 pub returns : goal.returns
-returns c = λ knows same all.
+returns c = λ knows same all acked.
     let old = c.args.segs.now in
     let me = c.args.me in
     let may : MayJoin me c.args.records old = record {
@@ -16,4 +16,4 @@ returns c = λ knows same all.
     } in
     let known : MayJoin knows.who knows.number old = subst (λ (who : ℕ). MayJoin who knows.number old) (sym same) (subst (λ (n : ℕ). MayJoin me n old) (sym all) may) in
     subst (GivesSegments knows old) (sym c.join_roster.ensures.step)
-    (subst (λ (who : ℕ). GivesSegments knows old (after_join who old)) same (gives_join knows old known))
+    (subst (λ (who : ℕ). GivesSegments knows old (after_join who old)) same (gives_join knows old known (acked ∙ ap Some c.requires.all)))

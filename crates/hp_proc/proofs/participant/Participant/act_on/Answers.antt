@@ -1,5 +1,5 @@
 -- The element that the label stands for is looked for where it lies.
-use Rattle.std.proofs.Common.{◌≡◌, ◌∙◌, ℕ, Bool, false, List, map, Option, Some, None, ap, sym, subst}
+use Rattle.std.proofs.Common.{◌≡◌, ◌∙◌, ℕ, Bool, false, List, [], map, Option, Some, None, ap, sym, subst}
 use Rattle.std.specs.List.{Contains}
 use Rattle.hp_base.specs.declared.tag.Tag.{Tag}
 use Rattle.hp_script.specs.Labels.{maker_of}
@@ -19,9 +19,11 @@ use Rattle.hp_proc.proofs.Joining.{does_same}
 use Rattle.hp_proc.proofs.LineFacts.{done_once}
 use Rattle.hp_proc.proofs.Makers.{made, unmade}
 use Rattle.hp_hall.proofs.HallStates.{did_same}
-use Rattle.hp_proc.specs.LineInHall.{DoesOnceHere, did_in, moment}
+use Rattle.hp_serve.proofs.AskedAlong.{on_err_any}
+use Rattle.hp_proc.proofs.Halted.{halts_same, on_err_all}
+use Rattle.hp_proc.specs.LineInHall.{DoesOnceHere, HaltsHere, did_in, moment}
 use Rattle.hp_proc.proofs.Holds.{again_same}
-use Rattle.hp_proc.proofs.OnceHeld.{searched_once}
+use Rattle.hp_proc.proofs.OnceHeld.{once_none, searched_once}
 use Rattle.hp_proc.proofs.participant.Participant.act_on.Goals as goal
 
 -- the tag, the act and the heaps by which the code looks are those of the line's maker
@@ -108,3 +110,44 @@ returns-clause-does g c =
     subst (λ (doing : Doing). DoesOnceHere me doer after old new doing (Doing.Ended given))
     (is ∙ made me doer.party.socket doer.context c.args.line.now c.args.label.now facts known c.requires.label goes maker found) does)
     c.look_for.ensures.does
+
+-- A LINE THAT ENDS HERE
+
+pub returns-in_err-places-clause-halts : goal.returns-in_err-places-clause-halts
+returns-in_err-places-clause-halts g c =
+    let doer = c.args.self.now in
+    let me = doer.party.me in
+    let hall = g.H.Hall.state c.args.hall.now in
+    let at = moment me doer hall in
+    let goes : Tag → List SearchedHeap → Doing = λ (tag : Tag). looking tag (acting (act_for tag.zone c.args.size)) in
+    let halts : (facts : Facts) → AreFactsOf doer.party.socket doer.context c.args.line.now facts
+    → (heaps : List ℕ) × AreOnce heaps × HaltsHere heaps me doer doer hall hall (on_element me facts goes facts.maker) =
+    λ facts known. ([], once_none, halts_same [] hall.count (did_in me hall hall) (on_element me facts goes facts.maker) at (did_same me hall)) in
+    on_err_any _ _ halts
+
+pub returns-clause-halts : goal.returns-clause-halts
+returns-clause-halts g c =
+    let doer = c.args.self.now in
+    let me = doer.party.me in
+    let old = g.H.Hall.state c.args.hall.now in
+    let new = g.H.Hall.state c.look_for.new.hall in
+    let after = c.look_for.new.self in
+    let maker = c.in-Some.maker.now in
+    let zone = c.is_zone-zone.result in
+    let heaps = map (λ (place : SearchedHeap). place.index) c.deref.result.now in
+    let goes : Tag → List SearchedHeap → Doing = λ (tag : Tag). looking tag (acting (act_for tag.zone c.args.size)) in
+    let found : maker_of doer.context.lines c.args.label.now.text ≡ Some maker =
+    subst (λ (text : List ℕ). maker_of doer.context.lines text ≡ Some maker) c.as_bytes.ensures.text
+    (subst (λ (doer : ParticipantView). maker_of doer.context.lines c.as_bytes.result.now ≡ Some maker) c.self.view_is (sym c.in-Some.ensures)) in
+    let is = looked_for me c.number.result c.number-2.result doer.context c.self.inside.context maker c.args.size zone c.act_for-action.result
+    c.in_ok-places.places.items c.deref.result.now c.number.ensures c.number-2.ensures
+    (ap (λ (doer : ParticipantView). doer.context) c.self.view_is) c.is_zone-zone.ensures c.act_for-action.ensures c.deref.ensures.value
+    c.in_ok-places.ensures.places in
+    on_err_all _ _ c.look_for.result
+    (λ halts facts known. (
+      heaps,
+      look_for-requires-clause-apart g c,
+      subst (λ (doing : Doing). HaltsHere heaps me doer after old new doing)
+          (is ∙ made me doer.party.socket doer.context c.args.line.now c.args.label.now facts known c.requires.label goes maker found) halts,
+    ))
+    c.look_for.ensures.halts

@@ -13,9 +13,11 @@ use Rattle.hp_proc.specs.Allocating.{asking, behind_asking, trying, unless_found
 use Rattle.hp_proc.specs.Contexts.{named_heap}
 use Rattle.hp_proc.specs.Doing.{Doing}
 use Rattle.hp_proc.specs.Heaps.{NamedHeap, page_sizes_for}
-use Rattle.hp_proc.specs.LineInHall.{HoldsIn, IsKnownMapped, KeepsHeld, DoesHeld, did_in, moment_with}
+use Rattle.hp_serve.proofs.AskedAlong.{on_err_any}
+use Rattle.hp_proc.proofs.Halted.{halts_more}
+use Rattle.hp_proc.specs.LineInHall.{HaltsHeld, HoldsIn, IsKnownMapped, KeepsHeld, DoesHeld, did_in, moment_with}
 use Rattle.hp_proc.specs.ParticipantView.{ParticipantView, after_call}
-use Rattle.hp_proc.specs.Progress.{DoesIn, Tries, caller_of}
+use Rattle.hp_proc.specs.Progress.{DoesIn, Tries, caller_of, in_hand}
 use Rattle.hp_proc.specs.declared.socket_heap.SocketHeap.{SocketHeap}
 use Rattle.hp_proc.proofs.AddressLies.{address_lies, lies_none, lies_so}
 use Rattle.hp_proc.proofs.HandCalls.{call_index, call_serves}
@@ -59,6 +61,21 @@ module _ (doer mid : ParticipantView) (first : HallState) (heap next : HeapView)
       (moment_with next me mid first)
       (subst (λ (found : Option ℕ). DoesIn place.index first.count (did_in me first first) doing (unless_found left (address_answer found))
       (moment_with heap me doer first) (moment_with next me mid first)) some searched)
+
+  -- it found none, and stopped while it asked for pages
+  halted : (grown : ParticipantView) (third : HallState) (more : HeapView) → found ≡ None
+      → ((tag : Tag) (otherwise : Doing) → HaltsHeld mid.party.me mid grown next more first third
+      (asking place.index place.socket request tag otherwise (page_sizes_for mid.context.pools place.socket request.flags)))
+      → HaltsHeld doer.party.me doer grown heap more first third doing
+  halted grown third more none asks =
+      let me = doer.party.me in
+      halts_more [] first first third mid.party.me me (in_hand next) (in_hand more) mid grown (moment_with heap me doer first) doing
+      (ap (λ (doer : ParticipantView). doer.party.me) counted) refl left
+      (subst (λ (found : Option ℕ). DoesHeld me doer mid heap next first first doing (unless_found left (address_answer found))) none
+      searched.does)
+      (subst (λ (pools : List PoolLine). HaltsHeld mid.party.me mid grown next more first third
+      (asking place.index place.socket request tag otherwise (page_sizes_for pools place.socket request.flags)))
+      (ap (λ (doer : ParticipantView). doer.context.pools) counted) (asks tag otherwise))
 
   module _ (grown : ParticipantView) (third : HallState) (more : HeapView) (granted : Bool) (none : found ≡ None)
       (asks : (tag : Tag) (otherwise : Doing) → DoesHeld mid.party.me mid grown next more first third
@@ -158,6 +175,7 @@ returns-in-Some g c =
           found_first doer mid (g.H.Hall.state c.args.hall.now) heap next c.args.place.now c.args.request.now c.with_flags-first.result c.args.tag
           c.allocate_in.result (c.with_flags-first.ensures ∙ ap (λ (flags : ℕ). with_flags flags c.args.request.now) c.without_hint.ensures) step
           counted c.requires.its heaps c.in-Some.addr c.in-Some.is;
+      halts = tt;
       lies = λ given same.
           lies_so doer.party.me (g.H.Hall.state c.args.hall.now) (gives.Address c.in-Some.addr) given
           (address_lies doer.party.me doer c.with_flags-first.result c.args.tag c.in-Some.addr c.args.place.now.socket heap next
@@ -181,6 +199,22 @@ returns-in_err-grow-clause-keeps g c =
     (keeps_alloc c.args.self.now c.allocate_in.new.self c.args.heap.now c.allocate_in.new.heap c.with_flags-first.result c.args.tag
     c.allocate_in.result c.allocate_in.ensures.step c.allocate_in.ensures.counted c.requires.holds) c.grow.ensures.keeps
 
+pub returns-in_err-grow-clause-halts : goal.returns-in_err-grow-clause-halts
+returns-in_err-grow-clause-halts g c =
+    let doer = c.args.self.now in
+    let place = c.args.place.now in
+    let request = c.args.request.now in
+    let first = g.H.Hall.state c.args.hall.now in
+    let third = g.H.Hall.state c.grow.new.hall in
+    let halts : (heaps : List NamedHeap) → HaltsHeld doer.party.me doer c.grow.new.self c.args.heap.now c.grow.new.heap first third
+    (trying doer.context.pools request c.args.tag (named_heap place ∷ heaps)) =
+    λ heaps.
+    halted doer c.allocate_in.new.self first c.args.heap.now c.allocate_in.new.heap place request c.with_flags-first.result c.args.tag
+    c.allocate_in.result (c.with_flags-first.ensures ∙ ap (λ (flags : ℕ). with_flags flags request) c.without_hint.ensures)
+    c.allocate_in.ensures.step c.allocate_in.ensures.counted c.requires.its heaps c.grow.new.self third c.grow.new.heap c.in_default.is
+    c.in_err-grow.ensures.halts in
+    on_err_any _ _ halts
+
 pub returns-then-not-branch : goal.returns-then-not-branch
 returns-then-not-branch g c =
     let doer = c.args.self.now in
@@ -195,6 +229,7 @@ returns-then-not-branch g c =
           c.allocate_in.result (c.with_flags-first.ensures ∙ ap (λ (flags : ℕ). with_flags flags c.args.request.now) c.without_hint.ensures) step
           counted c.requires.its heaps c.grow.new.self (g.H.Hall.state c.grow.new.hall) c.grow.new.heap c.in_ok-grow.field-0 c.in_default.is
           c.in_ok-grow.ensures.does c.if-not-branch.true;
+      halts = tt;
       lies = λ given none. lies_none doer.party.me (g.H.Hall.state c.grow.new.hall) given none;
       clock = λ one. omega (arith, c.grow.ensures.clock one, ap (λ (doer : ParticipantView). doer.party.deadline) counted);
       keeps = keeps_then (keeps_alloc doer mid heap next c.with_flags-first.result c.args.tag c.allocate_in.result step counted c.requires.holds)
@@ -227,6 +262,7 @@ returns-in-Some-allocate_in g c =
           counted c.requires.its heaps grown third c.grow.new.heap c.in_ok-grow.field-0 c.in_default.is c.in_ok-grow.ensures.does last
           c.allocate_in-2.new.heap c.allocate_in-2.result c.allocate_in-2.ensures.step c.allocate_in-2.ensures.counted
           (c.requires.its ∙ sym here.index) c.if-not-branch.false c.in-Some-allocate_in.addr c.in-Some-allocate_in.is;
+      halts = tt;
       lies = λ given is.
           lies_so me third (gives.Address c.in-Some-allocate_in.addr) given
           (subst (λ (who : ℕ). IsKnownMapped who third (gives.Address c.in-Some-allocate_in.addr)) same
@@ -263,6 +299,7 @@ returns-in-None g c =
           counted c.requires.its heaps grown third c.grow.new.heap c.in_ok-grow.field-0 c.in_default.is c.in_ok-grow.ensures.does last
           c.allocate_in-2.new.heap c.allocate_in-2.result c.allocate_in-2.ensures.step c.allocate_in-2.ensures.counted
           (c.requires.its ∙ sym here.index) c.if-not-branch.false c.in-None.is;
+      halts = tt;
       lies = λ given is. lies_so me third gives.None given tt is;
       clock = λ one. omega (arith, c.grow.ensures.clock one, ap (λ (doer : ParticipantView). doer.party.deadline) counted);
       keeps = keeps_then here

@@ -1,8 +1,8 @@
 -- It asked as what serves for it does, and its asks are settled.
 use Rattle.std.proofs.Common.{subst, sym}
-use Rattle.std.specs.Prelude.{IfOk}
+use Rattle.std.specs.Prelude.{IfOk, OnErr}
 use Rattle.hp_hall.specs.HallState.{HasMapped}
-use Rattle.hp_serve.specs.AskSteps.{AsksIn}
+use Rattle.hp_serve.specs.AskSteps.{AsksIn, AsksNothing}
 use Rattle.hp_serve.specs.Asking.{HasSettledAsks}
 use Rattle.hp_proc.specs.ParticipantView.{ParticipantView}
 use Rattle.hp_proc.proofs.participant.Participant.ask.Goals as goal
@@ -30,3 +30,11 @@ pub returns-clause-mapped : goal.returns-clause-mapped
 returns-clause-mapped g c =
     let new = g.H.Hall.state c.ask.new.hall in
     subst (λ (doer : ParticipantView). HasMapped doer.party.me new) c.self.view_is c.ask.ensures.mapped
+
+pub returns-clause-err : goal.returns-clause-err
+returns-clause-err g c =
+    let old = g.H.Hall.state c.args.hall.now in
+    let new = g.H.Hall.state c.ask.new.hall in
+    subst
+    (λ (doer : ParticipantView). OnErr c.ask.result (AsksNothing doer.party.me doer.party c.ask.new.self old new))
+    c.self.view_is c.ask.ensures.err

@@ -1,10 +1,16 @@
 -- The ask is one step of its line, and where a run comes its growth is the next, whoever stopped meanwhile.
-use Rattle.std.proofs.Common.{◌+◌, ◌<◌, ℕ, subst, sym}
+use Rattle.std.proofs.Common.{◌+◌, ◌<◌, ℕ, Bool, subst, sym}
 use Rattle.std.specs.Prelude.{◌^◌, IsSome}
+use Rattle.hp_base.specs.declared.tag.Tag.{Tag}
+use Rattle.hp_serve.specs.AskSteps.{DoesAskOn}
+use Rattle.hp_serve.proofs.AskedAlong.{held_same, on_err_any}
 use Rattle.hp_serve.proofs.AskedOn.{asked_whole}
+use Rattle.hp_proc.specs.Allocating.{with_run}
 use Rattle.hp_proc.specs.Contexts.{Context}
+use Rattle.hp_proc.specs.Doing.{Doing}
+use Rattle.hp_proc.specs.LineInHall.{HaltsHeld}
 use Rattle.hp_proc.proofs.HandAsked.{held_some}
-use Rattle.hp_proc.proofs.HandGrown.{allowed_by, calls_by, does_grown, grew_by, keeps_asked, keeps_grown, passed_by, spare_by}
+use Rattle.hp_proc.proofs.HandGrown.{allowed_by, calls_by, does_grown, grew_by, halts_grown, halts_unasked, keeps_asked, keeps_grown, passed_by, spare_by}
 use Rattle.hp_proc.proofs.participant.Participant.ask_in.Goals as goal
 
 pub ask-requires-clause-can : goal.ask-requires-clause-can
@@ -24,7 +30,23 @@ pub returns-in_err-answered-clause-keeps : goal.returns-in_err-answered-clause-k
 returns-in_err-answered-clause-keeps g c =
     let is = c.ask.ensures in
     keeps_asked c.args.self.now c.ask.new.self (g.H.Hall.state c.args.hall.now) (g.H.Hall.state c.ask.new.hall) c.args.heap.now
-    c.args.asked.now c.requires.holds c.requires.its is.context is.remains is.settled is.mapped c.in_err-answered.ensures.err
+    c.args.asked.now c.requires.holds c.requires.its is.context is.remains is.settled is.mapped
+    (λ index. held_same _ _ (c.in_err-answered.ensures.err.armed.stays.mine.parts.part index))
+
+pub returns-in_err-answered-clause-halts : goal.returns-in_err-answered-clause-halts
+returns-in_err-answered-clause-halts g c =
+    let is = c.ask.ensures in
+    let doer = c.args.self.now in
+    let old = g.H.Hall.state c.args.hall.now in
+    let new = g.H.Hall.state c.ask.new.hall in
+    let heap = c.args.heap.now in
+    let asked = c.args.asked.now in
+    let halts : (tag : Tag) (otherwise : Doing) → HaltsHeld doer.party.me doer c.ask.new.self heap heap old new
+    (Doing.Asks asked (with_run asked.heap asked.request tag otherwise)) =
+    λ tag otherwise.
+    halts_unasked doer c.ask.new.self old new heap asked c.requires.holds c.requires.its is.context is.remains is.settled is.mapped
+    (Doing.Asks asked (with_run asked.heap asked.request tag otherwise)) c.in_err-answered.ensures.err in
+    on_err_any _ _ halts
 
 -- THE HEAP TAKES IN WHAT WAS GRANTED
 
@@ -76,6 +98,22 @@ returns-then-answered-clause-more g c =
     calls_by c.args.self.now c.ask.new.self (g.H.Hall.state c.args.hall.now) (g.H.Hall.state c.ask.new.hall) c.args.heap.now
     c.args.asked.now c.requires.holds c.requires.its is.context is.remains is.settled is.mapped is.others next last run granted
     (grew_by run granted c.args.heap.now next c.ask.new.self last c.grow_by-granted.ensures.none c.grow_by-granted.ensures.some)
+
+pub returns-then-answered-clause-halts : goal.returns-then-answered-clause-halts
+returns-then-answered-clause-halts g c = λ tag otherwise.
+    let is = c.ask.ensures in
+    let asks = c.in_ok-answered.ensures.asks in
+    let did = asks.did in
+    let run = c.in_ok-answered.answered.run in
+    let next = c.grow_by-granted.new.heap in
+    let last = c.grow_by-granted.new.self in
+    let granted = c.grow_by-granted.result in
+    halts_grown c.args.self.now c.ask.new.self (g.H.Hall.state c.args.hall.now) (g.H.Hall.state c.ask.new.hall) c.args.heap.now
+    c.args.asked.now c.requires.holds c.requires.its is.context is.remains is.settled is.mapped is.others next last tag otherwise did.0 did.1
+    run granted asks.grows
+    (grew_by run granted c.args.heap.now next c.ask.new.self last c.grow_by-granted.ensures.none c.grow_by-granted.ensures.some)
+    (subst (λ (stopped : Bool). DoesAskOn (g.H.Hall.state c.args.hall.now).count c.args.self.now.party c.ask.new.self.party c.args.asked.now did.0 run
+    stopped) c.if-answered.true did.2)
 
 -- NOBODY DID
 

@@ -1,5 +1,5 @@
 -- One that is attached already does nothing; else it has caught up, or tried to, and notes what that left.
-use Rattle.std.proofs.Common.{◌∙◌, ◌||◌, Bool, ap, refl, sym}
+use Rattle.std.proofs.Common.{◌∙◌, ◌||◌, Bool, [], None, ap, refl, sym, subst}
 use Rattle.hp_base.specs.Mapping.{is_done}
 use Rattle.hp_script.specs.declared.answer.Answer.TheVariants as answer
 use Rattle.hp_proc.specs.Contexts.{Context}
@@ -8,7 +8,14 @@ use Rattle.hp_proc.specs.ParticipantView.{ParticipantView}
 use Rattle.hp_proc.proofs.AttachedLines.{attached_same, joined_by, joined_still, line_already, line_tried, ready_noted, refused_failed, tried_joined}
 use Rattle.hp_proc.proofs.HandGiven.{ready_still}
 use Rattle.hp_hall.proofs.HallStates.{did_same}
-use Rattle.hp_proc.specs.LineInHall.{did_in}
+use Rattle.hp_script.specs.declared.line.Act.{Act}
+use Rattle.hp_proc.specs.Courses.{HasRequest}
+use Rattle.hp_proc.specs.Halting.{HaltsLine}
+use Rattle.hp_proc.specs.Lines.{doing_of}
+use Rattle.hp_proc.proofs.Halted.{halts_same}
+use Rattle.hp_proc.proofs.LineFacts.{facts_for, facts_known}
+use Rattle.hp_proc.proofs.OnceHeld.{once_none}
+use Rattle.hp_proc.specs.LineInHall.{did_in, moment}
 use Rattle.hp_proc.proofs.Holds.{changes_noted, changes_same}
 use Rattle.hp_proc.proofs.participant.Participant.do_attach.Goals as goal
 
@@ -99,3 +106,21 @@ pub returns-then-self-clause-roster : goal.returns-then-self-clause-roster
 returns-then-self-clause-roster g c =
     let me = c.args.self.now.party.me in
     joined_still c.args.line.now.act answer.Already ((g.H.Hall.state c.args.hall.now).joined me) c.requires.act refl
+
+-- who is worn did nothing
+pub returns-then-is_worn-clause-halts : goal.returns-then-is_worn-clause-halts
+returns-then-is_worn-clause-halts g c =
+    let doer = c.args.self.now in
+    let me = doer.party.me in
+    let hall = g.H.Hall.state c.args.hall.now in
+    let line = c.args.line.now in
+    let at = moment me doer hall in
+    let facts = facts_for doer.party.socket doer.context line.act None in
+    let halts : HaltsLine hall.count (did_in me hall hall) line at at = record {
+      facts = facts;
+      known = facts_known doer.party.socket doer.context line None (subst (λ (deed : Act). HasRequest deed None) (sym c.requires.act) tt);
+      heaps = [];
+      once = once_none;
+      halts = halts_same [] hall.count (did_in me hall hall) (doing_of line line.act facts) at (did_same me hall);
+    } in
+    halts

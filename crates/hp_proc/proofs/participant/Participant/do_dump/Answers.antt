@@ -27,6 +27,9 @@ use Rattle.hp_proc.proofs.Mapped.{All-found}
 use Rattle.hp_proc.proofs.PagesStay.{stats_pages}
 use Rattle.hp_proc.proofs.SocketHeapLemmas.{IsListed, all_listed}
 use Rattle.hp_hall.proofs.HallStates.{did_same, did_then, slots_same}
+use Rattle.hp_serve.proofs.AskedAlong.{on_err_any}
+use Rattle.hp_proc.specs.Halting.{HaltsLine}
+use Rattle.hp_proc.proofs.OnceHeld.{once_one}
 use Rattle.hp_proc.specs.LineInHall.{HoldsIn, IsReadyIn, did_in, moment, moment_with}
 use Rattle.hp_hall.specs.HallState.{HallState}
 use Rattle.hp_heap.specs.History.{HeapView, IsCall}
@@ -168,6 +171,7 @@ returns g c =
     let its = call_index (caller_of doer) call.Stats (gives.Statistics stats) heap next step in
     let held = held_after before doer after heap next mid (gives.Statistics stats) held_me took.holds step counted refl in
     record {
+      halts = tt;
       does = line_done old.count (did_in me old new) line (answer.Statistics stats) first fourth facts (act.Dump name) known
           (subst (λ (doing : Doing). DoesOnce old.count (did_in me old new) doing ended first fourth)
           (ap (λ (index : ℕ). Doing.Calls index call.Stats with_statistics) took.index
@@ -183,3 +187,20 @@ returns g c =
       };
       goes_on = g.met.H.Hall.goes_on_then _ _ _ c.hold.ensures.goes_on put.goes_on;
     }
+
+pub returns-in_err-heap-clause-halts : goal.returns-in_err-heap-clause-halts
+returns-in_err-heap-clause-halts g c =
+    let doer = c.args.self.now in
+    let me = doer.party.me in
+    let old = g.H.Hall.state c.args.hall.now in
+    let new = g.H.Hall.state c.hold.new.hall in
+    let line = c.args.line.now in
+    let facts = facts_for doer.party.socket doer.context line.act None in
+    let halts : HaltsLine old.count (did_in me old new) line (moment me doer old) (moment me c.hold.new.self new) = record {
+      facts = facts;
+      known = facts_known doer.party.socket doer.context line None (subst (λ (deed : Act). HasRequest deed None) (sym c.requires.act) tt);
+      heaps = c.in-Some.index ∷ [];
+      once = once_one c.in-Some.index;
+      halts = c.in_err-heap.ensures.halts (doing_of line line.act facts);
+    } in
+    on_err_any _ _ halts

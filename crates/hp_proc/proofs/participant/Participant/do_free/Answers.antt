@@ -11,6 +11,8 @@ use Rattle.hp_proc.specs.Lines.{Facts, doing_of, if_attached, on_element}
 use Rattle.hp_proc.specs.Progress.{DoesLine, DoesOnce}
 use Rattle.hp_serve.proofs.AskedAlong.{if_ok}
 use Rattle.hp_proc.proofs.LineFacts.{facts_for, facts_known, line_done}
+use Rattle.hp_proc.specs.Halting.{Halts, HaltsLine}
+use Rattle.hp_proc.proofs.Halted.{on_err_all}
 use Rattle.hp_proc.specs.LineInHall.{did_in, moment}
 use Rattle.hp_proc.proofs.participant.Participant.do_free.Goals as goal
 
@@ -44,3 +46,28 @@ returns-clause-does g c =
 
 pub returns-clause-ready : goal.returns-clause-ready
 returns-clause-ready g c = c.act_on.ensures.ready.again
+
+pub returns-clause-halts : goal.returns-clause-halts
+returns-clause-halts g c =
+    let doer = c.args.self.now in
+    let me = doer.party.me in
+    let old = g.H.Hall.state c.args.hall.now in
+    let new = g.H.Hall.state c.act_on.new.hall in
+    let after = c.act_on.new.self in
+    let line = c.args.line.now in
+    let before = moment me doer old in
+    let behind = moment me after new in
+    let facts = facts_for doer.party.socket doer.context line.act None in
+    let known = facts_known doer.party.socket doer.context line None
+    (subst (λ (deed : Act). HasRequest deed None) (sym c.requires.act) tt) in
+    on_err_all _ _ c.act_on.result (λ halts.
+    let stopped = halts facts known in
+    let line_halts : HaltsLine old.count (did_in me old new) line before behind = record {
+      facts = facts;
+      known = known;
+      heaps = stopped.0;
+      once = stopped.1;
+      halts = subst (λ (doing : Doing). Halts stopped.0 old.count (did_in me old new) doing before behind)
+          (frees line me c.args.label.now facts c.requires.own c.requires.act c.requires.attached) stopped.2;
+    } in
+    line_halts) c.act_on.ensures.halts

@@ -82,6 +82,7 @@ returns-in-Alloc g c =
     (c.deadline-deadline.ensures.deadline ∙ ap (λ inside. inside.server.deadline) c.self-inside.view_is) c.deadline-deadline.ensures.few in
     record {
       does = is.does;
+      halts = is.halts;
       lies = if_ok _ _ c.do_alloc.result (λ given lies label size options its_act. lies) is.lies;
       clock = λ one. alloc_within _ _ _ few (is.clock one);
       ready = is.ready;
@@ -95,6 +96,7 @@ returns-in-Free g c =
     (c.deadline-deadline.ensures.deadline ∙ ap (λ inside. inside.server.deadline) c.self-inside.view_is) c.deadline-deadline.ensures.few in
     record {
       does = is.does;
+      halts = is.halts;
       lies = lies_other c.do_free.result c.args.line.now.act c.do_free.new.self.party (free_other _ _ c.in-Free.is);
       clock = λ one. wait_within _ _ _ few (is.clock one);
       ready = is.ready;
@@ -108,6 +110,7 @@ returns-in-Resize g c =
     (c.deadline-deadline.ensures.deadline ∙ ap (λ inside. inside.server.deadline) c.self-inside.view_is) c.deadline-deadline.ensures.few in
     record {
       does = is.does;
+      halts = is.halts;
       lies = lies_other c.do_resize.result c.args.line.now.act c.do_resize.new.self.party
           (resize_other _ _ _ c.in-Resize.is);
       clock = λ one. wait_within _ _ _ few (is.clock one);

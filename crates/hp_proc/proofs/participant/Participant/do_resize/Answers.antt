@@ -20,6 +20,8 @@ use Rattle.hp_serve.proofs.AskedAlong.{if_ok}
 use Rattle.hp_proc.proofs.Joining.{does_same}
 use Rattle.hp_proc.proofs.LineFacts.{done_once, facts_for, facts_known, line_done}
 use Rattle.hp_hall.proofs.HallStates.{did_same}
+use Rattle.hp_proc.specs.Halting.{Halts, HaltsLine}
+use Rattle.hp_proc.proofs.Halted.{on_err_all}
 use Rattle.hp_proc.specs.LineInHall.{did_in, moment}
 use Rattle.hp_proc.proofs.Holds.{again_line}
 use Rattle.hp_proc.proofs.participant.Participant.do_resize.Goals as goal
@@ -112,3 +114,31 @@ returns-in-Ok-clause-ready g c = c.act_on.ensures.ready.again
 
 pub returns-in-Err-clause-ready : goal.returns-in-Err-clause-ready
 returns-in-Err-clause-ready g c = again_line c.args.self.now c.requires.ready
+
+pub returns-in-Ok-clause-halts : goal.returns-in-Ok-clause-halts
+returns-in-Ok-clause-halts g c =
+    let doer = c.args.self.now in
+    let me = doer.party.me in
+    let old = g.H.Hall.state c.args.hall.now in
+    let new = g.H.Hall.state c.act_on.new.hall in
+    let after = c.act_on.new.self in
+    let line = c.args.line.now in
+    let rounded = c.in-Ok.size in
+    let is = c.in-Ok.ensures in
+    let before = moment me doer old in
+    let behind = moment me after new in
+    let facts = facts_for doer.party.socket doer.context line.act None in
+    let known = facts_known doer.party.socket doer.context line None
+    (subst (λ (deed : Act). HasRequest deed None) (sym c.requires.act) tt) in
+    on_err_all _ _ c.act_on.result (λ halts.
+    let stopped = halts facts known in
+    let line_halts : HaltsLine old.count (did_in me old new) line before behind = record {
+      facts = facts;
+      known = known;
+      heaps = stopped.0;
+      once = stopped.1;
+      halts = subst (λ (doing : Doing). Halts stopped.0 old.count (did_in me old new) doing before behind)
+          (resizes line me c.args.label.now c.args.size facts c.requires.own c.requires.act c.requires.attached rounded is.0
+          (not_refused c.args.size rounded is.0 is.1 is.2)) stopped.2;
+    } in
+    line_halts) c.act_on.ensures.halts

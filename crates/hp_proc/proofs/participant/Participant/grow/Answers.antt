@@ -6,12 +6,18 @@ use Rattle.hp_proc.specs.Allocating.{asking, behind_asking, searching_again}
 use Rattle.hp_serve.specs.Clocks.{longest_wait}
 use Rattle.hp_proc.specs.Progress.{AreSettled, Does, IsInHand, in_hand}
 use Rattle.hp_hall.specs.HallState.{HasMapped, IsBusy}
-use Rattle.hp_hall.proofs.HallStates.{did_same, later_then, slots_then}
+use Rattle.hp_hall.proofs.HallStates.{did_same, did_then, later_then, slots_then}
 use Rattle.hp_heap.specs.History.{HeapView}
 use Rattle.hp_proc.specs.Contexts.{Context}
 use Rattle.hp_serve.specs.InHall.{IsTiedIn}
-use Rattle.hp_proc.specs.LineInHall.{did_in, moment}
-use Rattle.hp_proc.proofs.HallMoments.{does_more}
+use Rattle.hp_proc.specs.LineInHall.{HaltsHeld, did_in, moment}
+use Rattle.hp_base.specs.declared.tag.Tag.{Tag}
+use Rattle.hp_proc.specs.Doing.{Doing}
+use Rattle.hp_proc.specs.Halting.{Halts}
+use Rattle.hp_proc.specs.Heaps.{page_sizes_for}
+use Rattle.hp_serve.proofs.AskedAlong.{on_err_any}
+use Rattle.hp_proc.proofs.Halted.{halts_same, then_halts}
+use Rattle.hp_proc.proofs.HallMoments.{does_more, told_alike}
 use Rattle.hp_proc.proofs.Holds.{holds_on, keeps_after, keeps_same, knew_same}
 use Rattle.hp_serve.proofs.InHalls.{in_same, remains_by}
 use Rattle.hp_proc.proofs.Joining.{does_same}
@@ -49,6 +55,41 @@ returns-in_err-ask_in-clause-keeps g c = keeps_after c.loop-page.invariant.remai
 
 pub returns-in_err-ask_in-clause-goes_on : goal.returns-in_err-ask_in-clause-goes_on
 returns-in_err-ask_in-clause-goes_on g c = g.met.H.Hall.goes_on_then _ _ _ c.loop-page.invariant.goes_on c.ask_in.ensures.goes_on
+
+pub returns-in_err-ask_in-clause-halts : goal.returns-in_err-ask_in-clause-halts
+returns-in_err-ask_in-clause-halts g c =
+    let items = c.deref-page-items.result.now in
+    let was = c.loop-page.invariant in
+    let doer = c.args.self.now in
+    let me = doer.party.me in
+    let first = g.H.Hall.state c.args.hall.now in
+    let second = g.H.Hall.state c.loop-page.hall in
+    let third = g.H.Hall.state c.ask_in.new.hall in
+    let index = c.args.place.now.index in
+    let socket = c.args.place.now.socket in
+    let request = c.args.request.now in
+    let before = in_hand c.args.heap.now (moment me doer first) in
+    let count = (g.met.H.Hall.goes_on_later _ _ was.goes_on).count in
+    let halts : (tag : Tag) (otherwise : Doing) → HaltsHeld me doer c.ask_in.new.self c.args.heap.now c.ask_in.new.heap first third
+    (asking index socket request tag otherwise (page_sizes_for doer.context.pools socket request.flags)) =
+    λ tag otherwise.
+    let next = asking index socket request tag otherwise (drop (c.loop-page.page-index + 1) items) in
+    let left = asking index socket request tag otherwise (get_or items c.loop-page.page-index 0 ∷ drop (c.loop-page.page-index + 1) items) in
+    let here =
+    subst (λ (left : List ℕ). Does [] first.count (did_in me first second) (asking index socket request tag otherwise items)
+    (asking index socket request tag otherwise left) before (in_hand c.loop-page.heap (moment me c.loop-page.self second)))
+    (drop_more items c.loop-page.page-index 0 c.loop-page-test.true) (was.does tag otherwise) in
+    let there : Halts [] first.count (did_in me second third) left (in_hand c.loop-page.heap (moment me c.loop-page.self second))
+    (in_hand c.ask_in.new.heap (moment me c.ask_in.new.self third)) =
+    told_alike (λ count did before behind. Halts [] count did left before behind) second.count first.count second third c.loop-page.self.party.me me
+    (in_hand c.loop-page.heap) (in_hand c.ask_in.new.heap) c.loop-page.self c.ask_in.new.self was.remains.same.me count
+    (c.in_err-ask_in.ensures.halts tag next) in
+    subst (λ (pages : List ℕ). Halts [] first.count (did_in me first third) (asking index socket request tag otherwise pages) before
+    (in_hand c.ask_in.new.heap (moment me c.ask_in.new.self third))) was.pages
+    (then_halts first.count (did_in me first second) (did_in me second third) (did_in me first third) before
+    (in_hand c.loop-page.heap (moment me c.loop-page.self second)) (in_hand c.ask_in.new.heap (moment me c.ask_in.new.self third))
+    (λ one two. did_then) [] (asking index socket request tag otherwise items) left here there) in
+    on_err_any _ _ halts
 
 -- A RUN WAS GRANTED
 
@@ -227,3 +268,16 @@ returns-clause-clock g c =
 
 pub returns-in_err-pages-clause-keeps : goal.returns-in_err-pages-clause-keeps
 returns-in_err-pages-clause-keeps g c = keeps_same c.args.self.now.party.me c.args.self.now c.args.heap.now c.requires.holds
+
+-- without memory for the page sizes nothing was done
+pub returns-in_err-pages-clause-halts : goal.returns-in_err-pages-clause-halts
+returns-in_err-pages-clause-halts g c =
+    let doer = c.args.self.now in
+    let me = doer.party.me in
+    let hall = g.H.Hall.state c.args.hall.now in
+    let at = in_hand c.args.heap.now (moment me doer hall) in
+    let halts : (tag : Tag) (otherwise : Doing) → HaltsHeld me doer doer c.args.heap.now c.args.heap.now hall hall
+    (asking c.args.place.now.index c.args.place.now.socket c.args.request.now tag otherwise
+    (page_sizes_for doer.context.pools c.args.place.now.socket c.args.request.now.flags)) =
+    λ tag otherwise. halts_same [] hall.count (did_in me hall hall) _ at (did_same me hall) in
+    on_err_any _ _ halts

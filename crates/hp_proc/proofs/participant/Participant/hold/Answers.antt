@@ -1,10 +1,13 @@
 -- The heap that was taken has room, or goes back.
-use Rattle.std.proofs.Common.{◌∙◌, ℕ, ap, sym, subst, arith}
+use Rattle.std.proofs.Common.{◌∙◌, ℕ, [], ap, sym, subst, arith}
 use Rattle.hp_heap.specs.PlainHeap.{PlainHeap}
-use Rattle.hp_proc.specs.LineInHall.{AreFreeBut, HoldsIn, IsReadyIn, moment}
-use Rattle.hp_proc.specs.Progress.{AreSettled, IsInHand}
+use Rattle.hp_hall.proofs.HallStates.{did_then}
+use Rattle.hp_proc.specs.LineInHall.{AreFreeBut, HoldsIn, IsReadyIn, did_in, moment, moment_with}
+use Rattle.hp_proc.specs.Progress.{AreSettled, Does, IsInHand}
+use Rattle.hp_proc.proofs.Halted.{halts_of}
 use Rattle.hp_proc.proofs.HandCalls.{does_spared, hand_spared}
 use Rattle.hp_proc.proofs.Holds.{ready_put}
+use Rattle.hp_proc.proofs.Joining.{does_then}
 use Rattle.hp_proc.proofs.participant.Participant.hold.Goals as goal
 
 pub put-requires-clause-serves : goal.put-requires-clause-serves
@@ -75,3 +78,23 @@ returns-in-Err-clause-goes_on g c = g.met.H.Hall.goes_on_then _ _ _ c.take_heap.
 
 pub returns-in-Err-clause-clock : goal.returns-in-Err-clause-clock
 returns-in-Err-clause-clock g c = λ one. omega (arith, c.take_heap.ensures.clock one, c.put.ensures.others.clock)
+
+-- it was taken and given back
+pub returns-in-Err-clause-halts : goal.returns-in-Err-clause-halts
+returns-in-Err-clause-halts g c = λ doing.
+    let me = c.args.self.now.party.me in
+    let old = g.H.Hall.state c.args.hall.now in
+    let mid = g.H.Hall.state c.take_heap.new.hall in
+    let new = g.H.Hall.state c.put.new.hall in
+    let doer = c.take_heap.new.self in
+    let heap = c.reserve.new.self in
+    let took =
+    does_spared c.in_ok-heap.heap heap c.reserve.ensures.same (moment me doer mid) _ _ doing doing _ (c.in_ok-heap.ensures.did doing) in
+    let count = (g.met.H.Hall.goes_on_later _ _ c.take_heap.ensures.goes_on).count in
+    let put =
+    subst (λ (count : ℕ). Does [] count (did_in me mid new) doing doing (moment_with heap me doer mid) (moment me doer new)) count
+    (subst (λ (who : ℕ). Does [] mid.count (did_in who mid new) doing doing (moment_with heap who doer mid) (moment who doer new))
+    c.take_heap.ensures.same.me (c.put.ensures.does doing)) in
+    halts_of old.count (did_in me old new) doing doing (moment me c.args.self.now old) (moment me doer new)
+    (does_then old.count (did_in me old mid) (did_in me mid new) (did_in me old new) doing doing doing (moment me c.args.self.now old)
+    (moment_with heap me doer mid) (moment me doer new) (λ first second. did_then) took put)

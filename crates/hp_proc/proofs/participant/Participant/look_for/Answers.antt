@@ -15,7 +15,9 @@ use Rattle.hp_proc.specs.declared.searched_heap.SearchedHeap.{SearchedHeap}
 use Rattle.hp_proc.proofs.Joining.{does_same, does_then}
 use Rattle.hp_hall.specs.HallState.{HallState}
 use Rattle.hp_hall.proofs.HallStates.{did_same, did_then}
-use Rattle.hp_proc.specs.LineInHall.{DoesHere, IsReadyIn, did_in, moment}
+use Rattle.hp_serve.proofs.AskedAlong.{on_err_any}
+use Rattle.hp_proc.proofs.Halted.{halts_among, halts_more}
+use Rattle.hp_proc.specs.LineInHall.{DoesHere, HaltsHere, IsReadyIn, did_in, moment}
 use Rattle.hp_proc.proofs.Holds.{again_same, again_then}
 use Rattle.hp_proc.proofs.OnceHeld.{heaps_more, once_taken}
 use Rattle.hp_proc.proofs.participant.Participant.look_for.Goals as goal
@@ -150,6 +152,7 @@ returns-in-Some g c =
             (looked_here doer looked after old mid new c.args.tag found c.args.places.now index was.called.again.same.me
             ((g.met.H.Hall.goes_on_later _ _ was.goes_on).count) was.does c.loop-place-test.true c.in_ok-answer.field-0 one.does);
       };
+      halts = tt;
       clock = λ thread. omega (arith, was.clock thread, c.look_in.ensures.clock thread, was.called.again.same.deadline);
       ready = again_then doer looked after was.called c.look_in.ensures.ready;
       goes_on = g.met.H.Hall.goes_on_then _ _ _ was.goes_on c.look_in.ensures.goes_on;
@@ -172,3 +175,29 @@ returns-clause-does g c =
 
 pub returns-clause-clock : goal.returns-clause-clock
 returns-clause-clock g c = λ one. omega (arith, c.loop-place.invariant.clock one)
+
+pub returns-in_err-answer-clause-halts : goal.returns-in_err-answer-clause-halts
+returns-in_err-answer-clause-halts g c =
+    let doer = c.args.self.now in
+    let me = doer.party.me in
+    let old = g.H.Hall.state c.args.hall.now in
+    let mid = g.H.Hall.state c.loop-place.hall in
+    let new = g.H.Hall.state c.look_in.new.hall in
+    let was = c.loop-place.invariant in
+    let looked = c.loop-place.self in
+    let after = c.look_in.new.self in
+    let tag = c.args.tag in
+    let found = acting c.args.action in
+    let places = c.args.places.now in
+    let index = c.loop-place.place-index in
+    let place = get_or places index nowhere in
+    let left = looking tag found (drop index places) in
+    let stopped : HaltsHere (place.index ∷ []) looked.party.me looked after mid new left =
+    subst (λ (rest : List SearchedHeap). HaltsHere (place.index ∷ []) looked.party.me looked after mid new (looking tag found rest))
+    (sym (drop_more places index nowhere c.loop-place-test.true)) (c.in_err-answer.ensures.halts (drop (index + 1) places)) in
+    let halts : HaltsHere (map heap_of places) me doer after old new (looking tag found places) =
+    halts_among heap_of places index nowhere old.count (did_in me old new) (looking tag found places) (moment me doer old) (moment me after new)
+    c.loop-place-test.true
+    (halts_more (place.index ∷ []) old mid new looked.party.me me (λ moment. moment) (λ moment. moment) looked after (moment me doer old)
+    (looking tag found places) was.called.again.same.me ((g.met.H.Hall.goes_on_later _ _ was.goes_on).count) left was.does stopped) in
+    on_err_any _ _ halts

@@ -1,9 +1,12 @@
 -- The element is not in the heap, or it was acted on and the coordinator is told where it has to be.
-use Rattle.std.proofs.Common.{sym, ℕ, [], ◌∷◌, Option, subst, arith}
-use Rattle.hp_proc.specs.Freeing.{acting, behind_looking, looking}
+use Rattle.std.proofs.Common.{sym, ℕ, List, [], ◌∷◌, Option, subst, arith}
+use Rattle.hp_proc.specs.Freeing.{acting, behind_looking, left_of, looking}
 use Rattle.hp_proc.specs.Progress.{Does}
 use Rattle.hp_proc.specs.declared.element_act.Left.{Left}
-use Rattle.hp_proc.specs.LineInHall.{IsReadyIn, did_in, moment}
+use Rattle.hp_proc.specs.declared.searched_heap.SearchedHeap.{SearchedHeap}
+use Rattle.hp_serve.proofs.AskedAlong.{on_err_any}
+use Rattle.hp_proc.proofs.Halted.{halts_more}
+use Rattle.hp_proc.specs.LineInHall.{HaltsHere, IsReadyIn, did_in, moment}
 use Rattle.hp_proc.proofs.Holds.{again_then, does_next}
 use Rattle.hp_proc.proofs.participant.Participant.look_in.Goals as goal
 
@@ -67,3 +70,23 @@ returns-in_default-clause-clock g c = λ one. omega (arith, c.look_there.ensures
 
 pub returns-in_err-left-clause-clock : goal.returns-in_err-left-clause-clock
 returns-in_err-left-clause-clock g c = λ one. omega (arith, c.look_there.ensures.clock one)
+
+pub returns-in_err-answer-clause-halts : goal.returns-in_err-answer-clause-halts
+returns-in_err-answer-clause-halts g c =
+    let doer = c.args.self.now in
+    let me = doer.party.me in
+    let old = g.H.Hall.state c.args.hall.now in
+    let mid = g.H.Hall.state c.look_there.new.hall in
+    let new = g.H.Hall.state c.tell.new.hall in
+    let looked = c.look_there.new.self in
+    let place = c.args.place.now in
+    let found = acting c.args.action in
+    let halts : (places : List SearchedHeap) → HaltsHere (place.index ∷ []) me doer c.tell.new.self old new (looking c.args.tag found (place ∷ places)) =
+    λ places.
+    halts_more [] old mid new looked.party.me me (λ moment. moment) (λ moment. moment) looked c.tell.new.self (moment me doer old)
+    (looking c.args.tag found (place ∷ places)) c.look_there.ensures.ready.again.same.me
+    ((g.met.H.Hall.goes_on_later _ _ c.look_there.ensures.goes_on).count) (left_of place.index c.in-Some.left)
+    (subst (λ (left : Option Left). Does (place.index ∷ []) old.count (did_in me old mid) (looking c.args.tag found (place ∷ places))
+    (behind_looking place.index (looking c.args.tag found places) left) (moment me doer old) (moment me looked mid)) c.in-Some.is
+    (c.in_ok-left.ensures.does places)) c.in_err-answer.ensures.halts in
+    on_err_any _ _ halts

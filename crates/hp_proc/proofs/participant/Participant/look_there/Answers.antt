@@ -1,5 +1,5 @@
 -- A heap is held, looked into and given back.
-use Rattle.std.proofs.Common.{◌≡◌, ◌∙◌, ℕ, List, ◌∷◌, Option, ap, sym, subst, arith}
+use Rattle.std.proofs.Common.{◌≡◌, ◌∙◌, ℕ, List, [], ◌∷◌, Option, ap, sym, subst, arith}
 use Rattle.std.specs.Prelude.{slice_get}
 use Rattle.hp_heap.specs.History.{HeapView}
 use Rattle.hp_hall.specs.Holding.{HeapPart}
@@ -13,7 +13,8 @@ use Rattle.hp_proc.specs.Heaps.{sockets_of}
 use Rattle.hp_proc.specs.ParticipantView.{ParticipantView}
 use Rattle.hp_proc.specs.Progress.{IsInHand, moment_of}
 use Rattle.hp_proc.specs.declared.searched_heap.SearchedHeap.{SearchedHeap}
-use Rattle.hp_proc.specs.LineInHall.{HoldsIn, moment, moment_with}
+use Rattle.hp_serve.proofs.AskedAlong.{on_err_any}
+use Rattle.hp_proc.specs.LineInHall.{HaltsHere, HoldsIn, moment, moment_with}
 use Rattle.hp_proc.proofs.Holds.{again_put, but_kept, does_next, holds_on, knew_same, ready_put}
 use Rattle.hp_proc.proofs.participant.Participant.look_there.Goals as goal
 
@@ -74,6 +75,7 @@ returns g c =
           does_next me (moment me doer first) (λ who. moment_with next who after third) (λ who. moment who after last) there (is.others.later.count ∙ count)
           (does_next me (moment me doer first) (λ who. moment_with heap who holds second) (λ who. moment_with next who after third) here count
           (took.did doing) (is.does places)) (put.does rest);
+      halts = tt;
       clock = λ one. omega (arith, c.hold.ensures.clock one, is.others.clock, put.others.clock);
       ready = again_put c.hold.ensures.same c.hold.ensures.context is.keeps ready;
       goes_on = g.met.H.Hall.goes_on_then _ _ _ c.hold.ensures.goes_on (g.met.H.Hall.goes_on_then _ _ _ is.goes_on put.goes_on);
@@ -84,3 +86,12 @@ returns-in_err-heap-clause-ready g c = record {
   again = record { same = c.hold.ensures.same; ready = c.in_err-heap.ensures.err };
   context = knew_same c.args.self.now.context c.hold.new.self.context c.hold.ensures.context;
 }
+
+pub returns-in_err-heap-clause-halts : goal.returns-in_err-heap-clause-halts
+returns-in_err-heap-clause-halts g c =
+    let doer = c.args.self.now in
+    let place = c.args.place.now in
+    let halts : (places : List SearchedHeap) → HaltsHere (place.index ∷ []) doer.party.me doer c.hold.new.self (g.H.Hall.state c.args.hall.now)
+    (g.H.Hall.state c.hold.new.hall) (looking c.args.tag (acting c.args.action) (place ∷ places)) =
+    λ places. c.in_err-heap.ensures.halts (looking c.args.tag (acting c.args.action) (place ∷ places)) in
+    on_err_any _ _ halts

@@ -1,5 +1,5 @@
 -- An allocation line is served from the first of its heaps that has or gets memory for it, and its element is noted.
-use Rattle.std.proofs.Common.{◌≡◌, ◌∙◌, ◌*◌, ℕ, List, length, map, refl, ap, sym, subst}
+use Rattle.std.proofs.Common.{◌≡◌, ◌∙◌, ◌*◌, ℕ, true, List, [], length, map, refl, ap, sym, subst}
 use Rattle.std.specs.Option.{option_map}
 use Rattle.hp_base.specs.declared.limits.TheConstants.{MAX_HEAPS}
 use Rattle.hp_script.specs.declared.answer.Answer.{Answer}
@@ -11,14 +11,20 @@ use Rattle.hp_proc.specs.Heaps.{NamedHeap, heaps_for, socket_heaps}
 use Rattle.hp_proc.specs.Lines.{tag_of}
 use Rattle.hp_serve.specs.Party.{IsSameParty, Party}
 use Rattle.hp_proc.specs.ParticipantView.{ParticipantView, after_answer}
-use Rattle.hp_proc.specs.Progress.{AreOnce, Brings}
+use Rattle.hp_proc.specs.Progress.{AreOnce, Brings, IsAllocation}
 use Rattle.hp_proc.specs.declared.socket_heap.SocketHeap.{SocketHeap}
 use Rattle.hp_proc.proofs.AddressLies.{lies_in_table}
-use Rattle.hp_proc.proofs.AllocFacts.{line_answered}
-use Rattle.hp_proc.proofs.OnceHeld.{places_once}
+use Rattle.hp_base.specs.declared.request.Request.{Request}
+use Rattle.hp_script.specs.declared.line.Line.{Line}
+use Rattle.hp_script.specs.declared.options.Options.{Options}
+use Rattle.hp_hall.proofs.HallStates.{did_same}
+use Rattle.hp_serve.proofs.AskedAlong.{on_err_any}
+use Rattle.hp_proc.proofs.AllocFacts.{line_answered, line_halts}
+use Rattle.hp_proc.proofs.Halted.{halts_of, halts_same}
+use Rattle.hp_proc.proofs.OnceHeld.{once_none, places_once}
 use Rattle.hp_proc.proofs.Rising.{few_places, rises_within}
 use Rattle.hp_hall.specs.HallState.{HallState, IsBusy}
-use Rattle.hp_proc.specs.LineInHall.{HasCalled, IsKnownMapped, IsMapped, IsReadyAgain, IsReadyIn, did_in, moment}
+use Rattle.hp_proc.specs.LineInHall.{HaltsHere, HaltsLineHere, HasCalled, IsKnownMapped, IsMapped, IsReadyAgain, IsReadyIn, did_in, moment}
 use Rattle.hp_proc.proofs.Holds.{again_line}
 use Rattle.hp_proc.proofs.participant.Participant.serve_line.Goals as goal
 
@@ -199,3 +205,87 @@ returns-clause-clock g c =
     c.reserve_element.ensures
     (subst (λ (places : List SocketHeap). RisesWithin g.H.Hall.pending (λ hall. IsBusy (g.H.Hall.state hall))
     (length places * longest_growth start.party.deadline) old new) c.deref.ensures.value c.serve_request.ensures.clock))
+
+-- A LINE THAT ENDS HERE
+
+-- without memory for its element, or for the list of its heaps, nothing was done
+module _ (doer start : ParticipantView) (hall : HallState) (line : Line) (options : Options) (request : Request) (asks : IsAllocation line options request)
+    (attached : doer.context.standing.attached ≡ true) (same : start ≡ doer) where
+  none_done : HaltsLineHere doer.party.me doer start hall hall line
+  none_done =
+      let me = doer.party.me in
+      subst (λ (after : ParticipantView). HaltsLineHere me doer after hall hall line) (sym same)
+      (line_halts line asks.label asks.size options asks.its_act (moment me doer hall) attached hall.count (did_in me hall hall) request asks.accepted
+      (λ accepted. (request, refl, asks.is)) [] once_none (moment me doer hall) (halts_same [] hall.count (did_in me hall hall) _ (moment me doer hall) (did_same me hall)))
+
+pub returns-in_err-reserve_element-clause-halts : goal.returns-in_err-reserve_element-clause-halts
+returns-in_err-reserve_element-clause-halts g c =
+    on_err_any _ _ (none_done c.args.self.now c.reserve_element.new.self (g.H.Hall.state c.args.hall.now) c.args.line.now c.args.options.now
+    c.args.request.now c.requires.asks c.requires.attached c.reserve_element.ensures)
+
+pub returns-in_err-places-clause-halts : goal.returns-in_err-places-clause-halts
+returns-in_err-places-clause-halts g c =
+    on_err_any _ _ (none_done c.args.self.now c.reserve_element.new.self (g.H.Hall.state c.args.hall.now) c.args.line.now c.args.options.now
+    c.args.request.now c.requires.asks c.requires.attached c.reserve_element.ensures)
+
+-- the request was not served
+pub returns-in_err-answer-clause-halts : goal.returns-in_err-answer-clause-halts
+returns-in_err-answer-clause-halts g c =
+    let doer = c.args.self.now in
+    let start = c.reserve_element.new.self in
+    let mid = c.serve_request.new.self in
+    let me = doer.party.me in
+    let old = g.H.Hall.state c.args.hall.now in
+    let new = g.H.Hall.state c.serve_request.new.hall in
+    let line = c.args.line.now in
+    let options = c.args.options.now in
+    let request = c.args.request.now in
+    let asks = c.requires.asks in
+    let heaps = map (λ (place : SocketHeap). place.index) c.deref.result.now in
+    let told =
+    subst (λ (places : List NamedHeap). HaltsHere heaps start.party.me start mid old new (serving start.context.pools request (tag_of line) places))
+    (ap (map named_heap) c.deref.ensures.value ∙ c.in_ok-places.ensures.heaps) c.in_err-answer.ensures.halts in
+    let stopped =
+    subst (λ (who : ParticipantView). HaltsHere heaps who.party.me who mid old new
+    (serving who.context.pools request (tag_of line)
+    (heaps_for who.party.socket (socket_heaps who.context.pools) (option_map (λ name. name.text) options.heap) options.socket)))
+    c.reserve_element.ensures told in
+    let halts : HaltsLineHere me doer mid old new line =
+    line_halts line asks.label asks.size options asks.its_act (moment me doer old) c.requires.attached old.count (did_in me old new) request
+    asks.accepted (λ accepted. (request, refl, asks.is)) heaps (serve_request-requires-clause-apart g c) (moment me mid new) stopped in
+    on_err_any _ _ halts
+
+-- it was, and there was no memory to note its element
+pub returns-in_err-note_answer-clause-halts : goal.returns-in_err-note_answer-clause-halts
+returns-in_err-note_answer-clause-halts g c =
+    let doer = c.args.self.now in
+    let start = c.reserve_element.new.self in
+    let mid = c.serve_request.new.self in
+    let me = doer.party.me in
+    let old = g.H.Hall.state c.args.hall.now in
+    let new = g.H.Hall.state c.serve_request.new.hall in
+    let line = c.args.line.now in
+    let options = c.args.options.now in
+    let request = c.args.request.now in
+    let asks = c.requires.asks in
+    let answer = c.in_ok-answer.answer in
+    let heap = c.in_ok-answer.heap in
+    let told = subst
+    (λ (places : List NamedHeap). Brings heap old.count (did_in start.party.me old new)
+    (serving start.context.pools request (tag_of line) places) answer
+    (moment start.party.me start old)
+    (moment start.party.me mid new))
+    (ap (map named_heap) c.deref.ensures.value ∙ c.in_ok-places.ensures.heaps) c.in_ok-answer.ensures.does in
+    let brings = subst
+    (λ (who : ParticipantView). Brings heap old.count (did_in who.party.me old new)
+    (serving who.context.pools request (tag_of line)
+    (heaps_for who.party.socket (socket_heaps who.context.pools) (option_map (λ name. name.text) options.heap) options.socket)) answer
+    (moment who.party.me who old)
+    (moment who.party.me mid new))
+    c.reserve_element.ensures told in
+    let halts : HaltsLineHere me doer c.note_answer.new.self old new line =
+    subst (λ (after : ParticipantView). HaltsLineHere me doer after old new line) (sym c.in_err-note_answer.ensures.err)
+    (line_halts line asks.label asks.size options asks.its_act (moment me doer old) c.requires.attached old.count (did_in me old new) request
+    asks.accepted (λ accepted. (request, refl, asks.is)) brings.held brings.once (moment me mid new)
+    (halts_of old.count (did_in me old new) _ _ (moment me doer old) (moment me mid new) brings.does)) in
+    on_err_any _ _ halts

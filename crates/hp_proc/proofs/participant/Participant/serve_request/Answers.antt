@@ -23,7 +23,9 @@ use Rattle.std.proofs.lemmas.Bool.{eqb-true, false≢true}
 use Rattle.hp_proc.specs.Doing.{Doing}
 use Rattle.hp_hall.specs.HallState.{IsBusy}
 use Rattle.hp_hall.proofs.HallStates.{did_same, did_then}
-use Rattle.hp_proc.specs.LineInHall.{IsKnownMapped, IsReadyIn, did_in, moment}
+use Rattle.hp_serve.proofs.AskedAlong.{on_err_any}
+use Rattle.hp_proc.proofs.Halted.{halts_among, halts_more}
+use Rattle.hp_proc.specs.LineInHall.{HaltsHere, IsKnownMapped, IsReadyIn, did_in, moment}
 use Rattle.hp_proc.proofs.Holds.{again_same, again_then}
 use Rattle.hp_proc.proofs.participant.Participant.serve_request.Goals as goal
 
@@ -275,3 +277,38 @@ returns-clause-clock g c =
     let was = c.loop-place.invariant in
     rises_within g.H.Hall.pending (λ hall. IsBusy (g.H.Hall.state hall)) c.loop-place.place-index (length c.args.places.now)
     (longest_growth c.args.self.now.party.deadline) (g.H.Hall.state c.args.hall.now).clock (g.H.Hall.state c.loop-place.hall).clock was.along was.clock
+
+-- A LINE THAT ENDS HERE
+
+pub returns-in_err-answer-clause-halts : goal.returns-in_err-answer-clause-halts
+returns-in_err-answer-clause-halts g c =
+    let was = c.loop-place.invariant in
+    let doer = c.args.self.now in
+    let me = doer.party.me in
+    let first = g.H.Hall.state c.args.hall.now in
+    let second = g.H.Hall.state c.loop-place.hall in
+    let third = g.H.Hall.state c.try_heap.new.hall in
+    let pools = doer.context.pools in
+    let request = c.args.request.now in
+    let tag = c.args.tag in
+    let places = c.args.places.now in
+    let i = c.loop-place.place-index in
+    let item = get_or places i none_at in
+    let tried = c.loop-place.self in
+    let after = c.try_heap.new.self in
+    let left = trying pools request tag (map named_heap (drop i places)) in
+    let stopped : HaltsHere (item.index ∷ []) tried.party.me tried after second third left =
+    subst (λ (rest : List SocketHeap). HaltsHere (item.index ∷ []) tried.party.me tried after second third (trying pools request tag (map named_heap rest)))
+    (sym (drop_more places i none_at c.loop-place-test.true))
+    (subst (λ (context : Context). HaltsHere (item.index ∷ []) tried.party.me tried after second third
+    (trying context.pools request tag (map named_heap (item ∷ drop (i + 1) places)))) was.called.context
+    (c.in_err-answer.ensures.halts (map named_heap (drop (i + 1) places)))) in
+    let halts : HaltsHere (map heap_of places) me doer after first third (serving pools request tag (map named_heap places)) =
+    subst (λ (doing : Doing). HaltsHere (map heap_of places) me doer after first third doing)
+    (served_within pools request tag places i c.loop-place-test.true)
+    (halts_among heap_of places i none_at first.count (did_in me first third) (trying pools request tag (map named_heap places))
+    (moment me doer first) (moment me after third) c.loop-place-test.true
+    (halts_more (item.index ∷ []) first second third tried.party.me me (λ moment. moment) (λ moment. moment) tried after (moment me doer first)
+    (trying pools request tag (map named_heap places)) was.called.again.same.me ((g.met.H.Hall.goes_on_later _ _ was.goes_on).count) left was.passed
+    stopped)) in
+    on_err_any _ _ halts

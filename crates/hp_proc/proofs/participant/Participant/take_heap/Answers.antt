@@ -9,10 +9,13 @@ use Rattle.hp_hall.specs.declared.kept.Kept.TheVariants.{Heap}
 use Rattle.hp_hall.proofs.HallStates.{did_same, did_then, later_then}
 use Rattle.hp_proc.specs.Acting.{Acts}
 use Rattle.hp_proc.specs.Contexts.{Context}
+use Rattle.hp_proc.specs.Doing.{Doing}
+use Rattle.hp_proc.specs.Halting.{Halts}
 use Rattle.hp_proc.specs.LineInHall.{moment}
 use Rattle.hp_proc.specs.Progress.{Does, in_hand, with_hand}
 use Rattle.hp_serve.proofs.AskedAlong.{on_err_any}
 use Rattle.hp_serve.proofs.Carrying.{same_party}
+use Rattle.hp_proc.proofs.Halted.{halts_by, stops_more}
 use Rattle.hp_proc.proofs.HandCalls.{hand_serves}
 use Rattle.hp_proc.proofs.HandGiven.{ready_still, settled_taken, take_shows, taken_in_hand, took_armed, took_hand, took_serves, waits_more}
 use Rattle.hp_proc.proofs.Holds.{again_by}
@@ -115,6 +118,7 @@ returns-in-Ok g c =
       same = was.stays.same;
       context = was.context;
       slots = free_but is.slots idle;
+      halts = tt;
       err = tt;
       clock = λ one. omega (arith, was.clock one, is.others.clock);
       goes_on = g.met.H.Hall.goes_on_then _ _ _ was.goes_on is.goes_on;
@@ -183,8 +187,27 @@ returns-in_err-turn-in-Err g c =
     in_then (in_then was.stays (in_others c.taking.self.party here tried.held.slots tried.held.mine tried.others.later (in_tied was.stays))) is.stays in
     let ready = (again_by c.args.self.now c.turn.new.self all (is.context ∙ was.context) c.requires.ready).again.ready in
     let idle = ready.idle in
+    let doer = c.args.self.now in
+    let me = doer.party.me in
+    let old = g.H.Hall.state c.args.hall.now in
+    let mid = g.H.Hall.state c.taking.hall in
+    let late = g.H.Hall.state c.try_take.new.self in
+    let new = g.H.Hall.state c.turn.new.hall in
+    let so_far = in_then was.stays (in_others c.taking.self.party here tried.held.slots tried.held.mine tried.others.later (in_tied was.stays)) in
+    let one = c.in_err-turn-in-Err.ensures.turned in
+    let halts : (doing : Doing) → Halts (c.args.index ∷ []) old.count (λ (steps : List MailStep). Did me steps old new) doing
+    (moment me doer old) (moment me c.turn.new.self new) =
+    λ doing.
+    halts_by (c.args.index ∷ []) old.count (λ (steps : List MailStep). Did me steps old new) doing (moment me doer old)
+    (moment me c.turn.new.self new) (was.waited.0 ++ one.0)
+    (did_then was.waited.1
+    (did_then (in_did was.stays (subst (λ (who : ℕ). Did who [] mid late) here tried.held.did)) (in_did so_far one.1)))
+    (stops_more old.count late.count (2 ^ 64 - 1) doer c.taking.self c.turn.new.self was.waited.0 one.0 so_far.waits.later.count is.context
+    was.waited.2 one.2)
+    (λ heap. ap (λ (part : HeapPart). part.entries) (all.waits.parts.part heap)) all.same (is.context ∙ was.context) in
     record {
       did = search rules;
+      halts = on_err_any c.from_residual.result _ halts;
       holds = search rules;
       index = search rules;
       slots = record { taken = λ number apart. idle.free number; home = λ number few apart. idle.home number few };

@@ -16,7 +16,10 @@ use Rattle.hp_proc.specs.declared.element_act.Left.{Left}
 use Rattle.hp_proc.specs.Progress.{Does, moment_of}
 use Rattle.hp_proc.proofs.Joining.{context_still, does_same, goes_as}
 use Rattle.hp_hall.proofs.HallStates.{did_same}
-use Rattle.hp_proc.specs.LineInHall.{did_in, moment}
+use Rattle.hp_proc.specs.Halting.{ActsOn}
+use Rattle.hp_proc.specs.LineInHall.{HaltsHere, did_in, moment}
+use Rattle.hp_serve.proofs.AskedAlong.{on_err_any}
+use Rattle.hp_proc.proofs.Halted.{halts_by}
 use Rattle.hp_proc.proofs.Holds.{again_by, again_same}
 use Rattle.hp_proc.proofs.LinesInHall.{idle_can}
 use Rattle.hp_proc.proofs.participant.Participant.tell.Goals as goal
@@ -59,6 +62,7 @@ returns-in-Answered g c =
       does = subst (λ (left : Left). Does [] hall.count (did_in me hall hall) (left_of c.args.heap left) (Doing.Ended c.in-Answered.answer) at at)
           (sym c.in-Answered.is) (does_same hall.count (did_in me hall hall) (Doing.Ended c.in-Answered.answer) at (did_same me hall));
       clock = λ one. omega arith;
+      halts = tt;
       ready = again_same doer c.requires.ready;
       goes_on = g.met.H.Hall.goes_on_same _;
     }
@@ -69,6 +73,22 @@ notify-requires g c = record { can = idle_can c.requires.ready.idle }
 pub returns-in_err-notify-in-GaveUp-clause-ready : goal.returns-in_err-notify-in-GaveUp-clause-ready
 returns-in_err-notify-in-GaveUp-clause-ready g c =
     again_by c.args.self.now c.notify.new.self c.notify.ensures.stays c.notify.ensures.context c.requires.ready
+
+pub returns-in_err-notify-in-GaveUp-clause-halts : goal.returns-in_err-notify-in-GaveUp-clause-halts
+returns-in_err-notify-in-GaveUp-clause-halts g c =
+    let doer = c.args.self.now in
+    let me = doer.party.me in
+    let old = g.H.Hall.state c.args.hall.now in
+    let new = g.H.Hall.state c.notify.new.hall in
+    let after = c.notify.new.self in
+    let told = c.in_err-notify-in-GaveUp.ensures.err in
+    let stays = c.notify.ensures.stays in
+    let halts : HaltsHere [] me doer after old new (left_of c.args.heap c.args.left) =
+    halts_by [] old.count (did_in me old new) (left_of c.args.heap c.args.left) (moment me doer old) (moment me after new) told.0 told.1
+    (subst (λ (after : ParticipantView). ActsOn old.count None None [] doer after [] told.0) (goes_as doer after c.notify.ensures.context)
+    (ActsOn.notice_stops doer after.party c.args.heap c.in-GaveUp.run' told.0 told.2))
+    (λ index. ap (λ (part : HeapPart). part.entries) (stays.waits.parts.part index)) stays.same c.notify.ensures.context in
+    on_err_any _ _ halts
 
 pub returns-in_ok-notify-in-GaveUp : goal.returns-in_ok-notify-in-GaveUp
 returns-in_ok-notify-in-GaveUp g c =
@@ -87,6 +107,7 @@ returns-in_ok-notify-in-GaveUp g c =
           (does_tell old.count doer after c.args.heap c.in-GaveUp.run' (old.part me) (new.part me) (old.seen me) (new.seen me) more.0 (old.heard me)
           (new.heard me) others.0 stays.waits.parts.part stays.same c.notify.ensures.context more.1 others.1 (did_in me old new) told.did.0 told.did.1 told.did.2 told.asked);
       clock = c.notify.ensures.clock;
+      halts = tt;
       ready = again_by doer after stays c.notify.ensures.context c.requires.ready;
       goes_on = c.notify.ensures.goes_on;
     }

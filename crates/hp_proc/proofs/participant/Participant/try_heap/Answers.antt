@@ -7,12 +7,15 @@ use Rattle.hp_script.specs.declared.answer.Answer.{Answer}
 use Rattle.hp_hall.proofs.HallStates.{did_then}
 use Rattle.hp_proc.specs.Allocating.{trying, unless_answered}
 use Rattle.hp_proc.specs.Contexts.{Context, named_heap}
-use Rattle.hp_proc.specs.Heaps.{sockets_of}
-use Rattle.hp_proc.specs.LineInHall.{HoldsIn, IsKnownMapped, TableStays, did_in, moment, moment_with}
+use Rattle.hp_proc.specs.Heaps.{NamedHeap, sockets_of}
+use Rattle.hp_serve.proofs.AskedAlong.{on_err_any}
+use Rattle.hp_proc.specs.Halting.{Halts}
+use Rattle.hp_proc.specs.LineInHall.{HaltsHeld, HaltsHere, HoldsIn, IsKnownMapped, TableStays, did_in, moment, moment_with}
 use Rattle.hp_proc.specs.Progress.{AreSettled, Does, IsInHand, Tries, in_hand}
 use Rattle.hp_proc.proofs.AllocFacts.{socket_few}
 use Rattle.hp_serve.proofs.AskedAlong.{if_ok}
 use Rattle.hp_proc.proofs.AddressLies.{lies_still}
+use Rattle.hp_proc.proofs.Halted.{halts_more, halts_on, on_err_all}
 use Rattle.hp_proc.proofs.HallMoments.{told_alike}
 use Rattle.hp_proc.proofs.HandTried.{tries_passed, tries_then}
 use Rattle.hp_proc.proofs.Holds.{again_put, but_kept, can_on, holds_on, knew_same, ready_put}
@@ -142,3 +145,44 @@ pub returns-clause-goes_on : goal.returns-clause-goes_on
 returns-clause-goes_on g c =
     g.met.H.Hall.goes_on_then _ _ _ (g.met.H.Hall.goes_on_then _ _ _ c.hold.ensures.goes_on c.allocate_held-given.ensures.goes_on)
     c.put.ensures.goes_on
+
+-- A LINE THAT ENDS HERE
+
+pub returns-in_err-heap-clause-halts : goal.returns-in_err-heap-clause-halts
+returns-in_err-heap-clause-halts g c =
+    let doer = c.args.self.now in
+    let place = c.args.place.now in
+    let halts : (heaps : List NamedHeap) → HaltsHere (place.index ∷ []) doer.party.me doer c.hold.new.self (g.H.Hall.state c.args.hall.now)
+    (g.H.Hall.state c.hold.new.hall) (trying doer.context.pools c.args.request.now c.args.tag (named_heap place ∷ heaps)) =
+    λ heaps. c.in_err-heap.ensures.halts (trying doer.context.pools c.args.request.now c.args.tag (named_heap place ∷ heaps)) in
+    on_err_any _ _ halts
+
+pub returns-clause-halts : goal.returns-clause-halts
+returns-clause-halts g c =
+    let place = c.args.place.now in
+    let request = c.args.request.now in
+    let tag = c.args.tag in
+    let old = c.args.self.now in
+    let mid = c.hold.new.self in
+    let new = c.allocate_held-given.new.self in
+    let me = old.party.me in
+    let first = g.H.Hall.state c.args.hall.now in
+    let second = g.H.Hall.state c.hold.new.hall in
+    let third = g.H.Hall.state c.allocate_held-given.new.hall in
+    let last = g.H.Hall.state c.put.new.hall in
+    let heap = c.in_ok-heap.heap in
+    let left = c.allocate_held-given.new.heap in
+    let pools = old.context.pools in
+    let here_count = (g.met.H.Hall.goes_on_later _ _ c.hold.ensures.goes_on).count in
+    let there_count = (g.met.H.Hall.goes_on_later _ _ c.allocate_held-given.ensures.goes_on).count ∙ here_count in
+    let mine = c.hold.ensures.same.me in
+    on_err_all _ _ c.allocate_held-given.result (λ held heaps.
+    let doing = trying pools request tag (named_heap place ∷ heaps) in
+    let stopped : HaltsHeld mid.party.me mid new heap left second third doing =
+    subst (λ (pools : List PoolLine). HaltsHeld mid.party.me mid new heap left second third (trying pools request tag (named_heap place ∷ heaps)))
+    (ap (λ (context : Context). context.pools) c.hold.ensures.context) (held heaps) in
+    let front : Halts (place.index ∷ []) first.count (did_in me first third) doing (moment me old first) (moment_with left me new third) =
+    halts_more [] first second third mid.party.me me (in_hand heap) (in_hand left) mid new (moment me old first) doing mine here_count doing
+    (c.in_ok-heap.ensures.did doing) stopped in
+    halts_on (place.index ∷ []) first third last new.party.me me (in_hand left) (λ moment. moment) new new (moment me old first) doing
+    (c.allocate_held-given.ensures.keeps.remains.same.me ∙ mine) there_count front c.put.ensures.does) c.allocate_held-given.ensures.halts

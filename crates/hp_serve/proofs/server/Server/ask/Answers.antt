@@ -5,10 +5,10 @@ use Rattle.hp_hall.specs.Holding.{HeapPart}
 use Rattle.hp_segs.specs.LaterSteps.{after_arm}
 use Rattle.hp_segs.specs.declared.ask.Ask.{Ask}
 use Rattle.hp_serve.specs.Asking.{GrowsHeld, HasSettledAsks, IsAwaiting, IsHeldAsBefore, Settles, ask_of, next_number}
-use Rattle.hp_serve.specs.AskSteps.{IsAwaitedOn, waits_until}
+use Rattle.hp_serve.specs.AskSteps.{AsksNothing, IsArmedAsBefore, IsAwaitedOn, waits_until}
 use Rattle.hp_serve.specs.Serving.{gives_segments, takes_segments}
 use Rattle.hp_serve.proofs.AskDone.{does_ask}
-use Rattle.hp_serve.proofs.AskedAlong.{awaits_along, grows_from, held_same, held_then, is_asked, settled_by}
+use Rattle.hp_serve.proofs.AskedAlong.{awaits_along, grows_from, held_same, held_then, is_asked, on_err_any, settled_by}
 use Rattle.hp_serve.proofs.Rising.{wait_rises}
 use Rattle.hp_hall.specs.HallState.{Did, HasMapped, IsBusy}
 use Rattle.hp_hall.proofs.HallStates.{did_then, later_then, may_still, slots_then}
@@ -217,8 +217,20 @@ returns-clause-asks g c =
 pub returns-in_err-ask-clause-settled : goal.returns-in_err-ask-clause-settled
 returns-in_err-ask-clause-settled g c =
     let new = g.H.Hall.state c.arm.new.hall in
-    subst (λ (who : ℕ). HasSettledAsks (new.part who) (new.heard who)) (ap (λ (party : Party). party.me) c.self.view_is) c.in_err-ask.ensures.err
+    subst (λ (who : ℕ). HasSettledAsks (new.part who) (new.heard who)) (ap (λ (party : Party). party.me) c.self.view_is)
+    c.in_err-ask.ensures.err.settled
 
 pub returns-in_err-ask-clause-mapped : goal.returns-in_err-ask-clause-mapped
 returns-in_err-ask-clause-mapped g c =
     subst (λ (who : ℕ). HasMapped who (g.H.Hall.state c.arm.new.hall)) (ap (λ (party : Party). party.me) c.self.view_is) c.arm.ensures.mapped
+
+pub returns-in_err-ask-clause-err : goal.returns-in_err-ask-clause-err
+returns-in_err-ask-clause-err g c =
+    let party = c.args.self.now in
+    let old = g.H.Hall.state c.args.hall.now in
+    let new = g.H.Hall.state c.arm.new.hall in
+    let nothing : AsksNothing party.me party party old new = record {
+      armed = subst (λ (who : ℕ). IsArmedAsBefore who old new) (ap (λ (party : Party). party.me) c.self.view_is) c.in_err-ask.ensures.err;
+      party = refl;
+    } in
+    on_err_any _ _ nothing

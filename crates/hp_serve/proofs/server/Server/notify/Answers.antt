@@ -1,14 +1,17 @@
 -- The table is tied along the reading of the clock, and the steps follow one another.
-use Rattle.std.proofs.Common.{◌≡◌, ◌∙◌, [], ◌∷◌, refl, ◌+◌, ◌≤◌, ◌⊎◌, ℕ, true, Some, ap, sym, subst, arith}
-use Rattle.hp_hall.specs.Mail.{Notes}
+use Rattle.std.proofs.Common.{◌≡◌, ◌∙◌, List, [], ◌∷◌, refl, ◌+◌, ◌≤◌, ◌⊎◌, inl, inr, ℕ, true, Some, None, ap, sym, subst, arith}
+use Rattle.std.specs.Prelude.{◌^◌}
+use Rattle.std.proofs.lemmas.Bool.{cases_lt}
+use Rattle.hp_hall.specs.Mail.{MailStep, Notes}
 use Rattle.hp_hall.specs.declared.note.Note.TheVariants.{Read}
-use Rattle.hp_serve.specs.AskSteps.{waits_until}
+use Rattle.hp_serve.specs.AskSteps.{StopsNotifying, waits_until}
 use Rattle.hp_serve.specs.Party.{IsSameParty, Party}
 use Rattle.hp_serve.specs.Waiting.{IsWaited}
-use Rattle.hp_serve.proofs.AskDone.{does_notify}
+use Rattle.hp_serve.proofs.AskDone.{does_notify, stops_notifying}
+use Rattle.hp_serve.proofs.AskedAlong.{on_err_any}
 use Rattle.hp_serve.proofs.Rising.{wait_rises}
 use Rattle.hp_hall.specs.HallState.{Did, IsBusy, Stays}
-use Rattle.hp_hall.proofs.HallStates.{did_then, may_still, stays_then, waits_by}
+use Rattle.hp_hall.proofs.HallStates.{did_same, did_then, may_still, stays_then, waits_by}
 use Rattle.hp_serve.specs.InHall.{CanServe, StaysIn}
 use Rattle.hp_serve.proofs.InHalls.{as_then, in_same, tied_later}
 use Rattle.hp_serve.proofs.server.Server.notify.Goals as goal
@@ -141,3 +144,48 @@ returns-in_err-_reading-clause-clock g c =
     (c.now-since.ensures.stays.others.clock ∙ c.send_notice.ensures.stays.others.clock) (c.now-since.ensures.reached since (omega arith))
     (subst (λ (until : ℕ). (new ≡ mid) ⊎ (new ≤ until))
     (c.waits_until-until.ensures ∙ ap (λ (party : Party). waits_until since party.deadline) c.send_notice.ensures.sent) c.wait.ensures.clock)
+
+-- somebody stopped while it waited
+pub returns-in_err-_reading-clause-err : goal.returns-in_err-_reading-clause-err
+returns-in_err-_reading-clause-err g c =
+    let party = c.args.self.now in
+    let me = party.me in
+    let old = g.H.Hall.state c.args.hall.now in
+    let new = g.H.Hall.state c.wait.new.hall in
+    let sent = c.send_notice.ensures.did in
+    let since = c.now-since.result in
+    let waited = c.in_err-_reading.ensures.turned in
+    let who = ap (λ (party : Party). party.me) c.send_notice.ensures.sent in
+    let count =
+    (g.met.H.Hall.goes_on_later _ _ (g.met.H.Hall.goes_on_then _ _ _ c.send_notice.ensures.goes_on c.now-since.ensures.goes_on)).count in
+    let number : c.in-Some.number ≡ party.asked + 1 = c.in-Some.ensures.1 ∙ ap (λ (party : Party). party.asked + 1) c.self.view_is in
+    let stopped : (steps : List MailStep) × Did me steps old new × StopsNotifying old.count party c.wait.new.self c.args.heap c.args.run.now steps = (
+      _,
+      did_then sent.3
+          (did_then
+          (subst (λ (who : ℕ). Did who (Notes (Read since) ∷ []) (g.H.Hall.state c.send_notice.new.hall) (g.H.Hall.state c.now-since.new.self))
+          (ap (λ (party : Party). party.me) c.self-2.view_is ∙ who) c.now-since.ensures.did)
+          (subst (λ who. Did who waited.0 (g.H.Hall.state c.now-since.new.self) new) who waited.1)),
+      stops_notifying old.count party c.send_notice.new.self c.wait.new.self c.args.heap c.in-Some.number c.args.run.now sent.0 sent.1 since
+          waited.0 number c.send_notice.ensures.sent sent.2
+          (subst (λ until. IsWaited old.count until true c.send_notice.new.self c.wait.new.self waited.0 None) c.waits_until-until.ensures
+          (subst (λ count. IsWaited count c.waits_until-until.result true c.send_notice.new.self c.wait.new.self waited.0 None) count
+          waited.2)),
+    ) in
+    on_err_any _ _ stopped
+
+-- its numbers have come to an end
+pub returns-in_default-clause-err : goal.returns-in_default-clause-err
+returns-in_default-clause-err g c =
+    let party = c.args.self.now in
+    let old = g.H.Hall.state c.args.hall.now in
+    let asked = ap (λ (party : Party). party.asked) c.self.view_is in
+    let ended : 2 ^ 64 ≤ party.asked + 1 =
+    elim (cases_lt (party.asked + 1) (2 ^ 64)) [
+      | inl below ↦ absurd (c.in_default.ensures (omega (arith, below, asked)))
+      | inr past ↦ past
+    ] in (
+      [],
+      did_same party.me old,
+      StopsNotifying.no_number ended refl refl,
+    )

@@ -10,7 +10,7 @@ use Rattle.hp_serve.specs.Waiting.{IsServedOut}
 use Rattle.hp_serve.proofs.AskedLemmas.{asked_served_out}
 use Rattle.hp_serve.proofs.InHalls.{in_can, in_may, in_others, in_tied, in_then}
 use Rattle.hp_serve.proofs.Scaled.{own_weight_still}
-use Rattle.hp_serve.proofs.Waits.{any_moved}
+use Rattle.hp_serve.proofs.Waits.{any_moved, moved_on}
 use Rattle.hp_serve.proofs.server.Server.serve_on.Goals as goal
 
 pub others-requires : goal.others-requires
@@ -56,9 +56,9 @@ returns g c =
     let own = own_weight_still g.H.Hall.scale g.H.Hall.pending old.clock mid.clock c.args.self.now.core c.others.ensures.clock in
     let own_still = own_weight_still g.H.Hall.scale g.H.Hall.pending late.clock new.clock c.serve_some.new.self.core c.others-2.ensures.clock in
     let paid = any_moved g.H.Hall.scale c.own_moved-own.result c.others_moved-below.result c.others_moved-above.result c.has_moved.result c.has_moved.ensures in
-    let first = ap (λ (n : ℕ). g.H.Hall.scale * n) c.others_moved-below.ensures in
-    let second = ap (λ (n : ℕ). g.H.Hall.scale * n) c.own_moved-own.ensures in
-    let third = ap (λ (n : ℕ). g.H.Hall.scale * n) c.others_moved-above.ensures in
+    let first = ap (λ (n : ℕ). g.H.Hall.scale * n) c.others_moved-below.ensures.weighs in
+    let second = ap (λ (n : ℕ). g.H.Hall.scale * n) c.own_moved-own.ensures.weighs in
+    let third = ap (λ (n : ℕ). g.H.Hall.scale * n) c.others_moved-above.ensures.weighs in
     record {
       served = (
         _,
@@ -72,6 +72,9 @@ returns g c =
           served = subst (λ (count : ℕ). IsServedOut count c.args.self.now c.serve_some.new.self one.0 (result_ok c.serve_some.result))
               c.others.ensures.idles.later.count one.2;
           are = refl;
+          moves = moved_on c.has_moved.result c.own_moved-own.result c.others_moved-below.result c.others_moved-above.result
+              (result_ok c.serve_some.result) (result_ok c.others.result) (result_ok c.others-2.result) c.has_moved.ensures
+              c.own_moved-own.ensures.moved c.others_moved-below.ensures.moved c.others_moved-above.ensures.moved;
         },
       );
       weight = omega (arith, lighter, served, lighter_still, own, own_still, paid, first, second, third);

@@ -1,0 +1,71 @@
+-- What a participant does of a line that ends without an answer, step by step: the rule "Lines" of docs/PARTICIPANTS.md.
+use Rattle.std.specs.Prelude.{◌≡◌, ℕ, ◌+◌, Bool, true, List, [], ◌∷◌, ◌++◌, length, Option, Some, None}
+use Rattle.hp_base.specs.declared.row.Run.{Run}
+use Rattle.hp_hall.specs.Mail.{MailStep}
+use Rattle.hp_script.specs.declared.line.Line.{Line}
+use Rattle.hp_segs.specs.SegsView.{SegsView}
+use Rattle.hp_serve.specs.AskSteps.{DoesAskOn, StopsNotifying}
+use Rattle.hp_serve.specs.Party.{IsSameParty, Party}
+use Rattle.hp_serve.specs.Serving.{gives_segments, takes_segments}
+use Rattle.hp_serve.specs.Waiting.{IsTurned}
+use Rattle.hp_serve.specs.declared.pages_asked.PagesAsked.{PagesAsked}
+use Rattle.hp_proc.specs.Acting.{Acts}
+use Rattle.hp_proc.specs.Contexts.{AreFactsOf, after_calls}
+use Rattle.hp_proc.specs.Courses.{calls_in}
+use Rattle.hp_proc.specs.Doing.{Doing, Done, Leads}
+use Rattle.hp_proc.specs.Doing.Done.{Asked}
+use Rattle.hp_proc.specs.Histories.{entries_for}
+use Rattle.hp_proc.specs.Lines.{Facts, doing_of}
+use Rattle.hp_proc.specs.ParticipantView.{ParticipantView, with_party}
+use Rattle.hp_proc.specs.Progress.{AreOnce, Moment, doer_at}
+
+-- what a participant did that stopped over the last of it, with the steps that it made in the hall: with the heap in its hand before and
+-- behind, where it had one, and the heaps that it took meanwhile, in their order
+pub data ActsOn (count : ℕ) : Option ℕ → Option ℕ → List ℕ → ParticipantView → ParticipantView → List Done → List MailStep → Type 0 where
+  -- it did what a line does that is answered
+  acts : (hand behind : Option ℕ) (held : List ℕ) (doer after : ParticipantView) (trace : List Done) (steps : List MailStep)
+      → Acts count hand behind held doer after trace steps → ActsOn count hand behind held doer after trace steps
+  -- somebody stopped in a turn that it waited for a heap
+  turn_stops : (until : ℕ) (doer : ParticipantView) (after : Party) (steps : List MailStep) → IsTurned count until doer.party after steps None
+      → ActsOn count None None [] doer (with_party after doer) [] steps
+  -- it could not be armed to ask for pages for the heap in its hand: it took the segment value and gave it back as it was
+  asks_nothing : (doer : ParticipantView) (heap : ℕ) (taken : SegsView)
+      → ActsOn count (Some heap) (Some heap) [] doer doer [] (takes_segments taken ∷ gives_segments taken ∷ [])
+  -- somebody stopped while it asked for pages for the heap in its hand, and it saw that through
+  asks_on : (doer : ParticipantView) (after : Party) (asked : PagesAsked) (run : Option Run) (steps : List MailStep)
+      → DoesAskOn count doer.party after asked steps run true
+      → ActsOn count (Some asked.heap) (Some asked.heap) [] doer (with_party after doer) (Asked asked run ∷ []) steps
+  -- with no heap in its hand it stopped over telling the coordinator of a run that it had given up
+  notice_stops : (doer : ParticipantView) (after : Party) (heap : ℕ) (run : Run) (steps : List MailStep)
+      → StopsNotifying count doer.party after heap run steps → ActsOn count None None [] doer (with_party after doer) [] steps
+  -- one thing after another
+  and_then : (hand between last : Option ℕ) (held more : List ℕ) (doer mid after : ParticipantView) (first rest : List Done)
+      (before behind : List MailStep) → ActsOn count hand between held doer mid first before
+      → ActsOn count between last more mid after rest behind
+      → ActsOn count hand last (held ++ more) doer after (first ++ rest) (before ++ behind)
+
+-- it did a front of what was to do, from one moment to a later one, and took a front of these heaps into its hand: its trace leads to a rest
+-- that is left; and each heap has its calls, numbered on over all heaps
+pub record Halts (heaps : List ℕ) (count : ℕ) (did : List MailStep → Type 0) (doing : Doing) (old new : Moment) : Type 0 where
+  pub rest : Doing
+  pub trace : List Done
+  pub steps : List MailStep
+  pub held : List ℕ
+  pub others : List ℕ
+  pub front : heaps ≡ held ++ others
+  pub leads : Leads doing trace rest
+  pub made : did steps
+  pub acts : ActsOn count old.hand new.hand held (doer_at old) (doer_at new) trace steps
+  pub entries : (heap : ℕ) → (new.parts heap).entries
+      ≡ (old.parts heap).entries ++ entries_for old.party.me heap (old.context.calls + 1) (calls_in trace)
+  pub counted : new.context
+      ≡ record (after_calls (length (calls_in trace)) old.context) { standing = new.context.standing }
+  pub same : IsSameParty old.party new.party
+
+-- a line ended without an answer: a front of it was done, by what is known when it began, and no heap was held twice
+pub record HaltsLine (count : ℕ) (did : List MailStep → Type 0) (line : Line) (old new : Moment) : Type 0 where
+  pub facts : Facts
+  pub known : AreFactsOf old.party.socket old.context line facts
+  pub heaps : List ℕ
+  pub once : AreOnce heaps
+  pub halts : Halts heaps count did (doing_of line line.act facts) old new
