@@ -1,4 +1,6 @@
 pub mod PlainHeap
+pub mod Boxed
+pub mod Lending
 pub mod LaidOut
 pub mod Tiling
 pub mod Lists
@@ -13,6 +15,8 @@ pub mod ChunkKeeping
 pub mod Statistics
 pub mod Step
 pub mod Allowed
+pub mod Boxed
+pub mod Lending
 pub mod History
 pub mod Growing
 pub mod Headers

@@ -79,7 +79,8 @@ pub returns-in-Alloc : goal.returns-in-Alloc
 returns-in-Alloc g c =
     let is = c.do_alloc.ensures in
     let few = few_of _ _ _ c.self.view_is
-    (c.deadline-deadline.ensures.deadline ∙ ap (λ inside. inside.server.deadline) c.self-inside.view_is) c.deadline-deadline.ensures.few in
+    ((rw c.deref.ensures at c.deadline-deadline.ensures.deadline) ∙ ap (λ inside. inside.server.value.deadline) c.self-inside.view_is)
+    (rw c.deref.ensures at c.deadline-deadline.ensures.few) in
     record {
       does = is.does;
       lies = if_ok _ _ c.do_alloc.result (λ given lies label size options its_act. lies) is.lies;
@@ -92,7 +93,8 @@ pub returns-in-Free : goal.returns-in-Free
 returns-in-Free g c =
     let is = c.do_free.ensures in
     let few = few_of _ _ _ c.self.view_is
-    (c.deadline-deadline.ensures.deadline ∙ ap (λ inside. inside.server.deadline) c.self-inside.view_is) c.deadline-deadline.ensures.few in
+    ((rw c.deref.ensures at c.deadline-deadline.ensures.deadline) ∙ ap (λ inside. inside.server.value.deadline) c.self-inside.view_is)
+    (rw c.deref.ensures at c.deadline-deadline.ensures.few) in
     record {
       does = is.does;
       lies = lies_other c.do_free.result c.args.line.now.act c.do_free.new.self.party (free_other _ _ c.in-Free.is);
@@ -105,7 +107,8 @@ pub returns-in-Resize : goal.returns-in-Resize
 returns-in-Resize g c =
     let is = c.do_resize.ensures in
     let few = few_of _ _ _ c.self.view_is
-    (c.deadline-deadline.ensures.deadline ∙ ap (λ inside. inside.server.deadline) c.self-inside.view_is) c.deadline-deadline.ensures.few in
+    ((rw c.deref.ensures at c.deadline-deadline.ensures.deadline) ∙ ap (λ inside. inside.server.value.deadline) c.self-inside.view_is)
+    (rw c.deref.ensures at c.deadline-deadline.ensures.few) in
     record {
       does = is.does;
       lies = lies_other c.do_resize.result c.args.line.now.act c.do_resize.new.self.party
