@@ -15,8 +15,6 @@ pub mod ChunkKeeping
 pub mod Statistics
 pub mod Step
 pub mod Allowed
-pub mod Boxed
-pub mod Lending
 pub mod History
 pub mod Growing
 pub mod Headers
