@@ -5,9 +5,9 @@ ghost use Rattle.hp_heap.specs.Lists.{free_lists};
 ghost use Rattle.hp_heap.specs.Statistics.{statistics_of};
 ghost use Rattle.hp_heap.specs.History.{IsSound, SameButSpare};
 
+use crate::boxed_headers::BoxedHeaders;
 use crate::elements::{Elements, append};
 use crate::entry::{Entry, HeapAnswer, HeapCall};
-use crate::headers::Headers;
 use crate::page_list::PageList;
 use crate::socket_name::socket_name;
 use hp_base::{Caller, Chunk, Name, Span, Stats};
@@ -27,7 +27,7 @@ pub struct Heap {
     pub(crate) chunks: Vec<Chunk>,
     // The segment lists of its pages, where it takes those of a socket.
     pub(crate) page_lists: Vec<PageList>,
-    pub(crate) headers: Headers,
+    pub(crate) headers: BoxedHeaders,
     pub(crate) history: Vec<Entry>,
     pub(crate) spare: usize,
 }
@@ -60,7 +60,7 @@ impl Heap {
             socket,
             chunks: Vec::new(alloc),
             page_lists: Vec::new(alloc),
-            headers: Headers::new(alloc),
+            headers: BoxedHeaders::new(alloc),
             history: Vec::new(alloc),
             spare: 0,
         }
@@ -80,7 +80,7 @@ impl Heap {
             socket: 0,
             chunks: Vec::new(alloc),
             page_lists: Vec::new(alloc),
-            headers: Headers::new(alloc),
+            headers: BoxedHeaders::new(alloc),
             history: Vec::new(alloc),
             spare: 0,
         }

@@ -7,10 +7,10 @@ use Rattle.hp_segs.proofs.segs.Segs.arm.Goals as goal
 
 pub invariant_of-self-2 : goal.invariant_of-self-2
 invariant_of-self-2 c =
-    let s = c.self.inside in
+    let s = c.self.inside.parts.value in
     let sound =
     sound_armed (view_of s.table s.asks s.retiring.items s.retired s.growth s.roster s.armed.value s.ranges.items s.spare) c.self.invariant.sound c.args.ask.now in
-    rw (c.reserve.ensures.same, c.reserve-2.ensures.same, c.deref_mut.ensures.value)
+    rw (c.reserve.ensures.same, c.reserve-2.ensures.same, c.deref_mut-2.ensures.value, c.deref_mut.ensures.value)
     (kept_rooms s.spare c.reserve.new.self.room c.reserve-2.new.self.room c.self.invariant
     (omega (arith, c.in_ok-reserve.ensures.room))
     (omega (arith, c.in_ok-reserve-2.ensures.room))

@@ -1,0 +1,9 @@
+-- How the headers of a heap are lent. No public clause cites this module.
+use Rattle.std.specs.Borrow.{Fml, Lends, MutBor}
+use Rattle.hp_heap.specs.Headers.{HeadersView}
+use Rattle.hp_heap.specs.contracts.boxed_headers.BoxedHeaders.{the_row}
+use Rattle.hp_heap.specs.contracts.headers.Headers.{the_row as headers_row}
+
+-- the headers in the box end as they are left behind the borrow
+abbrev pub LendsHeaders : MutBor HeadersView → MutBor HeadersView → Fml
+LendsHeaders h r = Lends the_row headers_row h r (λ w. w)
