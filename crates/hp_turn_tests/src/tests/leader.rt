@@ -1,0 +1,134 @@
+//! What participant 0 does: it hands its coordinator the ask that somebody is armed with, and carries that through.
+ghost use Rattle.std.specs.Prelude.{◌≡◌, [], length, IfSome};
+ghost use Rattle.hp_core.specs.Conditions.{NamesParticipants};
+ghost use Rattle.hp_hall.specs.Giving.{GivesSegments, Knows};
+ghost use Rattle.hp_hall.specs.Standings.{LeavesStanding};
+ghost use Rattle.hp_segs.specs.Sound.{IsSound};
+ghost use Rattle.hp_serve.specs.Coordinating.{IsTrueOf};
+ghost use Rattle.hp_board.specs.Views.{noted_of};
+ghost use Rattle.hp_turn_tests.specs.Playing.{HasComeOn, HasTurned, HoldsSegs, IsBack, IsPlaying};
+
+use super::loading::load_all;
+use super::member::{Maps, give_segs, take_in, take_segs};
+use super::stepping::step;
+use hp_board::{Board, Seat};
+use hp_core::{Coordinator, CoreEvent, Out};
+use hp_segs::Segs;
+use std::snapshot::Snapshot;
+use std::sync::Wait;
+use std::thread;
+
+// What it does next.
+#[derive(Clone, Copy, PartialEq, Eq)]
+enum Next {
+    // It waits for the ask of participant 1.
+    Start,
+    // It catches up for its coordinator.
+    Map,
+    // It polls.
+    Poll,
+    // It is done: the ask was answered.
+    End,
+}
+
+// The event of a turn, with the segment value in hand.
+fn event_of(
+    board: &Board,
+    seat: &mut Seat,
+    maps: &mut Maps,
+    segs: &Segs,
+    next: Next,
+) -> Option<CoreEvent>
+    requires holds { HoldsSegs board.now.id segs.now seat.old maps.old }
+    requires first { seat.old.mine.who ≡ 0 }
+    ensures holds { HoldsSegs board.now.id segs.now seat.new maps.new }
+    ensures comes { HasComeOn seat.old.mine seat.new.mine }
+    ensures names { IfSome result NamesParticipants }
+    ensures known { IfSome result (IsTrueOf (λ who. noted_of who seat.new.mine) (length segs.now.log)) }
+{
+    match next {
+        Next::Start => match segs.armed(1) {
+            Some(ask) if ask.from < 16 => Some(CoreEvent::Grow { ask }),
+            _ => None,
+        },
+        Next::Map => match take_in(board, seat, maps, segs) {
+            Some(caught) => Some(CoreEvent::SelfMapped { caught, now: 0 }),
+            None => None,
+        },
+        Next::Poll => {
+            let acks = load_all(board, seat);
+            Some(CoreEvent::Poll { now: 0, acks })
+        }
+        Next::End => None,
+    }
+}
+
+// What an answer of the coordinator asks for.
+fn next_after(out: Out) -> Next {
+    match out {
+        Out::MapSelf { .. } => Next::Map,
+        Out::Sync { .. } | Out::Nothing => Next::Poll,
+        Out::Answer { .. } => Next::End,
+    }
+}
+
+// The coordinator takes the event, where there is one, and memory for the step; what is next then.
+fn handed(core: &mut Coordinator, segs: &mut Segs, event: Option<CoreEvent>, next: Next) -> Next
+    requires names { IfSome event NamesParticipants }
+    requires sound { IsSound segs.old }
+    ensures gives { (knows : Knows) → IfSome event (IsTrueOf knows.noted (length segs.old.log)) → GivesSegments knows segs.old segs.new }
+    ensures leaves { LeavesStanding segs.old segs.new }
+    ensures roster { segs.new.roster ≡ segs.old.roster }
+{
+    let Some(event) = event else {
+        return next;
+    };
+    match step(core, segs, event) {
+        Ok(out) => next_after(out),
+        Err(_) => next,
+    }
+}
+
+// A turn.
+fn lead<R: Wait>(
+    rt: &R,
+    board: &Board,
+    seat: &mut Seat,
+    maps: &mut Maps,
+    core: &mut Coordinator,
+    next: Next,
+) -> Next
+    requires playing { IsPlaying board.now.id seat.old maps.old }
+    requires first { seat.old.mine.who ≡ 0 }
+    ensures playing { IsPlaying board.now.id seat.new maps.new }
+    ensures turned { HasTurned seat.old.mine seat.new.mine }
+{
+    let segs = take_segs(rt, board, seat, maps);
+    let taken = Snapshot::of(&segs);
+    let event = event_of(board, seat, maps, &segs, next);
+    let mut given = segs;
+    let next = handed(core, &mut given, event, next);
+    give_segs(board, seat, maps, &taken, given);
+    next
+}
+
+/// All turns of participant 0, until the ask is answered.
+pub fn lead_all<R: Wait>(rt: &R, board: &Board, seat: Seat, maps: Maps) -> (Seat, Maps)
+    requires playing { IsPlaying board.now.id seat maps }
+    requires first { seat.mine.who ≡ 0 }
+    requires free { seat.mine.held ≡ [] }
+    ensures back { IsBack board.now.id 0 result.0 }
+{
+    let mut seat = seat;
+    let mut maps = maps;
+    let mut core = Coordinator::new(1_000);
+    let mut next = Next::Start;
+    for _ in rt.forever() {
+        next = lead(rt, board, &mut seat, &mut maps, &mut core, next);
+        if next == Next::End {
+            return (seat, maps);
+        }
+        thread::yield_now();
+    }
+    unreachable!()
+}

@@ -1,0 +1,86 @@
+//! A turn of a participant that obeys: it takes in what came to the log, and notes where its mapper failed.
+ghost use Rattle.std.specs.Prelude.{◌≡◌, true, []};
+ghost use Rattle.hp_turn_tests.specs.Asking.{IsRefusedIn};
+ghost use Rattle.hp_turn_tests.specs.Playing.{HasTurned, IsBack, IsPlaying};
+
+use super::member::{Maps, give_segs, take_in, take_segs};
+use super::stepping::note;
+use hp_board::{Board, Seat};
+use hp_segs::{Outcome, Segs};
+use std::snapshot::Snapshot;
+use std::sync::Wait;
+use std::thread;
+
+/// What a participant saw in its turn: how many records the log had, and whether its ask of that number was refused.
+#[derive(Clone, Copy)]
+pub struct Looked {
+    pub records: u64,
+    pub refused: bool,
+}
+
+// Whether an ask was refused.
+fn is_refused(segs: &Segs, who: u8, number: u64) -> bool
+    ensures { result ≡ true → IsRefusedIn segs.now.asks who number }
+{
+    let _records = segs.records();
+    matches!(
+        segs.grant_or_refusal(who, number),
+        Some(Outcome::Refused { .. })
+    )
+}
+
+/// A turn: where the log has more records than it had, the table catches up with it once.
+pub fn obey<R: Wait>(
+    rt: &R,
+    board: &Board,
+    seat: &mut Seat,
+    maps: &mut Maps,
+    before: Looked,
+    number: u64,
+) -> Looked
+    requires playing { IsPlaying board.now.id seat.old maps.old }
+    ensures playing { IsPlaying board.now.id seat.new maps.new }
+    ensures turned { HasTurned seat.old.mine seat.new.mine }
+    ensures refused { result.refused ≡ true → IsRefusedIn seat.new.mine.heard seat.old.mine.who number }
+{
+    let segs = take_segs(rt, board, seat, maps);
+    let taken = Snapshot::of(&segs);
+    let who = seat.participant();
+    let records = segs.records().len() as u64;
+    let refused = is_refused(&segs, who, number);
+    let mut given = segs;
+    if records > before.records {
+        let caught = take_in(board, seat, maps, &given);
+        note(&mut given, who, &caught);
+    }
+    give_segs(board, seat, maps, &taken, given);
+    Looked { records, refused }
+}
+
+/// All turns of a participant that only obeys, until its table has taken in so many records.
+pub fn obey_all<R: Wait>(
+    rt: &R,
+    board: &Board,
+    seat: Seat,
+    maps: Maps,
+    records: u64,
+) -> (Seat, Maps)
+    requires playing { IsPlaying board.now.id seat maps }
+    requires free { seat.mine.held ≡ [] }
+    ensures back { IsBack board.now.id seat.mine.who result.0 }
+{
+    let mut seat = seat;
+    let mut maps = maps;
+    let mut looked = Looked {
+        records: 0,
+        refused: false,
+    };
+    for _ in rt.forever() {
+        looked = obey(rt, board, &mut seat, &mut maps, looked, 0);
+        if maps.number() >= records {
+            return (seat, maps);
+        }
+        thread::yield_now();
+    }
+    unreachable!()
+}
