@@ -20,6 +20,11 @@ use Rattle.hp_hall.specs.declared.kept.Kept.{Kept}
 use Rattle.hp_hall.specs.declared.kept.Kept.TheVariants.{Segments}
 use Rattle.hp_hall.proofs.Gives.{gives_taken}
 use Rattle.hp_serve.specs.Tied.{IsTied}
+use Rattle.hp_core.specs.Following.{after_catching}
+use Rattle.hp_core.specs.Giving.{OnlyNotes}
+use Rattle.hp_core.proofs.GivingLemmas.{catches_note}
+use Rattle.hp_base.specs.declared.caught.Caught.{Caught}
+use Rattle.hp_serve.proofs.Noting.{as_it_was, catching_leaves, leaves_itself, noted_gives}
 use Rattle.hp_serve.proofs.Tying.{tied_along}
 use Rattle.hp_board.specs.Handed.{GoesOnFrom, HasTakenLater, IsHanded}
 use Rattle.hp_board.specs.KeptValues.{IsKeptAt, entries_added}
@@ -29,7 +34,7 @@ use Rattle.hp_board.specs.SeatView.{SeatView}
 use Rattle.hp_board.specs.Views.{after_give, after_load, asks_heard, holdings_taken, log_seen, noted_of, own_of, under, value_of, without}
 use Rattle.hp_board.specs.declared.view.Mine.{Mine}
 use Rattle.hp_board.proofs.Loads.{noted_else, noted_here}
-use Rattle.hp_turn_tests.specs.Playing.{HasComeOn, HasGiven, HasSegs, HasTurned, HoldsSegs, IsBack, IsPlaying}
+use Rattle.hp_turn_tests.specs.Playing.{HasComeOn, HasGiven, HasSegs, HasTurned, HoldsSegs, IsBack, IsNotedIn, IsPlaying}
 
 -- TAKING
 
@@ -240,3 +245,31 @@ taken_sound o kept segs at is = (subst (IsKeptAt o 32) is at).sound
 -- who holds the value has not acknowledged more than its log has
 pub holds_within : (board : TableId) (segs : SegsView) (seat : SeatView) (maps : MapsView) → HoldsSegs board segs seat maps → seat.mine.number ≤ length segs.log
 holds_within board segs seat maps holds = (holds_tied board segs seat maps holds).within
+
+-- NOTED
+
+-- the value as it was
+pub noted_none : (segs : SegsView) → IsNotedIn segs segs
+noted_none segs = record {
+  gives = λ knows. noted_gives knows segs segs (as_it_was segs) (λ old. old);
+  leaves = leaves_itself segs;
+  roster = refl;
+  asks = refl;
+}
+
+pub noted_caught : (segs given : SegsView) (who : ℕ) (caught : Caught) → is_member segs.roster who ≡ true → given ≡ after_catching who caught segs → IsNotedIn segs given
+noted_caught segs given who caught member is =
+    let notes : OnlyNotes segs given = subst (OnlyNotes segs) (sym is) (catches_note who caught segs member) in
+    let leaves : LeavesStanding segs given = subst (LeavesStanding segs) (sym is) (catching_leaves who caught segs) in
+    record {
+      gives = λ knows. noted_gives knows segs given notes leaves.sound;
+      leaves = leaves;
+      roster = notes.roster;
+      asks = notes.asks;
+    }
+
+-- a turn in which a failed mapping was noted, or nothing
+pub turned_noted : (board : TableId) (old mid now new : SeatView) (maps : MapsView) (segs given : SegsView) → HasSegs old.mine segs mid.mine → HoldsSegs board segs now maps
+    → HasComeOn mid.mine now.mine → IsNotedIn segs given → HasGiven now.mine given new.mine → HasTurned old.mine new.mine
+turned_noted board old mid now new maps segs given has holds comes noted gives =
+    turned old.mine now.mine new.mine segs given (come_has mid.mine now.mine comes old.mine segs has) holds.standing noted.leaves gives

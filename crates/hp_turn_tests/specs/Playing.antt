@@ -7,7 +7,9 @@ use Rattle.hp_segs.specs.SegsView.{SegsView, is_member}
 use Rattle.hp_segs.specs.Sound.{IsSound}
 use Rattle.hp_segs.specs.Standing.{Holding, standing_of}
 use Rattle.hp_maps.specs.MapsView.{MapsView}
+use Rattle.hp_hall.specs.Giving.{GivesSegments, Knows}
 use Rattle.hp_hall.specs.Holding.{AreStanding}
+use Rattle.hp_hall.specs.Standings.{LeavesStanding}
 use Rattle.hp_hall.specs.declared.kept.Kept.TheVariants.{Segments}
 use Rattle.hp_serve.specs.Tied.{IsTied}
 use Rattle.hp_board.specs.Knowing.{heap_part}
@@ -84,3 +86,10 @@ pub record IsEmptyTable (maps : MapsView) : Type 0 where
   pub rows : maps.rows ≡ []
   pub number : maps.number ≡ 0
   pub room : MAX_SEGMENTS ≤ maps.capacity
+
+-- a failed mapping was noted in a segment value, or nothing: whoever holds it may give it, and what else it says is as it was
+pub record IsNotedIn (taken given : SegsView) : Type 0 where
+  pub gives : (knows : Knows) → GivesSegments knows taken given
+  pub leaves : LeavesStanding taken given
+  pub roster : given.roster ≡ taken.roster
+  pub asks : given.asks ≡ taken.asks

@@ -1,7 +1,8 @@
 //! What a participant has on its thread, and how it takes and gives the segment value.
-ghost use Rattle.std.specs.Prelude.{◌≡◌, ◌^◌, ◌≤◌, ℕ, true, length, None, IfSome};
+ghost use Rattle.std.specs.Prelude.{◌≡◌, ◌^◌, ◌≤◌, true, false, length, None, IfSome};
 ghost use Rattle.hp_core.specs.Following.{failure_of};
 ghost use Rattle.hp_hall.specs.Giving.{GivesSegments};
+ghost use Rattle.hp_maps.specs.MapsView.{calls_of};
 ghost use Rattle.hp_segs.specs.SegsView.{is_member};
 ghost use Rattle.hp_serve.specs.Tied.{own_after};
 ghost use Rattle.hp_board.specs.Knowing.{knows_of};
@@ -43,6 +44,13 @@ pub fn give_segs(board: &Board, seat: &mut Seat, maps: &Maps, taken: &Snapshot<S
     give(board, seat, SEGMENTS, Kept::Segments(given));
 }
 
+// Whether a table is left as it is.
+fn is_worn(maps: &Maps) -> bool
+    ensures fresh { result ≡ false → calls_of maps.now ≤ 2 ^ 63 }
+{
+    maps.calls() > MOST_CALLS
+}
+
 /// Its table catches up with the log of the value in hand, and it acknowledges that, or tells what it has unmapped.
 pub fn take_in(board: &Board, seat: &mut Seat, maps: &mut Maps, segs: &Segs) -> Option<Caught>
     requires holds { HoldsSegs board.now.id segs.now seat.old maps.old }
@@ -50,7 +58,7 @@ pub fn take_in(board: &Board, seat: &mut Seat, maps: &mut Maps, segs: &Segs) -> 
     ensures comes { HasComeOn seat.old.mine seat.new.mine }
     ensures done { IfSome result (λ caught. failure_of caught ≡ None → length segs.now.log ≡ seat.new.mine.number) }
 {
-    if maps.calls() > MOST_CALLS {
+    if is_worn(maps) {
         return None;
     }
     log_law();

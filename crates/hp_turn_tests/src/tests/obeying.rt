@@ -1,7 +1,7 @@
 //! A turn of a participant that obeys: it takes in what came to the log, and notes where its mapper failed.
 ghost use Rattle.std.specs.Prelude.{◌≡◌, true, []};
 ghost use Rattle.hp_turn_tests.specs.Asking.{IsRefusedIn};
-ghost use Rattle.hp_turn_tests.specs.Playing.{HasTurned, IsBack, IsPlaying};
+ghost use Rattle.hp_turn_tests.specs.Playing.{HasComeOn, HasTurned, HoldsSegs, IsBack, IsNotedIn, IsPlaying};
 
 use super::member::{Maps, give_segs, take_in, take_segs};
 use super::stepping::note;
@@ -29,6 +29,30 @@ fn is_refused(segs: &Segs, who: u8, number: u64) -> bool
     )
 }
 
+// Where something came, the table catches up with the log of the value in hand, and a mapping that failed is noted in that.
+fn taken_in(
+    board: &Board,
+    seat: &mut Seat,
+    maps: &mut Maps,
+    who: u8,
+    segs: Segs,
+    fresh: bool,
+) -> Segs
+    requires holds { HoldsSegs board.now.id segs seat.old maps.old }
+    requires who { who ≡ seat.old.mine.who }
+    ensures holds { HoldsSegs board.now.id segs seat.new maps.new }
+    ensures comes { HasComeOn seat.old.mine seat.new.mine }
+    ensures noted { IsNotedIn segs result }
+{
+    if !fresh {
+        return segs;
+    }
+    let caught = take_in(board, seat, maps, &segs);
+    let mut noted = segs;
+    note(&mut noted, who, &caught);
+    noted
+}
+
 /// A turn: where the log has more records than it had, the table catches up with it once.
 pub fn obey<R: Wait>(
     rt: &R,
@@ -48,11 +72,7 @@ pub fn obey<R: Wait>(
     let who = seat.participant();
     let records = segs.records().len() as u64;
     let refused = is_refused(&segs, who, number);
-    let mut given = segs;
-    if records > before.records {
-        let caught = take_in(board, seat, maps, &given);
-        note(&mut given, who, &caught);
-    }
+    let given = taken_in(board, seat, maps, who, segs, records > before.records);
     give_segs(board, seat, maps, &taken, given);
     Looked { records, refused }
 }

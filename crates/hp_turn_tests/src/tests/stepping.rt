@@ -6,6 +6,7 @@ ghost use Rattle.hp_hall.specs.Standings.{LeavesStanding};
 ghost use Rattle.hp_segs.specs.SegsView.{is_member};
 ghost use Rattle.hp_segs.specs.Sound.{IsSound};
 ghost use Rattle.hp_serve.specs.Coordinating.{IsTrueOf, with_room};
+ghost use Rattle.hp_turn_tests.specs.Playing.{IsNotedIn};
 
 use hp_base::{Caught, NoLimits};
 use hp_core::{Coordinator, CoreEvent, Out, core_law, follow};
@@ -43,12 +44,10 @@ pub fn step(core: &mut Coordinator, segs: &mut Segs, event: CoreEvent) -> Result
 /// A member notes a mapping that failed, where one did.
 pub fn note(segs: &mut Segs, who: u8, caught: &Option<Caught>)
     requires member { is_member segs.old.roster who ≡ true }
-    ensures gives { (knows : Knows) → GivesSegments knows segs.old segs.new }
-    ensures leaves { LeavesStanding segs.old segs.new }
-    ensures roster { segs.new.roster ≡ segs.old.roster }
-    ensures asks { segs.new.asks ≡ segs.old.asks }
+    ensures { IsNotedIn segs.old segs.new }
 {
-    if let Some(caught) = caught {
-        let _reply = follow(segs, who, caught);
-    }
+    let Some(caught) = caught else {
+        return;
+    };
+    let _reply = follow(segs, who, caught);
 }
