@@ -1,5 +1,5 @@
 -- What the participant that asks rests on: it may be armed, its refused ask is settled, and so it may give its heap as it was taken.
-use Rattle.std.proofs.Common.{◌≡◌, ◌≢◌, ◌∙◌, ℕ, zero, suc, ◌+◌, ◌<◌, ◌≤◌, true, List, [], ◌∷◌, ◌++◌, map, length, Option, Some, None, IfSome, refl, sym, ap, subst, arith}
+use Rattle.std.proofs.Common.{◌≡◌, ◌≢◌, ◌∙◌, ℕ, zero, suc, ◌+◌, ◌<◌, ◌≤◌, true, List, [], ◌∷◌, ◌++◌, map, length, Option, Some, None, IfNone, IfSome, refl, sym, ap, subst, arith}
 use Rattle.std.specs.Prelude.{IsSome, slice_index_or, slice_set}
 use Rattle.std.specs.List.{find}
 use Rattle.std.specs.Option.{option_map}
@@ -30,10 +30,11 @@ use Rattle.hp_serve.proofs.AskKnown.{only_answer, refused_known}
 use Rattle.hp_board.specs.Handed.{HasTakenLater, IsHanded}
 use Rattle.hp_board.specs.KeptValues.{IsKeptAt}
 use Rattle.hp_board.specs.Knowing.{heap_part, knows_of}
-use Rattle.hp_board.specs.Views.{value_of, without}
+use Rattle.hp_board.specs.Views.{holdings_taken, value_of, without}
 use Rattle.hp_board.specs.declared.opening.Opening.{Opening}
 use Rattle.hp_board.specs.declared.view.Mine.{Mine}
 use Rattle.hp_board.proofs.Gives.{gives_heap, gives_same}
+use Rattle.hp_turn_tests.proofs.PlayLemmas.{noted_none}
 use Rattle.hp_turn_tests.specs.Asking.{IsArmedWith, IsAsking, IsRefusedIn}
 use Rattle.hp_turn_tests.specs.Playing.{HasGiven, HasSegs, HasTurned}
 
@@ -130,7 +131,7 @@ pub took_heap : (old new : Mine) (kept : Kept) (heap : HeapView) → old.who ≡
 took_heap old new kept heap first free nothing unarmed none is handed takes =
     let at : IsKeptAt old.opening 0 (Heap heap) = subst (IsKeptAt old.opening 0) is handed.at in
     let holdings : new.holdings ≡ (0, takes.holding) ∷ [] =
-    ap (λ (m : Mine). m.holdings) takes.view.1 ∙ (ap (λ (k : Kept). Rattle.hp_board.specs.Views.holdings_taken 0 k takes.holding old.holdings) is
+    ap (λ (m : Mine). m.holdings) takes.view.1 ∙ (ap (λ (k : Kept). holdings_taken 0 k takes.holding old.holdings) is
     ∙ ap (λ (l : List (ℕ × Holding)). (0, takes.holding) ∷ l) nothing) in
     let stands : IsAsPart (heap_part new heap.plain.index) heap = subst (StandsFor old.who (heap_part new)) is handed.stands in
     let known : value_of heap.plain.index new.holdings ≡ Some takes.holding = ap (λ (k : ℕ). value_of k new.holdings) at.index ∙ ap (value_of 0) holdings in
@@ -176,3 +177,25 @@ gives_refused heap ask mine asking own refused =
 
 pub kept_heap : (heap : HeapView) (armed : Option Ask) (mine : Mine) → IsAsking heap armed mine → (kept : Kept) → kept ≡ Heap heap → value_of 0 mine.held ≡ Some kept
 kept_heap heap armed mine asking kept is = ap (value_of 0) asking.held ∙ ap (λ (k : Kept). Some k) (sym is)
+
+-- EITHER WAY
+
+-- it was armed, or not
+module _ (old mid : Mine) (segs given : SegsView) (asking : (heap : HeapView) × IsAsking heap None old) (has : HasSegs old segs mid) (sound : IsSound segs)
+    (standing : AreStanding mid.who (heap_part mid) segs) where
+  pub gives_either : (o : Option Ask) → IfSome o (λ ask. IsArmedWith ask segs given) → IfNone o (given ≡ segs) → GivesSegments (knows_of mid) segs given
+  gives_either None some none = subst (GivesSegments (knows_of mid) segs) (sym none) ((noted_none segs).gives (knows_of mid))
+  gives_either (Some ask) some none = arms_gives old mid segs asking.0 asking.1 has sound standing ask given some
+
+  pub asks_either : (new : Mine) (o : Option Ask) → IfSome o (λ ask. IsArmedWith ask segs given) → HasGiven mid given new
+      → IfSome o (λ ask. (heap : HeapView) → IsAsking heap None old → IsAsking heap (Some ask) new)
+  asks_either new None some gives = tt
+  asks_either new (Some ask) some gives = λ heap was. arms_asking old mid segs heap was has sound standing ask given some new gives
+
+pub roster_either : (segs given : SegsView) (o : Option Ask) → IfSome o (λ ask. IsArmedWith ask segs given) → IfNone o (given ≡ segs) → given.roster ≡ segs.roster
+roster_either segs given None some none = ap (λ (s : SegsView). s.roster) none
+roster_either segs given (Some ask) some none = ap (λ (s : SegsView). s.roster) some.step
+
+pub from_either : (segs given : SegsView) (o : Option Ask) → IfSome o (λ ask. IsArmedWith ask segs given) → IfSome o (λ ask. ask.from ≡ 1)
+from_either segs given None some = tt
+from_either segs given (Some ask) some = some.from

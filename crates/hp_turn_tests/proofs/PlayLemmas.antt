@@ -1,5 +1,8 @@
 -- What the turns of participants that grow by hand rest on: what is kept when the segment value is taken, while it is in hand, and when it is given.
-use Rattle.std.proofs.Common.{◌≡◌, ◌≢◌, ◌∙◌, ℕ, zero, suc, ◌<◌, ◌≤◌, Bool, true, false, List, [], ◌∷◌, ◌++◌, drop, length, map, get_or, replicate, set, Option, Some, None, refl, sym, ap, subst, arith}
+use Rattle.std.proofs.Common.{◌≡◌, ◌≢◌, ◌∙◌, ℕ, zero, suc, ◌<◌, ◌≤◌, Bool, true, false, not, eqb, eq-eqb, List, [], ◌∷◌, ◌++◌, drop, length, map, get_or, replicate, set, Option, Some, None, refl, sym, ap, subst, arith}
+use Rattle.std.specs.Prelude.{OnErr, OnOk, Result, Ok, Err, unwrap_or}
+use Rattle.std.specs.Result.{is_err}
+use Rattle.std.proofs.lemmas.Bool.{cond-true, false≢true}
 use Rattle.std.proofs.lemmas.List.{append-nil, get_or-set_other, get_or-set_same}
 use mathlib.Core.Logic.{dite}
 use native.Mathlib.Decide.{ℕ_discrete}
@@ -13,17 +16,20 @@ use Rattle.hp_segs.specs.Standing.{Holding, standing_of}
 use Rattle.hp_maps.specs.MapsView.{MapsView}
 use Rattle.hp_hall.specs.Giving.{GivesSegments, IsGiveOf}
 use Rattle.hp_hall.specs.Holding.{AreStanding, StandsFor}
-use Rattle.hp_hall.specs.Own.{Own}
+use Rattle.hp_heap.specs.History.{HeapView}
+use Rattle.hp_hall.specs.Own.{Own, after_ack, after_partial}
 use Rattle.hp_hall.specs.Standings.{LeavesStanding}
-use Rattle.hp_hall.specs.Values.{HasMember}
+use Rattle.hp_hall.specs.Values.{HasMember, history_of}
 use Rattle.hp_hall.specs.declared.kept.Kept.{Kept}
-use Rattle.hp_hall.specs.declared.kept.Kept.TheVariants.{Segments}
+use Rattle.hp_hall.specs.declared.kept.Kept.TheVariants.{Heap, Segments}
 use Rattle.hp_hall.proofs.Gives.{gives_taken}
-use Rattle.hp_serve.specs.Tied.{IsTied}
+use Rattle.hp_serve.specs.Tied.{IsTied, own_after}
 use Rattle.hp_core.specs.Following.{after_catching}
 use Rattle.hp_core.specs.Giving.{OnlyNotes}
 use Rattle.hp_core.proofs.GivingLemmas.{catches_note}
+use Rattle.hp_base.specs.Mapping.{is_done}
 use Rattle.hp_base.specs.declared.caught.Caught.{Caught}
+use Rattle.hp_base.specs.declared.caught.Caught.TheVariants.{Done, Refused, Elsewhere}
 use Rattle.hp_serve.proofs.Noting.{as_it_was, catching_leaves, leaves_itself, noted_gives}
 use Rattle.hp_serve.proofs.Tying.{tied_along}
 use Rattle.hp_board.specs.Handed.{GoesOnFrom, HasTakenLater, IsHanded}
@@ -31,9 +37,10 @@ use Rattle.hp_board.specs.KeptValues.{IsKeptAt, entries_added}
 use Rattle.hp_board.specs.Knowing.{heap_part, knows_of}
 use Rattle.hp_board.specs.declared.opening.Opening.{Opening}
 use Rattle.hp_board.specs.SeatView.{SeatView}
-use Rattle.hp_board.specs.Views.{after_give, after_load, asks_heard, holdings_taken, log_seen, noted_of, own_of, under, value_of, without}
+use Rattle.hp_board.specs.Views.{after_acking, after_give, after_load, after_unmapping, asks_heard, holdings_taken, log_seen, noted_of, own_of, under, value_of, without}
 use Rattle.hp_board.specs.declared.view.Mine.{Mine}
 use Rattle.hp_board.proofs.Loads.{noted_else, noted_here}
+use Rattle.hp_board.proofs.Pairs.{value_of-here}
 use Rattle.hp_turn_tests.specs.Playing.{HasComeOn, HasGiven, HasSegs, HasTurned, HoldsSegs, IsBack, IsNotedIn, IsPlaying}
 
 -- TAKING
@@ -153,7 +160,7 @@ none_dropped (suc n) = refl
 
 none_added : (given : SegsView) (held : Option Kept) → entries_added held (Segments given) ≡ []
 none_added given None = refl
-none_added given (Some taken) = none_dropped (length (Rattle.hp_hall.specs.Values.history_of taken))
+none_added given (Some taken) = none_dropped (length (history_of taken))
 
 module _ (board : TableId) (old new : SeatView) (maps : MapsView) (taken given : SegsView) (holds : HoldsSegs board taken old maps)
     (gives : GivesSegments (knows_of old.mine) taken given) where
@@ -193,7 +200,7 @@ module _ (board : TableId) (old new : SeatView) (maps : MapsView) (taken given :
 known_again : (heap : ℕ) (holding : Holding) (mine : Mine) (segs given : SegsView) → mine.holdings ≡ (heap, holding) ∷ [] → AreStanding mine.who (heap_part mine) segs
     → LeavesStanding segs given → map (λ (pair : ℕ × Holding). (pair.0, standing_of pair.0 given)) ((heap, holding) ∷ []) ≡ (heap, holding) ∷ []
 known_again heap holding mine segs given is standing leaves =
-    let has : value_of heap mine.holdings ≡ Some holding = ap (value_of heap) is ∙ Rattle.hp_board.proofs.Pairs.value_of-here heap holding [] in
+    let has : value_of heap mine.holdings ≡ Some holding = ap (value_of heap) is ∙ value_of-here heap holding [] in
     let known : holding ≡ standing_of heap segs = standing.held heap holding has in
     ap (λ (h : Holding). (heap, h) ∷ []) (leaves.standing heap ∙ sym known)
 
@@ -273,3 +280,57 @@ pub turned_noted : (board : TableId) (old mid now new : SeatView) (maps : MapsVi
     → HasComeOn mid.mine now.mine → IsNotedIn segs given → HasGiven now.mine given new.mine → HasTurned old.mine new.mine
 turned_noted board old mid now new maps segs given has holds comes noted gives =
     turned old.mine now.mine new.mine segs given (come_has mid.mine now.mine comes old.mine segs has) holds.standing noted.leaves gives
+
+-- ACKNOWLEDGING
+
+pub own_done : (caught : Caught) (records : ℕ) (own : Own) → is_done caught ≡ true → own_after caught records own ≡ after_ack records
+own_done Done records own is = refl
+own_done (Refused row call) records own is = absurd (cc)
+own_done (Elsewhere row call got) records own is = absurd (cc)
+
+pub own_failed : (caught : Caught) (records : ℕ) (own : Own) → is_done caught ≡ false → own_after caught records own ≡ after_partial records own
+own_failed Done records own is = absurd (cc)
+own_failed (Refused row call) records own is = refl
+own_failed (Elsewhere row call got) records own is = refl
+
+pub ack_comes : (old new : Mine) (number : ℕ) → new ≡ after_acking number old → HasComeOn old new
+ack_comes old new number acked = (number, number, not old.joined, old.noted, acked)
+
+pub partial_comes : (old new : Mine) → new ≡ after_unmapping old → HasComeOn old new
+partial_comes old new unmapped = (old.number, length old.log, old.joining, old.noted, unmapped)
+
+pub ack_own : (old new : Mine) (caught : Caught) (records : ℕ) → is_done caught ≡ true → new ≡ after_acking records old → own_of new ≡ own_after caught records (own_of old)
+ack_own old new caught records is acked = ap (λ (m : Mine). own_of m) acked ∙ sym (own_done caught records (own_of old) is)
+
+pub partial_own : (old new : Mine) (caught : Caught) (records : ℕ) → is_done caught ≡ false → records ≡ length old.log → new ≡ after_unmapping old
+    → own_of new ≡ own_after caught records (own_of old)
+partial_own old new caught records is seen unmapped =
+    ap (λ (m : Mine). own_of m) unmapped
+    ∙ (ap (λ (n : ℕ). after_partial n (own_of old)) (sym seen) ∙ sym (own_failed caught records (own_of old) is))
+
+-- what participant 0 has noted of itself is its number
+pub noted_first : (mine : Mine) → mine.who ≡ 0 → noted_of 0 mine ≡ mine.number
+noted_first mine first = cond-true (eqb 0 mine.who) mine.number (unwrap_or (value_of 0 mine.noted) 0) (eq-eqb 0 mine.who (sym first))
+
+-- a heap was taken, which brings nothing to the log
+pub took_playing : (board : TableId) (old new : SeatView) (maps : MapsView) (kept : Kept) (heap : HeapView) → IsPlaying board old maps → new.board ≡ old.board
+    → HasTakenLater 0 kept old.mine new.mine → kept ≡ Heap heap → IsPlaying board new maps
+took_playing board old new maps kept heap playing here takes is =
+    let log : new.mine.log ≡ old.mine.log = ap (λ (m : Mine). m.log) takes.view.1 ∙ ap (λ (k : Kept). log_seen k old.mine.log) is in
+    let own : own_of new.mine ≡ own_of old.mine = ap (λ (m : Mine). own_of m) takes.view.1 in
+    record {
+      board_is = here ∙ playing.board_is;
+      three = ap (λ (m : Mine). m.opening.participants) takes.view.1 ∙ playing.three;
+      joined = ap (λ (m : Mine). m.joined) takes.view.1 ∙ playing.joined;
+      tied = subst (λ (l : List LogRecord). IsTied l (own_of new.mine) true maps) (sym log)
+          (subst (λ (o : Own). IsTied old.mine.log o true maps) (sym own) playing.tied);
+    }
+
+-- whether there was memory
+pub where_ok : {T E : Type 0} (r : Result T E) (P : Type 0) → is_err r ≡ false → OnOk r P → P
+where_ok (Ok value) P ok on = on
+where_ok (Err fault) P ok on = absurd (false≢true (sym ok))
+
+pub where_err : {T E : Type 0} (r : Result T E) (P : Type 0) → is_err r ≡ true → OnErr r P → P
+where_err (Ok value) P err on = absurd (false≢true err)
+where_err (Err fault) P err on = on

@@ -1,11 +1,11 @@
 //! What participant 1 does: it holds a heap, arms an ask for a page for it, and gives the heap back once the ask is refused.
-ghost use Rattle.std.specs.Prelude.{◌≡◌, ℕ, [], ◌∷◌, None, Some, IfNone, IfSome};
+ghost use Rattle.std.specs.Prelude.{◌≡◌, ◌<◌, [], true, None, Some, IfNone, IfSome};
 ghost use Rattle.hp_segs.specs.LaterSteps.{armed_ask};
-ghost use Rattle.hp_segs.specs.Sound.{IsSound};
+ghost use Rattle.hp_segs.specs.SegsView.{closed_number};
 ghost use Rattle.hp_heap.specs.History.{HeapView};
 ghost use Rattle.hp_segs.specs.Standing.{IsArmed};
 ghost use Rattle.hp_turn_tests.specs.Asking.{IsArmedWith, IsAsking};
-ghost use Rattle.hp_turn_tests.specs.Playing.{HasTurned, IsBack, IsPlaying};
+ghost use Rattle.hp_turn_tests.specs.Playing.{IsBack, IsPlaying};
 
 use super::member::{Maps, give_segs, take_segs};
 use super::obeying::{Looked, obey};
@@ -18,15 +18,23 @@ use std::snapshot::Snapshot;
 use std::sync::Wait;
 use std::thread;
 
+// The number of its next ask.
+fn next_number(segs: &Segs) -> Option<u64>
+    ensures { IfSome result (λ number. closed_number segs.now.asks 1 < number) }
+{
+    segs.closed(1).checked_add(1)
+}
+
 // Arms participant 1, which has no ask, with its next one: for a page for heap 0.
 fn armed(segs: &mut Segs, request: &Request) -> Option<Ask>
-    requires sound { IsSound segs.old }
     requires asks { IsArmed segs.old }
     requires unarmed { armed_ask segs.old 1 ≡ None }
     ensures some { IfSome result (λ ask. IsArmedWith ask segs.old segs.new) }
     ensures none { IfNone result (segs.new ≡ segs.old) }
 {
-    let number = segs.closed(1).checked_add(1)?;
+    let Some(number) = next_number(segs) else {
+        return None;
+    };
     let ask = Ask {
         from: 1,
         number,
@@ -35,10 +43,10 @@ fn armed(segs: &mut Segs, request: &Request) -> Option<Ask>
         page: PAGE,
         request: *request,
     };
-    match segs.arm(&ask) {
-        Ok(()) => Some(ask),
-        Err(_) => None,
+    if segs.arm(&ask).is_err() {
+        return None;
     }
+    Some(ask)
 }
 
 // A turn in which participant 1, which has no ask, is armed; without memory for that, or numbers, it is not.
@@ -57,11 +65,17 @@ fn arm<R: Wait>(
 {
     let segs = take_segs(rt, board, seat, maps);
     let taken = Snapshot::of(&segs);
-    let _records = segs.records();
     let mut given = segs;
     let ask = armed(&mut given, request);
     give_segs(board, seat, maps, &taken, given);
     ask
+}
+
+// Whether its ask was refused, and its table has taken in so many records.
+fn is_over(looked: Looked, maps: &Maps, records: u64) -> bool
+    ensures { result ≡ true → looked.refused ≡ true }
+{
+    looked.refused && maps.number() >= records
 }
 
 /// All turns of participant 1; it comes back where its ask was refused and its table has taken in so many records.
@@ -81,14 +95,16 @@ pub fn ask_for_a_page<R: Wait>(
     let mut seat = seat;
     let mut maps = maps;
     let kept = take(rt, board, &mut seat, HEAP);
-    let ask = arm(rt, board, &mut seat, &maps, request)?;
+    let Some(ask) = arm(rt, board, &mut seat, &maps, request) else {
+        return None;
+    };
     let mut looked = Looked {
         records: 0,
         refused: false,
     };
     for _ in rt.forever() {
         looked = obey(rt, board, &mut seat, &mut maps, looked, ask.number);
-        if looked.refused && maps.number() >= records {
+        if is_over(looked, &maps, records) {
             give(board, &mut seat, HEAP, kept);
             return Some((seat, maps));
         }

@@ -1,5 +1,5 @@
 //! What participant 0 does: it hands its coordinator the ask that somebody is armed with, and carries that through.
-ghost use Rattle.std.specs.Prelude.{◌≡◌, [], length, IfSome};
+ghost use Rattle.std.specs.Prelude.{◌≡◌, ℕ, [], length, IfSome};
 ghost use Rattle.hp_core.specs.Conditions.{NamesParticipants};
 ghost use Rattle.hp_hall.specs.Giving.{GivesSegments, Knows};
 ghost use Rattle.hp_hall.specs.Standings.{LeavesStanding};
@@ -14,6 +14,7 @@ use super::stepping::step;
 use hp_board::{Board, Seat};
 use hp_core::{Coordinator, CoreEvent, Out};
 use hp_segs::Segs;
+use std::alloc::AllocError;
 use std::snapshot::Snapshot;
 use std::sync::Wait;
 use std::thread;
@@ -29,6 +30,47 @@ enum Next {
     Poll,
     // It is done: the ask was answered.
     End,
+}
+
+// The ask with which participant 1 is armed.
+fn ask_of(segs: &Segs) -> Option<CoreEvent>
+    ensures names { IfSome result NamesParticipants }
+    ensures known { (noted : ℕ → ℕ) (records : ℕ) → IfSome result (IsTrueOf noted records) }
+{
+    let Some(ask) = segs.armed(1) else {
+        return None;
+    };
+    if ask.from >= 16 {
+        return None;
+    }
+    Some(CoreEvent::Grow { ask })
+}
+
+// Participant 0 has caught up, or has failed to.
+fn mapped_of(board: &Board, seat: &mut Seat, maps: &mut Maps, segs: &Segs) -> Option<CoreEvent>
+    requires holds { HoldsSegs board.now.id segs.now seat.old maps.old }
+    requires first { seat.old.mine.who ≡ 0 }
+    ensures holds { HoldsSegs board.now.id segs.now seat.new maps.new }
+    ensures comes { HasComeOn seat.old.mine seat.new.mine }
+    ensures names { IfSome result NamesParticipants }
+    ensures known { IfSome result (IsTrueOf (λ who. noted_of who seat.new.mine) (length segs.now.log)) }
+{
+    let Some(caught) = take_in(board, seat, maps, segs) else {
+        return None;
+    };
+    Some(CoreEvent::SelfMapped { caught, now: 0 })
+}
+
+// A poll, by the numbers of all.
+fn poll_of(board: &Board, seat: &mut Seat, maps: &Maps, segs: &Segs) -> CoreEvent
+    requires holds { HoldsSegs board.now.id segs.now seat.old maps.now }
+    ensures holds { HoldsSegs board.now.id segs.now seat.new maps.now }
+    ensures comes { HasComeOn seat.old.mine seat.new.mine }
+    ensures names { NamesParticipants result }
+    ensures known { IsTrueOf (λ who. noted_of who seat.new.mine) (length segs.now.log) result }
+{
+    let acks = load_all(board, seat);
+    CoreEvent::Poll { now: 0, acks }
 }
 
 // The event of a turn, with the segment value in hand.
@@ -47,18 +89,9 @@ fn event_of(
     ensures known { IfSome result (IsTrueOf (λ who. noted_of who seat.new.mine) (length segs.now.log)) }
 {
     match next {
-        Next::Start => match segs.armed(1) {
-            Some(ask) if ask.from < 16 => Some(CoreEvent::Grow { ask }),
-            _ => None,
-        },
-        Next::Map => match take_in(board, seat, maps, segs) {
-            Some(caught) => Some(CoreEvent::SelfMapped { caught, now: 0 }),
-            None => None,
-        },
-        Next::Poll => {
-            let acks = load_all(board, seat);
-            Some(CoreEvent::Poll { now: 0, acks })
-        }
+        Next::Start => ask_of(segs),
+        Next::Map => mapped_of(board, seat, maps, segs),
+        Next::Poll => Some(poll_of(board, seat, maps, segs)),
         Next::End => None,
     }
 }
@@ -72,7 +105,15 @@ fn next_after(out: Out) -> Next {
     }
 }
 
-// The coordinator takes the event, where there is one, and memory for the step; what is next then.
+// What is next, by what the coordinator said; without memory for its step that is tried again.
+fn next_said(said: Result<Out, AllocError>, next: Next) -> Next {
+    match said {
+        Ok(out) => next_after(out),
+        Err(_) => next,
+    }
+}
+
+// The coordinator takes the event, where there is one; what is next then.
 fn handed(core: &mut Coordinator, segs: &mut Segs, event: Option<CoreEvent>, next: Next) -> Next
     requires names { IfSome event NamesParticipants }
     requires sound { IsSound segs.old }
@@ -80,13 +121,11 @@ fn handed(core: &mut Coordinator, segs: &mut Segs, event: Option<CoreEvent>, nex
     ensures leaves { LeavesStanding segs.old segs.new }
     ensures roster { segs.new.roster ≡ segs.old.roster }
 {
-    let Some(event) = event else {
+    let Some(its) = event else {
         return next;
     };
-    match step(core, segs, event) {
-        Ok(out) => next_after(out),
-        Err(_) => next,
-    }
+    let said = step(core, segs, its);
+    next_said(said, next)
 }
 
 // A turn.

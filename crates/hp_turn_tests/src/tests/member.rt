@@ -1,5 +1,6 @@
 //! What a participant has on its thread, and how it takes and gives the segment value.
 ghost use Rattle.std.specs.Prelude.{◌≡◌, ◌^◌, ◌≤◌, true, false, length, None, IfSome};
+ghost use Rattle.hp_base.specs.Mapping.{is_done};
 ghost use Rattle.hp_core.specs.Following.{failure_of};
 ghost use Rattle.hp_hall.specs.Giving.{GivesSegments};
 ghost use Rattle.hp_maps.specs.MapsView.{calls_of};
@@ -69,6 +70,16 @@ pub fn take_in(board: &Board, seat: &mut Seat, maps: &mut Maps, segs: &Segs) -> 
     Some(caught)
 }
 
+// Whether all rows were mapped.
+fn is_done(caught: &Caught) -> bool
+    ensures { result ≡ is_done caught.now }
+{
+    match caught {
+        Caught::Done => true,
+        Caught::Refused { .. } | Caught::Elsewhere { .. } => false,
+    }
+}
+
 // It acknowledges so many records where all rows are mapped, and else tells that it has unmapped what it has seen to be dropped.
 fn tell(board: &Board, seat: &mut Seat, caught: &Caught, records: u64)
     requires board { seat.old.board ≡ board.now.id }
@@ -79,8 +90,9 @@ fn tell(board: &Board, seat: &mut Seat, caught: &Caught, records: u64)
     ensures comes { HasComeOn seat.old.mine seat.new.mine }
     ensures own { own_of seat.new.mine ≡ own_after caught.now records (own_of seat.old.mine) }
 {
-    match caught {
-        Caught::Done => board.ack(seat, records),
-        Caught::Refused { .. } | Caught::Elsewhere { .. } => board.partial(seat),
+    if is_done(caught) {
+        board.ack(seat, records);
+        return;
     }
+    board.partial(seat);
 }

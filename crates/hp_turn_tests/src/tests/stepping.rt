@@ -49,5 +49,5 @@ pub fn note(segs: &mut Segs, who: u8, caught: &Option<Caught>)
     let Some(caught) = caught else {
         return;
     };
-    let _reply = follow(segs, who, caught);
+    let _ = follow(segs, who, caught);
 }
