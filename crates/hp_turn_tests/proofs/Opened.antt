@@ -15,6 +15,9 @@ use Rattle.hp_serve.specs.Tied.{IsTied, nothing_yet}
 use Rattle.hp_board.specs.BoardView.{BoardView}
 use Rattle.hp_board.specs.Closing.{IsFreeSeat, IsAmong}
 use Rattle.hp_board.specs.SeatView.{SeatView, new_seat, new_seats}
+use Rattle.atomic_table.specs.Seated.{TableId}
+use Rattle.hp_board.specs.Views.{after_load}
+use Rattle.hp_board.specs.declared.view.Mine.{Mine}
 use Rattle.hp_board.specs.Served.{AreOpeningHeaps, AreOpeningSegs}
 use Rattle.hp_turn_tests.specs.Playing.{IsBack, IsEmptyTable, IsNewcomer}
 
@@ -144,3 +147,22 @@ everyone board first second third three a b c zero may = record { seat = first; 
 everyone board first second third three a b c (suc zero) may = record { seat = second; there = (1, lit< tt, refl); who_is = b.who_is }
 everyone board first second third three a b c (suc (suc zero)) may = record { seat = third; there = (2, lit< tt, refl); who_is = c.who_is }
 everyone board first second third three a b c (suc (suc (suc k))) may = absurd (omega arith)
+
+-- a seat from which a number was loaded
+pub back_loaded : (board : TableId) (who other number : ℕ) (old new : SeatView) → IsBack board who old → new.board ≡ old.board → new.mine ≡ after_load other number old.mine → IsBack board who new
+back_loaded board who other number old new back here loaded = record {
+  board_is = here ∙ back.board_is;
+  three = ap (λ (m : Mine). m.opening.participants) loaded ∙ back.three;
+  who_is = ap (λ (m : Mine). m.who) loaded ∙ back.who_is;
+  held = ap (λ (m : Mine). m.held) loaded ∙ back.held;
+}
+
+-- a table that was made
+pub table_ok : {E : Type 0} (made : Result MapsView E) (first : MapsView) → IfOk made (λ maps. maps ≡ first) → IsEmptyTable first → IfOk made IsEmptyTable
+table_ok (Ok maps) first is empty = subst IsEmptyTable (sym is) empty
+table_ok (Err e) first is empty = tt
+
+-- a participant of the opening's roster
+pub member_of : (board : BoardView) (segs : SegsView) (who : ℕ) → board.opening.segs.value ≡ segs → ((k : ℕ) → k < 3 → is_member segs.roster k ≡ true) → who < 3
+    → is_member board.opening.segs.value.roster who ≡ true
+member_of board segs who is each low = ap (λ (s : SegsView). is_member s.roster who) is ∙ each who low

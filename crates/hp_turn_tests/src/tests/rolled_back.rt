@@ -128,24 +128,20 @@ fn first_call(alloc: Global) -> Result<Vec<u64>, AllocError> {
     Ok(calls)
 }
 
-// The three participants play; what is left, or `None` where the ask came out otherwise.
-fn play<R: Threads + Wait + Sync>(rt: &R, alloc: Global) -> Result<Option<Left>, AllocError> {
-    let Ok(request) = Request::new(1_000, 0, 0, 0) else {
-        return Err(AllocError);
-    };
-    let heaps = opening_heaps(alloc)?;
-    let (board, seats) = Board::new(alloc, heaps, opening_segs(alloc)?, 3)?;
-    let back = Vec::with_capacity(alloc, 3)?;
-    let Some((first, second, third)) = three(seats) else {
-        return Err(AllocError);
-    };
-    let leader = (first, empty_table(alloc, Vec::new(alloc))?);
-    let asker = (second, empty_table(alloc, Vec::new(alloc))?);
-    let third = (third, empty_table(alloc, first_call(alloc)?)?);
-    let (leader, (asker, third)) = all(rt, &board, leader, asker, third, &request);
-    let Some(asker) = asker else {
-        return Ok(None);
-    };
+// The board is closed, and what is left is told.
+fn ended(
+    board: Board,
+    back: Vec<Seat>,
+    leader: (Seat, Maps),
+    asker: (Seat, Maps),
+    third: (Seat, Maps),
+) -> Left
+    requires three { board.opening.participants ≡ 3 }
+    requires back { (back.items ≡ []) × (3 ≤ vec_capacity back) }
+    requires leader { IsBack board.id 0 leader.0 }
+    requires asker { IsBack board.id 1 asker.0 }
+    requires third { IsBack board.id 2 third.0 }
+{
     let rows = [
         leader.1.rows().len(),
         asker.1.rows().len(),
@@ -154,11 +150,36 @@ fn play<R: Threads + Wait + Sync>(rt: &R, alloc: Global) -> Result<Option<Left>,
     let mut seat = third.0;
     let word = board.load_ack(&mut seat, 2);
     let closed = board.close(gathered(back, leader.0, asker.0, seat));
-    Ok(Some(Left {
+    Left {
         closed,
         rows,
         third: word,
-    }))
+    }
+}
+
+// The three participants play; what is left, or `None` where the ask came out otherwise.
+fn play<R: Threads + Wait + Sync>(rt: &R, alloc: Global) -> Result<Option<Left>, AllocError> {
+    let Ok(request) = Request::new(1_000, 0, 0, 0) else {
+        return Err(AllocError);
+    };
+    let heaps = opening_heaps(alloc)?;
+    let segs = opening_segs(alloc)?;
+    let (board, seats) = Board::new(alloc, heaps, segs, 3)?;
+    let back = Vec::with_capacity(alloc, 3)?;
+    let first_table = empty_table(alloc, Vec::new(alloc))?;
+    let second_table = empty_table(alloc, Vec::new(alloc))?;
+    let third_table = empty_table(alloc, first_call(alloc)?)?;
+    let Some((first, second, third)) = three(seats) else {
+        return Err(AllocError);
+    };
+    let leader = (first, first_table);
+    let asker = (second, second_table);
+    let third = (third, third_table);
+    let (leader, (asker, third)) = all(rt, &board, leader, asker, third, &request);
+    match asker {
+        Some(asker) => Ok(Some(ended(board, back, leader, asker, third))),
+        None => Ok(None),
+    }
 }
 
 // Whether the log has a growth of one run and its Drop, and no more.

@@ -1,4 +1,6 @@
-use Rattle.std.proofs.Common.{refl, ◌∙◌, arith, length-set}
+use Rattle.std.proofs.Common.{refl, ap, ◌∙◌, arith, length-set}
+use Rattle.hp_board.specs.Views.{own_of}
+use Rattle.hp_board.specs.declared.view.Mine.{Mine}
 use Rattle.hp_turn_tests.proofs.PlayLemmas.{come_none, come_three, loaded_noted, loads_one, nothing_loaded}
 use Rattle.hp_turn_tests.proofs.tests.loading.load_all.Goals as goal
 
@@ -6,6 +8,7 @@ pub loop-participant-init : goal.loop-participant-init
 loop-participant-init c = record {
   board = refl;
   comes = come_none c.args.seat.now.mine;
+  own = refl;
   places = refl;
   noted = nothing_loaded 16 c.args.seat.now.mine;
 }
@@ -25,6 +28,7 @@ loop-participant-preserved c =
     record {
       board = c.load_ack.ensures.board ∙ is.board;
       comes = loads_one c.args.seat.now.mine c.loop-participant.seat.mine c.load_ack.new.seat.mine c.loop-participant.participant c.load_ack.result is.comes c.load_ack.ensures.loaded;
+      own = ap (λ (m : Mine). own_of m) c.load_ack.ensures.loaded ∙ is.own;
       places = length-set c.loop-participant.acks c.loop-participant.participant c.load_ack.result ∙ places;
       noted = loaded_noted c.loop-participant.seat.mine c.load_ack.new.seat.mine c.loop-participant.acks c.loop-participant.participant c.load_ack.result
           (omega (arith, low, places)) c.load_ack.ensures.own c.load_ack.ensures.loaded is.noted;
