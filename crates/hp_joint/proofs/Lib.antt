@@ -105,12 +105,16 @@ pub mod SegsAlong
 pub mod ServesNoHeap
 pub mod Settings
 pub mod Shown
+pub mod ShownLines
+pub mod ShownOn
+pub mod ShownTraces
 pub mod SoFarFacts
 pub mod SoFarOn
 pub mod SoundHistories
 pub mod StandingApart
 pub mod StepChanges
 pub mod TableRows
+pub mod TellsLast
 pub mod Traced
 pub mod TracedAsks
 pub mod TracedCore
@@ -127,3 +131,4 @@ pub mod WaysOn
 pub mod Withdrawn
 pub mod Worked
 mod WorkedDrops
+mod WorkedFreed

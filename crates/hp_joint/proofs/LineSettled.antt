@@ -94,7 +94,7 @@ module _ (count absent : ℕ) (pools : List PoolLine) (first start now : Joint) 
         (caused_at start.segs.pools start.segs.log [] start.segs.asks place entry start_sound.asks.caused here).is.within
 
     -- an outcome of a number of the line came in it
-    came : (place : ℕ) (entry : AskLog) → slice_get now.segs.asks place ≡ Some entry → entry.from ≡ who → before_line < entry.number
+    pub came : (place : ℕ) (entry : AskLog) → slice_get now.segs.asks place ≡ Some entry → entry.from ≡ who → before_line < entry.number
         → base ≤ place
     came place entry here own above = elim (cases_lt place base) [
       | inl early ↦

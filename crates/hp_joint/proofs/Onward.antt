@@ -20,6 +20,7 @@ use Rattle.hp_serve.specs.Party.{Party}
 use Rattle.hp_proc.specs.Seen.{AreSeen, seen_by_lines}
 use Rattle.hp_joint.specs.Drops.{DropsComeFirst, DropsGoOnByLine, cut_by_lines}
 use Rattle.hp_joint.specs.EndLaws.{GoesBy, GoesOnByLine, IsGiven, MayFailAsBefore}
+use Rattle.hp_joint.specs.Freed.{AreShown, NoneComesLate, ShownGoOnByLine}
 use Rattle.hp_joint.specs.Seats.{Seat}
 use Rattle.hp_joint.specs.SoFar.{SoFar}
 use Rattle.hp_joint.specs.Together.{Joint, Runs}
@@ -33,6 +34,7 @@ use Rattle.hp_joint.proofs.LineRun.{line_run}
 use Rattle.hp_joint.proofs.LineSettled.{IsLineRun}
 use Rattle.hp_joint.proofs.LineTries.{TriesAtMostOnce}
 use Rattle.hp_joint.proofs.SeenAndGrown as shown
+use Rattle.hp_joint.proofs.ShownOn.{shown_on}
 use Rattle.hp_joint.proofs.SoFarFacts.{IsAt, seat_of}
 use Rattle.hp_joint.proofs.SoFarOn.{AreLinesThere, so_far_on}
 use Rattle.hp_joint.proofs.WaysOn.{IsLast}
@@ -147,6 +149,19 @@ module _ (workload : Workload) (courses : List Course) (parties behind : List Pa
       (standing_after (opening_standing workload by) (courses_of by courses)) one refl refl (so.seats by before.it before.there).trace
       goes.built (line_is_done workload courses parties behind old new line answer given so goes) gone)
 
+  pub shown_by_line : (was segs : SegsView) → segs_in (slot_at old MAX_HEAPS) ≡ Some was → segs_in (slot_at new MAX_HEAPS) ≡ Some segs
+      → NoneComesLate courses was.asks segs.asks → AreShown was.log was.asks courses → AreShown segs.log segs.asks lines
+  shown_by_line was segs was_at at late shown =
+      let first_segs : so.now.segs ≡ was = same_Some so.now.segs was (sym so.its_segs ∙ was_at) in
+      subst (λ (segs : SegsView). AreShown segs.log segs.asks lines) (shown_there segs at)
+      (shown_on workload.participants workload.absent workload.pools.items so.first so.now now so.is_first so.runs by before.it last.it did
+      its_run courses (asks_of_each workload courses parties old so) so.seen
+      (subst (λ (was : SegsView). NoneComesLate courses was.asks now.segs.asks) (sym first_segs)
+      (subst (λ (segs : SegsView). NoneComesLate courses was.asks segs.asks) (sym (shown_there segs at)) late))
+      (subst (λ (segs : SegsView). AreShown segs.log segs.asks courses) (sym first_segs) shown) workload
+      (standing_after (opening_standing workload by) (courses_of by courses)) one refl refl (so.seats by before.it before.there).trace
+      goes.built (line_is_done workload courses parties behind old new line answer given so goes))
+
 -- after a line all stands as before it
 pub so_far_line : GoesOnByLine
 so_far_line workload courses parties behind old new line answer given so goes = (
@@ -159,3 +174,8 @@ so_far_line workload courses parties behind old new line answer given so goes = 
 pub drops_line : DropsGoOnByLine
 drops_line workload courses parties behind old new line answer was now given so goes was_at at none drops =
     drops_by_line workload courses parties behind old new line answer given so goes was now was_at at none drops
+
+-- and what the lines show of the log with their notices never falls, where no outcome comes late
+pub shown_line : ShownGoOnByLine
+shown_line workload courses parties behind old new line answer was now given so goes was_at at late shown =
+    shown_by_line workload courses parties behind old new line answer given so goes was now was_at at late shown

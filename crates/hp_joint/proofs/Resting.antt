@@ -17,6 +17,7 @@ use Rattle.hp_proc.specs.LinesDone.{Course}
 use Rattle.hp_serve.specs.Party.{Party}
 use Rattle.hp_joint.specs.Drops.{DropsComeFirst, DropsRest}
 use Rattle.hp_joint.specs.EndLaws.{IsGiven, MayFailAsBefore, OthersServe, RestsSoFar, ServesBeside}
+use Rattle.hp_joint.specs.Freed.{AreShown, NoneComesLate, ShownRest}
 use Rattle.hp_joint.specs.Seats.{Seat}
 use Rattle.hp_joint.specs.SoFar.{SoFar, standing_of, trace_for}
 use Rattle.hp_joint.specs.Together.{Joint, Runs}
@@ -33,6 +34,7 @@ use Rattle.hp_joint.proofs.PartsOn.{history_on}
 use Rattle.hp_joint.proofs.Paths.{Comes}
 use Rattle.hp_joint.proofs.PathsWaiting.{serves_path}
 use Rattle.hp_joint.proofs.SeenAndGrown as shown
+use Rattle.hp_joint.proofs.ShownOn.{shown_still}
 use Rattle.hp_joint.proofs.ServesNoHeap.{serves_leaves}
 use Rattle.hp_joint.proofs.SoFarFacts.{IsAt, at_place, owns_many, seat_of}
 use Rattle.hp_joint.proofs.SoFarOn.{AreLinesThere, IsKnownFor, so_far_on}
@@ -165,6 +167,18 @@ module _ (workload : Workload) (courses : List Course) (parties behind : List Pa
       last.it [] its_run courses (asks_of_each workload courses parties old so) so.seen
       (subst (λ (segs : SegsView). DropsComeFirst workload.participants segs.log segs.asks courses) (sym first_segs) drops))
 
+  pub shown_by_rest : (was segs : SegsView) → segs_in (slot_at old MAX_HEAPS) ≡ Some was → segs_in (slot_at new MAX_HEAPS) ≡ Some segs
+      → NoneComesLate courses was.asks segs.asks → AreShown was.log was.asks courses → AreShown segs.log segs.asks courses
+  shown_by_rest was segs was_at at late shows =
+      let first_segs : so.now.segs ≡ was = same_Some so.now.segs was (sym so.its_segs ∙ was_at) in
+      let last_segs : now.segs ≡ segs = same_Some now.segs segs (sym all_came.gone.its ∙ at) in
+      subst (λ (segs : SegsView). AreShown segs.log segs.asks courses) last_segs
+      (shown_still workload.participants workload.absent workload.pools.items so.first so.now now so.is_first so.runs 0 before.it last.it []
+      its_run courses (asks_of_each workload courses parties old so) so.seen
+      (subst (λ (was : SegsView). NoneComesLate courses was.asks now.segs.asks) (sym first_segs)
+      (subst (λ (segs : SegsView). NoneComesLate courses was.asks segs.asks) (sym last_segs) late))
+      (subst (λ (segs : SegsView). AreShown segs.log segs.asks courses) (sym first_segs) shows))
+
 -- behind servings all stands as before them
 pub so_far_rests : RestsSoFar
 so_far_rests workload courses parties behind old new given so size serve home course = (
@@ -176,3 +190,8 @@ so_far_rests workload courses parties behind old new given so size serve home co
 pub drops_rest : DropsRest
 drops_rest workload courses parties behind old new was now given so size serve home course was_at at drops =
     drops_by_rest workload courses parties behind old new given so size serve home course was now was_at at drops
+
+-- and what the lines show of the log with their notices never falls, where no outcome comes late
+pub shown_rest : ShownRest
+shown_rest workload courses parties behind old new was now given so size serve home course was_at at late shown =
+    shown_by_rest workload courses parties behind old new given so size serve home course was now was_at at late shown

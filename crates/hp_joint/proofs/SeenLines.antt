@@ -15,10 +15,10 @@ use Rattle.hp_joint.proofs.Numbers.{numbered_both}
 use Rattle.hp_joint.proofs.SeenTraces.{AreAnsweredFrom, answered_from, behind_answered, front_answered, seen_append, trace_stays}
 use Rattle.hp_joint.proofs.Rising.{Rises, rises_append, rises_behind, rises_instead, rises_seen, seen_rising}
 
-counted_own : (asked : ℕ → ℕ) (who more : ℕ) → counted_on asked who more who ≡ asked who + more
+pub counted_own : (asked : ℕ → ℕ) (who more : ℕ) → counted_on asked who more who ≡ asked who + more
 counted_own asked who more = ap (λ own. cond own (asked who + more) (asked who)) (eq-eqb who who refl)
 
-counted_other : (asked : ℕ → ℕ) (who more other : ℕ) → (other == who) ≡ false → counted_on asked who more other ≡ asked other
+pub counted_other : (asked : ℕ → ℕ) (who more other : ℕ) → (other == who) ≡ false → counted_on asked who more other ≡ asked other
 counted_other asked who more other beside = ap (λ own. cond own (asked other + more) (asked other)) beside
 
 -- the lines of a participant, by whether the first is its own
@@ -31,18 +31,18 @@ another : (who : ℕ) (course : Course) (courses : List Course) → (course.line
 another who course courses beside = ap (λ own. cond own (course ∷ courses_of who courses) (courses_of who courses)) beside
 
 -- how many numbers a participant took, with so many before these lines
-abbrev took : (ℕ → ℕ) → ℕ → List Course → ℕ
+abbrev pub took : (ℕ → ℕ) → ℕ → List Course → ℕ
 took made who courses = made who + length (numbered_in (trace_of (courses_of who courses)))
 
 -- what counts for the later lines the first one
 module _ (made : ℕ → ℕ) (course : Course) (courses : List Course) where
-  abbrev whose : ℕ
+  abbrev pub whose : ℕ
   whose = course.line.participant
 
-  abbrev behind_first : ℕ → ℕ
+  abbrev pub behind_first : ℕ → ℕ
   behind_first = counted_on made whose (length (numbered_in course.trace))
 
-  took_next : (who : ℕ) → took behind_first who courses ≡ took made who (course ∷ courses)
+  pub took_next : (who : ℕ) → took behind_first who courses ≡ took made who (course ∷ courses)
   took_next who = elim (cases_eq whose who) [
     | inl own ↦
         let counted : behind_first who ≡ made who + length (numbered_in course.trace) =

@@ -36,13 +36,13 @@ later_above asks turn before later x y read there less same x_fresh y_fresh =
     (record { there = there; from = sym same; fresh = y_fresh }) less
 
 -- the first outcome of a number, at its place
-record IsFoundAt (asks : List AskLog) (who number : ℕ) (entry : AskLog) : Type 0 where
+pub record IsFoundAt (asks : List AskLog) (who number : ℕ) (entry : AskLog) : Type 0 where
   pub place : ℕ
   pub here : slice_get asks place ≡ Some entry
   pub from : entry.from ≡ who
   pub its : entry.number ≡ number
 
-found_at : (asks : List AskLog) (who number : ℕ) (entry : AskLog) → find (is_outcome_for who number) asks ≡ Some entry
+pub found_at : (asks : List AskLog) (who number : ℕ) (entry : AskLog) → find (is_outcome_for who number) asks ≡ Some entry
     → IsFoundAt asks who number entry
 found_at asks who number entry found =
     let is = find_some (is_outcome_for who number) asks entry found in

@@ -3,3 +3,4 @@ pub mod Together
 pub mod SoFar
 pub mod EndLaws
 pub mod Drops
+pub mod Freed

@@ -1,6 +1,7 @@
 //! Laws of a run of all participants of a hall. They are proved of all runs, and their functions have no code.
 ghost use Rattle.hp_joint.specs.Drops.{DropsGoOnByLine, DropsOpen, DropsRest};
 ghost use Rattle.hp_joint.specs.EndLaws.{EndsSo, FailsByReason, FailsOnce, GoesOnByLine, OpensSoFar, RefusesByReason, RefusesOnce, RestsSoFar};
+ghost use Rattle.hp_joint.specs.Freed.{ShownGoOnByLine, ShownOpen, ShownRest};
 
 /// A run of the participants of a hall in one thread goes from line to line: before the first line, by each line that one of them does
 /// while the others serve, and where all serve on, each has done what its lines say so far, step by step, and each mapper may fail at the
@@ -38,4 +39,12 @@ pub fn drops_law()
     ensures opens { DropsOpen }
     ensures goes_on { DropsGoOnByLine }
     ensures rests { DropsRest }
+{}
+
+/// What the lines of such a run show of the log, with the notices of what they gave up, never falls: so it is before the first line, after
+/// each line in which none of the lines before gets an outcome late, and where all serve on and none gets one. Own.
+pub fn shown_law()
+    ensures opens { ShownOpen }
+    ensures goes_on { ShownGoOnByLine }
+    ensures rests { ShownRest }
 {}

@@ -22,7 +22,7 @@ use Rattle.hp_segs.specs.declared.outcome.Cause.TheVariants.{Withdrawn}
 use Rattle.hp_segs.proofs.ClosedLemmas.{and_false, closed_push}
 use Rattle.hp_serve.specs.Party.{Party}
 use Rattle.hp_reasons.specs.Counting.{LosesNothing, lost_among}
-use Rattle.hp_reasons.specs.Episode.{AreLevel, IsBase, IsExcused, IsInPlace, Setting, World, number_of_party, notices_lost, made_before}
+use Rattle.hp_reasons.specs.Episode.{AreLevel, IsBase, IsExcused, IsInPlace, IsInTime, Setting, World, number_of_party, notices_lost, made_before}
 use Rattle.hp_reasons.specs.Quiet.{IsQuietOwing, IsQuietWorld, IsQuietBut}
 use Rattle.hp_reasons.specs.Failing.{AreGrantsWithin}
 use Rattle.hp_reasons.specs.Outcomes.{IsApart, IsCauseApart, late_outcomes, stale_outcomes, unanswered_among, withdrawn_outcomes}
@@ -33,7 +33,7 @@ use Rattle.hp_reasons.proofs.LinesQuiet.{quiet_stays}
 use Rattle.hp_reasons.proofs.OutcomesMore.{failed_push, late_push, stale_push, withdrawn_push}
 use Rattle.hp_reasons.proofs.Said.{set_long, set_same}
 use Rattle.hp_reasons.proofs.CountingLemmas.{one_if}
-use Rattle.hp_reasons.proofs.Told.{unanswered_heard, unanswered_more, made_other, made_own}
+use Rattle.hp_reasons.proofs.Told.{comes_one, in_time_on, unanswered_heard, unanswered_more, made_other, made_own}
 
 module _ (set : Setting) (me : ℕ) (world : World) (segs : SegsView) (party : Party) where
   -- the segment value has come to another
@@ -224,6 +224,13 @@ module _ (set : Setting) (ask : Ask) (world : World) (segs : SegsView) (party : 
             omega (arith, told, made, keeps_still who one.asked)
       ]
 
+  -- what came is its own
+  in_time_still : (who : ℕ) (one : Party) → slice_get behind.parties who ≡ Some one → IsInTime set segs.asks who one.asked
+  in_time_still who one found =
+      let told = quiet.told who one (was_there who one found) in
+      in_time_on set before segs.asks (want.Grow ask) who one.asked
+      (comes_one (want.Grow ask) who before segs.asks entry asks (inr (refl, refl))) told.fresh told.in_time
+
   excused_still : (who : ℕ) (first one : Party) → slice_get behind.parties 0 ≡ Some first → slice_get behind.parties who ≡ Some one
       → IsExcused set behind who first one
   excused_still who first one top found =
@@ -267,6 +274,7 @@ module _ (set : Setting) (ask : Ask) (world : World) (segs : SegsView) (party : 
     empty = quiet.empty;
     doubled = λ who one found. omega (arith, quiet.doubled who one (was_there who one found), stale_still who);
     told = told_still;
+    in_time = in_time_still;
     level = level_kept set me world segs party quiet.level log roster;
   }
 

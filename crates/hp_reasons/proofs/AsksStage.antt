@@ -181,6 +181,11 @@ module _ (set : Setting) (call : Asked) (sent : ℕ) (world : World) (frame : Fr
           sends.freed,
         );
         last = λ same. sends.asked;
+        fresh = λ same. omega (arith, (quiet.in_time (asker call) party there).before, next);
+        in_time = record {
+          before = omega (arith, (quiet.in_time (asker call) party there).before, next, sends.asked);
+          still = (quiet.in_time (asker call) party there).still;
+        };
       }
     where
       one_less : (n : ℕ) → n + 1 - 1 ≡ n
@@ -200,6 +205,8 @@ module _ (set : Setting) (call : Asked) (sent : ℕ) (world : World) (frame : Fr
               answered =
                   omega (arith, was, ap (unanswered_among world.shared.segs.asks who) (made_other call who one other));
               last = λ own. absurd (other own);
+              fresh = λ own. absurd (other own);
+              in_time = quiet.in_time who one (sym (set_unfound world.parties (asker call) who after other) ∙ found);
             }
       ]
 

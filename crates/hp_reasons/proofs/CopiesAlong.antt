@@ -38,7 +38,7 @@ pub record IsLike (old new : SegsView) : Type 0 where
   pub closed : (who : ℕ) → closed_number new.asks who ≡ closed_number old.asks who
   pub late : (who : ℕ) → late_outcomes who new.asks ≡ late_outcomes who old.asks
   pub withdrawn : (who : ℕ) → withdrawn_outcomes who new.asks ≡ withdrawn_outcomes who old.asks
-  pub heard : (who : ℕ) → IsHeardOn who old.asks new.asks
+  pub heard : (call : Asked) (who : ℕ) → IsHeardOn call who old.asks new.asks
   pub failed : (who call : ℕ) → has_failed_from new.asks who call ≡ has_failed_from old.asks who call
   pub granted : (number : ℕ) → AreGrantsWithin number old.asks → AreGrantsWithin number new.asks
   pub answered : (from number : ℕ) → list_any (grants_or_refuses from number) old.asks ≡ true
@@ -114,7 +114,7 @@ module _ (set : Setting) (old new : World) (along : IsAlong old new) where
       → (who : ℕ) (party : Party) → slice_get new.parties who ≡ Some party → IsToldBefore set new.shared.segs.asks call who party
   told_along call told who party found =
       let came = along.before who party found in
-      told_on set old.shared.segs.asks new.shared.segs.asks call who came.its party (along.segs.heard who) came.same.asked
+      told_on set old.shared.segs.asks new.shared.segs.asks call who came.its party (along.segs.heard call who) came.same.asked
       (ap (λ (sent : Sent). sent.frees) came.same.sent) (told who came.its came.there)
 
   -- each one is in its place, a failure is noted of a call that was made, and what was refused has its reasons

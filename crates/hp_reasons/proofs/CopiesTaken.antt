@@ -1,5 +1,5 @@
 -- What becomes of a further copy of an ask: the coordinator holds it, or it is stale, and nothing is posted.
-use Rattle.std.proofs.Common.{◌≡◌, ◌∙◌, ℕ, Bool, true, false, not, ◌&&◌, length, Option, List, Some, None, refl, ap, sym, subst, ◌+◌, ◌==◌}
+use Rattle.std.proofs.Common.{◌≡◌, ◌∙◌, ℕ, Bool, true, false, not, ◌&&◌, length, Option, List, Some, None, inl, refl, ap, sym, subst, ◌+◌, ◌==◌}
 use Rattle.std.specs.List.{list_any, All}
 use Rattle.std.proofs.Math.Bool.{and-false}
 use Rattle.std.proofs.lemmas.Bool.{cond-false, cond-true, le-leb}
@@ -48,7 +48,7 @@ like_by old new log roster growth armed retiring same = record {
   closed = λ who. ap (λ (asks : List AskLog). closed_number asks who) same;
   late = λ who. ap (late_outcomes who) same;
   withdrawn = λ who. ap (withdrawn_outcomes who) same;
-  heard = λ who. heard_same who old.asks new.asks same;
+  heard = λ call who. heard_same call who old.asks new.asks same;
   failed = λ who call. ap (λ (asks : List AskLog). has_failed_from asks who call) same;
   granted = λ number are. subst (AreGrantsWithin number) (sym same) are;
   answered = λ from number is. ap (list_any (grants_or_refuses from number)) same ∙ is;
@@ -72,9 +72,9 @@ like_stale segs from number = record {
   closed = closed_stays segs.asks from number (closed_number segs.asks from) (length segs.log);
   late = late_stays segs.asks from number (closed_number segs.asks from) (length segs.log);
   withdrawn = withdrawn_stays segs.asks from number (closed_number segs.asks from) (length segs.log);
-  heard = λ who.
-      heard_more who segs.asks (after_stale from number (with_room segs)).asks _ refl
-      (withdrawn_stays segs.asks from number (closed_number segs.asks from) (length segs.log) who);
+  heard = λ call who.
+      heard_more call who segs.asks (after_stale from number (with_room segs)).asks _ refl
+      (withdrawn_stays segs.asks from number (closed_number segs.asks from) (length segs.log) who) (inl refl);
   failed = failed_stays segs.asks from number (closed_number segs.asks from) (length segs.log);
   granted = λ bound are entry generation there grants.
       are entry generation

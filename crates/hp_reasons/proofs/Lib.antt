@@ -89,6 +89,7 @@ pub mod StepsAlong
 pub mod Synced
 pub mod ThreadsBetween
 pub mod ThreadsDrain
+pub mod ThreadsInTime
 pub mod ThreadsLevel
 pub mod ThreadsLine
 pub mod ThreadsLooks

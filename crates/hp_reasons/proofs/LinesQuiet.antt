@@ -21,7 +21,7 @@ use Rattle.hp_serve.specs.Party.{Party}
 use Rattle.hp_serve.specs.Posting.{times_sent}
 use Rattle.hp_serve.specs.declared.sent.Sent.{Sent}
 use Rattle.hp_reasons.specs.Counting.{LosesNothing, doubled_among, lost_among}
-use Rattle.hp_reasons.specs.Episode.{AreLevel, AreSaid, IsBase, IsExcused, IsInPlace, IsNotedCall, Setting, World, doubles, mail_of, number_of_party}
+use Rattle.hp_reasons.specs.Episode.{AreLevel, AreSaid, IsBase, IsExcused, IsInPlace, IsInTime, IsNotedCall, Setting, World, doubles, mail_of, number_of_party}
 use Rattle.hp_reasons.specs.Quiet.{IsQuietWorld}
 use Rattle.hp_reasons.specs.Failing.{AreGrantsWithin}
 use Rattle.hp_reasons.specs.Outcomes.{late_outcomes, stale_outcomes, withdrawn_outcomes, IsApart, unanswered_among}
@@ -229,5 +229,9 @@ module _ (set : Setting) (me : ℕ) (world : World) (shared : Shared) (party aft
         let missed : unanswered_among shared.segs.asks who one.asked ≡ unanswered_among world.shared.segs.asks who its.old.asked =
         ap (λ (asks : List AskLog). unanswered_among asks who one.asked) shares.asks ∙ ap (unanswered_among world.shared.segs.asks who) its.asked in
         omega (arith, lost, missed, quiet.told who its.old its.there));
+    in_time = λ who one found.
+        (let its = was_there who one found in
+        subst (λ (asks : List AskLog). IsInTime set asks who one.asked) (sym shares.asks)
+        (subst (IsInTime set world.shared.segs.asks who) (sym its.asked) (quiet.in_time who its.old its.there)));
     level = level_here;
   }

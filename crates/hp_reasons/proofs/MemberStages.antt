@@ -143,7 +143,7 @@ module _ (set : Setting) (world : World) (who : ℕ) (party after : Party) (shar
           | inr apart ↦ omega (arith, are.others other its others apart.1, stale_same other)
         ];
     told = λ other its found.
-        let on = heard_same other world.shared.segs.asks shared.segs.asks serves.segs.asks in
+        let on = heard_same call other world.shared.segs.asks shared.segs.asks serves.segs.asks in
         elim (get_set world.parties who other after its found) [
           | inl both ↦
               subst (λ (one : Party). IsToldBefore set shared.segs.asks call other one) (sym both.1)

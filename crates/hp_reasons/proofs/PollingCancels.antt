@@ -1,5 +1,5 @@
 -- A growth that failed, or for which a member is late, is cancelled, and its rollback begins.
-use Rattle.std.proofs.Common.{◌≡◌, ◌∙◌, ℕ, ◌+◌, ◌-◌, ◌<◌, ◌≤◌, ◌==◌, Bool, true, false, ◌&&◌, List, [], ◌∷◌, length, Option, Some, None, inl, refl, sym, ap, subst, arith, length-append}
+use Rattle.std.proofs.Common.{◌≡◌, ◌∙◌, ℕ, ◌+◌, ◌-◌, ◌<◌, ◌≤◌, ◌==◌, Bool, true, false, ◌&&◌, List, [], ◌∷◌, length, Option, Some, None, inl, inr, refl, sym, ap, subst, arith, length-append}
 use Rattle.std.proofs.lemmas.Bool.{and_parts, eqb-true}
 use Rattle.std.proofs.lemmas.Bool.Decides.{nat_tests}
 use Rattle.std.proofs.lemmas.Option.{same_Some}
@@ -246,8 +246,8 @@ module _ (set : Setting) (call : Asked) (sent : ℕ) (world : World) (primary : 
           doubled = goes_doubled world primary mapping (segs cause) there set call holds holds false
               (omega (arith, stale_same world.shared.segs.asks (refusal cause) (asker call) refl))
               (λ who apart. stale_same world.shared.segs.asks (refusal cause) who refl)
-              (λ who. heard_more who world.shared.segs.asks (segs cause).asks (refusal cause ∷ []) refl
-              (withdrawn_same world.shared.segs.asks (refusal cause) who one.stands)) grows.doubled;
+              (λ who. heard_more call who world.shared.segs.asks (segs cause).asks (refusal cause) refl
+              (withdrawn_same world.shared.segs.asks (refusal cause) who one.stands) (inr (its_from, its_number))) grows.doubled;
           earlier = λ member lies. (
             λ first. clash (sym lies ∙ (ap (λ (n : ℕ). list_any is_sync (mail_of world n)) first
                 ∙ bodies_unsynced call (mail_of world 0) grows.bodies)),

@@ -80,7 +80,7 @@ module _ (world : World) (primary : Party) (next : Core) (segs : SegsView) (ther
         → stale_outcomes (asker call) segs.asks + (if later then 1 else 0)
         ≤ stale_outcomes (asker call) world.shared.segs.asks + (if holds then 1 else 0)
         → ((who : ℕ) → who ≢ asker call → stale_outcomes who segs.asks ≡ stale_outcomes who world.shared.segs.asks)
-        → ((who : ℕ) → IsHeardOn who world.shared.segs.asks segs.asks)
+        → ((who : ℕ) → IsHeardOn call who world.shared.segs.asks segs.asks)
         → AreDoubled set world call holds fresh → AreDoubled set (goes world primary next segs) call later fresh
     goes_doubled holds later fresh own others heard doubled = record {
       asker_is = λ party found.

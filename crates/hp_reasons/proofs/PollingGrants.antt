@@ -144,8 +144,8 @@ module _ (set : Setting) (call : Asked) (sent : ℕ) (world : World) (primary : 
       doubled = goes_doubled world primary resting segs there set call holds holds false
           (omega (arith, stale_same world.shared.segs.asks entry (asker call) refl))
           (λ who apart. stale_same world.shared.segs.asks entry who refl)
-          (λ who. heard_more who world.shared.segs.asks segs.asks (entry ∷ []) refl
-          (withdrawn_same world.shared.segs.asks entry who entry_fits.stands)) grows.doubled;
+          (λ who. heard_more call who world.shared.segs.asks segs.asks entry refl
+          (withdrawn_same world.shared.segs.asks entry who entry_fits.stands) (inr (its_from, its_number))) grows.doubled;
       no_sync = unsynced;
       answered = answered_behind call ending world.shared.segs.asks entry refl its_from its_number refl;
       level = record { gone = grows.level.gone; level = λ loses. all_level };

@@ -48,7 +48,7 @@ module _ (set : Setting) (call : Asked) (sent : ℕ) (world : World) (shared : S
     still_doubled : (fresh : Bool) → AreDoubled set world call false fresh → AreDoubled set still call false fresh
     still_doubled fresh doubled =
         goes_doubled world primary is.its room there set call false false fresh (omega arith)
-        (λ who apart. refl) (like_room world.shared.segs).heard doubled
+        (λ who apart. refl) ((like_room world.shared.segs).heard call) doubled
 
     still_unanswered : IsUnanswered call world → IsUnanswered call still
     still_unanswered unanswered = goes_unanswered world primary is.its room there set call unanswered
@@ -101,7 +101,7 @@ module _ (set : Setting) (call : Asked) (sent : ℕ) (world : World) (shared : S
         alone closed bodies
         (goes_doubled world primary released stale_segs there set call true false false
         (omega (arith, stale_more world.shared.segs (asker call) (number_of call) (asker call), at_most_one (asker call == asker call)))
-        stale_other like.heard doubled)
+        stale_other (like.heard call) doubled)
         none (answered_along call world later along answered) level)
 
   over_on : (holds : Bool) → HasCoordinator set world Idle call holds → world.shared.segs.growth ≡ None → IsClosed call world

@@ -80,7 +80,7 @@ module _ (set : Setting) (call : Asked) (sent : ℕ) (world : World) (shared : S
         (goes_coordinated world primary growing_core room there set call (Waiting round sent) holds
         (with_phase set (Waiting round sent) (Waiting round sent) call holds primary.core is))
         grows.opens (to_do_along call world growing_world along grows.to_do) grows.clock grows.bodies
-        (goes_doubled world primary growing_core room there set call holds holds false (omega arith) (λ who apart. refl) like.heard
+        (goes_doubled world primary growing_core room there set call holds holds false (omega arith) (λ who apart. refl) (like.heard call)
         grows.doubled)
         grows.follow grows.awaited grows.level
 
@@ -138,7 +138,7 @@ module _ (set : Setting) (call : Asked) (sent : ℕ) (world : World) (shared : S
         (goes_coordinated world primary waiting_core room there set call (Waiting round since) holds
         (with_phase set (Waiting round since) (Waiting round since) call holds primary.core is))
         settles.alone settles.closed settles.early settles.clock settles.logged settles.bodies
-        (goes_doubled world primary waiting_core room there set call holds holds false (omega arith) (λ who apart. refl) like.heard
+        (goes_doubled world primary waiting_core room there set call holds holds false (omega arith) (λ who apart. refl) (like.heard call)
         settles.doubled)
         settles.waiting (answered_along call world waiting_world along settles.answered) settles.level
 
@@ -206,7 +206,7 @@ module _ (set : Setting) (call : Asked) (sent : ℕ) (world : World) (shared : S
           alone = settles.alone;
           closed = settles.closed;
           copies = settles.bodies;
-          doubled = goes_doubled world primary next room there set call holds holds false (omega arith) (λ who apart. refl) like.heard
+          doubled = goes_doubled world primary next room there set call holds holds false (omega arith) (λ who apart. refl) (like.heard call)
               settles.doubled;
           no_sync = none;
           answered = answered_along call world ending_world along settles.answered;

@@ -49,7 +49,9 @@ module _ (set : Setting) (world : World) (primary : Party) (next : Core) (segs :
       let came = came_of world primary next segs there who party found in
       let lost =
       notices_lost_same set who came.its party (ap (λ (sent : Sent). sent.frees) came.same.sent) in
-      omega (arith, may came.its came.there, unanswered_fewer who world.shared.segs.asks segs.asks (like.heard who) (number - 1), lost)
+      let fewer =
+      unanswered_fewer (want.Shrink who number) who world.shared.segs.asks segs.asks (like.heard (want.Shrink who number) who) (number - 1) in
+      omega (arith, may came.its came.there, fewer, lost)
 
   -- an ask that was lost may still be taken back
   pub goes_back : (call : Asked) → MayBeTakenBack set call world → MayBeTakenBack set call (goes world primary next segs)

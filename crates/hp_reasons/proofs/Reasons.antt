@@ -1,5 +1,6 @@
 -- In one thread growths are refused, and asks taken back or stale, for reasons that the plan names, and where no message is lost nothing is
 -- left to do at the end: all parts together.
+use Rattle.hp_reasons.specs.InTime.{LinesHearInTime, RestsHearInTime}
 use Rattle.hp_reasons.specs.Lines.{AreWaitsQuiet}
 use Rattle.hp_reasons.specs.Notices.{ThreadsHearNotices}
 use Rattle.hp_reasons.specs.Threads.{LeadInQuiet, ThreadsEndLevel, ThreadsHaveReasons}
@@ -16,6 +17,7 @@ use Rattle.hp_reasons.proofs.PollingOn.{polls_on}
 use Rattle.hp_reasons.proofs.SharedAlong.{courses_go_along}
 use Rattle.hp_reasons.proofs.StartingFresh.{starts_fresh}
 use Rattle.hp_reasons.proofs.ThreadsBetween.{leads_by}
+use Rattle.hp_reasons.proofs.ThreadsInTime.{lines_hear_in_time, rests_hear_in_time}
 use Rattle.hp_reasons.proofs.ThreadsLevel.{threads_end_level}
 use Rattle.hp_reasons.proofs.ThreadsNotices.{threads_hear_notices}
 use Rattle.hp_reasons.proofs.ThreadsReasons.{threads_have_reasons}
@@ -56,3 +58,9 @@ threads_level = threads_end_level lead
 
 pub threads_notices : ThreadsHearNotices
 threads_notices = threads_hear_notices lead
+
+pub threads_lines_in_time : LinesHearInTime
+threads_lines_in_time = lines_hear_in_time lead
+
+pub threads_rest_in_time : RestsHearInTime
+threads_rest_in_time = rests_hear_in_time lead

@@ -16,7 +16,7 @@ use Rattle.hp_reasons.specs.Outcomes.{stale_outcomes}
 use Rattle.hp_reasons.specs.Servings.{CarriesOut, MapsItself, PostsFor, answers, maps, nobody, nothing, posts, synced, syncs}
 use Rattle.hp_reasons.specs.Shared.{Shared}
 use Rattle.hp_reasons.specs.Stages.{world_with}
-use Rattle.hp_reasons.proofs.StartingBase.{Follows, doubles_on, heard_logged, stale_logged, was_there}
+use Rattle.hp_reasons.proofs.StartingBase.{Follows, LogsItsOwn, doubles_on, heard_logged, stale_logged, was_there}
 use Rattle.hp_reasons.proofs.Told.{told_on}
 
 module _ (set : Setting) (world : World) (shared : Shared) (primary after : Party) (there : slice_get world.parties 0 ≡ Some primary)
@@ -37,8 +37,9 @@ module _ (set : Setting) (world : World) (shared : Shared) (primary after : Part
   }
 
   -- each ask that was stale came twice
-  pub doubled_follows : (call : Asked) (holds fresh : Bool) → AreDoubled set world call holds fresh → AreDoubled set next call holds fresh
-  doubled_follows call holds fresh doubled = record {
+  pub doubled_follows : (call : Asked) (holds fresh : Bool) → LogsItsOwn call world.shared.segs.asks shared.segs.asks
+      → AreDoubled set world call holds fresh → AreDoubled set next call holds fresh
+  doubled_follows call holds fresh own doubled = record {
     asker_is = λ party found.
         let was = was_there shared world primary after there follows.on (asker call) party found in
         let same = stale_logged next world.shared.segs.asks shared.segs.asks (asker call) follows.asks in
@@ -54,7 +55,7 @@ module _ (set : Setting) (world : World) (shared : Shared) (primary after : Part
     told = λ who party found.
         let was = was_there shared world primary after there follows.on who party found in
         told_on set world.shared.segs.asks shared.segs.asks call who was.before party
-        (heard_logged next world.shared.segs.asks shared.segs.asks who follows.asks) was.on.asked was.on.frees
+        (heard_logged call next world.shared.segs.asks shared.segs.asks who follows.asks own) was.on.asked was.on.frees
         (doubled.told who was.before was.there);
   }
 

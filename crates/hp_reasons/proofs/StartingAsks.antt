@@ -34,7 +34,7 @@ use Rattle.hp_reasons.specs.Shared.{Shared}
 use Rattle.hp_reasons.specs.Stages.{ComesTo, IsStarting}
 use Rattle.hp_reasons.specs.Episode.{EndsLevel, IsAnsweredFor, IsBase, IsGoneBefore}
 use Rattle.hp_reasons.proofs.StartingAlong.{carries_posts, doubled_follows, unanswered_follows}
-use Rattle.hp_reasons.proofs.StartingBase.{IsOrderly, base_follows, logs, stays}
+use Rattle.hp_reasons.proofs.StartingBase.{IsOrderly, base_follows, logs, logs_none, logs_own, stays}
 use Rattle.hp_reasons.proofs.StartingFirst.{HasStarted, acknowledged_within, dropped, started_asked, started_coordinator, started_follows, started_found, started_world}
 use Rattle.hp_reasons.proofs.StartingGrants.{copies_or, copies_unsynced, others_room}
 use Rattle.hp_reasons.proofs.StartingGrowing.{IsOpening}
@@ -140,7 +140,8 @@ module _ (set : Setting) (call : Asked) (sent : ℕ) (world : World) (primary : 
             ∙ (ap (λ (segs : SegsView). segs.growth) done_segs ∙ starting.alone);
         closed = closed_behind call at_mid world.shared.segs.asks entry mid_asks from_is number_is refl;
         copies = copies_or call (mail_of world 0) starting.copies;
-        doubled = doubled_follows set world mid primary (with_core next primary) there follows call false false starting.doubled;
+        doubled = doubled_follows set world mid primary (with_core next primary) there follows call false false
+            (logs_own call world.shared.segs.asks mid.segs.asks entry mid_asks from_is number_is) starting.doubled;
         no_sync = none_syncs;
         answered = answered_behind call at_mid world.shared.segs.asks entry mid_asks from_is number_is refl;
         level = stays_level ask is (cause_of refusal) done_segs;
@@ -200,7 +201,8 @@ module _ (set : Setting) (call : Asked) (sent : ℕ) (world : World) (primary : 
             );
         copies = starting.copies;
         empty = starting.empty;
-        doubled = doubled_follows set world mid primary (with_core next primary) there follows call false false starting.doubled;
+        doubled = doubled_follows set world mid primary (with_core next primary) there follows call false false
+            (logs_none call world.shared.segs.asks mid.segs.asks (ap (λ (segs : SegsView). segs.asks) mid_segs)) starting.doubled;
       } in
       let maps_it : answer ≡ out.MapSelf (length (after_open ask run segs).log) =
       has.answer_is ∙ ap (λ (done : Done). done.next.out) done_is in
@@ -257,7 +259,8 @@ module _ (set : Setting) (call : Asked) (sent : ℕ) (world : World) (primary : 
         outcome = outcome.0;
         found = ap (λ (asks : List AskLog). outcome_of asks from number) mid_asks ∙ outcome.1;
         copies = copies_or call (mail_of world 0) starting.copies;
-        doubled = doubled_follows set world mid primary (with_core next primary) there follows call false false starting.doubled;
+        doubled = doubled_follows set world mid primary (with_core next primary) there follows call false false
+            (logs_own call world.shared.segs.asks mid.segs.asks entry mid_asks from_is number_is) starting.doubled;
         earlier = λ member synced. absurd (never_synced (sym synced ∙ none_syncs member));
         unsettled = λ member other is_in. inr starting.copies;
         room = others_room world starting.empty;

@@ -1,7 +1,9 @@
 -- Worlds behind what participant 0 did for its coordinator, but for posts: what holds at every moment holds there.
-use Rattle.std.proofs.Common.{◌≡◌, ◌≢◌, ℕ, ◌+◌, ◌≤◌, Bool, true, false, List, [], ◌∷◌, ◌++◌, length, Some, inl, inr, refl, sym, ap, subst, ◌∙◌, arith, eq-eqb, true≢false, ◌==◌}
+use Rattle.std.proofs.Common.{◌≡◌, ◌≢◌, ℕ, ◌+◌, ◌≤◌, Bool, true, false, List, [], ◌∷◌, ◌++◌, length, Some, inl, inr, refl, sym, ap, subst, ◌∙◌, arith, eq-eqb, length-append, true≢false, ◌==◌}
 use Rattle.std.proofs.lemmas.Bool.{cases_eq}
 use Rattle.std.specs.Prelude.{slice_get, slice_index_or, slice_set}
+use Rattle.hp_core.specs.Asks.{asker, number_of}
+use Rattle.hp_core.specs.declared.asked.Asked.{Asked}
 use Rattle.hp_frame.specs.declared.frame.Frame.{Frame}
 use Rattle.hp_segs.specs.Standing.{IsArmed}
 use Rattle.hp_plain.specs.Boxes.{box_of}
@@ -131,10 +133,31 @@ stale_logged world old new who (stays same) = ap (stale_outcomes who) same
 stale_logged world old new who (logs entry more orderly) =
     ap (stale_outcomes who) more ∙ stale_same old entry who orderly.fresh
 
-pub heard_logged : (world : World) (old new : List AskLog) (who : ℕ) → LogsOne world old new → IsHeardOn who old new
-heard_logged world old new who (stays same) = heard_same who old new same
-heard_logged world old new who (logs entry more orderly) =
-    heard_more who old new (entry ∷ []) more (withdrawn_logged world old new who (logs entry more orderly))
+-- what came is that ask's own
+abbrev pub LogsItsOwn : Asked → List AskLog → List AskLog → Type 0
+LogsItsOwn call old new = (entry : AskLog) → new ≡ old ++ entry ∷ [] → (entry.from ≡ asker call) × (entry.number ≡ number_of call)
+
+pub logs_none : (call : Asked) (old new : List AskLog) → new ≡ old → LogsItsOwn call old new
+logs_none call old new same entry is =
+    absurd (omega (arith, ap (λ (asks : List AskLog). length asks) same, ap (λ (asks : List AskLog). length asks) is, length-append old (entry ∷ [])))
+
+pub logs_own : (call : Asked) (old new : List AskLog) (entry : AskLog) → new ≡ old ++ entry ∷ [] → entry.from ≡ asker call
+    → entry.number ≡ number_of call → LogsItsOwn call old new
+logs_own call old new entry is from number other same =
+    let one : entry ≡ other = last_same old entry other (sym is ∙ same) in
+    subst (λ (entry : AskLog). (entry.from ≡ asker call) × (entry.number ≡ number_of call)) one (from, number)
+  where
+    last_same : (old : List AskLog) (x y : AskLog) → old ++ x ∷ [] ≡ old ++ y ∷ [] → x ≡ y
+    last_same [] x y same = cc
+    last_same (first ∷ old) x y same =
+        let rest : old ++ x ∷ [] ≡ old ++ y ∷ [] = cc in
+        last_same old x y rest
+
+pub heard_logged : (call : Asked) (world : World) (old new : List AskLog) (who : ℕ) → LogsOne world old new → LogsItsOwn call old new
+    → IsHeardOn call who old new
+heard_logged call world old new who (stays same) own = heard_same call who old new same
+heard_logged call world old new who (logs entry more orderly) own =
+    heard_more call who old new entry more (withdrawn_logged world old new who (logs entry more orderly)) (inr (own entry more))
 
 -- what was granted is within the numbers
 granted_logged : (world : World) (old new : List AskLog) (who : ℕ) → LogsOne world old new → is_member world.shared.segs.roster who ≡ true

@@ -26,7 +26,7 @@ use Rattle.hp_reasons.specs.Servings.{CarriesOut}
 use Rattle.hp_reasons.specs.Shared.{Shared}
 use Rattle.hp_reasons.specs.Stages.{ComesTo}
 use Rattle.hp_reasons.proofs.StartingAlong.{doubled_follows, unanswered_follows}
-use Rattle.hp_reasons.proofs.StartingBase.{Follows, IsOrderly, base_follows, logs}
+use Rattle.hp_reasons.proofs.StartingBase.{Follows, IsOrderly, base_follows, logs, logs_own}
 use Rattle.hp_reasons.proofs.StartingGrants.{copies_or, none_syncs, others_room, sent_so}
 use Rattle.hp_reasons.proofs.StartingGrowing.{IsOpening, calls_made, catching, caught_segs, mid_found, mid_world, open_still, own_failure}
 use Rattle.hp_reasons.proofs.StartingMaps.{HasMapped, comes_on, mapped_coordinator, mapped_follows}
@@ -109,7 +109,8 @@ module _ (set : Setting) (call : Asked) (sent : ℕ) (round : Round) (world : Wo
           outcome = outcome.0;
           found = ap (λ (asks : List AskLog). outcome_of asks round.from round.number) mid_asks ∙ outcome.1;
           copies = copies_or call (mail_of world 0) begun.copies;
-          doubled = doubled_follows set world mid primary between there follows call false false begun.doubled;
+          doubled = doubled_follows set world mid primary between there follows call false false
+              (logs_own call world.shared.segs.asks mid.segs.asks entry mid_asks from_is number_is) begun.doubled;
           earlier = λ member synced.
               absurd (never_synced (sym synced ∙ none_syncs set call sent round world primary setting declared begun there member));
           unsettled = λ member other is_in.

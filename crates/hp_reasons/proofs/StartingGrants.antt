@@ -34,7 +34,7 @@ use Rattle.hp_reasons.specs.Servings.{CarriesOut}
 use Rattle.hp_reasons.specs.Shared.{Shared}
 use Rattle.hp_reasons.specs.Stages.{ComesTo}
 use Rattle.hp_reasons.proofs.StartingAlong.{carries_posts, doubled_follows}
-use Rattle.hp_reasons.proofs.StartingBase.{IsOrderly, base_follows, logs}
+use Rattle.hp_reasons.proofs.StartingBase.{IsOrderly, base_follows, logs, logs_own}
 use Rattle.hp_reasons.proofs.StartingGrowing.{IsOpening, asked_mid, caught_segs, mid_found, mid_world, whole_number}
 use Rattle.hp_reasons.proofs.StartingMaps.{HasMapped, comes_on, mapped_coordinator, mapped_follows}
 use Rattle.hp_reasons.proofs.StartingOutcomes.{WasSent, answered_behind, closed_behind, orderly_grant}
@@ -129,7 +129,9 @@ module _ (set : Setting) (call : Asked) (sent : ℕ) (round : Round) (world : Wo
             alone = ap (λ (segs : SegsView). segs.growth) segs_are ∙ growth_is;
             closed = closed_behind call at_mid world.shared.segs.asks entry mid_asks (of.from ∙ begun.from) (of.number ∙ begun.number) refl;
             copies = copies_or call (mail_of world 0) begun.copies;
-            doubled = doubled_follows set world mid primary between there follows call false false begun.doubled;
+            doubled = doubled_follows set world mid primary between there follows call false false
+                (logs_own call world.shared.segs.asks mid.segs.asks entry mid_asks (of.from ∙ begun.from) (of.number ∙ begun.number))
+                begun.doubled;
             no_sync = none_syncs;
             answered = answered_behind call at_mid world.shared.segs.asks entry mid_asks (of.from ∙ begun.from) (of.number ∙ begun.number) refl;
             level = record {

@@ -184,7 +184,7 @@ module _ (set : Setting) (world : World) (boxes : List (List Frame)) (mail : Lis
     told = λ who party found.
         let was = was_behind who party found in
         told_on set world.shared.segs.asks world.shared.segs.asks call who was.before party
-        (heard_same who world.shared.segs.asks world.shared.segs.asks refl) was.on.asked was.on.frees
+        (heard_same call who world.shared.segs.asks world.shared.segs.asks refl) was.on.asked was.on.frees
         (doubled.told who was.before was.there);
   }
 

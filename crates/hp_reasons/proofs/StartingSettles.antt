@@ -36,7 +36,7 @@ use Rattle.hp_reasons.proofs.Said.{set_found}
 use Rattle.hp_reasons.specs.Stages.{ComesTo, world_with}
 use Rattle.hp_reasons.proofs.StartingLevel.{all_taken_in}
 use Rattle.hp_reasons.proofs.StartingMaps.{HasMapped, comes_on, has_mapped, mapped_coordinator, mapped_follows}
-use Rattle.hp_reasons.proofs.StartingBase.{Follows, base_follows, stays}
+use Rattle.hp_reasons.proofs.StartingBase.{Follows, base_follows, logs_none, stays}
 use Rattle.hp_reasons.proofs.StartingAlong.{carries_maps, carries_posts, doubled_follows, posts_syncs, unanswered_follows}
 use Rattle.hp_reasons.proofs.StartingPosts.{base_behind, behind, coordinates_behind, doubled_behind, unanswered_behind}
 use Rattle.hp_reasons.proofs.StartingResults.{IsEnding, answered_same, ends_posted}
@@ -116,7 +116,9 @@ module _ (set : Setting) (call : Asked) (sent : ℕ) (holds : Bool) (round : Rou
     answered_mid = answered_same call world at_mid asks_are begun.answered
 
     doubled_mid : AreDoubled set at_mid call holds false
-    doubled_mid = doubled_follows set world mid primary between there follows call holds false begun.doubled
+    doubled_mid =
+        doubled_follows set world mid primary between there follows call holds false
+        (logs_none call world.shared.segs.asks mid.segs.asks asks_are) begun.doubled
 
     gone_mid : mid.segs.retiring ≡ []
     gone_mid = ap (λ (segs : SegsView). segs.retiring) segs_are ∙ begun.gone

@@ -24,7 +24,7 @@ use Rattle.hp_reasons.specs.Servings.{CarriesOut}
 use Rattle.hp_reasons.specs.Shared.{Shared, with_boxes}
 use Rattle.hp_reasons.specs.Stages.{ComesTo}
 use Rattle.hp_reasons.proofs.StartingAlong.{carries_posts, doubled_follows, posts_syncs, unanswered_follows}
-use Rattle.hp_reasons.proofs.StartingBase.{Follows, base_follows, stays}
+use Rattle.hp_reasons.proofs.StartingBase.{Follows, base_follows, logs_none, stays}
 use Rattle.hp_reasons.proofs.StartingGrants.{copies_or, none_syncs, others_room}
 use Rattle.hp_reasons.proofs.StartingGrowing.{IsOpening, catching, caught_segs, mid_found, mid_world, noted_call, open_still, whole_number}
 use Rattle.hp_reasons.proofs.StartingMaps.{HasMapped, comes_on, mapped_coordinator, mapped_follows}
@@ -50,6 +50,11 @@ module _ (set : Setting) (call : Asked) (sent : ℕ) (round : Round) (world : Wo
 
     mid_segs : mid.segs ≡ then_segs
     mid_segs = ap (λ (shared : Shared). shared.segs) has.shared ∙ done_segs
+
+    asks_same : mid.segs.asks ≡ world.shared.segs.asks
+    asks_same =
+        let noting = catching set call sent round world primary setting begun there mid between next has in
+        ap (λ (segs : SegsView). segs.asks) mid_segs ∙ noting.asks
 
     follows : Follows set world mid primary between
     follows =
@@ -123,7 +128,8 @@ module _ (set : Setting) (call : Asked) (sent : ℕ) (round : Round) (world : Wo
                 (omega (arith, follows.clock, begun.clock))
                 (subst (AreAnswersOrCopies call) (sym first) (copies_or call (mail_of world 0) begun.copies))
                 (doubled_behind set at_mid said.boxes said.later between party base_mid there_mid posted mailed call false false
-                (ap (count_by is_call) first) (doubled_follows set world mid primary between there follows call false false begun.doubled))
+                (ap (count_by is_call) first) (doubled_follows set world mid primary between there follows call false false
+                (logs_none call world.shared.segs.asks mid.segs.asks asks_same) begun.doubled))
                 (λ member is_in.
                 elim (cases_eq member 0) [
                   | inl zero_is ↦

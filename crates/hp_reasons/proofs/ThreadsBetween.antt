@@ -17,7 +17,7 @@ use Rattle.hp_reasons.proofs.ThreadsLine.{IsQuietAt, quiet_behind}
 use Rattle.hp_reasons.proofs.ThreadsOpen.{at_first, first_world, quiet_first}
 
 -- between two lines: the hall is a quiet world, and no line has raised the clock by more than its bound
-record IsBetween (set : Setting) (courses : List Course) (hall : SoloView) : Type 0 where
+pub record IsBetween (set : Setting) (courses : List Course) (hall : SoloView) : Type 0 where
   pub at : IsQuietAt set hall
   pub clock : hall.plain.clock ≤ length courses * 2 ^ 40
 
@@ -80,10 +80,14 @@ module _ (workload : Workload) (courses : List Course) (may : MayRun workload co
       }
 
   -- so it is behind the last line
+  pub between_last : LeadInQuiet → (first last : SoloView) → OpensThread workload first → OneThread first courses last
+      → IsBetween (setting_of workload) courses last
+  between_last know first last opens thread =
+      between workload first know set_by courses last (opens_between first opens) thread may.few
+
   pub quiet_last : LeadInQuiet → (first last : SoloView) → OpensThread workload first → OneThread first courses last
       → IsQuietAt (setting_of workload) last
-  quiet_last know first last opens thread =
-      (between workload first know set_by courses last (opens_between first opens) thread may.few).at
+  quiet_last know first last opens thread = (between_last know first last opens thread).at
 
 -- the segment value of such a world is the hall's
 pub same_segs : (setting : Setting) (hall : SoloView) (segs : SegsView) (at : IsQuietAt setting hall)

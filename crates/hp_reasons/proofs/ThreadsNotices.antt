@@ -32,7 +32,7 @@ filled_at None = refl
 filled_at (Some party) = refl
 
 -- who is in a place is there
-placed : (servers : List AloneView) (parties : List Party) → servers ≡ map filled parties → (who : ℕ)
+pub placed : (servers : List AloneView) (parties : List Party) → servers ≡ map filled parties → (who : ℕ)
     → party_at servers who ≡ slice_get parties who
 placed servers parties are who =
     ap (λ (servers : List AloneView). party_at servers who) are

@@ -150,6 +150,8 @@ module _ (workload : Workload) (given : IsGiven workload) (parties : List Party)
         let asked : party.asked ≡ 0 = ap (λ (party : Party). party.asked) (each who party there).0.is in
         let none : unanswered_among [] who party.asked ≡ unanswered_among [] who 0 = ap (unanswered_among [] who) asked in
         omega (arith, none, unanswered_zero [] who);
+    in_time = λ who party there.
+        record { before = omega arith; still = λ number some within heard. absurd (omega (arith, some, within)) };
     level = λ nothing who member. sym (number_none who);
   }
 

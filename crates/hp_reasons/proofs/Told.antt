@@ -1,7 +1,7 @@
 -- Asks and notices without an outcome, as outcomes are logged: those of all participants stay no more than were lost.
-use Rattle.std.proofs.Common.{◌≡◌, ◌≢◌, ◌∙◌, ◌⊎◌, ℕ, zero, suc, ◌+◌, ◌-◌, ◌<◌, ◌≤◌, Bool, true, false, not, ◌&&◌, ◌||◌, ◌==◌, max, cond, List, [], ◌∷◌, ◌++◌, inl, inr, refl, sym, ap, arith, eq-eqb, if◌then◌else◌}
+use Rattle.std.proofs.Common.{◌≡◌, ◌≢◌, ◌∙◌, ◌⊎◌, ℕ, zero, suc, ◌+◌, ◌-◌, ◌<◌, ◌≤◌, Bool, true, false, not, ◌&&◌, ◌||◌, ◌==◌, max, cond, List, [], ◌∷◌, ◌++◌, inl, inr, refl, sym, ap, subst, arith, eq-eqb, true≢false, if◌then◌else◌}
 use Rattle.std.specs.List.{fold, list_any}
-use Rattle.std.proofs.lemmas.Bool.{and_from, and_parts, cases_eq, cases_lt, ne_eqb, or_right}
+use Rattle.std.proofs.lemmas.Bool.{and_from, and_parts, cases_eq, cases_lt, eqb-true, ne_eqb, not-true, or_right}
 use Rattle.std.proofs.lemmas.List.Folds.{list_any-append}
 use Rattle.hp_base.specs.declared.plan_entry.MsgKind.TheVariants as message
 use Rattle.hp_core.specs.Asks.{asker, number_of}
@@ -10,18 +10,25 @@ use Rattle.hp_segs.specs.SegsView.{closed_number, is_outcome_for, is_stale}
 use Rattle.hp_segs.specs.declared.outcome.AskLog.{AskLog}
 use Rattle.hp_serve.specs.Party.{Party}
 use Rattle.hp_reasons.specs.Counting.{lost_among}
-use Rattle.hp_reasons.specs.Episode.{IsToldBefore, Setting, made_before, notices_lost}
+use Rattle.hp_reasons.specs.Episode.{IsInTime, IsToldBefore, Setting, made_before, notices_lost}
 use Rattle.hp_reasons.specs.Outcomes.{unanswered_among, withdrawn_outcomes}
 
--- later outcomes: what had an outcome has one, and no more was taken back
-pub record IsHeardOn (who : ℕ) (old new : List AskLog) : Type 0 where
+-- what has an outcome of a participant had one before, or is that ask, or that notice
+abbrev pub ComesOf : Asked → ℕ → List AskLog → List AskLog → Type 0
+ComesOf call who old new = (number : ℕ) → list_any (is_outcome_for who number) new ≡ true
+    → (list_any (is_outcome_for who number) old ≡ true) ⊎ ((who ≡ asker call) × (number ≡ number_of call))
+
+-- later outcomes, while that ask is under way: what had an outcome has one, no more was taken back, and what came is its own, or stale
+pub record IsHeardOn (call : Asked) (who : ℕ) (old new : List AskLog) : Type 0 where
   pub keeps : (number : ℕ) → list_any (is_outcome_for who number) old ≡ true → list_any (is_outcome_for who number) new ≡ true
   pub withdrawn : withdrawn_outcomes who new ≡ withdrawn_outcomes who old
+  pub comes : ComesOf call who old new
 
-pub heard_same : (who : ℕ) (old new : List AskLog) → new ≡ old → IsHeardOn who old new
-heard_same who old new same = record {
+pub heard_same : (call : Asked) (who : ℕ) (old new : List AskLog) → new ≡ old → IsHeardOn call who old new
+heard_same call who old new same = record {
   keeps = λ number is. ap (list_any (is_outcome_for who number)) same ∙ is;
   withdrawn = ap (withdrawn_outcomes who) same;
+  comes = λ number is. inl (ap (list_any (is_outcome_for who number)) (sym same) ∙ is);
 }
 
 pub outcome_stays : (who number : ℕ) (old more : List AskLog) → list_any (is_outcome_for who number) old ≡ true
@@ -30,11 +37,41 @@ outcome_stays who number old more is =
     list_any-append (is_outcome_for who number) old more
     ∙ ap (λ (any : Bool). any || list_any (is_outcome_for who number) more) is
 
-pub heard_more : (who : ℕ) (old new more : List AskLog) → new ≡ old ++ more
-    → withdrawn_outcomes who new ≡ withdrawn_outcomes who old → IsHeardOn who old new
-heard_more who old new more is same = record {
-  keeps = λ number there. ap (list_any (is_outcome_for who number)) is ∙ outcome_stays who number old more there;
+-- an outcome is stale, or that ask's own
+abbrev pub IsOwnOrStale : Asked → AskLog → Type 0
+IsOwnOrStale call entry = (is_stale entry.outcome ≡ true) ⊎ ((entry.from ≡ asker call) × (entry.number ≡ number_of call))
+
+pub comes_one : (call : Asked) (who : ℕ) (old new : List AskLog) (entry : AskLog) → new ≡ old ++ entry ∷ [] → IsOwnOrStale call entry
+    → ComesOf call who old new
+comes_one call who old new entry is own number there =
+    by_old (list_any (is_outcome_for who number) old) (is_outcome_for who number entry) refl refl
+    (sym (list_any-append (is_outcome_for who number) old (entry ∷ [])) ∙ sym (ap (list_any (is_outcome_for who number)) is) ∙ there)
+  where
+    its_own : is_outcome_for who number entry ≡ true → (who ≡ asker call) × (number ≡ number_of call)
+    its_own its =
+        let both = and_parts (entry.from == who) _ its in
+        let rest = and_parts (entry.number == number) _ both.1 in
+        elim own [
+          | inl stale ↦ absurd (true≢false (sym stale ∙ not-true (is_stale entry.outcome) rest.1))
+          | inr same ↦ (
+            sym (eqb-true entry.from who both.0) ∙ same.0,
+            sym (eqb-true entry.number number rest.0) ∙ same.1,
+          )
+        ]
+
+    by_old : (old_has has : Bool) → list_any (is_outcome_for who number) old ≡ old_has → is_outcome_for who number entry ≡ has
+        → (old_has || (has || false)) ≡ true
+        → (list_any (is_outcome_for who number) old ≡ true) ⊎ ((who ≡ asker call) × (number ≡ number_of call))
+    by_old true has before its any = inl before
+    by_old false true before its any = inr (its_own its)
+    by_old false false before its any = cc
+
+pub heard_more : (call : Asked) (who : ℕ) (old new : List AskLog) (entry : AskLog) → new ≡ old ++ entry ∷ []
+    → withdrawn_outcomes who new ≡ withdrawn_outcomes who old → IsOwnOrStale call entry → IsHeardOn call who old new
+heard_more call who old new entry is same own = record {
+  keeps = λ number there. ap (list_any (is_outcome_for who number)) is ∙ outcome_stays who number old (entry ∷ []) there;
   withdrawn = same;
+  comes = comes_one call who old new entry is own;
 }
 
 fewer_by : (old new : Bool) → (old ≡ true → new ≡ true) → cond new 0 1 ≤ cond old 0 1
@@ -55,13 +92,13 @@ unfolding unanswered_among
 unanswered_next asks who n = refl
 
 -- no more are without an outcome
-pub unanswered_fewer : (who : ℕ) (old new : List AskLog) → IsHeardOn who old new → (n : ℕ)
+pub unanswered_fewer : (call : Asked) (who : ℕ) (old new : List AskLog) → IsHeardOn call who old new → (n : ℕ)
     → unanswered_among new who n ≤ unanswered_among old who n
-unanswered_fewer who old new on zero = omega (arith, unanswered_zero new who)
-unanswered_fewer who old new on (suc n) =
+unanswered_fewer call who old new on zero = omega (arith, unanswered_zero new who)
+unanswered_fewer call who old new on (suc n) =
     omega (
       arith,
-      unanswered_fewer who old new on n,
+      unanswered_fewer call who old new on n,
       fewer_by (list_any (is_outcome_for who (suc n)) old) (list_any (is_outcome_for who (suc n)) new) (on.keeps (suc n)),
       unanswered_next old who n,
       unanswered_next new who n,
@@ -163,17 +200,31 @@ notices_lost_same set who old new frees = ap (lost_among set.plan message.Free w
 made_same : (call : Asked) (who : ℕ) (old new : Party) → new.asked ≡ old.asked → made_before call who new ≡ made_before call who old
 made_same call who old new same = ap (λ (n : ℕ). if asker call == who then number_of call - 1 else n) same
 
+-- while an ask of the line is under way, what had no outcome when the line began has none
+pub in_time_on : (set : Setting) (old new : List AskLog) (call : Asked) (who asked : ℕ) → ComesOf call who old new
+    → (who ≡ asker call → set.made who < number_of call) → IsInTime set old who asked → IsInTime set new who asked
+in_time_on set old new call who asked comes fresh was = record {
+  before = was.before;
+  still = λ number some within there.
+      elim (comes number there) [
+        | inl before ↦ was.still number some within before
+        | inr own ↦ absurd (omega (arith, within, own.1, fresh own.0))
+      ];
+}
+
 -- a participant that sent no more has what it had where later outcomes are heard
-pub told_on : (set : Setting) (old new : List AskLog) (call : Asked) (who : ℕ) (party after : Party) → IsHeardOn who old new
+pub told_on : (set : Setting) (old new : List AskLog) (call : Asked) (who : ℕ) (party after : Party) → IsHeardOn call who old new
     → after.asked ≡ party.asked → after.sent.frees ≡ party.sent.frees → IsToldBefore set old call who party
     → IsToldBefore set new call who after
 told_on set old new call who party after on asked frees told = record {
   answered =
-      let fewer = unanswered_fewer who old new on (made_before call who party) in
+      let fewer = unanswered_fewer call who old new on (made_before call who party) in
       let made : unanswered_among new who (made_before call who after) ≡ unanswered_among new who (made_before call who party) =
       ap (unanswered_among new who) (made_same call who party after asked) in
       omega (arith, told.answered, fewer, made, notices_lost_same set who party after frees);
   last = λ own. asked ∙ told.last own;
+  fresh = told.fresh;
+  in_time = subst (IsInTime set new who) (sym asked) (in_time_on set old new call who party.asked on.comes told.fresh told.in_time);
 }
 
 pub made_own : (call : Asked) (who : ℕ) (party : Party) → who ≡ asker call → made_before call who party ≡ number_of call - 1

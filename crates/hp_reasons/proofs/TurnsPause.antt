@@ -101,6 +101,7 @@ quiet_at set now world quiet = record {
   empty = quiet.empty;
   doubled = quiet.doubled;
   told = quiet.told;
+  in_time = quiet.in_time;
   level = quiet.level;
 }
 

@@ -174,6 +174,7 @@ module _ (set : Setting) (call : Asked) (sent : ℕ) (is_sent : IsSent set call 
     empty = none;
     doubled = few_stale doubled;
     told = all_told false doubled ends;
+    in_time = λ who party found. (doubled.told who party found).in_time;
     level = level;
   }
 

@@ -22,7 +22,7 @@ use Rattle.hp_plain.specs.Boxes.{box_of}
 use Rattle.hp_plain.specs.declared.mailbox.TheConstants.{MAILBOX_FRAMES}
 use Rattle.hp_maps.specs.MapsView.{calls_of}
 use Rattle.hp_segs.specs.LaterSteps.{has_failed_from, noted_failure}
-use Rattle.hp_segs.specs.SegsView.{closed_number, grants_or_refuses, is_member}
+use Rattle.hp_segs.specs.SegsView.{closed_number, grants_or_refuses, is_member, is_outcome_for}
 use Rattle.hp_segs.specs.Sound.{IsSound}
 use Rattle.hp_segs.specs.declared.outcome.AskLog.{AskLog}
 use Rattle.hp_segs.specs.declared.outcome.Cause.{Cause}
@@ -36,11 +36,14 @@ use Rattle.hp_reasons.specs.Outcomes.{IsApart, late_outcomes, stale_outcomes, wi
 use Rattle.hp_reasons.specs.Failing.{AreGrantsWithin}
 use Rattle.hp_reasons.specs.Shared.{Shared}
 
--- what does not change in a run: how many participants there are, their deadline, and the plan of their messages
+-- what does not change while a line is done: how many participants there are, their deadline, and the plan of their messages; and which
+-- outcomes there were when it began, and how many asks and notices each participant had made then
 pub record Setting : Type 0 where
   pub count : ℕ
   pub deadline : ℕ
   pub plan : List PlanEntry
+  pub was : List AskLog
+  pub made : ℕ → ℕ
 
 -- an entry of a plan names a message by a number that a workload may have
 abbrev pub IsCounted : PlanEntry → Type 0
@@ -186,10 +189,18 @@ notices_lost set who party = lost_among set.plan message.Free who party.sent.fre
 abbrev pub made_before : Asked → ℕ → Party → ℕ
 made_before call who party = if asker call == who then number_of call - 1 else party.asked
 
--- each ask and notice that a participant made, but for this one, has an outcome, or is a notice that was lost
+-- none of the asks and notices that a participant had made when a line began, of so many by now, has an outcome that had none then
+pub record IsInTime (set : Setting) (asks : List AskLog) (who asked : ℕ) : Type 0 where
+  pub before : set.made who ≤ asked
+  pub still : (number : ℕ) → 0 < number → number ≤ set.made who → list_any (is_outcome_for who number) asks ≡ true
+      → list_any (is_outcome_for who number) set.was ≡ true
+
+-- each ask and notice that a participant made, but for this one, has an outcome, or is a notice that was lost; and this one is of the line
 pub record IsToldBefore (set : Setting) (asks : List AskLog) (call : Asked) (who : ℕ) (party : Party) : Type 0 where
   pub answered : unanswered_among asks who (made_before call who party) ≤ notices_lost set who party
   pub last : who ≡ asker call → party.asked ≡ number_of call
+  pub fresh : who ≡ asker call → set.made who < number_of call
+  pub in_time : IsInTime set asks who party.asked
 
 -- each ask that was stale so far came twice; those of the asker that are still to come are counted in, but for the first one of a fresh ask.
 -- All others were answered, or lost

@@ -13,3 +13,4 @@ pub mod Lines
 pub mod Threads
 pub mod Nones
 pub mod Notices
+pub mod InTime

@@ -5,7 +5,7 @@ use Rattle.hp_core.specs.declared.asked.Asked.{Asked}
 use Rattle.hp_core.specs.declared.phase.Phase.TheVariants.{Idle}
 use Rattle.hp_serve.specs.Party.{Party}
 use Rattle.hp_reasons.specs.Counting.{LosesNothing}
-use Rattle.hp_reasons.specs.Episode.{AreLevel, IsBase, IsToldBefore, Setting, World, doubles, mail_of, notices_lost}
+use Rattle.hp_reasons.specs.Episode.{AreLevel, IsBase, IsInTime, IsToldBefore, Setting, World, doubles, mail_of, notices_lost}
 use Rattle.hp_reasons.specs.Outcomes.{stale_outcomes, unanswered_among}
 
 -- between asks and notices all is quiet
@@ -20,6 +20,8 @@ pub record IsQuietWorld (set : Setting) (world : World) : Type 0 where
   -- asks and notices without an outcome are no more than the notices that were lost
   pub told : (who : ℕ) (party : Party) → slice_get world.parties who ≡ Some party
       → unanswered_among world.shared.segs.asks who party.asked ≤ notices_lost set who party
+  -- and what had none when the line began has none still
+  pub in_time : (who : ℕ) (party : Party) → slice_get world.parties who ≡ Some party → IsInTime set world.shared.segs.asks who party.asked
   -- where the plan loses no message all members have taken in all records
   pub level : LosesNothing set.plan → AreLevel world
 

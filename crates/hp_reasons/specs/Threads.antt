@@ -86,9 +86,15 @@ pub record IsWorldAt (hall : SoloView) (world : World) : Type 0 where
   pub going : has_stopped hall.servers ≡ false
   pub all : (who : ℕ) → slice_get world.parties who ≡ party_at hall.servers who
 
--- what a workload says that does not change in a run
+-- what a workload says that does not change in a run, since before its first line
 abbrev pub setting_of : Workload → Setting
-setting_of workload = record { count = workload.participants; deadline = workload.deadline; plan = workload.plan.items }
+setting_of workload = record {
+  count = workload.participants;
+  deadline = workload.deadline;
+  plan = workload.plan.items;
+  was = [];
+  made = λ who. 0;
+}
 
 -- in a quiet world turns of all leave all as it was
 abbrev pub DrainsInQuiet : Type 0

@@ -2,6 +2,7 @@
 //! code.
 ghost use Rattle.hp_reasons.specs.Counting.{LosesAsPlanned, RepeatsAsPlanned};
 ghost use Rattle.hp_reasons.specs.Failing.{FailsAtTheGrowth, NotesAFailure};
+ghost use Rattle.hp_reasons.specs.InTime.{LinesHearInTime, RestsHearInTime};
 ghost use Rattle.hp_reasons.specs.Nones.{NonesAreInVain, RefusalsAreForWant};
 ghost use Rattle.hp_reasons.specs.Notices.{ThreadsHearNotices};
 ghost use Rattle.hp_reasons.specs.Servings.{CoordinatesSo, MembersServeSo};
@@ -43,6 +44,13 @@ pub fn level_law()
 /// those without one, and its asks that were taken back, are together at most the lines of the plan that lose its asks or notices. Own.
 pub fn notices_law()
     ensures { ThreadsHearNotices }
+{}
+
+/// In no run in one thread does an outcome come late: of the asks and notices of the lines before, what had no outcome before a line has none
+/// after it, and nothing comes where all serve on after the last one. Own.
+pub fn in_time_law()
+    ensures lines { LinesHearInTime }
+    ensures rests { RestsHearInTime }
 {}
 
 /// A line that allocates and is answered that there is no memory found no address in its heaps and was granted no pages; and where late and

@@ -4,5 +4,6 @@
 mod laws;
 
 pub use laws::{
-    counting_law, failing_law, level_law, none_law, notices_law, reasons_law, serving_law,
+    counting_law, failing_law, in_time_law, level_law, none_law, notices_law, reasons_law,
+    serving_law,
 };

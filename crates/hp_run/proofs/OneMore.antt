@@ -17,7 +17,9 @@ use Rattle.hp_serve.specs.Tied.{IsTied}
 use Rattle.hp_solo.specs.Solo.{AloneView, SoloView}
 use Rattle.hp_joint.specs.Drops.{DropsGoOnByLine}
 use Rattle.hp_joint.specs.EndLaws.{GoesBy, GoesOnByLine, IsGiven, MayFailAsBefore, OthersServe}
+use Rattle.hp_joint.specs.Freed.{ShownGoOnByLine}
 use Rattle.hp_joint.specs.SoFar.{SoFar, context_of}
+use Rattle.hp_reasons.specs.InTime.{LinesHearInTime}
 use Rattle.hp_reasons.specs.Threads.{DoesInTurn, MayRun, OneThread, ThreadsEndLevel}
 use Rattle.hp_run.specs.Running.{AreParties, CanGoOn, FailAsBefore, HaveDoneLines}
 use Rattle.hp_run.proofs.Knowing.{know_more}
@@ -49,7 +51,7 @@ fail_alike old new parties behind were are alike = λ who party after there now.
 
 module _ (workload : Workload) (lines : List Line) (answers : List Answer) (line : Line) (answer : Answer) (doer after : ParticipantView)
     (before : List (Option Context)) (first away back last : SoloView) (law : GoesOnByLine) (drops : DropsGoOnByLine)
-    (level : ThreadsEndLevel) (given : IsGiven workload) (can : CanGoOn workload lines answers before first)
+    (level : ThreadsEndLevel) (shown : ShownGoOnByLine) (in_time : LinesHearInTime) (given : IsGiven workload) (can : CanGoOn workload lines answers before first)
     (declared : line.participant < workload.participants) (there : slice_get can.done.parties line.participant ≡ Some doer.party)
     (took : slice_get before line.participant ≡ Some (Some doer.context))
     (did : HasDoneIts line answer doer after away.plain back.plain)
@@ -154,6 +156,17 @@ module _ (workload : Workload) (lines : List Line) (answers : List Answer) (line
                 was.so_far.its_segs)
                 (subst (λ (hall : HallView). segs_in (slot_at hall MAX_HEAPS) ≡ Some segs) is.came_plain at) done.gone
                 (was.drops was.so_far.now.segs was.so_far.its_segs nothing);
+            shown = λ segs at may.
+                let late = in_time workload was.thread.first first last was.courses was.parties line answer was.so_far.now.segs segs
+                was.thread.opens was.thread.thread in_turn may was.so_far was.are was.so_far.its_segs at in
+                let fewer = length_push was.courses more in
+                shown workload was.courses was.parties behind_all.0 away.plain back.plain line answer was.so_far.now.segs segs given so_far
+                goes_by
+                (subst (λ (hall : HallView). segs_in (slot_at hall MAX_HEAPS) ≡ Some was.so_far.now.segs) (sym is.gone_plain)
+                was.so_far.its_segs)
+                (subst (λ (hall : HallView). segs_in (slot_at hall MAX_HEAPS) ≡ Some segs) is.came_plain at) late
+                (was.shown was.so_far.now.segs was.so_far.its_segs
+                (record { given = may.given; waits = may.waits; few = omega (arith, may.few, fewer); counted = may.counted }));
           };
           know = know_more workload was.courses more before after.context declared can.know goes_on.2;
         },

@@ -14,6 +14,8 @@ use Rattle.hp_solo.specs.Solo.{AreLater, IsSolo, IsTiedAt, AloneView, SoloView, 
 use Rattle.hp_solo.proofs.SoloDrained.{none_stopped}
 use Rattle.hp_joint.specs.Drops.{DropsRest}
 use Rattle.hp_joint.specs.EndLaws.{IsGiven, OthersServe, RestsSoFar}
+use Rattle.hp_joint.specs.Freed.{ShownRest}
+use Rattle.hp_reasons.specs.InTime.{RestsHearInTime}
 use Rattle.hp_reasons.specs.Threads.{OneThread}
 use Rattle.hp_run.specs.Running.{AreParties, FailAsBefore, HaveDoneLines, place_of}
 use Rattle.hp_run.proofs.NextLine.{all_count}
@@ -21,7 +23,8 @@ use Rattle.hp_run.proofs.Beside.{served_filled, served_so}
 use Rattle.hp_run.proofs.OneMore.{fail_alike}
 use Rattle.hp_run.proofs.Places.{IsFilled, as_many, filled_places, party_there, place_at, there_below}
 
-module _ (workload : Workload) (lines : List Line) (answers : List Answer) (old new : SoloView) (law : RestsSoFar) (drops : DropsRest) (given : IsGiven workload)
+module _ (workload : Workload) (lines : List Line) (answers : List Answer) (old new : SoloView) (law : RestsSoFar) (drops : DropsRest)
+    (shown : ShownRest) (in_time : RestsHearInTime) (given : IsGiven workload)
     (was : HaveDoneLines workload lines answers old) (course : IsCourse old.plain new.plain) (later : AreLater old new)
     (drains : has_stopped new.servers ≡ false → Drains old new)
     (home : (number : ℕ) → IsHome (slot_at old.plain number) → IsHome (slot_at new.plain number)) (sound : IsSolo new)
@@ -73,6 +76,13 @@ module _ (workload : Workload) (lines : List Line) (answers : List Answer) (old 
               drops workload was.courses was.parties behind.0 old.plain new.plain was.so_far.now.segs segs given was.so_far as_before
               (subst (λ (count : ℕ). OthersServe (λ who. ⊥) count old.plain new.plain was.parties behind.0) count all_serve) all_home
               course was.so_far.its_segs at (was.drops was.so_far.now.segs was.so_far.its_segs nothing);
+          shown = λ segs at may.
+              shown workload was.courses was.parties behind.0 old.plain new.plain was.so_far.now.segs segs given was.so_far as_before
+              (subst (λ (count : ℕ). OthersServe (λ who. ⊥) count old.plain new.plain was.parties behind.0) count all_serve) all_home
+              course was.so_far.its_segs at
+              (in_time workload was.thread.first old new was.courses was.so_far.now.segs segs was.thread.opens was.thread.thread (drains going)
+              may was.so_far.its_segs at)
+              (was.shown was.so_far.now.segs was.so_far.its_segs may);
         },
         fail_alike old.servers new.servers was.parties behind.0 was.are behind.1 rested.1,
       )

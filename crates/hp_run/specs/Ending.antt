@@ -14,6 +14,7 @@ use Rattle.hp_segs.specs.Sound.{IsSound}
 use Rattle.hp_proc.specs.Ends.{IsEnd, IsSoloEnd, OneThreadLeaves}
 use Rattle.hp_proc.specs.LinesDone.{courses_of}
 use Rattle.hp_joint.specs.Drops.{DropsComeFirst}
+use Rattle.hp_joint.specs.Freed.{AreShown}
 use Rattle.hp_joint.specs.SoFar.{first_segs}
 use Rattle.hp_agreed.specs.Alike.{PagesAlike, TablesAlike}
 use Rattle.hp_agreed.specs.Restored.{FailuresLeaveNoRow, GrowthsRestore, TablesRestore}
@@ -57,13 +58,14 @@ abbrev pub NoMappingMayFail : List PlanEntry → List (Option (List FailingCall)
 NoMappingMayFail plan mappers = (participant call : ℕ) → IsFailureNamed plan mappers participant call → ⊥
 
 -- an end of a workload whose lines were done one after another, which of their notices have an outcome in it, that what lines gave up had
--- gone before later lines saw the log where the plan loses no message, and the calls by which the segment value came about from the first
--- one, which is sound
+-- gone before later lines saw the log where the plan loses no message, that what lines show of the log never falls, and the calls by
+-- which the segment value came about from the first one, which is sound
 pub record IsHeardEnd (workload : Workload) (answers : List Answer) (heaps : List HeapView) (segs : SegsView) (tables : List Table)
     : Type 0 where
   pub end : IsSoloEnd workload answers heaps segs tables
   pub notices : NoticesAreHeard workload.plan.items end.end.courses segs.asks
   pub drops : LosesNothing workload.plan.items → DropsComeFirst workload.participants segs.log segs.asks end.end.courses
+  pub shown : AreShown segs.log segs.asks end.end.courses
   pub calls : List SegsCall
   pub leads : Leads calls (first_segs workload) segs
   pub opens : IsSound (first_segs workload)
@@ -95,7 +97,8 @@ pub record IsRunEnd (workload : Workload) (mappers : List (Option (List FailingC
 -- loses no message, no segment is Retiring, and each participant that is attached has taken in all records of the log; and where no mapping
 -- may fail either, asks were refused for want of a list, of pages, of slots or of a place alone. Each run that was given up has gone back, as
 -- its notice's outcome says, but for as many as the plan loses of its participant's notices; and where the plan loses no message, what lines
--- gave up had gone before later lines saw the log
+-- gave up had gone before later lines saw the log. What lines see of the log never falls over all lines, with what the outcomes of their
+-- notices show: wherever one came that a run has gone back, later lines see the records up to its Drop
 pub record IsSoloRunEnd (workload : Workload) (mappers : List (Option (List FailingCall))) (answers : List Answer) (heaps : List HeapView)
     (segs : SegsView) (tables : List Table) : Type 0 where
   pub run : IsRunEnd workload mappers answers heaps segs tables
@@ -105,3 +108,4 @@ pub record IsSoloRunEnd (workload : Workload) (mappers : List (Option (List Fail
   pub want : LosesNothing workload.plan.items → NoMappingMayFail workload.plan.items mappers → All IsRefusedForWant segs.asks
   pub notices : NoticesAreHeard workload.plan.items run.end.courses segs.asks
   pub drops : LosesNothing workload.plan.items → DropsComeFirst workload.participants segs.log segs.asks run.end.courses
+  pub shown : AreShown segs.log segs.asks run.end.courses

@@ -18,9 +18,10 @@ use Rattle.hp_proc.specs.LinesDone.{Course}
 use Rattle.hp_serve.specs.Party.{Party}
 use Rattle.hp_solo.specs.Solo.{AloneView, SoloView, party_at}
 use Rattle.hp_joint.specs.Drops.{DropsComeFirst}
+use Rattle.hp_joint.specs.Freed.{AreShown}
 use Rattle.hp_joint.specs.SoFar.{SoFar, context_of}
 use Rattle.hp_reasons.specs.Counting.{LosesNothing}
-use Rattle.hp_reasons.specs.Threads.{OneThread, OpensThread}
+use Rattle.hp_reasons.specs.Threads.{MayRun, OneThread, OpensThread}
 
 -- a workload can be run: it is of what is built so far and within its limits, and so are its pools, its plan, its participants and its lines
 pub record IsRunnable (workload : Workload) : Type 0 where
@@ -47,8 +48,9 @@ pub record CameInThread (workload : Workload) (courses : List Course) (hall : So
   pub opens : OpensThread workload first
   pub thread : OneThread first courses hall
 
--- the participants have done these lines of a workload in turns, they were answered so, and each is back in its place; and where the plan
--- loses no message, what lines gave up had gone before later lines saw the log
+-- the participants have done these lines of a workload in turns, they were answered so, and each is back in its place. Where the plan
+-- loses no message, what lines gave up had gone before later lines saw the log; and what lines show of the log, with their notices, never
+-- falls
 pub record HaveDoneLines (workload : Workload) (lines : List Line) (answers : List Answer) (hall : SoloView) : Type 0 where
   pub parties : List Party
   pub are : AreParties hall.servers parties
@@ -59,6 +61,8 @@ pub record HaveDoneLines (workload : Workload) (lines : List Line) (answers : Li
   pub thread : CameInThread workload courses hall
   pub drops : (segs : SegsView) → segs_in (slot_at hall.plain MAX_HEAPS) ≡ Some segs → LosesNothing workload.plan.items
       → DropsComeFirst workload.participants segs.log segs.asks courses
+  pub shown : (segs : SegsView) → segs_in (slot_at hall.plain MAX_HEAPS) ≡ Some segs → MayRun workload courses
+      → AreShown segs.log segs.asks courses
 
 -- each participant knows what its lines so far left
 abbrev pub KnowSoFar : Workload → List Course → List (Option Context) → Type 0

@@ -9,9 +9,9 @@ ghost use Rattle.hp_run.specs.Running.{CanGoOn, FailAsBefore, HaveDoneLines, IsR
 
 use crate::contexts::Contexts;
 use hp_base::Mapper;
-use hp_joint::{drops_law, line_law};
+use hp_joint::{drops_law, line_law, shown_law};
 use hp_proc::Participant;
-use hp_reasons::level_law;
+use hp_reasons::{in_time_law, level_law};
 use hp_script::{Answer, Workload};
 use hp_solo::SoloHall;
 use std::alloc::{AllocError, Global};
@@ -72,7 +72,9 @@ fn do_next<'p, M: Mapper>(
     hall.sound();
     line_law();
     drops_law();
+    shown_law();
     level_law();
+    in_time_law();
     Ok(())
 }
 
@@ -90,6 +92,8 @@ pub fn do_rest<M: Mapper>(hall: &mut SoloHall<'_, M>) -> Result<(), AllocError>
     hall.sound();
     line_law();
     drops_law();
+    shown_law();
+    in_time_law();
     Ok(())
 }
 

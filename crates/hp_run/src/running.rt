@@ -16,7 +16,7 @@ use crate::opening::{first_heaps, plan_of};
 use hp_agreed::{alike_law, restoring_law};
 use hp_base::{MAX_SEGMENTS, Mapper, Plan};
 use hp_heap::Heap;
-use hp_joint::{drops_law, end_law, failure_law, line_law, refusal_law};
+use hp_joint::{drops_law, end_law, failure_law, line_law, refusal_law, shown_law};
 use hp_maps::{LocalMaps, Planned, Table};
 use hp_plain::{HallParts, PlainHall};
 use hp_proc::WorkloadFacts;
@@ -116,6 +116,7 @@ fn run_lines<'p, M: Mapper>(
     let contexts = Contexts::first(alloc, workload, facts)?;
     line_law();
     drops_law();
+    shown_law();
     alike_law();
     restoring_law();
     none_law();

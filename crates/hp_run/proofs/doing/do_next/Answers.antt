@@ -218,7 +218,8 @@ returns g c =
     }) in
     let more =
     done_more workload (take place lines) c.args.answers.now.items line answer doer after before first away back last
-    c.line_law.ensures.goes_on c.drops_law.ensures.goes_on c.level_law.ensures (given_by workload c.requires.runnable) can
+    c.line_law.ensures.goes_on c.drops_law.ensures.goes_on c.level_law.ensures c.shown_law.ensures.goes_on c.in_time_law.ensures.lines
+    (given_by workload c.requires.runnable) can
     (line_declared workload place line c.requires.runnable c.requires.within c.index-line.ensures) there took its comes
     (λ courses long.
     may_run_lines workload courses c.requires.runnable

@@ -5,13 +5,14 @@ use Rattle.hp_plain.specs.HallView.{HallView, IsHall}
 use Rattle.hp_plain.specs.Opening.{AreHome}
 use Rattle.hp_proc.specs.LinesDone.{Course}
 use Rattle.hp_joint.specs.Drops.{DropsComeFirst}
+use Rattle.hp_joint.specs.Freed.{AreShown}
 use Rattle.hp_reasons.specs.Notices.{NoticesAreHeard}
 use Rattle.hp_run.specs.Running.{HaveDoneLines}
 use Rattle.hp_run.proofs.Coming.{given_by}
 use Rattle.hp_run.proofs.Ending.{all_in, came_by, ends_so, first_sound, segs_there}
 use Rattle.hp_run.proofs.FailureLemmas.{fail_so}
 use Rattle.hp_run.proofs.LevelLemmas.{level_so}
-use Rattle.hp_run.proofs.ReasonLemmas.{notices_so, reasons_so}
+use Rattle.hp_run.proofs.ReasonLemmas.{may_run, notices_so, reasons_so}
 use Rattle.hp_run.proofs.Resting.{fail_then}
 use Rattle.hp_run.proofs.running.run_in.Goals as goal
 
@@ -66,6 +67,8 @@ returns g c =
         drops = λ nothing.
             subst (λ (courses : List Course). DropsComeFirst workload.participants left.segs.log left.segs.asks courses) (sym ended.1)
             (done.drops left.segs shown nothing);
+        shown = subst (λ (courses : List Course). AreShown left.segs.log left.segs.asks courses) (sym ended.1)
+            (done.shown left.segs shown (may_run workload done.courses c.requires.runnable done.lines_are));
         calls = came.calls;
         leads = came.leads;
         opens = first_sound workload answers last done;

@@ -13,7 +13,7 @@ pub run_in-requires-clause-first : goal.run_in-requires-clause-first
 run_in-requires-clause-first g c =
     let workload = c.args.workload.now in
     opens_so workload (map g.M.Mapper.may_fail c.args.mappers.items) c.in_ok-contexts.contexts c.come_all.new.hall c.line_law.ensures.opens
-    c.drops_law.ensures.opens c.requires.runnable
+    c.drops_law.ensures.opens c.shown_law.ensures.opens c.requires.runnable
     (first_stays workload c.in_ok-hall.hall c.come_all.new.hall c.in_ok-hall.ensures.0 c.in_ok-come_all.ensures.plain)
     c.in_ok-come_all.ensures.come c.in_ok-contexts.ensures
 
@@ -59,4 +59,5 @@ returns g c =
           c.none_law.ensures.want;
       notices = heard.notices;
       drops = heard.drops;
+      shown = heard.shown;
     }) c.run_in.ensures.end c.run_in.ensures.named by_plan

@@ -1,0 +1,13 @@
+use Rattle.hp_joint.proofs.Onward.{shown_line}
+use Rattle.hp_joint.proofs.Resting.{shown_rest}
+use Rattle.hp_joint.proofs.ShownOn.{shown_open}
+use Rattle.hp_joint.proofs.laws.shown_law.Goals as goal
+
+pub returns-clause-opens : goal.returns-clause-opens
+returns-clause-opens c = shown_open
+
+pub returns-clause-goes_on : goal.returns-clause-goes_on
+returns-clause-goes_on c = shown_line
+
+pub returns-clause-rests : goal.returns-clause-rests
+returns-clause-rests c = shown_rest
