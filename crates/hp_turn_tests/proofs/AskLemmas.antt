@@ -17,7 +17,7 @@ use Rattle.hp_segs.specs.declared.growth.Growth.{Growth}
 use Rattle.hp_segs.specs.declared.outcome.AskLog.{AskLog}
 use Rattle.hp_segs.specs.declared.outcome.Cause.{Cause}
 use Rattle.hp_segs.specs.declared.outcome.Outcome.{Outcome}
-use Rattle.hp_segs.specs.declared.outcome.Outcome.TheVariants.{Refused}
+use Rattle.hp_segs.specs.declared.outcome.Outcome.TheVariants.{Granted, Refused, Stale, Freed}
 use Rattle.hp_hall.specs.Asks.{IsKnownSettled}
 use Rattle.hp_hall.specs.Giving.{GivesSegments, IsGiveOf, entries_made}
 use Rattle.hp_hall.specs.Holding.{AreStanding, IsAsPart, IsHeldWith, IsSettledFor, StandsFor}
@@ -35,7 +35,7 @@ use Rattle.hp_board.specs.declared.opening.Opening.{Opening}
 use Rattle.hp_board.specs.declared.view.Mine.{Mine}
 use Rattle.hp_board.proofs.Gives.{gives_heap, gives_same}
 use Rattle.hp_turn_tests.proofs.PlayLemmas.{noted_none}
-use Rattle.hp_turn_tests.specs.Asking.{IsArmedWith, IsAsking, IsRefusedIn}
+use Rattle.hp_turn_tests.specs.Asking.{IsArmedWith, IsAsking, IsRefusedIn, refuses}
 use Rattle.hp_turn_tests.specs.Playing.{HasGiven, HasSegs, HasTurned}
 
 -- REFUSED
@@ -50,8 +50,21 @@ refused_by segs from number cause (Some entry) sound is refused = λ ask holding
     refused_known segs.asks holding ask entry cause found (only_answer segs ask entry sound found) outcome
 
 -- an ask whose logged answer is a refusal is settled, whatever its heap has
-pub refused_in : (segs : SegsView) (from number : ℕ) (cause : Cause) → IsSound segs → grant_or_refusal_of segs.asks from number ≡ Some (Refused cause) → IsRefusedIn segs.asks from number
+refused_in : (segs : SegsView) (from number : ℕ) (cause : Cause) → IsSound segs → grant_or_refusal_of segs.asks from number ≡ Some (Refused cause) → IsRefusedIn segs.asks from number
 refused_in segs from number cause sound is = refused_by segs from number cause (find (grants_or_refuses from number) segs.asks) sound refl is
+
+-- an answer that refuses is a refusal
+refusal_of : (outcome : Option Outcome) → refuses outcome ≡ true → (cause : Cause) × (outcome ≡ Some (Refused cause))
+refusal_of None is = absurd (cc)
+refusal_of (Some (Granted generation)) is = absurd (cc)
+refusal_of (Some (Refused cause)) is = (cause, refl)
+refusal_of (Some (Stale done)) is = absurd (cc)
+refusal_of (Some (Freed generation)) is = absurd (cc)
+
+pub refused_when : (segs : SegsView) (from number : ℕ) → IsSound segs → refuses (grant_or_refusal_of segs.asks from number) ≡ true → IsRefusedIn segs.asks from number
+refused_when segs from number sound is =
+    let refusal = refusal_of (grant_or_refusal_of segs.asks from number) is in
+    refused_in segs from number refusal.0 sound refusal.1
 
 -- ARMED
 

@@ -1,5 +1,5 @@
 -- What the participant that asks for pages has beside its seat.
-use Rattle.std.specs.Prelude.{◌≡◌, ℕ, ◌<◌, List, [], ◌∷◌, Option, Some}
+use Rattle.std.specs.Prelude.{◌≡◌, ℕ, ◌<◌, Bool, true, false, List, [], ◌∷◌, Option, Some, None}
 use Rattle.hp_heap.specs.History.{HeapView}
 use Rattle.hp_segs.specs.Calls.{MayArm}
 use Rattle.hp_segs.specs.LaterSteps.{after_arm}
@@ -7,6 +7,8 @@ use Rattle.hp_segs.specs.SegsView.{SegsView, closed_number}
 use Rattle.hp_segs.specs.Standing.{Holding}
 use Rattle.hp_segs.specs.declared.ask.Ask.{Ask}
 use Rattle.hp_segs.specs.declared.outcome.AskLog.{AskLog}
+use Rattle.hp_segs.specs.declared.outcome.Outcome.{Outcome}
+use Rattle.hp_segs.specs.declared.outcome.Outcome.TheVariants.{Granted, Refused, Stale, Freed}
 use Rattle.hp_hall.specs.Asks.{IsKnownSettled}
 use Rattle.hp_hall.specs.Holding.{HasHolding}
 use Rattle.hp_hall.specs.declared.kept.Kept.TheVariants.{Heap}
@@ -22,6 +24,14 @@ pub record IsAsking (heap : HeapView) (armed : Option Ask) (mine : Mine) : Type 
   pub index : heap.plain.index ≡ 0
   pub armed : mine.armed ≡ armed
   pub made : mine.made ≡ []
+
+-- the answer of an ask refuses it
+abbrev pub refuses : Option Outcome → Bool
+refuses None = false
+refuses (Some (Granted generation)) = false
+refuses (Some (Refused cause)) = true
+refuses (Some (Stale done)) = false
+refuses (Some (Freed generation)) = false
 
 -- by what was heard, an ask of that participant and number is settled without a grant
 abbrev pub IsRefusedIn : List AskLog → ℕ → ℕ → Type 0

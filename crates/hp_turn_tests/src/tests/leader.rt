@@ -1,5 +1,5 @@
 //! What participant 0 does: it hands its coordinator the ask that somebody is armed with, and carries that through.
-ghost use Rattle.std.specs.Prelude.{◌≡◌, ℕ, [], length, IfSome};
+ghost use Rattle.std.specs.Prelude.{◌≡◌, ◌<◌, ℕ, [], true, length, IfSome};
 ghost use Rattle.hp_core.specs.Conditions.{NamesParticipants};
 ghost use Rattle.hp_hall.specs.Giving.{GivesSegments, Knows};
 ghost use Rattle.hp_hall.specs.Standings.{LeavesStanding};
@@ -32,6 +32,13 @@ enum Next {
     End,
 }
 
+// Whether there may be a participant of that number.
+fn is_declared(who: u8) -> bool
+    ensures { result ≡ true → who < 16 }
+{
+    who < 16
+}
+
 // The ask with which participant 1 is armed.
 fn ask_of(segs: &Segs) -> Option<CoreEvent>
     ensures names { IfSome result NamesParticipants }
@@ -40,7 +47,7 @@ fn ask_of(segs: &Segs) -> Option<CoreEvent>
     let Some(ask) = segs.armed(1) else {
         return None;
     };
-    if ask.from >= 16 {
+    if !is_declared(ask.from) {
         return None;
     }
     Some(CoreEvent::Grow { ask })

@@ -1,6 +1,6 @@
 //! A turn of a participant that obeys: it takes in what came to the log, and notes where its mapper failed.
 ghost use Rattle.std.specs.Prelude.{◌≡◌, true, []};
-ghost use Rattle.hp_turn_tests.specs.Asking.{IsRefusedIn};
+ghost use Rattle.hp_turn_tests.specs.Asking.{IsRefusedIn, refuses};
 ghost use Rattle.hp_turn_tests.specs.Playing.{HasComeOn, HasTurned, HoldsSegs, IsBack, IsNotedIn, IsPlaying};
 
 use super::member::{Maps, give_segs, take_in, take_segs};
@@ -18,15 +18,23 @@ pub struct Looked {
     pub refused: bool,
 }
 
+// Whether the answer of an ask refuses it.
+fn refuses(outcome: Option<Outcome>) -> bool
+    ensures { result ≡ refuses outcome }
+{
+    match outcome {
+        Some(Outcome::Refused { .. }) => true,
+        Some(Outcome::Granted { .. } | Outcome::Stale { .. } | Outcome::Freed { .. }) | None =>
+            false,
+    }
+}
+
 // Whether an ask was refused.
 fn is_refused(segs: &Segs, who: u8, number: u64) -> bool
     ensures { result ≡ true → IsRefusedIn segs.now.asks who number }
 {
     let _records = segs.records();
-    matches!(
-        segs.grant_or_refusal(who, number),
-        Some(Outcome::Refused { .. })
-    )
+    refuses(segs.grant_or_refusal(who, number))
 }
 
 // Where something came, the table catches up with the log of the value in hand, and a mapping that failed is noted in that.
