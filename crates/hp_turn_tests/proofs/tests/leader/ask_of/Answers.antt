@@ -10,4 +10,4 @@ pub returns-clause-known : goal.returns-clause-known
 returns-clause-known c = λ noted records. tt
 
 pub returns-clause-names : goal.returns-clause-names
-returns-clause-names c = c.is_declared.ensures c.if-is_declared.true
+returns-clause-names c = c.is_declared.ensures c.if-not-is_declared.false
