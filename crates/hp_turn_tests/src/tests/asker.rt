@@ -8,7 +8,7 @@ ghost use Rattle.hp_turn_tests.specs.Asking.{IsArmedWith, IsAsking};
 ghost use Rattle.hp_turn_tests.specs.Playing.{IsBack, IsPlaying};
 
 use super::member::{Maps, give_segs, take_segs};
-use super::obeying::{Looked, obey};
+use super::obeying::{Looked, has_taken_in, obey};
 use super::{HEAP, PAGE};
 use hp_base::Request;
 use hp_board::{Board, Seat};
@@ -75,7 +75,7 @@ fn arm<R: Wait>(
 fn is_over(looked: Looked, maps: &Maps, records: u64) -> bool
     ensures { result ≡ true → looked.refused ≡ true }
 {
-    looked.refused && maps.number() >= records
+    looked.refused && has_taken_in(maps, records)
 }
 
 /// All turns of participant 1; it comes back where its ask was refused and its table has taken in so many records.

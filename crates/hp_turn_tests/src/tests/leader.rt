@@ -20,7 +20,7 @@ use std::sync::Wait;
 use std::thread;
 
 // What it does next.
-#[derive(Clone, Copy, PartialEq, Eq)]
+#[derive(Clone, Copy)]
 enum Next {
     // It waits for the ask of participant 1.
     Start,
@@ -158,6 +158,14 @@ fn lead<R: Wait>(
     next
 }
 
+// Whether the ask was answered.
+fn is_end(next: Next) -> bool {
+    match next {
+        Next::End => true,
+        Next::Start | Next::Map | Next::Poll => false,
+    }
+}
+
 /// All turns of participant 0, until the ask is answered.
 pub fn lead_all<R: Wait>(rt: &R, board: &Board, seat: Seat, maps: Maps) -> (Seat, Maps)
     requires playing { IsPlaying board.now.id seat maps }
@@ -171,7 +179,7 @@ pub fn lead_all<R: Wait>(rt: &R, board: &Board, seat: Seat, maps: Maps) -> (Seat
     let mut next = Next::Start;
     for _ in rt.forever() {
         next = lead(rt, board, &mut seat, &mut maps, &mut core, next);
-        if next == Next::End {
+        if is_end(next) {
             return (seat, maps);
         }
         thread::yield_now();

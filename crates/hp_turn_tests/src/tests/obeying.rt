@@ -85,6 +85,11 @@ pub fn obey<R: Wait>(
     Looked { records, refused }
 }
 
+/// Whether a table has taken in so many records.
+pub fn has_taken_in(maps: &Maps, records: u64) -> bool {
+    maps.number() >= records
+}
+
 /// All turns of a participant that only obeys, until its table has taken in so many records.
 pub fn obey_all<R: Wait>(
     rt: &R,
@@ -105,7 +110,7 @@ pub fn obey_all<R: Wait>(
     };
     for _ in rt.forever() {
         looked = obey(rt, board, &mut seat, &mut maps, looked, 0);
-        if maps.number() >= records {
+        if has_taken_in(&maps, records) {
             return (seat, maps);
         }
         thread::yield_now();

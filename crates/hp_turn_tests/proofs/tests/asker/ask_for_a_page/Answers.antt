@@ -39,25 +39,25 @@ pub loop-preserved : goal.loop-preserved
 loop-preserved g c =
     let asking = c.loop.invariant.asking in
     record {
-      playing = c.obey.ensures.playing;
+      playing = c.obey-looked.ensures.playing;
       from = c.loop.invariant.from;
-      asking = (asking.0, asking.1.0, asking_on asking.0 (Some c.loop.ask) c.loop.seat.mine c.obey.new.seat.mine asking.1.1 c.obey.ensures.turned);
+      asking = (asking.0, asking.1.0, asking_on asking.0 (Some c.loop.ask) c.loop.seat.mine c.obey-looked.new.seat.mine asking.1.1 c.obey-looked.ensures.turned);
     }
 
 pub give-requires-clause-gives : goal.give-requires-clause-gives
 give-requires-clause-gives g c =
     let asking = c.loop.invariant.asking in
-    let now = asking_on asking.0 (Some c.loop.ask) c.loop.seat.mine c.obey.new.seat.mine asking.1.1 c.obey.ensures.turned in
-    let refused : IsRefusedIn c.obey.new.seat.mine.heard c.loop.seat.mine.who c.loop.ask.number = c.obey.ensures.refused (c.is_over.ensures c.if-is_over.true) in
-    subst (λ (kept : Kept). IsGiveOf (knows_of c.obey.new.seat.mine) 0 kept) (sym asking.1.0)
-    (gives_refused asking.0 c.loop.ask c.obey.new.seat.mine now c.loop.invariant.from
-    (subst (λ (who : ℕ). IsRefusedIn c.obey.new.seat.mine.heard who c.loop.ask.number) (sym c.obey.ensures.turned.who) refused))
+    let now = asking_on asking.0 (Some c.loop.ask) c.loop.seat.mine c.obey-looked.new.seat.mine asking.1.1 c.obey-looked.ensures.turned in
+    let refused : IsRefusedIn c.obey-looked.new.seat.mine.heard c.loop.seat.mine.who c.loop.ask.number = c.obey-looked.ensures.refused (c.is_over.ensures c.if-is_over.true) in
+    subst (λ (kept : Kept). IsGiveOf (knows_of c.obey-looked.new.seat.mine) 0 kept) (sym asking.1.0)
+    (gives_refused asking.0 c.loop.ask c.obey-looked.new.seat.mine now c.loop.invariant.from
+    (subst (λ (who : ℕ). IsRefusedIn c.obey-looked.new.seat.mine.heard who c.loop.ask.number) (sym c.obey-looked.ensures.turned.who) refused))
 
-pub returns-clause-back : goal.returns-clause-back
-returns-clause-back g c =
+pub returns-then-is_over-clause-back : goal.returns-then-is_over-clause-back
+returns-then-is_over-clause-back g c =
     let asking = c.loop.invariant.asking in
-    let now = asking_on asking.0 (Some c.loop.ask) c.loop.seat.mine c.obey.new.seat.mine asking.1.1 c.obey.ensures.turned in
-    let playing = c.obey.ensures.playing in
+    let now = asking_on asking.0 (Some c.loop.ask) c.loop.seat.mine c.obey-looked.new.seat.mine asking.1.1 c.obey-looked.ensures.turned in
+    let playing = c.obey-looked.ensures.playing in
     record {
       board_is = c.give.ensures.board ∙ playing.board_is;
       three = ap (λ (m : Mine). m.opening.participants) c.give.ensures.given ∙ playing.three;

@@ -7,17 +7,17 @@ loop-init g c = record { playing = c.requires.playing; first = c.requires.first;
 
 pub loop-preserved : goal.loop-preserved
 loop-preserved g c =
-    let turned = c.lead.ensures.turned in
+    let turned = c.lead-next.ensures.turned in
     record {
-      playing = c.lead.ensures.playing;
+      playing = c.lead-next.ensures.playing;
       first = turned.who ∙ c.loop.invariant.first;
       held = turned.held ∙ ap (without 32) c.loop.invariant.held;
     }
 
-pub returns-clause-back : goal.returns-clause-back
-returns-clause-back g c =
-    let turned = c.lead.ensures.turned in
-    let playing = c.lead.ensures.playing in
+pub returns-then-is_end-clause-back : goal.returns-then-is_end-clause-back
+returns-then-is_end-clause-back g c =
+    let turned = c.lead-next.ensures.turned in
+    let playing = c.lead-next.ensures.playing in
     record {
       board_is = playing.board_is;
       three = playing.three;

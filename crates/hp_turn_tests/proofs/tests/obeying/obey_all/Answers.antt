@@ -7,17 +7,17 @@ loop-init g c = record { playing = c.requires.playing; who = refl; held = c.requ
 
 pub loop-preserved : goal.loop-preserved
 loop-preserved g c =
-    let turned = c.obey.ensures.turned in
+    let turned = c.obey-looked.ensures.turned in
     record {
-      playing = c.obey.ensures.playing;
+      playing = c.obey-looked.ensures.playing;
       who = turned.who ∙ c.loop.invariant.who;
       held = turned.held ∙ ap (without 32) c.loop.invariant.held;
     }
 
-pub returns-clause-back : goal.returns-clause-back
-returns-clause-back g c =
-    let turned = c.obey.ensures.turned in
-    let playing = c.obey.ensures.playing in
+pub returns-then-has_taken_in-clause-back : goal.returns-then-has_taken_in-clause-back
+returns-then-has_taken_in-clause-back g c =
+    let turned = c.obey-looked.ensures.turned in
+    let playing = c.obey-looked.ensures.playing in
     record {
       board_is = playing.board_is;
       three = playing.three;
