@@ -15,14 +15,14 @@ use Rattle.hp_hall.specs.declared.kept.Kept.TheVariants.{Heap}
 use Rattle.hp_board.specs.declared.view.Mine.{Mine}
 
 -- it is participant 1, has heap 0 in hand as it was taken, which has what the segment value has for it, is armed so, and has made no entry
-pub record IsAsking (heap : HeapView) (armed : Option Ask) (mine : Mine) : Type 0 where
+pub record IsAsking (heap : HeapView) (ask : Option Ask) (mine : Mine) : Type 0 where
   pub holding : Holding
   pub who : mine.who ≡ 1
   pub held : mine.held ≡ (0, Heap heap) ∷ []
   pub holdings : mine.holdings ≡ (0, holding) ∷ []
   pub has : HasHolding heap holding
   pub index : heap.plain.index ≡ 0
-  pub armed : mine.armed ≡ armed
+  pub armed : mine.armed ≡ ask
   pub made : mine.made ≡ []
 
 -- the answer of an ask refuses it
