@@ -87,10 +87,6 @@ armed_now ask segs own sound =
     subst (λ (from : ℕ). slice_index_or (slice_set segs.armed ask.from (Some ask)) from None ≡ Some ask) own
     (get_or-set_same segs.armed ask.from (Some ask) None (omega (arith, own, sound.places.armed_places)))
 
--- the participant knows what the value has for the heap in its hand
-holds_heap : (heap : HeapView) (armed : Option Ask) (mine : Mine) (asking : IsAsking heap armed mine) → value_of 0 mine.holdings ≡ Some asking.holding
-holds_heap heap armed mine asking = ap (value_of 0) asking.holdings
-
 is_some : {A : Type 0} (o : Option A) (x : A) → o ≡ Some x → IsSome o
 is_some o x is = subst IsSome (sym is) refl
 
@@ -187,9 +183,6 @@ gives_refused heap ask mine asking own refused =
     let both : Some other ≡ Some ask = sym armed ∙ asking.armed in
     let is : other ≡ ask = cc in
     refused other (heap_part mine heap.plain.index).holding (ap (λ (a : Ask). a.from) is ∙ (own ∙ sym asking.who)) (ap (λ (a : Ask). a.number) is))
-
-pub kept_heap : (heap : HeapView) (armed : Option Ask) (mine : Mine) → IsAsking heap armed mine → (kept : Kept) → kept ≡ Heap heap → value_of 0 mine.held ≡ Some kept
-kept_heap heap armed mine asking kept is = ap (value_of 0) asking.held ∙ ap (λ (k : Kept). Some k) (sym is)
 
 -- EITHER WAY
 
