@@ -9,7 +9,7 @@ ghost use Rattle.hp_serve.specs.Coordinating.{IsTrueOf, with_room};
 ghost use Rattle.hp_turn_tests.specs.Playing.{IsNotedIn};
 
 use hp_base::{Caught, NoLimits};
-use hp_core::{Coordinator, CoreEvent, Out, core_law, follow};
+use hp_core::{Coordinator, CoreEvent, Out, follow};
 use hp_segs::Segs;
 use std::alloc::AllocError;
 
@@ -36,7 +36,6 @@ pub fn step(core: &mut Coordinator, segs: &mut Segs, event: CoreEvent) -> Result
     ensures leaves { LeavesStanding segs.old segs.new }
     ensures roster { segs.new.roster ≡ segs.old.roster }
 {
-    core_law();
     make_room(segs)?;
     Ok(core.step(segs, event, &NoLimits))
 }
