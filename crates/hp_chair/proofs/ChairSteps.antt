@@ -1,11 +1,11 @@
 -- What a call that makes one step leaves of a hall with one seat, as its callers see it.
-use Rattle.std.proofs.Common.{◌≡◌, ◌≢◌, inr, ℕ, ◌<◌, ◌≤◌, Bool, true, false, List, [], ◌∷◌, ◌++◌, None, refl, sym, ap, ◌∙◌, arith}
+use Rattle.std.proofs.Common.{◌≡◌, ◌≢◌, inr, ℕ, ◌+◌, ◌<◌, ◌≤◌, Bool, true, false, List, [], ◌∷◌, ◌++◌, None, refl, sym, ap, ◌∙◌, arith}
 use Rattle.std.proofs.lemmas.List.{append-nil}
 use Rattle.std.proofs.lemmas.List.Sums.{sum_by-cons}
 use Rattle.hp_hall.specs.HallCalls.{HasComeTo}
 use Rattle.hp_hall.specs.HallState.{Did, MineStay, OthersStay, PartsStay, SlotsStay, Stays}
 use Rattle.hp_hall.specs.Holding.{HeapPart}
-use Rattle.hp_hall.specs.Mail.{IsAsPlanned, MailStep, counted_on, full_post}
+use Rattle.hp_hall.specs.Mail.{IsAsPlanned, MailStep, counted_on, full_post, full_posts}
 use Rattle.hp_hall.specs.Own.{Own, after_ack}
 use Rattle.hp_hall.specs.declared.kept.Kept.{Kept}
 use Rattle.hp_board.specs.Knowing.{heap_part}
@@ -33,6 +33,12 @@ pub record MakesStep (step : MailStep) (old new : ChairView) : Type 0 where
   pub turns : new.turns ≤ old.turns
   pub stopped : old.stopped ≡ true → new.stopped ≡ true
 
+plus_none : (n : ℕ) → n + 0 ≡ n
+plus_none n = omega arith
+
+full_posts-one : (step : MailStep) → full_posts (step ∷ []) ≡ full_post step
+full_posts-one step = sum_by-cons full_post step [] ∙ plus_none (full_post step)
+
 pub course_step : (step : MailStep) (old new : ChairView) → old.seat.mine.who < old.seat.mine.opening.participants → MakesStep step old new
     → IsChairCourse old new
 course_step step old new declared makes = record {
@@ -45,7 +51,7 @@ course_step step old new declared makes = record {
   made = makes.made;
   declared = inr declared;
   planned = (makes.planned, tt);
-  fulls = omega (arith, makes.fulls, sum_by-cons full_post step []);
+  fulls = makes.fulls ∙ ap (λ (n : ℕ). counted_on n old.fulls) (sym (full_posts-one step));
   turns = makes.turns;
   stopped = makes.stopped;
 }

@@ -8,3 +8,5 @@ pub mod ChairGives
 pub mod ChairFinds
 pub mod ChairMail
 pub mod ChairNotes
+pub mod ChairPosts
+pub mod ChairOpens

@@ -6,5 +6,4 @@ mod marks;
 mod step_log;
 
 pub use board_hall::BoardHall;
-pub use hp_hall::{Hall, Waiting};
 pub use marks::Marks;

@@ -1,4 +1,4 @@
-ghost use Rattle.std.specs.Prelude.{◌≡◌, ◌<◌, ◌↔◌, ℕ, Some, length, slice_get};
+ghost use Rattle.std.specs.Prelude.{◌≡◌, ◌<◌, ◌↔◌, ℕ, List, Some, length, slice_get};
 ghost use Rattle.hp_base.specs.declared.plan.Action.{Action};
 ghost use Rattle.hp_hall.specs.Mail.{MailStep, counted_on, full_of};
 ghost use Rattle.hp_mail.specs.PassView.{PassView};

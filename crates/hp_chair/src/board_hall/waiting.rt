@@ -1,6 +1,7 @@
-ghost use Rattle.std.specs.Prelude.{◌≡◌, ◌+◌};
+ghost use Rattle.std.specs.Prelude.{◌≡◌, ◌+◌, true};
 
 use super::BoardHall;
+use crate::marks::Marks;
 use hp_base::Clock;
 use hp_hall::{Note, Waiting};
 use std::alloc::AllocError;
@@ -21,7 +22,7 @@ impl<'a, C: Clock, R: Wait> Waiting for BoardHall<'a, C, R> {
     fn pause(&mut self, me: u8, moved: bool, until: Option<u64>) {
         let _ = me;
         self.turns = one_less(self.rt, self.turns);
-        self.stopped = self.stopped || self.marks.is_stopped();
+        self.stopped = seen_stopped(self.marks, self.stopped);
         self.log = self.log.with_note(Note::Paused { moved, until });
     }
 
@@ -42,4 +43,11 @@ fn one_less<R: Wait>(rt: &R, turns: u64) -> u64
         unreachable!()
     }
     turns - 1
+}
+
+// Whether somebody has stopped, as far as was seen before or is seen now.
+fn seen_stopped(marks: &Marks, before: bool) -> bool
+    ensures { before ≡ true → result ≡ true }
+{
+    before || marks.is_stopped()
 }
