@@ -29,7 +29,7 @@ pub record HasLooked (me slot word : ℕ) (old new : ChairView) : Type 0 where
   pub goes_on : IsChairCourse old new
 
 module _ (me slot word : ℕ) (old : ChairView) (seat : SeatView) (its : me ≡ old.seat.mine.who) (holds : IsHeldWord old.seat.mine slot word)
-    (is : seat.mine ≡ after_look slot word old.seat.mine) where
+    (is : seat.mine ≡ after_look slot word old.seat.mine) (sits : seat.board ≡ old.seat.board) where
   abbrev mine : Mine
   mine = old.seat.mine
 
@@ -44,6 +44,8 @@ module _ (me slot word : ℕ) (old : ChairView) (seat : SeatView) (its : me ≡ 
 
   course : IsChairCourse old new
   course = record {
+    board = sits;
+    boxes = refl;
     who = goes.who;
     count = goes.count;
     seen = goes.seen;
@@ -77,8 +79,8 @@ module _ (me slot word : ℕ) (old : ChairView) (seat : SeatView) (its : me ≡ 
     goes_on = course;
   }
 
-  pub chair_looked : (board : BoardView) (boxes : List MailboxView) → IsChair board boxes old → seat.board ≡ old.seat.board → IsChair board boxes new
-  chair_looked board boxes was sits =
+  pub chair_looked : (board : BoardView) (boxes : List MailboxView) → IsChair board boxes old → IsChair board boxes new
+  chair_looked board boxes was =
       chair_after board boxes old new was sits goes
       (held_still mine seat.mine (record {
         held = leaves.held;

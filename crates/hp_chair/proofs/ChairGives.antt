@@ -111,7 +111,8 @@ pub record HasGave (me slot : ℕ) (kept : Kept) (old new : ChairView) : Type 0 
 
 module _ (me slot : ℕ) (kept : Kept) (board : BoardView) (boxes : List MailboxView) (old : ChairView) (seat : SeatView) (its : me ≡ old.seat.mine.who)
     (was : IsChair board boxes old) (gives : IsGiveOf (knows_of old.seat.mine) slot kept) (is : seat.mine ≡ after_give slot kept old.seat.mine)
-    (own : entries_of old.seat.mine.who (history_of kept) ≡ made_in slot seat.mine) (mapped : HasMappedHeld seat.mine) where
+    (own : entries_of old.seat.mine.who (history_of kept) ≡ made_in slot seat.mine) (mapped : HasMappedHeld seat.mine)
+    (sits : seat.board ≡ old.seat.board) where
   abbrev mine : Mine
   mine = old.seat.mine
 
@@ -143,6 +144,8 @@ module _ (me slot : ℕ) (kept : Kept) (board : BoardView) (boxes : List Mailbox
 
   course : IsChairCourse old new
   course = course_step (Gives slot kept) old new was.declared (record {
+    board = sits;
+    boxes = refl;
     goes = goes_given;
     made = refl;
     planned = tt;
@@ -201,8 +204,8 @@ module _ (me slot : ℕ) (kept : Kept) (board : BoardView) (boxes : List Mailbox
         asks = asks_beside slot other kept value mine.heard fits before.fits apart before.asks;
       }
 
-  pub chair_given : seat.board ≡ old.seat.board → IsChair board boxes new
-  chair_given sits =
+  pub chair_given : IsChair board boxes new
+  chair_given =
       chair_after board boxes old new was sits goes_given
       (subst AreHeld (sym is) held_given)
       (tied_step old.steps (Gives slot kept) mine after was.tied (ap (λ (m : Mine). m.moves) is)

@@ -1,12 +1,13 @@
 -- A frame was posted by one of a participant's passes, or fetched by its own.
 use Rattle.std.proofs.Common.{◌≡◌, ◌≢◌, ⊎_elim, ℕ, zero, suc, ◌<◌, eqb, cond, eq-eqb, ne_eqb, List, [], ◌∷◌, ◌++◌, length, map, replicate, set, Option, Some, None, refl, sym, ap, subst, ◌∙◌, arith}
 use Rattle.std.specs.List.{slice_get}
+use Rattle.std.specs.Prelude.{IfNone, IfSome}
 use Rattle.std.proofs.lemmas.Bool.{cases_eq, cond-false, cond-true}
 use Rattle.std.proofs.lemmas.List.{append-nil, length-set, map-append}
 use Rattle.std.proofs.lemmas.Option.{same_Some}
 use Rattle.hp_base.specs.declared.plan.Action.{Action}
 use Rattle.hp_frame.specs.declared.frame.Frame.{Frame}
-use Rattle.hp_mail.specs.PassView.{MailboxView, PassView, after_fetch, after_post, copies}
+use Rattle.hp_mail.specs.PassView.{MailboxView, PassView, WasEmpty, after_fetch, after_post, copies}
 use Rattle.hp_mail.specs.Views.{letter}
 use Rattle.hp_mail.specs.declared.letter.Letter.{Letter}
 use Rattle.hp_mail.specs.declared.posted.Posted.{Posted}
@@ -128,3 +129,21 @@ places_fetched who steps frame boxes passes new pass places within there by =
           ∙ sym (flat_push fetches steps (Fetches frame));
     })
     (λ place apart. refl) (λ place apart own. absurd (apart own)))
+
+-- what a mailbox says of a fetch
+pub fetched_as : (frame : Option Frame) (old new : PassView) → IfSome frame (λ f. (from : ℕ) × (new ≡ after_fetch (letter from f) old))
+    → IfNone frame ((new ≡ old) × WasEmpty old) → IsFetchedBy frame old new
+fetched_as None old new some none = none.0
+fetched_as (Some frame) old new some none = some
+
+pub mailbox_still : (frame : Option Frame) (pass later : PassView) → IsFetchedBy frame pass later → later.mailbox ≡ pass.mailbox
+mailbox_still frame pass later is = (pass_still frame pass later is).mailbox
+
+-- the mailboxes that passes are for stay where one pass comes to another for the same
+pub mailboxes_set : (passes : List PassView) (place : ℕ) (pass later : PassView) → slice_get passes place ≡ Some pass → later.mailbox ≡ pass.mailbox
+    → map (λ (p : PassView). p.mailbox) (set passes place later) ≡ map (λ (p : PassView). p.mailbox) passes
+mailboxes_set [] place pass later there same = refl
+mailboxes_set (first ∷ passes) zero pass later there same =
+    ap (λ m. m ∷ map (λ (p : PassView). p.mailbox) passes) (same ∙ sym (ap (λ (p : PassView). p.mailbox) (same_Some first pass there)))
+mailboxes_set (first ∷ passes) (suc place) pass later there same =
+    ap (λ l. first.mailbox ∷ l) (mailboxes_set passes place pass later there same)

@@ -30,12 +30,15 @@ pub hand_loaded : (mine after : Mine) (from number : ℕ) → after ≡ after_lo
 hand_loaded mine after from number is = subst (LeavesHand mine) (sym is) (record { held = refl; moves = refl; log = refl; heard = refl })
 
 module _ (me : ℕ) (note : Note) (old : ChairView) (seat : SeatView) (its : me ≡ old.seat.mine.who) (declared : old.seat.mine.who < old.seat.mine.opening.participants)
-    (goes : GoesOn old.seat.mine seat.mine) (leaves : LeavesSlots old.seat.mine seat.mine) where
+    (goes : GoesOn old.seat.mine seat.mine) (leaves : LeavesSlots old.seat.mine seat.mine)
+    (sits : seat.board ≡ old.seat.board) where
   abbrev new : ChairView
   new = with_seat seat (old.steps ++ Notes note ∷ []) old
 
   makes : MakesStep (Notes note) old new
   makes = record {
+    board = sits;
+    boxes = refl;
     goes = goes;
     made = refl;
     planned = tt;
@@ -50,9 +53,9 @@ module _ (me : ℕ) (note : Note) (old : ChairView) (seat : SeatView) (its : me 
   pub note_come : (part : Own) → own_of seat.mine ≡ part → ComesTo me part (Notes note) old new
   note_come part own = comes_to me (Notes note) old new its declared makes leaves part own
 
-  pub chair_noted : (board : BoardView) (boxes : List MailboxView) → IsChair board boxes old → seat.board ≡ old.seat.board
-      → LeavesHand old.seat.mine seat.mine → IsChair board boxes new
-  chair_noted board boxes was sits hand = chair_quiet board boxes old new was sits goes (Notes note) (quiet_note note) refl refl hand
+  pub chair_noted : (board : BoardView) (boxes : List MailboxView) → IsChair board boxes old → LeavesHand old.seat.mine seat.mine
+      → IsChair board boxes new
+  chair_noted board boxes was hand = chair_quiet board boxes old new was sits goes (Notes note) (quiet_note note) refl refl hand
 
 -- who has the segment value in hand by its steps holds its slot at the board
 pub may_ack : (me : ℕ) (board : BoardView) (boxes : List MailboxView) (chair : ChairView) → me ≡ chair.seat.mine.who → IsChair board boxes chair

@@ -1,5 +1,5 @@
 -- What a call that makes one step leaves of a hall with one seat, as its callers see it.
-use Rattle.std.proofs.Common.{◌≡◌, ◌≢◌, inr, ℕ, ◌+◌, ◌<◌, ◌≤◌, Bool, true, false, List, [], ◌∷◌, ◌++◌, None, refl, sym, ap, ◌∙◌, arith}
+use Rattle.std.proofs.Common.{◌≡◌, ◌≢◌, inr, ℕ, ◌+◌, ◌<◌, ◌≤◌, Bool, true, false, List, [], ◌∷◌, ◌++◌, map, None, refl, sym, ap, ◌∙◌, arith}
 use Rattle.std.proofs.lemmas.List.{append-nil}
 use Rattle.std.proofs.lemmas.List.Sums.{sum_by-cons}
 use Rattle.hp_hall.specs.HallCalls.{HasComeTo}
@@ -26,6 +26,8 @@ pub record GoesOn (old new : Mine) : Type 0 where
 
 -- one step more stands in the log of the hall, with what becomes of the counts
 pub record MakesStep (step : MailStep) (old new : ChairView) : Type 0 where
+  pub board : new.seat.board ≡ old.seat.board
+  pub boxes : map (λ pass. pass.mailbox) new.passes ≡ map (λ pass. pass.mailbox) old.passes
   pub goes : GoesOn old.seat.mine new.seat.mine
   pub made : new.steps ≡ old.steps ++ step ∷ []
   pub planned : IsAsPlanned step
@@ -42,6 +44,8 @@ full_posts-one step = sum_by-cons full_post step [] ∙ plus_none (full_post ste
 pub course_step : (step : MailStep) (old new : ChairView) → old.seat.mine.who < old.seat.mine.opening.participants → MakesStep step old new
     → IsChairCourse old new
 course_step step old new declared makes = record {
+  board = makes.board;
+  boxes = makes.boxes;
   who = makes.goes.who;
   count = makes.goes.count;
   seen = makes.goes.seen;

@@ -91,7 +91,8 @@ pub record HasTook (me slot : ℕ) (kept : Kept) (old new : ChairView) : Type 0 
   pub goes_on : IsChairCourse old new
 
 module _ (me slot : ℕ) (kept : Kept) (old : ChairView) (seat : SeatView) (its : me ≡ old.seat.mine.who) (declared : old.seat.mine.who < old.seat.mine.opening.participants)
-    (handed : IsHanded old.seat.mine slot kept seat.mine) (taken : HasTakenLater slot kept old.seat.mine seat.mine) where
+    (handed : IsHanded old.seat.mine slot kept seat.mine) (taken : HasTakenLater slot kept old.seat.mine seat.mine)
+    (sits : seat.board ≡ old.seat.board) where
   abbrev mine : Mine
   mine = old.seat.mine
 
@@ -124,6 +125,8 @@ module _ (me slot : ℕ) (kept : Kept) (old : ChairView) (seat : SeatView) (its 
 
   makes : MakesStep (Takes slot kept) old new
   makes = record {
+    board = sits;
+    boxes = refl;
     goes = goes_taken;
     made = refl;
     planned = tt;
@@ -205,8 +208,8 @@ module _ (me slot : ℕ) (kept : Kept) (old : ChairView) (seat : SeatView) (its 
       })
       (cases_eq other slot)
 
-  pub chair_taken : (board : BoardView) (boxes : List MailboxView) → IsChair board boxes old → seat.board ≡ old.seat.board → IsChair board boxes new
-  chair_taken board boxes was sits =
+  pub chair_taken : (board : BoardView) (boxes : List MailboxView) → IsChair board boxes old → IsChair board boxes new
+  chair_taken board boxes was =
       chair_after board boxes old new was sits goes_taken
       (subst AreHeld (sym view) (held_taken was.held))
       (tied_step old.steps (Takes slot kept) mine after was.tied (ap (λ (m : Mine). m.moves) view)

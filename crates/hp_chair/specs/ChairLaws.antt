@@ -20,6 +20,8 @@ le_then a b c one two = omega (arith, one, two)
 
 pub chair_same : (a : ChairView) → IsChairCourse a a
 chair_same a = record {
+  board = refl;
+  boxes = refl;
   who = refl;
   count = refl;
   seen = front_itself a.seat.mine.log;
@@ -51,6 +53,8 @@ declared_then a b c here next =
 
 pub chair_then : (a b c : ChairView) → IsChairCourse a b → IsChairCourse b c → IsChairCourse a c
 chair_then a b c here next = record {
+  board = next.board ∙ here.board;
+  boxes = next.boxes ∙ here.boxes;
   who = next.who ∙ here.who;
   count = next.count ∙ here.count;
   seen = front_on b.seat.mine.log c.seat.mine.log a.seat.mine.log next.seen here.seen;

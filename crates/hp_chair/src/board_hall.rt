@@ -1,6 +1,7 @@
 //! A hall with one seat at the board.
-ghost use Rattle.std.specs.Prelude.{◌≡◌, ◌<◌, ◌≤◌, [], length};
+ghost use Rattle.std.specs.Prelude.{◌≡◌, ◌<◌, ◌≤◌, List, [], length};
 ghost use Rattle.hp_base.specs.declared.limits.TheConstants.{MAX_PARTICIPANTS};
+ghost use Rattle.hp_mail.specs.PassView.{MailboxView};
 ghost use Rattle.hp_chair.specs.ChairView.{opening_chair};
 ghost use Rattle.hp_chair.specs.Places.{ArePlaces};
 ghost use Rattle.hp_chair.specs.Steps.{moves_in};
@@ -103,6 +104,9 @@ impl<'a, C: Clock, R: Wait> BoardHall<'a, C, R> {
         ensures seat { result.0 ≡ self.entry.seat }
         ensures passes { result.1.items ≡ self.entry.passes }
         ensures moves { result.0.mine.moves ≡ moves_in self.entry.steps }
+
+        // So is what each pass has posted and fetched.
+        ensures mail { (boxes : List MailboxView) × ArePlaces self.entry.seat.mine.who self.entry.steps boxes result.1.items }
     {
         let BoardHall { seat, passes, .. } = self;
         (seat, passes)

@@ -63,8 +63,8 @@ invariant_of-self g c =
     subst (λ (steps : List MailStep). IsChair c.self.inside.board.now c.self.inside.boxes.now (with_seat seat steps before)) (sym c.with_note.ensures)
     (chair_noted c.args.me (Acked c.args.number) before seat its c.self.invariant.declared
     (goes_acked before.seat.mine seat.mine c.args.number c.ack.ensures.acked rises)
-    (leaves_acked before.seat.mine seat.mine c.args.number c.ack.ensures.acked)
-    c.self.inside.board.now c.self.inside.boxes.now c.self.invariant c.ack.ensures.board
+    (leaves_acked before.seat.mine seat.mine c.args.number c.ack.ensures.acked) c.ack.ensures.board
+    c.self.inside.board.now c.self.inside.boxes.now c.self.invariant
     (hand_acked before.seat.mine seat.mine c.args.number c.ack.ensures.acked))
 
 pub returns : goal.returns
@@ -87,7 +87,7 @@ returns g c =
     subst (λ (steps : List MailStep). ComesTo c.args.me (after_ack c.args.number) (Notes (Acked c.args.number)) before (with_seat seat steps before)) (sym c.with_note.ensures)
     (note_come c.args.me (Acked c.args.number) before seat its c.self.invariant.declared
     (goes_acked before.seat.mine seat.mine c.args.number c.ack.ensures.acked rises)
-    (leaves_acked before.seat.mine seat.mine c.args.number c.ack.ensures.acked)
+    (leaves_acked before.seat.mine seat.mine c.args.number c.ack.ensures.acked) c.ack.ensures.board
     (after_ack c.args.number) (own_acked before.seat.mine seat.mine c.args.number c.ack.ensures.acked)) in
     let is : ComesTo c.args.me (after_ack c.args.number) (Notes (Acked c.args.number)) c.args.self.now after =
     subst (λ (chair : ChairView). ComesTo c.args.me (after_ack c.args.number) (Notes (Acked c.args.number)) chair after) c.self.view_is here in

@@ -64,5 +64,5 @@ returns g c =
     let is : DoesOne c.args.me step c.args.self.now after =
     subst (λ (chair : ChairView). DoesOne c.args.me step chair after) c.self.view_is
     (fetches_one c.args.me before c.self.inside.board.now c.self.inside.boxes.now its c.self.invariant c.fetch_by-frame.new.passes.items c.with_fetch.result before.fulls
-    c.fetch_by-frame.result c.with_fetch.ensures refl) in
+    c.fetch_by-frame.result c.with_fetch.ensures refl c.fetch_by-frame.ensures) in
     record { did = is.did; stays = is.stays; weight = omega (arith, is.weight); goes_on = is.goes_on }

@@ -65,7 +65,7 @@ returns g c =
     let here : HasGave c.args.me number kept before after =
     subst (λ (steps : List MailStep). HasGave c.args.me number kept before (with_seat seat steps before)) (sym made)
     (given_here c.args.me number kept c.self.inside.board.now c.self.inside.boxes.now before seat its c.self.invariant gives c.give.ensures.given
-    c.give.ensures.own c.give.ensures.mapped) in
+    c.give.ensures.own c.give.ensures.mapped c.give.ensures.board) in
     let is : HasGave c.args.me number kept c.args.self.now after =
     subst (λ (chair : ChairView). HasGave c.args.me number kept chair after) c.self.view_is here in
     record { gave = is.gave; slots = is.slots; others = is.others; weight = is.weight; goes_on = is.goes_on }

@@ -34,8 +34,8 @@ invariant_of-self g c =
     subst (λ (steps : List MailStep). IsChair c.self.inside.board.now c.self.inside.boxes.now (with_seat seat steps before)) (sym c.with_note.ensures)
     (chair_noted c.args.me (Loaded from number) before seat its c.self.invariant.declared
     (goes_loaded before.seat.mine seat.mine from number loaded own c.load_ack-number.ensures.rises)
-    (leaves_loaded before.seat.mine seat.mine from number loaded own)
-    c.self.inside.board.now c.self.inside.boxes.now c.self.invariant c.load_ack-number.ensures.board
+    (leaves_loaded before.seat.mine seat.mine from number loaded own) c.load_ack-number.ensures.board
+    c.self.inside.board.now c.self.inside.boxes.now c.self.invariant
     (hand_loaded before.seat.mine seat.mine from number loaded))
 
 pub returns : goal.returns
@@ -59,7 +59,7 @@ returns g c =
     subst (λ (steps : List MailStep). DoesOne c.args.me (Notes (Loaded from number)) before (with_seat seat steps before)) (sym c.with_note.ensures)
     (note_one c.args.me (Loaded from number) before seat its c.self.invariant.declared
     (goes_loaded before.seat.mine seat.mine from number loaded own c.load_ack-number.ensures.rises)
-    (leaves_loaded before.seat.mine seat.mine from number loaded own)
+    (leaves_loaded before.seat.mine seat.mine from number loaded own) c.load_ack-number.ensures.board
     (own_loaded before.seat.mine seat.mine from number loaded own)) in
     let is : DoesOne c.args.me (Notes (Loaded from number)) c.args.self.now after =
     subst (λ (chair : ChairView). DoesOne c.args.me (Notes (Loaded from number)) chair after) c.self.view_is here in

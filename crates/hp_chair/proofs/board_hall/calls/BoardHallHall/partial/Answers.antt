@@ -26,8 +26,8 @@ invariant_of-self g c =
     let its : c.args.me ≡ before.seat.mine.who = subst (λ (chair : ChairView). c.args.me ≡ chair.seat.mine.who) (sym c.self.view_is) c.requires.serves in
     subst (λ (steps : List MailStep). IsChair c.self.inside.board.now c.self.inside.boxes.now (with_seat seat steps before)) (sym c.with_note.ensures)
     (chair_noted c.args.me Unmapped before seat its c.self.invariant.declared
-    (goes_unmapped before.seat.mine seat.mine c.partial.ensures.unmapped) (leaves_unmapped before.seat.mine seat.mine c.partial.ensures.unmapped)
-    c.self.inside.board.now c.self.inside.boxes.now c.self.invariant c.partial.ensures.board
+    (goes_unmapped before.seat.mine seat.mine c.partial.ensures.unmapped) (leaves_unmapped before.seat.mine seat.mine c.partial.ensures.unmapped) c.partial.ensures.board
+    c.self.inside.board.now c.self.inside.boxes.now c.self.invariant
     (hand_unmapped before.seat.mine seat.mine c.partial.ensures.unmapped))
 
 pub returns : goal.returns
@@ -50,7 +50,7 @@ returns g c =
     let here : ComesTo c.args.me part (Notes Unmapped) before after =
     subst (λ (steps : List MailStep). ComesTo c.args.me part (Notes Unmapped) before (with_seat seat steps before)) (sym c.with_note.ensures)
     (note_come c.args.me Unmapped before seat its c.self.invariant.declared
-    (goes_unmapped before.seat.mine seat.mine c.partial.ensures.unmapped) (leaves_unmapped before.seat.mine seat.mine c.partial.ensures.unmapped) part own) in
+    (goes_unmapped before.seat.mine seat.mine c.partial.ensures.unmapped) (leaves_unmapped before.seat.mine seat.mine c.partial.ensures.unmapped) c.partial.ensures.board part own) in
     let is : ComesTo c.args.me (after_partial (length c.args.self.now.seat.mine.log) ((chair_state c.args.self.now).own c.args.me)) (Notes Unmapped) c.args.self.now after =
     subst (λ (chair : ChairView).
     ComesTo c.args.me (after_partial (length chair.seat.mine.log) ((chair_state chair).own c.args.me)) (Notes Unmapped) chair after) c.self.view_is here in

@@ -44,9 +44,11 @@ returns g c =
       turns = c.self.inside.turns;
     } in
     let its : c.args.me ≡ before.seat.mine.who = subst (λ (chair : ChairView). c.args.me ≡ chair.seat.mine.who) (sym c.self.view_is) c.requires.serves in
+    let count = c.self.invariant.count in
+    let below = subst (λ (chair : ChairView). c.args.to < chair.seat.mine.opening.participants) (sym c.self.view_is) c.requires.declared in
     let after : ChairView = with_mail c.post_by-posted.new.passes.items c.with_post.result c.counted.result before in
     let is : DoesOne c.args.me step c.args.self.now after =
     subst (λ (chair : ChairView). DoesOne c.args.me step chair after) c.self.view_is
     (posts_one c.args.me before c.self.inside.board.now c.self.inside.boxes.now its c.self.invariant c.post_by-posted.new.passes.items c.with_post.result c.counted.result
-    c.args.to c.args.frame c.args.action posted c.with_post.ensures c.post_by-posted.ensures.lost c.counted.ensures) in
+    c.args.to c.args.frame c.args.action posted c.with_post.ensures c.post_by-posted.ensures.lost c.counted.ensures (omega (arith, count, below)) c.post_by-posted.ensures.passes) in
     record { did = is.did; stays = is.stays; weight = omega (arith, is.weight); goes_on = is.goes_on }

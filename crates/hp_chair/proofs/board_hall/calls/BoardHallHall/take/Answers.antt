@@ -24,8 +24,8 @@ invariant_of-self g c =
     let made : c.with_take.result ≡ before.steps ++ Takes number kept ∷ [] =
     c.with_take.ensures ∙ ap (λ (n : ℕ). before.steps ++ Takes n kept ∷ []) c.number.ensures in
     subst (λ (steps : List MailStep). IsChair c.self.inside.board.now c.self.inside.boxes.now (with_seat seat steps before)) (sym made)
-    (chair_taken c.args.me number kept before seat its c.self.invariant.declared c.take-kept.ensures.handed c.take-kept.ensures.taken
-    c.self.inside.board.now c.self.inside.boxes.now c.self.invariant c.take-kept.ensures.board)
+    (chair_taken c.args.me number kept before seat its c.self.invariant.declared c.take-kept.ensures.handed c.take-kept.ensures.taken c.take-kept.ensures.board
+    c.self.inside.board.now c.self.inside.boxes.now c.self.invariant)
 
 pub returns : goal.returns
 returns g c =
@@ -46,7 +46,7 @@ returns g c =
     let after : ChairView = with_seat seat c.with_take.result before in
     let here : HasTook c.args.me number kept before after =
     subst (λ (steps : List MailStep). HasTook c.args.me number kept before (with_seat seat steps before)) (sym made)
-    (taken_here c.args.me number kept before seat its c.self.invariant.declared c.take-kept.ensures.handed c.take-kept.ensures.taken) in
+    (taken_here c.args.me number kept before seat its c.self.invariant.declared c.take-kept.ensures.handed c.take-kept.ensures.taken c.take-kept.ensures.board) in
     let is : HasTook c.args.me number kept c.args.self.now after =
     subst (λ (chair : ChairView). HasTook c.args.me number kept chair after) c.self.view_is here in
     record { took = is.took; slots = is.slots; others = is.others; weight = is.weight; goes_on = is.goes_on }

@@ -27,8 +27,8 @@ invariant_of-self g c =
     c.with_take.ensures ∙ ap (λ (n : ℕ). before.steps ++ Takes n kept ∷ []) c.number.ensures in
     let taken = taken_after before.seat.mine before.seat.mine seat.mine number kept (finds_none before.seat.mine) c.in-Ok.ensures.taken in
     subst (λ (steps : List MailStep). IsChair c.self.inside.board.now c.self.inside.boxes.now (with_seat seat steps before)) (sym made)
-    (chair_taken c.args.me number kept before seat its c.self.invariant.declared c.in-Ok.ensures.handed taken
-    c.self.inside.board.now c.self.inside.boxes.now c.self.invariant c.try_take.ensures.board)
+    (chair_taken c.args.me number kept before seat its c.self.invariant.declared c.in-Ok.ensures.handed taken c.try_take.ensures.board
+    c.self.inside.board.now c.self.inside.boxes.now c.self.invariant)
 
 pub returns-in-Ok : goal.returns-in-Ok
 returns-in-Ok g c =
@@ -50,7 +50,7 @@ returns-in-Ok g c =
     let after : ChairView = with_seat seat c.with_take.result before in
     let here : HasTook c.args.me number kept before after =
     subst (λ (steps : List MailStep). HasTook c.args.me number kept before (with_seat seat steps before)) (sym made)
-    (taken_here c.args.me number kept before seat its c.self.invariant.declared c.in-Ok.ensures.handed taken) in
+    (taken_here c.args.me number kept before seat its c.self.invariant.declared c.in-Ok.ensures.handed taken c.try_take.ensures.board) in
     let is : HasTook c.args.me number kept c.args.self.now after =
     subst (λ (chair : ChairView). HasTook c.args.me number kept chair after) c.self.view_is here in
     record { took = is.took; held = tt; slots = is.slots; others = is.others; weight = is.weight; goes_on = is.goes_on }
@@ -68,8 +68,8 @@ invariant_of-self-2 g c =
       turns = c.self.inside.turns;
     } in
     let its : c.args.me ≡ before.seat.mine.who = subst (λ (chair : ChairView). c.args.me ≡ chair.seat.mine.who) (sym c.self.view_is) c.requires.serves in
-    chair_looked c.args.me number c.in-Err.busy.word before seat its c.in-Err.ensures.busy c.in-Err.ensures.noted
-    c.self.inside.board.now c.self.inside.boxes.now c.self.invariant c.try_take.ensures.board
+    chair_looked c.args.me number c.in-Err.busy.word before seat its c.in-Err.ensures.busy c.in-Err.ensures.noted c.try_take.ensures.board
+    c.self.inside.board.now c.self.inside.boxes.now c.self.invariant
 
 pub returns-in-Err : goal.returns-in-Err
 returns-in-Err g c =
@@ -87,5 +87,5 @@ returns-in-Err g c =
     let after : ChairView = with_seat seat before.steps before in
     let is : HasLooked c.args.me number c.in-Err.busy.word c.args.self.now after =
     subst (λ (chair : ChairView). HasLooked c.args.me number c.in-Err.busy.word chair after) c.self.view_is
-    (looked_here c.args.me number c.in-Err.busy.word before seat its c.in-Err.ensures.busy c.in-Err.ensures.noted) in
+    (looked_here c.args.me number c.in-Err.busy.word before seat its c.in-Err.ensures.busy c.in-Err.ensures.noted c.try_take.ensures.board) in
     record { took = tt; held = is.held; slots = is.slots; others = is.others; weight = is.weight; goes_on = is.goes_on }

@@ -44,6 +44,8 @@ returns g c =
     let is : DoesOne c.args.me step c.args.self.now after =
     subst (λ (chair : ChairView). DoesOne c.args.me step chair after) c.self.view_is
     (does_one c.args.me step before after its c.self.invariant.declared (record {
+      board = refl;
+      boxes = refl;
       goes = goes_same before.seat.mine;
       made = c.with_note.ensures;
       planned = tt;
