@@ -68,7 +68,7 @@ module _ (me slot word : ℕ) (old : ChairView) (seat : SeatView) (its : me ≡ 
     held = record {
       found = subst (λ (m : Mine). Contains m.found (slot, word)) (sym is) (Contains-push mine.found (slot, word));
       held = holds.held;
-      declared = omega (arith, holds.holder, goes.count);
+      declared = subst (λ (n : ℕ). word ≤ n) (sym goes.count) holds.holder;
       slots = slots;
       mine = mine_stay me old new its goes.who (parts_stay me old new its goes.who leaves.part leaves.joined) (ap own_of is);
       did = did_steps me old new its goes.who [] (sym (append-nil old.steps));

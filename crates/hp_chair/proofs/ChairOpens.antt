@@ -1,7 +1,8 @@
 -- A hall opens over a seat that has made no move.
-use Rattle.std.proofs.Common.{◌≡◌, ℕ, ◌+◌, ◌<◌, ◌≤◌, Bool, true, false, List, [], length, Option, Some, None, refl, sym, ap, subst, ◌∙◌, arith}
+use Rattle.std.proofs.Common.{◌≡◌, ℕ, ◌+◌, ◌<◌, ◌≤◌, Bool, true, false, eq-eqb, List, [], length, Option, Some, None, refl, sym, ap, subst, ◌∙◌, arith}
+use Rattle.std.specs.List.{slice_get}
 use Rattle.hp_base.specs.declared.limits.TheConstants.{MAX_PARTICIPANTS}
-use Rattle.hp_mail.specs.PassView.{MailboxView, PassView}
+use Rattle.hp_mail.specs.PassView.{MailboxView, PassView, new_pass}
 use Rattle.hp_hall.specs.Mail.{MailStep}
 use Rattle.hp_hall.specs.Weights.{counted, pause_weight}
 use Rattle.hp_hall.specs.declared.kept.Kept.{Kept}
@@ -12,7 +13,7 @@ use Rattle.hp_board.specs.declared.view.Mine.{Mine}
 use Rattle.hp_board.specs.declared.view.Move.{Move}
 use Rattle.hp_chair.specs.ChairInside.{AreHeld, IsChair}
 use Rattle.hp_chair.specs.ChairView.{ChairView, opening_chair}
-use Rattle.hp_chair.specs.Places.{ArePlaces}
+use Rattle.hp_chair.specs.Places.{ArePlaces, IsPlace}
 use Rattle.hp_chair.specs.Steps.{in_hand, moves_in}
 
 none_held : (mine : Mine) → mine.held ≡ [] → AreHeld mine
@@ -39,3 +40,19 @@ pub turn_falls : (moved : Bool) (until : Option ℕ) (less turns : ℕ) → less
     → less + counted (λ deadline. 0) until + pause_weight 0 moved ≤ turns + counted (λ deadline. 0) until
 turn_falls true until less turns one = omega (arith, one)
 turn_falls false until less turns one = omega (arith, one)
+
+-- a participant's passes to new mailboxes, each to its own
+pub places_new : (who : ℕ) (boxes : List MailboxView) (passes : List PassView) → length passes ≡ length boxes
+    → ((place : ℕ) (mailbox : MailboxView) (pass : PassView) → slice_get boxes place ≡ Some mailbox → slice_get passes place ≡ Some pass
+    → pass ≡ new_pass mailbox.id place who) → ArePlaces who [] boxes passes
+places_new who boxes passes count is = record {
+  count = count;
+  each = λ place mailbox pass box there.
+      subst (IsPlace who place [] mailbox) (sym (is place mailbox pass box there)) (record {
+        its = refl;
+        whose = refl;
+        owner = λ own. eq-eqb who place (sym own);
+        posted = refl;
+        fetched = λ own. refl;
+      });
+}

@@ -62,13 +62,7 @@ impl StepLog {
         ensures { result ≡ self.now ++ Posts to frame.now action posted ∷ [] }
     {
         StepLog {
-            past: StepPast::Post(
-                Snapshot::of(self),
-                to,
-                Snapshot::of(frame),
-                action,
-                posted,
-            ),
+            past: StepPast::Post(Snapshot::of(self), to, Snapshot::of(frame), action, posted),
         }
     }
 

@@ -56,8 +56,8 @@ returns g c =
     record {
       idles = record { slots = is.stays.slots; mine = is.stays.mine; later = is.stays.others.later; did = is.did };
       falls = subst (λ (chair : ChairView).
-      after.turns + counted (λ deadline. 0) c.args.until + pause_weight 0 c.args.moved ≤ chair.turns + counted (λ deadline. 0) c.args.until) c.self.view_is
-      (turn_falls c.args.moved c.args.until after.turns before.turns c.one_less.ensures);
+          after.turns + counted (λ deadline. 0) c.args.until + pause_weight 0 c.args.moved ≤ chair.turns + counted (λ deadline. 0) c.args.until) c.self.view_is
+          (turn_falls c.args.moved c.args.until after.turns before.turns c.one_less.ensures);
       lower = λ deadline. omega arith;
       clock = inl refl;
       goes_on = is.goes_on;
