@@ -5,10 +5,10 @@ use Rattle.hp_hall.specs.Mail.{IsAsPlanned, MailStep, counted_on, full_posts}
 use Rattle.hp_board.specs.Views.{BeginsWith, noted_of}
 use Rattle.hp_chair.specs.ChairView.{ChairView}
 
--- from a state to a later one: the same participant at the same board, with passes to the same mailboxes; what it has seen of the log and of the outcomes is a front of what it
--- has seen later; what it knows of numbers does not fall; it made these steps, of which each post is lost exactly where that is planned, and
--- the count of full mailboxes went on by those that found one full; who is not declared makes no step; the turns that are left do not rise,
--- and who has stopped stays so
+-- from a state to a later one: the same participant at the same board, with passes to the same mailboxes; what it has seen of the log and
+-- of the outcomes is a front of what it has seen later; what it knows of numbers does not fall; it made these steps, of which each post is
+-- lost exactly where that is planned, and the count of full mailboxes went on by those that found one full; who is not declared makes no
+-- step; the turns that are left do not rise, and who has stopped stays so
 pub record IsChairCourse (old new : ChairView) : Type 0 where
   pub board : new.seat.board ≡ old.seat.board
   pub boxes : map (λ pass. pass.mailbox) new.passes ≡ map (λ pass. pass.mailbox) old.passes

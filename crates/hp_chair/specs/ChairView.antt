@@ -10,8 +10,8 @@ use Rattle.hp_board.specs.Knowing.{heap_part}
 use Rattle.hp_board.specs.SeatView.{SeatView}
 use Rattle.hp_board.specs.Views.{noted_of, own_of, value_of}
 
--- the participant's seat; its passes to the mailboxes of all participants, by the numbers of these; all that it did; how often a mailbox was
--- full; whether somebody has stopped, as far as the hall has looked; and how many turns it may wait still
+-- the participant's seat; its passes to the mailboxes of all participants, by the numbers of these; all that it did; how often a mailbox
+-- was full; whether somebody has stopped, as far as the hall has looked; and how many turns it may wait still
 pub record ChairView : Type 0 where
   pub seat : SeatView
   pub passes : List PassView

@@ -18,8 +18,8 @@ use hp_mail::{Mailbox, Pass};
 use std::marker::Model;
 use std::sync::Wait;
 
-/// The hall of one participant that runs on a thread of its own: its seat at the board, its passes to the mailboxes of all participants, and
-/// its clock. Contracts see it as a `ChairView`. Own.
+/// The hall of one participant that runs on a thread of its own: its seat at the board, its passes to the mailboxes of all participants,
+/// and its clock. Contracts see it as a `ChairView`. Own.
 #[derive(Drop)]
 pub struct BoardHall<'a, C: Clock, R: Wait> {
     rt: &'a R,
