@@ -1,6 +1,7 @@
 -- A hall opens over a seat that has made no move.
-use Rattle.std.proofs.Common.{◌≡◌, ℕ, ◌+◌, ◌<◌, ◌≤◌, Bool, true, false, eq-eqb, List, [], length, Option, Some, None, refl, sym, ap, subst, ◌∙◌, arith}
+use Rattle.std.proofs.Common.{◌≡◌, ℕ, ◌+◌, ◌<◌, ◌≤◌, Bool, true, false, eqb, eq-eqb, List, [], ◌∷◌, length, Option, Some, None, refl, sym, ap, subst, ◌∙◌, arith}
 use Rattle.std.specs.List.{slice_get}
+use Rattle.std.proofs.lemmas.Bool.{cond-true}
 use Rattle.hp_base.specs.declared.limits.TheConstants.{MAX_PARTICIPANTS}
 use Rattle.hp_mail.specs.PassView.{MailboxView, PassView, new_pass}
 use Rattle.hp_hall.specs.Mail.{MailStep}
@@ -56,3 +57,10 @@ places_new who boxes passes count is = record {
         fetched = λ own. refl;
       });
 }
+
+-- a seat that has nothing in hand of any slot holds none
+pub none_in_hand : (held : List (ℕ × Kept)) → ((slot : ℕ) → value_of slot held ≡ None) → held ≡ []
+none_in_hand [] none = refl
+none_in_hand (pair ∷ pairs) none =
+    let some : None ≡ Some pair.1 = sym (none pair.0) ∙ cond-true (eqb pair.0 pair.0) (Some pair.1) (value_of pair.0 pairs) (eq-eqb pair.0 pair.0 refl) in
+    absurd (cc)
